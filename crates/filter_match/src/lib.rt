@@ -1,0 +1,6 @@
+//! The section filter.
+#![tactic(auto)]
+
+mod filter;
+
+pub use filter::SectionFilter;

@@ -1,0 +1,2 @@
+//! Sets of PIDs.
+#![tactic(auto)]

@@ -1,0 +1,4 @@
+pub mod Clean
+pub mod Cut
+pub mod Cutting
+pub mod Fields

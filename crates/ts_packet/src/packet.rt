@@ -1,0 +1,117 @@
+// A packet of 188 bytes, and its fields.
+ghost use Rattle.std.specs.Prelude.{◌≡◌, ◌<◌, ◌≤◌, length, slice_index, IsNone, IfSome, ◌↔◌, ◌≢◌};
+ghost use Rattle.std.specs.Option.{option_copied};
+ghost use Rattle.ts_packet.specs.Fields.{IsPacket, error_bit, unit_start, pid_of, counter_of, discontinuity, payload_of};
+
+use std::marker::Model;
+
+pub const PACKET_LEN: usize = 188;
+
+pub const SYNC_BYTE: u8 = 0x47;
+
+/// A packet. A contract sees it as the list of its bytes.
+#[derive(Clone, Copy, Drop)]
+pub struct Packet {
+    bytes: [u8; 188],
+}
+
+impl Model for Packet {
+    ghost use Rattle.std.specs.Prelude.{List, ℕ};
+
+    ghost Value = { List ℕ };
+
+    ghost use Rattle.ts_packet.specs.Fields.{IsPacket};
+
+    ghost view = { λ p. p.bytes };
+
+    ghost invariant = { λ p. IsPacket p.bytes };
+
+    ghost inverse = { λ bytes. record { bytes = bytes } };
+}
+
+impl Packet {
+    // The packet of these bytes, which begin with the sync byte.
+    pub(crate) fn in_sync(bytes: [u8; 188]) -> Packet
+        requires { slice_index bytes 0 ≡ 0x47 }
+        ensures { result ≡ bytes }
+    {
+        Packet { bytes }
+    }
+
+    /// None where the first byte isn't the sync byte.
+    pub fn of(bytes: [u8; 188]) -> Option<Packet>
+        ensures none { IsNone result ↔ (slice_index bytes 0 ≢ 0x47) }
+        ensures bytes { IfSome result (λ packet. packet ≡ bytes) }
+    {
+        if bytes[0] == SYNC_BYTE {
+            Some(Packet { bytes })
+        } else {
+            None
+        }
+    }
+
+    pub fn bytes(&self) -> &[u8; 188]
+        ensures bytes { result.now ≡ self.now }
+        ensures packet { IsPacket self.now }
+    {
+        &self.bytes
+    }
+
+    pub fn pid(&self) -> u16
+        ensures { result ≡ pid_of self.now }
+    {
+        u16::from(self.bytes[1] & 0x1f) * 256 + u16::from(self.bytes[2])
+    }
+
+    pub fn error(&self) -> bool
+        ensures { result ≡ error_bit self.now }
+    {
+        self.bytes[1] >> 7 & 1 == 1
+    }
+
+    pub fn unit_start(&self) -> bool
+        ensures { result ≡ unit_start self.now }
+    {
+        self.bytes[1] >> 6 & 1 == 1
+    }
+
+    pub fn counter(&self) -> u8
+        ensures { result ≡ counter_of self.now }
+    {
+        self.bytes[3] & 0x0f
+    }
+
+    pub fn discontinuity(&self) -> bool
+        ensures { result ≡ discontinuity self.now }
+    {
+        self.bytes[3] >> 5 & 1 == 1 && self.bytes[4] > 0 && self.bytes[5] >> 7 & 1 == 1
+    }
+
+    /// What the packet carries, where it has a payload.
+    pub fn payload(&self) -> Option<&[u8]>
+        ensures value { option_copied result ≡ payload_of self.now }
+        ensures fits { IfSome result (λ payload. length payload.now ≤ 184) }
+    {
+        let start = if self.bytes[3] >> 5 & 1 == 1 {
+            5 + self.bytes[4] as usize
+        } else {
+            4
+        };
+        if self.bytes[3] >> 4 & 1 == 1 && start < PACKET_LEN {
+            Some(&self.bytes[start..])
+        } else {
+            None
+        }
+    }
+}
+
+/// The null packet, with nothing in it.
+impl Default for Packet {
+    fn default() -> Packet {
+        let mut bytes = [0xff; 188];
+        bytes[0] = SYNC_BYTE;
+        bytes[1] = 0x1f;
+        bytes[3] = 0x10;
+        Packet { bytes }
+    }
+}
