@@ -1,0 +1,91 @@
+//! Batches: stretches of a stream's packets that pass the nodes together.
+//!
+//! A batch has 1 to 64 packets and the number of its first packet in the stream. It is made once, shared behind an
+//! `Arc`, and never changed or copied; it holds the memory of its packets and no more.
+//!
+//! What a contract sees: the record of `first` and the list of `packets`, each packet as the list of its bytes.
+//!
+//! What is proved: `Batch::of` gives the batch of these packets, or answers want of memory. `first` and `count` are the
+//! first packet's number and the number of packets. `packet` gives the packet in a place and raises the counter of
+//! steps by one. Every batch has 1 to 64 packets, each of 188 bytes with the sync byte in front.
+//!
+//! There is no other way to a batch's packets than `packet`, so the counter of steps bounds how many were looked at.
+//!
+//! The number of packets in a batch and the counting of steps are this project's rules.
+#![tactic(auto)]
+
+ghost use Rattle.std.specs.Prelude.{◌≡◌, ◌<◌, ◌≤◌, ◌+◌, ◌^◌, length, IfOk, slice_get};
+ghost use Rattle.ts_packet.specs.Fields.{IsPacket};
+ghost use Rattle.ts_batch.specs.Batch.{IsBatch};
+
+use std::alloc::{AllocError as NoMemory, Global};
+use std::marker::Model;
+use std::sync::Arc;
+use std::sync::ledger::Ledger;
+use steps::Steps;
+use ts_packet::{Packet, PacketBuf};
+
+/// 1 to 64 packets that pass the nodes together.
+#[derive(Drop)]
+pub struct Batch {
+    first: u64,
+    packets: Vec<Packet>,
+}
+
+impl Model for Batch {
+    ghost use Rattle.ts_batch.specs.Batch.{Packets, IsBatch};
+
+    ghost Value = { Packets };
+
+    ghost view = { λ b. record { first = b.first; packets = b.packets.items } };
+
+    ghost invariant = { λ b. IsBatch (record { first = b.first; packets = b.packets.items }) };
+}
+
+impl Batch {
+    /// The batch of the packets in the buffer, the first of which has the number `first` in the stream. The buffer has
+    /// at least one packet, and the numbers fit in 64 bits.
+    pub fn of(alloc: Global, first: u64, packets: &PacketBuf) -> Result<Arc<Batch>, NoMemory>
+        requires some { 0 < length packets.now }
+        requires numbered { first + 64 < 2 ^ 64 }
+        ensures { IfOk result (λ batch. batch.value ≡ record { first = first; packets = packets.now }) }
+    {
+        let from = packets.as_slice();
+        let mut copied = Vec::with_capacity(alloc, from.len())?;
+        copied.extend_from_slice(from)?;
+        let batch = Batch {
+            first,
+            packets: copied,
+        };
+        Ok(Arc::new(alloc, batch)?)
+    }
+
+    /// The number of the batch's first packet in the stream, counted from 0.
+    pub fn first(&self) -> u64
+        ensures value { result ≡ self.now.first }
+        ensures batch { IsBatch self.now }
+    {
+        self.first
+    }
+
+    /// How many packets the batch has: 1 to 64.
+    pub fn count(&self) -> u32
+        ensures value { result ≡ length self.now.packets }
+        ensures some { 0 < result }
+        ensures few { result ≤ 64 }
+        ensures batch { IsBatch self.now }
+    {
+        self.packets.len() as u32
+    }
+
+    /// The packet in place `i`, counted from 0. It takes one step.
+    pub fn packet<L: Ledger>(&self, i: u32, steps: &mut Steps<L>) -> &Packet
+        requires { i < length self.now.packets }
+        ensures at { slice_get self.now.packets i ≡ Some result.now }
+        ensures packet { IsPacket result.now }
+        ensures cost { steps.new ≡ steps.old + 1 }
+    {
+        steps.tick();
+        &self.packets[i as usize]
+    }
+}
