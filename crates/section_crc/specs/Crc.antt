@@ -1,30 +1,34 @@
--- The section CRC, one bit at a time.
-use Rattle.std.specs.Prelude.{◌≡◌, ℕ, ◌+◌, ◌*◌, ◌/◌, ◌%◌, ◌^◌, ◌<◌, List, [], ◌∷◌, fold, nat_le, bit_xor, slice_index, slice_index_or, length, if◌then◌else◌}
-use Rattle.std.proofs.Common.{zero, suc}
+-- The CRC of a section, one bit at a time (ISO/IEC 13818-1, Annex A, the CRC decoder model).
+use Rattle.std.specs.Prelude.{◌≡◌, ℕ, ◌*◌, ◌/◌, ◌%◌, ◌^◌, List, [], ◌∷◌, ◌++◌, fold, nat_eq, bit_xor, if◌then◌else◌}
+use Rattle.std.specs.List.{flat_map}
 
--- the register after one bit that is 0
-abbrev pub shifted : ℕ → ℕ
-shifted r = if nat_le (2 ^ 31) r then bit_xor (r * 2 % 2 ^ 32) 0x04C11DB7 else r * 2 % 2 ^ 32
+-- bit k of a number; bit 0 is the least significant
+abbrev pub bit_at : ℕ → ℕ → ℕ
+bit_at n k = n / 2 ^ k % 2
 
--- after n such bits
-unfoldable pub shifted_by : ℕ → ℕ → ℕ
-shifted_by zero r = r
-shifted_by (suc n) r = shifted (shifted_by n r)
+-- the bits of a byte, the most significant first
+abbrev pub bits_of : ℕ → List ℕ
+bits_of byte =
+    bit_at byte 7 ∷ bit_at byte 6 ∷ bit_at byte 5 ∷ bit_at byte 4 ∷ bit_at byte 3 ∷ bit_at byte 2 ∷ bit_at byte 1 ∷ bit_at byte 0 ∷ []
 
--- after a byte, its most significant bit first
-unfoldable pub after_byte : ℕ → ℕ → ℕ
-after_byte r byte = shifted_by 8 (bit_xor r (byte * 2 ^ 24))
+-- x^32 + x^26 + x^23 + x^22 + x^16 + x^12 + x^11 + x^10 + x^8 + x^7 + x^5 + x^4 + x^2 + x + 1, without its highest term
+abbrev pub polynomial : ℕ
+polynomial = 0x04C11DB7
 
-abbrev pub crc : List ℕ → ℕ
-crc bytes = fold after_byte 0xFFFFFFFF bytes
+-- The register after one more bit: its 32 bits move up by one place, and where the bit that leaves it isn't the bit
+-- that comes, the polynomial is added, modulo 2 in each bit.
+unfoldable pub after_bit : ℕ → ℕ → ℕ
+after_bit register bit =
+    if nat_eq (bit_at register 31) bit then register * 2 % 2 ^ 32 else bit_xor (register * 2 % 2 ^ 32) polynomial
 
--- entry i is the register i * 2 ^ 24 after a byte of 0
-abbrev pub IsTable : List ℕ → Type 0
-IsTable entries = (i : ℕ) → i < 256 → slice_index entries i ≡ shifted_by 8 (i * 2 ^ 24)
+-- The register begins with 32 ones and takes the bits of all bytes in their order. What it then holds is the CRC.
+unfoldable pub crc : List ℕ → ℕ
+crc bytes = fold after_bit 0xFFFFFFFF (flat_map bits_of bytes)
 
--- entry i is the register i * 2 ^ 24 after a byte of 0 and k more
-abbrev pub IsTableAfter : ℕ → List ℕ → Type 0
-IsTableAfter k entries = (i : ℕ) → i < 256 → slice_index entries i ≡ shifted_by (8 * (k + 1)) (i * 2 ^ 24)
+-- a CRC as a section carries it: four bytes, the most significant first (2.4.4.3, CRC_32)
+abbrev pub carried : ℕ → List ℕ
+carried n = n / 2 ^ 24 % 256 ∷ n / 2 ^ 16 % 256 ∷ n / 2 ^ 8 % 256 ∷ n % 256 ∷ []
 
-abbrev pub AreTables : List (List ℕ) → Type 0
-AreTables tables = (k : ℕ) → k < length tables → IsTableAfter k (slice_index_or tables k [])
+-- What CRC_32 is for (2.4.4.3): with its own CRC behind it, whatever the bytes, the CRC is 0.
+abbrev pub WithItsCrcIsZero : List ℕ → Type 0
+WithItsCrcIsZero bytes = crc (bytes ++ carried (crc bytes)) ≡ 0
