@@ -2,3 +2,4 @@ pub mod Clean
 pub mod Cut
 pub mod Cutting
 pub mod Fields
+pub mod Pieces

@@ -1,15 +1,17 @@
 // A packet of 188 bytes, and its fields.
 ghost use Rattle.std.specs.Prelude.{◌≡◌, ◌<◌, ◌≤◌, length, slice_index, IsNone, IfSome, ◌↔◌, ◌≢◌};
 ghost use Rattle.std.specs.Option.{option_copied};
-ghost use Rattle.ts_packet.specs.Fields.{IsPacket, error_bit, unit_start, pid_of, counter_of, discontinuity, payload_of};
+ghost use Rattle.ts_packet.specs.Fields.{IsPacket, error_bit, unit_start, pid_of, counter_of, discontinuity, payload_of, null_packet};
 
 use std::marker::Model;
 
+/// The length of a packet in bytes.
 pub const PACKET_LEN: usize = 188;
 
+/// The first byte of a packet, sync_byte.
 pub const SYNC_BYTE: u8 = 0x47;
 
-/// A packet. A contract sees it as the list of its bytes.
+/// A transport stream packet: 188 bytes that begin with the sync byte. A contract sees it as the list of its bytes.
 #[derive(Clone, Copy, Drop)]
 pub struct Packet {
     bytes: [u8; 188],
@@ -38,7 +40,7 @@ impl Packet {
         Packet { bytes }
     }
 
-    /// None where the first byte isn't the sync byte.
+    /// The packet of these bytes. None exactly where the first byte isn't the sync byte.
     pub fn of(bytes: [u8; 188]) -> Option<Packet>
         ensures none { IsNone result ↔ (slice_index bytes 0 ≢ 0x47) }
         ensures bytes { IfSome result (λ packet. packet ≡ bytes) }
@@ -50,6 +52,7 @@ impl Packet {
         }
     }
 
+    /// All bytes of the packet.
     pub fn bytes(&self) -> &[u8; 188]
         ensures bytes { result.now ≡ self.now }
         ensures packet { IsPacket self.now }
@@ -57,39 +60,46 @@ impl Packet {
         &self.bytes
     }
 
+    /// The PID, 0 to 8191.
     pub fn pid(&self) -> u16
         ensures { result ≡ pid_of self.now }
     {
         u16::from(self.bytes[1] & 0x1f) * 256 + u16::from(self.bytes[2])
     }
 
+    /// The transport_error_indicator: the packet has an error that wasn't corrected.
     pub fn error(&self) -> bool
         ensures { result ≡ error_bit self.now }
     {
         self.bytes[1] >> 7 & 1 == 1
     }
 
+    /// The payload_unit_start_indicator: a section or a PES packet begins in the payload.
     pub fn unit_start(&self) -> bool
         ensures { result ≡ unit_start self.now }
     {
         self.bytes[1] >> 6 & 1 == 1
     }
 
+    /// The continuity_counter, 0 to 15.
     pub fn counter(&self) -> u8
         ensures { result ≡ counter_of self.now }
     {
         self.bytes[3] & 0x0f
     }
 
+    /// The discontinuity_indicator; false where the packet has no adaptation field or an empty one.
     pub fn discontinuity(&self) -> bool
         ensures { result ≡ discontinuity self.now }
     {
         self.bytes[3] >> 5 & 1 == 1 && self.bytes[4] > 0 && self.bytes[5] >> 7 & 1 == 1
     }
 
-    /// What the packet carries, where it has a payload.
+    /// The payload, 1 to 184 bytes. None exactly where the packet has none: where adaptation_field_control says so, or
+    /// where the adaptation field's length leaves no byte for it.
     pub fn payload(&self) -> Option<&[u8]>
         ensures value { option_copied result ≡ payload_of self.now }
+        ensures some { IfSome result (λ payload. 0 < length payload.now) }
         ensures fits { IfSome result (λ payload. length payload.now ≤ 184) }
     {
         let start = if self.bytes[3] >> 5 & 1 == 1 {
@@ -105,9 +115,11 @@ impl Packet {
     }
 }
 
-/// The null packet, with nothing in it.
+/// The null packet: PID 0x1FFF, counter 0, and a payload of bytes 0xFF.
 impl Default for Packet {
-    fn default() -> Packet {
+    fn default() -> Packet
+        ensures { result ≡ null_packet }
+    {
         let mut bytes = [0xff; 188];
         bytes[0] = SYNC_BYTE;
         bytes[1] = 0x1f;
