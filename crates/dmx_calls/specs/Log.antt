@@ -1,0 +1,60 @@
+-- The entries of a report, and the history that they tell.
+use Rattle.std.specs.Prelude.{ℕ, List, map, reverse, take, drop}
+use Rattle.dmx_calls.specs.declared.params.Input.{Input}
+use Rattle.dmx_calls.specs.declared.params.SectionParams.{SectionParams}
+use Rattle.dmx_calls.specs.declared.params.PesParams.{PesParams}
+use Rattle.dmx_calls.specs.Invocation.{Invocation, Open, Close, SetFilter, SetPes, AddPid, RemovePid, Start, Stop, SetSize, Read, Poll, Pass, End, Attach, Detach}
+use Rattle.dmx_calls.specs.Response.{Response}
+use Rattle.dmx_calls.specs.History.{Entry, History}
+
+-- a call as a report tells it: a Pass by the number of its first packet and how many there are, every other call whole
+pub data Act : Type 0 where
+  OpenAct : Act
+  CloseAct : Act
+  SetFilterAct : SectionParams → (now : ℕ) → Act
+  SetPesAct : PesParams → (now : ℕ) → Act
+  AddPidAct : (pid : ℕ) → Act
+  RemovePidAct : (pid : ℕ) → Act
+  StartAct : (now : ℕ) → Act
+  StopAct : Act
+  SetSizeAct : (size : ℕ) → Act
+  ReadAct : (now count : ℕ) → Act
+  PollAct : (now : ℕ) → Act
+  PassAct : Input → (first count now : ℕ) → Act
+  EndAct : Act
+  AttachAct : (node : ℕ) → (pids : List ℕ) → Act
+  DetachAct : (node : ℕ) → Act
+
+-- the node, the place in its history, the caller's step, the caller, the call, the response
+pub record LogEntry : Type 0 where
+  pub node : ℕ
+  pub place : ℕ
+  pub step : ℕ
+  pub who : ℕ
+  pub act : Act
+  pub response : Response
+
+-- the call, where these are the stream's packets
+abbrev pub filled_act : List (List ℕ) → Act → Invocation
+filled_act packets OpenAct = Open
+filled_act packets CloseAct = Close
+filled_act packets (SetFilterAct p now) = SetFilter p now
+filled_act packets (SetPesAct p now) = SetPes p now
+filled_act packets (AddPidAct pid) = AddPid pid
+filled_act packets (RemovePidAct pid) = RemovePid pid
+filled_act packets (StartAct now) = Start now
+filled_act packets StopAct = Stop
+filled_act packets (SetSizeAct size) = SetSize size
+filled_act packets (ReadAct now count) = Read now count
+filled_act packets (PollAct now) = Poll now
+filled_act packets (PassAct input first count now) = Pass input first (take count (drop first packets)) now
+filled_act packets EndAct = End
+filled_act packets (AttachAct node pids) = Attach node pids
+filled_act packets (DetachAct node) = Detach node
+
+abbrev pub filled_entry : List (List ℕ) → LogEntry → Entry
+filled_entry packets e = record { who = e.who; invocation = filled_act packets e.act; response = e.response }
+
+-- the history of these entries, which a report has the oldest first
+abbrev pub filled : List (List ℕ) → List LogEntry → History
+filled packets entries = reverse (map (filled_entry packets) entries)

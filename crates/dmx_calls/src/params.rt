@@ -1,0 +1,53 @@
+// What the two set calls ask for.
+
+use filter_match::SectionFilter;
+
+/// Where a filter's packets come from.
+#[derive(Clone, Copy, Debug, PartialEq, Eq, Drop)]
+pub enum Input {
+    /// DMX_IN_FRONTEND: the stream that is fed in.
+    Frontend,
+    /// DMX_IN_DVR: what is written to the dvr node.
+    Dvr,
+}
+
+/// Where a PES filter's items go.
+#[derive(Clone, Copy, Debug, PartialEq, Eq, Drop)]
+pub enum Output {
+    /// DMX_OUT_DECODER, which is refused.
+    Decoder,
+    /// DMX_OUT_TAP: payloads, read from the demux node.
+    Tap,
+    /// DMX_OUT_TS_TAP: whole packets, read from the dvr node.
+    TsTap,
+    /// DMX_OUT_TSDEMUX_TAP: whole packets, read from the demux node.
+    TsdemuxTap,
+}
+
+/// What DMX_SET_FILTER asks for.
+#[derive(Clone, Copy, Debug, PartialEq, Eq, Drop)]
+pub struct SectionParams {
+    /// The PID whose sections are filtered.
+    pub pid: u16,
+    /// What a section has to match.
+    pub filter: SectionFilter,
+    /// How long to wait for the first section, in milliseconds; 0 waits for ever.
+    pub timeout: u32,
+    /// The bits of the section flags.
+    pub flags: u32,
+}
+
+/// What DMX_SET_PES_FILTER asks for.
+#[derive(Clone, Copy, Debug, PartialEq, Eq, Drop)]
+pub struct PesParams {
+    /// The first PID of the filter, or 0x2000 for every packet.
+    pub pid: u16,
+    /// Where the packets come from.
+    pub input: Input,
+    /// Where the items go.
+    pub output: Output,
+    /// The PES type, 0 to 20.
+    pub pes_type: u32,
+    /// The bits of the flags. Only DMX_IMMEDIATE_START has an effect.
+    pub flags: u32,
+}

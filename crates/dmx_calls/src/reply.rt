@@ -1,0 +1,99 @@
+// The replies of a node.
+
+use crate::byte_buf::ByteBuf;
+use std::sync::Arc;
+use ts_batch::Batch;
+
+/// Why a call is refused, by its Linux error.
+#[derive(Clone, Copy, Debug, PartialEq, Eq, Drop)]
+pub enum Errno {
+    /// EBADF: the node is free, or the caller isn't its owner.
+    Ebadf,
+    /// EBUSY: the size can't be changed while the filter runs.
+    Ebusy,
+    /// EINVAL: an argument is out of range, or the call doesn't fit the filter or the kind of node.
+    Einval,
+    /// ENOSPC: the filter has as many PIDs as it may have.
+    Enospc,
+}
+
+/// What a Poll finds pending.
+#[derive(Clone, Copy, Debug, PartialEq, Eq, Drop)]
+pub enum PollError {
+    /// Nothing.
+    Quiet,
+    /// An overflow.
+    Overflow,
+    /// A timeout.
+    TimedOut,
+}
+
+/// A stretch of a capture's bytes, from place `from` up to and without place `to`.
+#[derive(Clone, Copy, Debug, PartialEq, Eq, Drop)]
+pub struct Span {
+    /// The first place.
+    pub from: u64,
+    /// The place after the last.
+    pub to: u64,
+}
+
+/// What the dvr node is to be told of this node's tap.
+#[derive(Clone, Copy, Debug, PartialEq, Eq, Drop)]
+pub enum Tap {
+    /// Nothing.
+    Keep,
+}
+
+/// What a node replies.
+#[derive(Drop)]
+pub enum Reply {
+    /// The call was done.
+    Done {
+        /// The bytes that were unread and are now dropped.
+        dropped: Span,
+        /// What the dvr node is to be told.
+        tap: Tap,
+    },
+    /// The node has an owner.
+    Busy {
+        /// The owner's caller number.
+        owner: u32,
+    },
+    /// The call was refused, and nothing changed.
+    Refused(Errno),
+    /// Memory was wanting, and nothing changed.
+    NoMemory,
+    /// Bytes that were read.
+    Data(ByteBuf),
+    /// No byte is there to be read.
+    Again {
+        /// The stream has ended.
+        ended: bool,
+    },
+    /// Bytes were lost.
+    Overflow {
+        /// The first place that is lost.
+        from: u64,
+        /// The place after the last that is lost.
+        to: u64,
+        /// The number of the first item that didn't fit, counted from 0.
+        item: u64,
+        /// That item's length in bytes.
+        need: u64,
+        /// The room that it found, in bytes.
+        room: u64,
+    },
+    /// A Pass or End went by.
+    Passed,
+}
+
+/// A reply, and what is handed back of the call.
+#[derive(Drop)]
+pub struct Answer {
+    /// The reply.
+    pub reply: Reply,
+    /// The buffer of a Read whose reply isn't Data.
+    pub back: Option<ByteBuf>,
+    /// The batch of a Pass.
+    pub batch: Option<Arc<Batch>>,
+}
