@@ -1,0 +1,148 @@
+-- Tests over the bytes of a filter, one byte more at a time.
+use Rattle.std.proofs.Common.{rules, ◌≡◌, ◌≢◌, ℕ, zero, suc, ◌+◌, ◌-◌, ◌<◌, ◌≤◌, Bool, true, false, not, ◌&&◌, ◌||◌, nat_eq, nat_le, nat_lt, List, [], ◌∷◌, ◌++◌, length, slice_index, bit_and, bit_xor, if◌then◌else◌, refl, sym, ap, ◌∙◌, inl, inr, arith}
+use Rattle.std.specs.List.{list_all, list_any}
+use Rattle.std.proofs.lemmas.List.Folds.{list_all-append, list_any-append}
+use Rattle.std.proofs.lemmas.Bool.{cases_eq, cases_lt}
+use Rattle.std.proofs.lemmas.Bool.Decides.{nat_tests}
+use Rattle.filter_match.specs.declared.filter.SectionFilter.{SectionFilter}
+use Rattle.filter_match.specs.Match.{place_of, below, reaches_at, differences, equals_at, differs_at, negates_at, matches}
+use Rattle.filter_match.specs.Compiling.{IsCompiled}
+
+and-true : (b : Bool) → (b && true) ≡ b
+and-true true = refl
+and-true false = refl
+
+or-false : (b : Bool) → (b || false) ≡ b
+or-false true = refl
+or-false false = refl
+
+pub all-more : (p : ℕ → Bool) (n : ℕ) → list_all p (below (n + 1)) ≡ (list_all p (below n) && p n)
+unfolding below
+all-more p n =
+    let e : n + 1 ≡ suc n = omega arith in
+    rw e (list_all-append p (below n) (n ∷ []) ∙ ap (λ b. list_all p (below n) && b) (and-true (p n)))
+
+pub any-more : (p : ℕ → Bool) (n : ℕ) → list_any p (below (n + 1)) ≡ (list_any p (below n) || p n)
+unfolding below
+any-more p n =
+    let e : n + 1 ≡ suc n = omega arith in
+    rw e (list_any-append p (below n) (n ∷ []) ∙ ap (λ b. list_any p (below n) || b) (or-false (p n)))
+
+and-false : (b : Bool) → (b && false) ≡ false
+and-false true = refl
+and-false false = refl
+
+or-true : (b : Bool) → (b || true) ≡ true
+or-true true = refl
+or-true false = refl
+
+pub all-next : (p : ℕ → Bool) (n : ℕ) → list_all p (below n) ≡ true → p n ≡ true → list_all p (below (n + 1)) ≡ true
+all-next p n h k = all-more p n ∙ rw (h, k) refl
+
+pub any-yes : (p : ℕ → Bool) (n : ℕ) → p n ≡ true → list_any p (below (n + 1)) ≡ true
+any-yes p n k = any-more p n ∙ rw k (or-true (list_any p (below n)))
+
+pub any-no : (p : ℕ → Bool) (n : ℕ) (b : Bool) → list_any p (below n) ≡ b → p n ≡ false → list_any p (below (n + 1)) ≡ b
+any-no p n b h k = any-more p n ∙ rw (h, k) (or-false b)
+
+-- one that fails is enough
+pub all-stops : (p : ℕ → Bool) (i n : ℕ) → i < n → p i ≡ false → list_all p (below n) ≡ false
+all-stops p i zero l h = absurd (omega arith)
+all-stops p i (suc n) l h =
+    let e : suc n ≡ n + 1 = omega arith in
+    rw e (all-more p n ∙ elim (cases_lt i n) [
+      | inl k ↦ rw (all-stops p i n k h) refl
+      | inr k ↦ let same : n ≡ i = omega arith in rw (same, h) (and-false (list_all p (below i)))
+    ])
+
+-- ---- the tests of one byte
+
+pub negates-yes : (f : SectionFilter) (i : ℕ) → bit_and (slice_index f.mask i) (slice_index f.mode i) ≢ 0 → negates_at f i ≡ true
+unfolding negates_at
+negates-yes f i h = let e : nat_eq (bit_and (slice_index f.mask i) (slice_index f.mode i)) 0 ≡ false = grind (arith, nat_tests) in rw e refl
+
+pub negates-no : (f : SectionFilter) (i : ℕ) → bit_and (slice_index f.mask i) (slice_index f.mode i) ≡ 0 → negates_at f i ≡ false
+unfolding negates_at
+negates-no f i h = rw h refl
+
+pub differences-is : (f : SectionFilter) (s : List ℕ) (i byte : ℕ) → byte ≡ slice_index s (place_of i)
+    → bit_and (bit_xor (slice_index f.filter i) byte) (slice_index f.mask i) ≡ differences f s i
+unfolding differences
+differences-is f s i byte h = ap (λ b. bit_and (bit_xor (slice_index f.filter i) b) (slice_index f.mask i)) h
+
+module _ (f : SectionFilter) (s : List ℕ) (i x : ℕ) (is : x ≡ differences f s i) where
+  pub equals-yes : bit_and x (255 - slice_index f.mode i) ≡ 0 → equals_at f s i ≡ true
+  unfolding equals_at
+  equals-yes h = let k : bit_and (differences f s i) (255 - slice_index f.mode i) ≡ 0 = ap (λ n. bit_and n (255 - slice_index f.mode i)) (sym is) ∙ h in rw k refl
+
+  pub equals-no : bit_and x (255 - slice_index f.mode i) ≢ 0 → equals_at f s i ≡ false
+  unfolding equals_at
+  equals-no h =
+      let k : bit_and (differences f s i) (255 - slice_index f.mode i) ≢ 0 = λ e. h (ap (λ n. bit_and n (255 - slice_index f.mode i)) is ∙ e) in
+      grind (arith, nat_tests)
+
+  pub differs-yes : bit_and x (slice_index f.mode i) ≢ 0 → differs_at f s i ≡ true
+  unfolding differs_at
+  differs-yes h =
+      let k : bit_and (differences f s i) (slice_index f.mode i) ≢ 0 = λ e. h (ap (λ n. bit_and n (slice_index f.mode i)) is ∙ e) in
+      let t : nat_eq (bit_and (differences f s i) (slice_index f.mode i)) 0 ≡ false = grind (arith, nat_tests) in
+      rw t refl
+
+  pub differs-no : bit_and x (slice_index f.mode i) ≡ 0 → differs_at f s i ≡ false
+  unfolding differs_at
+  differs-no h = let k : bit_and (differences f s i) (slice_index f.mode i) ≡ 0 = ap (λ n. bit_and n (slice_index f.mode i)) (sym is) ∙ h in rw k refl
+
+-- ---- what a compiled filter keeps
+
+abbrev pub ReachesBelow : SectionFilter → ℕ → ℕ → Type 0
+ReachesBelow f i needed = (s : List ℕ) → list_all (reaches_at f s) (below i) ≡ nat_le needed (length s)
+
+pub reach-unmasked : (f : SectionFilter) (i needed : ℕ) → ReachesBelow f i needed → slice_index f.mask i ≡ 0 → ReachesBelow f (i + 1) needed
+unfolding reaches_at
+reach-unmasked f i needed h z s =
+    let e : nat_eq (slice_index f.mask i) 0 ≡ true = grind (arith, nat_tests) in
+    all-more (reaches_at f s) i ∙ rw (e, h s) (and-true (nat_le needed (length s)))
+
+both-reach : (a b n : ℕ) → a ≤ b + 1 → (nat_le a n && nat_lt b n) ≡ nat_le (b + 1) n
+both-reach a b n h =
+    elim (cases_lt b n) [
+      | inl l ↦ let e : nat_lt b n ≡ true = grind (arith, nat_tests) in let k : nat_le a n ≡ true = grind (arith, nat_tests) in let m : nat_le (b + 1) n ≡ true = grind (arith, nat_tests) in rw (e, k, m) refl
+      | inr l ↦ let e : nat_lt b n ≡ false = grind (arith, nat_tests) in let m : nat_le (b + 1) n ≡ false = grind (arith, nat_tests) in rw (e, m) (and-false (nat_le a n))
+    ]
+
+pub reach-masked : (f : SectionFilter) (i needed : ℕ) → ReachesBelow f i needed → needed ≤ place_of i + 1 → slice_index f.mask i ≢ 0 → ReachesBelow f (i + 1) (place_of i + 1)
+unfolding reaches_at
+reach-masked f i needed h l z s =
+    let e : nat_eq (slice_index f.mask i) 0 ≡ false = grind (arith, nat_tests) in
+    all-more (reaches_at f s) i ∙ rw (e, h s) (both-reach needed (place_of i) (length s) l)
+
+pub reach-none : (f : SectionFilter) → ReachesBelow f 0 0
+unfolding below
+reach-none f s = let e : nat_le 0 (length s) ≡ true = grind (arith, nat_tests) in sym e
+
+pub all-none : (p : ℕ → Bool) → list_all p (below 0) ≡ true
+unfolding below
+all-none p = refl
+
+pub any-none : (p : ℕ → Bool) → list_any p (below 0) ≡ false
+unfolding below
+any-none p = refl
+
+pub place-rises : (i : ℕ) → place_of i ≤ place_of (i + 1)
+place-rises zero = search rules
+place-rises (suc i) = search rules
+
+-- ---- the whole
+
+pub not-reached : (f : SectionFilter) (s : List ℕ) (needed : ℕ) (negates : Bool) → IsCompiled f needed negates → length s < needed → matches f s ≡ false
+unfolding matches
+not-reached f s needed negates h l = let e : nat_le needed (length s) ≡ false = grind (arith, nat_tests) in rw (h.reach s, e) refl
+
+pub not-equal : (f : SectionFilter) (s : List ℕ) → list_all (equals_at f s) (below 16) ≡ false → matches f s ≡ false
+unfolding matches
+not-equal f s h = rw (h, and-false (list_all (reaches_at f s) (below 16))) refl
+
+pub matches-where : (f : SectionFilter) (s : List ℕ) (needed : ℕ) (negates differs : Bool) → IsCompiled f needed negates → needed ≤ length s
+    → list_all (equals_at f s) (below 16) ≡ true → list_any (differs_at f s) (below 16) ≡ differs → matches f s ≡ (not negates || differs)
+unfolding matches
+matches-where f s needed negates differs h l e d = let k : nat_le needed (length s) ≡ true = grind (arith, nat_tests) in rw (h.reach s, k, e, h.negated, d) refl

@@ -1,0 +1,97 @@
+// A filter made ready, and the comparison.
+ghost use Rattle.std.specs.Prelude.{◌≡◌, ◌<◌, ◌↔◌, ℕ, IsTrue, slice_index};
+ghost use Rattle.filter_match.specs.Match.{matches, place_of as place};
+ghost use Rattle.filter_match.specs.Meaning.{IsMatch};
+
+use crate::SectionFilter;
+use std::marker::Model;
+
+/// A section filter made ready to be held against sections. A contract sees the filter.
+#[derive(Debug, Drop)]
+pub struct Compiled {
+    filter: SectionFilter,
+    // how many bytes a section needs for each masked byte to stand against one
+    needed: usize,
+    // whether a masked bit has mode 1
+    negates: bool,
+}
+
+impl Model for Compiled {
+    ghost use Rattle.filter_match.specs.declared.filter.SectionFilter.{SectionFilter};
+
+    ghost Value = { SectionFilter };
+
+    ghost use Rattle.filter_match.specs.Compiling.{IsCompiled};
+
+    ghost view = { λ c. c.filter };
+
+    ghost invariant = { λ c. IsCompiled c.filter c.needed c.negates };
+}
+
+impl Compiled {
+    /// Makes a filter ready.
+    pub fn of(filter: &SectionFilter) -> Compiled
+        ensures { result ≡ filter.now }
+    {
+        let mut needed = 0;
+        let mut negates = false;
+        'bytes: for i in 0..16usize {
+            if filter.mask[i] != 0 {
+                needed = place_of(i) + 1;
+            }
+            if filter.mask[i] & filter.mode[i] != 0 {
+                negates = true;
+            }
+        }
+        Compiled {
+            filter: *filter,
+            needed,
+            negates,
+        }
+    }
+
+    /// Whether a section matches the filter.
+    pub fn selects(&self, section: &[u8]) -> bool
+        ensures { result ≡ matches self.now section.now }
+    {
+        if section.len() < self.needed {
+            return false;
+        }
+        let SectionFilter { filter, mask, mode } = self.filter;
+        let mut differs = false;
+        'bytes: for i in 0..16usize {
+            // A byte that the section doesn't have isn't masked here.
+            let byte = byte_at(section, place_of(i));
+            let differences = (filter[i] ^ byte) & mask[i];
+            if differences & !mode[i] != 0 {
+                return false;
+            }
+            if differences & mode[i] != 0 {
+                differs = true;
+            }
+        }
+        differs || !self.negates
+    }
+}
+
+// The section byte against which filter byte i stands.
+fn place_of(i: usize) -> usize
+    requires { i < 16 }
+    ensures { result ≡ place i }
+{
+    if i == 0 { 0 } else { i + 2 }
+}
+
+// The section's byte in a place, or 0 where it has none.
+fn byte_at(section: &[u8], place: usize) -> u8
+    ensures { result ≡ slice_index section.now place }
+{
+    section.get(place).copied().unwrap_or(0)
+}
+
+/// The law of a match, for any filter and any bytes: `matches` says of them what the Linux media API says of each bit.
+/// It has nothing to do.
+pub fn matches_means(filter: SectionFilter, section: &[u8])
+    ensures { IsTrue (matches filter section.now) ↔ IsMatch filter section.now }
+{
+}
