@@ -1,5 +1,5 @@
-pub mod After
-pub mod Assembly
 pub mod Held
+pub mod Keeping
+pub mod Laws
 pub mod Sections
 pub mod Segments

@@ -1,40 +1,41 @@
 // Sections from the packets of a PID, packet by packet.
-ghost use Rattle.std.specs.Prelude.{◌≡◌, ◌⊎◌, ℕ, ◌+◌, ◌<◌, ◌≤◌, true, false, List, [], ◌∷◌, ◌++◌, length, take, drop, Some, None, IfOk, IfSome, MatchBool, MatchOption};
+ghost use Rattle.std.specs.Prelude.{◌≡◌, ℕ, ◌+◌, ◌<◌, ◌≤◌, ◌↔◌, true, false, List, [], ◌∷◌, ◌++◌, length, take, drop, slice_get, map, Some, None, IfOk, IfSome, IsNone, MatchBool, MatchOption};
+ghost use Rattle.std.specs.Option.{option_map};
 ghost use Rattle.std.specs.Borrow.{sem};
-ghost use Rattle.ts_packet.specs.Fields.{has_payload};
-ghost use Rattle.ts_packet.specs.Clean.{carried};
-ghost use Rattle.ts_packet.specs.Clean.{is_usable as usable_packet};
-ghost use Rattle.section_parse.specs.Segments.{pointed_bytes};
-ghost use Rattle.section_parse.specs.Sections.{sections};
-ghost use Rattle.section_parse.specs.Assembly.{Assembly, Assembled, Keeps, is_drained, opened, longer};
-ghost use Rattle.section_parse.specs.Assembly.{repeats_last as repeated, joins_last as joined};
-ghost use Rattle.section_parse.specs.Held.{Held};
+ghost use Rattle.ts_packet.specs.Fields.{has_payload, unit_start};
+ghost use Rattle.ts_packet.specs.Clean.{carried, is_usable};
+ghost use Rattle.section_parse.specs.Segments.{pointed};
+ghost use Rattle.section_parse.specs.Sections.{sections, IsSection};
+ghost use Rattle.section_parse.specs.Keeping.{Assembly, Assembled, Gave, cleared, after_packet, bytes_kept, opened, repeats_last as repeated, joins_last as joined};
 
-use crate::Segment;
+use crate::segment::Segment;
 use std::alloc::{AllocError as NoMemory, Global};
 use std::marker::Model;
 use std::mem;
 use ts_packet::Packet;
 
-/// The sections of a PID. A contract sees what is kept between two packets, and the section given last.
+/// The sections of one PID, from its packets. A contract sees what it keeps between two packets: the PID, the last clean
+/// packet, the sections that are ready, and the bytes behind them in the open segment.
 #[derive(Drop)]
 pub struct Assembler {
     pid: u16,
     last: Option<Packet>,
+    // the segment that the last packet ended
     closing: Segment,
     open_now: Segment,
-    from_open: bool,
 }
 
 impl Model for Assembler {
-    ghost use Rattle.std.specs.Prelude.{if◌then◌else◌};
-    ghost use Rattle.section_parse.specs.Assembly.{Assembling};
+    ghost use Rattle.std.specs.Prelude.{◌++◌};
+    ghost use Rattle.section_parse.specs.Keeping.{Assembly, sections_of_open, left_of_open};
 
-    ghost Value = { Assembling };
+    ghost Value = { Assembly };
 
     ghost view = { λ a. record {
-      state = record { pid = a.pid; before = a.last; closing = a.closing.unread; open_now = a.open_now.unread };
-      given = if a.from_open then a.open_now.given else a.closing.given;
+      pid = a.pid;
+      before = a.last;
+      ready = sections_of_open a.closing.unread ++ sections_of_open a.open_now.unread;
+      open_now = left_of_open a.open_now.unread;
     } };
 
     ghost use Rattle.std.specs.Prelude.{◌≡◌, true, IfSome};
@@ -43,39 +44,33 @@ impl Model for Assembler {
     ghost invariant = { λ a. IfSome a.last (λ p. has_payload p ≡ true) };
 }
 
-// Whether a packet is of the PID, with a payload and no error.
-fn is_usable(pid: u16, packet: &Packet) -> bool
-    ensures { result ≡ usable_packet pid packet.now }
+// The payload of a packet of the PID that has one, and no error.
+fn usable_payload(pid: u16, packet: &Packet) -> Option<&[u8]>
+    ensures { MatchOption result
+        (is_usable pid packet.now ≡ false)
+        (λ payload. (is_usable pid packet.now ≡ true) × (payload.now ≡ carried packet.now) × (length payload.now ≤ 184)) }
 {
-    packet.pid() == pid && packet.payload().is_some() && !packet.error()
-}
-
-// What a packet carries.
-fn payload_of(packet: &Packet) -> &[u8]
-    requires { has_payload packet.now ≡ true }
-    ensures value { result.now ≡ carried packet.now }
-    ensures fits { length result.now ≤ 184 }
-{
-    match packet.payload() {
-        Some(payload) => payload,
-        None => unreachable!(),
+    if packet.pid() != pid || packet.error() {
+        return None;
     }
+    packet.payload()
 }
 
-// Whether a packet repeats the one before.
-fn repeats_last(last: &Option<Packet>, packet: &Packet) -> bool
-    requires packet { has_payload packet.now ≡ true }
+// Whether a packet with this payload repeats the last one.
+fn repeats_last(last: &Option<Packet>, packet: &Packet, payload: &[u8]) -> bool
     requires last { IfSome last.now (λ p. has_payload p ≡ true) }
+    requires payload { payload.now ≡ carried packet.now }
     ensures { result ≡ repeated last.now packet.now }
 {
     match last {
-        Some(before) => before.counter() == packet.counter()
-            && payload_of(before) == payload_of(packet),
+        Some(before) => {
+            before.counter() == packet.counter() && before.payload() == Some(payload)
+        }
         None => false,
     }
 }
 
-// Whether a packet joins the one before.
+// Whether a packet joins the last one.
 fn joins_last(last: &Option<Packet>, packet: &Packet) -> bool
     ensures { result ≡ joined last.now packet.now }
 {
@@ -85,57 +80,56 @@ fn joins_last(last: &Option<Packet>, packet: &Packet) -> bool
     }
 }
 
-// Adds to a segment what a packet with unit start has for it.
-fn add_pointed(segment: &mut Segment, payload: &[u8])
-    requires small { IfSome segment.old.unread (λ s. length s < 4096) }
-    requires payload { length payload.now ≤ 184 }
-    ensures { segment.new.unread ≡ longer segment.old.unread (pointed_bytes payload.now) }
+// The bytes between the pointer_field of this payload and the place that it points to.
+fn pointed_bytes(payload: &[u8]) -> &[u8]
+    requires { length payload.now ≤ 184 }
+    ensures value { (p : List ℕ) → carried p ≡ payload.now → result.now ≡ pointed p }
+    ensures fits { length result.now ≤ 184 }
 {
-    if payload.is_empty() {
-        segment.extend(payload);
-        return;
-    }
-    let pointer = payload[0] as usize;
-    if pointer < payload.len() {
-        segment.extend(&payload[1..1 + pointer]);
-    } else {
-        segment.extend(&payload[..0]);
+    match payload {
+        [pointer, behind @ ..] if usize::from(*pointer) <= behind.len() => &behind[..usize::from(
+            *pointer,
+        )],
+        _ => &[],
     }
 }
 
-// Opens the segment that a packet begins.
-fn open_with(segment: &mut Segment, packet: &Packet)
-    requires { has_payload packet.now ≡ true }
-    ensures { segment.new.unread ≡ opened packet.now }
+// The bytes that begin a segment in this packet, if one begins.
+fn begun_bytes<'a>(packet: &Packet, payload: &'a [u8]) -> Option<&'a [u8]>
+    requires fits { length payload.now ≤ 184 }
+    requires payload { payload.now ≡ carried packet.now }
+    ensures value { option_map (λ bytes. bytes.now) result ≡ opened packet.now }
+    ensures fits { IfSome result (λ bytes. length bytes.now ≤ 184) }
 {
-    let payload = payload_of(packet);
-    if packet.unit_start() && !payload.is_empty() && (payload[0] as usize) < payload.len() {
-        segment.begin(&payload[1 + payload[0] as usize..]);
-    } else {
-        segment.close();
+    match payload {
+        [pointer, behind @ ..] if packet.unit_start() && usize::from(*pointer) <= behind.len() => {
+            Some(&behind[usize::from(*pointer)..])
+        }
+        _ => None,
     }
 }
 
 impl Assembler {
-    ghost use Rattle.section_parse.specs.After.{EndsAs};
+    ghost use Rattle.std.specs.Io.BufRead.{Rests};
+    ghost use Rattle.section_parse.specs.contracts.assembler.Assembler.{the_row};
 
+    /// An assembler for PID 0, with all the memory that it will ever need.
     pub fn new(alloc: Global) -> Result<Assembler, NoMemory>
-        ensures { IfOk result (λ a. Assembled [] [] a.state) }
+        ensures value { IfOk result (λ a. a ≡ cleared 0) }
+        ensures stands { IfOk result (λ a. Assembled [] [] a) }
     {
         Ok(Assembler {
             pid: 0,
             last: None,
             closing: Segment::new(alloc)?,
             open_now: Segment::new(alloc)?,
-            from_open: false,
         })
     }
 
-    /// Begins anew for a PID.
+    /// Begins anew for a PID. Takes no memory.
     pub fn clear(&mut self, pid: u16)
-        ensures pid { self.new.state.pid ≡ pid }
-        ensures stream { Assembled [] [] self.new.state }
-        ensures drained { (is_drained self.new.state.closing ≡ true) × (is_drained self.new.state.open_now ≡ true) }
+        ensures value { self.new ≡ cleared pid }
+        ensures stands { Assembled [] [] self.new }
     {
         self.pid = pid;
         self.last = None;
@@ -143,77 +137,77 @@ impl Assembler {
         self.open_now.close();
     }
 
-    /// Offers a packet, once `next` has answered None.
+    /// Takes in a packet, once `next` has answered None. Takes no memory.
     pub fn push(&mut self, packet: &Packet)
-        requires closing { is_drained self.old.state.closing ≡ true }
-        requires open_now { is_drained self.old.state.open_now ≡ true }
-        ensures pid { self.new.state.pid ≡ self.old.state.pid }
-        ensures stream { (packets given : List (List ℕ)) → Assembled packets given self.old.state → Assembled (packets ++ packet.now ∷ []) given self.new.state }
+        requires drained { self.old.ready ≡ [] }
+        ensures value { self.new ≡ after_packet self.old packet.now }
+        ensures pid { self.new.pid ≡ self.old.pid }
+        ensures stands { (packets given : List (List ℕ)) → Assembled packets given self.old → Assembled (packets ++ packet.now ∷ []) given self.new }
+        ensures bytes { bytes_kept self.new ≤ bytes_kept self.old + 184 }
     {
-        if !is_usable(self.pid, packet) {
+        if let Some(payload) = usable_payload(self.pid, packet) {
+            self.take(packet, payload);
+        }
+    }
+
+    // Takes in a packet of the PID that has this payload and no error.
+    fn take(&mut self, packet: &Packet, payload: &[u8])
+        requires drained { self.old.ready ≡ [] }
+        requires usable { is_usable self.old.pid packet.now ≡ true }
+        requires payload { payload.now ≡ carried packet.now }
+        requires fits { length payload.now ≤ 184 }
+        ensures value { self.new ≡ after_packet self.old packet.now }
+    {
+        if repeats_last(&self.last, packet, payload) {
             return;
         }
-        if repeats_last(&self.last, packet) {
-            return;
-        }
-        self.open_now.settle();
         let joined = joins_last(&self.last, packet);
         self.last = Some(*packet);
         if !joined {
             self.closing.close();
-            open_with(&mut self.open_now, packet);
+            self.open_now.begin(begun_bytes(packet, payload));
             return;
         }
-        if !packet.unit_start() {
-            self.closing.close();
-            self.open_now.extend(payload_of(packet));
+        self.open_now.settle();
+        if packet.unit_start() {
+            self.open_now.extend(pointed_bytes(payload));
+            mem::swap(&mut self.closing, &mut self.open_now);
+            self.open_now.begin(begun_bytes(packet, payload));
             return;
         }
-        add_pointed(&mut self.open_now, payload_of(packet));
-        mem::swap(&mut self.closing, &mut self.open_now);
-        open_with(&mut self.open_now, packet);
+        self.closing.close();
+        self.open_now.extend(payload);
     }
 
-    // Moves on to the next section.
-    fn advance(&mut self) -> bool
-        ensures pid { self.new.state.pid ≡ self.old.state.pid }
-        ensures moves { MatchBool result
-            ((packets given : List (List ℕ)) → Assembled packets given self.old.state → Assembled packets (given ++ self.new.given ∷ []) self.new.state)
-            ((self.new.state ≡ self.old.state) × (is_drained self.new.state.closing ≡ true) × (is_drained self.new.state.open_now ≡ true)) }
+    /// The next section of the packets pushed since `clear`: None exactly where no further one lies in them. Takes no memory.
+    pub fn next(&mut self) -> Option<&[u8]>
+        ensures section { option_map (λ s. s.now) result ≡ slice_get self.old.ready 0 }
+        ensures whole { IfSome result (λ s. IsSection s.now) }
+        ensures none { (packets given : List (List ℕ)) → Assembled packets given self.old → (IsNone result ↔ (sections packets self.old.pid ≡ given)) }
+        ensures* after { sem 𝓛 (Rests the_row self.entry (λ left. Gave self.old (option_map (λ s. s.now) result) left)) }
     {
         if self.closing.advance() {
-            self.from_open = false;
-            return true;
+            return Some(self.closing.current());
         }
         if self.open_now.advance() {
-            self.from_open = true;
-            return true;
+            return Some(self.open_now.current());
         }
-        false
+        None
     }
+}
 
-    fn current(&self) -> &[u8]
-        ensures { result.now ≡ self.now.given }
-    {
-        if self.from_open {
-            self.open_now.current()
-        } else {
-            self.closing.current()
+/// All sections of a PID in these packets.
+pub fn all_sections(alloc: Global, pid: u16, packets: &[Packet]) -> Result<Vec<Vec<u8>>, NoMemory>
+    ensures { IfOk result (λ found. map (λ s. s.items) found.items ≡ sections packets.now pid) }
+{
+    let mut assembler = Assembler::new(alloc)?;
+    assembler.clear(pid);
+    let mut found = Vec::new(alloc);
+    'packets: for packet in packets {
+        assembler.push(packet);
+        'sections: while let Some(section) = assembler.next() {
+            found.push(section.to_vec(alloc)?)?;
         }
     }
-
-    /// The next section of the packets pushed. None where no further one lies in them.
-    pub fn next(&mut self) -> Option<&[u8]>
-        ensures* after { sem 𝓛 (EndsAs self.entry (λ a. MatchOption result
-            ((is_drained a.state.closing ≡ true) × (is_drained a.state.open_now ≡ true) × (a.state ≡ self.old.state)
-            × ((packets given : List (List ℕ)) → Assembled packets given self.old.state → sections packets self.old.state.pid ≡ given))
-            (λ section. (a.state.pid ≡ self.old.state.pid)
-            × ((packets given : List (List ℕ)) → Assembled packets given self.old.state → Assembled packets (given ++ section.now ∷ []) a.state)))) }
-    {
-        if self.advance() {
-            Some(self.current())
-        } else {
-            None
-        }
-    }
+    Ok(found)
 }

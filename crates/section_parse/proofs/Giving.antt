@@ -1,0 +1,101 @@
+-- What giving a section leaves.
+use Rattle.std.specs.Prelude.{slice_get}
+use Rattle.std.proofs.Common.{◌≡◌, ℕ, ◌+◌, Bool, true, false, List, [], ◌∷◌, ◌++◌, length, take, drop, Option, Some, None, refl, sym, ap, ◌∙◌, arith, length-append}
+use Rattle.std.proofs.lemmas.List.{append-nil}
+use Rattle.std.proofs.lemmas.List.Sums.{sum_by-cons}
+use Rattle.section_parse.specs.Sections.{section_length, read_sections, sections, IsSection}
+use Rattle.section_parse.specs.Keeping.{Assembly, Assembled, without_first, sections_of_open, left_of_open, bytes_kept}
+use Rattle.section_parse.specs.Held.{Held, Advances, is_drained}
+use Rattle.section_parse.proofs.Reading.{read-first, left-first, first-is, open-drained}
+use Rattle.section_parse.proofs.Assembled.{Assembled-next}
+
+-- s is the first section that is ready in a, and rest is what is kept without it
+pub record Gives (a rest : Assembly) (s : List ℕ) : Type 0 where
+  pub section : Some s ≡ slice_get a.ready 0
+  pub whole : IsSection s
+  pub some : (packets given : List (List ℕ)) → Assembled packets given a → ¬ (sections packets a.pid ≡ given)
+  pub left : rest ≡ without_first a
+  pub bytes : bytes_kept rest + length s ≡ bytes_kept a
+  pub stands : (packets given : List (List ℕ)) → Assembled packets given a → Assembled packets (given ++ s ∷ []) rest
+
+not-all : (xs ys zs : List (List ℕ)) (y : List ℕ) → xs ≡ ys ++ (y ∷ zs) → ¬ (xs ≡ ys)
+not-all xs ys zs y e = λ f. omega (arith, ap length e, ap length f, length-append ys (y ∷ zs))
+
+gives-by : (pid : ℕ) (before o : Option (List ℕ)) (s : List ℕ) (rest : List (List ℕ)) → IsSection s
+    → Gives (record { pid = pid; before = before; ready = s ∷ rest; open_now = o }) (record { pid = pid; before = before; ready = rest; open_now = o }) s
+gives-by pid before o s rest w = record {
+  section = refl;
+  whole = w;
+  some = λ packets given h. not-all (sections packets pid) given rest s h.so_far;
+  left = refl;
+  bytes = omega (arith, sum_by-cons length s rest);
+  stands = λ packets given h. Assembled-next packets given s rest _ refl h;
+}
+
+gives-from : (pid : ℕ) (before o left : Option (List ℕ)) (s : List ℕ) (ready rest : List (List ℕ)) → ready ≡ s ∷ rest → left ≡ o → IsSection s
+    → Gives (record { pid = pid; before = before; ready = ready; open_now = o }) (record { pid = pid; before = before; ready = rest; open_now = left }) s
+gives-from pid before o left s ready rest e f w = rw (e, f) (gives-by pid before o s rest w)
+
+-- a section of the closing segment
+pub gives-closing : (pid : ℕ) (before o u : Option (List ℕ)) (r : Bool) (new : Held) (s : List ℕ) → Advances o r new → r ≡ true → s ≡ new.given
+    → Gives (record { pid = pid; before = before; ready = sections_of_open o ++ sections_of_open u; open_now = left_of_open u }) (record { pid = pid; before = before; ready = sections_of_open new.unread ++ sections_of_open u; open_now = left_of_open u }) s
+gives-closing pid before None u r new s h e g = absurd (let z = h.0 in cc)
+gives-closing pid before (Some b) u false new s h e g = absurd cc
+gives-closing pid before (Some b) u true new s h e g =
+    rw (g, h.1, h.2) (gives-from pid before (left_of_open u) (left_of_open u) (take (3 + section_length b) b) (read_sections b ++ sections_of_open u) (read_sections (drop (3 + section_length b) b) ++ sections_of_open u) (rw (read-first b h.0) refl) refl (first-is b h.0))
+
+-- nothing is taken from a segment in which no section stands
+pub advances-none : (o : Option (List ℕ)) (r : Bool) (new : Held) → Advances o r new → r ≡ false → (new.unread ≡ o) × (is_drained o ≡ true)
+advances-none None r new h e = (h.1, refl)
+advances-none (Some s) false new h e = (h.1, rw h.0 refl)
+advances-none (Some s) true new h e = absurd cc
+
+-- a section of the open segment, behind a closing one that is drained
+gives-behind : (pid : ℕ) (before o u n : Option (List ℕ)) (r : Bool) (new : Held) (s : List ℕ) → n ≡ o → sections_of_open o ≡ [] → Advances u r new → r ≡ true → s ≡ new.given
+    → Gives (record { pid = pid; before = before; ready = sections_of_open o ++ sections_of_open u; open_now = left_of_open u }) (record { pid = pid; before = before; ready = sections_of_open n ++ sections_of_open new.unread; open_now = left_of_open new.unread }) s
+gives-behind pid before o None n r new s same d h e g = absurd (let z = h.0 in cc)
+gives-behind pid before o (Some b) n false new s same d h e g = absurd cc
+gives-behind pid before o (Some b) n true new s same d h e g =
+    rw (g, h.1, h.2, same, d) (gives-from pid before (left_of_open (Some b)) (left_of_open (Some (drop (3 + section_length b) b))) (take (3 + section_length b) b) (read_sections b) (read_sections (drop (3 + section_length b) b)) (read-first b h.0) (sym (left-first b h.0)) (first-is b h.0))
+
+pub gives-open : (pid : ℕ) (before o u : Option (List ℕ)) (q r : Bool) (closing new : Held) (s : List ℕ) → Advances o q closing → q ≡ false → Advances u r new → r ≡ true → s ≡ new.given
+    → Gives (record { pid = pid; before = before; ready = sections_of_open o ++ sections_of_open u; open_now = left_of_open u }) (record { pid = pid; before = before; ready = sections_of_open closing.unread ++ sections_of_open new.unread; open_now = left_of_open new.unread }) s
+gives-open pid before o u q r closing new s k f h e g =
+    let z = advances-none o q closing k f in
+    gives-behind pid before o u closing.unread r new s z.0 (open-drained o z.1) h e g
+
+-- no section is there
+pub record GivesNone (a rest : Assembly) : Type 0 where
+  pub section : None ≡ slice_get a.ready 0
+  pub all : (packets given : List (List ℕ)) → Assembled packets given a → sections packets a.pid ≡ given
+  pub left : rest ≡ without_first a
+  pub bytes : bytes_kept rest + 0 ≡ bytes_kept a
+  pub stands : (packets given : List (List ℕ)) → Assembled packets given a → Assembled packets given rest
+
+gives_none-by : (pid : ℕ) (before o left : Option (List ℕ)) (ready after : List (List ℕ)) → ready ≡ [] → after ≡ [] → left ≡ o
+    → GivesNone (record { pid = pid; before = before; ready = ready; open_now = o }) (record { pid = pid; before = before; ready = after; open_now = left })
+gives_none-by pid before o left ready after e f g = rw (e, f, g) (record {
+  section = refl;
+  all = λ packets given h. h.so_far ∙ append-nil given;
+  left = refl;
+  bytes = omega arith;
+  stands = λ packets given h. h;
+})
+
+pub gives-none : (pid : ℕ) (before o u : Option (List ℕ)) (q r : Bool) (closing new : Held) → Advances o q closing → q ≡ false → Advances u r new → r ≡ false
+    → GivesNone (record { pid = pid; before = before; ready = sections_of_open o ++ sections_of_open u; open_now = left_of_open u }) (record { pid = pid; before = before; ready = sections_of_open closing.unread ++ sections_of_open new.unread; open_now = left_of_open new.unread })
+gives-none pid before o u q r closing new k f h e =
+    let z = advances-none o q closing k f in
+    let y = advances-none u r new h e in
+    rw (z.0, y.0) (gives_none-by pid before (left_of_open u) (left_of_open u) _ _ (rw (open-drained o z.1) (open-drained u y.1)) (rw (open-drained o z.1) (open-drained u y.1)) refl)
+
+-- where no section is ready, none stands in either segment
+first-none : (xs ys : List (List ℕ)) → xs ++ ys ≡ [] → xs ≡ []
+first-none [] ys e = refl
+first-none (x ∷ xs) ys e = absurd cc
+
+pub ready-closing : (o u : Option (List ℕ)) → sections_of_open o ++ sections_of_open u ≡ [] → sections_of_open o ≡ []
+ready-closing o u e = first-none (sections_of_open o) (sections_of_open u) e
+
+pub ready-open : (o u : Option (List ℕ)) → sections_of_open o ++ sections_of_open u ≡ [] → sections_of_open u ≡ []
+ready-open o u e = let d = ready-closing o u e in rw d at e

@@ -1,0 +1,157 @@
+-- The laws of sections over whole lists of packets.
+use Rattle.std.specs.Prelude.{if◌then◌else◌}
+use Rattle.std.proofs.Common.{◌≡◌, ℕ, ◌+◌, ◌≤◌, Bool, true, false, List, [], ◌∷◌, ◌++◌, length, take, drop, Option, Some, None, refl, sym, ap, ◌∙◌, arith, length-drop, get_or}
+use Rattle.std.proofs.lemmas.List.{append-nil}
+use Rattle.std.proofs.lemmas.Grind.{flat_map-append}
+use Rattle.std.proofs.lemmas.List.Elements.{All-append, All-nil, filter-append}
+use Rattle.std.specs.List.{All, filter, flat_map, fold, last_or}
+use Rattle.ts_packet.specs.Fields.{IsPacket, counter_of, has_adaptation}
+use Rattle.ts_packet.specs.Clean.{carried, is_usable, repeats, without_repeats_after, clean}
+use Rattle.section_parse.specs.Segments.{joins, in_front, runs, segments}
+use Rattle.section_parse.specs.Sections.{section_length, has_section, read_sections, sections_of_run, sections, IsSection}
+use Rattle.section_parse.specs.Keeping.{sections_to_come, cleared}
+use Rattle.section_parse.specs.Laws.{SectionsLieEndToEnd, SectionsStay, IsApart, SectionsRecover, SectionsAreWhole, SectionsFitThePackets}
+use Rattle.section_parse.proofs.Reading.{read-first, read-none, each-is}
+use Rattle.section_parse.proofs.Steps.{repeats-counter, repeats-carried}
+use Rattle.section_parse.proofs.Assembled.{AreFew, next_kept, keeps-all}
+
+-- reading from the front
+read-by : (s : List ℕ) (b : Bool) → has_section s ≡ b → read_sections s ≡ (if has_section s then take (3 + section_length s) s ∷ read_sections (drop (3 + section_length s) s) else [])
+read-by s true e = rw e (read-first s e)
+read-by s false e = rw e (read-none s e)
+
+pub end_to_end : SectionsLieEndToEnd
+end_to_end s = read-by s (has_section s) refl
+
+-- a prefix's sections are a prefix
+pub stay : SectionsStay
+stay earlier later pid =
+    let k = keeps-all pid earlier in
+    let h = k.keeps in
+    let e : sections earlier pid ≡ k.found = rw (h.drained, append-nil k.found, h.same) at h.stands.so_far in
+    let a = fold next_kept (cleared pid) earlier in
+    let g : sections (earlier ++ later) a.pid ≡ k.found ++ sections_to_come a later = h.stands.goes_on later in
+    (sections_to_come a later, rw e (ap (λ (n : ℕ). sections (earlier ++ later) n) (sym h.same) ∙ g))
+
+-- each is whole
+All-flat_map : (f : List (List ℕ) → List (List ℕ)) → ((x : List (List ℕ)) → All IsSection (f x)) → (xs : List (List (List ℕ))) → All IsSection (flat_map f xs)
+All-flat_map f each [] = All-nil IsSection
+All-flat_map f each (x ∷ xs) = All-append IsSection (f x) (flat_map f xs) (each x) (All-flat_map f each xs)
+
+All-segments : (ss : List (List ℕ)) → All IsSection (flat_map read_sections ss)
+unfolding read_sections
+All-segments [] = All-nil IsSection
+All-segments (s ∷ ss) = All-append IsSection (read_sections s) (flat_map read_sections ss) (each-is 0 s) (All-segments ss)
+
+pub are_whole : SectionsAreWhole
+unfolding sections
+are_whole packets pid = All-flat_map sections_of_run (λ run. All-segments (segments run)) (runs (clean packets pid))
+
+-- the bytes
+carried-few : (p : List ℕ) → IsPacket p → length (carried p) ≤ 184
+carried-few p h = go (has_adaptation p) refl
+  where
+    go : (b : Bool) → has_adaptation p ≡ b → length (carried p) ≤ 184
+    go true e = rw e (omega (arith, h.size, length-drop (5 + get_or p 4 0) p))
+    go false e = rw e (omega (arith, h.size, length-drop 4 p))
+
+are-few : (packets : List (List ℕ)) → All IsPacket packets → AreFew packets
+are-few packets h = λ k d below. carried-few (get_or packets k d) (h k d below)
+
+pub fit : SectionsFitThePackets
+fit packets pid all =
+    let k = keeps-all pid packets in
+    let h = k.keeps in
+    let e : sections packets pid ≡ k.found = rw (h.drained, append-nil k.found, h.same) at h.stands.so_far in
+    rw e (omega (arith, k.bytes (are-few packets all)))
+
+-- recovery: the runs of packets that are apart
+front-apart : (p q : List ℕ) (rs : List (List (List ℕ))) → joins p q ≡ false → in_front p (in_front q rs) ≡ (p ∷ []) ∷ in_front q rs
+front-apart p q [] j = rw j refl
+front-apart p q ([] ∷ rs) j = rw j refl
+front-apart p q ((r ∷ run) ∷ rs) j = go (joins q r) refl
+  where
+    go : (b : Bool) → joins q r ≡ b → in_front p (in_front q ((r ∷ run) ∷ rs)) ≡ (p ∷ []) ∷ in_front q ((r ∷ run) ∷ rs)
+    go true e = rw (e, j) refl
+    go false e = rw (e, j) refl
+
+front-by : (p q : List ℕ) (run : List (List ℕ)) (rs more : List (List (List ℕ))) (b : Bool) → joins p q ≡ b → in_front p (((q ∷ run) ∷ rs) ++ more) ≡ in_front p ((q ∷ run) ∷ rs) ++ more
+front-by p q run rs more true e = rw e refl
+front-by p q run rs more false e = rw e refl
+
+front-append : (p q : List ℕ) (rs more : List (List (List ℕ))) → in_front p (in_front q rs ++ more) ≡ in_front p (in_front q rs) ++ more
+front-append p q [] more = front-by p q [] [] more (joins p q) refl
+front-append p q ([] ∷ rs) more = front-by p q [] rs more (joins p q) refl
+front-append p q ((r ∷ run) ∷ rs) more = go (joins q r) refl
+  where
+    go : (b : Bool) → joins q r ≡ b → in_front p (in_front q ((r ∷ run) ∷ rs) ++ more) ≡ in_front p (in_front q ((r ∷ run) ∷ rs)) ++ more
+    go true e = rw e (front-by p q (r ∷ run) rs more (joins p q) refl)
+    go false e = rw e (front-by p q [] ((r ∷ run) ∷ rs) more (joins p q) refl)
+
+runs-apart : (ps : List (List ℕ)) (q : List ℕ) (qs : List (List ℕ)) → ((before : List ℕ) → last_or None ps ≡ Some before → joins before q ≡ false) → runs (ps ++ q ∷ qs) ≡ runs ps ++ runs (q ∷ qs)
+unfolding runs
+runs-apart [] q qs h = refl
+runs-apart (p ∷ []) q qs h = front-apart p q (runs qs) (h p refl)
+runs-apart (p ∷ r ∷ ps) q qs h = rw (runs-apart (r ∷ ps) q qs h) (front-append p r (runs ps) (runs (q ∷ qs)))
+
+-- recovery: the clean packets
+clean-by : (before p : List ℕ) (b : Bool) → repeats before p ≡ b → (ps cs more : List (List ℕ)) → without_repeats_after (Some p) ps ≡ cs ++ more
+    → without_repeats_after (Some before) (p ∷ ps) ≡ (if repeats before p then cs else p ∷ cs) ++ more
+unfolding without_repeats_after
+clean-by before p true e ps cs more h = rw e h
+clean-by before p false e ps cs more h = rw e (ap (λ (l : List (List ℕ)). p ∷ l) h)
+
+clean-append : (o : Option (List ℕ)) (ps qs : List (List ℕ)) → without_repeats_after o (ps ++ qs) ≡ without_repeats_after o ps ++ without_repeats_after (last_or o ps) qs
+unfolding without_repeats_after
+clean-append o [] qs = refl
+clean-append None (p ∷ ps) qs = ap (λ (l : List (List ℕ)). p ∷ l) (clean-append (Some p) ps qs)
+clean-append (Some before) (p ∷ ps) qs = clean-by before p (repeats before p) refl (ps ++ qs) (without_repeats_after (Some p) ps) (without_repeats_after (last_or (Some p) ps) qs) (clean-append (Some p) ps qs)
+
+-- packets that the same packets repeat
+abbrev AreAlike : Option (List ℕ) → Option (List ℕ) → Type 0
+AreAlike None None = Unit {0}
+AreAlike None (Some q) = ⊥
+AreAlike (Some p) None = ⊥
+AreAlike (Some p) (Some q) = (counter_of p ≡ counter_of q) × (carried p ≡ carried q)
+
+alike-repeat : (o : Option (List ℕ)) (before p : List ℕ) → AreAlike o (Some before) → repeats before p ≡ true → AreAlike o (Some p)
+alike-repeat None before p h r = absurd h
+alike-repeat (Some c) before p h r = (h.0 ∙ repeats-counter before p r, h.1 ∙ repeats-carried before p r)
+
+last-by : (o : Option (List ℕ)) (before p : List ℕ) (ps : List (List ℕ)) (b : Bool) → repeats before p ≡ b → AreAlike o (Some before)
+    → ((o' : Option (List ℕ)) → AreAlike o' (Some p) → AreAlike (last_or o' (without_repeats_after (Some p) ps)) (last_or (Some p) ps))
+    → AreAlike (last_or o (without_repeats_after (Some before) (p ∷ ps))) (last_or (Some p) ps)
+unfolding without_repeats_after
+last-by o before p ps true e h next = rw e (next o (alike-repeat o before p h e))
+last-by o before p ps false e h next = rw e (next (Some p) (refl, refl))
+
+last-clean : (ps : List (List ℕ)) (o u : Option (List ℕ)) → AreAlike o u → AreAlike (last_or o (without_repeats_after u ps)) (last_or u ps)
+unfolding without_repeats_after
+last-clean [] o u h = h
+last-clean (p ∷ ps) o None h = last-clean ps (Some p) (Some p) (refl, refl)
+last-clean (p ∷ ps) o (Some before) h = last-by o before p ps (repeats before p) refl h (λ o' k. last-clean ps o' (Some p) k)
+
+clean-apart : (c u : Option (List ℕ)) (q : List ℕ) (qs : List (List ℕ)) → AreAlike c u → ((before : List ℕ) → c ≡ Some before → repeats before q ≡ false) → without_repeats_after u (q ∷ qs) ≡ without_repeats_after None (q ∷ qs)
+unfolding without_repeats_after
+clean-apart c None q qs h apart = refl
+clean-apart None (Some b) q qs h apart = absurd h
+clean-apart (Some c) (Some b) q qs h apart =
+    let r : repeats b q ≡ false = rw (← h.0, ← h.1) (apart c refl) in
+    rw r refl
+
+sections-of : (ps qs : List (List ℕ)) → runs (ps ++ qs) ≡ runs ps ++ runs qs → flat_map sections_of_run (runs (ps ++ qs)) ≡ flat_map sections_of_run (runs ps) ++ flat_map sections_of_run (runs qs)
+sections-of ps qs e = rw e (flat_map-append sections_of_run (runs ps) (runs qs))
+
+recover-by : (us vs : List (List ℕ)) → IsApart (without_repeats_after None us) (without_repeats_after None vs)
+    → flat_map sections_of_run (runs (without_repeats_after None (us ++ vs))) ≡ flat_map sections_of_run (runs (without_repeats_after None us)) ++ flat_map sections_of_run (runs (without_repeats_after None vs))
+unfolding without_repeats_after runs
+recover-by us [] h = rw (append-nil us) (sym (append-nil (flat_map sections_of_run (runs (without_repeats_after None us)))))
+recover-by us (v ∷ vs) h =
+    let cs = without_repeats_after None us in
+    let alike = last-clean us None None tt in
+    let same = clean-apart (last_or None cs) (last_or None us) v vs alike (λ before e. (h before v e refl).1) in
+    rw (clean-append None us (v ∷ vs), same) (sections-of cs (without_repeats_after None (v ∷ vs)) (runs-apart cs v (without_repeats_after (Some v) vs) (λ before e. (h before v e refl).0)))
+
+pub recover : SectionsRecover
+unfolding sections clean
+recover earlier later pid h = rw (filter-append (is_usable pid) earlier later) (recover-by (filter (is_usable pid) earlier) (filter (is_usable pid) later) h)
