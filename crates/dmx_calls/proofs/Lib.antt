@@ -1,0 +1,3 @@
+pub mod Going
+pub mod Growth
+pub mod Ledgers
