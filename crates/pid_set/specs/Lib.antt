@@ -1,1 +1,2 @@
 pub mod Pids
+pub mod Sets

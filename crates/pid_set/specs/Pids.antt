@@ -1,17 +1,25 @@
--- Sets of PIDs, as ascending lists without repeats.
-use Rattle.std.specs.Prelude.{ℕ, Bool, nat_eq, nat_lt, if◌then◌else◌, List, [], ◌∷◌}
-use Rattle.std.specs.List.{list_any}
+-- Sets of PIDs, seen as ascending lists without repeats. DMX_ADD_PID and DMX_REMOVE_PID of the Linux media API (Digital
+-- TV demux) give a filter several PIDs; the order is this project's.
+use Rattle.std.specs.Prelude.{ℕ, ◌<◌, ◌^◌, Bool, not, nat_eq, nat_lt, List, ◌∷◌, ◌++◌, length, slice_index}
+use Rattle.std.specs.List.{list_any, filter}
 
 -- the PID is in the set
 abbrev pub has_pid : ℕ → List ℕ → Bool
 has_pid pid pids = list_any (nat_eq pid) pids
 
--- the set with this PID: unchanged where it is there
-abbrev pub with_pid : ℕ → List ℕ → List ℕ
-with_pid pid [] = pid ∷ []
-with_pid pid (p ∷ ps) = if nat_eq pid p then p ∷ ps else (if nat_lt pid p then pid ∷ p ∷ ps else p ∷ with_pid pid ps)
+-- the set with this PID: the PIDs below it, itself, the PIDs above it
+unfoldable pub with_pid : ℕ → List ℕ → List ℕ
+with_pid pid pids = filter (λ p. nat_lt p pid) pids ++ pid ∷ filter (λ p. nat_lt pid p) pids
 
--- the set without this PID: unchanged where it isn't there
-abbrev pub without_pid : ℕ → List ℕ → List ℕ
-without_pid pid [] = []
-without_pid pid (p ∷ ps) = if nat_eq pid p then ps else p ∷ without_pid pid ps
+-- the set without this PID: all others
+unfoldable pub without_pid : ℕ → List ℕ → List ℕ
+without_pid pid pids = filter (λ p. not (nat_eq pid p)) pids
+
+-- each member is below those after it
+abbrev pub IsAscending : List ℕ → Type 0
+IsAscending pids = (i j : ℕ) → i < j → j < length pids → slice_index pids i < slice_index pids j
+
+-- what a set holds: ascending numbers of 16 bits
+pub record ArePids (pids : List ℕ) : Type 0 where
+  pub ascending : IsAscending pids
+  pub fits : (i : ℕ) → slice_index pids i < 2 ^ 16

@@ -1,0 +1,118 @@
+// A set of at most N PIDs.
+ghost use Rattle.std.specs.Prelude.{◌≡◌, ◌<◌, ◌≤◌, ◌↔◌, ℕ, List, [], length, true, false, not, IsTrue, IsErr, IfOk, OnErr, IfSome, IsNone, IfErr, slice_index, insert, remove};
+ghost use Rattle.pid_set.specs.Pids.{has_pid, with_pid, without_pid, IsAscending, ArePids};
+ghost use Rattle.pid_set.specs.Sets.{IsAdded, IsRemoved};
+
+use arrayvec::ArrayVec;
+use std::alloc::AllocError;
+use std::marker::Model;
+use thiserror::Error;
+
+/// The refusal of a PID that would be one too many.
+#[derive(Clone, Copy, Debug, PartialEq, Eq, Drop, Error)]
+#[error("the set of PIDs is full")]
+pub struct PidsFull;
+
+/// The PIDs of one filter: at most 32.
+pub type Pids = PidSet<32>;
+
+/// A set of at most `N` PIDs. A contract sees it as the list of its members, ascending and without repeats.
+#[derive(Debug, Drop)]
+pub struct PidSet<const N: usize> {
+    pids: ArrayVec<u16, N>,
+}
+
+impl<const N: usize> Model for PidSet<N> {
+    ghost use Rattle.std.specs.Prelude.{List, ℕ};
+    ghost use Rattle.pid_set.specs.Pids.{ArePids};
+
+    ghost Value = { List ℕ };
+
+    ghost view = { λ s. s.pids.items };
+
+    ghost invariant = { λ s. ArePids s.pids.items };
+
+    ghost inverse = { λ pids. record { pids = record { items = pids } } };
+}
+
+impl<const N: usize> PidSet<N> {
+    /// The empty set.
+    pub fn new() -> PidSet<N>
+        ensures { result ≡ [] }
+    {
+        PidSet {
+            pids: ArrayVec::new(),
+        }
+    }
+
+    /// Adds a PID: `Ok(true)` where it was added, `Ok(false)` where it was there, `PidsFull` where it is absent and `N`
+    /// are there.
+    pub fn add(&mut self, pid: u16) -> Result<bool, PidsFull>
+        ensures full { IsErr result ↔ ((has_pid pid self.old ≡ false) × (length self.old ≡ N)) }
+        ensures added { IfOk result (λ added. has_pid pid self.old ≡ not added) }
+        ensures set { IfOk result (λ _. self.new ≡ with_pid pid self.old) }
+        ensures unchanged { OnErr result (self.new ≡ self.old) }
+    {
+        match find(&self.pids, pid) {
+            Ok(_) => Ok(false),
+            Err(_) if self.pids.is_full() => Err(PidsFull),
+            Err(place) => {
+                self.pids.insert(place, pid);
+                Ok(true)
+            }
+        }
+    }
+
+    /// Removes a PID: true where it was there.
+    pub fn remove(&mut self, pid: u16) -> bool
+        ensures removed { result ≡ has_pid pid self.old }
+        ensures set { self.new ≡ without_pid pid self.old }
+    {
+        let Ok(place) = find(&self.pids, pid) else {
+            return false;
+        };
+        self.pids.remove(place);
+        true
+    }
+
+    /// Whether a PID is in the set.
+    pub fn has(&self, pid: u16) -> bool
+        ensures { result ≡ has_pid pid self.now }
+    {
+        find(&self.pids, pid).is_ok()
+    }
+
+    /// The number of PIDs.
+    pub fn len(&self) -> usize
+        ensures value { result ≡ length self.now }
+        ensures fits { result ≤ N }
+        ensures pids { ArePids self.now }
+    {
+        self.pids.len()
+    }
+
+    /// The PID in place `i`, the lowest in place 0, or None where `i` isn't below `len`.
+    pub fn get(&self, i: usize) -> Option<u16>
+        ensures none { IsNone result ↔ (length self.now ≤ i) }
+        ensures value { IfSome result (λ pid. pid ≡ slice_index self.now i) }
+    {
+        self.pids.get(i).copied()
+    }
+}
+
+// The place of a PID among ascending ones, or the place where it would be put.
+fn find(pids: &[u16], pid: u16) -> Result<usize, usize>
+    requires { ArePids pids.now }
+    ensures found { IfOk result (λ i. (i < length pids.now) × (has_pid pid pids.now ≡ true) × (without_pid pid pids.now ≡ remove pids.now i) × (with_pid pid pids.now ≡ pids.now)) }
+    ensures absent { IfErr result (λ i. (i ≤ length pids.now) × (has_pid pid pids.now ≡ false) × (with_pid pid pids.now ≡ insert pids.now i pid) × (without_pid pid pids.now ≡ pids.now)) }
+{
+    pids.binary_search(&pid)
+}
+
+/// The law of the sets: what adding a PID to an ascending list, and removing it, does to the members. It has nothing
+/// to do.
+pub fn adding_and_removing()
+    ensures added { (pid : ℕ) (pids : List ℕ) → IsAscending pids → IsAdded pid pids }
+    ensures removed { (pid : ℕ) (pids : List ℕ) → IsAscending pids → IsRemoved pid pids }
+{
+}
