@@ -1,5 +1,5 @@
 -- Each kind of step keeps the rule of the lock.
-use Rattle.std.proofs.Common.{◌≡◌, ◌≢◌, ℕ, zero, suc, eqb, ◌+◌, ◌-◌, ◌*◌, ◌%◌, ◌^◌, ◌<◌, ◌≤◌, inl, inr, ⊎_elim, List, [], ◌∷◌, ◌++◌, length, get_or, set, refl, sym, ap, ap₂, ◌∙◌, subst, arith, mod-eq_of_lt, lt_of_not-le, length-append, length-set, Option, Some, None}
+use Rattle.std.proofs.Common.{◌≡◌, ◌≢◌, ℕ, zero, suc, eqb, ◌+◌, ◌-◌, ◌%◌, ◌^◌, ◌<◌, ◌≤◌, inl, inr, ⊎_elim, List, [], ◌∷◌, ◌++◌, length, get_or, set, refl, sym, ap, ap₂, ◌∙◌, subst, arith, mod-eq_of_lt, lt_of_not-le, length-append, length-set, Option, Some, None}
 use mathlib.Core.Logic.{dite}
 use mathlib.Core.Option.{none, some, some-injective, some-ne-none}
 use mathlib.Core.List.{IsPrefix}
@@ -9,13 +9,13 @@ use prog.Atomic.{either}
 use Rattle.atomic_table.specs.Table.{State, Me, Act, step, keeps, takes, gives, Valid, carried_after, stepped, Allows, Splits, Joins, Seen, Final, opening, put_back}
 use Rattle.atomic_table.proofs.Lists.{set_else, at_longer, exchanged}
 use Rattle.node_lock.specs.declared.view.Stage.{Stage}
-use Rattle.node_lock.specs.declared.view.Stage.TheVariants.{Free, Drawn, Turn, Spent}
+use Rattle.node_lock.specs.declared.view.Stage.TheVariants.{Free, Drawn, Turn}
 use Rattle.node_lock.specs.declared.view.Miss.{Miss}
 use Rattle.node_lock.specs.declared.view.View.{View}
 use Rattle.node_lock.specs.Lists.{Has, Once, up_from, tail}
 use Rattle.node_lock.specs.Seats.{calls_of, out_of, IsLive, HasTicket, starting, dealt, fresh, spent}
 use Rattle.node_lock.specs.Passes.{Stands, KnowsItsCalls, HasJust, KeptBegins, IsWhole}
-use Rattle.node_lock.specs.Rule.{Where, home, out, lies, IsOut, EachTicketHasASeat, OneSeatHasTheTurn, MachineStands, ThereIsOneHistory, EachEntryHasASeat, NumbersAreBounded, CallsAreKept, IsTrueMiss, MissesAreTrue, LockRule}
+use Rattle.node_lock.specs.Rule.{Where, home, out, lies, IsOut, EachTicketHasASeat, OneSeatHasTheTurn, MachineStands, ThereIsOneHistory, IsTrueMiss, MissesAreTrue, LockRule}
 use Rattle.node_lock.specs.Kinds.{drew, sees, made, took_turn, missed, split_left, split_right, joined, TellsTicket, TellsDone, TellsCalls, GetsTurn, TellsLookAt, TellsLook, TellsTry}
 use Rattle.node_lock.proofs.Views.{put, put_here, put_else, lefts_set, lefts_end, lefts_at, at_below, at_there, one_member, now_here, each_set, each_end, some_set, prefix_self, prefix_more, prefix_trans, prefix_whole, longer_is, has_either, has_right, up_from_below}
 use Rattle.node_lock.proofs.Bounds.{bounded_set, bounded_end, bounded_made, bounded_join}
@@ -504,8 +504,8 @@ module _ {M N : Type 0} (stands : M → List N → Type 0) (who_of : N → ℕ) 
       let Goal : ℕ → Type 0 = λ y. (w : View N) × (a : Act (Option M)) × Valid s.homes me.1 a × Rule (stepped s 0 y id me.1 w a) × TellsTry stands who_of (step n 0 old (old + 1) none) me x (w, carried_after me.1 a) in
       exchanged x old (old + 1) Goal
       (λ hit. try_at n id old me s r at free some_left len (sym xd ∙ hit) hit r.place refl)
-      (λ miss. let w : View N = missed v old x in let more : old < x = omega arith in
-      (w, keeps, tt, quiet s r 0 id me.1 v v.seen v.looks w.miss at seen (prefix_self v.seen) (more, (omega arith)) (same_word0 s r), ((λ hit. absurd (miss hit)), (λ _. (refl, more)))))
+      (λ miss. let w : View N = missed v old x in let more : old < x = omega arith in let b = r.budget in let few : x ≤ 2 ^ 50 = omega arith in
+      (w, keeps, tt, quiet s r 0 id me.1 v v.seen v.looks w.miss at seen (prefix_self v.seen) (more, (omega arith)) (same_word0 s r), ((λ hit. absurd (miss hit)), (λ _. (refl, more, few)))))
     where
       try_at : (n id old : ℕ) (me : Sat) (s : St) (r : Rule s) → get_elem? s.views id ≡ some me.0 → me.0.stage ≡ Free → 0 < me.0.left → length me.0.seen ≡ old → r.drawn ≡ old → get_or s.words 0 0 ≡ old → (p : Where M) → r.place ≡ p
           → (w : View N) × (a : Act (Option M)) × Valid s.homes me.1 a × Rule (stepped s 0 (old + 1) id me.1 w a) × TellsTry stands who_of (step n 0 old (old + 1) none) me (get_or s.words 0 0) (w, carried_after me.1 a)

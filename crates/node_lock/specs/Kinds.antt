@@ -5,7 +5,6 @@ use mathlib.Core.List.{IsPrefix}
 use Rattle.atomic_table.specs.Table.{Me, Step, rest}
 use Rattle.node_lock.specs.declared.view.Stage.{Stage}
 use Rattle.node_lock.specs.declared.view.Stage.TheVariants.{Free, Drawn, Turn, Spent}
-use Rattle.node_lock.specs.declared.view.Miss.{Miss}
 use Rattle.node_lock.specs.declared.view.View.{View}
 use Rattle.node_lock.specs.Lists.{tail, longer}
 use Rattle.node_lock.specs.Passes.{KnowsItsCalls, KeptBegins}
@@ -79,10 +78,10 @@ module _ {M N : Type 0} (stands : M → List N → Type 0) (who_of : N → ℕ) 
   abbrev pub TellsLook : Me (Option M) (View N) → ℕ → Me (Option M) (View N) → Type 0
   TellsLook m r n = TellsLookAt m.0.stage m r n
 
-  -- try tells: where the number found is the one compared with, `first`, the seat has the turn and a machine that stands for what it has seen; else the miss is kept, and the number found is greater
+  -- try tells: where the number found is the one compared with, `first`, the seat has the turn and a machine that stands for what it has seen; else the miss is kept, and the number found is greater, and at most 2^50
   abbrev pub TellsTry : Step (Option M) → Me (Option M) (View N) → ℕ → Me (Option M) (View N) → Type 0
   TellsTry st m r n = (r ≡ st.first → (x : M) × (n ≡ (took_turn m.0 st.first, (0, Some x) ∷ m.1)) × stands x m.0.seen × (st.first < 2 ^ 50))
-      × (r ≢ st.first → (n ≡ (missed m.0 st.first r, m.1)) × (st.first < r))
+      × (r ≢ st.first → (n ≡ (missed m.0 st.first r, m.1)) × (st.first < r) × (r ≤ 2 ^ 50))
 
   -- the turn came, after some looks
   abbrev pub GotTurn : ℕ → Me (Option M) (View N) → Me (Option M) (View N) → Type 0

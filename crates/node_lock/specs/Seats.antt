@@ -1,5 +1,5 @@
 -- What the view of a seat says of its ticket and of its calls, and the views with which seats begin and end.
-use Rattle.std.specs.Prelude.{◌≡◌, ℕ, ◌+◌, ◌-◌, ◌*◌, ◌^◌, List, [], ◌∷◌, Option, None, cond, eqb}
+use Rattle.std.specs.Prelude.{◌≡◌, ℕ, ◌+◌, ◌-◌, ◌*◌, ◌^◌, List, [], ◌∷◌, None, cond, eqb}
 use Rattle.node_lock.specs.declared.view.Stage.{Stage}
 use Rattle.node_lock.specs.declared.view.Stage.TheVariants.{Free, Drawn, Turn, Spent}
 use Rattle.node_lock.specs.declared.view.View.{View}

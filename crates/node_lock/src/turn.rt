@@ -86,9 +86,7 @@ impl<M: Machine> NodeLock<M> {
         ensures own { seat.new.table_id ≡ seat.old.table_id }
         ensures done { TellsDone M.who_of (M.entry_of who call.now.value answer.now ∷ []) seat.old.me seat.new.me }
     {
-        self.table
-            .shared
-            .fetch_add::<Done<M, J>>(seat, SERVED, 1);
+        self.table.shared.fetch_add::<Done<M, J>>(seat, SERVED, 1);
     }
 
     // Makes the call at the turn: takes the machine out of the slot, and puts it back.

@@ -31,6 +31,7 @@ impl<L: Ledger> Model for Steps<L> {
 }
 
 impl<L: Ledger> Steps<L> {
+    /// A counter that stands at 0, of the ledger that the blank is for.
     pub fn new(blank: Blank) -> Steps<L>
         requires name { blank.name ≡ L.name }
         requires parts { blank.parts ≡ L.parts }
@@ -41,9 +42,13 @@ impl<L: Ledger> Steps<L> {
         Steps { book, share }
     }
 
+    /// Counts one step.
     pub fn tick(&mut self)
         ensures { self.new ≡ self.old + 1 }
     {
         self.book.add(&mut self.share, 1);
     }
 }
+
+#[cfg(test)]
+mod tests;
