@@ -9,6 +9,7 @@ use Rattle.std.proofs.lemmas.Bool.Decides.{nat_tests}
 use Rattle.ts_packet.specs.Clean.{clean, without_repeats_after}
 use Rattle.section_parse.specs.Segments.{runs}
 use Rattle.section_parse.specs.Sections.{sections}
+use Rattle.section_parse.proofs.WholeLists.{stay}
 use Rattle.dmx_calls.specs.declared.params.Input.{Input}
 use Rattle.dmx_calls.specs.declared.params.Input.TheVariants.{Frontend}
 use Rattle.dmx_calls.specs.declared.params.SectionParams.{SectionParams}
@@ -19,10 +20,6 @@ use Rattle.dmx_calls.specs.Capture.{capture, stops, unstopped, live, started, is
 use Rattle.dmx_calls.specs.Items.{packets_in, packets_of, selects, is_oneshot, section_items, picked, selected, timeout_of, clock_of, Expiry, expiry_at, is_no_item, expiry, offered_of, offered, items}
 use Rattle.dmx_calls.specs.Rules.{tells_timeout, is_told, expired}
 use Rattle.dmx_calls.proofs.Going.{more, Stays, params_stays, capture_stays}
-
--- the sections of a stream's front are the first of the whole stream's
-abbrev pub Extends : Type 0
-Extends = (packets next : List (List ℕ)) (pid : ℕ) → (new : List (List ℕ)) × (sections (packets ++ next) pid ≡ sections packets pid ++ new)
 
 -- ------ the expiry with one event more
 
@@ -48,10 +45,10 @@ once_grows : {A : Type 0} (b : Bool) (xs ys : List A) → (zs : List A) × ((if 
 once_grows true xs ys = take_one xs ys
 once_grows false xs ys = (ys, refl)
 
-section_items-grow : Extends → (p : SectionParams) (ev : Event) (evs : List Event) → (new : List (List ℕ)) × (section_items p (ev ∷ evs) ≡ section_items p evs ++ new)
+section_items-grow : (p : SectionParams) (ev : Event) (evs : List Event) → (new : List (List ℕ)) × (section_items p (ev ∷ evs) ≡ section_items p evs ++ new)
 unfolding section_items
-section_items-grow law p ev evs =
-    let longer = law (packets_of Frontend evs) (packets_in Frontend ev) p.pid in
+section_items-grow p ev evs =
+    let longer = stay (packets_of Frontend evs) (packets_in Frontend ev) p.pid in
     let grown = once_grows (is_oneshot p) (filter (selects p) (sections (packets_of Frontend evs) p.pid)) (filter (selects p) longer.0) in
     (grown.0, rw (longer.1, filter-append (selects p) (sections (packets_of Frontend evs) p.pid) longer.0) grown.1)
 
@@ -62,10 +59,10 @@ section_items-nil p = by_once (is_oneshot p) where
   by_once true = refl
   by_once false = refl
 
-pub selected-grows : Extends → (set : Params) (ev : Event) (evs : List Event) → (new : List (List ℕ)) × (selected set (ev ∷ evs) ≡ selected set evs ++ new)
-selected-grows law Empty ev evs = ([], refl)
-selected-grows law (Section p) ev evs = section_items-grow law p ev evs
-selected-grows law (Pes p) ev evs = (picked p.output (pids ev.before) (packets_in p.input ev), refl)
+pub selected-grows : (set : Params) (ev : Event) (evs : List Event) → (new : List (List ℕ)) × (selected set (ev ∷ evs) ≡ selected set evs ++ new)
+selected-grows Empty ev evs = ([], refl)
+selected-grows (Section p) ev evs = section_items-grow p ev evs
+selected-grows (Pes p) ev evs = (picked p.output (pids ev.before) (packets_in p.input ev), refl)
 
 -- ------ an entry by which the capture goes on
 
@@ -251,12 +248,12 @@ module _ (e : Entry) (h : History) (t s : Since) (stays : Stays e h) (held : ten
       by_timeout false on = rw (expiry_on on, on) (by_expiry (expiry h) refl)
 
   -- The items only grow, by what arrives with this event.
-  pub items_grow : Extends → (new : List (List ℕ)) × (items (e ∷ h) ≡ items h ++ new)
-  items_grow law = by_stop (is_stopped (e ∷ h)) refl where
+  pub items_grow : (new : List (List ℕ)) × (items (e ∷ h) ≡ items h ++ new)
+  items_grow = by_stop (is_stopped (e ∷ h)) refl where
     by_expiry : (nay : is_stopped (e ∷ h) ≡ false) → (o : Option ℕ) → expired (e ∷ h) ≡ o → (new : List (List ℕ)) × (items (e ∷ h) ≡ items h ++ new)
     by_expiry nay (Some m) is = ([], items_after_expiry nay m is ∙ sym (append-nil (items h)))
     by_expiry nay None is =
-        let grown = selected-grows law (params h) (event e h) (live h) in
+        let grown = selected-grows (params h) (event e h) (live h) in
         let before : items h ≡ selected (params h) (live h) = items_unexpired h (expired_before nay is) in
         (grown.0, items_more nay is ∙ (grown.1 ∙ ap (λ xs. xs ++ grown.0) (sym before)))
 

@@ -16,3 +16,4 @@ pub mod Accounted
 pub mod Calls
 pub mod Log
 pub mod Back
+pub mod Laws

@@ -3,6 +3,7 @@
 
 mod byte_buf;
 mod call;
+pub mod laws;
 pub mod limits;
 mod node;
 mod params;
