@@ -17,7 +17,7 @@ pub struct PidsFull;
 pub type Pids = PidSet<32>;
 
 /// A set of at most `N` PIDs. A contract sees it as the list of its members, ascending and without repeats.
-#[derive(Debug, Drop)]
+#[derive(Debug, PartialEq, Eq, Drop)]
 pub struct PidSet<const N: usize> {
     pids: ArrayVec<u16, N>,
 }
@@ -82,6 +82,17 @@ impl<const N: usize> PidSet<N> {
         find(&self.pids, pid).is_ok()
     }
 
+    /// The same set once more. It takes no memory, so it can't fail as `clone` can by its type.
+    pub fn copied(&self) -> PidSet<N>
+        ensures { result ≡ self.now }
+    {
+        let mut pids = ArrayVec::new();
+        match pids.try_extend_from_slice(&self.pids) {
+            Ok(()) => PidSet { pids },
+            Err(_) => unreachable!(),
+        }
+    }
+
     /// The number of PIDs.
     pub fn len(&self) -> usize
         ensures value { result ≡ length self.now }
@@ -97,6 +108,16 @@ impl<const N: usize> PidSet<N> {
         ensures value { IfSome result (λ pid. pid ≡ slice_index self.now i) }
     {
         self.pids.get(i).copied()
+    }
+}
+
+impl<const N: usize> Clone for PidSet<N> {
+    ghost is_clone = { λ old new. new ≡ old };
+
+    ghost is_infallible = { λ _. Unit {0} };
+
+    fn clone(&self) -> Result<Self, AllocError> {
+        Ok(self.copied())
     }
 }
 

@@ -1,6 +1,6 @@
 -- Eight bits at once.
-use Rattle.std.proofs.Common.{◌≡◌, ℕ, zero, suc, ◌+◌, ◌*◌, ◌-◌, ◌/◌, ◌%◌, ◌^◌, ◌<◌, ◌≤◌, List, [], ◌∷◌, ◌++◌, fold, refl, sym, ap, ◌∙◌, arith, bit_xor}
-use Rattle.std.specs.Int.Bits.{xor_zero_l, xor_zero_r, xor_self}
+use Rattle.std.proofs.Common.{◌≡◌, ℕ, zero, suc, ◌+◌, ◌*◌, ◌/◌, ◌%◌, ◌^◌, ◌<◌, fold, refl, sym, ap, ◌∙◌, arith, bit_xor}
+use Rattle.std.specs.Int.Bits.{xor_zero_l, xor_zero_r}
 use Rattle.std.proofs.lemmas.Nat.{xor_lt, xor_block}
 use Rattle.section_crc.specs.Crc.{after_bit, bits_of, bit_at}
 use Rattle.section_crc.proofs.Linear.{shifted, shift_low, shifted-xor, after_bit-lt, step-sum}
@@ -53,7 +53,6 @@ top-xor r byte =
     let b : r / 2 ^ 24 * 2 ^ 24 + r % 2 ^ 24 ≡ r = omega arith in
     rw (b, a, xor_zero_r (r % 2 ^ 24)) at x
 
-
 -- the eight bits of a byte are that byte added at the top and eight bits of 0
 pub eight-bits : (r byte : ℕ) → r < 2 ^ 32 → byte < 2 ^ 8 → fold after_bit r (bits_of byte) ≡ shifted_by 8 (bit_xor r (byte * 2 ^ 24))
 unfolding shifted_by
@@ -76,12 +75,12 @@ eight-bits r b h k =
     let e8 : shifted (bit_xor r7 (b % 2 ^ 1 * 2 ^ 31)) ≡ bit_xor r8 (b % 2 ^ 0 * 2 ^ 32) = step-sum r7 (b % 2 ^ 1 * 2 ^ 31) (bit_at b 0) (b % 2 ^ 0 * 2 ^ 32) (after_bit-lt _ _) (omega arith) (omega arith) (omega arith) in
     let none : b % 2 ^ 0 * 2 ^ 32 ≡ 0 = omega arith in
     sym (ap (λ (x : ℕ). shifted (shifted (shifted (shifted (shifted (shifted (shifted x))))))) e1
-        ∙ ap (λ (x : ℕ). shifted (shifted (shifted (shifted (shifted (shifted x)))))) e2
-        ∙ ap (λ (x : ℕ). shifted (shifted (shifted (shifted (shifted x))))) e3
-        ∙ ap (λ (x : ℕ). shifted (shifted (shifted (shifted x)))) e4
-        ∙ ap (λ (x : ℕ). shifted (shifted (shifted x))) e5
-        ∙ ap (λ (x : ℕ). shifted (shifted x)) e6
-        ∙ ap shifted e7 ∙ e8 ∙ ap (bit_xor r8) none ∙ xor_zero_r r8)
+    ∙ ap (λ (x : ℕ). shifted (shifted (shifted (shifted (shifted (shifted x)))))) e2
+    ∙ ap (λ (x : ℕ). shifted (shifted (shifted (shifted (shifted x))))) e3
+    ∙ ap (λ (x : ℕ). shifted (shifted (shifted (shifted x)))) e4
+    ∙ ap (λ (x : ℕ). shifted (shifted (shifted x))) e5
+    ∙ ap (λ (x : ℕ). shifted (shifted x)) e6
+    ∙ ap shifted e7 ∙ e8 ∙ ap (bit_xor r8) none ∙ xor_zero_r r8)
 
 -- what the register's top byte and the byte that comes leave behind
 abbrev pub entry : ℕ → ℕ

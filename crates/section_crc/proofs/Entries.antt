@@ -26,5 +26,5 @@ pub byte-by-table : (r byte : ℕ) → r < 2 ^ 32 → byte < 2 ^ 8
 byte-by-table r byte h k =
     let top : bit_xor (r / 2 ^ 24) byte < 2 ^ 8 = xor_lt 8 (r / 2 ^ 24) byte (omega arith) k in
     let right : slice_index_or TABLE (bit_xor (r / 2 ^ 24) byte) 0 ≡ entry (bit_xor (r / 2 ^ 24) byte) =
-        ap (λ (t : List ℕ). slice_index_or t (bit_xor (r / 2 ^ 24) byte) 0) all-entries ∙ entries-at 0 256 _ 0 top ∙ ap entry (zero-add _) in
+    ap (λ (t : List ℕ). slice_index_or t (bit_xor (r / 2 ^ 24) byte) 0) all-entries ∙ entries-at 0 256 _ 0 top ∙ ap entry (zero-add _) in
     ap (λ (n : ℕ). bit_xor n (r % 2 ^ 24 * 2 ^ 8)) right ∙ sym (byte-by-entry r byte h k)
