@@ -1,4 +1,4 @@
-use Rattle.std.proofs.Common.{arith, ◌≡◌, List, ℕ, [], take, get_or, ap, ◌∙◌}
+use Rattle.std.proofs.Common.{◌≡◌, [], take, ap, ◌∙◌}
 use Rattle.std.proofs.lemmas.List.{length-take-le, get_or-take}
 use Rattle.ts_packet.specs.Cutting.{Cutting}
 use Rattle.ts_packet.proofs.CutLemmas.{Cuts-skips}
@@ -12,5 +12,5 @@ returns-clause-cuts c =
     let empty : take i.len i.held ≡ [] = ap (λ (z : Cutting). z.rest) c.self.view_is ∙ c.requires.empty in
     rw (← c.self.view_is)
     (Cuts-skips (record { packets = i.packets; skipped = i.skipped; rest = take i.len i.held }) (take n piece) n empty
-      (length-take-le n piece c.bytes_before_sync-count.ensures.within)
-      (λ k lt. rw (get_or-take n piece k 0 lt) (c.bytes_before_sync-count.ensures.before k lt)))
+    (length-take-le n piece c.bytes_before_sync-count.ensures.within)
+    (λ k lt. rw (get_or-take n piece k 0 lt) (c.bytes_before_sync-count.ensures.before k lt)))

@@ -1,4 +1,4 @@
-use Rattle.std.proofs.Common.{arith, ◌≡◌, List, ℕ, [], take, ap, ◌∙◌}
+use Rattle.std.proofs.Common.{◌≡◌, [], take, ap, ◌∙◌}
 use Rattle.ts_packet.specs.Cutting.{Cutting}
 use Rattle.ts_packet.proofs.CutLemmas.{Cuts-packet}
 use Rattle.ts_packet.proofs.cutter.Cutter.take_packet.Goals as goal
@@ -9,4 +9,4 @@ returns-clause-cuts c =
     let empty : take i.len i.held ≡ [] = ap (λ (z : Cutting). z.rest) c.self.view_is ∙ c.requires.empty in
     rw (← c.self.view_is)
     (Cuts-packet (record { packets = i.packets; skipped = i.skipped; rest = take i.len i.held }) c.args.bytes.now empty
-      (record { size = c.told-bytes; sync = c.requires.sync }))
+    (record { size = c.told-bytes; sync = c.requires.sync }))

@@ -1,4 +1,4 @@
-use Rattle.std.proofs.Common.{arith, ◌≡◌, ℕ, ◌+◌, ◌<◌, ◌≤◌, List, [], ◌∷◌, ◌++◌, length, take, get_or, refl, sym, ap, ◌∙◌}
+use Rattle.std.proofs.Common.{arith, ◌≡◌, ◌≤◌, [], length, take, get_or, refl, sym, ap, ◌∙◌}
 use Rattle.std.proofs.lemmas.List.{length-take-le, get_or-take}
 use Rattle.ts_packet.specs.Cutting.{Cutting, IsRest}
 use Rattle.ts_packet.proofs.CutLemmas.{none-in-rest, none-in-skipped}
@@ -10,7 +10,7 @@ returns-then-piece-ne-SYNC_BYTE-clause-soon c = λ k lt.
     let piece = c.args.piece.now in
     let n : length (take k piece) ≡ k = length-take-le k piece (omega (arith, c.skip.ensures.within)) in
     none-in-skipped c.args.self.now.rest (take k piece) (rw (← c.self.view_is, c.if-self-eq0.true) refl)
-      (λ j below. rw (get_or-take k piece j 0 (omega arith)) (c.skip.ensures.before j (omega arith)))
+    (λ j below. rw (get_or-take k piece j 0 (omega arith)) (c.skip.ensures.before j (omega arith)))
 
 pub returns-in-Some-clause-soon : goal.returns-in-Some-clause-soon
 returns-in-Some-clause-soon c = λ k lt.
