@@ -1,5 +1,6 @@
 -- The entries of a report, and the history that they tell.
-use Rattle.std.specs.Prelude.{ℕ, List, map, reverse, take, drop}
+use Rattle.std.specs.Prelude.{ℕ, List, [], ◌∷◌, ◌++◌, length, map, reverse, take, drop, nat_eq}
+use Rattle.std.specs.List.{count_by}
 use Rattle.dmx_calls.specs.declared.params.Input.{Input}
 use Rattle.dmx_calls.specs.declared.params.SectionParams.{SectionParams}
 use Rattle.dmx_calls.specs.declared.params.PesParams.{PesParams}
@@ -58,3 +59,36 @@ filled_entry packets e = record { who = e.who; invocation = filled_act packets e
 -- the history of these entries, which a report has the oldest first
 abbrev pub filled : List (List ℕ) → List LogEntry → History
 filled packets entries = reverse (map (filled_entry packets) entries)
+
+-- ------ the log of a history, where one node is all that its callers call
+
+-- a call as a report tells it
+abbrev pub act_of : Invocation → Act
+act_of Open = OpenAct
+act_of Close = CloseAct
+act_of (SetFilter p now) = SetFilterAct p now
+act_of (SetPes p now) = SetPesAct p now
+act_of (AddPid pid) = AddPidAct pid
+act_of (RemovePid pid) = RemovePidAct pid
+act_of (Start now) = StartAct now
+act_of Stop = StopAct
+act_of (SetSize size) = SetSizeAct size
+act_of (Read now count) = ReadAct now count
+act_of (Poll now) = PollAct now
+act_of (Pass input first packets now) = PassAct input first (length packets) now
+act_of End = EndAct
+act_of (Attach node pids) = AttachAct node pids
+act_of (Detach node) = DetachAct node
+
+-- how many calls of this caller are in the history
+abbrev pub calls_of : (who : ℕ) → History → ℕ
+calls_of who h = count_by (λ e. nat_eq e.who who) h
+
+-- an entry behind this history: its place is the history's length, its step the number of its caller's calls there
+abbrev pub log_entry : (node : ℕ) → Entry → History → LogEntry
+log_entry node e h = record { node = node; place = length h; step = calls_of e.who h; who = e.who; act = act_of e.invocation; response = e.response }
+
+-- the entries of a node's history, the oldest first
+abbrev pub log_of : (node : ℕ) → History → List LogEntry
+log_of node [] = []
+log_of node (e ∷ h) = log_of node h ++ log_entry node e h ∷ []

@@ -1,0 +1,102 @@
+// The entries of a report.
+
+ghost use Rattle.std.specs.Prelude.{◌≡◌};
+ghost use Rattle.dmx_calls.specs.Calls.{invocation_of, told_act};
+ghost use Rattle.dmx_calls.specs.Log.{act_of};
+
+use crate::call::Call;
+use crate::params::{Input, PesParams};
+use crate::reply::Reply;
+
+/// A call as a report tells it: a Read by its count, and a Pass by the number of its first packet and how many there are.
+/// `now` is the moment at which the call was made, in milliseconds.
+#[derive(Clone, Copy, Debug, PartialEq, Eq, Drop)]
+pub enum Act {
+    /// Takes the node.
+    Open,
+    /// Gives the node back.
+    Close,
+    /// Sets a PES filter.
+    SetPes {
+        /// The filter.
+        params: PesParams,
+        /// The moment.
+        now: u64,
+    },
+    /// Starts the filter.
+    Start {
+        /// The moment.
+        now: u64,
+    },
+    /// Stops the filter.
+    Stop,
+    /// Sets the size of the buffer, in bytes.
+    SetSize(u32),
+    /// Reads at most `count` bytes.
+    Read {
+        /// The moment.
+        now: u64,
+        /// The count of the buffer, in bytes.
+        count: u32,
+    },
+    /// The packets of a batch pass the node.
+    Pass {
+        /// Where the packets come from.
+        input: Input,
+        /// The number of the first packet in the stream, counted from 0.
+        first: u64,
+        /// How many packets there are.
+        count: u32,
+        /// The moment.
+        now: u64,
+    },
+    /// The stream has ended.
+    End,
+}
+
+impl Act {
+    /// The call as a report tells it.
+    pub fn of(call: &Call) -> Act
+        ensures { told_act result ≡ act_of (invocation_of call.now) }
+    {
+        match call {
+            Call::Open => Act::Open,
+            Call::Close => Act::Close,
+            Call::SetPes { params, now } => Act::SetPes {
+                params: *params,
+                now: *now,
+            },
+            Call::Start { now } => Act::Start { now: *now },
+            Call::Stop => Act::Stop,
+            Call::SetSize(size) => Act::SetSize(*size),
+            Call::Read { now, buf } => Act::Read {
+                now: *now,
+                count: buf.count(),
+            },
+            Call::Pass { input, batch, now } => Act::Pass {
+                input: *input,
+                first: batch.first(),
+                count: batch.count(),
+                now: *now,
+            },
+            Call::End => Act::End,
+        }
+    }
+}
+
+/// One call of a node with its reply, as a report tells it.
+#[derive(Drop)]
+pub struct Entry {
+    /// The node: 0 to 31 for a demux node, 32 for the dvr node.
+    pub node: u32,
+    /// The entry's place in the node's history, counted from 0.
+    pub place: u64,
+    /// The number of the call among its caller's calls, counted from 0.
+    pub step: u64,
+    /// The caller: 0 for the feeder, and `c + 1` for client c.
+    pub who: u32,
+    /// The call.
+    pub act: Act,
+    /// Its reply.
+    pub reply: Reply,
+}
