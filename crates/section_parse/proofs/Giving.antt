@@ -5,7 +5,7 @@ use Rattle.std.proofs.lemmas.List.{append-nil}
 use Rattle.std.proofs.lemmas.List.Sums.{sum_by-cons}
 use Rattle.section_parse.specs.Sections.{section_length, read_sections, sections, IsSection}
 use Rattle.section_parse.specs.Keeping.{Assembly, Assembled, without_first, sections_of_open, left_of_open, bytes_kept}
-use Rattle.section_parse.specs.Held.{Held, Advances, is_drained}
+use Rattle.section_parse.specs.Held.{Advances, is_drained}
 use Rattle.section_parse.proofs.Reading.{read-first, left-first, first-is, open-drained}
 use Rattle.section_parse.proofs.Assembled.{Assembled-next}
 
@@ -37,32 +37,29 @@ gives-from : (pid : ℕ) (before o left : Option (List ℕ)) (s : List ℕ) (rea
 gives-from pid before o left s ready rest e f w = rw (e, f) (gives-by pid before o s rest w)
 
 -- a section of the closing segment
-pub gives-closing : (pid : ℕ) (before o u : Option (List ℕ)) (r : Bool) (new : Held) (s : List ℕ) → Advances o r new → r ≡ true → s ≡ new.given
-    → Gives (record { pid = pid; before = before; ready = sections_of_open o ++ sections_of_open u; open_now = left_of_open u }) (record { pid = pid; before = before; ready = sections_of_open new.unread ++ sections_of_open u; open_now = left_of_open u }) s
-gives-closing pid before None u r new s h e g = absurd (let z = h.0 in cc)
-gives-closing pid before (Some b) u false new s h e g = absurd cc
-gives-closing pid before (Some b) u true new s h e g =
-    rw (g, h.1, h.2) (gives-from pid before (left_of_open u) (left_of_open u) (take (3 + section_length b) b) (read_sections b ++ sections_of_open u) (read_sections (drop (3 + section_length b) b) ++ sections_of_open u) (rw (read-first b h.0) refl) refl (first-is b h.0))
+pub gives-closing : (pid : ℕ) (before o u left : Option (List ℕ)) (s : List ℕ) → Advances o (Some s) left
+    → Gives (record { pid = pid; before = before; ready = sections_of_open o ++ sections_of_open u; open_now = left_of_open u }) (record { pid = pid; before = before; ready = sections_of_open left ++ sections_of_open u; open_now = left_of_open u }) s
+gives-closing pid before None u left s h = absurd (let z = h.0 in cc)
+gives-closing pid before (Some b) u left s h =
+    rw (h.1, h.2) (gives-from pid before (left_of_open u) (left_of_open u) (take (3 + section_length b) b) (read_sections b ++ sections_of_open u) (read_sections (drop (3 + section_length b) b) ++ sections_of_open u) (rw (read-first b h.0) refl) refl (first-is b h.0))
 
 -- nothing is taken from a segment in which no section stands
-pub advances-none : (o : Option (List ℕ)) (r : Bool) (new : Held) → Advances o r new → r ≡ false → (new.unread ≡ o) × (is_drained o ≡ true)
-advances-none None r new h e = (h.1, refl)
-advances-none (Some s) false new h e = (h.1, rw h.0 refl)
-advances-none (Some s) true new h e = absurd cc
+pub advances-none : (o left : Option (List ℕ)) → Advances o None left → (left ≡ o) × (is_drained o ≡ true)
+advances-none None left h = (h.1, refl)
+advances-none (Some s) left h = (h.1, rw h.0 refl)
 
 -- a section of the open segment, behind a closing one that is drained
-gives-behind : (pid : ℕ) (before o u n : Option (List ℕ)) (r : Bool) (new : Held) (s : List ℕ) → n ≡ o → sections_of_open o ≡ [] → Advances u r new → r ≡ true → s ≡ new.given
-    → Gives (record { pid = pid; before = before; ready = sections_of_open o ++ sections_of_open u; open_now = left_of_open u }) (record { pid = pid; before = before; ready = sections_of_open n ++ sections_of_open new.unread; open_now = left_of_open new.unread }) s
-gives-behind pid before o None n r new s same d h e g = absurd (let z = h.0 in cc)
-gives-behind pid before o (Some b) n false new s same d h e g = absurd cc
-gives-behind pid before o (Some b) n true new s same d h e g =
-    rw (g, h.1, h.2, same, d) (gives-from pid before (left_of_open (Some b)) (left_of_open (Some (drop (3 + section_length b) b))) (take (3 + section_length b) b) (read_sections b) (read_sections (drop (3 + section_length b) b)) (read-first b h.0) (sym (left-first b h.0)) (first-is b h.0))
+gives-behind : (pid : ℕ) (before o u n left : Option (List ℕ)) (s : List ℕ) → n ≡ o → sections_of_open o ≡ [] → Advances u (Some s) left
+    → Gives (record { pid = pid; before = before; ready = sections_of_open o ++ sections_of_open u; open_now = left_of_open u }) (record { pid = pid; before = before; ready = sections_of_open n ++ sections_of_open left; open_now = left_of_open left }) s
+gives-behind pid before o None n left s same d h = absurd (let z = h.0 in cc)
+gives-behind pid before o (Some b) n left s same d h =
+    rw (h.1, h.2, same, d) (gives-from pid before (left_of_open (Some b)) (left_of_open (Some (drop (3 + section_length b) b))) (take (3 + section_length b) b) (read_sections b) (read_sections (drop (3 + section_length b) b)) (read-first b h.0) (sym (left-first b h.0)) (first-is b h.0))
 
-pub gives-open : (pid : ℕ) (before o u : Option (List ℕ)) (q r : Bool) (closing new : Held) (s : List ℕ) → Advances o q closing → q ≡ false → Advances u r new → r ≡ true → s ≡ new.given
-    → Gives (record { pid = pid; before = before; ready = sections_of_open o ++ sections_of_open u; open_now = left_of_open u }) (record { pid = pid; before = before; ready = sections_of_open closing.unread ++ sections_of_open new.unread; open_now = left_of_open new.unread }) s
-gives-open pid before o u q r closing new s k f h e g =
-    let z = advances-none o q closing k f in
-    gives-behind pid before o u closing.unread r new s z.0 (open-drained o z.1) h e g
+pub gives-open : (pid : ℕ) (before o u closing left : Option (List ℕ)) (s : List ℕ) → Advances o None closing → Advances u (Some s) left
+    → Gives (record { pid = pid; before = before; ready = sections_of_open o ++ sections_of_open u; open_now = left_of_open u }) (record { pid = pid; before = before; ready = sections_of_open closing ++ sections_of_open left; open_now = left_of_open left }) s
+gives-open pid before o u closing left s k h =
+    let z = advances-none o closing k in
+    gives-behind pid before o u closing left s z.0 (open-drained o z.1) h
 
 -- no section is there
 pub record GivesNone (a rest : Assembly) : Type 0 where
@@ -82,11 +79,11 @@ gives_none-by pid before o left ready after e f g = rw (e, f, g) (record {
   stands = λ packets given h. h;
 })
 
-pub gives-none : (pid : ℕ) (before o u : Option (List ℕ)) (q r : Bool) (closing new : Held) → Advances o q closing → q ≡ false → Advances u r new → r ≡ false
-    → GivesNone (record { pid = pid; before = before; ready = sections_of_open o ++ sections_of_open u; open_now = left_of_open u }) (record { pid = pid; before = before; ready = sections_of_open closing.unread ++ sections_of_open new.unread; open_now = left_of_open new.unread })
-gives-none pid before o u q r closing new k f h e =
-    let z = advances-none o q closing k f in
-    let y = advances-none u r new h e in
+pub gives-none : (pid : ℕ) (before o u closing left : Option (List ℕ)) → Advances o None closing → Advances u None left
+    → GivesNone (record { pid = pid; before = before; ready = sections_of_open o ++ sections_of_open u; open_now = left_of_open u }) (record { pid = pid; before = before; ready = sections_of_open closing ++ sections_of_open left; open_now = left_of_open left })
+gives-none pid before o u closing left k h =
+    let z = advances-none o closing k in
+    let y = advances-none u left h in
     rw (z.0, y.0) (gives_none-by pid before (left_of_open u) (left_of_open u) _ _ (rw (open-drained o z.1) (open-drained u y.1)) (rw (open-drained o z.1) (open-drained u y.1)) refl)
 
 -- where no section is ready, none stands in either segment

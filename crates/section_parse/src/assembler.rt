@@ -1,18 +1,19 @@
 // Sections from the packets of a PID, packet by packet.
-ghost use Rattle.std.specs.Prelude.{◌≡◌, ℕ, ◌+◌, ◌<◌, ◌≤◌, ◌↔◌, true, false, List, [], ◌∷◌, ◌++◌, length, take, drop, slice_get, map, Some, None, IfOk, IfSome, IsNone, MatchBool, MatchOption};
+ghost use Rattle.std.specs.Prelude.{◌≡◌, ℕ, ◌+◌, ◌-◌, ◌<◌, ◌≤◌, ◌↔◌, true, false, List, [], ◌∷◌, ◌++◌, length, take, drop, slice_get, map, Some, None, IfOk, IfSome, IsNone, MatchBool, MatchOption};
 ghost use Rattle.std.specs.Option.{option_map};
 ghost use Rattle.std.specs.Borrow.{sem};
-ghost use Rattle.ts_packet.specs.Fields.{has_payload, unit_start};
+ghost use Rattle.ts_packet.specs.Fields.{has_payload, payload_start};
 ghost use Rattle.ts_packet.specs.Clean.{carried, is_usable};
-ghost use Rattle.section_parse.specs.Segments.{pointed};
+ghost use Rattle.section_parse.specs.Segments.{pointed, is_pointed, pointer_field};
 ghost use Rattle.section_parse.specs.Sections.{sections, IsSection};
+ghost use Rattle.section_parse.specs.Held.{bytes_of};
 ghost use Rattle.section_parse.specs.Keeping.{Assembly, Assembled, Gave, cleared, after_packet, bytes_kept, opened, repeats_last as repeated, joins_last as joined};
 
-use crate::segment::Segment;
+use crate::segment::{Found, Segment};
 use std::alloc::{AllocError as NoMemory, Global};
 use std::marker::Model;
 use std::mem;
-use ts_packet::Packet;
+use ts_packet::{PACKET_LEN, Packet};
 
 /// The sections of one PID, from its packets. A contract sees what it keeps between two packets: the PID, the last clean
 /// packet, the sections that are ready, and the bytes behind them in the open segment.
@@ -31,40 +32,45 @@ impl Model for Assembler {
 
     ghost Value = { Assembly };
 
+    ghost use Rattle.section_parse.specs.Held.{unread, bytes_of};
+
     ghost view = { λ a. record {
       pid = a.pid;
       before = a.last;
-      ready = sections_of_open a.closing.unread ++ sections_of_open a.open_now.unread;
-      open_now = left_of_open a.open_now.unread;
+      ready = sections_of_open (unread a.closing (bytes_of a.last)) ++ sections_of_open (unread a.open_now (bytes_of a.last));
+      open_now = left_of_open (unread a.open_now (bytes_of a.last));
     } };
 
-    ghost use Rattle.std.specs.Prelude.{◌≡◌, true, IfSome};
+    ghost use Rattle.std.specs.Prelude.{◌≡◌, true, None, length, MatchOption};
     ghost use Rattle.ts_packet.specs.Fields.{has_payload};
 
-    ghost invariant = { λ a. IfSome a.last (λ p. has_payload p ≡ true) };
+    ghost invariant = { λ a. MatchOption a.last ((a.closing.begun ≡ None) × (a.open_now.begun ≡ None)) (λ p. (has_payload p ≡ true) × (length p ≡ 188)) };
 }
 
-// The payload of a packet of the PID that has one, and no error.
-fn usable_payload(pid: u16, packet: &Packet) -> Option<&[u8]>
+// The first place of the payload of a packet of the PID that has one, and no error.
+fn usable_payload(pid: u16, packet: &Packet) -> Option<usize>
     ensures { MatchOption result
         (is_usable pid packet.now ≡ false)
-        (λ payload. (is_usable pid packet.now ≡ true) × (payload.now ≡ carried packet.now) × (length payload.now ≤ 184)) }
+        (λ first. (is_usable pid packet.now ≡ true) × (first ≡ payload_start packet.now) × (first < 188) × (4 ≤ first) × (length packet.now ≡ 188)) }
 {
     if packet.pid() != pid || packet.error() {
         return None;
     }
-    packet.payload()
+    match packet.payload() {
+        Some(payload) => Some(packet.bytes().len() - payload.len()),
+        None => None,
+    }
 }
 
-// Whether a packet with this payload repeats the last one.
-fn repeats_last(last: &Option<Packet>, packet: &Packet, payload: &[u8]) -> bool
+// Whether a packet repeats the last one.
+fn repeats_last(last: &Option<Packet>, packet: &Packet) -> bool
     requires last { IfSome last.now (λ p. has_payload p ≡ true) }
-    requires payload { payload.now ≡ carried packet.now }
+    requires packet { has_payload packet.now ≡ true }
     ensures { result ≡ repeated last.now packet.now }
 {
     match last {
         Some(before) => {
-            before.counter() == packet.counter() && before.payload() == Some(payload)
+            before.counter() == packet.counter() && before.payload() == packet.payload()
         }
         None => false,
     }
@@ -80,33 +86,46 @@ fn joins_last(last: &Option<Packet>, packet: &Packet) -> bool
     }
 }
 
-// The bytes between the pointer_field of this payload and the place that it points to.
-fn pointed_bytes(payload: &[u8]) -> &[u8]
-    requires { length payload.now ≤ 184 }
-    ensures value { (p : List ℕ) → carried p ≡ payload.now → result.now ≡ pointed p }
-    ensures fits { length result.now ≤ 184 }
+// The bytes of the last packet, if there was one.
+fn last_bytes(last: &Option<Packet>) -> &[u8]
+    ensures { result.now ≡ bytes_of last.now }
 {
-    match payload {
-        [pointer, behind @ ..] if usize::from(*pointer) <= behind.len() => &behind[..usize::from(
-            *pointer,
-        )],
-        _ => &[],
+    match last {
+        Some(packet) => packet.bytes(),
+        None => &[],
     }
 }
 
-// The bytes that begin a segment in this packet, if one begins.
-fn begun_bytes<'a>(packet: &Packet, payload: &'a [u8]) -> Option<&'a [u8]>
-    requires fits { length payload.now ≤ 184 }
-    requires payload { payload.now ≡ carried packet.now }
-    ensures value { option_map (λ bytes. bytes.now) result ≡ opened packet.now }
-    ensures fits { IfSome result (λ bytes. length bytes.now ≤ 184) }
+// The place that the pointer_field points to, which stands in the payload's first place, where it lies in the packet.
+fn pointed_place(packet: &Packet, first: usize) -> Option<usize>
+    requires first { first ≡ payload_start packet.now }
+    requires below { first < 188 }
+    ensures place { MatchOption result (is_pointed packet.now ≡ false) (λ place. (is_pointed packet.now ≡ true) × (place ≡ first + 1 + pointer_field packet.now)) }
+    ensures fits { IfSome result (λ place. place ≤ 188) }
 {
-    match payload {
-        [pointer, behind @ ..] if packet.unit_start() && usize::from(*pointer) <= behind.len() => {
-            Some(&behind[usize::from(*pointer)..])
-        }
-        _ => None,
-    }
+    let place = first + 1 + usize::from(packet.bytes()[first]);
+    if place <= PACKET_LEN { Some(place) } else { None }
+}
+
+// Where the segment begins that a packet opens, if it opens one.
+fn start_of_segment(packet: &Packet, first: usize) -> Option<usize>
+    requires first { first ≡ payload_start packet.now }
+    requires below { first < 188 }
+    ensures start { MatchOption result (opened packet.now ≡ None) (λ start. opened packet.now ≡ Some (drop start packet.now)) }
+    ensures fits { IfSome result (λ start. start ≤ 188) }
+{
+    if packet.unit_start() { pointed_place(packet, first) } else { None }
+}
+
+// Where the bytes behind the pointer_field end that belong to the segment before.
+fn end_of_segment(packet: &Packet, first: usize) -> usize
+    requires first { first ≡ payload_start packet.now }
+    requires below { first < 188 }
+    ensures end { take (result - (first + 1)) (drop (first + 1) packet.now) ≡ pointed packet.now }
+    ensures order { first + 1 ≤ result }
+    ensures fits { result ≤ 188 }
+{
+    pointed_place(packet, first).unwrap_or(first + 1)
 }
 
 impl Assembler {
@@ -145,38 +164,39 @@ impl Assembler {
         ensures stands { (packets given : List (List ℕ)) → Assembled packets given self.old → Assembled (packets ++ packet.now ∷ []) given self.new }
         ensures bytes { bytes_kept self.new ≤ bytes_kept self.old + 184 }
     {
-        if let Some(payload) = usable_payload(self.pid, packet) {
-            self.take(packet, payload);
+        if let Some(first) = usable_payload(self.pid, packet) {
+            self.take(packet, first);
         }
     }
 
-    // Takes in a packet of the PID that has this payload and no error.
-    fn take(&mut self, packet: &Packet, payload: &[u8])
+    // Takes in a packet of the PID that has no error, and a payload that begins in this place.
+    fn take(&mut self, packet: &Packet, first: usize)
         requires drained { self.old.ready ≡ [] }
         requires usable { is_usable self.old.pid packet.now ≡ true }
-        requires payload { payload.now ≡ carried packet.now }
-        requires fits { length payload.now ≤ 184 }
+        requires first { first ≡ payload_start packet.now }
+        requires below { first < 188 }
+        requires size { length packet.now ≡ 188 }
         ensures value { self.new ≡ after_packet self.old packet.now }
     {
-        if repeats_last(&self.last, packet, payload) {
+        if repeats_last(&self.last, packet) {
             return;
         }
-        let joined = joins_last(&self.last, packet);
-        self.last = Some(*packet);
-        if !joined {
+        if !joins_last(&self.last, packet) {
+            self.last = Some(*packet);
             self.closing.close();
-            self.open_now.begin(begun_bytes(packet, payload));
+            self.open_now.begin(start_of_segment(packet, first));
             return;
         }
-        self.open_now.settle();
+        self.open_now.keep(last_bytes(&self.last));
+        self.last = Some(*packet);
         if packet.unit_start() {
-            self.open_now.extend(pointed_bytes(payload));
+            self.open_now.add(first + 1, end_of_segment(packet, first));
             mem::swap(&mut self.closing, &mut self.open_now);
-            self.open_now.begin(begun_bytes(packet, payload));
+            self.open_now.begin(start_of_segment(packet, first));
             return;
         }
         self.closing.close();
-        self.open_now.extend(payload);
+        self.open_now.add(first, packet.bytes().len());
     }
 
     /// The next section of the packets pushed since `clear`: None exactly where no further one lies in them. Takes no memory.
@@ -186,13 +206,16 @@ impl Assembler {
         ensures none { (packets given : List (List ℕ)) → Assembled packets given self.old → (IsNone result ↔ (sections packets self.old.pid ≡ given)) }
         ensures* after { sem 𝓛 (Rests the_row self.entry (λ left. Gave self.old (option_map (λ s. s.now) result) left)) }
     {
-        if self.closing.advance() {
-            return Some(self.closing.current());
+        match self.closing.advance(last_bytes(&self.last)) {
+            Found::InPacket(from, to) => return Some(&last_bytes(&self.last)[from..to]),
+            Found::InSegment => return Some(self.closing.bytes()),
+            Found::Nothing => {}
         }
-        if self.open_now.advance() {
-            return Some(self.open_now.current());
+        match self.open_now.advance(last_bytes(&self.last)) {
+            Found::InPacket(from, to) => Some(&last_bytes(&self.last)[from..to]),
+            Found::InSegment => Some(self.open_now.bytes()),
+            Found::Nothing => None,
         }
-        None
     }
 }
 
