@@ -1,7 +1,7 @@
 -- A segment's bytes in two pieces: those that it has of its own, and those in the last packet.
 use Rattle.std.specs.Prelude.{min}
-use Rattle.std.proofs.Common.{◌≡◌, ◌≢◌, ◌⊎◌, inl, inr, ℕ, ◌+◌, ◌-◌, ◌<◌, ◌≤◌, Bool, true, false, List, [], ◌∷◌, ◌++◌, length, take, drop, get_or, Option, Some, None, refl, sym, ap, ◌∙◌, arith, append_assoc, length-append, length-drop}
-use Rattle.std.proofs.lemmas.List.{append-nil, drop-take, take-append-drop, take-take, take-append-le, drop-drop, take_all, length-take, length-take-le, get_or_append_left}
+use Rattle.std.proofs.Common.{◌≡◌, ◌≢◌, ◌⊎◌, inl, inr, ℕ, ◌+◌, ◌-◌, ◌<◌, ◌≤◌, Bool, true, false, List, [], ◌++◌, length, take, drop, get_or, Option, Some, None, refl, sym, ap, ◌∙◌, arith, append_assoc, length-append, length-drop}
+use Rattle.std.proofs.lemmas.List.{append-nil, drop-take, take-append-drop, take-take, drop-drop, take_all, length-take, get_or_append_left}
 use Rattle.std.proofs.Math.Seq.{drop-append_seam, take-append_seam}
 use Rattle.std.proofs.lemmas.Bool.{cases_lt}
 use Rattle.std.proofs.lemmas.Bool.Decides.{nat_tests}
@@ -13,7 +13,7 @@ use Rattle.ts_packet.specs.Clean.{carried}
 use Rattle.section_parse.specs.Segments.{pointed}
 use Rattle.section_parse.specs.Keeping.{Assembly, is_stopped, sections_of_open, left_of_open, longer, opened, taken}
 use Rattle.section_parse.specs.Held.{Held, unread, between, Advances}
-use Rattle.section_parse.proofs.Reading.{HasSection, HasSection-from, has_section-from, has_section-append, section_length-append, stopped-none}
+use Rattle.section_parse.proofs.Reading.{HasSection-from, has_section-from, section_length-append, stopped-none}
 
 -- the bytes between two places, cut
 pub between-drop : (from n to : ℕ) (bytes : List ℕ) → n ≤ to - from → between (from + n) to bytes ≡ drop n (between from to bytes)

@@ -104,7 +104,11 @@ fn pointed_place(packet: &Packet, first: usize) -> Option<usize>
     ensures fits { IfSome result (λ place. place ≤ 188) }
 {
     let place = first + 1 + usize::from(packet.bytes()[first]);
-    if place <= PACKET_LEN { Some(place) } else { None }
+    if place <= PACKET_LEN {
+        Some(place)
+    } else {
+        None
+    }
 }
 
 // Where the segment begins that a packet opens, if it opens one.
@@ -114,7 +118,11 @@ fn start_of_segment(packet: &Packet, first: usize) -> Option<usize>
     ensures start { MatchOption result (opened packet.now ≡ None) (λ start. opened packet.now ≡ Some (drop start packet.now)) }
     ensures fits { IfSome result (λ start. start ≤ 188) }
 {
-    if packet.unit_start() { pointed_place(packet, first) } else { None }
+    if packet.unit_start() {
+        pointed_place(packet, first)
+    } else {
+        None
+    }
 }
 
 // Where the bytes behind the pointer_field end that belong to the segment before.

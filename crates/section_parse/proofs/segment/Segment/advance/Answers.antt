@@ -1,5 +1,4 @@
-use Rattle.std.specs.Prelude.{min}
-use Rattle.std.proofs.Common.{◌≡◌, ◌+◌, ◌-◌, ◌≤◌, ◌⊎◌, List, ℕ, ◌++◌, length, take, true, false, sym, ◌∙◌, arith, length-append}
+use Rattle.std.proofs.Common.{◌≡◌, ◌+◌, ◌≤◌, ◌++◌, length, take, false, arith, length-append}
 use Rattle.std.proofs.lemmas.List.{length-take, take_all}
 use Rattle.section_parse.specs.Sections.{has_section}
 use Rattle.section_parse.specs.Held.{between}
@@ -24,8 +23,7 @@ invariant_of-self-in_default c =
     let n = f.count in
     let l : length c.fill.new.bytes.items ≤ 4096 = rw e (omega (arith, length-append b (take c.fill.result p), length-take c.fill.result p, length-take i.kept i.begun.items, v.3)) in
     let h = rw (c.deref.ensures.value, e) at c.in_default.ensures in
-    let none : has_section c.fill.new.bytes.items ≡ false = rw e (header-none b p c.fill.result f h) in
-    (
+    let none : has_section c.fill.new.bytes.items ≡ false = rw e (header-none b p c.fill.result f h) in (
       omega (arith, between-length i.from i.to c.args.packet.now, v.0, n),
       v.1,
       omega (arith, c.len-self-inside.ensures),

@@ -1,0 +1,369 @@
+//! Sections of small streams, worked out by hand from the rules of ISO/IEC 13818-1, 2.4.4.
+
+use super::*;
+use std::alloc::{AllocError, Global};
+use std::test::*;
+use ts_packet::Packet;
+
+// A packet: its first bytes, and the byte that fills the others.
+#[derive(Clone, Copy, Drop)]
+struct Sent(&'static [u8], u8);
+
+// The sections A and B, and those of three bytes and of 203, C and X.
+const A: [u8; 8] = [0x42, 0x00, 0x05, 1, 2, 3, 4, 5];
+
+const B: [u8; 5] = [0x43, 0x00, 0x02, 0x0a, 0x0b];
+
+const C: [u8; 3] = [0x44, 0x30, 0x00];
+
+// X in two packets: its first 183 bytes, then its last 20 and A.
+const X1: Sent = Sent(&[0x47, 0x41, 0x00, 0x10, 0x00, 0x40, 0x00, 0xc8], 0x11);
+
+const X2: Sent = Sent(
+    &[
+        0x47, 0x41, 0x00, 0x11, 0x14, 0x11, 0x11, 0x11, 0x11, 0x11, 0x11, 0x11, 0x11, 0x11, 0x11,
+        0x11, 0x11, 0x11, 0x11, 0x11, 0x11, 0x11, 0x11, 0x11, 0x11, 0x42, 0x00, 0x05, 1, 2, 3, 4,
+        5,
+    ],
+    0xff,
+);
+
+// A alone, with counter 2.
+const A2: Sent = Sent(
+    &[
+        0x47, 0x41, 0x00, 0x12, 0x00, 0x42, 0x00, 0x05, 1, 2, 3, 4, 5,
+    ],
+    0xff,
+);
+
+fn packet_of(sent: Sent) -> Packet {
+    let mut bytes = [sent.1; 188];
+    for (byte, first) in bytes.iter_mut().zip(sent.0) {
+        *byte = *first;
+    }
+    Packet::of(bytes).unwrap_or_default()
+}
+
+fn packets_of(alloc: Global, stream: &[Sent]) -> Result<Vec<Packet>, AllocError> {
+    let mut packets = Vec::new(alloc);
+    for sent in stream {
+        packets.push(packet_of(*sent))?;
+    }
+    Ok(packets)
+}
+
+// X: a header that says 200, and 200 bytes 0x11.
+fn x() -> [u8; 203] {
+    let mut x = [0x11; 203];
+    x[0] = 0x40;
+    x[1] = 0x00;
+    x[2] = 0xc8;
+    x
+}
+
+// A stream of PID 256, and its sections by their names.
+type Row = (&'static str, &'static [Sent], &'static str);
+
+const STREAMS: [Row; 26] = [
+    ("one section in two packets, then another", &[X1, X2], "XA"),
+    ("a repeat of the first packet", &[X1, X1, X2], "XA"),
+    ("three times the first packet", &[X1, X1, X1, X2], "XA"),
+    (
+        "the same packets once more, not as neighbours",
+        &[X1, X2, X1, X2],
+        "XAXA",
+    ),
+    ("the first part alone", &[X1], ""),
+    ("the last part alone", &[X2], "A"),
+    (
+        "a counter that leaves one out",
+        &[
+            X1,
+            Sent(
+                &[
+                    0x47, 0x41, 0x00, 0x12, 0x14, 0x11, 0x11, 0x11, 0x11, 0x11, 0x11, 0x11, 0x11,
+                    0x11, 0x11, 0x11, 0x11, 0x11, 0x11, 0x11, 0x11, 0x11, 0x11, 0x11, 0x11, 0x42,
+                    0x00, 0x05, 1, 2, 3, 4, 5,
+                ],
+                0xff,
+            ),
+        ],
+        "A",
+    ),
+    (
+        "the same counter, but another payload",
+        &[
+            X1,
+            Sent(
+                &[
+                    0x47, 0x41, 0x00, 0x10, 0x14, 0x11, 0x11, 0x11, 0x11, 0x11, 0x11, 0x11, 0x11,
+                    0x11, 0x11, 0x11, 0x11, 0x11, 0x11, 0x11, 0x11, 0x11, 0x11, 0x11, 0x11, 0x42,
+                    0x00, 0x05, 1, 2, 3, 4, 5,
+                ],
+                0xff,
+            ),
+        ],
+        "A",
+    ),
+    (
+        "a counter from 15 to 0",
+        &[
+            Sent(&[0x47, 0x41, 0x00, 0x1f, 0x00, 0x40, 0x00, 0xc8], 0x11),
+            Sent(
+                &[
+                    0x47, 0x41, 0x00, 0x10, 0x14, 0x11, 0x11, 0x11, 0x11, 0x11, 0x11, 0x11, 0x11,
+                    0x11, 0x11, 0x11, 0x11, 0x11, 0x11, 0x11, 0x11, 0x11, 0x11, 0x11, 0x11, 0x42,
+                    0x00, 0x05, 1, 2, 3, 4, 5,
+                ],
+                0xff,
+            ),
+        ],
+        "XA",
+    ),
+    (
+        "a discontinuity_indicator",
+        &[
+            X1,
+            Sent(
+                &[
+                    0x47, 0x41, 0x00, 0x31, 0x01, 0x80, 0x14, 0x11, 0x11, 0x11, 0x11, 0x11, 0x11,
+                    0x11, 0x11, 0x11, 0x11, 0x11, 0x11, 0x11, 0x11, 0x11, 0x11, 0x11, 0x11, 0x11,
+                    0x11, 0x42, 0x00, 0x05, 1, 2, 3, 4, 5,
+                ],
+                0xff,
+            ),
+        ],
+        "A",
+    ),
+    (
+        "an adaptation field without it",
+        &[
+            X1,
+            Sent(
+                &[
+                    0x47, 0x41, 0x00, 0x31, 0x01, 0x00, 0x14, 0x11, 0x11, 0x11, 0x11, 0x11, 0x11,
+                    0x11, 0x11, 0x11, 0x11, 0x11, 0x11, 0x11, 0x11, 0x11, 0x11, 0x11, 0x11, 0x11,
+                    0x11, 0x42, 0x00, 0x05, 1, 2, 3, 4, 5,
+                ],
+                0xff,
+            ),
+        ],
+        "XA",
+    ),
+    (
+        "a packet without payload between them, with any counter",
+        &[X1, Sent(&[0x47, 0x01, 0x00, 0x2c, 0xb7, 0x80], 0xff), X2],
+        "XA",
+    ),
+    (
+        "a packet with error bit between them",
+        &[X1, Sent(&[0x47, 0xc1, 0x00, 0x11, 0x00], 0x00), X2],
+        "XA",
+    ),
+    (
+        "a packet of another PID between them",
+        &[X1, Sent(&[0x47, 0x41, 0x01, 0x11, 0x00], 0x00), X2],
+        "XA",
+    ),
+    (
+        "an unfinished section that the next unit start ends",
+        &[
+            Sent(&[0x47, 0x41, 0x00, 0x11, 0x00, 0x40, 0x00, 0xc8], 0x11),
+            A2,
+        ],
+        "A",
+    ),
+    (
+        "a pointer_field behind the payload's end",
+        &[X1, Sent(&[0x47, 0x41, 0x00, 0x11, 0xb8], 0x00), A2],
+        "A",
+    ),
+    (
+        "a pointer_field to the payload's end",
+        &[
+            X1,
+            Sent(
+                &[
+                    0x47, 0x41, 0x00, 0x11, 0xb7, 0x11, 0x11, 0x11, 0x11, 0x11, 0x11, 0x11, 0x11,
+                    0x11, 0x11, 0x11, 0x11, 0x11, 0x11, 0x11, 0x11, 0x11, 0x11, 0x11, 0x11,
+                ],
+                0xff,
+            ),
+        ],
+        "X",
+    ),
+    (
+        "a section_length of 4095",
+        &[
+            Sent(
+                &[
+                    0x47, 0x41, 0x00, 0x11, 0x00, 0x40, 0x0f, 0xff, 0x42, 0x00, 0x05, 1, 2, 3, 4, 5,
+                ],
+                0xff,
+            ),
+            A2,
+        ],
+        "A",
+    ),
+    (
+        "an adaptation field that leaves no payload",
+        &[Sent(&[0x47, 0x41, 0x00, 0x30, 0xff], 0x00)],
+        "",
+    ),
+    (
+        "a packet with error bit alone",
+        &[Sent(
+            &[
+                0x47, 0xc1, 0x00, 0x10, 0x00, 0x42, 0x00, 0x05, 1, 2, 3, 4, 5,
+            ],
+            0xff,
+        )],
+        "",
+    ),
+    (
+        "three in one packet",
+        &[Sent(
+            &[
+                0x47, 0x41, 0x00, 0x10, 0x00, 0x42, 0x00, 0x05, 1, 2, 3, 4, 5, 0x43, 0x00, 0x02,
+                0x0a, 0x0b, 0x42, 0x00, 0x05, 1, 2, 3, 4, 5,
+            ],
+            0xff,
+        )],
+        "ABA",
+    ),
+    (
+        "a section of three bytes",
+        &[Sent(
+            &[
+                0x47, 0x41, 0x00, 0x10, 0x00, 0x44, 0x30, 0x00, 0x43, 0x00, 0x02, 0x0a, 0x0b,
+            ],
+            0xff,
+        )],
+        "CB",
+    ),
+    (
+        "a section behind a pointer_field",
+        &[Sent(
+            &[
+                0x47, 0x41, 0x00, 0x10, 0x02, 0x44, 0x30, 0x43, 0x00, 0x02, 0x0a, 0x0b,
+            ],
+            0xff,
+        )],
+        "B",
+    ),
+    (
+        "a section behind stuffing",
+        &[Sent(
+            &[
+                0x47, 0x41, 0x00, 0x10, 0x00, 0xff, 0x43, 0x00, 0x02, 0x0a, 0x0b,
+            ],
+            0xff,
+        )],
+        "",
+    ),
+    (
+        "a payload before the first unit start",
+        &[
+            Sent(
+                &[0x47, 0x01, 0x00, 0x11, 0x42, 0x00, 0x05, 1, 2, 3, 4, 5],
+                0xff,
+            ),
+            A2,
+        ],
+        "A",
+    ),
+    ("no packets", &[], ""),
+];
+
+#[test]
+fn each_stream_has_the_sections_that_the_rules_give(rt: HostRuntime) -> Result<(), Fail> {
+    let x = x();
+    for (name, stream, wanted) in STREAMS {
+        let packets = packets_of(rt.alloc(), stream)?;
+        let found = all_sections(rt.alloc(), 256, &packets)?;
+        assert_eq!(rt; found.len(), wanted.len(), "{name}");
+        for (section, letter) in found.iter().zip(wanted.bytes()) {
+            let want: &[u8] = match letter {
+                b'A' => &A,
+                b'B' => &B,
+                b'C' => &C,
+                _ => &x,
+            };
+            assert!(rt; section.as_slice() == want, "{name}");
+        }
+    }
+    Ok(())
+}
+
+// Y: 40 0f fd and 4093 bytes 0x22, of which the first packet carries 183 bytes, 21 packets 184, and the last one 49.
+#[test]
+fn a_section_of_4096_bytes_comes_from_23_packets(rt: HostRuntime) -> Result<(), Fail> {
+    let mut packets = Vec::new(rt.alloc());
+    packets.push(packet_of(Sent(&[0x47, 0x41, 0x00, 0x10, 0x00, 0x40, 0x0f, 0xfd], 0x22)))?;
+    for i in 1..22u8 {
+        let mut bytes = [0x22; 188];
+        bytes[..4].copy_from_slice(&[0x47, 0x01, 0x00, 0x10 + i % 16]);
+        packets.push(Packet::of(bytes).unwrap_or_default())?;
+    }
+    let mut bytes = [0xff; 188];
+    bytes[..53].fill(0x22);
+    bytes[..4].copy_from_slice(&[0x47, 0x01, 0x00, 0x16]);
+    packets.push(Packet::of(bytes).unwrap_or_default())?;
+    let found = all_sections(rt.alloc(), 256, &packets)?;
+    assert_eq!(rt; found.len(), 1);
+    let section = found[0].as_slice();
+    assert_eq!(rt; section.len(), 4096);
+    assert!(rt; section.starts_with(&[0x40, 0x0f, 0xfd]));
+    assert!(rt; section.iter().skip(3).all(|byte| *byte == 0x22));
+    Ok(())
+}
+
+// A behind a pointer_field, its first bytes at the end of one packet and the others at the beginning of the next.
+#[test]
+fn a_section_is_found_wherever_it_is_split(rt: HostRuntime) -> Result<(), Fail> {
+    for cut in 0..9usize {
+        let mut first = [0xff; 188];
+        first[..6].copy_from_slice(&[0x47, 0x41, 0x00, 0x30, (182 - cut) as u8, 0x00]);
+        first[187 - cut] = 0x00;
+        first[188 - cut..].copy_from_slice(&A[..cut]);
+        let mut second = [0xff; 188];
+        second[..4].copy_from_slice(&[0x47, 0x01, 0x00, 0x11]);
+        second[4..12 - cut].copy_from_slice(&A[cut..]);
+        let packets = [
+            Packet::of(first).unwrap_or_default(),
+            Packet::of(second).unwrap_or_default(),
+        ];
+        let found = all_sections(rt.alloc(), 256, &packets)?;
+        assert_eq!(rt; found.len(), 1, "after {cut} bytes");
+        assert!(rt; found[0].as_slice() == A.as_slice(), "after {cut} bytes");
+    }
+    Ok(())
+}
+
+#[test]
+fn an_assembler_begins_anew_where_it_is_cleared(rt: HostRuntime) -> Result<(), Fail> {
+    let mut assembler = Assembler::new(rt.alloc())?;
+    assembler.clear(256);
+    assembler.push(&packet_of(X1));
+    assert!(rt; assembler.next().is_none());
+    assembler.push(&packet_of(X1));
+    assert!(rt; assembler.next().is_none());
+    assembler.push(&packet_of(X2));
+    let x = x();
+    assert_eq!(rt; assembler.next(), Some(x.as_slice()));
+    assert_eq!(rt; assembler.next(), Some(A.as_slice()));
+    assert!(rt; assembler.next().is_none());
+    assembler.clear(256);
+    assembler.push(&packet_of(X1));
+    assert!(rt; assembler.next().is_none());
+    assembler.clear(256);
+    assembler.push(&packet_of(X2));
+    assert_eq!(rt; assembler.next(), Some(A.as_slice()));
+    assert!(rt; assembler.next().is_none());
+    assembler.push(&packet_of(Sent(&[0x47, 0x41, 0x01, 0x12, 0x00, 0x44, 0x30, 0x00], 0xff)));
+    assert!(rt; assembler.next().is_none());
+    assembler.clear(257);
+    assembler.push(&packet_of(A2));
+    assert!(rt; assembler.next().is_none());
+    Ok(())
+}
