@@ -1,7 +1,7 @@
 -- `matches` says what a filter means bit by bit.
-use Rattle.std.proofs.Common.{rules, ◌≡◌, ◌≢◌, ℕ, zero, suc, ◌+◌, ◌-◌, ◌/◌, ◌%◌, ◌^◌, ◌<◌, ◌≤◌, min, Bool, true, false, not, ◌&&◌, ◌||◌, nat_eq, nat_le, nat_lt, List, length, slice_index, bit_and, bit_xor, refl, sym, ap, ◌∙◌, inl, inr, arith, ◌↔◌, IsTrue}
+use Rattle.std.proofs.Common.{rules, ◌≡◌, ◌≢◌, ℕ, zero, suc, ◌+◌, ◌-◌, ◌/◌, ◌%◌, ◌^◌, ◌<◌, min, Bool, true, false, not, ◌&&◌, ◌||◌, nat_eq, nat_lt, List, length, slice_index, bit_and, bit_xor, refl, sym, ap, ◌∙◌, inl, inr, arith, ◌↔◌, IsTrue}
 use Rattle.std.specs.List.{list_all, list_any}
-use Rattle.std.specs.Int.{w8, bit_not}
+use Rattle.std.specs.Int.{w8}
 use Rattle.std.proofs.lemmas.Bool.{cases_eq, cases_lt}
 use Rattle.std.proofs.lemmas.Bool.Decides.{nat_tests}
 use Rattle.std.proofs.lemmas.Nat.{and_le_r}
@@ -48,11 +48,11 @@ any-some p (suc n) h =
     let e : n + 1 ≡ suc n = omega arith in
     let split : (list_any p (below n) || p n) ≡ true = sym (any-more p n) ∙ ap (λ k. list_any p (below k)) e ∙ h in
     by-bool (p n) ((i : ℕ) × ((i < suc n) × (p i ≡ true)))
-      (λ y. (n, (omega arith, y)))
-      (λ z.
-        let earlier : (list_any p (below n) || false) ≡ true = rw z at split in
-        let found = any-some p n (or-false (list_any p (below n)) earlier) in
-        (found.0, (omega (arith, found.1.0), found.1.1)))
+    (λ y. (n, (omega arith, y)))
+    (λ z.
+    let earlier : (list_any p (below n) || false) ≡ true = rw z at split in
+    let found = any-some p n (or-false (list_any p (below n)) earlier) in
+    (found.0, (omega (arith, found.1.0), found.1.1)))
 
 any-from : (p : ℕ → Bool) (n i : ℕ) → i < n → p i ≡ true → list_any p (below n) ≡ true
 any-from p zero i l h = absurd (omega arith)
@@ -70,9 +70,9 @@ some-bit n l h = let t = bit_at-trailing_zeros w8 n (omega arith) (omega arith) 
 
 no-bits : (n : ℕ) → n < 256 → ((k : ℕ) → k < 8 → n / 2 ^ k % 2 ≡ 0) → n ≡ 0
 no-bits n l h = elim (cases_eq n 0) [
-    | inl e ↦ e
-    | inr d ↦ let t = some-bit n l d in absurd (omega (arith, t.1.1, h t.0 t.1.0))
-  ]
+  | inl e ↦ e
+  | inr d ↦ let t = some-bit n l d in absurd (omega (arith, t.1.1, h t.0 t.1.0))
+]
 
 module _ (f : SectionFilter) (s : List ℕ) where
   -- the bits of the differences
@@ -171,9 +171,9 @@ module _ (f : SectionFilter) (s : List ℕ) where
     reaches-from : (i : ℕ) → (slice_index f.mask i ≢ 0 → place_of i < length s) → reaches_at f s i ≡ true
     unfolding reaches_at
     reaches-from i h = elim (cases_eq (slice_index f.mask i) 0) [
-        | inl z ↦ let e : nat_eq (slice_index f.mask i) 0 ≡ true = grind (arith, nat_tests) in rw e refl
-        | inr d ↦ let l = h d in let t : nat_lt (place_of i) (length s) ≡ true = grind (arith, nat_tests) in rw t (or-true (nat_eq (slice_index f.mask i) 0))
-      ]
+      | inl z ↦ let e : nat_eq (slice_index f.mask i) 0 ≡ true = grind (arith, nat_tests) in rw e refl
+      | inr d ↦ let l = h d in let t : nat_lt (place_of i) (length s) ≡ true = grind (arith, nat_tests) in rw t (or-true (nat_eq (slice_index f.mask i) 0))
+    ]
 
     meant : matches f s ≡ true → IsMatch f s
     unfolding matches
@@ -186,11 +186,11 @@ module _ (f : SectionFilter) (s : List ℕ) where
           reaches = λ i l. reaches-at i (all-at (reaches_at f s) 16 i reach l);
           equals = λ i k m. equals-at i k (all-at (equals_at f s) 16 i equal m.byte) m;
           differs = λ i k m.
-            let n : list_any (negates_at f) (below 16) ≡ true = any-from (negates_at f) 16 i m.byte (negates-from i k m) in
-            let d : list_any (differs_at f s) (below 16) ≡ true = rw n at negated in
-            let j = any-some (differs_at f s) 16 d in
-            let t = differs-some j.0 j.1.0 j.1.1 in
-            (j.0, t.0, t.1);
+              let n : list_any (negates_at f) (below 16) ≡ true = any-from (negates_at f) 16 i m.byte (negates-from i k m) in
+              let d : list_any (differs_at f s) (below 16) ≡ true = rw n at negated in
+              let j = any-some (differs_at f s) 16 d in
+              let t = differs-some j.0 j.1.0 j.1.1 in
+              (j.0, t.0, t.1);
         }
 
     meant-all : IsMatch f s → matches f s ≡ true
@@ -199,13 +199,13 @@ module _ (f : SectionFilter) (s : List ℕ) where
         let reach : list_all (reaches_at f s) (below 16) ≡ true = all-from (reaches_at f s) 16 (λ i l. reaches-from i (h.reaches i l)) in
         let equal : list_all (equals_at f s) (below 16) ≡ true = all-from (equals_at f s) 16 (λ i l. equals-from i l (λ k. h.equals i k)) in
         by-bool (list_any (negates_at f) (below 16)) _
-          (λ n.
-            let i = any-some (negates_at f) 16 n in
-            let k = negates-some i.0 i.1.0 i.1.1 in
-            let t = h.differs i.0 k.0 k.1 in
-            let d : list_any (differs_at f s) (below 16) ≡ true = any-from (differs_at f s) 16 t.0 t.2.0.byte (differs-from t.0 t.1 t.2.0 t.2.1) in
-            rw (reach, equal, n, d) refl)
-          (λ n. rw (reach, equal, n) refl)
+        (λ n.
+        let i = any-some (negates_at f) 16 n in
+        let k = negates-some i.0 i.1.0 i.1.1 in
+        let t = h.differs i.0 k.0 k.1 in
+        let d : list_any (differs_at f s) (below 16) ≡ true = any-from (differs_at f s) 16 t.0 t.2.0.byte (differs-from t.0 t.1 t.2.0 t.2.1) in
+        rw (reach, equal, n, d) refl)
+        (λ n. rw (reach, equal, n) refl)
 
 pub matches-means : (f : SectionFilter) (s : List ℕ) → ((i : ℕ) → slice_index f.mode i < 256) → IsTrue (matches f s) ↔ IsMatch f s
 matches-means f s fits = (λ h. meant f s fits (search rules), λ h. let e = meant-all f s fits h in search rules)

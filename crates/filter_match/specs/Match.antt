@@ -1,5 +1,5 @@
 -- When a section matches a section filter (Linux media API, Digital TV demux, struct dmx_filter).
-use Rattle.std.specs.Prelude.{◌≡◌, ◌≢◌, ℕ, zero, suc, ◌+◌, ◌-◌, ◌/◌, ◌%◌, ◌^◌, ◌<◌, Bool, not, ◌&&◌, ◌||◌, nat_eq, nat_lt, List, [], ◌∷◌, ◌++◌, length, slice_index, bit_and, bit_xor, if◌then◌else◌}
+use Rattle.std.specs.Prelude.{ℕ, zero, suc, ◌+◌, ◌-◌, Bool, not, ◌&&◌, ◌||◌, nat_eq, nat_lt, List, [], ◌∷◌, ◌++◌, length, slice_index, bit_and, bit_xor, if◌then◌else◌}
 use Rattle.std.specs.List.{list_all, list_any}
 use Rattle.filter_match.specs.declared.filter.SectionFilter.{SectionFilter}
 

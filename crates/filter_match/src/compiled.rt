@@ -29,13 +29,13 @@ impl Model for Compiled {
 }
 
 impl Compiled {
-    /// Makes a filter ready.
+    /// Makes a filter ready: it keeps the filter, and what can be told of it without a section.
     pub fn of(filter: &SectionFilter) -> Compiled
         ensures { result ≡ filter.now }
     {
         let mut needed = 0;
         let mut negates = false;
-        'bytes: for i in 0..16usize {
+        'masks: for i in 0..16usize {
             if filter.mask[i] != 0 {
                 needed = place_of(i) + 1;
             }
@@ -50,7 +50,9 @@ impl Compiled {
         }
     }
 
-    /// Whether a section matches the filter.
+    /// Whether a section matches the filter: each masked byte stands against one that the section has, each masked bit
+    /// with mode 0 is equal, and where masked bits have mode 1, at least one of them differs (Linux media API, Digital TV
+    /// demux, struct dmx_filter).
     pub fn selects(&self, section: &[u8]) -> bool
         ensures { result ≡ matches self.now section.now }
     {
@@ -89,9 +91,8 @@ fn byte_at(section: &[u8], place: usize) -> u8
     section.get(place).copied().unwrap_or(0)
 }
 
-/// The law of a match, for any filter and any bytes: `matches` says of them what the Linux media API says of each bit.
+/// The law of a match, for any filter and any bytes: `matches` says of them what the Linux media API says of the bits.
 /// It has nothing to do.
 pub fn matches_means(filter: SectionFilter, section: &[u8])
     ensures { IsTrue (matches filter section.now) ↔ IsMatch filter section.now }
-{
-}
+{}

@@ -1,10 +1,10 @@
 // The section filter.
 
-/// What a section filter asks of a section's first bytes.
+/// What a section filter asks of a section's first bytes (Linux media API, Digital TV demux, struct dmx_filter).
 ///
 /// Filter byte 0 stands against section byte 0, and byte i against section byte i + 2. A bit counts where its mask bit
-/// is 1. Where its mode bit is 0 the section's bit has to be equal; of those whose mode bit is 1, at least one has to
-/// differ.
+/// is 1. Where its mode bit is 0 the section's bit has to be equal; of those whose mode bit is 1, where there are any, at
+/// least one has to differ.
 #[derive(Clone, Copy, Debug, PartialEq, Eq, Drop)]
 pub struct SectionFilter {
     /// The bits that are compared.

@@ -1,8 +1,27 @@
-//! The section filter.
+//! The section filter: which sections a filter lets through.
+//!
+//! It is DMX_SET_FILTER's struct dmx_filter of the Linux media API (chapter Digital TV demux): sixteen bytes each of
+//! filter, mask and mode. Filter byte 0 stands against the first byte of a section, its table_id, and byte i against byte
+//! i + 2: the two bytes behind the first, with the length, are passed over. That a masked byte behind the section's end
+//! lets nothing through is this project's rule.
+//!
+//! What a contract sees: a filter as the record of its three lists, a section as the list of its bytes, and a `Compiled`
+//! as the filter that it was made of.
+//!
+//! What is proved: `Compiled::of` keeps the filter, and `Compiled::selects` answers just `matches` of `specs/Match.antt`,
+//! for any filter and any bytes. `matches_means` has as its contract that `matches` says of each bit what the API says:
+//! a masked bit with mode 0 has to be equal, and of the masked bits with mode 1, where there are any, one has to differ
+//! (`specs/Meaning.antt`).
+//!
+//! What is only tested: that this is what a user of the API expects, by filters worked out by hand.
+//!
+//! Limits: no memory is taken. A section is held against a filter in sixteen steps, whatever its length.
 #![tactic(auto)]
 
 mod compiled;
 mod filter;
+#[cfg(test)]
+mod tests;
 
 pub use compiled::{Compiled, matches_means};
 pub use filter::SectionFilter;

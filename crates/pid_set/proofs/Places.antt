@@ -1,17 +1,16 @@
 -- What a search tells of the place of a PID in an ascending list.
-use Rattle.std.proofs.Common.{◌≡◌, ℕ, zero, suc, ◌+◌, ◌-◌, ◌<◌, ◌≤◌, Bool, true, false, not, nat_eq, nat_lt, List, [], ◌∷◌, ◌++◌, length, take, drop, slice_index, slice_index_or, Result, Ok, Err, IfOk, IfErr, refl, sym, ap, ◌∙◌, inl, inr, arith}
+use Rattle.std.proofs.Common.{◌≡◌, ℕ, zero, suc, ◌<◌, ◌≤◌, true, false, not, nat_eq, nat_lt, List, [], ◌∷◌, ◌++◌, length, take, drop, slice_index, slice_index_or, Result, Ok, Err, IfOk, IfErr, refl, sym, ap, inl, inr, arith}
 use Rattle.std.specs.declared.cmp.Ordering.{Ordering}
 use Rattle.std.specs.declared.cmp.Ordering.TheVariants.{Less, Equal, Greater}
 use Rattle.std.specs.Ordering.{nat_cmp, ordering_index, MatchOrdering}
-use Rattle.std.specs.List.{list_any, filter, insert, remove, HoldsAt}
+use Rattle.std.specs.List.{filter, insert, remove, HoldsAt}
 use Rattle.std.specs.List.Sorted.{IsNonDecreasingBy, IsSearchInRange, IsBinarySearchResult}
 use Rattle.std.proofs.lemmas.Bool.{cases_lt}
 use Rattle.std.proofs.lemmas.Bool.Decides.{nat_tests}
 use Rattle.std.proofs.lemmas.Cmp.{ranked}
 use Rattle.std.proofs.lemmas.List.{get_or_default}
 use Rattle.pid_set.specs.Pids.{has_pid, with_pid, without_pid, IsAscending}
-use Rattle.pid_set.specs.Sets.{IsAdded, IsRemoved}
-use Rattle.pid_set.proofs.Rising.{Above, Rising, above-from, above-at, above-less, rising-from, lower-none, higher-all, others-all, has-none, is-added, is-removed}
+use Rattle.pid_set.proofs.Rising.{Above, Rising, above-from, above-at, rising-from, lower-none, higher-all, others-all, has-none, is-added, is-removed}
 
 -- ---- a PID that is there
 

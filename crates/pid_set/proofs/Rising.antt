@@ -1,5 +1,5 @@
 -- Ascending lists by recursion, and what adding and removing a PID does to them.
-use Rattle.std.proofs.Common.{◌≡◌, ◌≢◌, ℕ, zero, suc, ◌+◌, ◌-◌, ◌<◌, ◌≤◌, ◌^◌, Bool, true, false, not, ◌&&◌, ◌||◌, nat_eq, nat_lt, List, [], ◌∷◌, ◌++◌, length, slice_index, refl, sym, ap, ◌∙◌, inl, inr, arith, if◌then◌else◌}
+use Rattle.std.proofs.Common.{◌≡◌, ℕ, zero, suc, ◌<◌, ◌^◌, Bool, true, false, not, ◌&&◌, ◌||◌, nat_eq, nat_lt, List, [], ◌∷◌, ◌++◌, length, slice_index, refl, sym, ap, ◌∙◌, inl, inr, arith}
 use Rattle.std.specs.List.{list_any, filter}
 use Rattle.std.proofs.lemmas.Bool.{cases_eq, cases_lt}
 use Rattle.std.proofs.lemmas.Bool.Decides.{nat_tests}
@@ -130,17 +130,17 @@ members-around p pid (q ∷ qs) =
     let before = members-around p pid qs in
     elim (cases_lt q pid) [
       | inl l ↦
-        let low : nat_lt q pid ≡ true = grind (arith, nat_tests) in
-        let high : nat_lt pid q ≡ false = grind (arith, nat_tests) in
-        rw (low, high) (or-low (nat_eq p q) _ (nat_eq p pid) _ (list_any (nat_eq p) qs) before)
+          let low : nat_lt q pid ≡ true = grind (arith, nat_tests) in
+          let high : nat_lt pid q ≡ false = grind (arith, nat_tests) in
+          rw (low, high) (or-low (nat_eq p q) _ (nat_eq p pid) _ (list_any (nat_eq p) qs) before)
       | inr l ↦ elim (cases_eq q pid) [
         | inl same ↦
-          let low : nat_lt pid pid ≡ false = grind (arith, nat_tests) in
-          rw (same, low) (or-same _ (nat_eq p pid) _ (list_any (nat_eq p) qs) before)
+            let low : nat_lt pid pid ≡ false = grind (arith, nat_tests) in
+            rw (same, low) (or-same _ (nat_eq p pid) _ (list_any (nat_eq p) qs) before)
         | inr other ↦
-          let low : nat_lt q pid ≡ false = grind (arith, nat_tests) in
-          let high : nat_lt pid q ≡ true = grind (arith, nat_tests) in
-          rw (low, high) (or-high (nat_eq p q) _ (nat_eq p pid) _ (list_any (nat_eq p) qs) before)
+            let low : nat_lt q pid ≡ false = grind (arith, nat_tests) in
+            let high : nat_lt pid q ≡ true = grind (arith, nat_tests) in
+            rw (low, high) (or-high (nat_eq p q) _ (nat_eq p pid) _ (list_any (nat_eq p) qs) before)
       ]
     ]
 
@@ -158,17 +158,17 @@ members-others p pid (q ∷ qs) =
     let before = members-others p pid qs in
     elim (cases_eq q pid) [
       | inl same ↦
-        let e : nat_eq pid pid ≡ true = grind (arith, nat_tests) in
-        rw (same, e) (and-same (nat_eq p pid) _ (list_any (nat_eq p) qs) before)
+          let e : nat_eq pid pid ≡ true = grind (arith, nat_tests) in
+          rw (same, e) (and-same (nat_eq p pid) _ (list_any (nat_eq p) qs) before)
       | inr other ↦
-        let e : nat_eq pid q ≡ false = grind (arith, nat_tests) in
-        rw e (elim (cases_eq p q) [
-          | inl is ↦
-            let x : nat_eq p q ≡ true = grind (arith, nat_tests) in
-            let y : nat_eq p pid ≡ false = grind (arith, nat_tests) in
-            rw (x, y) refl
-          | inr isnt ↦ let x : nat_eq p q ≡ false = grind (arith, nat_tests) in rw x before
-        ])
+          let e : nat_eq pid q ≡ false = grind (arith, nat_tests) in
+          rw e (elim (cases_eq p q) [
+            | inl is ↦
+                let x : nat_eq p q ≡ true = grind (arith, nat_tests) in
+                let y : nat_eq p pid ≡ false = grind (arith, nat_tests) in
+                rw (x, y) refl
+            | inr isnt ↦ let x : nat_eq p q ≡ false = grind (arith, nat_tests) in rw x before
+          ])
     ]
 
 -- ---- no change where there is none to make
@@ -181,19 +181,19 @@ same-with pid [] r h = absurd (cc)
 same-with pid (p ∷ ps) r h =
     elim (cases_lt p pid) [
       | inl l ↦
-        let low : nat_lt p pid ≡ true = grind (arith, nat_tests) in
-        let high : nat_lt pid p ≡ false = grind (arith, nat_tests) in
-        let other : nat_eq pid p ≡ false = grind (arith, nat_tests) in
-        rw (low, high) (ap (λ qs. p ∷ qs) (same-with pid ps r.1 (has-tail pid p ps other h)))
+          let low : nat_lt p pid ≡ true = grind (arith, nat_tests) in
+          let high : nat_lt pid p ≡ false = grind (arith, nat_tests) in
+          let other : nat_eq pid p ≡ false = grind (arith, nat_tests) in
+          rw (low, high) (ap (λ qs. p ∷ qs) (same-with pid ps r.1 (has-tail pid p ps other h)))
       | inr l ↦ elim (cases_eq p pid) [
         | inl same ↦
-          let above : Above pid ps = rw same at r.0 in
-          let low : nat_lt pid pid ≡ false = grind (arith, nat_tests) in
-          rw (same, low, lower-none pid ps above, higher-all pid ps above) refl
+            let above : Above pid ps = rw same at r.0 in
+            let low : nat_lt pid pid ≡ false = grind (arith, nat_tests) in
+            rw (same, low, lower-none pid ps above, higher-all pid ps above) refl
         | inr other ↦
-          let lower : pid < p = omega (arith, l, other) in
-          let none : has_pid pid (p ∷ ps) ≡ false = has-none pid (p ∷ ps) (lower, above-less pid p ps lower r.0) in
-          absurd (cc)
+            let lower : pid < p = omega (arith, l, other) in
+            let none : has_pid pid (p ∷ ps) ≡ false = has-none pid (p ∷ ps) (lower, above-less pid p ps lower r.0) in
+            absurd (cc)
       ]
     ]
 
@@ -245,9 +245,9 @@ fits-filter t (x ∷ xs) h i = by-bool (t x) (slice_index (filter t (x ∷ xs)) 
 pub are-with : (pid : ℕ) (pids : List ℕ) → ArePids pids → pid < 2 ^ 16 → ArePids (with_pid pid pids)
 unfolding with_pid
 are-with pid pids h l = record {
-    ascending = (is-added pid pids h.ascending).ascending;
-    fits = fits-append (filter (λ p. nat_lt p pid) pids) (pid ∷ filter (λ p. nat_lt pid p) pids) (fits-filter _ pids h.fits) rest;
-  }
+  ascending = (is-added pid pids h.ascending).ascending;
+  fits = fits-append (filter (λ p. nat_lt p pid) pids) (pid ∷ filter (λ p. nat_lt pid p) pids) (fits-filter _ pids h.fits) rest;
+}
   where
     rest : (j : ℕ) → slice_index (pid ∷ filter (λ p. nat_lt pid p) pids) j < 2 ^ 16
     rest zero = l
@@ -256,6 +256,6 @@ are-with pid pids h l = record {
 pub are-without : (pid : ℕ) (pids : List ℕ) → ArePids pids → ArePids (without_pid pid pids)
 unfolding without_pid
 are-without pid pids h = record {
-    ascending = (is-removed pid pids h.ascending).ascending;
-    fits = fits-filter (λ p. not (nat_eq pid p)) pids h.fits;
-  }
+  ascending = (is-removed pid pids h.ascending).ascending;
+  fits = fits-filter (λ p. not (nat_eq pid p)) pids h.fits;
+}

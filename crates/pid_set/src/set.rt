@@ -1,5 +1,5 @@
 // A set of at most N PIDs.
-ghost use Rattle.std.specs.Prelude.{◌≡◌, ◌<◌, ◌≤◌, ◌↔◌, ℕ, List, [], length, true, false, not, IsTrue, IsErr, IfOk, OnErr, IfSome, IsNone, IfErr, slice_index, insert, remove};
+ghost use Rattle.std.specs.Prelude.{◌≡◌, ◌<◌, ◌≤◌, ◌↔◌, ℕ, List, [], length, true, false, not, IsTrue, IsErr, IfOk, OnOk, OnErr, IfSome, IsNone, IfErr, slice_index, insert, remove};
 ghost use Rattle.pid_set.specs.Pids.{has_pid, with_pid, without_pid, IsAscending, ArePids};
 ghost use Rattle.pid_set.specs.Sets.{IsAdded, IsRemoved};
 
@@ -8,12 +8,12 @@ use std::alloc::AllocError;
 use std::marker::Model;
 use thiserror::Error;
 
-/// The refusal of a PID that would be one too many.
+/// The refusal of a PID that would be one too many for a set.
 #[derive(Clone, Copy, Debug, PartialEq, Eq, Drop, Error)]
 #[error("the set of PIDs is full")]
 pub struct PidsFull;
 
-/// The PIDs of one filter: at most 32.
+/// The PIDs of one filter: at most 32 (this project's rule).
 pub type Pids = PidSet<32>;
 
 /// A set of at most `N` PIDs. A contract sees it as the list of its members, ascending and without repeats.
@@ -45,12 +45,15 @@ impl<const N: usize> PidSet<N> {
         }
     }
 
-    /// Adds a PID: `Ok(true)` where it was added, `Ok(false)` where it was there, `PidsFull` where it is absent and `N`
-    /// are there.
+    /// Adds a PID: `Ok(true)` where it was added, `Ok(false)` where it was there.
+    ///
+    /// # Errors
+    ///
+    /// `PidsFull` exactly where the PID is absent and `N` are there. The set is then as it was.
     pub fn add(&mut self, pid: u16) -> Result<bool, PidsFull>
         ensures full { IsErr result ↔ ((has_pid pid self.old ≡ false) × (length self.old ≡ N)) }
-        ensures added { IfOk result (λ added. has_pid pid self.old ≡ not added) }
-        ensures set { IfOk result (λ _. self.new ≡ with_pid pid self.old) }
+        ensures added { IfOk result (λ added. added ≡ not (has_pid pid self.old)) }
+        ensures set { OnOk result (self.new ≡ with_pid pid self.old) }
         ensures unchanged { OnErr result (self.new ≡ self.old) }
     {
         match find(&self.pids, pid) {
@@ -82,7 +85,7 @@ impl<const N: usize> PidSet<N> {
         find(&self.pids, pid).is_ok()
     }
 
-    /// The same set once more. It takes no memory, so it can't fail as `clone` can by its type.
+    /// The same set once more. It takes no memory, so unlike `clone` it has no refusal in its type.
     pub fn copied(&self) -> PidSet<N>
         ensures { result ≡ self.now }
     {
@@ -135,5 +138,4 @@ fn find(pids: &[u16], pid: u16) -> Result<usize, usize>
 pub fn adding_and_removing()
     ensures added { (pid : ℕ) (pids : List ℕ) → IsAscending pids → IsAdded pid pids }
     ensures removed { (pid : ℕ) (pids : List ℕ) → IsAscending pids → IsRemoved pid pids }
-{
-}
+{}

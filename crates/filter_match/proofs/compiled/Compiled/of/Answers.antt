@@ -1,21 +1,21 @@
-use Rattle.std.proofs.Common.{rules, arith, ◌≡◌, ℕ, true, false, ◌∙◌, refl}
+use Rattle.std.proofs.Common.{rules, arith, ◌≡◌}
 use Rattle.filter_match.specs.Match.{negates_at}
 use Rattle.filter_match.proofs.Bytes.{reach-none, reach-unmasked, reach-masked, any-none, any-yes, any-no, negates-yes, negates-no, place-rises}
 use Rattle.filter_match.proofs.compiled.Compiled.of.Goals.{then-filter-i-ne0, else-filter-i-ne0, then-filter-i-ne0-2, else-filter-i-ne0-2}
 use Rattle.filter_match.proofs.compiled.Compiled.of.Goals as goal
 
-pub bytes-init : goal.bytes-init
-bytes-init c = record { reach = reach-none _; ordered = search rules; negated = any-none _ }
+pub masks-init : goal.masks-init
+masks-init c = record { reach = reach-none _; ordered = search rules; negated = any-none _ }
 
-pub bytes-preserved : goal.bytes-preserved
-bytes-preserved c =
+pub masks-preserved : goal.masks-preserved
+masks-preserved c =
     let f = c.args.filter.now in
-    let i = c.bytes.i in
-    let h = c.bytes.invariant in
+    let i = c.masks.i in
+    let h = c.masks.invariant in
     record {
       reach = elim c.if-filter-i-ne0.branch [
-        | then-filter-i-ne0 w ↦ rw (w.needed-is, w.place_of-needed.ensures) (reach-masked f i c.bytes.needed h.reach h.ordered w.if-filter-i-ne0.true)
-        | else-filter-i-ne0 w ↦ rw w.needed-is (reach-unmasked f i c.bytes.needed h.reach w.if-filter-i-ne0.false)
+        | then-filter-i-ne0 w ↦ rw (w.needed-is, w.place_of-needed.ensures) (reach-masked f i c.masks.needed h.reach h.ordered w.if-filter-i-ne0.true)
+        | else-filter-i-ne0 w ↦ rw w.needed-is (reach-unmasked f i c.masks.needed h.reach w.if-filter-i-ne0.false)
       ];
       ordered = elim c.if-filter-i-ne0.branch [
         | then-filter-i-ne0 w ↦ rw (w.needed-is, w.place_of-needed.ensures) (omega (arith, place-rises i))
@@ -23,12 +23,12 @@ bytes-preserved c =
       ];
       negated = elim c.if-filter-i-ne0-2.branch [
         | then-filter-i-ne0-2 w ↦ rw w.negates-is (any-yes (negates_at f) i (negates-yes f i w.if-filter-i-ne0-2.true))
-        | else-filter-i-ne0-2 w ↦ rw w.negates-is (any-no (negates_at f) i c.bytes.negates h.negated (negates-no f i w.if-filter-i-ne0-2.false))
+        | else-filter-i-ne0-2 w ↦ rw w.negates-is (any-no (negates_at f) i c.masks.negates h.negated (negates-no f i w.if-filter-i-ne0-2.false))
       ];
     }
 
 pub invariant_of-result : goal.invariant_of-result
 invariant_of-result c =
-    let e : c.bytes.i ≡ 16 = search rules in
-    let h = c.bytes.invariant in
+    let e : c.masks.i ≡ 16 = search rules in
+    let h = c.masks.invariant in
     record { reach = rw e at h.reach; negated = rw e at h.negated }

@@ -4,8 +4,8 @@ use Rattle.filter_match.specs.Match.{place_of, below, negates_at}
 use Rattle.filter_match.proofs.Bytes.{ReachesBelow}
 use Rattle.filter_match.proofs.compiled.Compiled.of.Given as goal
 
-abbrev pub invariant-bytes : goal.invariant-bytes
-invariant-bytes l = record {
+abbrev pub invariant-masks : goal.invariant-masks
+invariant-masks l = record {
   reach : ReachesBelow l.filter l.i l.needed;
   ordered : l.needed ≤ place_of l.i + 1;
   negated : list_any (negates_at l.filter) (below l.i) ≡ l.negates;

@@ -1,5 +1,5 @@
-use Rattle.std.proofs.Common.{rules, arith, ◌≡◌, ℕ, true, false, Bool, not, ◌||◌, sym, refl}
-use Rattle.filter_match.specs.Match.{place_of, equals_at, differs_at, differences}
+use Rattle.std.proofs.Common.{rules, ◌≡◌, true, false, Bool, not, ◌||◌, sym, refl}
+use Rattle.filter_match.specs.Match.{equals_at, differs_at}
 use Rattle.filter_match.proofs.Bytes.{all-none, all-next, all-stops, any-none, any-yes, any-no, differences-is, equals-yes, equals-no, differs-yes, differs-no, not-reached, not-equal, matches-where}
 use Rattle.filter_match.proofs.compiled.Compiled.selects.Goals.{then-differences-mode-ne0-2, else-differences-mode-ne0-2}
 use Rattle.filter_match.proofs.compiled.Compiled.selects.Goals as goal

@@ -1,5 +1,5 @@
-use Rattle.std.proofs.Common.{rules, ◌≡◌, sym, ◌∙◌, subst}
-use Rattle.pid_set.specs.Pids.{with_pid, ArePids}
+use Rattle.std.proofs.Common.{rules, ◌≡◌}
+use Rattle.pid_set.specs.Pids.{with_pid}
 use Rattle.pid_set.proofs.Rising.{are-with}
 use Rattle.pid_set.proofs.set.PidSet.add.Goals as goal
 

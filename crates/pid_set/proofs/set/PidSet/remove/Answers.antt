@@ -1,5 +1,5 @@
-use Rattle.std.proofs.Common.{rules, ◌≡◌, sym, ◌∙◌, subst}
-use Rattle.pid_set.specs.Pids.{without_pid, ArePids}
+use Rattle.std.proofs.Common.{rules, ◌≡◌}
+use Rattle.pid_set.specs.Pids.{without_pid}
 use Rattle.pid_set.proofs.Rising.{are-without}
 use Rattle.pid_set.proofs.set.PidSet.remove.Goals as goal
 
