@@ -1,0 +1,37 @@
+-- How a buffer's fields are seen, and what holds of them.
+use Rattle.std.specs.Prelude.{ℕ, ◌≡◌, ◌≤◌, ◌-◌, Bool, false, List, [], length, Option, Some, None, option_map}
+use Rattle.dmx_calls.specs.Ledger.{Misfit}
+use Rattle.dmx_calls.specs.Facts.{Ledger}
+use Rattle.node_core.specs.Sound.{UnreadFits}
+use Rattle.node_core.specs.BufferValue.{BufferValue}
+use Rattle.node_core.specs.declared.buffer.Lost.{Lost}
+use Rattle.node_core.specs.declared.buffer.Capture.{Capture}
+use Rattle.node_core.specs.declared.buffer.Buffer.TheInside.{Inside}
+
+abbrev pub misfit_of : Lost → Misfit
+misfit_of x = record { item = x.item; need = x.need; room = x.room }
+
+abbrev pub ledger_of : List ℕ → Capture → Ledger
+ledger_of unread c = record {
+  started = c.started;
+  is_stopped = c.is_stopped;
+  expired = None;
+  is_told = false;
+  count = c.items;
+  total = c.total;
+  answered = c.answered;
+  over = option_map misfit_of c.over;
+  unread = unread;
+  rest = 0;
+}
+
+abbrev pub buffer_view : Inside → BufferValue
+buffer_view b = record { size = b.ring.size; ledger = option_map (ledger_of b.ring.bytes) b.capture }
+
+abbrev pub CaptureHolds : Option Capture → List ℕ → Type 0
+CaptureHolds None unread = unread ≡ []
+CaptureHolds (Some c) unread =
+    (c.answered ≤ c.total) × (c.items ≤ c.total) × UnreadFits (option_map misfit_of c.over) unread (c.total - c.answered)
+
+abbrev pub BufferHolds : Inside → Type 0
+BufferHolds b = CaptureHolds b.capture b.ring.bytes

@@ -1,0 +1,8 @@
+pub mod Step
+pub mod Sound
+pub mod Gives
+pub mod BufferValue
+pub mod BufferView
+pub mod OpenedView
+pub mod Stands
+pub mod CoreView

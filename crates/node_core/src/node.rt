@@ -1,0 +1,166 @@
+// A demux node, and its one call.
+
+ghost use Rattle.std.specs.Prelude.{◌≡◌, ◌≢◌, ◌≤◌, ◌<◌, ◌+◌, ◌^◌, ◌∷◌, []};
+ghost use Rattle.dmx_calls.specs.declared.limits.TheConstants.{DEMUX_NODES};
+ghost use Rattle.dmx_calls.specs.History.{History, entry_of};
+ghost use Rattle.dmx_calls.specs.Rules.{demux};
+ghost use Rattle.dmx_calls.specs.Facts.{state_of};
+ghost use Rattle.dmx_calls.specs.Legal.{May};
+ghost use Rattle.dmx_calls.specs.Calls.{invocation_of, response_of};
+ghost use Rattle.dmx_calls.specs.Back.{GivesBack};
+ghost use Rattle.node_core.specs.Sound.{IsSound, total_of};
+ghost use Rattle.node_core.specs.Gives.{Gives};
+ghost use Rattle.node_core.specs.Step.{next};
+ghost use Rattle.node_core.specs.OpenedView.{facts_of};
+ghost use Rattle.node_core.specs.Stands.{StandsFor, IsBuilt, packets_of_call};
+
+use crate::opened;
+use crate::opened::Opened;
+use dmx_calls::{Answer, Call, Reply, State};
+use std::alloc::Global;
+use std::marker::Model;
+use std::sync::ledger::Ledger;
+use steps::Steps;
+
+/// A demux node: an object on which calls are made one after another.
+#[derive(Drop)]
+pub struct NodeCore {
+    alloc: Global,
+    number: u32,
+    /// How many calls were made.
+    entries: u64,
+    /// An End came.
+    has_ended: bool,
+    /// What it keeps for its owner; None where it is free.
+    opened: Option<Opened>,
+}
+
+impl Model for NodeCore {
+    ghost use Rattle.node_core.specs.Stands.{CoreValue};
+
+    ghost Value = { CoreValue };
+
+    ghost use Rattle.node_core.specs.CoreView.{core_view, CoreHolds};
+
+    ghost view = { core_view };
+
+    ghost invariant = { CoreHolds };
+}
+
+fn plain(reply: Reply) -> Answer
+    ensures { result ≡ record { reply = reply; back = None; batch = None } }
+{
+    Answer {
+        reply,
+        back: None,
+        batch: None,
+    }
+}
+
+/// Makes a call on what the node keeps.
+fn act<L: Ledger>(
+    alloc: Global,
+    has_ended: &mut bool,
+    opened: &mut Option<Opened>,
+    who: u32,
+    call: Call,
+    steps: &mut Steps<L>,
+) -> Answer
+    requires sound { IsSound (facts_of has_ended.old opened.old) }
+    requires built { IsBuilt (invocation_of call) }
+    requires total { total_of (facts_of has_ended.old opened.old).ledger + 12032 < 2 ^ 64 }
+    ensures said { Gives (facts_of has_ended.old opened.old) who (invocation_of call) (response_of result.reply) }
+    ensures after { facts_of has_ended.new opened.new ≡ next (facts_of has_ended.old opened.old) who (invocation_of call) (response_of result.reply) }
+    ensures back { GivesBack call result }
+    ensures sound { IsSound (facts_of has_ended.new opened.new) }
+    ensures total { total_of (facts_of has_ended.new opened.new).ledger ≤ total_of (facts_of has_ended.old opened.old).ledger + 12032 }
+    ensures cost { steps.new ≤ steps.old + packets_of_call (invocation_of call) }
+    ensures idle { state_of (facts_of has_ended.old opened.old) ≢ State.Go → steps.new ≡ steps.old }
+{
+    match call {
+        Call::Open => plain(opened::open(alloc, *has_ended, opened, who)),
+        Call::Close => plain(opened::close(*has_ended, opened, who)),
+        Call::SetPes { params, now } => plain(opened::set_pes(
+            *has_ended, opened, who, params, now,
+        )),
+        Call::Start { now } => plain(opened::start(*has_ended, opened, who, now)),
+        Call::Stop => plain(opened::stop(*has_ended, opened, who)),
+        Call::SetSize(size) => plain(opened::set_size(alloc, *has_ended, opened, who, size)),
+        Call::Read { now, buf } => {
+            let (reply, back) = opened::read(*has_ended, opened, who, now, buf);
+            Answer {
+                reply,
+                back,
+                batch: None,
+            }
+        }
+        Call::Pass { input, batch, now } => {
+            opened::pass(*has_ended, opened, who, input, &batch, now, steps);
+            Answer {
+                reply: Reply::Passed,
+                back: None,
+                batch: Some(batch),
+            }
+        }
+        Call::End => {
+            *has_ended = true;
+            plain(Reply::Passed)
+        }
+    }
+}
+
+impl NodeCore {
+    /// The demux node of this number, 0 to 31. It is free, takes no memory, and keeps the allocator for its calls.
+    pub fn new(alloc: Global, number: u32) -> NodeCore
+        requires { number < DEMUX_NODES }
+        ensures number { result.number ≡ number }
+        ensures stands { StandsFor result [] }
+    {
+        NodeCore {
+            alloc,
+            number,
+            entries: 0,
+            has_ended: false,
+            opened: None,
+        }
+    }
+
+    /// Its number.
+    pub fn number(&self) -> u32
+        ensures { result ≡ self.now.number }
+    {
+        self.number
+    }
+
+    /// How many calls were made on it.
+    pub fn entries(&self) -> u64
+        ensures { result ≡ self.now.entries }
+    {
+        self.entries
+    }
+
+    /// Makes a call.
+    pub fn apply<L: Ledger>(&mut self, who: u32, call: Call, steps: &mut Steps<L>) -> Answer
+        requires few { self.old.entries < 2 ^ 50 }
+        requires built { IsBuilt (invocation_of call) }
+        ensures stands { (h : History) → StandsFor self.old h
+            → May demux h who (invocation_of call) (response_of result.reply)
+            × StandsFor self.new (entry_of who (invocation_of call) (response_of result.reply) ∷ h) }
+        ensures back { GivesBack call result }
+        ensures rises { self.new.entries ≡ self.old.entries + 1 }
+        ensures number { self.new.number ≡ self.old.number }
+        ensures cost { steps.new ≤ steps.old + packets_of_call (invocation_of call) }
+        ensures idle { state_of self.old.facts ≢ State.Go → steps.new ≡ steps.old }
+    {
+        let answer = act(
+            self.alloc,
+            &mut self.has_ended,
+            &mut self.opened,
+            who,
+            call,
+            steps,
+        );
+        self.entries += 1;
+        answer
+    }
+}
