@@ -3,6 +3,6 @@ pub mod Sound
 pub mod Gives
 pub mod BufferValue
 pub mod BufferView
-pub mod OpenedView
+pub mod KeptView
 pub mod Stands
 pub mod CoreView

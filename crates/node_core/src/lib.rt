@@ -19,7 +19,8 @@
 #![tactic(auto)]
 
 mod buffer;
+mod filter;
+mod kept;
 mod node;
-mod opened;
 
 pub use node::NodeCore;

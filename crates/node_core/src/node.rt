@@ -11,11 +11,10 @@ ghost use Rattle.dmx_calls.specs.Back.{GivesBack};
 ghost use Rattle.node_core.specs.Sound.{IsSound, total_of};
 ghost use Rattle.node_core.specs.Gives.{Gives};
 ghost use Rattle.node_core.specs.Step.{next};
-ghost use Rattle.node_core.specs.OpenedView.{facts_of};
+ghost use Rattle.node_core.specs.KeptView.{facts_of};
 ghost use Rattle.node_core.specs.Stands.{StandsFor, IsBuilt, packets_of_call};
 
-use crate::opened;
-use crate::opened::Opened;
+use crate::kept::Kept;
 use dmx_calls::{Answer, Call, Reply, State};
 use std::alloc::Global;
 use std::marker::Model;
@@ -29,10 +28,7 @@ pub struct NodeCore {
     number: u32,
     /// How many calls were made.
     entries: u64,
-    /// An End came.
-    has_ended: bool,
-    /// What it keeps for its owner; None where it is free.
-    opened: Option<Opened>,
+    kept: Kept,
 }
 
 impl Model for NodeCore {
@@ -59,43 +55,44 @@ fn plain(reply: Reply) -> Answer
 
 /// Makes a call on what the node keeps.
 fn act<L: Ledger>(
+    kept: &mut Kept,
     alloc: Global,
-    has_ended: &mut bool,
-    opened: &mut Option<Opened>,
     who: u32,
     call: Call,
     steps: &mut Steps<L>,
 ) -> Answer
-    requires sound { IsSound (facts_of has_ended.old opened.old) }
+    requires sound { IsSound (facts_of kept.old) }
     requires built { IsBuilt (invocation_of call) }
-    requires total { total_of (facts_of has_ended.old opened.old).ledger + 12032 < 2 ^ 64 }
-    ensures said { Gives (facts_of has_ended.old opened.old) who (invocation_of call) (response_of result.reply) }
-    ensures after { facts_of has_ended.new opened.new ≡ next (facts_of has_ended.old opened.old) who (invocation_of call) (response_of result.reply) }
+    requires total { total_of (facts_of kept.old).ledger + 12032 < 2 ^ 64 }
+    ensures said { Gives (facts_of kept.old) who (invocation_of call) (response_of result.reply) }
+    ensures after { facts_of kept.new ≡ next (facts_of kept.old) who (invocation_of call) (response_of result.reply) }
     ensures back { GivesBack call result }
-    ensures sound { IsSound (facts_of has_ended.new opened.new) }
-    ensures total { total_of (facts_of has_ended.new opened.new).ledger ≤ total_of (facts_of has_ended.old opened.old).ledger + 12032 }
+    ensures sound { IsSound (facts_of kept.new) }
+    ensures total { total_of (facts_of kept.new).ledger ≤ total_of (facts_of kept.old).ledger + 12032 }
     ensures cost { steps.new ≤ steps.old + packets_of_call (invocation_of call) }
-    ensures idle { state_of (facts_of has_ended.old opened.old) ≢ State.Go → steps.new ≡ steps.old }
+    ensures idle { state_of (facts_of kept.old) ≢ State.Go → steps.new ≡ steps.old }
 {
     match call {
-        Call::Open => plain(opened::open(alloc, *has_ended, opened, who)),
-        Call::Close => plain(opened::close(*has_ended, opened, who)),
-        Call::SetPes { params, now } => plain(opened::set_pes(
-            *has_ended, opened, who, params, now,
-        )),
-        Call::Start { now } => plain(opened::start(*has_ended, opened, who, now)),
-        Call::Stop => plain(opened::stop(*has_ended, opened, who)),
-        Call::SetSize(size) => plain(opened::set_size(alloc, *has_ended, opened, who, size)),
-        Call::Read { now, buf } => {
-            let (reply, back) = opened::read(*has_ended, opened, who, now, buf);
+        Call::Open => plain(kept.open(alloc, who)),
+        Call::Close => plain(kept.close(who)),
+        Call::SetPes { params, now } => plain(kept.set_pes(who, params, now)),
+        Call::Start { now } => plain(kept.start(who, now)),
+        Call::Stop => plain(kept.stop(who)),
+        Call::SetSize(size) => plain(kept.set_size(alloc, who, size)),
+        Call::Read { now: _, buf } => {
+            let (reply, back) = kept.read(who, buf);
             Answer {
                 reply,
                 back,
                 batch: None,
             }
         }
-        Call::Pass { input, batch, now } => {
-            opened::pass(*has_ended, opened, who, input, &batch, now, steps);
+        Call::Pass {
+            input,
+            batch,
+            now: _,
+        } => {
+            kept.pass(input, &batch, steps);
             Answer {
                 reply: Reply::Passed,
                 back: None,
@@ -103,7 +100,7 @@ fn act<L: Ledger>(
             }
         }
         Call::End => {
-            *has_ended = true;
+            kept.end();
             plain(Reply::Passed)
         }
     }
@@ -120,8 +117,10 @@ impl NodeCore {
             alloc,
             number,
             entries: 0,
-            has_ended: false,
-            opened: None,
+            kept: Kept {
+                has_ended: false,
+                tenure: None,
+            },
         }
     }
 
@@ -152,14 +151,7 @@ impl NodeCore {
         ensures cost { steps.new ≤ steps.old + packets_of_call (invocation_of call) }
         ensures idle { state_of self.old.facts ≢ State.Go → steps.new ≡ steps.old }
     {
-        let answer = act(
-            self.alloc,
-            &mut self.has_ended,
-            &mut self.opened,
-            who,
-            call,
-            steps,
-        );
+        let answer = act(&mut self.kept, self.alloc, who, call, steps);
         self.entries += 1;
         answer
     }

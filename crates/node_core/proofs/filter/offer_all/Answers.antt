@@ -1,6 +1,6 @@
 use Rattle.std.proofs.Common.{arith, ◌∙◌, ap}
 use Rattle.node_core.proofs.Offered.{offered-then}
-use Rattle.node_core.proofs.opened.offer_all.Goals as goal
+use Rattle.node_core.proofs.filter.offer_all.Goals as goal
 
 pub loop-i-preserved : goal.loop-i-preserved
 loop-i-preserved g c = record {

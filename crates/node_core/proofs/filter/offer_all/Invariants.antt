@@ -6,7 +6,7 @@ use Rattle.dmx_calls.specs.Items.{picked}
 use Rattle.node_core.specs.Step.{with_items}
 use Rattle.node_core.specs.Sound.{CoherentIn, total_of}
 use Rattle.node_core.specs.BufferValue.{BufferValue}
-use Rattle.node_core.proofs.opened.offer_all.Given as goal
+use Rattle.node_core.proofs.filter.offer_all.Given as goal
 
 pub record Offered (out : Output) (pid : ℕ) (packets : List (List ℕ)) (i steps steps0 : ℕ) (start now : BufferValue) : Type 0 where
   pub size : now.size ≡ start.size
