@@ -214,6 +214,9 @@ dvr_same e h nay = record {
 
 -- ------ the items of a capture only grow
 
+grown_twice : (first mid new all whole : List (List ℕ)) → whole ≡ all ++ new → all ≡ first ++ mid → whole ≡ first ++ (mid ++ new)
+grown_twice first mid new all whole last before = last ∙ (ap (λ xs. xs ++ new) before ∙ append_assoc first mid new)
+
 module _ (node : Rules) (keeps : Keeps node) where
   -- the event that began a capture has less behind it than the history has
   began_step : (e : Entry) (h : History) (s : Since) → ((u : Since) → node.capture h ≡ Some u → length u.by.before < length h)
@@ -251,7 +254,7 @@ module _ (node : Rules) (keeps : Keeps node) where
     grown_step e g le ih (onward u before longer new arrive) t is by =
         let same : more (event e g) u ≡ t = let k : Some (more (event e g) u) ≡ Some t = sym longer ∙ is in cc in
         let earlier = ih u before (ap (λ (v : Since). v.by) same ∙ by) in
-        (earlier.0 ++ new, arrive ∙ (ap (λ xs. xs ++ new) earlier.1 ∙ append_assoc (node.items h) earlier.0 new))
+        (earlier.0 ++ new, grown_twice (node.items h) earlier.0 new (node.items g) (node.items (e ∷ g)) arrive earlier.1)
 
     grown_any : (e : Entry) (g : History) → length h ≤ length g → Grown g → (b : Bool) → is_accepted e.response ≡ b → Grown (e ∷ g)
     unfolding Grown

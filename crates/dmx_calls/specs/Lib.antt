@@ -17,3 +17,4 @@ pub mod Calls
 pub mod Log
 pub mod Back
 pub mod Laws
+pub mod Examples

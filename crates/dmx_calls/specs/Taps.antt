@@ -1,7 +1,6 @@
 -- The dvr node: its taps, and the items that they give.
 use Rattle.std.specs.Prelude.{ℕ, Bool, false, nat_eq, List, [], ◌∷◌, ◌++◌, filter, Option, Some, None, if◌then◌else◌}
-use Rattle.std.specs.List.{list_any}
-use Rattle.filter_match.specs.Match.{below}
+use Rattle.std.specs.List.{list_any, range_with_len}
 use Rattle.dmx_calls.specs.declared.params.Input.TheVariants.{Frontend}
 use Rattle.dmx_calls.specs.declared.limits.TheConstants.{DEMUX_NODES}
 use Rattle.dmx_calls.specs.Invocation.{Attach, Detach}
@@ -37,7 +36,7 @@ tap_names packet (Some tap) = is_named tap.pids packet
 
 -- some tap names the packet
 unfoldable pub is_tapped : History → List ℕ → Bool
-is_tapped h packet = list_any (λ node. tap_names packet (tap_of node h)) (below DEMUX_NODES)
+is_tapped h packet = list_any (λ node. tap_names packet (tap_of node h)) (range_with_len 0 DEMUX_NODES)
 
 -- of each pass the packets that some tap named at that pass, each once
 abbrev pub tapped : List Event → List (List ℕ)

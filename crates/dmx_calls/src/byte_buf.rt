@@ -69,12 +69,11 @@ impl ByteBuf {
     }
 
     /// A copy whose count is the number of its bytes.
-    pub fn fitted(&self) -> Result<ByteBuf, NoMemory>
+    pub fn fitted(&self, alloc: Global) -> Result<ByteBuf, NoMemory>
         ensures { IfOk result (λ buf. buf ≡ record { count = length self.now.bytes; bytes = self.now.bytes }) }
     {
-        Ok(ByteBuf {
-            bytes: self.bytes.clone()?,
-            count: self.bytes.len() as u32,
-        })
+        let mut copy = ByteBuf::new(alloc, self.bytes.len() as u32)?;
+        copy.append(&self.bytes);
+        Ok(copy)
     }
 }

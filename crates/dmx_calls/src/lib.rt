@@ -1,14 +1,36 @@
-//! Calls and replies of the demux nodes and the dvr node, and the definitions of what a node's history is.
+//! Calls and replies of the demux nodes and the dvr node, and the definitions of what a node's history says.
+//!
+//! What a node is, is said by its history alone: the list of its calls with their responses. The definitions in specs/
+//! begin with the plain data (`Invocation`, `Response`, `History`), and go on to what was set (`Tenure`), what is collected
+//! from a start on (`Capture`), what the filter selects (`Items`, `Taps`), the bytes and what didn't fit (`Ledger`), the
+//! refusals, the answer to a call, and the legal and the accounted histories. Ledger, answer, legal and accounted are
+//! written once, over the `Rules` in which a demux node and the dvr node differ. None of them has a ring, an assembler or
+//! a state that is kept.
+//!
+//! What a contract sees: `invocation_of` a `Call` and `response_of` a `Reply`; a `ByteBuf` as its count and its bytes.
+//!
+//! What is proved: each call of `ByteBuf`. The laws of `laws`: every legal history is accounted, so each byte is given,
+//! named as lost or named as dropped, in its place; an entry that isn't accepted changes nothing; the items of a capture
+//! only grow; an overflow's item needs more than the room that it found. The worked examples of `examples`, worked out by
+//! hand from the rules, are what the definitions give: every call in every state, reads, overflows, sections, timeouts,
+//! taps and recordings. Both have empty bodies; the check computes or proves their contracts.
+//!
+//! Sources: the Linux media API, chapter Digital TV demux, for calls, filters, states and errors; ISO/IEC 13818-1 for
+//! packets and sections; what these leave open is this project's rule, as are the numbers of `limits` but the flags,
+//! the PIDs and the PES types. `ByteBuf::new` and `ByteBuf::fitted` alone take memory.
 #![tactic(auto)]
 
 mod byte_buf;
 mod call;
+pub mod examples;
 pub mod laws;
 pub mod limits;
 mod log;
 mod node;
 mod params;
 mod reply;
+#[cfg(test)]
+mod tests;
 
 pub use byte_buf::ByteBuf;
 pub use call::Call;

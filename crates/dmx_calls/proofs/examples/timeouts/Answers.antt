@@ -1,0 +1,48 @@
+use Rattle.std.proofs.Common.{refl}
+use Rattle.ts_packet.specs.Clean.{clean, without_repeats_after}
+use Rattle.section_parse.specs.Segments.{runs, rest_of_segment, segments}
+use Rattle.section_parse.specs.Sections.{sections_after, read_sections, sections}
+use Rattle.section_crc.specs.Crc.{after_bit, crc}
+use Rattle.filter_match.specs.Match.{reaches_at, differences, equals_at, differs_at, negates_at, matches, below}
+use Rattle.pid_set.specs.Pids.{with_pid, without_pid}
+use Rattle.dmx_calls.specs.Tenure.{tenure, owner, size_or, size, dvr_size, setting, params, pids, has_ended}
+use Rattle.dmx_calls.specs.Capture.{capture, started, is_stopped, live, dvr_capture}
+use Rattle.dmx_calls.specs.Items.{selects, section_items, expiry, offered, items}
+use Rattle.dmx_calls.specs.Taps.{tap_of, is_tapped, dvr_items}
+use Rattle.dmx_calls.specs.Rules.{is_told, expired}
+use Rattle.dmx_calls.specs.Ledger.{joined, total, answered, over}
+use Rattle.dmx_calls.specs.Facts.{facts}
+use Rattle.dmx_calls.specs.Answer.{answer}
+use Rattle.dmx_calls.proofs.examples.timeouts.Goals as goal
+
+pub returns-clause-no_section_in_time : goal.returns-clause-no_section_in_time
+unfolding with_pid without_pid tenure owner size_or size dvr_size setting params pids has_ended capture started is_stopped live dvr_capture selects section_items expiry offered items tap_of is_tapped dvr_items is_told expired joined total answered over facts answer clean without_repeats_after runs rest_of_segment segments sections_after read_sections sections after_bit crc reaches_at differences equals_at differs_at negates_at matches below
+returns-clause-no_section_in_time c = refl
+
+pub returns-clause-section_in_time : goal.returns-clause-section_in_time
+unfolding with_pid without_pid tenure owner size_or size dvr_size setting params pids has_ended capture started is_stopped live dvr_capture selects section_items expiry offered items tap_of is_tapped dvr_items is_told expired joined total answered over facts answer clean without_repeats_after runs rest_of_segment segments sections_after read_sections sections after_bit crc reaches_at differences equals_at differs_at negates_at matches below
+returns-clause-section_in_time c = refl
+
+pub returns-clause-section_too_late : goal.returns-clause-section_too_late
+unfolding with_pid without_pid tenure owner size_or size dvr_size setting params pids has_ended capture started is_stopped live dvr_capture selects section_items expiry offered items tap_of is_tapped dvr_items is_told expired joined total answered over facts answer clean without_repeats_after runs rest_of_segment segments sections_after read_sections sections after_bit crc reaches_at differences equals_at differs_at negates_at matches below
+returns-clause-section_too_late c = refl
+
+pub returns-clause-poll_expires : goal.returns-clause-poll_expires
+unfolding with_pid without_pid tenure owner size_or size dvr_size setting params pids has_ended capture started is_stopped live dvr_capture selects section_items expiry offered items tap_of is_tapped dvr_items is_told expired joined total answered over facts answer clean without_repeats_after runs rest_of_segment segments sections_after read_sections sections after_bit crc reaches_at differences equals_at differs_at negates_at matches below
+returns-clause-poll_expires c = refl
+
+pub returns-clause-not_expired : goal.returns-clause-not_expired
+unfolding with_pid without_pid tenure owner size_or size dvr_size setting params pids has_ended capture started is_stopped live dvr_capture selects section_items expiry offered items tap_of is_tapped dvr_items is_told expired joined total answered over facts answer clean without_repeats_after runs rest_of_segment segments sections_after read_sections sections after_bit crc reaches_at differences equals_at differs_at negates_at matches below
+returns-clause-not_expired c = refl
+
+pub returns-clause-start_again_waits_anew : goal.returns-clause-start_again_waits_anew
+unfolding with_pid without_pid tenure owner size_or size dvr_size setting params pids has_ended capture started is_stopped live dvr_capture selects section_items expiry offered items tap_of is_tapped dvr_items is_told expired joined total answered over facts answer clean without_repeats_after runs rest_of_segment segments sections_after read_sections sections after_bit crc reaches_at differences equals_at differs_at negates_at matches below
+returns-clause-start_again_waits_anew c = refl
+
+pub returns-clause-started_near_the_last_moment : goal.returns-clause-started_near_the_last_moment
+unfolding with_pid without_pid tenure owner size_or size dvr_size setting params pids has_ended capture started is_stopped live dvr_capture selects section_items expiry offered items tap_of is_tapped dvr_items is_told expired joined total answered over facts answer clean without_repeats_after runs rest_of_segment segments sections_after read_sections sections after_bit crc reaches_at differences equals_at differs_at negates_at matches below
+returns-clause-started_near_the_last_moment c = refl
+
+pub returns-clause-no_timeout : goal.returns-clause-no_timeout
+unfolding with_pid without_pid tenure owner size_or size dvr_size setting params pids has_ended capture started is_stopped live dvr_capture selects section_items expiry offered items tap_of is_tapped dvr_items is_told expired joined total answered over facts answer clean without_repeats_after runs rest_of_segment segments sections_after read_sections sections after_bit crc reaches_at differences equals_at differs_at negates_at matches below
+returns-clause-no_timeout c = refl

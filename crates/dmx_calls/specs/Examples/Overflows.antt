@@ -1,0 +1,148 @@
+-- Overflows. A buffer of size n holds n - 1 bytes.
+use Rattle.std.specs.Prelude.{[], ◌∷◌, take, true, false}
+use Rattle.dmx_calls.specs.declared.params.Output.TheVariants.{Tap, TsdemuxTap}
+use Rattle.dmx_calls.specs.declared.reply.PollError.TheVariants.{Overflow as OverflowPending}
+use Rattle.dmx_calls.specs.Invocation.{Start, Stop, SetSize, Read, Poll}
+use Rattle.dmx_calls.specs.Response.{KeepTap, Done, Data, Again, Overflow, Ready}
+use Rattle.dmx_calls.specs.Rules.{demux}
+use Rattle.dmx_calls.specs.Examples.Words.{Plays, opened, client_0, fed, done, pes, packet, payload_of_length}
+
+-- 376 bytes hold two packets; the third is lost, and the gap takes the two with it
+abbrev pub OverflowOfPackets : Type 0
+OverflowOfPackets = Plays demux (
+    opened
+    ∷ client_0 (SetSize 377) done
+    ∷ client_0 (pes 256 TsdemuxTap) done
+    ∷ client_0 (Start 0) done
+    ∷ fed (packet 256 0 0)
+    ∷ fed (packet 256 1 0)
+    ∷ fed (packet 256 2 0)
+    ∷ client_0 (Read 0 188) (Overflow 0 564 2 188 0)
+    ∷ fed (packet 256 3 0)
+    ∷ client_0 (Read 0 188) (Data (packet 256 3 0))
+    ∷ []
+    )
+
+abbrev pub OverflowAfterAPartRead : Type 0
+OverflowAfterAPartRead = Plays demux (
+    opened
+    ∷ client_0 (SetSize 377) done
+    ∷ client_0 (pes 256 TsdemuxTap) done
+    ∷ client_0 (Start 0) done
+    ∷ fed (packet 256 0 0)
+    ∷ fed (packet 256 1 0)
+    ∷ client_0 (Read 0 100) (Data (take 100 (packet 256 0 0)))
+    ∷ fed (packet 256 2 0)
+    ∷ fed (packet 256 3 0)
+    ∷ client_0 (Read 0 188) (Overflow 100 752 2 188 100)
+    ∷ []
+    )
+
+abbrev pub ItemLargerThanTheRing : Type 0
+ItemLargerThanTheRing = Plays demux (
+    opened
+    ∷ client_0 (SetSize 100) done
+    ∷ client_0 (pes 256 TsdemuxTap) done
+    ∷ client_0 (Start 0) done
+    ∷ fed (packet 256 0 0)
+    ∷ fed (packet 256 1 0)
+    ∷ client_0 (Read 0 188) (Overflow 0 376 0 188 99)
+    ∷ client_0 (Read 0 188) (Again false)
+    ∷ []
+    )
+
+-- 189 holds one packet exactly
+abbrev pub ExactFitIsKept : Type 0
+ExactFitIsKept = Plays demux (
+    opened
+    ∷ client_0 (SetSize 189) done
+    ∷ client_0 (pes 256 TsdemuxTap) done
+    ∷ client_0 (Start 0) done
+    ∷ fed (packet 256 0 0)
+    ∷ client_0 (Read 0 188) (Data (packet 256 0 0))
+    ∷ client_0 Stop done
+    ∷ client_0 (SetSize 188) (Done 188 188 KeepTap)
+    ∷ client_0 (Start 0) done
+    ∷ fed (packet 256 1 0)
+    ∷ client_0 (Read 0 188) (Overflow 0 188 0 188 187)
+    ∷ []
+    )
+
+-- 189 bytes hold a payload of 184 and 5 more: the second payload of 184 is lost, and after it one of a byte that would have fit
+abbrev pub LaterItemThatFitsIsLost : Type 0
+LaterItemThatFitsIsLost = Plays demux (
+    opened
+    ∷ client_0 (SetSize 190) done
+    ∷ client_0 (pes 256 Tap) done
+    ∷ client_0 (Start 0) done
+    ∷ fed (packet 256 0 0)
+    ∷ fed (packet 256 1 0)
+    ∷ fed (payload_of_length 1 0xaa)
+    ∷ client_0 (Read 0 4096) (Overflow 0 369 1 184 5)
+    ∷ fed (payload_of_length 2 0xbb)
+    ∷ client_0 (Read 0 4096) (Data (0xbb ∷ 0xbb ∷ []))
+    ∷ []
+    )
+
+-- the span begins where the last Read ended
+abbrev pub OverflowBehindWhatWasRead : Type 0
+OverflowBehindWhatWasRead = Plays demux (
+    opened
+    ∷ client_0 (SetSize 377) done
+    ∷ client_0 (pes 256 TsdemuxTap) done
+    ∷ client_0 (Start 0) done
+    ∷ fed (packet 256 0 0)
+    ∷ client_0 (Read 0 188) (Data (packet 256 0 0))
+    ∷ fed (packet 256 1 0)
+    ∷ fed (packet 256 2 0)
+    ∷ fed (packet 256 3 0)
+    ∷ client_0 (Read 0 1) (Overflow 188 752 3 188 0)
+    ∷ client_0 (Read 0 1) (Again false)
+    ∷ []
+    )
+
+-- the numbers of items and the places of bytes go on after an overflow
+abbrev pub SecondOverflow : Type 0
+SecondOverflow = Plays demux (
+    opened
+    ∷ client_0 (SetSize 200) done
+    ∷ client_0 (pes 256 TsdemuxTap) done
+    ∷ client_0 (Start 0) done
+    ∷ fed (packet 256 0 0)
+    ∷ fed (packet 256 1 0)
+    ∷ client_0 (Read 0 188) (Overflow 0 376 1 188 11)
+    ∷ fed (packet 256 2 0)
+    ∷ fed (packet 256 3 0)
+    ∷ client_0 (Read 0 188) (Overflow 376 752 3 188 11)
+    ∷ []
+    )
+
+-- a Read of no bytes takes it, a Poll shows it, and Stop leaves it
+abbrev pub PendingOverflow : Type 0
+PendingOverflow = Plays demux (
+    opened
+    ∷ client_0 (SetSize 100) done
+    ∷ client_0 (pes 256 TsdemuxTap) done
+    ∷ client_0 (Start 0) done
+    ∷ fed (packet 256 0 0)
+    ∷ client_0 (Poll 0) (Ready true OverflowPending 0 false)
+    ∷ client_0 Stop done
+    ∷ client_0 (Read 0 0) (Overflow 0 188 0 188 99)
+    ∷ client_0 (Read 0 0) (Data [])
+    ∷ []
+    )
+
+-- a Start drops the lost bytes with the others, and nothing is pending any more
+abbrev pub StartAgainClearsTheOverflow : Type 0
+StartAgainClearsTheOverflow = Plays demux (
+    opened
+    ∷ client_0 (SetSize 200) done
+    ∷ client_0 (pes 256 TsdemuxTap) done
+    ∷ client_0 (Start 0) done
+    ∷ fed (packet 256 0 0)
+    ∷ client_0 (Read 0 8) (Data (take 8 (packet 256 0 0)))
+    ∷ fed (packet 256 1 0)
+    ∷ client_0 (Start 0) (Done 8 376 KeepTap)
+    ∷ client_0 (Read 0 188) (Again false)
+    ∷ []
+    )
