@@ -6,7 +6,7 @@
 //! What is proved: no call goes past a bound, and each byte read is taken by the cutter. What it prints is tested.
 #![tactic(auto)]
 
-ghost use Rattle.std.specs.Prelude.{◌≡◌, ◌+◌, ◌^◌, ◌<◌, length};
+ghost use Rattle.std.specs.Prelude.{◌≡◌, ◌+◌, ◌^◌, ◌<◌, length, slice_index, sum_by};
 ghost use Rattle.ts_packet.specs.Cutting.{bytes_taken};
 
 use std::env;
@@ -19,16 +19,18 @@ const READ: usize = 65536;
 // More reads than a stream needs: with READ bytes each they give fewer than 2^63 bytes.
 const READS: u64 = 4_294_967_296;
 
-// The sum of the last bytes of the packets, modulo 2^32.
-fn last_bytes(packets: &PacketBuf) -> u32 {
-    let mut sum = 0u32;
+// The sum of the last bytes of the packets.
+fn last_bytes(packets: &PacketBuf) -> u32
+    ensures { result ≡ sum_by (λ packet. slice_index packet 187) packets.now }
+{
+    let mut sum = 0;
     for packet in packets.as_slice() {
-        sum = sum.wrapping_add(u32::from(packet.bytes()[187]));
+        sum += u32::from(packet.bytes()[187]);
     }
     sum
 }
 
-// Gives the whole piece to the cutter, and answers the sum of the last bytes of its packets, modulo 2^32.
+// Gives the whole piece to the cutter. The answer is the sum of the last bytes of its packets, modulo 2^32.
 fn cut_all(cutter: &mut Cutter, packets: &mut PacketBuf, piece: &[u8]) -> u32
     requires few { bytes_taken cutter.old + length piece.now < 2 ^ 63 }
     ensures taken { bytes_taken cutter.new ≡ bytes_taken cutter.old + length piece.now }
@@ -61,6 +63,9 @@ fn main(rt: HostRuntime) -> anyhow::Result<()> {
         }
     }
     let tally = cutter.finish();
-    println!(rt; "packets={} skipped={} rest={} sum={sum}", tally.packets, tally.skipped, tally.rest)?;
+    println!(rt;
+        "packets={} skipped={} rest={} sum={sum}",
+        tally.packets, tally.skipped, tally.rest
+    )?;
     Ok(())
 }

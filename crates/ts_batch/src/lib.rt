@@ -14,6 +14,9 @@
 //! The number of packets in a batch and the counting of steps are this project's rules.
 #![tactic(auto)]
 
+#[cfg(test)]
+mod tests;
+
 ghost use Rattle.std.specs.Prelude.{◌≡◌, ◌<◌, ◌≤◌, ◌+◌, ◌^◌, length, IfOk, slice_get};
 ghost use Rattle.ts_packet.specs.Fields.{IsPacket};
 ghost use Rattle.ts_batch.specs.Batch.{IsBatch};
