@@ -1,8 +1,8 @@
 -- The laws of histories.
-use Rattle.std.proofs.Common.{ℕ, ◌+◌, ◌-◌, ◌<◌, ◌≤◌, ◌≡◌, refl, sym, ◌∙◌, ap, subst, Bool, true, false, not, List, [], ◌∷◌, ◌++◌, Option, Some, None, length, length-append, arith, append_assoc}
+use Rattle.std.proofs.Common.{ℕ, ◌+◌, ◌-◌, ◌<◌, ◌≤◌, ◌≡◌, refl, sym, ◌∙◌, ap, subst, Bool, true, false, not, List, [], ◌∷◌, ◌++◌, Option, Some, None, length, length-append, arith, append_assoc, inl, reverse, map}
 use Rattle.std.specs.Prelude.{if◌then◌else◌, is_some, nat_eq, nat_lt}
 use Rattle.std.specs.Option.{option_or}
-use Rattle.std.proofs.lemmas.List.{append-nil}
+use Rattle.std.proofs.lemmas.List.{append-nil, reverse-append}
 use Rattle.std.proofs.lemmas.Bool.Decides.{nat_tests}
 use Rattle.dmx_calls.specs.Invocation.{Invocation, Open, Close, SetFilter, SetPes, AddPid, RemovePid, Start, Stop, SetSize, Read, Poll, Pass, End, Attach, Detach}
 use Rattle.dmx_calls.specs.Response.{TapChange, KeepTap, Response, Done, Busy, is_accepted}
@@ -12,10 +12,11 @@ use Rattle.dmx_calls.specs.Capture.{capture, dvr_capture}
 use Rattle.dmx_calls.specs.Rules.{Rules, demux, dvr}
 use Rattle.dmx_calls.specs.Ledger.{Misfit, misfit, misfit_at, is_overflow, over_in, over, joined, total, answered}
 use Rattle.dmx_calls.specs.Facts.{Facts, ledger_at, ledger_of, facts}
-use Rattle.dmx_calls.specs.Answer.{done_dropping, response_to, with_call}
-use Rattle.dmx_calls.specs.Legal.{May}
+use Rattle.dmx_calls.specs.Answer.{answer, done_dropping, response_to, with_call}
+use Rattle.dmx_calls.specs.Legal.{May, IsLegalFor}
 use Rattle.dmx_calls.specs.Accounted.{DropsRest}
-use Rattle.dmx_calls.specs.Laws.{LegalIsAccounted, UnacceptedChangesNothing, ItemsOnlyGrow, OverflowNeedsMore}
+use Rattle.dmx_calls.specs.Laws.{LegalIsAccounted, UnacceptedChangesNothing, ItemsOnlyGrow, OverflowNeedsMore, PlayedIsLegal}
+use Rattle.dmx_calls.specs.Examples.Words.{answers}
 use Rattle.dmx_calls.proofs.Going.{more, begun, tenure_refused, has_ended_refused}
 use Rattle.dmx_calls.proofs.After.{owner_refused, size_refused, params_refused, pids_refused, capture_refused, live_refused, offered_refused, items_refused, joined_refused, answered_refused, over_refused, facts_refused}
 use Rattle.dmx_calls.proofs.Nodes.{Goes, gone, anew, onward, Keeps, demux_keeps, dvr_keeps, dvr_size_refused, dvr_capture_refused, dvr_items_refused, tap_refused}
@@ -281,3 +282,17 @@ demux_grows = only_grow demux demux_keeps
 
 pub dvr_grows : ItemsOnlyGrow dvr
 dvr_grows = only_grow dvr dvr_keeps
+
+-- ------ what plays is legal
+
+played : (node : Rules) (entries : List Entry) (h : History) → IsLegalFor node h → answers node h entries ≡ map (λ (e : Entry). e.response) entries → IsLegalFor node (reverse entries ++ h)
+played node [] h legal plays = legal
+played node (e ∷ entries) h legal plays =
+    let first : e.response ≡ answer node h e.who e.invocation = cc in
+    let rest : answers node (e ∷ h) entries ≡ map (λ (e : Entry). e.response) entries = cc in
+    let later = played node entries (e ∷ h) (legal, inl first) rest in
+    let turned : reverse (e ∷ entries) ++ h ≡ reverse entries ++ (e ∷ h) = ap (λ es. es ++ h) (reverse-append (e ∷ []) entries) ∙ append_assoc (reverse entries) (e ∷ []) h in
+    rw turned later
+
+pub played_is_legal : (node : Rules) → PlayedIsLegal node
+played_is_legal node entries plays = rw (← append-nil (reverse entries)) (played node entries [] tt plays)

@@ -39,7 +39,7 @@ abbrev pub is_same_size : Facts → Invocation → Bool
 is_same_size f (SetSize size) = nat_eq size f.size
 is_same_size f _ = false
 
--- the owner test comes first, then the table
+-- The owner test comes first, then the table; a SetSize to the size that the node has is no change, so it isn't asked of the table.
 abbrev pub refusal_to : NodeKind → Facts → (who : ℕ) → Invocation → Option Errno
 refusal_to kind f who call =
     if is_for_anybody kind call then None
@@ -62,7 +62,7 @@ renews_tap f (AddPid pid) = not (has_pid pid f.pids)
 renews_tap f (RemovePid pid) = has_pid pid f.pids
 renews_tap f _ = false
 
--- f is before the call, g after it
+-- What Done tells of the tap: attach it, where the node records after the call and the call may have changed the tap; detach it, where the node recorded before and no longer does. f is before the call, g after it.
 abbrev pub tap_of_done : Facts → Invocation → Facts → TapChange
 tap_of_done f call g =
     if is_recording g then (if renews_tap f call then AttachTap g.pids else KeepTap)
@@ -90,7 +90,7 @@ abbrev pub read_over : Facts → Ledger → Option Misfit → (expired : Option 
 read_over f l (Some x) expired count = Overflow l.answered l.total x.item x.need x.room
 read_over f l None expired count = read_timeout f l expired count
 
--- A Read: no bytes without a capture; else the pending overflow; else the expiry, once; else no bytes for a count of 0; else Again where all is answered; else bytes.
+-- The response of a Read is the first of these that applies: no bytes without a capture; else the pending overflow; else the expiry, once; else no bytes for a count of 0; else Again where all is answered; else bytes.
 abbrev pub read_response : Facts → Option Ledger → (expired : Option ℕ) → (count : ℕ) → Response
 read_response f None expired count = Data []
 read_response f (Some l) expired count = read_over f l l.over expired count
@@ -131,7 +131,7 @@ abbrev pub open_response : Option ℕ → Response
 open_response None = Done 0 0 KeepTap
 open_response (Some owner) = Busy owner
 
--- what is unread is dropped
+-- what is unread is dropped, and named
 abbrev pub done_dropping : Option Ledger → TapChange → Response
 done_dropping None tap = Done 0 0 tap
 done_dropping (Some l) tap = Done l.answered l.total tap

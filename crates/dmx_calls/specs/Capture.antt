@@ -1,4 +1,5 @@
 -- A capture: what a node collects from a start on.
+-- Source: the Linux media API, chapter Digital TV demux (DMX_START, DMX_STOP, DMX_IMMEDIATE_START); what ends a capture is this project's rule.
 use Rattle.std.specs.Prelude.{ℕ, Bool, true, false, not, ◌||◌, nat_eq, List, [], ◌∷◌, Option, Some, None, unwrap_or, if◌then◌else◌}
 use Rattle.std.specs.List.{list_any}
 use Rattle.ts_packet.specs.Fields.{bit}
@@ -24,11 +25,11 @@ begins ev = elim (ev.entry.invocation) [
   | _ ↦ false
 ]
 
--- The last of the tenure, unless a set call without that flag or a SetSize to another size comes after it. Stop doesn't end it.
+-- The capture is the last that began in the tenure. There is none where a set call without that flag, or a SetSize to another size, came after. Stop doesn't end it.
 unfoldable pub capture : History → Option Since
 capture h = since begins (λ ev. sets ev || resizes ev) (after_of (tenure h))
 
--- the moment that a call carries
+-- the moment that a call carries, in milliseconds
 abbrev pub moment_of : Event → Option ℕ
 moment_of ev = elim (ev.entry.invocation) [
   | SetFilter p now ↦ Some now
@@ -64,12 +65,13 @@ unstopped (ev ∷ evs) = if list_any stops (ev ∷ evs) then unstopped evs else 
 unfoldable pub live : History → List Event
 live h = unstopped (after_of (capture h))
 
--- On the dvr node a capture begins with Open, and with a SetSize to another size.
 abbrev pub dvr_resizes : Event → Bool
 dvr_resizes ev = elim (ev.entry.invocation) [ SetSize n ↦ not (nat_eq n (dvr_size ev.before)) | _ ↦ false ]
 
+-- On the dvr node a capture begins with Open, and with a SetSize to another size.
 abbrev pub dvr_begins : Event → Bool
 dvr_begins ev = elim (ev.entry.invocation) [ Open ↦ true | _ ↦ dvr_resizes ev ]
 
+-- The capture is the last that began in the tenure, to which the Open belongs.
 unfoldable pub dvr_capture : History → Option Since
 dvr_capture h = since dvr_begins (λ ev. false) (whole_of (tenure h))

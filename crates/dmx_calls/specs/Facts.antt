@@ -1,4 +1,4 @@
--- What a history says to the next call.
+-- What a history says to the next call: the definitions, gathered.
 use Rattle.std.specs.Prelude.{ℕ, ◌-◌, Bool, false, nat_lt, ◌&&◌, List, [], ◌∷◌, length, drop, Option, Some, None, is_some, if◌then◌else◌}
 use Rattle.dmx_calls.specs.declared.node.State.{State}
 use Rattle.dmx_calls.specs.declared.node.State.TheVariants.{Free, Allocated, Set, Go, Done, TimedOut}
@@ -8,7 +8,7 @@ use Rattle.dmx_calls.specs.Items.{is_oneshot}
 use Rattle.dmx_calls.specs.Rules.{Rules}
 use Rattle.dmx_calls.specs.Ledger.{Misfit, joined, total, answered, over}
 
--- of the capture
+-- what it says of the capture
 pub record Ledger : Type 0 where
   pub started : ℕ
   pub is_stopped : Bool
@@ -21,12 +21,12 @@ pub record Ledger : Type 0 where
   pub answered : ℕ
   -- the pending overflow
   pub over : Option Misfit
-  -- the bytes that a Read may still give: the joined items from `answered` on; none while an overflow is pending, since the Read that finds it gives none, and the next begins behind it
+  -- The bytes that a Read may still give: those of the capture from place `answered` on. There are none while an overflow is pending, since the Read that finds it gives none and the next begins behind it.
   pub unread : List ℕ
-  -- on a section filter, how many of them belong to the item in which `answered` stands; 0 where there are none, and on any other node, whose Reads go on over the end of an item
+  -- On a section filter, how many of these belong to the item in which place `answered` stands. It is 0 where there are none, and on any other node, whose Reads go on over the end of an item.
   pub rest : ℕ
 
--- of the node
+-- what it says of the node
 pub record Facts : Type 0 where
   pub has_ended : Bool
   pub owner : Option ℕ
@@ -100,6 +100,6 @@ abbrev pub state_of_owner : Option ℕ → Params → Option Ledger → State
 state_of_owner None params ledger = Free
 state_of_owner (Some who) params ledger = state_of_filter params ledger
 
--- The state: Free without an owner; Allocated without a filter; Set without a capture, or with a Stop in it; TimedOut where it has expired; Done where a one-shot filter has had its section; else Go.
+-- The state is the first of these that applies: Free without an owner; Allocated without a filter; Set without a capture, or with a Stop in it; TimedOut where it has expired; Done where a one-shot filter has had its section; else Go.
 abbrev pub state_of : Facts → State
 state_of f = state_of_owner f.owner f.params f.ledger

@@ -1,4 +1,4 @@
--- Histories of one node.
+-- Histories of one node (this project's own).
 use Rattle.std.specs.Prelude.{ℕ, Bool, List, [], ◌∷◌, ◌++◌, filter, Option, Some, None, if◌then◌else◌}
 use Rattle.std.specs.Option.{option_or}
 use Rattle.dmx_calls.specs.Invocation.{Invocation}
@@ -17,7 +17,7 @@ entry_of who invocation response = record { who = who; invocation = invocation; 
 abbrev pub History : Type 0
 History = List Entry
 
--- an entry with the whole history before it
+-- an entry with its past, the whole history before it
 pub record Event : Type 0 where
   pub entry : Entry
   pub before : History
@@ -30,11 +30,11 @@ abbrev pub events : History → List Event
 events [] = []
 events (e ∷ h) = event e h ∷ events h
 
--- those that were accepted
+-- the events of accepted entries
 abbrev pub accepted : History → List Event
 accepted h = filter (λ ev. is_accepted ev.entry.response) (events h)
 
--- an event, and the events after it, the newest first
+-- an event that began something, and the events after it, the newest first
 pub record Since : Type 0 where
   pub by : Event
   pub after : List Event
@@ -44,7 +44,7 @@ abbrev pub also : Event → Option Since → Option Since
 also ev None = None
 also ev (Some s) = Some (record { by = s.by; after = ev ∷ s.after })
 
--- the last event that begins something with the events after it, unless one that ends it comes later
+-- What the last event that begins something began: that event and those after it. There is nothing where an event that ends it comes after it.
 abbrev pub since : (Event → Bool) → (Event → Bool) → List Event → Option Since
 since begins ends [] = None
 since begins ends (ev ∷ evs) =
@@ -55,12 +55,12 @@ abbrev pub after_of : Option Since → List Event
 after_of None = []
 after_of (Some s) = s.after
 
--- with the event that began it, which is the oldest
+-- the same with the event that began it, which is the oldest
 abbrev pub whole_of : Option Since → List Event
 whole_of None = []
 whole_of (Some s) = s.after ++ s.by ∷ []
 
--- the newest answer of `answer` to these events
+-- what the last of these events that answers says
 abbrev pub newest : {A : Type 0} → (Event → Option A) → List Event → Option A
 newest answer [] = None
 newest answer (ev ∷ evs) = option_or (answer ev) (newest answer evs)

@@ -1,4 +1,5 @@
 -- The items of a capture: what a filter selects from the packets that passed.
+-- Source: the Linux media API, chapter Digital TV demux (dmx_sct_filter_params, dmx_pes_filter_params, dmx_output); ISO/IEC 13818-1, 2.4.3 for packets and 2.4.4 for sections.
 use Rattle.std.specs.Prelude.{ℕ, ◌+◌, Bool, true, false, not, ◌&&◌, ◌||◌, nat_eq, nat_le, List, [], ◌∷◌, ◌++◌, take, filter, filter_map, slice_index, Option, Some, None, if◌then◌else◌}
 use Rattle.std.specs.Option.{option_or}
 use Rattle.ts_packet.specs.Fields.{bit, pid_of, payload_of}
@@ -36,7 +37,7 @@ packets_of input (ev ∷ evs) = packets_of input evs ++ packets_in input ev
 
 -- ------ section filters
 
--- A section is selected where it matches; and under DMX_CHECK_CRC only where it has no CRC (section_syntax_indicator 0) or its CRC is right.
+-- A section is selected where it matches; and under DMX_CHECK_CRC only where it has no CRC, its section_syntax_indicator being 0, or where the CRC over the whole of it is 0.
 unfoldable pub selects : SectionParams → List ℕ → Bool
 selects p section =
     matches p.filter section
@@ -53,7 +54,7 @@ section_items p evs =
 
 -- ------ PES filters
 
--- a packet has one of these PIDs, or all packets are named
+-- a packet has one of these PIDs, or PID 0x2000 among them names every packet
 abbrev pub is_named : List ℕ → List ℕ → Bool
 is_named names packet = has_pid ALL_PACKETS names || has_pid (pid_of packet) names
 
@@ -64,10 +65,11 @@ item_of TsdemuxTap packet = Some packet
 item_of TsTap packet = None
 item_of Decoder packet = None
 
+-- what the named ones of these packets give
 abbrev pub picked : Output → List ℕ → List (List ℕ) → List (List ℕ)
 picked output names packets = filter_map (item_of output) (filter (is_named names) packets)
 
--- packet by packet, each pass with the PIDs that it found
+-- packet by packet, each pass by the PIDs of that moment
 abbrev pub pes_items : PesParams → List Event → List (List ℕ)
 pes_items p [] = []
 pes_items p (ev ∷ evs) = pes_items p evs ++ picked p.output (pids ev.before) (packets_in p.input ev)
@@ -102,13 +104,13 @@ abbrev pub is_no_item : List (List ℕ) → Bool
 is_no_item [] = true
 is_no_item (item ∷ items) = false
 
--- the first of these events that is due, where nothing was selected before it
+-- of these events the first that is due while nothing is selected from those before it
 abbrev pub expiry_in : Params → (due : ℕ) → List Event → Option Expiry
 expiry_in set due [] = None
 expiry_in set due (ev ∷ evs) =
     option_or (expiry_in set due evs) (if is_no_item (selected set evs) then expiry_at due (clock_of ev) evs else None)
 
--- A section filter with a timeout expires at the first Pass, Read or Poll, made while it runs and before its first item, whose moment is at least the start's plus the timeout.
+-- A section filter with a timeout expires at the first Pass, Read or Poll whose moment is at least the start's plus the timeout, if it still runs then and has no item.
 unfoldable pub expiry : History → Option Expiry
 expiry h = if nat_eq (timeout_of (params h)) 0 then None else expiry_in (params h) (started h + timeout_of (params h)) (live h)
 
@@ -116,7 +118,7 @@ abbrev pub offered_of : List Event → Option Expiry → List Event
 offered_of evs None = evs
 offered_of evs (Some x) = x.before
 
--- what the filter was offered: what passed while it ran; where it expired, before that
+-- what the filter was offered: all that is live, or where it expired only what came before
 unfoldable pub offered : History → List Event
 offered h = offered_of (live h) (expiry h)
 

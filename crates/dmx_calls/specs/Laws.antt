@@ -1,5 +1,5 @@
 -- Laws of histories.
-use Rattle.std.specs.Prelude.{ℕ, ◌<◌, ◌≡◌, false, List, ◌∷◌, ◌++◌, Some}
+use Rattle.std.specs.Prelude.{ℕ, ◌<◌, ◌≡◌, false, List, ◌∷◌, ◌++◌, reverse, Some}
 use Rattle.dmx_calls.specs.Response.{is_accepted}
 use Rattle.dmx_calls.specs.History.{Entry, History, Since}
 use Rattle.dmx_calls.specs.Tenure.{tenure, owner, has_ended}
@@ -11,10 +11,15 @@ use Rattle.dmx_calls.specs.Ledger.{Misfit, joined, answered, over}
 use Rattle.dmx_calls.specs.Facts.{facts}
 use Rattle.dmx_calls.specs.Legal.{IsLegalFor}
 use Rattle.dmx_calls.specs.Accounted.{IsAccounted}
+use Rattle.dmx_calls.specs.Examples.Words.{Plays}
 
 -- Each byte of each capture of a legal history is given, named as lost or named as dropped, in its place.
 abbrev pub LegalIsAccounted : Rules → Type 0
 LegalIsAccounted node = (h : History) → IsLegalFor node h → IsAccounted node h
+
+-- What plays is legal: entries, the oldest first, of which each has the answer, are a legal history.
+abbrev pub PlayedIsLegal : Rules → Type 0
+PlayedIsLegal node = (entries : List Entry) → Plays node entries → IsLegalFor node (reverse entries)
 
 -- what was set, the capture, its items and its ledger are the same in both histories
 pub record IsSame (node : Rules) (g h : History) : Type 0 where

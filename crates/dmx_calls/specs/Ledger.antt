@@ -1,4 +1,5 @@
 -- The ledger of a capture: its bytes, how many of them were answered, and what didn't fit.
+-- Source: this project's rules; EOVERFLOW of the Linux media API says only that bytes were lost.
 use Rattle.std.specs.Prelude.{ℕ, ◌+◌, ◌-◌, Bool, true, false, nat_lt, List, [], ◌∷◌, length, drop, sum_by, Option, Some, None, if◌then◌else◌}
 use Rattle.std.specs.Option.{option_or}
 use Rattle.std.specs.List.{concat}
@@ -28,14 +29,15 @@ misfit capacity number total answered (item ∷ items) =
     else misfit capacity (number + 1) (total + length item) answered items
 
 module _ (node : Rules) where
-  -- the items of the capture, joined
+  -- the bytes of the capture: its items, joined
   unfoldable pub joined : History → List ℕ
   joined h = concat (node.items h)
 
+  -- how many there are so far
   unfoldable pub total : History → ℕ
   total h = length (joined h)
 
-  -- how many of these bytes were answered in the capture
+  -- how many of them were answered, given or named as lost
   unfoldable pub answered : History → ℕ
   answered h = sum_by answered_in (after_of (node.capture h))
 
@@ -47,7 +49,7 @@ module _ (node : Rules) where
   abbrev pub misfit_at : Event → Option Misfit
   misfit_at ev = misfit (node.size ev.before - 1) (length (node.items ev.before)) (total ev.before) (answered ev.before) (arrivals ev)
 
-  -- of these events, after the last Overflow
+  -- the first that didn't fit after the last Overflow response among these events
   abbrev pub over_in : List Event → Option Misfit
   over_in [] = None
   over_in (ev ∷ evs) = if is_overflow ev then None else option_or (over_in evs) (misfit_at ev)

@@ -1,4 +1,5 @@
 -- The refusals, by the kind of node, the state, the call and what was set.
+-- Source: the errors of the Linux media API, chapter Digital TV demux; their order is this project's rule: EINVAL by argument, then EINVAL or EBUSY by state, then ENOSPC.
 use Rattle.std.specs.Prelude.{ℕ, ◌+◌, Bool, true, false, not, ◌&&◌, ◌||◌, nat_lt, nat_le, List, [], ◌∷◌, length, Option, Some, None, if◌then◌else◌}
 use Rattle.pid_set.specs.Pids.{has_pid}
 use Rattle.dmx_calls.specs.declared.node.NodeKind.{NodeKind}
@@ -79,6 +80,7 @@ add_refusal params pids pid =
     else (if not (takes_many params) && not (is_no_pid pids) then Some Einval
     else (if nat_le MOST_PIDS (length pids) then Some Enospc else None))
 
+-- Without a filter nothing starts and no PID is added or removed; PIDs belong to PES filters; while a filter runs or has just ended the size stays; taps are attached to the dvr node alone.
 abbrev pub refusal_by_state : State → Params → List ℕ → Invocation → Option Errno
 refusal_by_state state params pids (AddPid pid) = if is_allocated state || not (is_pes params) then Some Einval else add_refusal params pids pid
 refusal_by_state state params pids (RemovePid pid) = if is_allocated state || not (is_pes params) then Some Einval else None
@@ -100,7 +102,7 @@ is_for_filters (Start now) = true
 is_for_filters Stop = true
 is_for_filters _ = false
 
--- What an owner's call is refused for, if it is. A SetSize is taken to name another size than the node has.
+-- Why a call of the node's owner is refused, if it is. A SetSize is taken to name another size than the node has.
 abbrev pub refusal : NodeKind → State → Params → List ℕ → Invocation → Option Errno
 refusal Demux state params pids call = if is_bad_argument call then Some Einval else refusal_by_state state params pids call
 refusal Dvr state params pids call = if is_bad_argument call || is_for_filters call then Some Einval else None

@@ -1,4 +1,4 @@
--- The dvr node: its taps, and the items that they give.
+-- The dvr node: its taps, and the items that they give (DMX_OUT_TS_TAP of the Linux media API; how taps are attached is this project's rule).
 use Rattle.std.specs.Prelude.{ℕ, Bool, false, nat_eq, List, [], ◌∷◌, ◌++◌, filter, Option, Some, None, if◌then◌else◌}
 use Rattle.std.specs.List.{list_any, range_with_len}
 use Rattle.dmx_calls.specs.declared.params.Input.TheVariants.{Frontend}
@@ -34,7 +34,7 @@ abbrev pub tap_names : List ℕ → Option Tap → Bool
 tap_names packet None = false
 tap_names packet (Some tap) = is_named tap.pids packet
 
--- some tap names the packet
+-- the tap of some demux node names the packet
 unfoldable pub is_tapped : History → List ℕ → Bool
 is_tapped h packet = list_any (λ node. tap_names packet (tap_of node h)) (range_with_len 0 DEMUX_NODES)
 

@@ -1,4 +1,5 @@
--- What was set: who owns a node, with what size, filter and PIDs.
+-- What was set: who owns a node, with what size, filter and PIDs. Only accepted entries count.
+-- Source: the Linux media API, chapter Digital TV demux (open, close, DMX_SET_BUFFER_SIZE, DMX_SET_FILTER, DMX_SET_PES_FILTER, DMX_ADD_PID, DMX_REMOVE_PID); one owner a node is this project's rule.
 use Rattle.std.specs.Prelude.{ℕ, Bool, true, false, List, [], ◌∷◌, Option, Some, None, option_map, unwrap_or}
 use Rattle.std.specs.List.{list_any}
 use Rattle.pid_set.specs.Pids.{with_pid, without_pid}
@@ -22,6 +23,7 @@ tenure h = since opens closes (accepted h)
 unfoldable pub owner : History → Option ℕ
 owner h = option_map (λ t. t.by.entry.who) (tenure h)
 
+-- the size that a SetSize names
 abbrev pub size_in : Event → Option ℕ
 size_in ev = elim (ev.entry.invocation) [ SetSize size ↦ Some size | _ ↦ None ]
 
@@ -35,7 +37,7 @@ size h = size_or DEMUX_SIZE h
 unfoldable pub dvr_size : History → ℕ
 dvr_size h = size_or DVR_SIZE h
 
--- what the last set call asked for
+-- what a set call asked for
 pub data Params : Type 0 where
   Empty : Params
   Section : SectionParams → Params
@@ -51,6 +53,7 @@ sets ev = elim (ev.entry.invocation) [ SetFilter p now ↦ true | SetPes p now �
 unfoldable pub setting : History → Option Since
 setting h = since sets (λ ev. false) (after_of (tenure h))
 
+-- that of the last set call
 abbrev pub params_of : Option Since → Params
 params_of None = Empty
 params_of (Some s) = params_in s.by
