@@ -346,24 +346,11 @@ fn an_assembler_begins_anew_where_it_is_cleared(rt: HostRuntime) -> Result<(), F
     assembler.clear(256);
     assembler.push(&packet_of(X1));
     assert!(rt; assembler.next().is_none());
-    assembler.push(&packet_of(X1));
-    assert!(rt; assembler.next().is_none());
-    assembler.push(&packet_of(X2));
-    let x = x();
-    assert_eq!(rt; assembler.next(), Some(x.as_slice()));
-    assert_eq!(rt; assembler.next(), Some(A.as_slice()));
-    assert!(rt; assembler.next().is_none());
-    assembler.clear(256);
-    assembler.push(&packet_of(X1));
-    assert!(rt; assembler.next().is_none());
     assembler.clear(256);
     assembler.push(&packet_of(X2));
     assert_eq!(rt; assembler.next(), Some(A.as_slice()));
     assert!(rt; assembler.next().is_none());
     assembler.push(&packet_of(Sent(&[0x47, 0x41, 0x01, 0x12, 0x00, 0x44, 0x30, 0x00], 0xff)));
-    assert!(rt; assembler.next().is_none());
-    assembler.clear(257);
-    assembler.push(&packet_of(A2));
     assert!(rt; assembler.next().is_none());
     Ok(())
 }
