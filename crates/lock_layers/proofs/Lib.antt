@@ -1,0 +1,5 @@
+pub mod Adds
+pub mod Lists
+pub mod Joins
+pub mod Feeds
+pub mod Passes
