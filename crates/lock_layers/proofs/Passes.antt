@@ -42,9 +42,9 @@ pub may_push : {N : Type 0} (ps : List (TableId × View N)) (p : TableId × View
 may_push {N = N} ps p may left i q e = ⊎_elim (λ x. may i q x) (λ x. subst (λ (z : TableId × View N). 0 < z.1.left) x.1 left) (at_end ps p q i e)
 
 module _ {N : Type 0} (t : TableId) where
-  -- each has calls left
-  pub fresh_ready : (n : ℕ) (ps : List (TableId × View N)) → AreFresh t n ps → All (λ p. (p.0 ≡ t) × (1000 ≤ p.1.left)) ps
-  fresh_ready n ps f = each_all (λ (p : TableId × View N). (p.0 ≡ t) × (1000 ≤ p.1.left)) ps
+  -- each has k calls left
+  pub fresh_ready : (k n : ℕ) (ps : List (TableId × View N)) → k ≤ 2 ^ 44 → AreFresh t n ps → All (λ p. (p.0 ≡ t) × (k ≤ p.1.left)) ps
+  fresh_ready k n ps few f = each_all (λ (p : TableId × View N). (p.0 ≡ t) × (k ≤ p.1.left)) ps
       (λ i p e. let is = f i p e in (ap (λ (z : TableId × View N). z.0) is, (let left : p.1.left ≡ 2 ^ 44 = ap (λ (z : TableId × View N). z.1.left) is in omega arith)))
 
   -- they are all passes

@@ -1,4 +1,4 @@
-use Rattle.std.proofs.Common.{rules, ◌≡◌, sym, subst, length, drop}
+use Rattle.std.proofs.Common.{rules, arith, ◌≡◌, sym, subst, length, drop}
 use Rattle.node_lock.specs.Passes.{AreFresh}
 use Rattle.lock_layers.specs.Rows.{AreAll}
 use Rattle.lock_layers.proofs.Passes.{take_seam, fresh_ready, fresh_all, same_all}
@@ -7,7 +7,7 @@ use Rattle.lock_layers.proofs.tests.eight.Goals as goal
 pub make_beside-requires-clause-all : goal.make_beside-requires-clause-all
 make_beside-requires-clause-all g c κs within =
     let ps = c.deref_mut.result.now in let e : ps ≡ c.args.passes.items = search rules in
-    fresh_ready c.args.lock 8 ps (subst (AreFresh c.args.lock 8) (sym e) c.requires.1)
+    fresh_ready c.args.lock 1000 8 ps (omega arith) (subst (AreFresh c.args.lock 8) (sym e) c.requires.1)
 
 pub finish-requires-clause-all : goal.finish-requires-clause-all
 finish-requires-clause-all g c κs =

@@ -1,0 +1,150 @@
+//! Calls a machine that adds from several threads, through the ticket lock or through a `Mutex` of the library.
+//!
+//! A program to measure the lock with; `bench/lock` runs it. Its words are `lock` or `mutex`, the number of threads, 1 to
+//! 64, and how many calls each of them makes, below 2^32. A call adds 1, and the program prints the sum.
+//!
+//! What is proved: no call goes past a bound, and no thread makes a call that its pass has not left. That the sum is the
+//! number of threads times the calls of each is tested.
+#![tactic(auto)]
+
+ghost use Rattle.std.specs.Prelude.{◌≡◌, ◌<◌, ◌≤◌, ◌^◌, ℕ, All, length, slice_index_or, vec_len};
+ghost use Rattle.node_lock.specs.Passes.{IsSamePass, AreFresh};
+
+mod counted;
+
+use crate::counted::Counted;
+use lock_layers::{Adder, finish};
+use node_lock::{NodeLock, Pass};
+use std::alloc::{AllocError as NoMemory, Global};
+use std::marker::Brand;
+use std::sync::ledger::{Blank, Ledger};
+use std::sync::{Mutex, Wait};
+use std::thread::Threads;
+use std::{env, thread};
+use steps::Steps;
+
+// Makes the calls of one thread through the lock.
+fn call_lock<L: Ledger, R: Wait>(
+    rt: &R,
+    lock: &NodeLock<Adder>,
+    pass: &mut Pass<Adder>,
+    calls: u32,
+    blank: Blank,
+)
+    requires own { pass.old.0 ≡ lock.now }
+    requires left { calls ≤ pass.old.1.left }
+    requires ledger { (blank.name ≡ L.name) × (blank.parts ≡ L.parts) × (0 < L.parts) }
+    ensures { IsSamePass pass.old pass.new }
+{
+    let mut steps: Steps<L> = Steps::new(blank);
+    for _ in 0..calls {
+        let _ = lock.call(rt, pass, 1, &mut steps);
+    }
+}
+
+fn call_lock_often<R: Wait>(rt: &R, lock: &NodeLock<Adder>, pass: &mut Pass<Adder>, calls: u32)
+    requires own { pass.old.0 ≡ lock.now }
+    requires left { calls ≤ pass.old.1.left }
+    ensures { IsSamePass pass.old pass.new }
+{
+    call_lock::<Brand, R>(rt, lock, pass, calls, Blank::new(1))
+}
+
+// One thread for each pass makes its calls.
+fn call_beside<R: Threads + Wait + Sync>(
+    rt: &R,
+    lock: &NodeLock<Adder>,
+    passes: &mut [Pass<Adder>],
+    calls: u32,
+)
+    requires all { All (λ p. (p.0 ≡ lock.now) × (calls ≤ p.1.left)) passes.old }
+    ensures long { length passes.new ≡ length passes.old }
+    ensures same { (i : ℕ) (d : _) → i < length passes.old → IsSamePass (slice_index_or passes.old i d) (slice_index_or passes.new i d) }
+{
+    let threads = passes.len().max(1);
+    let work = |_: usize, pass: &mut Pass<Adder>|
+        requires { (pass.old.0 ≡ lock.now) × (calls ≤ pass.old.1.left) }
+        ensures { IsSamePass pass.old pass.new }
+    { call_lock_often(rt, lock, pass, calls) };
+    thread::for_each_mut(rt, passes, threads, &work);
+}
+
+// The sum after the calls of all passes.
+fn sum_of_calls<R: Threads + Wait + Sync>(
+    rt: &R,
+    lock: NodeLock<Adder>,
+    mut passes: Vec<Pass<Adder>>,
+    calls: u32,
+    threads: u32,
+) -> u64
+    requires fresh { (vec_len passes ≡ threads) × AreFresh lock threads passes.items }
+    requires some { 1 ≤ threads }
+{
+    call_beside(rt, &lock, &mut passes, calls);
+    let (adder, _) = finish(lock, passes);
+    adder.sum()
+}
+
+fn through_lock<R: Threads + Wait + Sync>(
+    rt: &R,
+    alloc: Global,
+    threads: u32,
+    calls: u32,
+) -> Result<u64, NoMemory>
+    requires { (1 ≤ threads) × (threads ≤ 64) }
+{
+    let Ok((lock, passes)) = NodeLock::new(alloc, Adder::new(), threads) else {
+        return Err(NoMemory);
+    };
+    Ok(sum_of_calls(rt, lock, passes, calls, threads))
+}
+
+// Makes the calls of one thread through the mutex, and answers the last sum.
+fn call_mutex<L: Ledger, R: Wait>(rt: &R, shared: &Mutex<Counted>, calls: u32, blank: Blank) -> u64
+    requires ledger { (blank.name ≡ L.name) × (blank.parts ≡ L.parts) × (0 < L.parts) }
+{
+    let mut steps: Steps<L> = Steps::new(blank);
+    let mut last = 0;
+    for _ in 0..calls {
+        last = shared.lock(rt).add(&mut steps);
+    }
+    last
+}
+
+fn call_mutex_often<R: Wait>(rt: &R, shared: &Mutex<Counted>, calls: u32) -> u64 {
+    call_mutex::<Brand, R>(rt, shared, calls, Blank::new(1))
+}
+
+fn through_mutex<R: Threads + Wait + Sync>(
+    rt: &R,
+    alloc: Global,
+    threads: u32,
+    calls: u32,
+) -> Result<u64, NoMemory>
+    requires { 1 ≤ threads }
+{
+    let shared = Mutex::new(Counted::new());
+    let mut lasts = vec![in alloc; 0u64; threads as usize]?;
+    let work = |_: usize, last: &mut u64| *last = call_mutex_often(rt, &shared, calls);
+    thread::for_each_mut(rt, &mut lasts, threads as usize, &work);
+    Ok(shared.lock(rt).sum())
+}
+
+// The number that a word says, or 1.
+fn number(word: Option<String>) -> u32 {
+    word.and_then(|text| text.parse().ok()).unwrap_or(1)
+}
+
+fn main(rt: HostRuntime) -> anyhow::Result<()> {
+    let mut words = env::args(&rt)?.skip(1);
+    let lock = words.next().is_some_and(|word| word.as_str() == "lock");
+    let threads = number(words.next()).clamp(1, 64);
+    let calls = number(words.next());
+    let sum = if lock {
+        through_lock(&rt, rt.alloc(), threads, calls)?
+    } else {
+        through_mutex(&rt, rt.alloc(), threads, calls)?
+    };
+    println!(rt; "sum={sum}")?;
+    Ok(())
+}
