@@ -1,12 +1,12 @@
 -- Items that arrive one by one, and the same items at once.
-use Rattle.std.proofs.Common.{ℕ, zero, suc, ◌+◌, ◌-◌, ◌<◌, ◌≤◌, ◌≡◌, refl, sym, ◌∙◌, ap, Bool, true, false, List, [], ◌∷◌, ◌++◌, Option, Some, None, length, arith, append_assoc, length-append, add-zero, add_assoc, one-add}
+use Rattle.std.proofs.Common.{ℕ, ◌+◌, ◌-◌, ◌≤◌, ◌≡◌, refl, ◌∙◌, ap, Bool, true, false, List, [], ◌∷◌, ◌++◌, Option, Some, None, length, arith, append_assoc, length-append, add-zero, add_assoc, one-add}
 use Rattle.std.specs.Prelude.{nat_lt, if◌then◌else◌}
 use Rattle.std.specs.List.{concat}
 use Rattle.std.proofs.lemmas.List.{append-nil}
-use Rattle.dmx_calls.specs.Ledger.{Misfit, misfit}
+use Rattle.dmx_calls.specs.Ledger.{Misfit}
 use Rattle.dmx_calls.specs.Facts.{Ledger, unread_of}
 use Rattle.dmx_calls.proofs.Ledgers.{over_after}
-use Rattle.node_core.specs.Step.{with_lost, with_misfit, with_kept, with_item_by, with_item, with_items}
+use Rattle.node_core.specs.Step.{with_lost, with_misfit, with_kept, with_item_by, with_items}
 use Rattle.node_core.specs.Sound.{UnreadFits}
 
 pub record Fits (l : Ledger) : Type 0 where

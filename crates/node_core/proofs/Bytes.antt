@@ -1,5 +1,5 @@
 -- Bytes that lie in two pieces.
-use Rattle.std.proofs.Common.{ℕ, min, ◌+◌, ◌-◌, ◌<◌, ◌≤◌, ◌≡◌, refl, ap, sym, ◌∙◌, inl, inr, List, [], ◌∷◌, ◌++◌, length, take, arith}
+use Rattle.std.proofs.Common.{ℕ, min, ◌+◌, ◌-◌, ◌≡◌, ap, sym, ◌∙◌, inl, inr, List, ◌++◌, length, take, arith}
 use Rattle.std.proofs.lemmas.Bool.{cases_lt}
 use Rattle.std.proofs.lemmas.List.{take-append-le, take_all, append-nil}
 use Rattle.std.proofs.Math.Seq.{take-append-add}

@@ -1,5 +1,5 @@
 -- Each call: its answer by the facts alone, and the facts after it.
-use Rattle.std.proofs.Common.{ℕ, zero, suc, ◌+◌, ◌-◌, ◌≡◌, refl, sym, ◌∙◌, ap, subst, Bool, true, false, not, List, [], ◌∷◌, Option, Some, None, length, take, arith}
+use Rattle.std.proofs.Common.{ℕ, zero, suc, ◌≡◌, refl, sym, ◌∙◌, ap, subst, Bool, true, false, List, [], ◌∷◌, Option, Some, None, take}
 use Rattle.std.specs.Prelude.{if◌then◌else◌, nat_eq}
 use Rattle.dmx_calls.specs.declared.node.NodeKind.TheVariants.{Demux}
 use Rattle.dmx_calls.specs.declared.reply.Errno.{Errno}
@@ -9,17 +9,17 @@ use Rattle.dmx_calls.specs.declared.params.Output.TheVariants.{Decoder, Tap, TsT
 use Rattle.dmx_calls.specs.declared.params.Input.{Input}
 use Rattle.dmx_calls.specs.declared.params.PesParams.{PesParams}
 use Rattle.dmx_calls.specs.Invocation.{Invocation, Open, Close, SetFilter, SetPes, AddPid, RemovePid, Start, Stop, SetSize, Read, Poll, Pass, End, Attach, Detach}
-use Rattle.dmx_calls.specs.Response.{TapChange, KeepTap, Response, Done, Busy, Refused, Data, Again, Overflow, Passed, is_accepted}
-use Rattle.dmx_calls.specs.History.{Entry, Event, History, entry_of, event, Since}
+use Rattle.dmx_calls.specs.Response.{TapChange, KeepTap, Response, Done, Busy, Refused, Data, Again, Passed, is_accepted}
+use Rattle.dmx_calls.specs.History.{History, entry_of, Since}
 use Rattle.dmx_calls.specs.Tenure.{tenure, owner, size, Params, Empty, Section, Pes}
 use Rattle.dmx_calls.specs.Capture.{capture}
-use Rattle.dmx_calls.specs.Rules.{demux, tells_timeout}
-use Rattle.dmx_calls.specs.Ledger.{Misfit, answered_in, is_overflow, answered, total, over}
+use Rattle.dmx_calls.specs.Rules.{demux}
+use Rattle.dmx_calls.specs.Ledger.{Misfit, answered, total, over}
 use Rattle.dmx_calls.specs.Facts.{Ledger, Facts, ledger_at, ledger_of, facts}
-use Rattle.dmx_calls.specs.Answer.{is_for_anybody, is_owned_by, is_same_size, refusal_to, is_recording, tap_of_done, most_bytes, read_bytes, read_over, read_response, expired_of, done_dropping, response_to, with_call, answer}
+use Rattle.dmx_calls.specs.Answer.{is_for_anybody, is_owned_by, refusal_to, is_recording, tap_of_done, most_bytes, read_over, read_response, expired_of, done_dropping, response_to, with_call, answer}
 use Rattle.dmx_calls.proofs.After.{facts_refused, facts_opened, facts_closed, facts_started, facts_set_pes, facts_resized, stays_read, stays_same_size}
 use Rattle.node_core.specs.Step.{moved, next}
-use Rattle.node_core.specs.Sound.{is_ts_tap, Coherent, IsSoundBy, IsSoundFor, IsSound}
+use Rattle.node_core.specs.Sound.{is_ts_tap, IsSoundFor, IsSound}
 use Rattle.node_core.specs.Gives.{settled}
 use Rattle.node_core.specs.Stands.{IsBuilt}
 use Rattle.node_core.proofs.Facts.{Moves, sound_capture, run_is, still, stop_moves, ReadGives, gives_bytes, gives_again, gives_over, read_moves, read_idle, pass_moves, end_moves}

@@ -1,18 +1,17 @@
 -- The facts of a history with one entry more, as the step of the facts before: calls by which a capture goes on.
-use Rattle.std.proofs.Common.{ℕ, zero, suc, ◌+◌, ◌-◌, ◌≤◌, ◌≡◌, refl, sym, ◌∙◌, ap, Bool, true, false, not, ◌||◌, List, [], ◌∷◌, ◌++◌, Option, Some, None, length, drop, arith, zero-add}
-use Rattle.std.specs.Prelude.{if◌then◌else◌, nat_eq, option_map}
-use Rattle.std.proofs.lemmas.List.{append-nil}
+use Rattle.std.proofs.Common.{ℕ, ◌+◌, ◌-◌, ◌≤◌, ◌≡◌, refl, sym, ◌∙◌, ap, Bool, true, false, ◌||◌, List, [], ◌∷◌, ◌++◌, Option, Some, None, drop, arith, zero-add}
+use Rattle.std.specs.Prelude.{if◌then◌else◌, option_map}
 use Rattle.dmx_calls.specs.declared.params.Input.{Input}
 use Rattle.dmx_calls.specs.declared.params.Output.{Output}
 use Rattle.dmx_calls.specs.declared.params.PesParams.{PesParams}
-use Rattle.dmx_calls.specs.Invocation.{Invocation, Stop, SetSize, Read, Pass, End}
+use Rattle.dmx_calls.specs.Invocation.{Invocation, Stop, Read, Pass, End}
 use Rattle.dmx_calls.specs.Response.{Response, Data, Again, Overflow, Passed, is_accepted}
-use Rattle.dmx_calls.specs.History.{Entry, Event, History, entry_of, event, Since, also}
-use Rattle.dmx_calls.specs.Tenure.{opens, closes, tenure, owner, size, Params, Empty, Section, Pes, params, pids, pids_with, is_end, has_ended}
+use Rattle.dmx_calls.specs.History.{Entry, History, entry_of, event, Since}
+use Rattle.dmx_calls.specs.Tenure.{opens, closes, tenure, owner, size, Params, Empty, Section, Pes, params, pids, pids_with, is_end}
 use Rattle.dmx_calls.specs.Capture.{capture, stops, is_stopped}
 use Rattle.dmx_calls.specs.Items.{is_same_input, picked, packets_in, items}
-use Rattle.dmx_calls.specs.Rules.{demux, tells_timeout, is_told, expired}
-use Rattle.dmx_calls.specs.Ledger.{Misfit, answered_in, is_overflow, joined, total, answered, over}
+use Rattle.dmx_calls.specs.Rules.{demux, tells_timeout, expired}
+use Rattle.dmx_calls.specs.Ledger.{answered_in, is_overflow, joined, total, answered, over}
 use Rattle.dmx_calls.specs.Facts.{Ledger, Facts, unread_of, ledger_at, ledger_of, facts}
 use Rattle.dmx_calls.proofs.Going.{Stays, params_stays, pids_after_same, tenure_stays}
 use Rattle.dmx_calls.proofs.Growth.{is_stopped_after, expired_pes, items_quiet, items_stopped, items_passed}
@@ -20,7 +19,7 @@ use Rattle.dmx_calls.proofs.Ledgers.{any_more, ledger_overflow, ledger_quiet}
 use Rattle.dmx_calls.proofs.After.{facts_free, facts_stays, facts_idle, stays_read, stays_pass, stays_end, stays_stop, pids_stay}
 use Rattle.node_core.specs.Step.{with_items, with_pass, with_response, with_stop, arriving, moved}
 use Rattle.node_core.specs.Sound.{Coherent, IsSoundFor, IsSound}
-use Rattle.node_core.proofs.Arrivals.{Fits, at_once, with_items-at_once}
+use Rattle.node_core.proofs.Arrivals.{with_items-at_once}
 
 -- ------ a node with a capture
 

@@ -1,10 +1,10 @@
 -- A node that makes a call goes on to stand for the history with that entry.
-use Rattle.std.proofs.Common.{ℕ, ◌+◌, ◌≡◌, refl, sym, ◌∙◌, ap, subst, [], ◌∷◌, length, inl, inr, add-one}
+use Rattle.std.proofs.Common.{ℕ, ◌+◌, ◌≡◌, refl, sym, ◌∙◌, ap, subst, ◌∷◌, length, inl, inr, add-one}
 use Rattle.dmx_calls.specs.Invocation.{Invocation}
 use Rattle.dmx_calls.specs.Response.{Response, NoMemory}
 use Rattle.dmx_calls.specs.History.{History, entry_of}
 use Rattle.dmx_calls.specs.Rules.{demux}
-use Rattle.dmx_calls.specs.Facts.{Facts, facts}
+use Rattle.dmx_calls.specs.Facts.{facts}
 use Rattle.dmx_calls.specs.Legal.{May}
 use Rattle.dmx_calls.proofs.After.{facts_refused}
 use Rattle.node_core.specs.Step.{next}

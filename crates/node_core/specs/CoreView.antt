@@ -1,5 +1,5 @@
 -- How a node's fields are seen, and what holds of them.
-use Rattle.std.specs.Prelude.{ℕ, ◌≤◌, ◌*◌, ◌^◌}
+use Rattle.std.specs.Prelude.{◌≤◌, ◌*◌, ◌^◌}
 use Rattle.node_core.specs.declared.node.NodeCore.TheInside.{Inside}
 use Rattle.node_core.specs.KeptView.{facts_of}
 use Rattle.node_core.specs.Sound.{IsSound, total_of}

@@ -1,5 +1,5 @@
 -- What it means that a node stands for a history.
-use Rattle.std.specs.Prelude.{ℕ, ◌≡◌, false, List, length}
+use Rattle.std.specs.Prelude.{ℕ, ◌≡◌, false, length}
 use Rattle.dmx_calls.specs.Invocation.{Invocation, SetFilter, SetPes, AddPid, RemovePid, Poll, Pass, Attach, Detach}
 use Rattle.dmx_calls.specs.History.{History}
 use Rattle.dmx_calls.specs.Rules.{demux}

@@ -1,10 +1,10 @@
 -- How the facts of a demux node go on with an accepted call, as far as the calls are built. The proofs alone use it: no public contract cites it.
-use Rattle.std.specs.Prelude.{ℕ, zero, suc, min, take, ◌≡◌, ◌≤◌, ◌+◌, ◌-◌, Bool, true, false, nat_eq, nat_lt, if◌then◌else◌, List, [], ◌∷◌, ◌++◌, length, drop, Option, Some, None, option_map}
+use Rattle.std.specs.Prelude.{ℕ, zero, suc, min, take, ◌+◌, ◌-◌, Bool, true, false, nat_eq, nat_lt, if◌then◌else◌, List, [], ◌∷◌, ◌++◌, length, drop, Option, Some, None, option_map}
 use Rattle.dmx_calls.specs.declared.params.Input.{Input}
 use Rattle.dmx_calls.specs.declared.limits.TheConstants.{DEMUX_SIZE, IMMEDIATE_START}
-use Rattle.dmx_calls.specs.Invocation.{Invocation, Open, Close, SetFilter, SetPes, AddPid, RemovePid, Start, Stop, SetSize, Read, Poll, Pass, End, Attach, Detach}
+use Rattle.dmx_calls.specs.Invocation.{Invocation, Open, Close, SetPes, Start, Stop, SetSize, Read, Pass, End}
 use Rattle.dmx_calls.specs.Response.{Response, Data, Again, Overflow, is_accepted}
-use Rattle.dmx_calls.specs.Tenure.{Params, Empty, Section, Pes}
+use Rattle.dmx_calls.specs.Tenure.{Params, Empty, Pes}
 use Rattle.dmx_calls.specs.Capture.{has_flag}
 use Rattle.dmx_calls.specs.Items.{is_same_input, picked}
 use Rattle.dmx_calls.specs.Ledger.{Misfit}

@@ -108,7 +108,7 @@ impl Buffer {
         ensures after { self.new ≡ record { size = self.old.size; ledger = Some (begun now) } }
         ensures holds { CoherentIn self.new.ledger }
     {
-        self.ring.flush();
+        self.end();
         self.capture = Some(Capture {
             started: now,
             is_stopped: false,
@@ -192,7 +192,7 @@ impl Buffer {
             capture.over = None;
             let reply = Reply::Overflow {
                 from,
-                to: capture.total,
+                to: capture.answered,
                 item: lost.item,
                 need: lost.need,
                 room: lost.room,

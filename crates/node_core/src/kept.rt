@@ -103,15 +103,14 @@ impl Kept {
         ensures sound { IsSound (facts_of self.new) }
         ensures total { total_of (facts_of self.new).ledger ≤ total_of (facts_of self.old).ledger }
     {
-        let Some(tenure) = &self.tenure else {
-            return Reply::Refused(Errno::Ebadf);
-        };
-        if tenure.owner != who {
-            return Reply::Refused(Errno::Ebadf);
+        match &self.tenure {
+            Some(tenure) if tenure.owner == who => {
+                let dropped = tenure.buffer.unread();
+                self.tenure = None;
+                done(dropped)
+            }
+            _ => Reply::Refused(Errno::Ebadf),
         }
-        let dropped = tenure.buffer.unread();
-        self.tenure = None;
-        done(dropped)
     }
 
     /// A filter is set, and starts at once where its flags say so.

@@ -22,5 +22,7 @@ mod buffer;
 mod filter;
 mod kept;
 mod node;
+#[cfg(test)]
+mod tests;
 
 pub use node::NodeCore;

@@ -1,4 +1,4 @@
-use Rattle.std.proofs.Common.{rules, ◌≡◌, refl, ap, take}
+use Rattle.std.proofs.Common.{rules, refl}
 use Rattle.node_core.proofs.Bytes.{take-two}
 use Rattle.node_core.proofs.buffer.fill.Goals as goal
 

@@ -1,7 +1,6 @@
-use Rattle.std.proofs.Common.{◌≡◌, ◌≤◌, ◌+◌, ◌*◌, ◌-◌, [], ◌∷◌, ℕ, List, Option, take}
+use Rattle.std.proofs.Common.{◌≡◌, ◌≤◌, ◌+◌, ◌*◌, ◌-◌, [], ◌∷◌, ℕ, List, take}
 use Rattle.std.specs.Prelude.{option_map}
 use Rattle.dmx_calls.specs.declared.params.Output.{Output}
-use Rattle.dmx_calls.specs.Facts.{Ledger}
 use Rattle.dmx_calls.specs.Items.{picked}
 use Rattle.node_core.specs.Step.{with_items}
 use Rattle.node_core.specs.Sound.{CoherentIn, total_of}
