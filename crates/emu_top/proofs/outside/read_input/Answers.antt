@@ -1,4 +1,4 @@
-use Rattle.std.proofs.Common.{◌≡◌, ◌≤◌, ◌++◌, length, take, length-append, arith, ℕ}
+use Rattle.std.proofs.Common.{◌++◌, take, length-append, arith, ℕ}
 use Rattle.std.proofs.lemmas.List.{length-take}
 use Rattle.std.proofs.KnownBytes.{Consumes-trans}
 use Rattle.emu_top.proofs.outside.read_input.Goals as goal
