@@ -14,6 +14,7 @@ pub record HasMode (f : SectionFilter) (i k mode : ℕ) : Type 0 where
   pub is_masked : bit_of f.mask i k ≡ 1
   pub has_mode : bit_of f.mode i k ≡ mode
 
+-- The section matches. The API: bits with mode 0 have to be equal, and of those with mode 1 at least one has to differ.
 pub record IsMatch (f : SectionFilter) (s : List ℕ) : Type 0 where
   -- each filter byte with a mask other than 0 stands against a byte that the section has
   pub reaches : (i : ℕ) → i < 16 → slice_index f.mask i ≢ 0 → place_of i < length s

@@ -25,10 +25,10 @@ after_bit register bit =
 unfoldable pub crc : List ℕ → ℕ
 crc bytes = fold after_bit 0xFFFFFFFF (flat_map bits_of bytes)
 
--- a CRC as a section carries it: four bytes, the most significant first (2.4.4.3, CRC_32)
+-- a CRC as a section carries it: four bytes, the most significant first (2.4.4.5, CRC_32)
 abbrev pub carried : ℕ → List ℕ
 carried n = n / 2 ^ 24 % 256 ∷ n / 2 ^ 16 % 256 ∷ n / 2 ^ 8 % 256 ∷ n % 256 ∷ []
 
--- What CRC_32 is for (2.4.4.3): with its own CRC behind it, whatever the bytes, the CRC is 0.
+-- What CRC_32 is for (2.4.4.5): over any bytes with their own CRC behind them the register ends as 0.
 abbrev pub WithItsCrcIsZero : List ℕ → Type 0
 WithItsCrcIsZero bytes = crc (bytes ++ carried (crc bytes)) ≡ 0

@@ -1,6 +1,6 @@
 //! The CRC of a section, which its last four bytes make 0.
 //!
-//! Sections with section_syntax_indicator 1 end with CRC_32 (ISO/IEC 13818-1, 2.4.4), whose rule is the decoder model
+//! Sections with section_syntax_indicator 1 end with CRC_32 (ISO/IEC 13818-1, 2.4.4.5), whose rule is the decoder model
 //! of Annex A: a register of 32 bits, all ones at first, the polynomial 0x04C11DB7, the most significant bit of each
 //! byte first, and no inversion at the end. Elsewhere it is called CRC-32/MPEG-2.
 //!
