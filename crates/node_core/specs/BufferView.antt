@@ -8,9 +8,11 @@ use Rattle.node_core.specs.declared.buffer.Lost.{Lost}
 use Rattle.node_core.specs.declared.buffer.Capture.{Capture}
 use Rattle.node_core.specs.declared.buffer.Buffer.TheInside.{Inside}
 
+-- the first item that didn't fit
 abbrev pub misfit_of : Lost → Misfit
 misfit_of x = record { item = x.item; need = x.need; room = x.room }
 
+-- the ledger, over the bytes that the ring holds
 abbrev pub ledger_of : List ℕ → Capture → Ledger
 ledger_of unread c = record {
   started = c.started;
@@ -25,9 +27,11 @@ ledger_of unread c = record {
   rest = 0;
 }
 
+-- the size is the ring's
 abbrev pub buffer_view : Inside → BufferValue
 buffer_view b = record { size = b.ring.size; ledger = option_map (ledger_of b.ring.bytes) b.capture }
 
+-- The ring holds what isn't answered: nothing without a capture, and nothing while an overflow is pending. Each item has at least one byte.
 abbrev pub CaptureHolds : Option Capture → List ℕ → Type 0
 CaptureHolds None unread = unread ≡ []
 CaptureHolds (Some c) unread =

@@ -16,7 +16,7 @@ abbrev pub UnreadFits : Option Misfit → List ℕ → ℕ → Type 0
 UnreadFits (Some misfit) unread left = unread ≡ []
 UnreadFits None unread left = length unread ≡ left
 
--- no filter expires yet, and none has sections
+-- A capture's ledger: no more was answered than arrived, an item has at least one byte, and what may be read is what isn't answered. No filter expires yet, and none has sections.
 pub record Coherent (l : Ledger) : Type 0 where
   pub answered : l.answered ≤ l.total
   pub unread : UnreadFits l.over l.unread (l.total - l.answered)
@@ -33,6 +33,7 @@ IsSoundBy (Section p) ledger = ⊥
 IsSoundBy (Pes p) None = is_ts_tap p.output ≡ false
 IsSoundBy (Pes p) (Some l) = (is_ts_tap p.output ≡ false) × Coherent l
 
+-- a node without an owner has no filter and no capture
 abbrev pub IsSoundFor : Option ℕ → Params → Option Ledger → Type 0
 IsSoundFor None params ledger = (params ≡ Empty) × (ledger ≡ None)
 IsSoundFor (Some who) params ledger = IsSoundBy params ledger
@@ -50,6 +51,7 @@ abbrev pub place_of : Option Ledger → ℕ
 place_of None = 0
 place_of (Some l) = l.answered
 
+-- of the capture, if there is one
 abbrev pub CoherentIn : Option Ledger → Type 0
 CoherentIn None = Unit {0}
 CoherentIn (Some l) = Coherent l

@@ -12,6 +12,7 @@ use Rattle.dmx_calls.specs.Facts.{Ledger, Facts}
 
 -- ------ a capture
 
+-- one that begins at this moment
 abbrev pub begun : (now : ℕ) → Ledger
 begun now = record { started = now; is_stopped = false; expired = None; is_told = false; count = 0; total = 0; answered = 0; over = None; unread = []; rest = 0 }
 
@@ -28,6 +29,7 @@ with_misfit room l item =
 abbrev pub with_kept : Ledger → List ℕ → Ledger
 with_kept l item = record l { count = l.count + 1; total = l.total + length item; unread = l.unread ++ item }
 
+-- an item arrives: behind one that didn't fit it is lost, and else it is kept where it isn't longer than the room
 abbrev pub with_item_by : Option Misfit → (capacity : ℕ) → Ledger → List ℕ → Ledger
 with_item_by (Some misfit) capacity l item = with_lost l item
 with_item_by None capacity l item =
@@ -36,11 +38,12 @@ with_item_by None capacity l item =
 abbrev pub with_item : (capacity : ℕ) → Ledger → List ℕ → Ledger
 with_item capacity l item = with_item_by l.over capacity l item
 
+-- these items arrive, one after another
 abbrev pub with_items : (capacity : ℕ) → Ledger → List (List ℕ) → Ledger
 with_items capacity l [] = l
 with_items capacity l (item ∷ items) = with_items capacity (with_item capacity l item) items
 
--- what a Read answers where a capture is there and has not expired
+-- what a Read answers: no bytes without a capture; else the pending overflow; else no bytes for a count of 0; else Again where all is answered; else bytes
 abbrev pub bytes_read : (ended : Bool) → Ledger → (count : ℕ) → Response
 bytes_read ended l zero = Data []
 bytes_read ended l (suc fewer) =
@@ -54,11 +57,13 @@ abbrev pub read_by : (ended : Bool) → Option Ledger → (count : ℕ) → Resp
 read_by ended None count = Data []
 read_by ended (Some l) count = over_read l.over ended l count
 
+-- a Read was answered so: Data moves the place on by its bytes, Overflow to the end, and nothing else moves it
 abbrev pub with_response : Response → Ledger → Ledger
 with_response (Data bytes) l = record l { answered = length bytes + l.answered; unread = drop (length bytes) l.unread }
 with_response (Overflow from to item need room) l = record l { answered = l.total; unread = []; over = None }
 with_response _ l = l
 
+-- a Stop came
 abbrev pub with_stop : Ledger → Ledger
 with_stop l = record l { is_stopped = true }
 
@@ -69,9 +74,11 @@ abbrev pub arriving : Params → List ℕ → Input → List (List ℕ) → List
 arriving (Pes p) pids input packets = if is_same_input input p.input then picked p.output pids packets else []
 arriving _ pids input packets = []
 
+-- a pass brings these items, unless a Stop came before
 abbrev pub with_pass : (capacity : ℕ) → List (List ℕ) → Ledger → Ledger
 with_pass capacity items l = if l.is_stopped then l else with_items capacity l items
 
+-- an accepted call with this response
 abbrev pub moved : Facts → (who : ℕ) → Invocation → Response → Facts
 moved f who Open r = record { has_ended = f.has_ended; owner = Some who; size = DEMUX_SIZE; params = Empty; pids = []; ledger = None }
 moved f who Close r = record { has_ended = f.has_ended; owner = None; size = DEMUX_SIZE; params = Empty; pids = []; ledger = None }
@@ -84,5 +91,6 @@ moved f who (Pass input first packets now) r = record f { ledger = option_map (w
 moved f who End r = record f { has_ended = true }
 moved f who _ r = f
 
+-- any call with this response
 abbrev pub next : Facts → (who : ℕ) → Invocation → Response → Facts
 next f who call r = if is_accepted r then moved f who call r else f

@@ -21,7 +21,7 @@ use std::marker::Model;
 use std::sync::ledger::Ledger;
 use steps::Steps;
 
-/// A demux node: an object on which calls are made one after another.
+/// A demux node. Fewer than 2^50 calls may be made on it.
 #[derive(Drop)]
 pub struct NodeCore {
     alloc: Global,
@@ -138,7 +138,8 @@ impl NodeCore {
         self.entries
     }
 
-    /// Makes a call.
+    /// Makes a call for the caller `who`, and answers what the node's history says to it. Pass and End are taken from
+    /// whoever makes them.
     pub fn apply<L: Ledger>(&mut self, who: u32, call: Call, steps: &mut Steps<L>) -> Answer
         requires few { self.old.entries < 2 ^ 50 }
         requires built { IsBuilt (invocation_of call) }
