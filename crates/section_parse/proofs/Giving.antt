@@ -15,6 +15,8 @@ pub record Gives (a rest : Assembly) (s : List ℕ) : Type 0 where
   pub whole : IsSection s
   pub some : (packets given : List (List ℕ)) → Assembled packets given a → ¬ (sections packets a.pid ≡ given)
   pub left : rest ≡ without_first a
+  pub some_ready : ¬ (a.ready ≡ [])
+  pub drained : a.ready ≡ [] → rest.ready ≡ []
   pub bytes : bytes_kept rest + length s ≡ bytes_kept a
   pub stands : (packets given : List (List ℕ)) → Assembled packets given a → Assembled packets (given ++ s ∷ []) rest
 
@@ -28,6 +30,8 @@ gives-by pid before o s rest w = record {
   whole = w;
   some = λ packets given h. not-all (sections packets pid) given rest s h.so_far;
   left = refl;
+  some_ready = λ e. cc;
+  drained = λ e. absurd cc;
   bytes = omega (arith, sum_by-cons length s rest);
   stands = λ packets given h. Assembled-next packets given s rest _ refl h;
 }
@@ -66,6 +70,8 @@ pub record GivesNone (a rest : Assembly) : Type 0 where
   pub section : None ≡ slice_get a.ready 0
   pub all : (packets given : List (List ℕ)) → Assembled packets given a → sections packets a.pid ≡ given
   pub left : rest ≡ without_first a
+  pub none_ready : a.ready ≡ []
+  pub drained : a.ready ≡ [] → rest.ready ≡ []
   pub bytes : bytes_kept rest + 0 ≡ bytes_kept a
   pub stands : (packets given : List (List ℕ)) → Assembled packets given a → Assembled packets given rest
 
@@ -75,6 +81,8 @@ gives_none-by pid before o left ready after e f g = rw (e, f, g) (record {
   section = refl;
   all = λ packets given h. h.so_far ∙ append-nil given;
   left = refl;
+  none_ready = refl;
+  drained = λ e. refl;
   bytes = omega arith;
   stands = λ packets given h. h;
 })

@@ -126,5 +126,6 @@ pub record Assembled (packets : List (List ℕ)) (given : List (List ℕ)) (a : 
 -- A section is given, or none: what is left is without it, and stands for the packets with it among the sections given.
 pub record Gave (old : Assembly) (section : Option (List ℕ)) (left : Assembly) : Type 0 where
   pub value : left ≡ without_first old
+  pub drained : old.ready ≡ [] → left.ready ≡ []
   pub bytes : bytes_kept left + length_of section ≡ bytes_kept old
   pub stands : (packets given : List (List ℕ)) → Assembled packets given old → MatchOption section (Assembled packets given left) (λ s. Assembled packets (given ++ s ∷ []) left)

@@ -210,6 +210,7 @@ impl Assembler {
     /// The next section of the packets pushed since `clear`: None exactly where no further one lies in them. Takes no memory.
     pub fn next(&mut self) -> Option<&[u8]>
         ensures section { option_map (λ s. s.now) result ≡ slice_get self.old.ready 0 }
+        ensures drained { IsNone result ↔ (self.old.ready ≡ []) }
         ensures whole { IfSome result (λ s. IsSection s.now) }
         ensures none { (packets given : List (List ℕ)) → Assembled packets given self.old → (IsNone result ↔ (sections packets self.old.pid ≡ given)) }
         ensures* after { sem 𝓛 (Rests the_row self.entry (λ left. Gave self.old (option_map (λ s. s.now) result) left)) }
