@@ -7,7 +7,7 @@ ghost use Rattle.node_lock.specs.Kinds.{drew, made, TellsDone, GetsTurn, Waits, 
 ghost use Rattle.node_lock.specs.Passes.{KnowsItsCalls};
 
 use crate::kinds::{Done, Look, Recall, Says, Take, Try};
-use crate::lock::NodeLock;
+use crate::lock::{MACHINE, NodeLock, SERVED, TICKETS};
 use crate::machine::Machine;
 use crate::view::View;
 use atomic_table::Seat;
@@ -17,15 +17,6 @@ use std::sync::Wait;
 use std::sync::ledger::Ledger;
 use std::thread;
 use steps::Steps;
-
-/// The word that counts the tickets drawn.
-const TICKETS: usize = 0;
-
-/// The word that counts the entries made, which is the ticket that is served.
-const SERVED: usize = 1;
-
-/// The slot of the machine.
-const MACHINE: usize = 0;
 
 impl<M: Machine> NodeLock<M> {
     // Draws a ticket.
