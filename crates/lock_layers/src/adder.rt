@@ -5,6 +5,7 @@ ghost use Rattle.node_lock.specs.Passes.{IsSamePass};
 ghost use Rattle.lock_layers.specs.Sums.{sum_of};
 
 use node_lock::{Machine, NodeLock, Pass};
+use std::marker::Model;
 use std::sync::Wait;
 use std::sync::ledger::Ledger;
 use steps::Steps;
@@ -20,11 +21,22 @@ pub struct Added {
 }
 
 /// A sum that starts at 0. A call adds a number, and answers the new sum.
+///
+/// Contracts see a pair: the sum, and how many calls were made.
 #[derive(Drop)]
 pub struct Adder {
     sum: u64,
     made: u64,
-    ghost small: { sum ≤ 255 * made },
+}
+
+impl Model for Adder {
+    ghost use Rattle.std.specs.Prelude.{ℕ, ◌*◌, ◌≤◌};
+
+    ghost Value = { ℕ × ℕ };
+
+    ghost view = { λ a. (a.sum, a.made) };
+
+    ghost invariant = { λ a. a.sum ≤ 255 * a.made };
 }
 
 impl Adder {
@@ -59,9 +71,9 @@ impl Machine for Adder {
 
     ghost hands_back = { λ call answer. call ≤ answer };
 
-    ghost stands_for = { λ m h. HasSum m.sum m.made h };
+    ghost stands_for = { λ m h. HasSum m.0 m.1 h };
 
-    ghost entries = { λ m. m.made };
+    ghost entries = { λ m. m.1 };
 
     ghost most = { λ h call. 0 };
 

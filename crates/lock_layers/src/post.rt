@@ -7,6 +7,7 @@ ghost use Rattle.lock_layers.specs.Offers.{IsOffered, EachIsOffered};
 use node_lock::{Machine, NodeLock, Pass};
 use std::alloc::Global;
 use std::collections::LinkedList;
+use std::marker::Model;
 use std::sync::ledger::Ledger;
 use std::sync::{Arc, Wait};
 use steps::Steps;
@@ -38,10 +39,18 @@ pub struct Offered {
     pub bytes: Option<LinkedList<u8>>,
 }
 
-/// A machine that counts its calls, and hands each batch back.
+/// A machine that counts its calls, and hands each batch back. Contracts see the count.
 #[derive(Drop)]
 pub struct Post {
     made: u64,
+}
+
+impl Model for Post {
+    ghost use Rattle.std.specs.Prelude.{ℕ};
+
+    ghost Value = { ℕ };
+
+    ghost view = { λ p. p.made };
 }
 
 impl Post {
@@ -69,9 +78,9 @@ impl Machine for Post {
 
     ghost hands_back = { HandsBack };
 
-    ghost stands_for = { λ m h. m.made ≡ length h };
+    ghost stands_for = { λ m h. m ≡ length h };
 
-    ghost entries = { λ m. m.made };
+    ghost entries = { λ m. m };
 
     ghost most = { λ h call. 0 };
 

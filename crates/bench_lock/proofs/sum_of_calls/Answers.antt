@@ -9,8 +9,8 @@ call_beside-requires-clause-all g c κs within =
     let ps = c.deref_mut.result.now in let e : ps ≡ c.args.passes.items = search rules in let few : c.args.calls ≤ 2 ^ 44 = search rules in
     fresh_ready c.args.lock c.args.calls c.args.threads ps few (subst (AreFresh c.args.lock c.args.threads) (sym e) c.requires.fresh.1)
 
-pub finish-requires-clause-all : goal.finish-requires-clause-all
-finish-requires-clause-all g c κs =
+pub finish-adder-requires-clause-all : goal.finish-adder-requires-clause-all
+finish-adder-requires-clause-all g c κs =
     let ps = c.deref_mut.result.now in let e : ps ≡ c.args.passes.items = search rules in let qs = c.call_beside.new.passes in
     let long : length ps ≡ c.args.threads = search rules in let len : c.args.passes.len ≡ length qs = search rules in
     let fresh = subst (AreFresh c.args.lock c.args.threads) (sym e) c.requires.fresh.1 in
