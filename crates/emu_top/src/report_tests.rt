@@ -1,0 +1,239 @@
+// The report's lines, and the report of a node.
+ghost use Rattle.std.specs.Prelude.{◌≡◌, ℕ, List, [], ◌∷◌, true, false, codes};
+ghost use Rattle.filter_match.specs.declared.filter.SectionFilter.{SectionFilter};
+ghost use Rattle.dmx_calls.specs.declared.reply.PollError.TheVariants as pending;
+ghost use Rattle.dmx_calls.specs.Log.{SetFilterAct, AddPidAct, RemovePidAct, PollAct, AttachAct, DetachAct};
+ghost use Rattle.dmx_calls.specs.Response.{AttachTap, DetachTap, Done, TimedOut, Ready};
+ghost use Rattle.emu_top.specs.Report.{act_text, response_text};
+
+use crate::report::{add_node, report};
+use crate::report_lines::add_entry;
+use dmx_calls::{Act, ByteBuf, Entry, Errno, Input, Output, PesParams, Reply, Span, Tap};
+use std::alloc::Global;
+use std::test::Fail;
+use ts_packet::Tally;
+
+// An entry of demux node 0.
+fn told(place: u64, who: u32, step: u64, act: Act, reply: Reply) -> Entry {
+    Entry {
+        node: 0,
+        place,
+        step,
+        who,
+        act,
+        reply,
+    }
+}
+
+fn done(from: u64, to: u64) -> Reply {
+    Reply::Done {
+        dropped: Span { from, to },
+        tap: Tap::Keep,
+    }
+}
+
+// A set call at moment 3.
+fn pes(pid: u16, input: Input, output: Output, pes_type: u32, flags: u32) -> Act {
+    Act::SetPes {
+        params: PesParams {
+            pid,
+            input,
+            output,
+            pes_type,
+            flags,
+        },
+        now: 3,
+    }
+}
+
+fn read(count: u32) -> Act {
+    Act::Read { now: 0, count }
+}
+
+fn data(alloc: Global, bytes: [u8; 4]) -> Result<Reply, Fail> {
+    let mut buf = ByteBuf::new(alloc, 16)?;
+    buf.append(&bytes);
+    Ok(Reply::Data(buf))
+}
+
+#[test]
+fn each_call_has_its_text(rt: HostRuntime) -> Result<(), Fail> {
+    let alloc = rt.alloc();
+    let cases: [(Act, &str); 13] = [
+        (Act::Open, "open"),
+        (Act::Close, "close"),
+        (
+            pes(256, Input::Frontend, Output::TsdemuxTap, 20, 0),
+            "pes pid=256 input=frontend output=tsdemux_tap type=20 flags=0 at=3",
+        ),
+        (
+            pes(0, Input::Dvr, Output::Tap, 1, 4),
+            "pes pid=0 input=dvr output=tap type=1 flags=4 at=3",
+        ),
+        (
+            pes(65535, Input::Frontend, Output::TsTap, 0, 4294967295),
+            "pes pid=65535 input=frontend output=ts_tap type=0 flags=4294967295 at=3",
+        ),
+        (
+            pes(8192, Input::Frontend, Output::Decoder, 21, 1),
+            "pes pid=8192 input=frontend output=decoder type=21 flags=1 at=3",
+        ),
+        (
+            Act::Start {
+                now: 18446744073709551615,
+            },
+            "start at=18446744073709551615",
+        ),
+        (Act::Stop, "stop"),
+        (Act::SetSize(16777216), "size 16777216"),
+        (Act::Read { now: 70, count: 4 }, "read 4 at=70"),
+        (
+            Act::Pass {
+                input: Input::Frontend,
+                first: 128,
+                count: 64,
+                now: 5,
+            },
+            "pass input=frontend first=128 count=64 at=5",
+        ),
+        (
+            Act::Pass {
+                input: Input::Dvr,
+                first: 0,
+                count: 1,
+                now: 0,
+            },
+            "pass input=dvr first=0 count=1 at=0",
+        ),
+        (Act::End, "end"),
+    ];
+    for (act, want) in cases {
+        let mut text = String::new(alloc);
+        add_entry(&mut text, &told(2, 3, 1, act, Reply::Passed))?;
+        assert_eq!(rt; text, format!(in alloc; "2 c2 1 {want} = passed\n")?);
+    }
+    Ok(())
+}
+
+#[test]
+fn each_reply_has_its_text(rt: HostRuntime) -> Result<(), Fail> {
+    let alloc = rt.alloc();
+    let cases: [(Reply, &str); 16] = [
+        (done(0, 0), "done drop=0..0 tap=keep"),
+        (done(376, 564), "done drop=376..564 tap=keep"),
+        (Reply::Busy { owner: 1 }, "busy owner=c0"),
+        (Reply::Busy { owner: 8 }, "busy owner=c7"),
+        (Reply::Refused(Errno::Ebadf), "EBADF"),
+        (Reply::Refused(Errno::Ebusy), "EBUSY"),
+        (Reply::Refused(Errno::Einval), "EINVAL"),
+        (Reply::Refused(Errno::Enospc), "ENOSPC"),
+        (Reply::NoMemory, "ENOMEM"),
+        (data(alloc, [0x47, 0x01, 0x00, 0x10])?, "data 47010010"),
+        (data(alloc, [0x9a, 0xbc, 0xef, 0xd0])?, "data 9abcefd0"),
+        (Reply::Data(ByteBuf::new(alloc, 16)?), "data -"),
+        (Reply::Again { ended: false }, "again ended=0"),
+        (Reply::Again { ended: true }, "again ended=1"),
+        (
+            Reply::Overflow {
+                from: 0,
+                to: 564,
+                item: 2,
+                need: 188,
+                room: 0,
+            },
+            "overflow 0..564 item=2 need=188 room=0",
+        ),
+        (Reply::Passed, "passed"),
+    ];
+    for (reply, want) in cases {
+        let mut text = String::new(alloc);
+        add_entry(&mut text, &told(6, 1, 3, read(4), reply))?;
+        assert_eq!(rt; text, format!(in alloc; "6 c0 3 read 4 at=0 = {want}\n")?);
+    }
+    Ok(())
+}
+
+const TALLY: Tally = Tally {
+    packets: 2,
+    skipped: 1,
+    rest: 100,
+};
+
+#[test]
+fn a_node_without_clients_is_not_printed(rt: HostRuntime) -> Result<(), Fail> {
+    let alloc = rt.alloc();
+    let pass = Act::Pass {
+        input: Input::Frontend,
+        first: 0,
+        count: 2,
+        now: 0,
+    };
+    let entries = [
+        told(0, 0, 0, pass, Reply::Passed),
+        told(1, 0, 1, Act::End, Reply::Passed),
+    ];
+    let want = "dvbemu 1\npackets=2 skipped=1 rest=100\nend\n";
+    assert_eq!(rt; report(alloc, &TALLY, &entries)?.as_str(), want);
+    assert_eq!(rt; report(alloc, &TALLY, &[])?.as_str(), want);
+    Ok(())
+}
+
+#[test]
+fn a_node_has_its_entries_in_their_order(rt: HostRuntime) -> Result<(), Fail> {
+    let alloc = rt.alloc();
+    let pass = Act::Pass {
+        input: Input::Frontend,
+        first: 0,
+        count: 2,
+        now: 0,
+    };
+    let entries = [
+        told(0, 0, 0, pass, Reply::Passed),
+        told(1, 1, 0, Act::Open, done(0, 0)),
+        told(2, 0, 1, Act::End, Reply::Passed),
+    ];
+    let lines =
+        "0 feed 0 pass input=frontend first=0 count=2 at=0 = passed\n1 c0 0 open = done drop=0..0 tap=keep\n2 feed 1 end = passed\n";
+    assert_eq!(rt;
+        report(alloc, &TALLY, &entries)?,
+        format!(in alloc; "dvbemu 1\npackets=2 skipped=1 rest=100\nnode 0\n{lines}end\n")?
+    );
+    for (node, name) in [(31, "31"), (32, "dvr")] {
+        let mut text = String::new(alloc);
+        add_node(&mut text, node, &entries)?;
+        assert_eq!(rt; text, format!(in alloc; "node {name}\n{lines}")?);
+    }
+    Ok(())
+}
+
+// What the definitions say of calls and replies that no code makes yet, at single values.
+fn calls_to_come()
+    ensures section_without_bytes { act_text (SetFilterAct (record { pid = 17; filter = record { filter = []; mask = []; mode = [] }; timeout = 0; flags = 1 }) 5)
+        ≡ codes "section pid=17 timeout=0 flags=1 at=5" }
+    ensures section_with_bytes { act_text (SetFilterAct (record { pid = 0; filter = record { filter = 66 ∷ 0 ∷ 1 ∷ []; mask = 255 ∷ 0 ∷ 15 ∷ 0 ∷ []; mode = 0 ∷ 0 ∷ 0 ∷ 160 ∷ [] }; timeout = 100; flags = 7 }) 0)
+        ≡ codes "section pid=0 timeout=100 flags=7 at=0 0=42/ff/00 2=01/0f/00 3=00/00/a0" }
+    ensures add { act_text (AddPidAct 257) ≡ codes "add 257" }
+    ensures remove { act_text (RemovePidAct 257) ≡ codes "remove 257" }
+    ensures poll { act_text (PollAct 12) ≡ codes "poll at=12" }
+    ensures attach_none { act_text (AttachAct 4 []) ≡ codes "attach node=4 pids=-" }
+    ensures attach { act_text (AttachAct 31 (0 ∷ 256 ∷ 8191 ∷ [])) ≡ codes "attach node=31 pids=0,256,8191" }
+    ensures detach { act_text (DetachAct 4) ≡ codes "detach node=4" }
+{}
+
+fn replies_to_come()
+    ensures attach { response_text (Done 0 188 (AttachTap (256 ∷ []))) ≡ codes "done drop=0..188 tap=attach:256" }
+    ensures attach_none { response_text (Done 0 0 (AttachTap [])) ≡ codes "done drop=0..0 tap=attach:-" }
+    ensures attach_more { response_text (Done 0 0 (AttachTap (1 ∷ 2 ∷ 3 ∷ []))) ≡ codes "done drop=0..0 tap=attach:1,2,3" }
+    ensures detach { response_text (Done 5 6 DetachTap) ≡ codes "done drop=5..6 tap=detach" }
+    ensures timed_out { response_text (TimedOut 10 110 100) ≡ codes "timedout started=10 now=110 timeout=100" }
+    ensures nothing_ready { response_text (Ready false pending.Quiet 0 false) ≡ codes "ready readable=0 error=none at=0 ended=0" }
+    ensures overflow_ready { response_text (Ready true pending.Overflow 376 true) ≡ codes "ready readable=1 error=overflow at=376 ended=1" }
+    ensures timeout_ready { response_text (Ready false pending.TimedOut 0 true) ≡ codes "ready readable=0 error=timedout at=0 ended=1" }
+{}
+
+#[test]
+fn calls_and_replies_to_come_have_their_texts(_rt: HostRuntime) -> Result<(), Fail> {
+    calls_to_come();
+    replies_to_come();
+    Ok(())
+}
