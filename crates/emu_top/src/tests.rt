@@ -9,9 +9,9 @@ const WORDS: [&str; 3] = ["steps", "--batch", "1"];
 const EMPTY: &[u8] = b"dvbemu 1\npackets=0 skipped=0 rest=0\nend\n";
 
 // A part of an input: some bytes, and behind them so many bytes of one kind.
-type Part = (&'static [u8], usize, u8);
+pub type Part = (&'static [u8], usize, u8);
 
-fn input_of(alloc: Global, parts: &[Part]) -> Result<Vec<u8>, Fail> {
+pub fn input_of(alloc: Global, parts: &[Part]) -> Result<Vec<u8>, Fail> {
     let mut input = Vec::new(alloc);
     for (bytes, count, byte) in parts {
         input.extend_from_slice(bytes)?;
@@ -31,10 +31,10 @@ fn words_of(alloc: Global, words: &[&str]) -> Result<Vec<String>, Fail> {
 }
 
 // What `emulate` answers and writes for an input, without faults.
-fn told(alloc: Global, words: &[&str], parts: &[Part]) -> Result<(Status, Vec<u8>), Fail> {
+pub fn told(alloc: Global, words: &[&str], parts: &[Part]) -> Result<(Status, Vec<u8>), Fail> {
     let words = words_of(alloc, words)?;
     let mut source = MemSource::new(input_of(alloc, parts)?, 1000, Vec::new(alloc));
-    let mut sink = MemSink::new(alloc, 1000, 1000, Vec::new(alloc))?;
+    let mut sink = MemSink::new(alloc, 10000, 1000, Vec::new(alloc))?;
     let status = emulate(
         alloc,
         &words,
@@ -67,10 +67,10 @@ fn a_session_gives_its_report(rt: HostRuntime) -> Result<(), Fail> {
             &[(b"stream\n\x47", 187, 0x47)],
             b"dvbemu 1\npackets=1 skipped=0 rest=0\nend\n",
         ),
-        // 43 packets, and 65,536 bytes.
+        // 348 packets, and 65,536 bytes.
         (
-            &[(b"stream\n", 43 * 188, 0x47)],
-            b"dvbemu 1\npackets=43 skipped=0 rest=0\nend\n",
+            &[(b"stream\n", 348 * 188, 0x47)],
+            b"dvbemu 1\npackets=348 skipped=0 rest=0\nend\n",
         ),
         (
             &[(b"stream\n", 65529, 0)],
@@ -88,11 +88,10 @@ fn a_session_gives_its_report(rt: HostRuntime) -> Result<(), Fail> {
 #[test]
 fn an_input_that_is_not_built_writes_nothing(rt: HostRuntime) -> Result<(), Fail> {
     let alloc = rt.alloc();
-    let cases: [&[Part]; 10] = [
+    let cases: [&[Part]; 9] = [
         &[],
         &[(b"", 65537, b'#')],
         &[(b"stream\n", 65530, 0)],
-        &[(b"stream\n", 44 * 188, 0x47)],
         &[(b"stream", 0, 0)],
         &[(b"# stream\n", 0, 0)],
         &[(b"c0 poll n0\nstream\n", 0, 0)],
@@ -111,12 +110,15 @@ fn an_input_that_is_not_built_writes_nothing(rt: HostRuntime) -> Result<(), Fail
 #[test]
 fn wrong_words_are_usage(rt: HostRuntime) -> Result<(), Fail> {
     let alloc = rt.alloc();
-    let cases: [&[&str]; 12] = [
+    let cases: [&[&str]; 15] = [
         &[],
         &["steps"],
         &["steps", "--batch"],
         &["steps", "--batch", "01"],
-        &["steps", "--batch", "2"],
+        &["steps", "--batch", "0"],
+        &["steps", "--batch", "65"],
+        &["steps", "--batch", "+1"],
+        &["steps", "--batch", "1 "],
         &["steps", "--batch", ""],
         &["steps", "--batch", "1", "1"],
         &["steps", "--batch=1"],

@@ -1,0 +1,14 @@
+use Rattle.std.proofs.Common.{rules, refl, ap, sym, ◌∙◌, ◌≡◌, ℕ, ◌+◌, ◌-◌, ◌<◌, ◌≤◌, min, Bool, true, false, take, drop, arith}
+use Rattle.dmx_calls.specs.History.{History}
+use Rattle.emu_top.specs.SerialRun.{Run, answered, called, passed, all_passed, ended, asked}
+use Rattle.emu_top.specs.Runner.{IsAt, Counts}
+
+use Rattle.emu_top.proofs.Going.{at_called}
+use Rattle.emu_top.proofs.runner.Runner.command.Goals as goal
+
+pub returns-clause-at : goal.returns-clause-at
+returns-clause-at g c r h =
+    let k = c.in_ok-call-2.ensures.stands r.history h.stands h.entries h.calls in
+    let keeps = c.in_ok-call-2.ensures.keeps in
+    let is = c.in_ok-call.ensures in
+    at_called c.args.self.now _ r c.args.verb h (rw is at k.0) (rw is at k.1) (ap (λ b. b.now) keeps.0) keeps.1 keeps.2 (ap (λ n. n + 1) keeps.3) keeps.4

@@ -1,0 +1,16 @@
+use Rattle.std.proofs.Common.{rules, refl, ap, sym, ◌∙◌, ◌≡◌, ℕ, ◌+◌, ◌-◌, ◌<◌, ◌≤◌, min, Bool, true, false, take, drop, arith}
+use Rattle.dmx_calls.specs.History.{History}
+use Rattle.emu_top.specs.SerialRun.{Run, answered, called, passed, all_passed, ended, asked}
+use Rattle.emu_top.specs.Runner.{IsAt, Counts}
+
+use Rattle.emu_top.proofs.Going.{at_passed}
+use Rattle.emu_top.proofs.runner.Runner.pass.Goals as goal
+
+pub returns-clause-at : goal.returns-clause-at
+returns-clause-at g c r h =
+    let k = c.in_ok-call.ensures.stands r.history h.stands h.entries h.feeds in
+    let keeps = c.in_ok-call.ensures.keeps in
+    let front : c.split_at.result.0.now ≡ take c.args.size c.args.self.now.packets.now = c.split_at.ensures.front in
+    let back : c.split_at.result.1.now ≡ drop c.args.size c.args.self.now.packets.now = c.split_at.ensures.back in
+    let told = c.in_ok-batch.ensures in
+    at_passed c.args.self.now _ r c.args.size h (rw (told, front) at k.0) (rw (told, front) at k.1) back (ap (λ n. n + c.args.size) keeps.1) (ap (λ n. n + 1) keeps.2) keeps.3 keeps.4

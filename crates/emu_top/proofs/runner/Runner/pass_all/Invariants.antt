@@ -1,0 +1,23 @@
+use Rattle.std.proofs.Common.{rules, refl, ap, sym, ◌∙◌, ◌≡◌, ℕ, ◌+◌, ◌-◌, ◌<◌, ◌≤◌, min, Bool, true, false, take, drop, arith}
+use Rattle.dmx_calls.specs.History.{History}
+use Rattle.emu_top.specs.SerialRun.{Run, answered, called, passed, all_passed, ended, asked}
+use Rattle.emu_top.specs.Runner.{IsAt, Counts}
+
+use Rattle.std.proofs.Common.{length}
+use Rattle.emu_top.specs.declared.runner.Runner.{Runner}
+use Rattle.emu_top.proofs.runner.Runner.pass_all.Given as goal
+
+-- where the run is after the batches so far, what is left passes from there
+pub record Passing (batch count left : ℕ) (start now : Runner) : Type 0 where
+  pub within : left ≤ count
+  pub counts : Counts now
+  pub at : (r : Run) → IsAt start r → (s : Run) × IsAt now s × (all_passed batch count r ≡ all_passed batch left s)
+  pub rises : now.node.entries ≤ start.node.entries + (count - left)
+  pub packets : now.packets.now ≡ drop (count - left) start.packets.now
+  pub first : now.first ≡ start.first + (count - left)
+
+abbrev pub invariant-batches : goal.invariant-batches
+invariant-batches g l = Passing l.batch l.count l.left l.initial.self l.self
+
+abbrev pub decreases-batches : goal.decreases-batches
+decreases-batches g l = l.left

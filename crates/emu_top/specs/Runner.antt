@@ -1,0 +1,38 @@
+-- What it means that the code has run so far.
+use Rattle.std.specs.Prelude.{ℕ, ◌≡◌, ◌≤◌, map}
+use Rattle.dmx_calls.specs.Log.{log_of, calls_of}
+use Rattle.dmx_calls.specs.Calls.{told_entry}
+use Rattle.dmx_calls.specs.Tenure.{has_ended}
+use Rattle.dmx_calls.specs.declared.limits.TheConstants.{LARGEST_READ}
+use Rattle.node_core.specs.Stands.{StandsFor, IsBuilt}
+use Rattle.emu_top.specs.declared.script.Verb.{Verb}
+use Rattle.emu_top.specs.declared.script.Verb.TheVariants.{Read}
+use Rattle.emu_top.specs.declared.script.Line.{Line}
+use Rattle.emu_top.specs.declared.script.Line.TheVariants.{Feed, Command}
+use Rattle.emu_top.specs.declared.runner.Runner.{Runner}
+use Rattle.emu_top.specs.SerialRun.{Run, asked}
+
+-- the runner is where the run is
+pub record IsAt (v : Runner) (r : Run) : Type 0 where
+  pub stands : StandsFor v.node r.history
+  pub entries : map told_entry v.entries.items ≡ log_of 0 r.history
+  pub left : v.packets.now ≡ r.left
+  pub first : v.first ≡ r.first
+  pub feeds : v.feeds ≡ calls_of 0 r.history
+  pub calls : v.calls ≡ calls_of 1 r.history
+  pub has_ended : v.has_ended ≡ has_ended r.history
+
+-- no caller has made more calls than the node has entries
+pub record Counts (v : Runner) : Type 0 where
+  pub feeds : v.feeds ≤ v.node.entries
+  pub calls : v.calls ≤ v.node.entries
+
+-- a read asks for at most 65,536 bytes
+abbrev pub ReadFits : Verb → Type 0
+ReadFits (Read count) = count ≤ LARGEST_READ
+ReadFits _ = Unit {0}
+
+-- the node takes the command's call
+abbrev pub IsRunnable : Line → Type 0
+IsRunnable (Feed count) = Unit {0}
+IsRunnable (Command verb) = IsBuilt (asked verb) × ReadFits verb
