@@ -111,12 +111,13 @@ fn an_input_that_is_not_built_writes_nothing(rt: HostRuntime) -> Result<(), Fail
 #[test]
 fn wrong_words_are_usage(rt: HostRuntime) -> Result<(), Fail> {
     let alloc = rt.alloc();
-    let cases: [&[&str]; 12] = [
+    let cases: [&[&str]; 13] = [
         &[],
         &["steps"],
         &["steps", "--batch"],
         &["steps", "--batch", "01"],
-        &["steps", "--batch", "2"],
+        &["steps", "--batch", "0"],
+        &["steps", "--batch", "65"],
         &["steps", "--batch", ""],
         &["steps", "--batch", "1", "1"],
         &["steps", "--batch=1"],
