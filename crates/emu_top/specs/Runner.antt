@@ -3,14 +3,9 @@ use Rattle.std.specs.Prelude.{ℕ, ◌≡◌, ◌≤◌, map}
 use Rattle.dmx_calls.specs.Log.{log_of, calls_of}
 use Rattle.dmx_calls.specs.Calls.{told_entry}
 use Rattle.dmx_calls.specs.Tenure.{has_ended}
-use Rattle.dmx_calls.specs.declared.limits.TheConstants.{LARGEST_READ}
-use Rattle.node_core.specs.Stands.{StandsFor, IsBuilt}
-use Rattle.emu_top.specs.declared.script.Verb.{Verb}
-use Rattle.emu_top.specs.declared.script.Verb.TheVariants.{Read}
-use Rattle.emu_top.specs.declared.script.Line.{Line}
-use Rattle.emu_top.specs.declared.script.Line.TheVariants.{Feed, Command}
+use Rattle.node_core.specs.Stands.{StandsFor}
 use Rattle.emu_top.specs.declared.runner.Runner.{Runner}
-use Rattle.emu_top.specs.SerialRun.{Run, asked}
+use Rattle.emu_top.specs.SerialRun.{Run}
 
 -- the runner is where the run is
 pub record IsAt (v : Runner) (r : Run) : Type 0 where
@@ -26,13 +21,3 @@ pub record IsAt (v : Runner) (r : Run) : Type 0 where
 pub record Counts (v : Runner) : Type 0 where
   pub feeds : v.feeds ≤ v.node.entries
   pub calls : v.calls ≤ v.node.entries
-
--- a read asks for at most 65,536 bytes
-abbrev pub ReadFits : Verb → Type 0
-ReadFits (Read count) = count ≤ LARGEST_READ
-ReadFits _ = Unit {0}
-
--- the node takes the command's call
-abbrev pub IsRunnable : Line → Type 0
-IsRunnable (Feed count) = Unit {0}
-IsRunnable (Command verb) = IsBuilt (asked verb) × ReadFits verb

@@ -1,7 +1,6 @@
 -- How an input falls into a script and a stream (this project's own).
 use Rattle.std.specs.Prelude.{ℕ, ◌==◌, Bool, true, List, [], ◌∷◌, ◌++◌, Option, Some, None, nat_eq, if◌then◌else◌, codes}
 use Rattle.std.specs.Cmp.Lexicographic.{pointwise}
-use Rattle.std.specs.List.{list_all}
 use Rattle.std.specs.Option.{option_map}
 
 -- the lines of the script, each without its line feed, and the stream, which follows the line `stream`
@@ -30,7 +29,3 @@ session_of input = session_after [] input
 abbrev pub is_passed_over : List ℕ → Bool
 is_passed_over [] = true
 is_passed_over (byte ∷ bytes) = byte == 35
-
--- the stream of a session whose script has such lines alone
-abbrev pub stream_of : Session → Option (List ℕ)
-stream_of s = if list_all is_passed_over s.lines then Some s.stream else None

@@ -4,8 +4,9 @@ ghost use Rattle.dmx_calls.specs.History.{History};
 ghost use Rattle.dmx_calls.specs.Calls.{invocation_of, response_of, told_entry};
 ghost use Rattle.dmx_calls.specs.Log.{log_of, calls_of};
 ghost use Rattle.node_core.specs.Stands.{StandsFor, IsBuilt};
+ghost use Rattle.emu_top.specs.Script.{IsVerbInRange, IsInRange};
 ghost use Rattle.emu_top.specs.SerialRun.{Run, answered, called, passed, all_passed, ended, fed, asked, done, finished, serial_run};
-ghost use Rattle.emu_top.specs.Runner.{IsAt, Counts, ReadFits, IsRunnable};
+ghost use Rattle.emu_top.specs.Runner.{IsAt, Counts};
 
 use crate::script::{Line, Verb};
 use dmx_calls::{Act, ByteBuf, Call, Entry, Input, Reply};
@@ -211,8 +212,7 @@ impl<'a> Runner<'a> {
     fn command<L: Ledger>(&mut self, verb: Verb, steps: &mut Steps<L>) -> Result<(), NoMemory>
         requires few { self.old.node.entries < 2 ^ 50 }
         requires counts { Counts self.old }
-        requires built { IsBuilt (asked verb) }
-        requires read { ReadFits verb }
+        requires range { IsVerbInRange verb }
         ensures at { OnOk result ((r : Run) → IsAt self.old r → IsAt self.new (called 1 (asked verb) r)) }
         ensures counts { OnOk result (Counts self.new) }
         ensures rises { OnOk result (self.new.node.entries ≡ self.old.node.entries + 1) }
@@ -237,7 +237,7 @@ impl<'a> Runner<'a> {
         requires numbered { self.old.first + length self.old.packets.now + 64 < 2 ^ 64 }
         requires some { 0 < batch }
         requires most { batch ≤ 64 }
-        requires runs { IsRunnable line }
+        requires range { IsInRange line }
         ensures at { OnOk result ((r : Run) → IsAt self.old r → IsAt self.new (done batch r line)) }
         ensures counts { OnOk result (Counts self.new) }
         ensures rises { OnOk result (self.new.node.entries + self.old.first ≤ self.old.node.entries + self.new.first + 1) }
@@ -252,8 +252,9 @@ impl<'a> Runner<'a> {
 
 // The call of a command, at moment 0.
 fn call_of(alloc: Global, verb: Verb) -> Result<Call, NoMemory>
-    requires { ReadFits verb }
-    ensures { IfOk result (λ call. invocation_of call ≡ asked verb) }
+    requires { IsVerbInRange verb }
+    ensures asked { IfOk result (λ call. invocation_of call ≡ asked verb) }
+    ensures built { IfOk result (λ call. IsBuilt (invocation_of call)) }
 {
     Ok(match verb {
         Verb::Open => Call::Open,
@@ -284,7 +285,7 @@ fn run_counted<L: Ledger>(
     requires most { batch ≤ 64 }
     requires lines { length lines.now < 2 ^ 32 }
     requires packets { length packets.now < 2 ^ 32 }
-    requires runs { All IsRunnable lines.now }
+    requires range { All IsInRange lines.now }
     ensures { IfOk result (λ entries. map told_entry entries.items ≡ log_of 0 (serial_run batch lines.now packets.now)) }
 {
     let mut steps = Steps::<L>::new(blank);
@@ -316,7 +317,7 @@ pub fn run_script(
     requires most { batch ≤ 64 }
     requires lines { length lines.now < 2 ^ 32 }
     requires packets { length packets.now < 2 ^ 32 }
-    requires runs { All IsRunnable lines.now }
+    requires range { All IsInRange lines.now }
     ensures { IfOk result (λ entries. map told_entry entries.items ≡ log_of 0 (serial_run batch lines.now packets.now)) }
 {
     run_counted::<Brand>(alloc, batch, lines, packets, Blank::new(1))

@@ -1,28 +1,41 @@
 // The words of the command line.
-ghost use Rattle.std.specs.Prelude.{◌≡◌, ◌↔◌, map, IsTrue, string_bytes};
-ghost use Rattle.emu_top.specs.Words.{IsAccepted};
+ghost use Rattle.std.specs.Prelude.{◌≡◌, ◌↔◌, ◌≤◌, map, IsTrue, IfSome, string_bytes};
+ghost use Rattle.emu_top.specs.Words.{is_word as is_this_word, meant, IsAccepted};
+
+use crate::number::number_between;
+
+// The most packets of a batch.
+const MOST_IN_BATCH: u32 = 64;
 
 // Whether a word is this text.
-fn spells(word: &String, text: &str) -> bool
-    ensures { IsTrue result ↔ (string_bytes word.now ≡ text.now) }
+pub fn is_word(word: &[u8], text: &str) -> bool
+    ensures { result ≡ is_this_word word.now text.now }
 {
-    word.as_str() == text
+    word == text.as_bytes()
+}
+
+// How many packets a batch has at most, by the words; None where they aren't accepted.
+pub fn batch_of_words(words: &[String]) -> Option<u32>
+    ensures value { result ≡ meant (map string_bytes words.now) }
+    ensures bound { IfSome result (λ batch. (1 ≤ batch) × (batch ≤ 64)) }
+{
+    match words {
+        [command, option, batch] => {
+            if !is_word(command.as_bytes(), "steps") {
+                return None;
+            }
+            if !is_word(option.as_bytes(), "--batch") {
+                return None;
+            }
+            number_between(1, MOST_IN_BATCH, batch.as_bytes())
+        }
+        _ => None,
+    }
 }
 
 // Whether these words are a command.
 pub fn accepts(words: &[String]) -> bool
     ensures { IsTrue result ↔ IsAccepted (map string_bytes words.now) }
 {
-    match words {
-        [command, option, batch] => {
-            if !spells(command, "steps") {
-                return false;
-            }
-            if !spells(option, "--batch") {
-                return false;
-            }
-            spells(batch, "1")
-        }
-        _ => false,
-    }
+    batch_of_words(words).is_some()
 }

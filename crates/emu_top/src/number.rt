@@ -1,0 +1,40 @@
+// Numbers as words spell them.
+ghost use Rattle.std.specs.Prelude.{◌≡◌, ◌≤◌, IfSome};
+ghost use Rattle.emu_top.specs.Numbers.{number_between as number_in_word, has_leading_zero};
+
+// Whether a zero stands before other bytes.
+fn begins_with_zero(word: &[u8]) -> bool
+    ensures { result ≡ has_leading_zero word.now }
+{
+    word.len() > 1 && word[0] == b'0'
+}
+
+// The number that a word spells, where it is one from `least` to `most`.
+#[tactic(auto, unfolding(crate::specs::Numbers::value_after))]
+pub fn number_between(least: u32, most: u32, word: &[u8]) -> Option<u32>
+    ensures value { result ≡ number_in_word least most word.now }
+    ensures bound { IfSome result (λ n. (least ≤ n) × (n ≤ most)) }
+{
+    if word.is_empty() {
+        return None;
+    }
+    if begins_with_zero(word) {
+        return None;
+    }
+    let mut n: u64 = 0;
+    let mut rest = word;
+    'digits: while let [digit, after @ ..] = rest {
+        if !digit.is_ascii_digit() {
+            return None;
+        }
+        n = n * 10 + (*digit - b'0') as u64;
+        if n > most as u64 {
+            return None;
+        }
+        rest = after;
+    }
+    if n < least as u64 {
+        return None;
+    }
+    Some(n as u32)
+}
