@@ -1,6 +1,6 @@
 -- What each step of a run does to its history, its log and its counters.
-use Rattle.std.proofs.Common.{◌≡◌, refl, sym, ap, subst, ◌∙◌, ℕ, zero, suc, ◌+◌, ◌-◌, ◌*◌, ◌/◌, ◌%◌, ◌<◌, ◌≤◌, ◌==◌, min, Bool, true, false, ◌||◌, nat_eq, nat_lt, List, [], ◌∷◌, ◌++◌, length, take, drop, replicate, fold, if◌then◌else◌, cond, eqb, map, arith, inl, inr}
-use Rattle.std.proofs.lemmas.Bool.{cases_eq, cases_lt}
+use Rattle.std.proofs.Common.{◌≡◌, refl, sym, ap, subst, ◌∙◌, ℕ, suc, ◌+◌, ◌-◌, ◌/◌, ◌%◌, ◌<◌, ◌≤◌, ◌==◌, min, Bool, true, false, nat_eq, List, [], ◌∷◌, take, drop, fold, cond, map, arith, inl, inr}
+use Rattle.std.proofs.lemmas.Bool.{cases_lt}
 use Rattle.std.proofs.lemmas.Bool.Decides.{nat_tests}
 use Rattle.std.proofs.lemmas.List.Sums.{sum_by-cons}
 use Rattle.std.proofs.Math.Numerals.{add-one}
@@ -9,7 +9,7 @@ use Rattle.dmx_calls.specs.declared.params.Input.TheVariants.{Frontend}
 use Rattle.dmx_calls.specs.Invocation as call
 use Rattle.dmx_calls.specs.Invocation.{Invocation}
 use Rattle.dmx_calls.specs.Response.{is_accepted}
-use Rattle.dmx_calls.specs.History.{Entry, History, entry_of, event}
+use Rattle.dmx_calls.specs.History.{History, entry_of, event}
 use Rattle.dmx_calls.specs.Tenure.{has_ended, is_end}
 use Rattle.dmx_calls.specs.Rules.{demux}
 use Rattle.dmx_calls.specs.Answer.{answer}

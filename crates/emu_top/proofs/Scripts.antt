@@ -1,5 +1,5 @@
 -- What the lines that were read, the line that has begun and the bytes behind it make of a script.
-use Rattle.std.proofs.Common.{◌≡◌, refl, Bool, ℕ, if◌then◌else◌, List, [], ◌∷◌, ◌++◌, ap, sym, ◌∙◌, append_assoc, ◌-◌, ◌<◌, length, take, drop, slice_index_or, length-append, arith, subst}
+use Rattle.std.proofs.Common.{◌≡◌, refl, Bool, ℕ, if◌then◌else◌, List, [], ◌∷◌, ◌++◌, sym, ◌∙◌, append_assoc, ◌-◌, ◌<◌, length, take, drop, slice_index_or, length-append, arith}
 use Rattle.std.proofs.lemmas.List.{append-nil, take-append-le, take_all, take_rest}
 use Rattle.std.proofs.lemmas.List.Elements.{All-push}
 use Rattle.std.specs.List.{All}
@@ -60,6 +60,7 @@ script_by-line before line byte bytes asked nl other active read = rw (nl, other
     more : (stream : List ℕ) (ls : Option (List Line)) → option_map (lines_before before) (option_map (λ lines. record { lines = lines; stream = stream }) (option_map (λ later. asked ∷ later) ls)) ≡ option_map (lines_before (before ++ asked ∷ [])) (option_map (λ lines. record { lines = lines; stream = stream }) ls)
     more stream None = refl
     more stream (Some later) = rw (append_assoc before (asked ∷ []) later) refl
+
     go : (s : Option Session) → option_map (lines_before before) (option_and_then script_in (option_map (line_before line) s)) ≡ option_map (lines_before (before ++ asked ∷ [])) (option_and_then script_in s)
     go None = refl
     go (Some s) = rw (active, read) (more s.stream (lines_of s.lines))
@@ -70,8 +71,8 @@ script_after before line [] = None
 script_after before line (byte ∷ bytes) =
     if byte == 10
     then (if pointwise nat_eq line (codes "stream") then Some (record { lines = before; stream = bytes })
-        else (if is_passed_over line then script_after before [] bytes
-        else option_and_then (λ asked. script_after (before ++ asked ∷ []) [] bytes) (line_of line)))
+    else (if is_passed_over line then script_after before [] bytes
+    else option_and_then (λ asked. script_after (before ++ asked ∷ []) [] bytes) (line_of line)))
     else script_after before (line ++ byte ∷ []) bytes
 
 at-line : (before : List Line) (line : List ℕ) (byte : ℕ) (bytes : List ℕ) → (byte == 10) ≡ true → pointwise nat_eq line (codes "stream") ≡ false → is_passed_over line ≡ false

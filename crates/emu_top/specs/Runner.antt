@@ -1,5 +1,5 @@
 -- What it means that the code has run so far.
-use Rattle.std.specs.Prelude.{ℕ, ◌≡◌, ◌≤◌, map}
+use Rattle.std.specs.Prelude.{◌≡◌, ◌≤◌, map}
 use Rattle.dmx_calls.specs.Log.{log_of, calls_of}
 use Rattle.dmx_calls.specs.Calls.{told_entry}
 use Rattle.dmx_calls.specs.Tenure.{has_ended}

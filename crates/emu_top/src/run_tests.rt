@@ -39,9 +39,8 @@ fn reads_give_the_packets_of_the_pid(rt: HostRuntime) -> Result<(), Fail> {
                 OTHER,
                 SECOND,
             ],
-            &[
-                (
-                    b"dvbemu 1\n\
+            &[(
+                b"dvbemu 1\n\
                     packets=3 skipped=0 rest=0\n\
                     node 0\n\
                     0 c0 0 open = done drop=0..0 tap=keep\n\
@@ -53,10 +52,9 @@ fn reads_give_the_packets_of_the_pid(rt: HostRuntime) -> Result<(), Fail> {
                     6 c0 3 read 4 at=0 = data 47010010\n\
                     7 feed 3 end = passed\n\
                     end\n",
-                    0,
-                    0,
-                ),
-            ],
+                0,
+                0,
+            )],
         ),
         // The same in one batch.
         (
@@ -76,9 +74,8 @@ fn reads_give_the_packets_of_the_pid(rt: HostRuntime) -> Result<(), Fail> {
                 OTHER,
                 SECOND,
             ],
-            &[
-                (
-                    b"dvbemu 1\n\
+            &[(
+                b"dvbemu 1\n\
                     packets=3 skipped=0 rest=0\n\
                     node 0\n\
                     0 c0 0 open = done drop=0..0 tap=keep\n\
@@ -88,10 +85,9 @@ fn reads_give_the_packets_of_the_pid(rt: HostRuntime) -> Result<(), Fail> {
                     4 c0 3 read 4 at=0 = data 47010010\n\
                     5 feed 1 end = passed\n\
                     end\n",
-                    0,
-                    0,
-                ),
-            ],
+                0,
+                0,
+            )],
         ),
         // The packets of the PID, each once, and then none.
         (
@@ -370,9 +366,8 @@ fn what_does_not_fit_is_lost_and_said_so(rt: HostRuntime) -> Result<(), Fail> {
                 THIRD,
                 FOURTH,
             ],
-            &[
-                (
-                    b"dvbemu 1\n\
+            &[(
+                b"dvbemu 1\n\
                     packets=4 skipped=0 rest=0\n\
                     node 0\n\
                     0 c0 0 open = done drop=0..0 tap=keep\n\
@@ -387,10 +382,9 @@ fn what_does_not_fit_is_lost_and_said_so(rt: HostRuntime) -> Result<(), Fail> {
                     9 feed 3 pass input=frontend first=3 count=1 at=0 = passed\n\
                     10 feed 4 end = passed\n\
                     end\n",
-                    0,
-                    0,
-                ),
-            ],
+                0,
+                0,
+            )],
         ),
         // The same in batches.
         (
@@ -413,9 +407,8 @@ fn what_does_not_fit_is_lost_and_said_so(rt: HostRuntime) -> Result<(), Fail> {
                 THIRD,
                 FOURTH,
             ],
-            &[
-                (
-                    b"dvbemu 1\n\
+            &[(
+                b"dvbemu 1\n\
                     packets=4 skipped=0 rest=0\n\
                     node 0\n\
                     0 c0 0 open = done drop=0..0 tap=keep\n\
@@ -428,10 +421,9 @@ fn what_does_not_fit_is_lost_and_said_so(rt: HostRuntime) -> Result<(), Fail> {
                     7 feed 1 pass input=frontend first=2 count=2 at=0 = passed\n\
                     8 feed 2 end = passed\n\
                     end\n",
-                    0,
-                    0,
-                ),
-            ],
+                0,
+                0,
+            )],
         ),
     ];
     for (case, (batch, parts, want)) in cases.into_iter().enumerate() {
@@ -510,9 +502,8 @@ fn calls_and_refusals_stand_in_their_order(rt: HostRuntime) -> Result<(), Fail> 
                 ),
                 OTHER,
             ],
-            &[
-                (
-                    b"dvbemu 1\n\
+            &[(
+                b"dvbemu 1\n\
                     packets=1 skipped=0 rest=0\n\
                     node 0\n\
                     0 c0 0 start at=0 = EBADF\n\
@@ -525,10 +516,9 @@ fn calls_and_refusals_stand_in_their_order(rt: HostRuntime) -> Result<(), Fail> 
                     7 feed 1 end = passed\n\
                     8 c0 6 read 0 at=0 = data -\n\
                     end\n",
-                    0,
-                    0,
-                ),
-            ],
+                0,
+                0,
+            )],
         ),
         // Another size while the filter runs, and the same size.
         (
@@ -548,9 +538,8 @@ fn calls_and_refusals_stand_in_their_order(rt: HostRuntime) -> Result<(), Fail> 
                 ),
                 FIRST,
             ],
-            &[
-                (
-                    b"dvbemu 1\n\
+            &[(
+                b"dvbemu 1\n\
                     packets=1 skipped=0 rest=0\n\
                     node 0\n\
                     0 c0 0 open = done drop=0..0 tap=keep\n\
@@ -562,10 +551,9 @@ fn calls_and_refusals_stand_in_their_order(rt: HostRuntime) -> Result<(), Fail> 
                     6 c0 5 read 1 at=0 = data 47\n\
                     7 feed 1 end = passed\n\
                     end\n",
-                    0,
-                    0,
-                ),
-            ],
+                0,
+                0,
+            )],
         ),
         // Three packets in batches of two.
         (
@@ -584,9 +572,8 @@ fn calls_and_refusals_stand_in_their_order(rt: HostRuntime) -> Result<(), Fail> 
                 OTHER,
                 SECOND,
             ],
-            &[
-                (
-                    b"dvbemu 1\n\
+            &[(
+                b"dvbemu 1\n\
                     packets=3 skipped=0 rest=0\n\
                     node 0\n\
                     0 c0 0 open = done drop=0..0 tap=keep\n\
@@ -596,10 +583,9 @@ fn calls_and_refusals_stand_in_their_order(rt: HostRuntime) -> Result<(), Fail> 
                     4 feed 1 pass input=frontend first=2 count=1 at=0 = passed\n\
                     5 feed 2 end = passed\n\
                     end\n",
-                    0,
-                    0,
-                ),
-            ],
+                0,
+                0,
+            )],
         ),
         // A node that no client called is not told of.
         (
@@ -613,15 +599,13 @@ fn calls_and_refusals_stand_in_their_order(rt: HostRuntime) -> Result<(), Fail> 
                 ),
                 FIRST,
             ],
-            &[
-                (
-                    b"dvbemu 1\n\
+            &[(
+                b"dvbemu 1\n\
                     packets=1 skipped=0 rest=0\n\
                     end\n",
-                    0,
-                    0,
-                ),
-            ],
+                0,
+                0,
+            )],
         ),
     ];
     for (case, (batch, parts, want)) in cases.into_iter().enumerate() {

@@ -1,7 +1,7 @@
-use Rattle.std.proofs.Common.{rules, subst, refl, ap, ◌≡◌, ℕ, ◌+◌, ◌≤◌, take, length, map, fold, arith}
+use Rattle.std.proofs.Common.{rules, subst, refl, ap, ◌≡◌, ◌≤◌, take, length, map, fold, arith}
 use Rattle.std.proofs.lemmas.List.{take_all}
 use Rattle.dmx_calls.specs.Calls.{told_entry}
-use Rattle.emu_top.specs.SerialRun.{begun, done, finished}
+use Rattle.emu_top.specs.SerialRun.{begun, done}
 use Rattle.emu_top.specs.Runner.{IsAt}
 use Rattle.emu_top.proofs.Going.{at_begun, log_at_end}
 use Rattle.emu_top.proofs.runner.run_counted.Goals as goal

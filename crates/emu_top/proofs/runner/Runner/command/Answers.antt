@@ -1,8 +1,4 @@
-use Rattle.std.proofs.Common.{rules, refl, ap, sym, ◌∙◌, ◌≡◌, ℕ, ◌+◌, ◌-◌, ◌<◌, ◌≤◌, min, Bool, true, false, take, drop, arith}
-use Rattle.dmx_calls.specs.History.{History}
-use Rattle.emu_top.specs.SerialRun.{Run, answered, called, passed, all_passed, ended, asked}
-use Rattle.emu_top.specs.Runner.{IsAt, Counts}
-
+use Rattle.std.proofs.Common.{ap, ◌+◌}
 use Rattle.emu_top.proofs.Going.{at_called}
 use Rattle.emu_top.proofs.runner.Runner.command.Goals as goal
 

@@ -1,6 +1,6 @@
-use Rattle.std.proofs.Common.{refl, ap, sym, ◌∙◌, ◌≡◌, ℕ, ◌+◌, ◌-◌, ◌<◌, ◌≤◌, min, drop, arith}
+use Rattle.std.proofs.Common.{ap, sym, ◌∙◌, ◌≡◌, ◌+◌, ◌-◌, ◌<◌, min, drop, arith}
 use Rattle.std.proofs.lemmas.List.{drop-drop}
-use Rattle.emu_top.specs.SerialRun.{Run, all_passed, passed}
+use Rattle.emu_top.specs.SerialRun.{all_passed, passed}
 use Rattle.emu_top.proofs.Going.{passed_more}
 use Rattle.emu_top.proofs.runner.Runner.pass_all.Goals as goal
 

@@ -1,9 +1,6 @@
-use Rattle.std.proofs.Common.{rules, refl, ap, sym, ◌∙◌, ◌≡◌, ℕ, ◌+◌, ◌-◌, ◌<◌, ◌≤◌, min, Bool, true, false, take, drop, arith}
-use Rattle.dmx_calls.specs.History.{History}
-use Rattle.emu_top.specs.SerialRun.{Run, answered, called, passed, all_passed, ended, asked}
+use Rattle.std.proofs.Common.{◌≡◌, ℕ, ◌+◌, ◌-◌, ◌≤◌, drop}
+use Rattle.emu_top.specs.SerialRun.{Run, all_passed}
 use Rattle.emu_top.specs.Runner.{IsAt, Counts}
-
-use Rattle.std.proofs.Common.{length}
 use Rattle.emu_top.specs.declared.runner.Runner.{Runner}
 use Rattle.emu_top.proofs.runner.Runner.pass_all.Given as goal
 
