@@ -5,3 +5,4 @@ pub mod After
 pub mod Nodes
 pub mod Accounting
 pub mod LawsHold
+pub mod Pieces
