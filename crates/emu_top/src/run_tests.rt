@@ -616,3 +616,181 @@ fn calls_and_refusals_stand_in_their_order(rt: HostRuntime) -> Result<(), Fail> 
     }
     Ok(())
 }
+
+// The sessions of the folder examples, each with the report that stands beside it.
+#[test]
+fn the_examples_give_their_reports(rt: HostRuntime) -> Result<(), Fail> {
+    let cases: [Case; 4] = [
+        // examples/one-tap
+        (
+            "1",
+            &[
+                (
+                    b"# One demux node with a tap of whole packets on PID 256, and a read of the first four bytes.\n\
+                    c0 open n0\n\
+                    c0 pes n0 256 frontend tsdemux_tap 20 0\n\
+                    c0 start n0\n\
+                    feed 3\n\
+                    c0 read n0 4\n\
+                    stream\n",
+                    0,
+                    0,
+                ),
+                FIRST,
+                OTHER,
+                SECOND,
+            ],
+            &[(
+                b"dvbemu 1\n\
+                    packets=3 skipped=0 rest=0\n\
+                    node 0\n\
+                    0 c0 0 open = done drop=0..0 tap=keep\n\
+                    1 c0 1 pes pid=256 input=frontend output=tsdemux_tap type=20 flags=0 at=0 = done drop=0..0 tap=keep\n\
+                    2 c0 2 start at=0 = done drop=0..0 tap=keep\n\
+                    3 feed 0 pass input=frontend first=0 count=1 at=0 = passed\n\
+                    4 feed 1 pass input=frontend first=1 count=1 at=0 = passed\n\
+                    5 feed 2 pass input=frontend first=2 count=1 at=0 = passed\n\
+                    6 c0 3 read 4 at=0 = data 47010010\n\
+                    7 feed 3 end = passed\n\
+                    end\n",
+                0,
+                0,
+            )],
+        ),
+        // examples/overflow
+        (
+            "1",
+            &[
+                (
+                    b"# A buffer of 377 bytes holds 376, so two packets. The third doesn't fit: the next read names the span that is lost, from\n\
+                    # the first packet on, and only what comes after it is given again.\n\
+                    c0 open n0\n\
+                    c0 size n0 377\n\
+                    c0 pes n0 256 frontend tsdemux_tap 20 0\n\
+                    c0 start n0\n\
+                    feed 3\n\
+                    c0 read n0 188\n\
+                    feed 1\n\
+                    c0 read n0 188\n\
+                    stream\n",
+                    0,
+                    0,
+                ),
+                FIRST,
+                SECOND,
+                THIRD,
+                FOURTH,
+            ],
+            &[
+                (
+                    b"dvbemu 1\n\
+                    packets=4 skipped=0 rest=0\n\
+                    node 0\n\
+                    0 c0 0 open = done drop=0..0 tap=keep\n\
+                    1 c0 1 size 377 = done drop=0..0 tap=keep\n\
+                    2 c0 2 pes pid=256 input=frontend output=tsdemux_tap type=20 flags=0 at=0 = done drop=0..0 tap=keep\n\
+                    3 c0 3 start at=0 = done drop=0..0 tap=keep\n\
+                    4 feed 0 pass input=frontend first=0 count=1 at=0 = passed\n\
+                    5 feed 1 pass input=frontend first=1 count=1 at=0 = passed\n\
+                    6 feed 2 pass input=frontend first=2 count=1 at=0 = passed\n\
+                    7 c0 4 read 188 at=0 = overflow 0..564 item=2 need=188 room=0\n\
+                    8 feed 3 pass input=frontend first=3 count=1 at=0 = passed\n\
+                    9 c0 5 read 188 at=0 = data 47010013",
+                    368,
+                    b'0',
+                ),
+                (
+                    b"\n\
+                    10 feed 4 end = passed\n\
+                    end\n",
+                    0,
+                    0,
+                ),
+            ],
+        ),
+        // examples/partial-read
+        (
+            "1",
+            &[
+                (
+                    b"# A packet read in two parts, and a third read that finds nothing. The filter is started behind the first packet, so\n\
+                    # that one isn't given; the packet of PID 257 isn't either.\n\
+                    c0 open n0\n\
+                    c0 pes n0 256 frontend tsdemux_tap 20 0\n\
+                    feed 1\n\
+                    c0 start n0\n\
+                    feed 2\n\
+                    c0 read n0 5\n\
+                    c0 read n0 200\n\
+                    c0 read n0 200\n\
+                    stream\n",
+                    0,
+                    0,
+                ),
+                (b"\x47\x01\x00\x10", 184, 0xaa),
+                (b"\x47\x01\x01\x10", 184, 0xbb),
+                (b"\x47\x01\x00\x11", 184, 0xcc),
+            ],
+            &[
+                (
+                    b"dvbemu 1\n\
+                    packets=3 skipped=0 rest=0\n\
+                    node 0\n\
+                    0 c0 0 open = done drop=0..0 tap=keep\n\
+                    1 c0 1 pes pid=256 input=frontend output=tsdemux_tap type=20 flags=0 at=0 = done drop=0..0 tap=keep\n\
+                    2 feed 0 pass input=frontend first=0 count=1 at=0 = passed\n\
+                    3 c0 2 start at=0 = done drop=0..0 tap=keep\n\
+                    4 feed 1 pass input=frontend first=1 count=1 at=0 = passed\n\
+                    5 feed 2 pass input=frontend first=2 count=1 at=0 = passed\n\
+                    6 c0 3 read 5 at=0 = data 47010011cc\n\
+                    7 c0 4 read 200 at=0 = data ",
+                    366,
+                    b'c',
+                ),
+                (
+                    b"\n\
+                    8 c0 5 read 200 at=0 = again ended=0\n\
+                    9 feed 3 end = passed\n\
+                    end\n",
+                    0,
+                    0,
+                ),
+            ],
+        ),
+        // examples/garbage
+        (
+            "1",
+            &[
+                (
+                    b"# Three packets with other bytes between them, and a packet that is cut off at the end.\n\
+                    # The script has no command, so no node is opened and the report is the tally of the stream.\n\
+                    \n\
+                    stream\n",
+                    0,
+                    0,
+                ),
+                (b"\x00\x01\x02", 0, 0),
+                FIRST,
+                (b"\xff", 0, 0),
+                OTHER,
+                SECOND,
+                (b"\xde\xad\xbe\xef\x00", 0, 0),
+                (b"\x47\x01\x00\x12", 96, 0x55),
+            ],
+            &[(
+                b"dvbemu 1\n\
+                    packets=3 skipped=9 rest=100\n\
+                    end\n",
+                0,
+                0,
+            )],
+        ),
+    ];
+    for (case, (batch, parts, want)) in cases.into_iter().enumerate() {
+        let (status, written) = told(rt.alloc(), &["steps", "--batch", batch], parts)?;
+        assert!(rt; status == Status::Ok, "case {case}");
+        let want = input_of(rt.alloc(), want)?;
+        assert_eq!(rt; written.as_slice(), want.as_slice(), "case {case}");
+    }
+    Ok(())
+}
