@@ -437,10 +437,54 @@ fn what_does_not_fit_is_lost_and_said_so(rt: HostRuntime) -> Result<(), Fail> {
 
 #[test]
 fn calls_and_refusals_stand_in_their_order(rt: HostRuntime) -> Result<(), Fail> {
-    let cases: [Case; 5] = [
+    let cases: [Case; 6] = [
         // A start drops what is unread, and a close gives the node back.
         (
             "1",
+            &[
+                (
+                    b"c0 open n0\n\
+                    c0 pes n0 256 frontend tsdemux_tap 20 0\n\
+                    c0 start n0\n\
+                    feed 1\n\
+                    c0 read n0 100\n\
+                    c0 start n0\n\
+                    c0 read n0 1\n\
+                    c0 close n0\n\
+                    stream\n",
+                    0,
+                    0,
+                ),
+                FIRST,
+            ],
+            &[
+                (
+                    b"dvbemu 1\n\
+                    packets=1 skipped=0 rest=0\n\
+                    node 0\n\
+                    0 c0 0 open = done drop=0..0 tap=keep\n\
+                    1 c0 1 pes pid=256 input=frontend output=tsdemux_tap type=20 flags=0 at=0 = done drop=0..0 tap=keep\n\
+                    2 c0 2 start at=0 = done drop=0..0 tap=keep\n\
+                    3 feed 0 pass input=frontend first=0 count=1 at=0 = passed\n\
+                    4 c0 3 read 100 at=0 = data 47010010",
+                    192,
+                    b'0',
+                ),
+                (
+                    b"\n\
+                    5 c0 4 start at=0 = done drop=100..188 tap=keep\n\
+                    6 c0 5 read 1 at=0 = again ended=0\n\
+                    7 c0 6 close = done drop=0..0 tap=keep\n\
+                    8 feed 1 end = passed\n\
+                    end\n",
+                    0,
+                    0,
+                ),
+            ],
+        ),
+        // The same in batches, each of which has one packet.
+        (
+            "64",
             &[
                 (
                     b"c0 open n0\n\
