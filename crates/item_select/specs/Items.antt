@@ -1,0 +1,44 @@
+-- The items that a filter selects from packets.
+-- Source: the Linux media API, chapter Digital TV demux (dmx_sct_filter_params, dmx_pes_filter_params, dmx_output); ISO/IEC 13818-1, 2.4.3 for packets and 2.4.4 for sections.
+use Rattle.std.specs.Prelude.{ℕ, Bool, true, false, not, ◌&&◌, ◌||◌, nat_eq, List, [], ◌∷◌, map, take, filter, filter_map, slice_index, Option, Some, None, if◌then◌else◌}
+use Rattle.ts_packet.specs.Fields.{bit, pid_of, payload_of}
+use Rattle.section_parse.specs.Sections.{sections}
+use Rattle.section_crc.specs.Crc.{crc}
+use Rattle.filter_match.specs.declared.filter.SectionFilter.{SectionFilter}
+use Rattle.filter_match.specs.Match.{matches}
+use Rattle.pid_set.specs.Pids.{has_pid}
+use Rattle.item_select.specs.declared.selector.TheConstants.{ALL_PACKETS}
+
+-- What is selected: nothing; the sections of a PID that a filter lets through, with a right CRC or without one where `check`, and the first alone where `once`; or packets, whole or their payloads alone.
+pub data Choice : Type 0 where
+  Nothing : Choice
+  Sections : (pid : ℕ) → SectionFilter → (check once : Bool) → Choice
+  Packets : (whole : Bool) → Choice
+
+-- a packet that was offered, with the PIDs that the filter had then
+pub record Offered : Type 0 where
+  pub packet : List ℕ
+  pub pids : List ℕ
+
+-- A section is selected where it matches; and under `check` only where it has no CRC, its section_syntax_indicator being 0, or where the CRC over the whole of it is 0.
+unfoldable pub is_selected : SectionFilter → (check : Bool) → List ℕ → Bool
+is_selected wanted check section =
+    matches wanted section && (not check || (not (bit (slice_index section 1) 128) || nat_eq (crc section) 0))
+
+-- these items; or the first alone
+abbrev pub first_if : (once : Bool) → List (List ℕ) → List (List ℕ)
+first_if once items = if once then take 1 items else items
+
+-- one of the PIDs names the packet; PID 0x2000 names every packet
+abbrev pub is_named : Offered → Bool
+is_named o = has_pid ALL_PACKETS o.pids || has_pid (pid_of o.packet) o.pids
+
+-- what a packet gives: itself, or its payload where it has one; and nothing where it isn't named
+unfoldable pub given_by : (whole : Bool) → Offered → Option (List ℕ)
+given_by whole o = if is_named o then (if whole then Some o.packet else payload_of o.packet) else None
+
+-- The items of the packets offered, the first of them first.
+unfoldable pub items_of : Choice → List Offered → List (List ℕ)
+items_of Nothing offered = []
+items_of (Sections pid wanted check once) offered = first_if once (filter (is_selected wanted check) (sections (map (λ o. o.packet) offered) pid))
+items_of (Packets whole) offered = filter_map (given_by whole) offered
