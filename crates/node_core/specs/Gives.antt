@@ -1,16 +1,16 @@
--- What a reply must be, by the facts alone.
+-- What a reply must be, by what the node knows.
 use Rattle.std.specs.Prelude.{ℕ, ◌≡◌, true, ◌⊎◌}
 use Rattle.dmx_calls.specs.declared.node.NodeKind.TheVariants.{Demux}
 use Rattle.dmx_calls.specs.Invocation.{Invocation}
-use Rattle.dmx_calls.specs.Response.{Response, NoMemory}
-use Rattle.dmx_calls.specs.Facts.{Facts}
+use Rattle.dmx_calls.specs.Response.{Response, NoMemory, Passed}
 use Rattle.dmx_calls.specs.Answer.{answer_by}
 use Rattle.dmx_calls.specs.Legal.{is_done, takes_memory}
+use Rattle.node_core.specs.Step.{Knows, moved}
 
--- as far as the calls are built, no call's reply looks at the facts after it
-abbrev pub settled : Facts → (who : ℕ) → Invocation → Response
-settled f who call = answer_by Demux f f who call
+-- the answer looks at what is known before the call, and at what is known with it, whatever its reply
+abbrev pub settled : Knows → (who : ℕ) → Invocation → Response
+settled k who call = answer_by Demux k.facts (moved k who call Passed).facts who call
 
 -- the answer, or want of memory
-abbrev pub Gives : Facts → (who : ℕ) → Invocation → Response → Type 0
-Gives f who call r = (r ≡ settled f who call) ⊎ (r ≡ NoMemory) × (is_done (settled f who call) ≡ true) × (takes_memory f call ≡ true)
+abbrev pub Gives : Knows → (who : ℕ) → Invocation → Response → Type 0
+Gives k who call r = (r ≡ settled k who call) ⊎ (r ≡ NoMemory) × (is_done (settled k who call) ≡ true) × (takes_memory k.facts call ≡ true)

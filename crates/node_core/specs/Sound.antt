@@ -1,10 +1,13 @@
--- What holds of the facts of each node, as far as the calls are built.
+-- What holds of what each node knows, as far as the calls are built.
 use Rattle.std.specs.Prelude.{ℕ, ◌≡◌, ◌≤◌, ◌-◌, Bool, true, false, not, List, [], length, Option, Some, None}
 use Rattle.dmx_calls.specs.declared.params.Output.{Output}
 use Rattle.dmx_calls.specs.declared.params.Output.TheVariants.{TsTap}
 use Rattle.dmx_calls.specs.Tenure.{Params, Empty, Section, Pes}
 use Rattle.dmx_calls.specs.Ledger.{Misfit}
 use Rattle.dmx_calls.specs.Facts.{Ledger, Facts}
+use Rattle.item_select.specs.Selecting.{Selecting}
+use Rattle.node_core.specs.Offers.{choice_of, names_of}
+use Rattle.node_core.specs.Step.{Knows}
 
 -- DMX_OUT_TS_TAP
 abbrev pub is_ts_tap : Output → Bool
@@ -16,30 +19,37 @@ abbrev pub UnreadFits : Option Misfit → List ℕ → ℕ → Type 0
 UnreadFits (Some misfit) unread left = unread ≡ []
 UnreadFits None unread left = length unread ≡ left
 
--- A capture's ledger: no more was answered than arrived, an item has at least one byte, and what may be read is what isn't answered. No filter expires yet, and none has sections.
+-- A capture's ledger: no more was answered than arrived, an item has at least one byte, and what may be read is what isn't answered.
 pub record Coherent (l : Ledger) : Type 0 where
   pub answered : l.answered ≤ l.total
   pub unread : UnreadFits l.over l.unread (l.total - l.answered)
   pub count : l.count ≤ l.total
-  pub expired : l.expired ≡ None
-  pub is_told : l.is_told ≡ false
-  pub rest : l.rest ≡ 0
+
+-- of the capture, if there is one
+abbrev pub CoherentIn : Option Ledger → Type 0
+CoherentIn None = Unit {0}
+CoherentIn (Some l) = Coherent l
 
 -- a capture has a filter, which isn't for the dvr node
 abbrev pub IsSoundBy : Params → Option Ledger → Type 0
-IsSoundBy Empty None = Unit {0}
-IsSoundBy Empty (Some l) = ⊥
-IsSoundBy (Section p) ledger = ⊥
-IsSoundBy (Pes p) None = is_ts_tap p.output ≡ false
-IsSoundBy (Pes p) (Some l) = (is_ts_tap p.output ≡ false) × Coherent l
+IsSoundBy Empty ledger = ledger ≡ None
+IsSoundBy (Section p) ledger = CoherentIn ledger
+IsSoundBy (Pes p) ledger = (is_ts_tap p.output ≡ false) × CoherentIn ledger
 
 -- a node without an owner has no filter and no capture
 abbrev pub IsSoundFor : Option ℕ → Params → Option Ledger → Type 0
 IsSoundFor None params ledger = (params ≡ Empty) × (ledger ≡ None)
 IsSoundFor (Some who) params ledger = IsSoundBy params ledger
 
-abbrev pub IsSound : Facts → Type 0
-IsSound f = IsSoundFor f.owner f.params f.ledger
+-- the selector has the filter and its PIDs, and has given all its items
+pub record IsReady (f : Facts) (s : Selecting) : Type 0 where
+  pub choice : s.choice ≡ choice_of f.params
+  pub pids : s.pids ≡ names_of (choice_of f.params) f.pids
+  pub given : s.ready ≡ []
+
+pub record IsSound (k : Knows) : Type 0 where
+  pub facts : IsSoundFor k.facts.owner k.facts.params k.facts.ledger
+  pub selecting : IsReady k.facts k.selecting
 
 -- the bytes of the capture
 abbrev pub total_of : Option Ledger → ℕ
@@ -50,11 +60,6 @@ total_of (Some l) = l.total
 abbrev pub place_of : Option Ledger → ℕ
 place_of None = 0
 place_of (Some l) = l.answered
-
--- of the capture, if there is one
-abbrev pub CoherentIn : Option Ledger → Type 0
-CoherentIn None = Unit {0}
-CoherentIn (Some l) = Coherent l
 
 -- a capture is there and wasn't stopped
 abbrev pub is_live : Option Ledger → Bool
