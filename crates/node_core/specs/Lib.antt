@@ -1,3 +1,4 @@
+pub mod Offers
 pub mod Step
 pub mod Sound
 pub mod Gives
