@@ -1,27 +1,47 @@
--- The code's calls and replies, as invocations and responses.
+-- The code's calls, replies and filters, as invocations, responses and what was set.
+use Rattle.std.specs.Prelude.{ℕ, List, [], ◌∷◌}
 use Rattle.dmx_calls.specs.declared.call.Call.{Call}
-use Rattle.dmx_calls.specs.declared.call.Call.TheVariants.{Open as OpenCall, Close as CloseCall, SetPes as SetPesCall, Start as StartCall, Stop as StopCall, SetSize as SetSizeCall, Read as ReadCall, Pass as PassCall, End as EndCall}
+use Rattle.dmx_calls.specs.declared.call.Call.TheVariants.{Open as OpenCall, Close as CloseCall, SetFilter as SetFilterCall, SetPes as SetPesCall, AddPid as AddPidCall, RemovePid as RemovePidCall, Start as StartCall, Stop as StopCall, SetSize as SetSizeCall, Read as ReadCall, Poll as PollCall, Pass as PassCall, End as EndCall}
 use Rattle.dmx_calls.specs.declared.log.Act.{Act as ToldAct}
-use Rattle.dmx_calls.specs.declared.log.Act.TheVariants.{Open as OpenTold, Close as CloseTold, SetPes as SetPesTold, Start as StartTold, Stop as StopTold, SetSize as SetSizeTold, Read as ReadTold, Pass as PassTold, End as EndTold}
+use Rattle.dmx_calls.specs.declared.log.Act.TheVariants.{Open as OpenTold, Close as CloseTold, SetFilter as SetFilterTold, SetPes as SetPesTold, AddPid as AddPidTold, RemovePid as RemovePidTold, Start as StartTold, Stop as StopTold, SetSize as SetSizeTold, Read as ReadTold, Poll as PollTold, Pass as PassTold, End as EndTold}
 use Rattle.dmx_calls.specs.declared.log.Entry.{Entry as ToldEntry}
+use Rattle.dmx_calls.specs.declared.params.Params.{Params as SetParams}
+use Rattle.dmx_calls.specs.declared.params.Params.TheVariants.{Empty as EmptySet, Section as SectionSet, Pes as PesSet}
 use Rattle.dmx_calls.specs.declared.reply.Tap.{Tap}
 use Rattle.dmx_calls.specs.declared.reply.Tap.TheVariants.{Keep}
 use Rattle.dmx_calls.specs.declared.reply.Reply.{Reply}
-use Rattle.dmx_calls.specs.declared.reply.Reply.TheVariants.{Done as DoneReply, Busy as BusyReply, Refused as RefusedReply, NoMemory as NoMemoryReply, Data as DataReply, Again as AgainReply, Overflow as OverflowReply, Passed as PassedReply}
-use Rattle.dmx_calls.specs.Invocation.{Invocation, Open, Close, SetPes, Start, Stop, SetSize, Read, Pass, End}
-use Rattle.dmx_calls.specs.Log.{Act, OpenAct, CloseAct, SetPesAct, StartAct, StopAct, SetSizeAct, ReadAct, PassAct, EndAct, LogEntry}
-use Rattle.dmx_calls.specs.Response.{TapChange, KeepTap, Response, Done, Busy, Refused, NoMemory, Data, Again, Overflow, Passed}
+use Rattle.dmx_calls.specs.declared.reply.Reply.TheVariants.{Done as DoneReply, Busy as BusyReply, Refused as RefusedReply, NoMemory as NoMemoryReply, Data as DataReply, Again as AgainReply, Overflow as OverflowReply, TimedOut as TimedOutReply, Ready as ReadyReply, Passed as PassedReply}
+use Rattle.dmx_calls.specs.Invocation.{Invocation, Open, Close, SetFilter, SetPes, AddPid, RemovePid, Start, Stop, SetSize, Read, Poll, Pass, End}
+use Rattle.dmx_calls.specs.Tenure.{Params, Empty, Section, Pes}
+use Rattle.dmx_calls.specs.Log.{Act, OpenAct, CloseAct, SetFilterAct, SetPesAct, AddPidAct, RemovePidAct, StartAct, StopAct, SetSizeAct, ReadAct, PollAct, PassAct, EndAct, LogEntry}
+use Rattle.dmx_calls.specs.Response.{TapChange, KeepTap, Response, Done, Busy, Refused, NoMemory, Data, Again, Overflow, TimedOut, Ready, Passed}
 
 abbrev pub invocation_of : Call → Invocation
 invocation_of OpenCall = Open
 invocation_of CloseCall = Close
+invocation_of (SetFilterCall params now) = SetFilter params now
 invocation_of (SetPesCall params now) = SetPes params now
+invocation_of (AddPidCall pid) = AddPid pid
+invocation_of (RemovePidCall pid) = RemovePid pid
 invocation_of (StartCall now) = Start now
 invocation_of StopCall = Stop
 invocation_of (SetSizeCall size) = SetSize size
 invocation_of (ReadCall now buf) = Read now buf.count
+invocation_of (PollCall now) = Poll now
 invocation_of (PassCall input batch now) = Pass input batch.value.first batch.value.packets now
 invocation_of EndCall = End
+
+-- what was set, without the PIDs
+abbrev pub params_of : SetParams → Params
+params_of EmptySet = Empty
+params_of (SectionSet params) = Section params
+params_of (PesSet params pids) = Pes params
+
+-- the PIDs of what was set
+abbrev pub pids_of : SetParams → List ℕ
+pids_of EmptySet = []
+pids_of (SectionSet params) = params.pid ∷ []
+pids_of (PesSet params pids) = pids
 
 abbrev pub tap_change_of : Tap → TapChange
 tap_change_of Keep = KeepTap
@@ -35,17 +55,23 @@ response_of NoMemoryReply = NoMemory
 response_of (DataReply buf) = Data buf.bytes
 response_of (AgainReply ended) = Again ended
 response_of (OverflowReply from to item need room) = Overflow from to item need room
+response_of (TimedOutReply started now timeout) = TimedOut started now timeout
+response_of (ReadyReply readable error at ended) = Ready readable error at ended
 response_of PassedReply = Passed
 
 -- the code's acts and entries, as those of a log
 abbrev pub told_act : ToldAct → Act
 told_act OpenTold = OpenAct
 told_act CloseTold = CloseAct
+told_act (SetFilterTold params now) = SetFilterAct params now
 told_act (SetPesTold params now) = SetPesAct params now
+told_act (AddPidTold pid) = AddPidAct pid
+told_act (RemovePidTold pid) = RemovePidAct pid
 told_act (StartTold now) = StartAct now
 told_act StopTold = StopAct
 told_act (SetSizeTold size) = SetSizeAct size
 told_act (ReadTold now count) = ReadAct now count
+told_act (PollTold now) = PollAct now
 told_act (PassTold input first count now) = PassAct input first count now
 told_act EndTold = EndAct
 

@@ -1,7 +1,7 @@
 // The calls of a node.
 
 use crate::byte_buf::ByteBuf;
-use crate::params::{Input, PesParams};
+use crate::params::{Input, PesParams, SectionParams};
 use std::sync::Arc;
 use ts_batch::Batch;
 
@@ -12,6 +12,13 @@ pub enum Call {
     Open,
     /// Gives the node back.
     Close,
+    /// Sets a section filter.
+    SetFilter {
+        /// The filter.
+        params: SectionParams,
+        /// The moment.
+        now: u64,
+    },
     /// Sets a PES filter.
     SetPes {
         /// The filter.
@@ -19,6 +26,10 @@ pub enum Call {
         /// The moment.
         now: u64,
     },
+    /// Adds a PID to a PES filter.
+    AddPid(u16),
+    /// Removes a PID from a PES filter.
+    RemovePid(u16),
     /// Starts the filter.
     Start {
         /// The moment.
@@ -34,6 +45,11 @@ pub enum Call {
         now: u64,
         /// An empty buffer.
         buf: ByteBuf,
+    },
+    /// Asks whether a read would give something, and what is pending.
+    Poll {
+        /// The moment.
+        now: u64,
     },
     /// The packets of a batch pass the node.
     Pass {

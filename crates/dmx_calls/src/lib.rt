@@ -7,9 +7,11 @@
 //! written once, over the `Rules` in which a demux node and the dvr node differ. None of them has a ring, an assembler or
 //! a state that is kept.
 //!
-//! What a contract sees: `invocation_of` a `Call` and `response_of` a `Reply`; a `ByteBuf` as its count and its bytes.
+//! What a contract sees: `invocation_of` a `Call` and `response_of` a `Reply`; `params_of` and `pids_of` the `Params`; a
+//! `ByteBuf` as its count and its bytes.
 //!
-//! What is proved: each call of `ByteBuf`. The laws of `laws`: every legal history is accounted, so each byte is given,
+//! What is proved: each call of `ByteBuf`. `refusal`, whose body is the table of calls and states, is the refusal that
+//! the answer of a history names. The laws of `laws`: every legal history is accounted, so each byte is given,
 //! named as lost or named as dropped, in its place; an entry that isn't accepted changes nothing; the items of a capture
 //! only grow; an overflow's item needs more than the room that it found. The worked examples of `examples`, worked out by
 //! hand from the rules, are what the definitions give: every call in every state, reads, overflows, sections, timeouts,
@@ -28,6 +30,7 @@ pub mod limits;
 mod log;
 mod node;
 mod params;
+mod refusals;
 mod reply;
 #[cfg(test)]
 mod tests;
@@ -36,5 +39,6 @@ pub use byte_buf::ByteBuf;
 pub use call::Call;
 pub use log::{Act, Entry};
 pub use node::{NodeKind, State};
-pub use params::{Input, Output, PesParams, SectionParams};
+pub use params::{Input, Output, Params, PesParams, SectionParams};
+pub use refusals::refusal;
 pub use reply::{Answer, Errno, PollError, Reply, Span, Tap};

@@ -5,7 +5,7 @@ ghost use Rattle.dmx_calls.specs.Calls.{invocation_of, told_act};
 ghost use Rattle.dmx_calls.specs.Log.{act_of};
 
 use crate::call::Call;
-use crate::params::{Input, PesParams};
+use crate::params::{Input, PesParams, SectionParams};
 use crate::reply::Reply;
 
 /// A call as a report tells it: a Read by its count, and a Pass by the number of its first packet and how many there are.
@@ -16,6 +16,13 @@ pub enum Act {
     Open,
     /// Gives the node back.
     Close,
+    /// Sets a section filter.
+    SetFilter {
+        /// The filter.
+        params: SectionParams,
+        /// The moment.
+        now: u64,
+    },
     /// Sets a PES filter.
     SetPes {
         /// The filter.
@@ -23,6 +30,10 @@ pub enum Act {
         /// The moment.
         now: u64,
     },
+    /// Adds a PID to a PES filter.
+    AddPid(u16),
+    /// Removes a PID from a PES filter.
+    RemovePid(u16),
     /// Starts the filter.
     Start {
         /// The moment.
@@ -38,6 +49,11 @@ pub enum Act {
         now: u64,
         /// The count of the buffer, in bytes.
         count: u32,
+    },
+    /// Asks whether a read would give something, and what is pending.
+    Poll {
+        /// The moment.
+        now: u64,
     },
     /// The packets of a batch pass the node.
     Pass {
@@ -62,10 +78,16 @@ impl Act {
         match call {
             Call::Open => Act::Open,
             Call::Close => Act::Close,
+            Call::SetFilter { params, now } => Act::SetFilter {
+                params: *params,
+                now: *now,
+            },
             Call::SetPes { params, now } => Act::SetPes {
                 params: *params,
                 now: *now,
             },
+            Call::AddPid(pid) => Act::AddPid(*pid),
+            Call::RemovePid(pid) => Act::RemovePid(*pid),
             Call::Start { now } => Act::Start { now: *now },
             Call::Stop => Act::Stop,
             Call::SetSize(size) => Act::SetSize(*size),
@@ -73,6 +95,7 @@ impl Act {
                 now: *now,
                 count: buf.count(),
             },
+            Call::Poll { now } => Act::Poll { now: *now },
             Call::Pass { input, batch, now } => Act::Pass {
                 input: *input,
                 first: batch.first(),

@@ -1,6 +1,7 @@
 // What the two set calls ask for.
 
 use filter_match::SectionFilter;
+use pid_set::Pids;
 
 /// Where a filter's packets come from.
 #[derive(Clone, Copy, Debug, PartialEq, Eq, Drop)]
@@ -50,4 +51,20 @@ pub struct PesParams {
     pub pes_type: u32,
     /// The bits of the flags. Only DMX_IMMEDIATE_START has an effect.
     pub flags: u32,
+}
+
+/// What was set on a node.
+#[derive(Debug, PartialEq, Eq, Drop)]
+pub enum Params {
+    /// No filter.
+    Empty,
+    /// A section filter.
+    Section(SectionParams),
+    /// A PES filter.
+    Pes {
+        /// What the set call asked for.
+        params: PesParams,
+        /// The filter's PIDs, with those that were added and without those that were removed.
+        pids: Pids,
+    },
 }

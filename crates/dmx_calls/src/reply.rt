@@ -83,6 +83,26 @@ pub enum Reply {
         /// The room that it found, in bytes.
         room: u64,
     },
+    /// No section came before the filter's timeout.
+    TimedOut {
+        /// The moment at which the filter was started, in milliseconds.
+        started: u64,
+        /// The moment of the entry that found the time to be over, in milliseconds.
+        now: u64,
+        /// The filter's timeout, in milliseconds.
+        timeout: u32,
+    },
+    /// What a Poll finds.
+    Ready {
+        /// A read of one byte would answer neither Again nor no bytes.
+        readable: bool,
+        /// What is pending.
+        error: PollError,
+        /// The place up to which all bytes are answered, in bytes from the filter's start.
+        at: u64,
+        /// The stream has ended.
+        ended: bool,
+    },
     /// A Pass or End went by.
     Passed,
 }
