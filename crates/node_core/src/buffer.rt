@@ -147,6 +147,18 @@ impl Buffer {
         self.capture = None;
     }
 
+    /// Ends the capture. Where `begins` says so, another begins.
+    pub fn renew(&mut self, begins: bool, now: u64)
+        ensures after { self.new ≡ record { size = self.old.size; ledger = if begins then Some (begun now) else None } }
+        ensures holds { CoherentIn self.new.ledger }
+    {
+        if begins {
+            self.begin(now);
+        } else {
+            self.end();
+        }
+    }
+
     /// Notes a Stop.
     pub fn stop(&mut self)
         ensures after { self.new ≡ record { size = self.old.size; ledger = option_map with_stop self.old.ledger } }
@@ -264,10 +276,7 @@ impl Buffer {
         let Some(capture) = &mut self.capture else {
             return (no_bytes(buf), None);
         };
-        if buf.count() == 0 {
-            return (no_bytes(buf), None);
-        }
-        if self.ring.unread() == 0 {
+        if buf.count() > 0 && self.ring.unread() == 0 {
             return (Reply::Again { ended }, Some(buf));
         }
         let most = most_bytes(by_section, capture.rest, self.ring.unread(), buf.count());

@@ -2,14 +2,15 @@
 
 ghost use Rattle.std.specs.Prelude.{ℕ, ◌≡◌, List};
 ghost use Rattle.dmx_calls.specs.Calls.{params_of, pids_of};
-ghost use Rattle.dmx_calls.specs.Items.{is_same_input, timeout_of as timeout_by};
+ghost use Rattle.dmx_calls.specs.Capture.{has_flag};
+ghost use Rattle.dmx_calls.specs.Items.{is_oneshot as once_by, is_same_input, timeout_of as timeout_by};
 ghost use Rattle.dmx_calls.specs.Facts.{has_had_its_section as is_done_by};
 ghost use Rattle.item_select.specs.Selecting.{begun, with_pids};
 ghost use Rattle.node_core.specs.Offers.{choice_by, choice_of, names_of, input_of};
 ghost use Rattle.node_core.specs.Step.{is_section as section_set};
 
-use dmx_calls::limits::{CHECK_CRC, ONESHOT};
-use dmx_calls::{Input, Output, Params, PesParams};
+use dmx_calls::limits::{CHECK_CRC, IMMEDIATE_START, ONESHOT};
+use dmx_calls::{Input, Output, Params, PesParams, SectionParams};
 use item_select::Selector;
 use pid_set::Pids;
 
@@ -40,12 +41,33 @@ pub fn takes_from(params: &Params, input: Input) -> bool
     }
 }
 
+/// DMX_IMMEDIATE_START is among these flags.
+pub fn starts_at_once(flags: u32) -> bool
+    ensures { result ≡ has_flag IMMEDIATE_START flags }
+{
+    flags & IMMEDIATE_START != 0
+}
+
+/// DMX_CHECK_CRC is among its flags.
+fn checks_crc(params: &SectionParams) -> bool
+    ensures { result ≡ has_flag CHECK_CRC params.now.flags }
+{
+    params.flags & CHECK_CRC != 0
+}
+
+/// DMX_ONESHOT is among its flags.
+fn is_oneshot(params: &SectionParams) -> bool
+    ensures { result ≡ once_by params.now }
+{
+    params.flags & ONESHOT != 0
+}
+
 /// With so many items it has had all: it is a section filter with DMX_ONESHOT, and has one.
 pub fn has_had_its_section(params: &Params, items: u64) -> bool
     ensures { result ≡ is_done_by (params_of params.now) items }
 {
     match params {
-        Params::Section(wanted) => wanted.flags & ONESHOT != 0 && items > 0,
+        Params::Section(wanted) => is_oneshot(wanted) && items > 0,
         Params::Empty | Params::Pes { .. } => false,
     }
 }
@@ -57,9 +79,8 @@ pub fn select(selector: &mut Selector, params: &Params)
     match params {
         Params::Empty => selector.set_none(),
         Params::Section(wanted) => {
-            let check = wanted.flags & CHECK_CRC != 0;
-            let once = wanted.flags & ONESHOT != 0;
-            selector.set_sections(wanted.pid, &wanted.filter, check, once);
+            let once = is_oneshot(wanted);
+            selector.set_sections(wanted.pid, &wanted.filter, checks_crc(wanted), once);
         }
         Params::Pes { params, pids } => match params.output {
             Output::Tap => selector.set_packets(false, pids),

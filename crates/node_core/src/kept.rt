@@ -4,7 +4,7 @@
 // that it gives, `after` how it goes on, `sound` what holds of it, and `bytes` bounds the bytes of its capture. Only Open
 // looks at its caller, so 0 stands for that of every other call.
 
-ghost use Rattle.std.specs.Prelude.{◌≡◌, ◌≢◌, ◌≤◌, ◌<◌, ◌+◌, ◌^◌, [], true, false, length, IfOk, Some, None, if◌then◌else◌};
+ghost use Rattle.std.specs.Prelude.{◌≡◌, ◌≢◌, ◌≤◌, ◌<◌, ◌+◌, ◌^◌, [], ◌∷◌, true, false, length, IfOk, Some, None, if◌then◌else◌};
 ghost use Rattle.dmx_calls.specs.declared.node.NodeKind.TheVariants.{Demux};
 ghost use Rattle.dmx_calls.specs.declared.limits.TheConstants.{DEMUX_SIZE, IMMEDIATE_START};
 ghost use Rattle.dmx_calls.specs.Invocation.{Open, Close, SetFilter, SetPes, AddPid, RemovePid, Start, Stop, SetSize, Read, Poll, Pass, End};
@@ -22,9 +22,9 @@ ghost use Rattle.node_core.specs.Step.{unset, begun, next};
 ghost use Rattle.node_core.specs.KeptView.{knows_of, bytes_in, IsTaken, reply_to, Replies};
 
 use crate::buffer::Buffer;
-use crate::filter::{is_section, rename, select, takes_from, timeout_of};
+use crate::filter::{is_section, rename, select, starts_at_once, takes_from, timeout_of};
 use crate::offer::offer_all;
-use dmx_calls::limits::{DEMUX_SIZE, IMMEDIATE_START};
+use dmx_calls::limits::DEMUX_SIZE;
 use dmx_calls::{
     ByteBuf, Call, Errno, Input, NodeKind, Params, PesParams, Reply, SectionParams, Span, State, Tap,
     refusal,
@@ -70,6 +70,18 @@ fn done(dropped: Span) -> Reply
     }
 }
 
+/// The set of this PID alone.
+#[tactic(auto, unfolding(pid_set::specs::Pids::with_pid))]
+fn only(pid: u16) -> Pids
+    ensures { result ≡ pid ∷ [] }
+{
+    let mut pids = Pids::new();
+    match pids.add(pid) {
+        Ok(_) => pids,
+        Err(_) => unreachable!(),
+    }
+}
+
 impl Tenure {
     /// A node that was just opened: it has the default size and no filter.
     fn new(alloc: Global, owner: u32) -> Result<Tenure, NoMemory>
@@ -94,11 +106,7 @@ impl Tenure {
         } }
     {
         let dropped = self.buffer.unread();
-        if flags & IMMEDIATE_START != 0 {
-            self.buffer.begin(now);
-        } else {
-            self.buffer.end();
-        }
+        self.buffer.renew(starts_at_once(flags), now);
         select(&mut self.selector, &params);
         self.params = params;
         done(dropped)
@@ -197,8 +205,7 @@ impl Kept {
         match &mut self.tenure {
             None => unreachable!(),
             Some(tenure) => {
-                let mut pids = Pids::new();
-                let _ = pids.add(params.pid);
+                let pids = only(params.pid);
                 tenure.set(Params::Pes { params, pids }, params.flags, now)
             }
         }
@@ -214,16 +221,15 @@ impl Kept {
         ensures bytes { bytes_in (knows_of self.new) ≤ bytes_in (knows_of self.old) }
     {
         match &mut self.tenure {
-            Some(Tenure {
-                params: Params::Pes { params, pids },
-                selector,
-                ..
-            }) => {
-                let _ = pids.add(pid);
-                rename(selector, params, pids);
-                done(NOTHING)
-            }
-            _ => unreachable!(),
+            None => unreachable!(),
+            Some(tenure) => match &mut tenure.params {
+                Params::Pes { params, pids } => {
+                    let _ = pids.add(pid);
+                    rename(&mut tenure.selector, params, pids);
+                    done(NOTHING)
+                }
+                Params::Empty | Params::Section(_) => unreachable!(),
+            },
         }
     }
 
@@ -237,16 +243,15 @@ impl Kept {
         ensures bytes { bytes_in (knows_of self.new) ≤ bytes_in (knows_of self.old) }
     {
         match &mut self.tenure {
-            Some(Tenure {
-                params: Params::Pes { params, pids },
-                selector,
-                ..
-            }) => {
-                pids.remove(pid);
-                rename(selector, params, pids);
-                done(NOTHING)
-            }
-            _ => unreachable!(),
+            None => unreachable!(),
+            Some(tenure) => match &mut tenure.params {
+                Params::Pes { params, pids } => {
+                    pids.remove(pid);
+                    rename(&mut tenure.selector, params, pids);
+                    done(NOTHING)
+                }
+                Params::Empty | Params::Section(_) => unreachable!(),
+            },
         }
     }
 
@@ -365,10 +370,12 @@ impl Kept {
     {
         if let Some(tenure) = &mut self.tenure {
             tenure.buffer.expire(timeout_of(&tenure.params), now);
-            let runs = matches!(tenure.buffer.state(&tenure.params), State::Go);
-            if runs && takes_from(&tenure.params, input) {
-                let by_section = is_section(&tenure.params);
-                offer_all(&mut tenure.selector, &mut tenure.buffer, by_section, batch, steps);
+            match tenure.buffer.state(&tenure.params) {
+                State::Go if takes_from(&tenure.params, input) => {
+                    let by_section = is_section(&tenure.params);
+                    offer_all(&mut tenure.selector, &mut tenure.buffer, by_section, batch, steps);
+                }
+                _ => {}
             }
         }
     }

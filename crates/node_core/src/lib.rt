@@ -23,7 +23,6 @@ mod buffer;
 mod filter;
 mod kept;
 mod node;
-#[cfg(test)]
-mod tests;
+mod offer;
 
 pub use node::NodeCore;

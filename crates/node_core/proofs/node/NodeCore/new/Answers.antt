@@ -6,4 +6,4 @@ use Rattle.node_core.proofs.node.NodeCore.new.Goals as goal
 
 pub returns-clause-stands : goal.returns-clause-stands
 unfolding facts has_ended owner tenure size size_or setting params pids capture
-returns-clause-stands c = record { legal = tt; count = refl; known = refl }
+returns-clause-stands c = record { legal = tt; count = refl; known = refl; selected = λ s is. absurd (cc) }
