@@ -30,6 +30,8 @@ pub mod limits;
 mod log;
 mod node;
 mod params;
+#[cfg(test)]
+mod refusal_tests;
 mod refusals;
 mod reply;
 #[cfg(test)]

@@ -1,3 +1,4 @@
+pub mod Filters
 pub mod Going
 pub mod Scripts
 pub mod Values

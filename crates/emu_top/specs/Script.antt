@@ -1,18 +1,21 @@
 -- What the lines of a script ask for (this project's own).
-use Rattle.std.specs.Prelude.{◌≡◌, ℕ, ◌≤◌, ◌==◌, ◌&&◌, List, [], ◌∷◌, Option, Some, None, if◌then◌else◌, codes}
+use Rattle.std.specs.Prelude.{◌≡◌, false, ℕ, ◌≤◌, ◌==◌, List, [], ◌∷◌, Option, Some, None, if◌then◌else◌, codes}
 use Rattle.std.specs.List.{slice_split}
 use Rattle.std.specs.Option.{option_map, option_and_then}
-use Rattle.dmx_calls.specs.declared.limits.TheConstants.{LARGEST_PID, LARGEST_PES_TYPE, LARGEST_READ}
-use Rattle.dmx_calls.specs.declared.params.PesParams.{PesParams}
-use Rattle.dmx_calls.specs.declared.params.Input.TheVariants.{Frontend}
-use Rattle.dmx_calls.specs.declared.params.Output.TheVariants.{TsdemuxTap}
+use Rattle.dmx_calls.specs.declared.limits.TheConstants.{LARGEST_READ}
+use Rattle.dmx_calls.specs.declared.params.Input.{Input}
+use Rattle.dmx_calls.specs.declared.params.Input.TheVariants.{Frontend, Dvr}
+use Rattle.dmx_calls.specs.declared.params.Output.{Output}
+use Rattle.dmx_calls.specs.declared.params.Output.TheVariants.{Decoder, Tap, TsdemuxTap}
+use Rattle.node_core.specs.Sound.{is_ts_tap}
 use Rattle.emu_top.specs.Numbers.{number_between}
+use Rattle.emu_top.specs.Places.{given, filter_of}
 use Rattle.emu_top.specs.Words.{is_word}
 use Rattle.emu_top.specs.Session.{Session, session_of, is_passed_over}
 use Rattle.emu_top.specs.declared.script.Verb.{Verb}
-use Rattle.emu_top.specs.declared.script.Verb.TheVariants.{Open, Close, Pes, Start, Stop, Size, Read}
+use Rattle.emu_top.specs.declared.script.Verb.TheVariants.{Open, Close, Section, Pes, Add, Remove, Start, Stop, Size, Read, Poll}
 use Rattle.emu_top.specs.declared.script.Line.{Line}
-use Rattle.emu_top.specs.declared.script.Line.TheVariants.{Feed, Command}
+use Rattle.emu_top.specs.declared.script.Line.TheVariants.{Feed, Tick, Command}
 
 -- the words of a line: it is split at each single space
 abbrev pub words_of : List ℕ → List (List ℕ)
@@ -20,51 +23,101 @@ words_of line = slice_split (λ byte. byte == 32) line
 
 -- ------ what is asked, by its name and the words behind the node
 
--- `open`, `close`, `start` and `stop` alone
-abbrev pub plain_verb : (name : List ℕ) → Option Verb
+-- the number of 16 bits that a word spells, as PIDs are
+abbrev pub pid_in : List ℕ → Option ℕ
+pid_in word = number_between 0 65535 word
+
+-- the number of 32 bits that a word spells
+abbrev pub count_in : List ℕ → Option ℕ
+count_in word = number_between 0 4294967295 word
+
+-- `open`, `close`, `start`, `stop` and `poll` alone
+unfoldable pub plain_verb : (name : List ℕ) → Option Verb
 plain_verb name =
     if is_word name (codes "open") then Some Open
     else (if is_word name (codes "close") then Some Close
     else (if is_word name (codes "start") then Some Start
-    else (if is_word name (codes "stop") then Some Stop else None)))
+    else (if is_word name (codes "stop") then Some Stop
+    else (if is_word name (codes "poll") then Some Poll else None))))
 
--- `size` or `read` and a count of bytes
-abbrev pub counted_verb : (name count : List ℕ) → Option Verb
-counted_verb name count =
-    if is_word name (codes "size") then option_map Size (number_between 0 4294967295 count)
-    else (if is_word name (codes "read") then option_map Read (number_between 0 LARGEST_READ count) else None)
+-- `add PID`, `remove PID`, `size N` and `read N`
+unfoldable pub counted_verb : (name number : List ℕ) → Option Verb
+counted_verb name number =
+    if is_word name (codes "add") then option_map Add (pid_in number)
+    else (if is_word name (codes "remove") then option_map Remove (pid_in number)
+    else (if is_word name (codes "size") then option_map Size (count_in number)
+    else (if is_word name (codes "read") then option_map Read (number_between 0 LARGEST_READ number) else None)))
 
--- a filter of whole packets that are read from the demux node
-abbrev pub params_of : (pid pes_type : ℕ) → PesParams
-params_of pid pes_type = record { pid = pid; input = Frontend; output = TsdemuxTap; pes_type = pes_type; flags = 0 }
+-- INPUT: where a filter's packets come from
+unfoldable pub input_named : List ℕ → Option Input
+input_named word =
+    if is_word word (codes "frontend") then Some Frontend
+    else (if is_word word (codes "dvr") then Some Dvr else None)
 
--- `pes PID frontend tsdemux_tap TYPE 0`
-abbrev pub pes_verb : (name pid input output pes_type flags : List ℕ) → Option Verb
-pes_verb name pid input output pes_type flags =
-    if is_word name (codes "pes") && (is_word input (codes "frontend") && (is_word output (codes "tsdemux_tap") && is_word flags (codes "0")))
-    then option_and_then (λ p. option_map (λ t. Pes (params_of p t)) (number_between 0 LARGEST_PES_TYPE pes_type)) (number_between 0 LARGEST_PID pid)
-    else None
+-- OUTPUT: where its items go; `ts_tap` isn't built yet
+unfoldable pub output_named : List ℕ → Option Output
+output_named word =
+    if is_word word (codes "decoder") then Some Decoder
+    else (if is_word word (codes "tap") then Some Tap
+    else (if is_word word (codes "tsdemux_tap") then Some TsdemuxTap else None))
 
-abbrev pub verb_of : (name : List ℕ) → (arguments : List (List ℕ)) → Option Verb
-verb_of name [] = plain_verb name
-verb_of name (count ∷ []) = counted_verb name count
-verb_of name (pid ∷ input ∷ output ∷ pes_type ∷ flags ∷ []) = pes_verb name pid input output pes_type flags
-verb_of name _ = None
+-- `pes PID INPUT OUTPUT TYPE FLAGS`
+unfoldable pub pes_of : (arguments : List (List ℕ)) → Option Verb
+pes_of (pid ∷ input ∷ output ∷ pes_type ∷ flags ∷ []) =
+    given (pid_in pid) (λ p.
+    given (input_named input) (λ i.
+    given (output_named output) (λ o.
+    given (count_in pes_type) (λ t.
+    given (count_in flags) (λ f.
+    Some (Pes (record { pid = p; input = i; output = o; pes_type = t; flags = f })))))))
+pes_of _ = None
+
+-- `section PID TIMEOUT FLAGS` and up to 16 words `I=FF/MM/DD`, each for a place of the filter
+unfoldable pub section_of : (arguments : List (List ℕ)) → Option Verb
+section_of (pid ∷ timeout ∷ flags ∷ places) =
+    given (pid_in pid) (λ p.
+    given (count_in timeout) (λ t.
+    given (count_in flags) (λ f.
+    given (filter_of places) (λ filter.
+    Some (Section (record { pid = p; filter = filter; timeout = t; flags = f }))))))
+section_of _ = None
+
+-- a call with no argument or with one
+abbrev pub short_verb : (name : List ℕ) → (arguments : List (List ℕ)) → Option Verb
+short_verb name [] = plain_verb name
+short_verb name (number ∷ []) = counted_verb name number
+short_verb name _ = None
+
+-- what is asked of a node
+unfoldable pub verb_of : (name : List ℕ) → (arguments : List (List ℕ)) → Option Verb
+verb_of name arguments =
+    if is_word name (codes "section") then section_of arguments
+    else (if is_word name (codes "pes") then pes_of arguments
+    else short_verb name arguments)
 
 -- ------ lines
 
--- `feed N`
-abbrev pub feed_of : (name count : List ℕ) → Option Line
-feed_of name count = if is_word name (codes "feed") then option_map Feed (number_between 1 4294967295 count) else None
+-- `feed N` and `tick N`
+unfoldable pub counted_line : (name number : List ℕ) → Option Line
+counted_line name number =
+    if is_word name (codes "feed") then option_map Feed (number_between 1 4294967295 number)
+    else (if is_word name (codes "tick") then option_map Tick (count_in number) else None)
 
--- `c0 NAME n0` and what stands behind it
-abbrev pub command_of : (client name node : List ℕ) → (arguments : List (List ℕ)) → Option Line
+-- the client of a word `c0` to `c7`; the letter is byte 99
+unfoldable pub client_of : List ℕ → Option ℕ
+client_of (letter ∷ number) = if letter == 99 then number_between 0 7 number else None
+client_of [] = None
+
+-- `cK NAME n0` and what stands behind it
+unfoldable pub command_of : (client name node : List ℕ) → (arguments : List (List ℕ)) → Option Line
 command_of client name node arguments =
-    if is_word client (codes "c0") && is_word node (codes "n0") then option_map Command (verb_of name arguments) else None
+    if is_word node (codes "n0")
+    then given (client_of client) (λ k. option_map (Command k) (verb_of name arguments))
+    else None
 
 -- what the words of a line ask for; None where the line isn't built
-abbrev pub line_of_words : List (List ℕ) → Option Line
-line_of_words (name ∷ count ∷ []) = feed_of name count
+unfoldable pub line_of_words : List (List ℕ) → Option Line
+line_of_words (name ∷ number ∷ []) = counted_line name number
 line_of_words (client ∷ name ∷ node ∷ arguments) = command_of client name node arguments
 line_of_words _ = None
 
@@ -94,12 +147,13 @@ script_in s = option_map (λ lines. record { lines = lines; stream = s.stream })
 abbrev pub script_of : List ℕ → Option Script
 script_of input = option_and_then script_in (session_of input)
 
--- no read is larger than a node allows, and each filter is of whole packets that are read from the demux node
+-- no read is larger than a node allows, and no filter is for the dvr node
 abbrev pub IsVerbInRange : Verb → Type 0
 IsVerbInRange (Read count) = count ≤ LARGEST_READ
-IsVerbInRange (Pes params) = params.output ≡ TsdemuxTap
+IsVerbInRange (Pes params) = is_ts_tap params.output ≡ false
 IsVerbInRange _ = Unit {0}
 
+-- there are 8 clients
 abbrev pub IsInRange : Line → Type 0
-IsInRange (Command verb) = IsVerbInRange verb
-IsInRange (Feed count) = Unit {0}
+IsInRange (Command client verb) = (client ≤ 7) × IsVerbInRange verb
+IsInRange _ = Unit {0}

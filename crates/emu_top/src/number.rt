@@ -1,6 +1,6 @@
 // Numbers as words spell them.
-ghost use Rattle.std.specs.Prelude.{◌≡◌, ◌≤◌, IfSome};
-ghost use Rattle.emu_top.specs.Numbers.{number_between as number_in_word, has_leading_zero};
+ghost use Rattle.std.specs.Prelude.{◌≡◌, ◌<◌, ◌≤◌, IfSome};
+ghost use Rattle.emu_top.specs.Numbers.{number_between as number_in_word, has_leading_zero, hex_digit as digit_of_byte, hex_byte as byte_of_digits};
 
 // Whether a zero stands before other bytes.
 fn begins_with_zero(word: &[u8]) -> bool
@@ -37,4 +37,27 @@ pub fn number_between(least: u32, most: u32, word: &[u8]) -> Option<u32>
         return None;
     }
     Some(n as u32)
+}
+
+// What a lower-case hexadecimal digit stands for.
+#[tactic(auto, unfolding(crate::specs::Numbers::hex_digit))]
+fn hex_digit(byte: u8) -> Option<u8>
+    ensures value { result ≡ digit_of_byte byte }
+    ensures bound { IfSome result (λ digit. digit < 16) }
+{
+    match byte {
+        b'0'..=b'9' => Some(byte - b'0'),
+        b'a'..=b'f' => Some(byte - b'a' + 10),
+        _ => None,
+    }
+}
+
+// The byte that two lower-case hexadecimal digits spell.
+#[tactic(auto, unfolding(crate::specs::Numbers::hex_byte))]
+pub fn hex_byte(high: u8, low: u8) -> Option<u8>
+    ensures { result ≡ byte_of_digits high low }
+{
+    let high = hex_digit(high)?;
+    let low = hex_digit(low)?;
+    Some(high * 16 + low)
 }

@@ -1,6 +1,6 @@
 -- What a selector keeps between two calls, and how that stands for the packets offered.
 -- These are the words of the machine. No definition of an item rests on them.
-use Rattle.std.specs.Prelude.{ℕ, ◌+◌, ◌≡◌, ◌≢◌, ◌≤◌, MatchOption, Bool, true, false, not, ◌&&◌, ◌||◌, List, [], ◌∷◌, ◌++◌, map, take, drop, filter, length, Option, Some, None, if◌then◌else◌}
+use Rattle.std.specs.Prelude.{ℕ, ◌+◌, ◌≡◌, ◌≢◌, ◌≤◌, MatchOption, Bool, true, false, not, ◌&&◌, ◌||◌, List, [], ◌∷◌, ◌++◌, map, drop, filter, length, Option, Some, None, if◌then◌else◌}
 use Rattle.std.specs.List.{sum_by}
 use Rattle.section_parse.specs.Keeping.{Assembly, cleared, after_packet, all_given as all_taken, kept as kept_after_all, length_of}
 use Rattle.item_select.specs.Items.{Choice, Nothing, Sections, Packets, Offered, is_selected, first_if, given_by, items_of}
@@ -18,6 +18,12 @@ abbrev pub section_pid : Choice → ℕ
 section_pid (Sections pid wanted check once) = pid
 section_pid _ = 0
 
+-- the filter is one of packets
+abbrev pub is_of_packets : Choice → Bool
+is_of_packets (Packets whole) = true
+is_of_packets _ = false
+
+-- the filter is a one-shot filter
 abbrev pub is_once : Choice → Bool
 is_once (Sections pid wanted check once) = once
 is_once _ = false
@@ -80,12 +86,12 @@ kept_after s (packet ∷ packets) = kept_after (all_given (after_offer s packet)
 abbrev pub bytes_held : Selecting → ℕ
 bytes_held s = sum_by length s.ready + length_of s.kept.open_now
 
--- of a section filter: until its one section was given, the assembler has taken in all packets; and then there is no further item
+-- Of a section filter: until its one section was given, the assembler has taken in all packets; and then there is no further item. No other filter gives one section alone.
 abbrev pub Follows : Choice → List Offered → List (List ℕ) → Selecting → Type 0
 Follows (Sections pid wanted check once) offered given s =
     (s.is_spent ≡ false → (s.kept ≡ kept_after_all pid (map (λ o. o.packet) offered)) × (once ≡ true → given ≡ []))
     × (s.is_spent ≡ true → (once ≡ true) × (given ≢ []))
-Follows _ offered given s = Unit {0}
+Follows _ offered given s = s.is_spent ≡ false
 
 -- A selector that keeps `s` was offered these packets since its filter began anew, and has given these items: with those that are ready they are the items of the packets.
 pub record Selects (offered : List Offered) (given : List (List ℕ)) (s : Selecting) : Type 0 where

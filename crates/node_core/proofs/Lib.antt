@@ -1,6 +1,14 @@
 pub mod Bytes
-pub mod Offered
+pub mod Rests
 pub mod Arrivals
-pub mod Facts
+pub mod Offered
+pub mod Expiries
+pub mod Offerings
+pub mod Selectors
+pub mod Takings
+pub mod Moves
+pub mod Begins
+pub mod Passes
+pub mod Reading
 pub mod Cases
 pub mod Standing

@@ -1,0 +1,73 @@
+-- What the fields of a selector say after a step.
+use Rattle.std.proofs.Common.{◌≡◌, ℕ, ◌+◌, ◌≤◌, ◌||◌, Bool, true, false, List, [], ◌∷◌, length, filter, Option, Some, None, refl, arith}
+use Rattle.ts_packet.specs.Fields.{payload_of}
+use Rattle.section_parse.specs.Keeping.{Assembly, cleared, after_packet, all_given as all_taken, bytes_kept}
+use Rattle.filter_match.specs.declared.filter.SectionFilter.{SectionFilter}
+use Rattle.item_select.specs.declared.selector.Wanted.{Wanted}
+use Rattle.item_select.specs.declared.selector.Wanted.TheVariants.{Nothing as NothingWanted, Sections as SectionsWanted, Packets as PacketsWanted}
+use Rattle.item_select.specs.Items.{Nothing, Sections, Packets, is_selected, is_named, given_by}
+use Rattle.item_select.specs.Selecting.{Selects, section_pid, after_offer, bytes_held}
+use Rattle.item_select.specs.SelectorView.{choice_of, selecting_of}
+use Rattle.item_select.proofs.Giving.{Answers, answers-some, answers-none}
+use Rattle.item_select.proofs.Selected.{Selects-begun, sum-selected, sum-packet}
+
+-- ------ a filter that begins
+
+pub Selects-cleared : (w : Wanted) (a : Assembly) (last : List ℕ) → a ≡ cleared (section_pid (choice_of w)) → Selects [] [] (selecting_of w a false false last)
+Selects-cleared NothingWanted a last e = rw e (Selects-begun Nothing [])
+Selects-cleared (SectionsWanted pid f check true) a last e = rw e (Selects-begun (Sections pid f check true) [])
+Selects-cleared (SectionsWanted pid f check false) a last e = rw e (Selects-begun (Sections pid f check false) [])
+Selects-cleared (PacketsWanted whole pids) a last e = rw e (Selects-begun (Packets whole) pids)
+
+-- ------ a packet is offered
+
+pub offer-nothing : (w : Wanted) (a : Assembly) (is_spent waits : Bool) (last p : List ℕ) → w ≡ NothingWanted → selecting_of w a is_spent waits last ≡ after_offer (selecting_of w a is_spent waits last) p
+unfolding after_offer
+offer-nothing w a is_spent waits last p e = rw e refl
+
+pub offer-spent : (w : Wanted) (pid : ℕ) (f : SectionFilter) (check once : Bool) (a : Assembly) (is_spent waits : Bool) (last p : List ℕ) → w ≡ SectionsWanted pid f check once → is_spent ≡ true
+    → selecting_of w a is_spent waits last ≡ after_offer (selecting_of w a is_spent waits last) p
+unfolding after_offer
+offer-spent w pid f check once a is_spent waits last p e t = rw (e, t) refl
+
+pub offer-section : (w : Wanted) (pid : ℕ) (f : SectionFilter) (check once : Bool) (a b : Assembly) (is_spent waits : Bool) (last p : List ℕ) → w ≡ SectionsWanted pid f check once → is_spent ≡ false
+    → b ≡ after_packet (all_taken a) p → selecting_of w b is_spent waits last ≡ after_offer (selecting_of w a is_spent waits last) p
+unfolding after_offer
+offer-section w pid f check once a b is_spent waits last p e t h = rw (e, t, h) refl
+
+pub offer-packet : (w : Wanted) (whole : Bool) (pids : List ℕ) (a : Assembly) (is_spent waits named : Bool) (last p : List ℕ) → w ≡ PacketsWanted whole pids → named ≡ is_named (record { packet = p; pids = pids })
+    → selecting_of w a is_spent named p ≡ after_offer (selecting_of w a is_spent waits last) p
+unfolding after_offer given_by
+offer-packet w whole pids a is_spent waits true last p e n = rw (e, ← n) refl
+offer-packet w whole pids a is_spent waits false last p e n = rw (e, ← n) refl
+
+-- the bytes of a section filter behind a packet
+pub section-bytes : (w : Wanted) (pid : ℕ) (f : SectionFilter) (check once : Bool) (a d b : Assembly) (is_spent waits : Bool) (last : List ℕ) → w ≡ SectionsWanted pid f check once → is_spent ≡ false
+    → d ≡ all_taken a → bytes_kept b ≤ bytes_kept d + 184 → bytes_held (selecting_of w b is_spent waits last) ≤ bytes_held (selecting_of w a is_spent waits last) + 188
+section-bytes w pid f check once a d b is_spent waits last e t k h = let g = rw k at h in rw (e, t) (omega (arith, sum-selected once (is_selected f check) b.ready, g))
+
+-- the bytes of a filter of packets
+pub packet-bytes : (w : Wanted) (whole : Bool) (pids : List ℕ) (a : Assembly) (is_spent waits named : Bool) (last p : List ℕ) → w ≡ PacketsWanted whole pids → named ≡ is_named (record { packet = p; pids = pids }) → length p ≡ 188
+    → bytes_held (selecting_of w a is_spent named p) ≤ bytes_held (selecting_of w a is_spent waits last) + 188
+unfolding given_by
+packet-bytes w whole pids a is_spent waits true last p e n l = let k = sum-packet whole (record { packet = p; pids = pids }) l in let g = rw (← n) at k in rw e (omega (arith, g))
+packet-bytes w whole pids a is_spent waits false last p e n l = rw e (omega arith)
+
+-- ------ an item is given
+
+-- the section found is given
+pub next-section : (w : Wanted) (pid : ℕ) (f : SectionFilter) (check once : Bool) (a b : Assembly) (is_spent waits : Bool) (last x : List ℕ) → w ≡ SectionsWanted pid f check once → is_spent ≡ false
+    → filter (is_selected f check) a.ready ≡ x ∷ filter (is_selected f check) b.ready → all_taken b ≡ all_taken a
+    → Answers (selecting_of w a is_spent waits last) (selecting_of w b once waits last) (Some x)
+next-section w pid f check true a b is_spent waits last x e t h k = rw (e, t) (answers-some _ _ x [] (rw h refl) (rw (h, k) refl))
+next-section w pid f check false a b is_spent waits last x e t h k = rw (e, t) (answers-some _ _ x (filter (is_selected f check) b.ready) h (rw (h, k) refl))
+
+or-false : (b : Bool) → (b || false) ≡ b
+or-false true = refl
+or-false false = refl
+
+-- the payload of the last packet is given, where it has one
+pub next-payload : (w : Wanted) (whole : Bool) (pids : List ℕ) (a : Assembly) (is_spent waits : Bool) (last : List ℕ) (o : Option (List ℕ)) → w ≡ PacketsWanted whole pids → whole ≡ false → waits ≡ true → o ≡ payload_of last
+    → Answers (selecting_of w a is_spent waits last) (selecting_of w a is_spent false last) o
+next-payload w whole pids a is_spent waits last (Some x) e f t h = rw (e, f, t) (answers-some _ _ x [] (rw (← h) refl) (rw (← h, or-false is_spent) refl))
+next-payload w whole pids a is_spent waits last None e f t h = rw (e, f, t) (answers-none _ _ (rw (← h) refl) (rw (← h) refl))
