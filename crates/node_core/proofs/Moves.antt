@@ -34,7 +34,7 @@ pub record Moves (h : History) (k : Selecting) (who : ℕ) (call : Invocation) (
 
 -- ------ a node with a capture
 
-coherent_by : (o : Option ℕ) (set : Params) (l : Ledger) → IsSoundFor o set (Some l) → Coherent l
+pub coherent_by : (o : Option ℕ) (set : Params) (l : Ledger) → IsSoundFor o set (Some l) → Coherent l
 coherent_by None set l k = absurd (let n : Some l ≡ None = k.1 in cc)
 coherent_by (Some who) Empty l k = absurd (let n : Some l ≡ None = k in cc)
 coherent_by (Some who) (Section p) l k = k

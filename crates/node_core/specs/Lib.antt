@@ -7,3 +7,4 @@ pub mod BufferView
 pub mod KeptView
 pub mod Stands
 pub mod CoreView
+pub mod Causes
