@@ -1,4 +1,5 @@
 pub mod Bytes
+pub mod ByValues
 pub mod Rests
 pub mod Arrivals
 pub mod Offered

@@ -266,7 +266,12 @@ impl Buffer {
 
     /// The reply to a Read where nothing is pending: no bytes for a count of 0, Again where all is answered, and else as many
     /// bytes as are asked for and there; on a section filter no more than are left of the section.
-    fn read_bytes(&mut self, by_section: bool, ended: bool, buf: ByteBuf) -> (Reply, Option<ByteBuf>)
+    fn read_bytes(
+        &mut self,
+        by_section: bool,
+        ended: bool,
+        buf: ByteBuf,
+    ) -> (Reply, Option<ByteBuf>)
         requires { IfSome self.old.ledger (λ l. l.over ≡ None) }
         ensures said { MatchOption self.old.ledger (response_of result.0 ≡ Data []) (λ l. response_of result.0 ≡ bytes_read ended by_section l buf.count) }
         ensures after { self.new ≡ record { size = self.old.size; ledger = option_map (with_response by_section (response_of result.0)) self.old.ledger } }

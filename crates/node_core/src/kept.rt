@@ -26,8 +26,8 @@ use crate::filter::{is_section, rename, select, starts_at_once, takes_from, time
 use crate::offer::offer_all;
 use dmx_calls::limits::DEMUX_SIZE;
 use dmx_calls::{
-    ByteBuf, Call, Errno, Input, NodeKind, Params, PesParams, Reply, SectionParams, Span, State, Tap,
-    refusal,
+    ByteBuf, Call, Errno, Input, NodeKind, Params, PesParams, Reply, SectionParams, Span, State,
+    Tap, refusal,
 };
 use item_select::Selector;
 use pid_set::Pids;
@@ -99,10 +99,10 @@ impl Tenure {
     fn set(&mut self, params: Params, flags: u32, now: u64) -> Reply
         ensures said { response_of result ≡ done_dropping self.old.buffer.ledger KeepTap }
         ensures after { self.new ≡ record {
-            owner = self.old.owner;
-            params = params;
-            selector = begun_selecting (choice_of (params_of params)) (names_of (choice_of (params_of params)) (pids_of params));
-            buffer = record { size = self.old.buffer.size; ledger = if has_flag IMMEDIATE_START flags then Some (begun now) else None };
+          owner = self.old.owner;
+          params = params;
+          selector = begun_selecting (choice_of (params_of params)) (names_of (choice_of (params_of params)) (pids_of params));
+          buffer = record { size = self.old.buffer.size; ledger = if has_flag IMMEDIATE_START flags then Some (begun now) else None };
         } }
     {
         let dropped = self.buffer.unread();
@@ -353,13 +353,7 @@ impl Kept {
     }
 
     /// A batch passes. The filter may expire first; where it then still runs and takes this input, its packets are looked at.
-    pub fn pass<L: Ledger>(
-        &mut self,
-        input: Input,
-        batch: &Batch,
-        now: u64,
-        steps: &mut Steps<L>,
-    )
+    pub fn pass<L: Ledger>(&mut self, input: Input, batch: &Batch, now: u64, steps: &mut Steps<L>)
         requires sound { IsSound (knows_of self.old) }
         requires bytes { bytes_in (knows_of self.old) + 12032 < 2 ^ 64 }
         ensures after { knows_of self.new ≡ next (knows_of self.old) 0 (Pass input batch.now.first batch.now.packets now) Passed }
@@ -373,7 +367,13 @@ impl Kept {
             match tenure.buffer.state(&tenure.params) {
                 State::Go if takes_from(&tenure.params, input) => {
                     let by_section = is_section(&tenure.params);
-                    offer_all(&mut tenure.selector, &mut tenure.buffer, by_section, batch, steps);
+                    offer_all(
+                        &mut tenure.selector,
+                        &mut tenure.buffer,
+                        by_section,
+                        batch,
+                        steps,
+                    );
                 }
                 _ => {}
             }

@@ -24,5 +24,7 @@ mod filter;
 mod kept;
 mod node;
 mod offer;
+#[cfg(test)]
+mod tests;
 
 pub use node::NodeCore;

@@ -12,6 +12,7 @@ ghost use Rattle.node_core.specs.Sound.{IsSound};
 ghost use Rattle.node_core.specs.Gives.{Gives};
 ghost use Rattle.node_core.specs.Step.{next};
 ghost use Rattle.node_core.specs.KeptView.{knows_of, bytes_in};
+ghost use Rattle.node_core.specs.Causes.{Causes};
 ghost use Rattle.node_core.specs.Stands.{StandsFor, IsBuilt, packets_of_call};
 
 use crate::kept::Kept;
@@ -32,6 +33,7 @@ pub struct NodeCore {
 }
 
 impl Model for NodeCore {
+    ghost use Rattle.node_core.specs.Causes.{Causes};
     ghost use Rattle.node_core.specs.Stands.{CoreValue};
 
     ghost Value = { CoreValue };
@@ -170,6 +172,7 @@ impl NodeCore {
         ensures stands { (h : History) → StandsFor self.old h
             → May demux h who (invocation_of call) (response_of result.reply)
             × StandsFor self.new (entry_of who (invocation_of call) (response_of result.reply) ∷ h) }
+        ensures causes { (h : History) → StandsFor self.old h → Causes self.old.facts self.new.facts who (invocation_of call) (response_of result.reply) }
         ensures back { GivesBack call result }
         ensures rises { self.new.entries ≡ self.old.entries + 1 }
         ensures number { self.new.number ≡ self.old.number }

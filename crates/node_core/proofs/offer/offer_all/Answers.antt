@@ -3,7 +3,7 @@ use Rattle.std.specs.Prelude.{option_map}
 use Rattle.std.proofs.lemmas.List.{drop_all}
 use Rattle.item_select.specs.Selecting.{items_found, kept_after}
 use Rattle.node_core.specs.Step.{with_items}
-use Rattle.node_core.proofs.OneByOne.{kept-next, items-next, none-left}
+use Rattle.node_core.proofs.Offered.{kept-next, items-next, none-left}
 use Rattle.node_core.proofs.offer.offer_all.Goals as goal
 
 pub loop-i-preserved : goal.loop-i-preserved

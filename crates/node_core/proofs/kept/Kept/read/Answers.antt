@@ -27,12 +27,12 @@ returns-clause-after c =
     let mid : c.expire.new.self.ledger ≡ option_map (expiring (timeout_of (params_of t.params)) c.args.now) t.buffer.ledger = rw (← c.timeout_of.ensures) (ap (λ b. b.ledger) c.expire.ensures.after) in
     let size : c.read.new.self.size ≡ t.buffer.size = ap (λ b. b.size) c.read.ensures.after ∙ ap (λ b. b.size) c.expire.ensures.after in
     rw size (read-after k c.args.now c.args.buf.count c.expire.new.self.ledger c.read.new.self.ledger (response_of c.read.result.0) mid c.read.ensures.said (ap (λ b. b.ledger) c.read.ensures.after)
-        ∙ ap (λ k. next k 0 (Read c.args.now c.args.buf.count) (response_of c.read.result.0)) (sym is))
+    ∙ ap (λ k. next k 0 (Read c.args.now c.args.buf.count) (response_of c.read.result.0)) (sym is))
 
 pub returns-clause-bytes : goal.returns-clause-bytes
 returns-clause-bytes c =
     let t = c.in-Some.tenure in
     let is = ap (λ o. bytes_in (knows_in c.args.self.now.has_ended o)) c.in-Some.is in
     let same = total-read (is_section (params_of t.params)) (response_of c.read.result.0) c.timeout_of.result c.args.now t.buffer.ledger c.expire.new.self.ledger c.read.new.self.ledger
-        (ap (λ b. b.ledger) c.expire.ensures.after) (ap (λ b. b.ledger) c.read.ensures.after) in
+    (ap (λ b. b.ledger) c.expire.ensures.after) (ap (λ b. b.ledger) c.read.ensures.after) in
     omega (arith, is, same)
