@@ -15,3 +15,4 @@ pub mod Accepted
 pub mod ReadCausing
 pub mod Causing
 pub mod Answering
+pub mod ByValues
