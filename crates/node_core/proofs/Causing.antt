@@ -11,8 +11,10 @@ use Rattle.dmx_calls.specs.Items.{timeout_of}
 use Rattle.dmx_calls.specs.Facts.{Ledger, Facts}
 use Rattle.dmx_calls.specs.Legal.{is_done, takes_memory}
 use Rattle.dmx_calls.specs.Answer.{refusal_to, read_response, expired_of, open_response, response_to, response_unless}
-use Rattle.node_core.specs.Step.{is_section, expiring, with_response, Knows, moved, next}
-use Rattle.node_core.specs.Sound.{CoherentIn, IsSound}
+use Rattle.node_buffer.specs.Capturing.{is_section, expiring, with_response}
+use Rattle.node_core.specs.Step.{Knows, moved, next}
+use Rattle.node_buffer.specs.Coherent.{CoherentIn}
+use Rattle.node_core.specs.Sound.{IsSound}
 use Rattle.node_core.specs.Gives.{settled, Gives}
 use Rattle.node_core.specs.Stands.{CoreValue, StandsFor}
 use Rattle.node_core.specs.Causes.{ReadCauses, TakesMemory, Causes}

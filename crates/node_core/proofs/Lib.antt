@@ -1,6 +1,4 @@
-pub mod Bytes
-pub mod Rests
-pub mod Arrivals
+pub mod WholeSections
 pub mod Offered
 pub mod Expiries
 pub mod Offerings
@@ -14,5 +12,4 @@ pub mod Standing
 pub mod Accepted
 pub mod ReadCausing
 pub mod Causing
-pub mod Answering
 pub mod ByValues

@@ -1,9 +1,9 @@
 -- Packets that are offered one by one, and the same packets at once.
-use Rattle.std.proofs.Common.{ℕ, zero, suc, ◌+◌, ◌≡◌, refl, sym, ◌∙◌, ap, Bool, List, [], ◌∷◌, ◌++◌, Option, Some, None, drop, add-one}
+use Rattle.std.proofs.Common.{ℕ, zero, suc, ◌+◌, ◌≡◌, refl, ap, Bool, List, [], ◌∷◌, ◌++◌, Option, Some, None, drop, add-one}
 use Rattle.std.specs.Prelude.{slice_get, option_map}
 use Rattle.dmx_calls.specs.Facts.{Ledger}
 use Rattle.item_select.specs.Selecting.{Selecting, after_offer, all_given, items_found, kept_after}
-use Rattle.node_core.specs.Step.{with_item, with_items}
+use Rattle.node_buffer.specs.Capturing.{with_item, with_items}
 
 pub with_items-append : (by_section : Bool) (capacity : ℕ) (xs ys : List (List ℕ)) (l : Ledger)
     → with_items by_section capacity l (xs ++ ys) ≡ with_items by_section capacity (with_items by_section capacity l xs) ys

@@ -12,8 +12,9 @@ use Rattle.dmx_calls.specs.Rules.{demux}
 use Rattle.dmx_calls.specs.Ledger.{Misfit, joined, total, answered, over}
 use Rattle.dmx_calls.specs.Facts.{Ledger, Facts, rest_of_item, rest_of, ledger_of, facts}
 use Rattle.dmx_calls.specs.Answer.{most_bytes, read_bytes, read_over, read_response, expired_of}
-use Rattle.node_core.specs.Step.{with_response}
-use Rattle.node_core.specs.Sound.{Coherent, CoherentIn, IsSoundFor}
+use Rattle.node_buffer.specs.Capturing.{with_response}
+use Rattle.node_buffer.specs.Coherent.{Coherent, CoherentIn}
+use Rattle.node_core.specs.Sound.{IsSoundFor}
 use Rattle.node_core.specs.Causes.{gives_no_bytes, gives_bytes, ReadCausesBy, ReadCauses}
 use Rattle.node_core.proofs.Moves.{coherent_by}
 

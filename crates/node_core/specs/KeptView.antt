@@ -14,7 +14,7 @@ use Rattle.dmx_calls.specs.Legal.{is_done, takes_memory}
 use Rattle.item_select.specs.Selecting.{bytes_held}
 use Rattle.node_core.specs.declared.kept.Kept.{Kept}
 use Rattle.node_core.specs.declared.kept.Tenure.{Tenure}
-use Rattle.node_core.specs.Sound.{total_of}
+use Rattle.node_buffer.specs.Coherent.{total_of}
 use Rattle.node_core.specs.Step.{Knows, unset, moved}
 
 -- a free node has the default size, no filter, and nothing to select

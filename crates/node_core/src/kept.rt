@@ -18,11 +18,11 @@ ghost use Rattle.item_select.specs.Selecting.{begun as begun_selecting};
 ghost use Rattle.node_core.specs.Offers.{choice_of, names_of};
 ghost use Rattle.node_core.specs.Sound.{is_ts_tap, IsSound};
 ghost use Rattle.node_core.specs.Gives.{Gives};
-ghost use Rattle.node_core.specs.Step.{unset, begun, next};
+ghost use Rattle.node_buffer.specs.Capturing.{begun};
+ghost use Rattle.node_core.specs.Step.{unset, next};
 ghost use Rattle.node_core.specs.KeptView.{knows_of, bytes_in, IsTaken, reply_to, Replies};
 
-use crate::buffer::Buffer;
-use crate::filter::{is_section, rename, select, starts_at_once, takes_from, timeout_of};
+use crate::filter::{rename, select, starts_at_once, takes_from};
 use crate::offer::offer_all;
 use dmx_calls::limits::DEMUX_SIZE;
 use dmx_calls::{
@@ -30,6 +30,7 @@ use dmx_calls::{
     Tap, refusal,
 };
 use item_select::Selector;
+use node_buffer::{Buffer, is_section, timeout_of};
 use pid_set::Pids;
 use std::alloc::{AllocError as NoMemory, Global};
 use std::sync::ledger::Ledger;

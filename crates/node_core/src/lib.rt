@@ -19,7 +19,6 @@
 //! read. Owners, the spans of lost and dropped bytes and the order of refusals are this project's rules.
 #![tactic(auto)]
 
-mod buffer;
 mod filter;
 mod kept;
 mod node;

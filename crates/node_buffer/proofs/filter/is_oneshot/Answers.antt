@@ -1,8 +1,8 @@
-use Rattle.std.proofs.Common.{arith, ◌≡◌, ◌+◌, ◌*◌, ◌/◌, ◌%◌, ◌^◌, bit_and}
+use Rattle.std.proofs.Common.{arith, ◌≡◌, ◌*◌, bit_and}
 use Rattle.std.specs.Int.{bit_at}
 use Rattle.std.proofs.lemmas.Nat.Bits.{and_pow}
 use Rattle.std.proofs.lemmas.Bool.Decides.{nat_tests}
-use Rattle.node_core.proofs.filter.is_oneshot.Goals as goal
+use Rattle.node_buffer.proofs.filter.is_oneshot.Goals as goal
 
 pub returns : goal.returns
 returns c =

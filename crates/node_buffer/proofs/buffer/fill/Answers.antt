@@ -1,6 +1,6 @@
 use Rattle.std.proofs.Common.{rules, refl}
-use Rattle.node_core.proofs.Bytes.{take-two}
-use Rattle.node_core.proofs.buffer.fill.Goals as goal
+use Rattle.node_buffer.proofs.Bytes.{take-two}
+use Rattle.node_buffer.proofs.buffer.fill.Goals as goal
 
 pub returns-clause-bytes : goal.returns-clause-bytes
 returns-clause-bytes c =

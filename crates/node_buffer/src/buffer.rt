@@ -1,4 +1,4 @@
-// A node's buffer: the bytes that its reader may still get, and the ledger of its capture.
+// A ring, and the ledger of the capture whose bytes it holds.
 
 ghost use Rattle.std.specs.Prelude.{[], ◌++◌, min, take, drop, ◌≡◌, ◌≤◌, ◌<◌, ◌+◌, ◌-◌, ◌^◌, length, Option, Some, None, option_map, IfOk, OnErr, if◌then◌else◌, nat_lt, slice_index, IfSome, MatchOption};
 ghost use Rattle.dmx_calls.specs.declared.limits.TheConstants.{SMALLEST_SIZE, LARGEST_SIZE};
@@ -7,9 +7,9 @@ ghost use Rattle.dmx_calls.specs.Response.{Data, Ready};
 ghost use Rattle.dmx_calls.specs.Back.{BackOfRead};
 ghost use Rattle.dmx_calls.specs.Facts.{state_of_filter};
 ghost use Rattle.dmx_calls.specs.Answer.{is_readable, pending, answered_of, expired_of};
-ghost use Rattle.node_core.specs.Step.{begun, is_due as due, expiring, is_section as section_set, with_item, with_stop, with_response, read_by, bytes_read, front_length as front_by};
-ghost use Rattle.node_core.specs.Sound.{CoherentIn, total_of, place_of};
-ghost use Rattle.node_core.specs.BufferView.{ledger_of};
+ghost use Rattle.node_buffer.specs.Capturing.{begun, is_due as due, expiring, is_section as section_set, with_item, with_stop, with_response, read_by, bytes_read, front_length as front_by};
+ghost use Rattle.node_buffer.specs.Coherent.{CoherentIn, total_of};
+ghost use Rattle.node_buffer.specs.BufferView.{ledger_of};
 
 use crate::filter::{has_had_its_section, is_section, timeout_of};
 use dmx_calls::{ByteBuf, Params, PollError, Reply, Span, State};
@@ -59,11 +59,11 @@ pub struct Buffer {
 }
 
 impl Model for Buffer {
-    ghost use Rattle.node_core.specs.BufferValue.{BufferValue};
+    ghost use Rattle.node_buffer.specs.BufferValue.{BufferValue};
 
     ghost Value = { BufferValue };
 
-    ghost use Rattle.node_core.specs.BufferView.{buffer_view, BufferHolds};
+    ghost use Rattle.node_buffer.specs.BufferView.{buffer_view, BufferHolds};
 
     ghost view = { buffer_view };
 
@@ -108,7 +108,7 @@ impl Buffer {
 
     /// The places of the capture's bytes that aren't answered yet.
     pub fn unread(&self) -> Span
-        ensures from { result.from ≡ place_of self.now.ledger }
+        ensures from { result.from ≡ answered_of self.now.ledger }
         ensures to { result.to ≡ total_of self.now.ledger }
     {
         match &self.capture {

@@ -1,14 +1,13 @@
--- What a Read answers, by the ledger in which the entry may have expired the filter.
+-- What a Read gives by the ledger is what the facts of a history answer.
 use Rattle.std.proofs.Common.{ℕ, zero, suc, ◌≡◌, refl, ◌∙◌, ap, Bool, true, false, ◌||◌, Option, Some, None, take}
 use Rattle.std.specs.Prelude.{if◌then◌else◌, not, nat_eq, is_some, option_map}
-use Rattle.dmx_calls.specs.Invocation.{Read}
 use Rattle.dmx_calls.specs.Response.{Data, Again, TimedOut, Passed}
 use Rattle.dmx_calls.specs.Tenure.{Params, Empty, Section, Pes}
 use Rattle.dmx_calls.specs.Items.{timeout_of}
 use Rattle.dmx_calls.specs.Ledger.{Misfit}
 use Rattle.dmx_calls.specs.Facts.{Ledger, Facts}
-use Rattle.dmx_calls.specs.Answer.{most_bytes, read_bytes, read_timeout, read_over, read_response, expired_of, response_to}
-use Rattle.node_core.specs.Step.{is_section, is_due, expiring, most_read, bytes_read, timeout_read, over_read, read_by, with_response, Knows, moved}
+use Rattle.dmx_calls.specs.Answer.{most_bytes, read_bytes, read_timeout, read_over, read_response, expired_of}
+use Rattle.node_buffer.specs.Capturing.{is_section, is_due, expiring, most_read, bytes_read, timeout_read, over_read, read_by, with_response}
 
 most_is : (set : Params) (l : Ledger) (count : ℕ) → most_read (is_section set) l count ≡ most_bytes set l count
 most_is Empty l count = refl
@@ -48,14 +47,14 @@ module _ (f : Facts) where
   expiring_by l now true count = over_is l l.over l.expired count
   expiring_by l now false count = over_is l l.over (Some now) count
 
-  read_is : (o : Option Ledger) (now count : ℕ)
+  -- where the entry may have expired the filter first
+  pub read_is : (o : Option Ledger) (now count : ℕ)
       → read_by f.has_ended f.params (option_map (expiring (timeout_of f.params) now) o) count
       ≡ read_response f o (expired_of (option_map (λ l. with_response (is_section f.params) Passed (expiring (timeout_of f.params) now l)) o)) count
   read_is None now count = refl
   read_is (Some l) now count = expiring_by l now (l.is_stopped || (is_some l.expired || not (is_due (timeout_of f.params) now l))) count
 
--- it is the response to a Read that isn't refused
-pub reads_as : (k : Knows) (who now count : ℕ)
-    → read_by k.facts.has_ended k.facts.params (option_map (expiring (timeout_of k.facts.params) now) k.facts.ledger) count
-    ≡ response_to k.facts (moved k who (Read now count) Passed).facts (Read now count)
-reads_as k who now count = read_is k.facts k.facts.ledger now count
+  -- where nothing expires
+  pub read_now : (o : Option Ledger) (count : ℕ) → read_by f.has_ended f.params o count ≡ read_response f o (expired_of o) count
+  read_now None count = refl
+  read_now (Some l) count = over_is l l.over l.expired count

@@ -1,20 +1,14 @@
 -- What is left of the section in which a place of the joined sections stands.
-use Rattle.std.proofs.Common.{ℕ, ◌+◌, ◌-◌, ◌≤◌, ◌≡◌, refl, sym, ap, Bool, true, false, List, [], ◌∷◌, ◌++◌, length, drop, take, arith, length-append}
+use Rattle.std.proofs.Common.{ℕ, ◌+◌, ◌-◌, ◌≤◌, ◌≡◌, refl, sym, ap, Bool, true, false, List, [], ◌∷◌, ◌++◌, length, drop, arith, length-append}
 use Rattle.std.specs.Prelude.{if◌then◌else◌, nat_eq, nat_lt}
-use Rattle.std.specs.List.{All, concat, filter}
+use Rattle.std.specs.List.{All, concat}
 use Rattle.std.proofs.lemmas.Bool.Decides.{nat_tests}
-use Rattle.std.proofs.lemmas.List.Elements.{All-head, All-tail, All-filter, All-take}
+use Rattle.std.proofs.lemmas.List.Elements.{All-head, All-tail}
 use Rattle.std.proofs.Math.Seq.{drop-append_seam, drop-nil}
-use Rattle.section_parse.specs.Sections.{section_length, sections, IsSection}
-use Rattle.section_parse.proofs.WholeLists.{are_whole}
-use Rattle.dmx_calls.specs.declared.params.Input.TheVariants.{Frontend}
-use Rattle.dmx_calls.specs.declared.params.SectionParams.{SectionParams}
-use Rattle.dmx_calls.specs.History.{Event, History}
-use Rattle.dmx_calls.specs.Tenure.{Section, params}
-use Rattle.dmx_calls.specs.Items.{packets_of, selects, is_oneshot, section_items, offered, items}
+use Rattle.section_parse.specs.Sections.{section_length, IsSection}
 use Rattle.dmx_calls.specs.Facts.{rest_of_item}
 use Rattle.dmx_calls.proofs.Pieces.{drop_past_first}
-use Rattle.node_core.specs.Step.{front_length}
+use Rattle.node_buffer.specs.Capturing.{front_length}
 
 -- ------ items that arrive
 
@@ -73,20 +67,3 @@ rest_read (x ∷ xs) n r le all = by_test (nat_lt n (length x)) refl le (λ less
       let outside : nat_lt (r + n) (length x) ≡ false = grind (arith, nat_tests) in
       let behind : r + n - length x ≡ r + (n - length x) = omega (arith, past) in
       rw (outside, drop_past_first x (concat xs) (r + n) (omega (arith, past)), behind) (ih le)
-
--- ------ the items of a section filter
-
-all_if : (b : Bool) (xs : List (List ℕ)) → All IsSection xs → All IsSection (if b then take 1 xs else xs)
-all_if true xs all = All-take IsSection 1 xs all
-all_if false xs all = all
-
-whole_items : (p : SectionParams) (evs : List Event) → All IsSection (section_items p evs)
-unfolding section_items
-whole_items p evs =
-    all_if (is_oneshot p) (filter (selects p) (sections (packets_of Frontend evs) p.pid))
-    (All-filter (selects p) IsSection (sections (packets_of Frontend evs) p.pid) (are_whole (packets_of Frontend evs) p.pid))
-
--- they are whole sections
-pub items_whole : (h : History) (p : SectionParams) → params h ≡ Section p → All IsSection (items h)
-unfolding items
-items_whole h p set = rw set (whole_items p (offered h))

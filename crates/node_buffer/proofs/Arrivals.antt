@@ -9,9 +9,9 @@ use Rattle.dmx_calls.specs.Tenure.{Params, Empty, Section, Pes}
 use Rattle.dmx_calls.specs.Ledger.{Misfit, misfit}
 use Rattle.dmx_calls.specs.Facts.{Ledger, unread_of, rest_of_item, rest_of}
 use Rattle.dmx_calls.proofs.Ledgers.{over_after, ledger_next}
-use Rattle.node_core.specs.Step.{is_section, rest_with, with_lost, with_misfit, with_kept, with_item_by, with_items}
-use Rattle.node_core.specs.Sound.{UnreadFits}
-use Rattle.node_core.proofs.Rests.{rest_more}
+use Rattle.node_buffer.specs.Capturing.{is_section, rest_with, with_lost, with_misfit, with_kept, with_item_by, with_items}
+use Rattle.node_buffer.specs.Coherent.{UnreadFits}
+use Rattle.node_buffer.proofs.Rests.{rest_more}
 
 -- while an overflow is pending nothing is left of a section
 abbrev pub RestFits : Option Misfit → ℕ → Type 0

@@ -2,11 +2,11 @@
 use Rattle.std.specs.Prelude.{ℕ, ◌≡◌, ◌≤◌, ◌-◌, List, [], Option, Some, None, option_map}
 use Rattle.dmx_calls.specs.Ledger.{Misfit}
 use Rattle.dmx_calls.specs.Facts.{Ledger}
-use Rattle.node_core.specs.Sound.{UnreadFits}
-use Rattle.node_core.specs.BufferValue.{BufferValue}
-use Rattle.node_core.specs.declared.buffer.Lost.{Lost}
-use Rattle.node_core.specs.declared.buffer.Capture.{Capture}
-use Rattle.node_core.specs.declared.buffer.Buffer.TheInside.{Inside}
+use Rattle.node_buffer.specs.Coherent.{UnreadFits}
+use Rattle.node_buffer.specs.BufferValue.{BufferValue}
+use Rattle.node_buffer.specs.declared.buffer.Lost.{Lost}
+use Rattle.node_buffer.specs.declared.buffer.Capture.{Capture}
+use Rattle.node_buffer.specs.declared.buffer.Buffer.TheInside.{Inside}
 
 -- the first item that didn't fit
 abbrev pub misfit_of : Lost → Misfit

@@ -1,0 +1,5 @@
+pub mod Bytes
+pub mod Rests
+pub mod Arrivals
+pub mod Answering
+pub mod Readings

@@ -1,0 +1,4 @@
+pub mod Capturing
+pub mod Coherent
+pub mod BufferValue
+pub mod BufferView
