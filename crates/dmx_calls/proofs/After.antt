@@ -1,6 +1,6 @@
 -- The facts of a demux node's history, one entry later, call by call.
 use Rattle.std.proofs.Common.{ℕ, ◌+◌, ◌-◌, ◌≤◌, ◌≡◌, refl, ◌∙◌, ap, Bool, true, false, ◌||◌, List, [], ◌∷◌, ◌++◌, Option, Some, None, length, drop}
-use Rattle.std.specs.Prelude.{if◌then◌else◌, nat_eq, unwrap_or}
+use Rattle.std.specs.Prelude.{if◌then◌else◌, nat_eq, unwrap_or, option_map}
 use Rattle.dmx_calls.specs.declared.params.Input.{Input}
 use Rattle.dmx_calls.specs.declared.params.SectionParams.{SectionParams}
 use Rattle.dmx_calls.specs.declared.params.PesParams.{PesParams}
@@ -194,10 +194,15 @@ module _ (e : Entry) (h : History) (t : Since) (stays : Stays e h) (held : tenur
       (has_ended_after e h stays.ok) (owner_stays e h t stays held) (size_stays e h t stays held) (params_stays e h t stays held)
       named (rw (capture_stays e h t stays held) is)
 
-  -- without a capture
-  pub facts_idle : pids_with (event e h) (pids h) ≡ pids h → capture h ≡ None → facts demux (e ∷ h) ≡ record (facts demux h) { has_ended = is_end (event e h) || has_ended h }
+  -- by a step of the ledger of the capture, if there is one
+  pub facts_goes : (names : List ℕ) → pids (e ∷ h) ≡ names → (step : Ledger → Ledger)
+      → ((s : Since) → capture h ≡ Some s → ledger_at demux (e ∷ h) ≡ step (ledger_at demux h))
+      → facts demux (e ∷ h) ≡ record (facts demux h) { has_ended = is_end (event e h) || has_ended h; pids = names; ledger = option_map step (facts demux h).ledger }
   unfolding facts
-  facts_idle same none = facts_stays (pids h) (pids_after_same e h t held (tenure_stays e h t stays held) stays.no_set same) (ledger_of demux h (capture h)) (rw none refl)
+  facts_goes names named step each = facts_stays names named (option_map step (ledger_of demux h (capture h))) (by_capture (capture h) refl) where
+    by_capture : (o : Option Since) → capture h ≡ o → ledger_of demux (e ∷ h) (also (event e h) o) ≡ option_map step (ledger_of demux h o)
+    by_capture None none = refl
+    by_capture (Some s) runs = ap Some (each s runs)
 
 -- ------ in a capture
 
@@ -213,52 +218,36 @@ module _ (e : Entry) (h : History) (t s : Since) (stays : Stays e h) (held : ten
     by_stop true yea = expired_stopped e h t s stays held runs (is_stopped_after e h t s stays held runs ∙ yea)
     by_stop false nay = expired_by e h t s stays held runs (is_stopped_after e h t s stays held runs ∙ nay)
 
-  module _ (names : List ℕ) (named : pids (e ∷ h) ≡ names) where
-    -- these items arrive
-    pub facts_more : is_overflow (event e h) ≡ false → answered demux h ≤ total demux h → (new : List (List ℕ)) → items (e ∷ h) ≡ items h ++ new
-        → facts demux (e ∷ h) ≡ record (facts demux h) {
-          has_ended = is_end (event e h) || has_ended h;
-          pids = names;
-          ledger = Some (ledger_next (size h - 1) (params h) (items h) (ledger_at demux h) (answered_in (event e h)) (stops (event e h)) (tells_timeout (event e h))
-              (expired_then (params h) (ledger_at demux h) (stops (event e h)) (clock_of (event e h))) new);
-        }
-    facts_more quiet le new arrive =
-        facts_stays e h t stays held names named _ (rw runs (ap Some (any_more e h t s stays held runs quiet le new arrive ∙ rw expired_is refl)))
+  -- these items arrive
+  pub ledger_more : is_overflow (event e h) ≡ false → answered demux h ≤ total demux h → (new : List (List ℕ)) → items (e ∷ h) ≡ items h ++ new
+      → ledger_at demux (e ∷ h) ≡ ledger_next (size h - 1) (params h) (items h) (ledger_at demux h) (answered_in (event e h)) (stops (event e h)) (tells_timeout (event e h))
+      (expired_then (params h) (ledger_at demux h) (stops (event e h)) (clock_of (event e h))) new
+  ledger_more quiet le new arrive = any_more e h t s stays held runs quiet le new arrive ∙ rw expired_is refl
 
-    -- no item arrives, and no overflow is told
-    pub facts_quiet : is_overflow (event e h) ≡ false → answered demux h ≤ total demux h → ((input : Input) → packets_in input (event e h) ≡ [])
-        → facts demux (e ∷ h) ≡ record (facts demux h) {
-          has_ended = is_end (event e h) || has_ended h;
-          pids = names;
-          ledger = Some (record (ledger_at demux h) {
-            is_stopped = stops (event e h) || is_stopped h;
-            expired = expired_then (params h) (ledger_at demux h) (stops (event e h)) (clock_of (event e h));
-            is_told = tells_timeout (event e h) || is_told h;
-            answered = answered_in (event e h) + answered demux h;
-            unread = drop (answered_in (event e h)) (unread_of (over demux h) (answered demux h) (joined demux h));
-            rest = rest_of (params h) (over demux h) (items h) (answered_in (event e h) + answered demux h);
-          });
-        }
-    facts_quiet quiet le none =
-        facts_stays e h t stays held names named _ (rw runs (ap Some (ledger_quiet e h t s stays held runs quiet le (items_quiet e h t s stays held runs none) ∙ rw expired_is refl)))
+  -- no item arrives, and no overflow is told
+  pub ledger_still : is_overflow (event e h) ≡ false → answered demux h ≤ total demux h → ((input : Input) → packets_in input (event e h) ≡ [])
+      → ledger_at demux (e ∷ h) ≡ record (ledger_at demux h) {
+        is_stopped = stops (event e h) || is_stopped h;
+        expired = expired_then (params h) (ledger_at demux h) (stops (event e h)) (clock_of (event e h));
+        is_told = tells_timeout (event e h) || is_told h;
+        answered = answered_in (event e h) + answered demux h;
+        unread = drop (answered_in (event e h)) (unread_of (over demux h) (answered demux h) (joined demux h));
+        rest = rest_of (params h) (over demux h) (items h) (answered_in (event e h) + answered demux h);
+      }
+  ledger_still quiet le none = ledger_quiet e h t s stays held runs quiet le (items_quiet e h t s stays held runs none) ∙ rw expired_is refl
 
-    -- an overflow is told
-    pub facts_overflow : is_overflow (event e h) ≡ true → ((input : Input) → packets_in input (event e h) ≡ []) → answered_in (event e h) + answered demux h ≡ total demux h
-        → facts demux (e ∷ h) ≡ record (facts demux h) {
-          has_ended = is_end (event e h) || has_ended h;
-          pids = names;
-          ledger = Some (record (ledger_at demux h) {
-            is_stopped = stops (event e h) || is_stopped h;
-            expired = expired_then (params h) (ledger_at demux h) (stops (event e h)) (clock_of (event e h));
-            is_told = tells_timeout (event e h) || is_told h;
-            answered = total demux h;
-            over = None;
-            unread = [];
-            rest = 0;
-          });
-        }
-    facts_overflow loud none all =
-        facts_stays e h t stays held names named _ (rw runs (ap Some (ledger_overflow e h t s stays held runs loud (items_quiet e h t s stays held runs none) all ∙ rw expired_is refl)))
+  -- an overflow is told
+  pub ledger_told : is_overflow (event e h) ≡ true → ((input : Input) → packets_in input (event e h) ≡ []) → answered_in (event e h) + answered demux h ≡ total demux h
+      → ledger_at demux (e ∷ h) ≡ record (ledger_at demux h) {
+        is_stopped = stops (event e h) || is_stopped h;
+        expired = expired_then (params h) (ledger_at demux h) (stops (event e h)) (clock_of (event e h));
+        is_told = tells_timeout (event e h) || is_told h;
+        answered = total demux h;
+        over = None;
+        unread = [];
+        rest = 0;
+      }
+  ledger_told loud none all = ledger_overflow e h t s stays held runs loud (items_quiet e h t s stays held runs none) all ∙ rw expired_is refl
 
 -- ------ the calls by which a capture goes on
 

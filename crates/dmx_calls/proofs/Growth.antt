@@ -13,7 +13,6 @@ use Rattle.section_parse.proofs.WholeLists.{stay}
 use Rattle.dmx_calls.specs.declared.params.Input.{Input}
 use Rattle.dmx_calls.specs.declared.params.Input.TheVariants.{Frontend}
 use Rattle.dmx_calls.specs.declared.params.SectionParams.{SectionParams}
-use Rattle.dmx_calls.specs.declared.params.PesParams.{PesParams}
 use Rattle.dmx_calls.specs.History.{Entry, Event, History, event, Since, also}
 use Rattle.dmx_calls.specs.Tenure.{Params, Empty, Section, Pes, tenure, params, pids}
 use Rattle.dmx_calls.specs.Capture.{capture, stops, unstopped, live, started, is_stopped}
@@ -92,12 +91,16 @@ items_live : (h : History) → expiry h ≡ None → items h ≡ selected (param
 unfolding items offered
 items_live h none = rw none refl
 
-pub items_unexpired : (h : History) → expired h ≡ None → items h ≡ selected (params h) (live h)
-unfolding expired
-items_unexpired h is = by_expiry (expiry h) refl where
-  by_expiry : (o : Option Expiry) → expiry h ≡ o → items h ≡ selected (params h) (live h)
-  by_expiry None none = items_live h none
+pub offered_unexpired : (h : History) → expired h ≡ None → offered h ≡ live h
+unfolding expired offered
+offered_unexpired h is = by_expiry (expiry h) refl where
+  by_expiry : (o : Option Expiry) → expiry h ≡ o → offered_of (live h) (expiry h) ≡ live h
+  by_expiry None none = rw none refl
   by_expiry (Some x) some = absurd (let k : Some x.now ≡ None = rw some at is in cc)
+
+pub items_unexpired : (h : History) → expired h ≡ None → items h ≡ selected (params h) (live h)
+unfolding items
+items_unexpired h is = rw (offered_unexpired h is) refl
 
 -- an event without packets selects nothing more
 selected-quiet : (set : Params) (ev : Event) (evs : List Event) → ((input : Input) → packets_in input ev ≡ []) → selected set (ev ∷ evs) ≡ selected set evs
@@ -141,9 +144,13 @@ module _ (e : Entry) (h : History) (t s : Since) (stays : Stays e h) (held : ten
   unfolding expired
   expired_stopped yea = rw (expiry_stopped yea) refl
 
+  pub offered_stopped : is_stopped (e ∷ h) ≡ true → offered (e ∷ h) ≡ offered h
+  unfolding offered
+  offered_stopped yea = rw (live_stopped yea, expiry_stopped yea) refl
+
   pub items_stopped : is_stopped (e ∷ h) ≡ true → items (e ∷ h) ≡ items h
-  unfolding items offered
-  items_stopped yea = rw (params_stays e h t stays held, live_stopped yea, expiry_stopped yea) refl
+  unfolding items
+  items_stopped yea = rw (params_stays e h t stays held, offered_stopped yea) refl
 
   -- while it isn't stopped
   module _ (nay : is_stopped (e ∷ h) ≡ false) where
@@ -187,30 +194,34 @@ module _ (e : Entry) (h : History) (t s : Since) (stays : Stays e h) (held : ten
       by_expiry (Some x) is = absurd (let k : None ≡ Some x = sym none ∙ expiry_kept x is in cc)
 
     -- the event that expires the filter, and all after it, offer nothing
-    items_expired : (x : Expiry) → expiry (e ∷ h) ≡ Some x → items (e ∷ h) ≡ items h
-    unfolding items offered
-    items_expired x is = by_expiry (expiry h) refl where
-      by_expiry : (o : Option Expiry) → expiry h ≡ o → selected (params (e ∷ h)) (offered_of (live (e ∷ h)) (expiry (e ∷ h))) ≡ selected (params h) (offered_of (live h) (expiry h))
-      by_expiry None none = let k : x.before ≡ live h = expiry_here x none is in rw (params_stays e h t stays held, is, none) (ap (selected (params h)) k)
-      by_expiry (Some y) some = rw (params_stays e h t stays held, expiry_kept y some, some) refl
+    offered_expired : (x : Expiry) → expiry (e ∷ h) ≡ Some x → offered (e ∷ h) ≡ offered h
+    unfolding offered
+    offered_expired x is = by_expiry (expiry h) refl where
+      by_expiry : (o : Option Expiry) → expiry h ≡ o → offered_of (live (e ∷ h)) (expiry (e ∷ h)) ≡ offered_of (live h) (expiry h)
+      by_expiry None none = rw (is, none) (expiry_here x none is)
+      by_expiry (Some y) some = rw (expiry_kept y some, some) refl
 
-    items_offered : expiry (e ∷ h) ≡ None → items (e ∷ h) ≡ selected (params h) (event e h ∷ live h)
-    unfolding items offered
-    items_offered none = rw (params_stays e h t stays held, none, live_more nay) refl
+    offered_next : expiry (e ∷ h) ≡ None → offered (e ∷ h) ≡ event e h ∷ offered h
+    unfolding offered
+    offered_next none = rw (none, live_more nay, expiry_before none) refl
 
     -- by the moment of the expiry
-    pub items_after_expiry : (m : ℕ) → expired (e ∷ h) ≡ Some m → items (e ∷ h) ≡ items h
+    pub offered_after_expiry : (m : ℕ) → expired (e ∷ h) ≡ Some m → offered (e ∷ h) ≡ offered h
     unfolding expired
-    items_after_expiry m is = by_expiry (expiry (e ∷ h)) refl where
-      by_expiry : (o : Option Expiry) → expiry (e ∷ h) ≡ o → items (e ∷ h) ≡ items h
+    offered_after_expiry m is = by_expiry (expiry (e ∷ h)) refl where
+      by_expiry : (o : Option Expiry) → expiry (e ∷ h) ≡ o → offered (e ∷ h) ≡ offered h
       by_expiry None none = absurd (let k : None ≡ Some m = rw none at is in cc)
-      by_expiry (Some x) some = items_expired x some
+      by_expiry (Some x) some = offered_expired x some
 
-    pub items_more : expired (e ∷ h) ≡ None → items (e ∷ h) ≡ selected (params h) (event e h ∷ live h)
+    pub items_after_expiry : (m : ℕ) → expired (e ∷ h) ≡ Some m → items (e ∷ h) ≡ items h
+    unfolding items
+    items_after_expiry m is = rw (params_stays e h t stays held, offered_after_expiry m is) refl
+
+    pub offered_more : expired (e ∷ h) ≡ None → offered (e ∷ h) ≡ event e h ∷ offered h
     unfolding expired
-    items_more is = by_expiry (expiry (e ∷ h)) refl where
-      by_expiry : (o : Option Expiry) → expiry (e ∷ h) ≡ o → items (e ∷ h) ≡ selected (params h) (event e h ∷ live h)
-      by_expiry None none = items_offered none
+    offered_more is = by_expiry (expiry (e ∷ h)) refl where
+      by_expiry : (o : Option Expiry) → expiry (e ∷ h) ≡ o → offered (e ∷ h) ≡ event e h ∷ offered h
+      by_expiry None none = offered_next none
       by_expiry (Some x) some = absurd (let k : Some x.now ≡ None = rw some at is in cc)
 
     pub expired_before : expired (e ∷ h) ≡ None → expired h ≡ None
@@ -219,6 +230,10 @@ module _ (e : Entry) (h : History) (t s : Since) (stays : Stays e h) (held : ten
       by_expiry : (o : Option Expiry) → expiry (e ∷ h) ≡ o → option_map (λ (x : Expiry). x.now) (expiry h) ≡ None
       by_expiry None none = rw (expiry_before none) refl
       by_expiry (Some x) some = absurd (let k : Some x.now ≡ None = rw some at is in cc)
+
+    pub items_more : expired (e ∷ h) ≡ None → items (e ∷ h) ≡ selected (params h) (event e h ∷ live h)
+    unfolding items
+    items_more is = rw (params_stays e h t stays held, offered_more is, offered_unexpired h (expired_before is)) refl
 
     -- the moment with this event, by what was known before
     pub expired_by : expired (e ∷ h) ≡ expired_next (timeout_of (params h)) (started h) (expired h) (nat_eq (length (items h)) 0) (clock_of (event e h))
@@ -271,17 +286,3 @@ module _ (e : Entry) (h : History) (t s : Since) (stays : Stays e h) (held : ten
     by_stop : (b : Bool) → is_stopped (e ∷ h) ≡ b → items (e ∷ h) ≡ items h
     by_stop true yea = items_stopped yea
     by_stop false nay = by_expiry nay (expired (e ∷ h)) refl
-
--- ------ PES filters
-
--- they have no timeout
-pub expired_pes : (h : History) (p : PesParams) → params h ≡ Pes p → expired h ≡ None
-unfolding expired expiry
-expired_pes h p is = rw is refl
-
--- a pass brings what its PIDs pick
-pub items_passed : (e : Entry) (h : History) (t s : Since) (stays : Stays e h) → tenure h ≡ Some t → capture h ≡ Some s
-    → (p : PesParams) → params h ≡ Pes p → is_stopped (e ∷ h) ≡ false → items (e ∷ h) ≡ items h ++ picked p.output (pids h) (packets_in p.input (event e h))
-items_passed e h t s stays held runs p is nay =
-    let later : expired (e ∷ h) ≡ None = expired_pes (e ∷ h) p (params_stays e h t stays held ∙ is) in
-    rw (items_more e h t s stays held runs nay later, items_unexpired h (expired_pes h p is), is) refl

@@ -9,12 +9,12 @@ use Rattle.std.proofs.Math.Seq.{drop-append_seam, drop-length}
 use Rattle.dmx_calls.specs.History.{Entry, Event, History, event, Since}
 use Rattle.dmx_calls.specs.Tenure.{Params, Empty, Section, Pes, tenure, size, params}
 use Rattle.dmx_calls.specs.Capture.{moment_of, stops, live, started, is_stopped, capture}
-use Rattle.dmx_calls.specs.Items.{timeout_of, selected, Expiry, expiry, items}
+use Rattle.dmx_calls.specs.Items.{timeout_of, selected, Expiry, expiry, offered, items}
 use Rattle.dmx_calls.specs.Rules.{Rules, demux, tells_timeout, is_told, expired}
 use Rattle.dmx_calls.specs.Ledger.{Misfit, answered_in, is_overflow, misfit, joined, total, answered, arrivals, over}
 use Rattle.dmx_calls.specs.Facts.{Ledger, unread_of, rest_of_item, rest_of, ledger_at}
 use Rattle.dmx_calls.proofs.Going.{more, begun, Stays, params_stays}
-use Rattle.dmx_calls.proofs.Growth.{capture_more, started_stays, is_stopped_after, is_told_after, items_unexpired, section_items-nil}
+use Rattle.dmx_calls.proofs.Growth.{capture_more, started_stays, is_stopped_after, is_told_after, offered_unexpired, section_items-nil}
 
 -- ------ lists
 
@@ -114,8 +114,12 @@ module _ (g : History) (ev : Event) (is : capture g ≡ Some (begun ev)) where
   unfolding live
   live-fresh = rw is refl
 
-  items-fresh : items g ≡ []
-  items-fresh = items_unexpired g expired-fresh ∙ (rw live-fresh (selected-nil (params g)))
+  pub offered-fresh : offered g ≡ []
+  offered-fresh = offered_unexpired g expired-fresh ∙ live-fresh
+
+  pub items-fresh : items g ≡ []
+  unfolding items
+  items-fresh = rw offered-fresh (selected-nil (params g))
 
   pub ledger_fresh : ledger_at demux g ≡ fresh (unwrap_or (moment_of ev) 0)
   unfolding started is_stopped is_told joined total answered over

@@ -23,7 +23,7 @@ rest_is_first (x ∷ xs) n = by_test (nat_lt n (length x)) (rest_is_first xs (n 
   by_test true ih = sym (length-drop n x)
   by_test false ih = ih
 
-drop_past_first : (x ys : List ℕ) (n : ℕ) → length x ≤ n → drop n (x ++ ys) ≡ drop (n - length x) ys
+pub drop_past_first : (x ys : List ℕ) (n : ℕ) → length x ≤ n → drop n (x ++ ys) ≡ drop (n - length x) ys
 drop_past_first [] ys n le = ap (λ k. drop k ys) (omega arith)
 drop_past_first (a ∷ x) ys zero le = absurd (omega arith)
 drop_past_first (a ∷ x) ys (suc n) le = drop_past_first x ys n (omega arith) ∙ ap (λ k. drop k ys) (omega arith)

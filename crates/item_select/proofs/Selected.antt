@@ -1,20 +1,20 @@
 -- What a selector keeps stands for the packets offered, packet by packet and item by item.
-use Rattle.std.proofs.Common.{◌≡◌, ◌≢◌, ℕ, ◌≤◌, ◌&&◌, ◌||◌, not, subst, Bool, true, false, List, [], ◌∷◌, ◌++◌, map, length, take, drop, Option, Some, None, refl, sym, ap, ◌∙◌, arith, append_assoc, length-append, length-drop}
+use Rattle.std.proofs.Common.{◌≡◌, ◌≢◌, ℕ, ◌≤◌, ◌&&◌, ◌||◌, not, subst, Bool, true, false, List, [], ◌∷◌, ◌++◌, map, length, take, drop, Option, Some, None, refl, sym, ap, ◌∙◌, arith, append_assoc, length-drop, get_or, suc, ◌+◌}
 use Rattle.std.proofs.lemmas.List.{append-nil, map-append}
 use Rattle.std.proofs.lemmas.List.Elements.{filter-append, filter_map-append}
-use Rattle.std.proofs.lemmas.List.Sums.{sum_by-cons, sum_by-take-le}
+use Rattle.std.proofs.lemmas.List.Sums.{sum_by-cons, sum_by-take-le, sum_by-append}
 use Rattle.std.specs.List.{filter, filter_map, sum_by}
 use Rattle.filter_match.specs.declared.filter.SectionFilter.{SectionFilter}
-use Rattle.ts_packet.specs.Fields.{payload_of, payload_start, has_payload}
-use Rattle.ts_packet.specs.Clean.{clean, without_repeats_after}
+use Rattle.ts_packet.specs.Fields.{payload_of, payload_start, has_payload, has_adaptation}
+use Rattle.ts_packet.specs.Clean.{clean, without_repeats_after, carried}
 use Rattle.section_parse.specs.Segments.{runs}
 use Rattle.section_parse.specs.Sections.{sections}
-use Rattle.section_parse.specs.Keeping.{Assembly, after_packet, all_given as all_taken, kept as kept_after_all}
+use Rattle.section_parse.specs.Keeping.{Assembly, after_packet, all_given as all_taken, kept as kept_after_all, length_of}
 use Rattle.section_parse.proofs.Assembled.{goes, kept-stands, kept-append, Assembled-push}
 use Rattle.section_parse.proofs.WholeLists.{stay}
 use Rattle.item_select.specs.Items.{Choice, Nothing, Sections, Packets, Offered, is_selected, is_named, first_if, given_by, items_of}
-use Rattle.item_select.specs.Selecting.{Selecting, Selects, Follows, begun, is_once, with_pids, offered_now, listed, after_offer, is_none, without_first, all_given}
-use Rattle.item_select.specs.Laws.{OneIsAll}
+use Rattle.item_select.specs.Selecting.{Selecting, Selects, Follows, begun, is_once, offered_now, listed, after_offer, is_none, without_first, all_given, bytes_held, items_found, kept_after}
+use Rattle.item_select.specs.Laws.{OneIsAll, OneIsGiven, AllAreGiven}
 
 abbrev packets_of : List Offered → List (List ℕ)
 packets_of offered = map (λ o. o.packet) offered
@@ -139,15 +139,6 @@ Selects-offer offered given s p e h =
 pub Selects-offered : (offered : List Offered) (given : List (List ℕ)) (s new : Selecting) (p : List ℕ) → new ≡ after_offer s p → s.ready ≡ [] → Selects offered given s → Selects (offered ++ offered_now s p ∷ []) given new
 Selects-offered offered given s new p v e h = rw v (Selects-offer offered given s p e h)
 
--- other PIDs change nothing of what was offered
-pub Selects-with_pids : (offered : List Offered) (given : List (List ℕ)) (s : Selecting) (pids : List ℕ) → Selects offered given s → Selects offered given (with_pids pids s)
-Selects-with_pids offered given s pids h = go s.choice s.pids s.kept s.is_spent s.ready h
-  where
-    go : (choice : Choice) (old : List ℕ) (kept : Assembly) (is_spent : Bool) (ready : List (List ℕ)) → Selects offered given (of choice old kept is_spent ready) → Selects offered given (of choice pids kept is_spent ready)
-    go Nothing old kept is_spent ready k = record { so_far = k.so_far; follows = k.follows }
-    go (Packets whole) old kept is_spent ready k = record { so_far = k.so_far; follows = k.follows }
-    go (Sections pid wanted check once) old kept is_spent ready k = record { so_far = k.so_far; follows = k.follows }
-
 -- ------ items are given
 
 append-some : (xs ys : List (List ℕ)) (x : List ℕ) → xs ++ (x ∷ ys) ≢ []
@@ -192,10 +183,6 @@ without_first-none s e =
     let P : List (List ℕ) → Type 0 = λ r. without_first (of s.choice s.pids s.kept s.is_spent r) ≡ of s.choice s.pids s.kept s.is_spent r in
     subst P (sym e) (rw (none-more s.is_spent (is_once s.choice)) refl)
 
--- an item that is ready is one more than were given
-pub not-all : (xs ys zs : List (List ℕ)) (y : List ℕ) → xs ≡ ys ++ (y ∷ zs) → ¬ (xs ≡ ys)
-not-all xs ys zs y e = λ f. omega (arith, ap length e, ap length f, length-append ys (y ∷ zs))
-
 -- ------ the bytes
 
 sum-filter : (p : List ℕ → Bool) (xs : List (List ℕ)) → sum_by length (filter p xs) ≤ sum_by length xs
@@ -222,3 +209,129 @@ sum-packet whole o l = go whole (is_named o) refl
     go true true e = rw e (omega (arith, sum_by-cons length o.packet []))
     go false true e = rw e (sum-payload o.packet (has_payload o.packet) refl l)
     go w false e = rw e (omega arith)
+
+carried-few : (p : List ℕ) → length p ≡ 188 → length (carried p) ≤ 184
+carried-few p l = go (has_adaptation p) refl
+  where
+    go : (b : Bool) → has_adaptation p ≡ b → length (carried p) ≤ 184
+    go true e = rw e (omega (arith, length-drop (5 + get_or p 4 0) p))
+    go false e = rw e (omega (arith, length-drop 4 p))
+
+-- a packet adds at most its 188 bytes
+section-bytes : (pid : ℕ) (wanted : SectionFilter) (check once : Bool) (packets : List (List ℕ)) (p : List ℕ) → length p ≡ 188
+    → sum_by length (first_if once (filter (is_selected wanted check) (after_packet (kept_after_all pid packets) p).ready)) + length_of (after_packet (kept_after_all pid packets) p).open_now ≤ length_of (kept_after_all pid packets).open_now + 188
+section-bytes pid wanted check once packets p l =
+    let k = kept-stands pid packets in
+    let g = goes (kept_after_all pid packets) p k.drained k.stands.settled in
+    let b = g.bytes (carried-few p l) in
+    let none = ap (λ l. sum_by length l) k.drained in
+    omega (arith, b, none, sum-selected once (is_selected wanted check) (after_packet (kept_after_all pid packets) p).ready)
+
+offer-bytes-by : (choice : Choice) (pids : List ℕ) (kept : Assembly) (is_spent : Bool) (offered : List Offered) (given : List (List ℕ)) (p : List ℕ) → length p ≡ 188
+    → Selects offered given (of choice pids kept is_spent []) → bytes_held (after_offer (of choice pids kept is_spent []) p) ≤ bytes_held (of choice pids kept is_spent []) + 188
+unfolding after_offer
+offer-bytes-by Nothing pids kept is_spent offered given p l h = omega arith
+offer-bytes-by (Packets whole) pids kept is_spent offered given p l h = omega (arith, sum-packet whole (record { packet = p; pids = pids }) l)
+offer-bytes-by (Sections pid wanted check once) pids kept true offered given p l h = omega arith
+offer-bytes-by (Sections pid wanted check once) pids kept false offered given p l h =
+    let e = (h.follows.0 refl).0 in
+    rw e (omega (arith, section-bytes pid wanted check once (packets_of offered) p l))
+
+offer-bytes : (offered : List Offered) (given : List (List ℕ)) (s : Selecting) (p : List ℕ) → length p ≡ 188 → s.ready ≡ [] → Selects offered given s → bytes_held (after_offer s p) ≤ bytes_held s + 188
+offer-bytes offered given s p l e h =
+    let P : List (List ℕ) → Type 0 = λ r. Selects offered given (of s.choice s.pids s.kept s.is_spent r) → bytes_held (after_offer (of s.choice s.pids s.kept s.is_spent r) p) ≤ bytes_held (of s.choice s.pids s.kept s.is_spent r) + 188 in
+    subst P (sym e) (λ k. offer-bytes-by s.choice s.pids s.kept s.is_spent offered given p l k) h
+
+-- ------ packets in a row
+
+abbrev offered_by : List ℕ → List ℕ → Offered
+offered_by pids p = record { packet = p; pids = pids }
+
+-- a packet changes neither the filter nor its PIDs
+record Keeps (s left : Selecting) : Type 0 where
+  pub choice : left.choice ≡ s.choice
+  pub pids : left.pids ≡ s.pids
+
+offer-keeps : (s : Selecting) (p : List ℕ) → Keeps s (after_offer s p)
+unfolding after_offer
+offer-keeps s p = go s.choice s.pids s.kept s.is_spent s.ready
+  where
+    go : (choice : Choice) (pids : List ℕ) (kept : Assembly) (is_spent : Bool) (ready : List (List ℕ)) → Keeps (of choice pids kept is_spent ready) (after_offer (of choice pids kept is_spent ready) p)
+    go Nothing pids kept is_spent ready = record { choice = refl; pids = refl }
+    go (Packets whole) pids kept is_spent ready = record { choice = refl; pids = refl }
+    go (Sections pid wanted check once) pids kept true ready = record { choice = refl; pids = refl }
+    go (Sections pid wanted check once) pids kept false ready = record { choice = refl; pids = refl }
+
+map-now : (s left : Selecting) (ps : List (List ℕ)) → left.pids ≡ s.pids → map (offered_now left) ps ≡ map (offered_now s) ps
+map-now s left ps e = ap (λ (pids : List ℕ). map (λ (p : List ℕ). offered_by pids p) ps) e
+
+pub all-selects : AllAreGiven
+unfolding items_found kept_after
+all-selects [] offered given s h e = record {
+  stands = rw (append-nil offered, append-nil given) h;
+  drained = e;
+  choice = refl;
+  pids = refl;
+  bytes = λ few. omega arith;
+}
+all-selects (p ∷ ps) offered given s h e =
+    let now = after_offer s p in
+    let k = offer-keeps s p in
+    let one = Selects-offer offered given s p e h in
+    let all = Selects-all_given (offered ++ offered_now s p ∷ []) given now one in
+    let r = all-selects ps (offered ++ offered_now s p ∷ []) (given ++ now.ready) (all_given now) all refl in
+    record {
+      stands = rw (map-now s (all_given now) ps k.pids, append_assoc offered (offered_now s p ∷ []) (map (offered_now s) ps), append_assoc given now.ready (items_found (all_given now) ps)) at r.stands;
+      drained = r.drained;
+      choice = r.choice ∙ k.choice;
+      pids = r.pids ∙ k.pids;
+      bytes = λ few. omega (arith, r.bytes (λ i d below. few (suc i) d (omega (arith, below))), offer-bytes offered given s p (few 0 [] (omega arith)) e h, sum_by-append length now.ready (items_found (all_given now) ps));
+    }
+
+-- ------ a one-shot filter
+
+pub once-spent : OneIsGiven
+once-spent offered given s h once some = go s.choice s.pids s.kept s.is_spent s.ready once h
+  where
+    go : (choice : Choice) (pids : List ℕ) (kept : Assembly) (is_spent : Bool) (ready : List (List ℕ)) → is_once choice ≡ true → Selects offered given (of choice pids kept is_spent ready) → is_spent ≡ true
+    go Nothing pids kept is_spent ready e k = absurd cc
+    go (Packets whole) pids kept is_spent ready e k = absurd cc
+    go (Sections pid wanted check one) pids kept true ready e k = refl
+    go (Sections pid wanted check one) pids kept false ready e k = absurd (some ((k.follows.0 refl).1 e))
+
+-- ------ for a loop over the items, and over the packets
+
+-- what is left with all items given is the same before and after the next one
+pub all_given-next : (s : Selecting) → all_given (without_first s) ≡ all_given s
+all_given-next s = go s.is_spent (is_once s.choice) s.ready
+  where
+    go : (is_spent once : Bool) (ready : List (List ℕ)) → of s.choice s.pids s.kept ((is_spent || (once && not (is_none ready))) || (once && not (is_none (drop 1 ready)))) [] ≡ of s.choice s.pids s.kept (is_spent || (once && not (is_none ready))) []
+    go true once ready = refl
+    go false false ready = refl
+    go false true [] = refl
+    go false true (x ∷ rest) = refl
+
+pub all_given-none : (s : Selecting) → s.ready ≡ [] → all_given s ≡ s
+all_given-none s e =
+    let P : List (List ℕ) → Type 0 = λ r. all_given (of s.choice s.pids s.kept s.is_spent r) ≡ of s.choice s.pids s.kept s.is_spent r in
+    subst P (sym e) (rw (none-more s.is_spent (is_once s.choice)) refl)
+
+pub items_found-first : (s : Selecting) (p : List ℕ) (ps : List (List ℕ)) → items_found s (p ∷ ps) ≡ (after_offer s p).ready ++ items_found (all_given (after_offer s p)) ps
+unfolding items_found
+items_found-first s p ps = refl
+
+pub kept_after-first : (s : Selecting) (p : List ℕ) (ps : List (List ℕ)) → kept_after s (p ∷ ps) ≡ kept_after (all_given (after_offer s p)) ps
+unfolding kept_after
+kept_after-first s p ps = refl
+
+pub kept_after-append : (s : Selecting) (ps qs : List (List ℕ)) → kept_after s (ps ++ qs) ≡ kept_after (kept_after s ps) qs
+unfolding kept_after
+kept_after-append s [] qs = refl
+kept_after-append s (p ∷ ps) qs = kept_after-append (all_given (after_offer s p)) ps qs
+
+pub items_found-append : (s : Selecting) (ps qs : List (List ℕ)) → items_found s (ps ++ qs) ≡ items_found s ps ++ items_found (kept_after s ps) qs
+unfolding items_found kept_after
+items_found-append s [] qs = refl
+items_found-append s (p ∷ ps) qs =
+    let now = after_offer s p in
+    ap (λ (l : List (List ℕ)). now.ready ++ l) (items_found-append (all_given now) ps qs) ∙ sym (append_assoc now.ready (items_found (all_given now) ps) (items_found (kept_after (all_given now) ps) qs))

@@ -8,7 +8,7 @@ use Rattle.item_select.specs.declared.selector.Wanted.TheVariants.{Nothing as No
 use Rattle.item_select.specs.Items.{Nothing, Sections, Packets, is_selected, is_named, given_by}
 use Rattle.item_select.specs.Selecting.{Selects, section_pid, after_offer, bytes_held}
 use Rattle.item_select.specs.SelectorView.{choice_of, selecting_of}
-use Rattle.item_select.proofs.Giving.{Gives, Answers, gives, gives-none, answers-some, answers-none}
+use Rattle.item_select.proofs.Giving.{Answers, answers-some, answers-none}
 use Rattle.item_select.proofs.Selected.{Selects-begun, sum-selected, sum-packet}
 
 -- ------ a filter that begins
@@ -58,9 +58,9 @@ packet-bytes w whole pids a is_spent waits false last p e n l = rw e (omega arit
 -- the section found is given
 pub next-section : (w : Wanted) (pid : ℕ) (f : SectionFilter) (check once : Bool) (a b : Assembly) (is_spent waits : Bool) (last x : List ℕ) → w ≡ SectionsWanted pid f check once → is_spent ≡ false
     → filter (is_selected f check) a.ready ≡ x ∷ filter (is_selected f check) b.ready → all_taken b ≡ all_taken a
-    → Gives (selecting_of w a is_spent waits last) (selecting_of w b once waits last) x
-next-section w pid f check true a b is_spent waits last x e t h k = rw (e, t) (gives _ _ x [] (rw h refl) (rw (h, k) refl))
-next-section w pid f check false a b is_spent waits last x e t h k = rw (e, t) (gives _ _ x (filter (is_selected f check) b.ready) h (rw (h, k) refl))
+    → Answers (selecting_of w a is_spent waits last) (selecting_of w b once waits last) (Some x)
+next-section w pid f check true a b is_spent waits last x e t h k = rw (e, t) (answers-some _ _ x [] (rw h refl) (rw (h, k) refl))
+next-section w pid f check false a b is_spent waits last x e t h k = rw (e, t) (answers-some _ _ x (filter (is_selected f check) b.ready) h (rw (h, k) refl))
 
 or-false : (b : Bool) → (b || false) ≡ b
 or-false true = refl
@@ -69,5 +69,5 @@ or-false false = refl
 -- the payload of the last packet is given, where it has one
 pub next-payload : (w : Wanted) (whole : Bool) (pids : List ℕ) (a : Assembly) (is_spent waits : Bool) (last : List ℕ) (o : Option (List ℕ)) → w ≡ PacketsWanted whole pids → whole ≡ false → waits ≡ true → o ≡ payload_of last
     → Answers (selecting_of w a is_spent waits last) (selecting_of w a is_spent false last) o
-next-payload w whole pids a is_spent waits last (Some x) e f t h = rw (e, f, t) (answers-some _ _ (gives _ _ x [] (rw (← h) refl) (rw (← h, or-false is_spent) refl)))
-next-payload w whole pids a is_spent waits last None e f t h = rw (e, f, t) (answers-none _ _ (gives-none _ _ (rw (← h) refl) (rw (← h) refl)))
+next-payload w whole pids a is_spent waits last (Some x) e f t h = rw (e, f, t) (answers-some _ _ x [] (rw (← h) refl) (rw (← h, or-false is_spent) refl))
+next-payload w whole pids a is_spent waits last None e f t h = rw (e, f, t) (answers-none _ _ (rw (← h) refl) (rw (← h) refl))

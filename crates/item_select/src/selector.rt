@@ -14,7 +14,8 @@ use std::alloc::{AllocError as NoMemory, Global};
 use std::marker::Model;
 use ts_packet::Packet;
 
-/// The PID that names every packet in a filter of packets.
+/// The PID that names every packet in a filter of packets (Linux media API, Digital TV demux, struct
+/// dmx_pes_filter_params).
 pub const ALL_PACKETS: u16 = 0x2000;
 
 // The length of the longest section.
@@ -139,7 +140,7 @@ impl Selector {
         self.restart();
     }
 
-    /// Changes the PIDs of a filter of packets from the next packet on. Takes no memory.
+    /// Changes the PIDs of a filter of packets, from the next packet on: the filter is one of packets. Takes no memory.
     pub fn set_pids(&mut self, pids: &Pids)
         requires { is_of_packets self.old.choice ≡ true }
         ensures value { self.new ≡ with_pids pids.now self.old }

@@ -1,5 +1,5 @@
 -- A node that makes a call goes on to stand for the history with that entry.
-use Rattle.std.proofs.Common.{ℕ, ◌+◌, ◌≡◌, refl, sym, ◌∙◌, ap, subst, ◌∷◌, length, inl, inr, add-one}
+use Rattle.std.proofs.Common.{ℕ, ◌+◌, ◌≡◌, refl, sym, ◌∙◌, ap, subst, [], ◌∷◌, length, inl, inr, add-one}
 use Rattle.dmx_calls.specs.Invocation.{Invocation}
 use Rattle.dmx_calls.specs.Response.{Response, NoMemory}
 use Rattle.dmx_calls.specs.History.{History, entry_of}
@@ -7,29 +7,61 @@ use Rattle.dmx_calls.specs.Rules.{demux}
 use Rattle.dmx_calls.specs.Facts.{facts}
 use Rattle.dmx_calls.specs.Legal.{May}
 use Rattle.dmx_calls.proofs.After.{facts_refused}
-use Rattle.node_core.specs.Step.{next}
+use Rattle.dmx_calls.proofs.Nodes.{demux_keeps}
+use Rattle.item_select.specs.Selecting.{Selecting}
+use Rattle.node_core.specs.Step.{Knows, next}
+use Rattle.node_core.specs.Offers.{HasSelected}
 use Rattle.node_core.specs.Sound.{IsSound}
 use Rattle.node_core.specs.Gives.{Gives}
 use Rattle.node_core.specs.Stands.{CoreValue, StandsFor, IsBuilt}
-use Rattle.node_core.proofs.Cases.{agrees}
+use Rattle.node_core.proofs.Takings.{selected_none}
+use Rattle.node_core.proofs.Moves.{known}
+use Rattle.node_core.proofs.Cases.{agrees, selected_refused}
 
--- by the facts alone
-goes_on : (h : History) (who : ℕ) (call : Invocation) (r : Response) → IsBuilt call → IsSound (facts demux h) → Gives (facts demux h) who call r
-    → May demux h who call r × (facts demux (entry_of who call r ∷ h) ≡ next (facts demux h) who call r)
-goes_on h who call r built sound (inl is) =
-    let a = agrees h who call built sound in
-    let P : Response → Type 0 = λ r. May demux h who call r × (facts demux (entry_of who call r ∷ h) ≡ next (facts demux h) who call r) in
-    subst P (sym is) (inl a.reply, a.after)
-goes_on h who call r built sound (inr (none, done, memory)) =
-    let a = agrees h who call built sound in
-    let P : Response → Type 0 = λ r. May demux h who call r × (facts demux (entry_of who call r ∷ h) ≡ next (facts demux h) who call r) in
-    subst P (sym none) (inr (refl, rw (← a.reply) done, memory), facts_refused (entry_of who call NoMemory) h refl)
+-- by what is known alone
+record GoesOn (h : History) (k : Selecting) (who : ℕ) (call : Invocation) (r : Response) : Type 0 where
+  may : May demux h who call r
+  told : facts demux (entry_of who call r ∷ h) ≡ (next (known h k) who call r).facts
+  selected : HasSelected (entry_of who call r ∷ h) (next (known h k) who call r).selecting
 
-pub stands_on : (c c' : CoreValue) (who : ℕ) (call : Invocation) (r : Response) → IsBuilt call → IsSound c.facts → Gives c.facts who call r
-    → c'.facts ≡ next c.facts who call r → c'.entries ≡ c.entries + 1
+goes_on : (h : History) (k : Selecting) (who : ℕ) (call : Invocation) (r : Response) → IsBuilt call → IsSound (known h k) → HasSelected h k → Gives (known h k) who call r → GoesOn h k who call r
+goes_on h k who call r built sound has (inl is) =
+    let a = agrees h k who sound has call built in
+    let P : Response → Type 0 = GoesOn h k who call in
+    subst P (sym is) (record { may = inl a.reply; told = a.told; selected = a.selected })
+goes_on h k who call r built sound has (inr (none, done, memory)) =
+    let a = agrees h k who sound has call built in
+    let P : Response → Type 0 = GoesOn h k who call in
+    subst P (sym none) (record {
+      may = inr (refl, rw (← a.reply) done, memory);
+      told = facts_refused (entry_of who call NoMemory) h refl;
+      selected = selected_refused (entry_of who call NoMemory) h k refl has;
+    })
+
+-- what a node knows
+abbrev pub knows : CoreValue → Knows
+knows c = record { facts = c.facts; selecting = c.selecting }
+
+pub stands_on : (c c' : CoreValue) (who : ℕ) (call : Invocation) (r : Response) → IsBuilt call → IsSound (knows c) → Gives (knows c) who call r
+    → knows c' ≡ next (knows c) who call r → c'.entries ≡ c.entries + 1
     → (h : History) → StandsFor c h → May demux h who call r × StandsFor c' (entry_of who call r ∷ h)
 stands_on c c' who call r built sound gives after more h s =
-    let sound' : IsSound (facts demux h) = rw s.known at sound in
-    let gives' : Gives (facts demux h) who call r = rw s.known at gives in
-    let k = goes_on h who call r built sound' gives' in
-    (k.0, record { legal = (s.legal, k.0); count = more ∙ (ap (λ n. n + 1) s.count ∙ add-one (length h)); known = after ∙ (ap (λ f. next f who call r) s.known ∙ sym k.1) })
+    let same : knows c ≡ known h c.selecting = ap (λ f. record { facts = f; selecting = c.selecting }) s.known in
+    let sound' : IsSound (known h c.selecting) = subst IsSound same sound in
+    let P : Knows → Type 0 = λ k. Gives k who call r in
+    let gives' : Gives (known h c.selecting) who call r = subst P same gives in
+    let after' : knows c' ≡ next (known h c.selecting) who call r = after ∙ ap (λ k. next k who call r) same in
+    let go : GoesOn h c.selecting who call r = goes_on h c.selecting who call r built sound' s.selected gives' in
+    let Q : Selecting → Type 0 = HasSelected (entry_of who call r ∷ h) in (
+      go.may,
+      record {
+        legal = (s.legal, go.may);
+        count = more ∙ (ap (λ n. n + 1) s.count ∙ add-one (length h));
+        known = ap (λ k. k.facts) after' ∙ sym go.told;
+        selected = subst Q (sym (ap (λ k. k.selecting) after')) go.selected;
+      },
+    )
+
+-- before the first call there is no capture, so a selector stands for nothing
+pub selected_new : (k : Selecting) → HasSelected [] k
+selected_new k = selected_none [] k demux_keeps.empty

@@ -1,3 +1,4 @@
+pub mod Offers
 pub mod Step
 pub mod Sound
 pub mod Gives
@@ -6,3 +7,4 @@ pub mod BufferView
 pub mod KeptView
 pub mod Stands
 pub mod CoreView
+pub mod Causes

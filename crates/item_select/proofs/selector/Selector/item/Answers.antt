@@ -8,8 +8,8 @@ returns-else-not-find c =
     let i = c.self.inside in
     let s = c.in-Sections in
     let f = rw c.if-not-find.false at c.find.ensures.found in
-    let g = next-section i.wanted s.pid s.filter s.check s.once i.assembler c.find.new.assembler i.is_spent i.waits i.last c.find.new.found.items s.is c.if-self.false f c.find.ensures.kept in
-    rw (← c.self.view_is, c.deref.ensures.value) ((refl, λ _. tt, g.gave), record { item = g.item; drained = (λ e. absurd cc, λ d. absurd (g.some_ready d)); some = c.find.ensures.some c.if-not-find.false; most = c.find.ensures.fits c.if-not-find.false; none = λ offered given h. (λ e. absurd cc, λ e. absurd (g.some offered given h e)); after = tt })
+    let a = next-section i.wanted s.pid s.filter s.check s.once i.assembler c.find.new.assembler i.is_spent i.waits i.last c.find.new.found.items s.is c.if-self.false f c.find.ensures.kept in
+    rw (← c.self.view_is, c.deref.ensures.value) ((refl, λ _. tt, a.gave), record { item = a.item; drained = a.drained; some = c.find.ensures.some c.if-not-find.false; most = c.find.ensures.fits c.if-not-find.false; none = a.none; after = tt })
 
 fits : (r : Option (Bor (List ℕ))) → IfSome r (λ x. length x.now ≤ 184) → IfSome r (λ x. length x.now ≤ 4096)
 fits None h = h

@@ -1,0 +1,67 @@
+-- A call that is not refused is accepted, unless it opens a node that has an owner.
+use Rattle.std.proofs.Common.{ℕ, zero, suc, ◌≡◌, refl, sym, ◌∙◌, ap, Bool, true, false, Option, Some, None, take, inl, inr}
+use Rattle.std.specs.Prelude.{◌⊎◌, if◌then◌else◌, nat_eq}
+use Rattle.dmx_calls.specs.Invocation.{Invocation, Open, Close, SetFilter, SetPes, AddPid, RemovePid, Start, Stop, SetSize, Read, Poll, Pass, End, Attach, Detach}
+use Rattle.dmx_calls.specs.Response.{TapChange, Response, Busy, Data, Again, TimedOut, is_accepted}
+use Rattle.dmx_calls.specs.Items.{timeout_of}
+use Rattle.dmx_calls.specs.Ledger.{Misfit}
+use Rattle.dmx_calls.specs.Facts.{Ledger, Facts}
+use Rattle.dmx_calls.specs.Answer.{most_bytes, read_bytes, read_timeout, read_over, read_response, expired_of, open_response, done_dropping, response_to}
+
+dropping_accepted : (o : Option Ledger) (tap : TapChange) → is_accepted (done_dropping o tap) ≡ true
+dropping_accepted None tap = refl
+dropping_accepted (Some l) tap = refl
+
+either_accepted : (b : Bool) (x y : Response) → is_accepted x ≡ true → is_accepted y ≡ true → is_accepted (if b then x else y) ≡ true
+either_accepted true x y ok_x ok_y = ok_x
+either_accepted false x y ok_x ok_y = ok_y
+
+module _ (f : Facts) (l : Ledger) where
+  bytes_accepted : (count : ℕ) → is_accepted (read_bytes f l count) ≡ true
+  bytes_accepted zero = refl
+  bytes_accepted (suc fewer) = either_accepted (nat_eq l.answered l.total) (Again f.has_ended) (Data (take (most_bytes f.params l (suc fewer)) l.unread)) refl refl
+
+  timeout_accepted : (x : Option ℕ) (count : ℕ) → is_accepted (read_timeout f l x count) ≡ true
+  timeout_accepted None count = bytes_accepted count
+  timeout_accepted (Some m) count = either_accepted l.is_told (read_bytes f l count) (TimedOut l.started m (timeout_of f.params)) (bytes_accepted count) refl
+
+  over_accepted : (o : Option Misfit) (x : Option ℕ) (count : ℕ) → is_accepted (read_over f l o x count) ≡ true
+  over_accepted (Some m) x count = refl
+  over_accepted None x count = timeout_accepted x count
+
+pub read_accepted : (f : Facts) (o : Option Ledger) (x : Option ℕ) (count : ℕ) → is_accepted (read_response f o x count) ≡ true
+read_accepted f None x count = refl
+read_accepted f (Some l) x count = over_accepted f l l.over x count
+
+open_or : (call : Invocation) → (call ≡ Open) ⊎ ((f g : Facts) → is_accepted (response_to f g call) ≡ true)
+open_or Open = inl refl
+open_or Close = inr (λ f g. dropping_accepted f.ledger _)
+open_or (SetFilter p now) = inr (λ f g. dropping_accepted f.ledger _)
+open_or (SetPes p now) = inr (λ f g. dropping_accepted f.ledger _)
+open_or (AddPid pid) = inr (λ f g. refl)
+open_or (RemovePid pid) = inr (λ f g. refl)
+open_or (Start now) = inr (λ f g. dropping_accepted f.ledger _)
+open_or Stop = inr (λ f g. refl)
+open_or (SetSize n) = inr (λ f g. either_accepted (nat_eq n f.size) _ _ refl (dropping_accepted f.ledger _))
+open_or (Read now count) = inr (λ f g. read_accepted f f.ledger (expired_of g.ledger) count)
+open_or (Poll now) = inr (λ f g. refl)
+open_or (Pass input first packets now) = inr (λ f g. refl)
+open_or End = inr (λ f g. refl)
+open_or (Attach node names) = inr (λ f g. refl)
+open_or (Detach node) = inr (λ f g. refl)
+
+-- who isn't accepted, but not refused, opened a node that has an owner
+pub opened : (f g : Facts) (call : Invocation) (r : Response) → response_to f g call ≡ r → is_accepted r ≡ false → (owner : ℕ) × (call ≡ Open) × (f.owner ≡ Some owner) × (r ≡ Busy owner)
+opened f g call r is nay = elim (open_or call) [
+  | inl is_open ↦ by_open call is_open is
+  | inr ok ↦ absurd (let yea : is_accepted r ≡ true = rw (← is) (ok f g) in let k : false ≡ true = sym nay ∙ yea in cc)
+] where
+  by_owner : (o : Option ℕ) → f.owner ≡ o → open_response o ≡ r → (owner : ℕ) × (f.owner ≡ Some owner) × (r ≡ Busy owner)
+  by_owner None none is = absurd (let k : true ≡ false = ap is_accepted is ∙ nay in cc)
+  by_owner (Some w) some is = (w, some, sym is)
+
+  by_open : (call : Invocation) → call ≡ Open → response_to f g call ≡ r → (owner : ℕ) × (call ≡ Open) × (f.owner ≡ Some owner) × (r ≡ Busy owner)
+  by_open call is_open is =
+      let is' : open_response f.owner ≡ r = rw is_open at is in
+      let k = by_owner f.owner refl is' in
+      (k.0, is_open, k.1, k.2)

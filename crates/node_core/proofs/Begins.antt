@@ -1,0 +1,82 @@
+-- The same for calls that begin or end a tenure or a capture.
+use Rattle.std.proofs.Common.{ℕ, ◌≡◌, refl, ap, Bool, true, false, List, [], ◌∷◌, Some, None}
+use Rattle.std.specs.Prelude.{nat_eq, if◌then◌else◌}
+use Rattle.dmx_calls.specs.declared.params.SectionParams.{SectionParams}
+use Rattle.dmx_calls.specs.declared.params.PesParams.{PesParams}
+use Rattle.dmx_calls.specs.declared.limits.TheConstants.{IMMEDIATE_START}
+use Rattle.dmx_calls.specs.Invocation.{Open, Close, SetFilter, SetPes, Start, SetSize}
+use Rattle.dmx_calls.specs.Response.{Response, is_accepted}
+use Rattle.dmx_calls.specs.History.{Entry, Event, History, entry_of, event, Since}
+use Rattle.dmx_calls.specs.Tenure.{tenure, size, Section, Pes}
+use Rattle.dmx_calls.specs.Capture.{has_flag, begins, capture}
+use Rattle.dmx_calls.specs.Rules.{demux}
+use Rattle.dmx_calls.specs.Facts.{facts}
+use Rattle.dmx_calls.proofs.Going.{more, begun, tenure_after, capture_begun}
+use Rattle.dmx_calls.proofs.Ledgers.{fresh, offered-fresh, items-fresh}
+use Rattle.dmx_calls.proofs.After.{facts_opened, facts_closed, facts_started, facts_set_filter, facts_set_pes, facts_resized}
+use Rattle.item_select.specs.Items.{Choice}
+use Rattle.item_select.specs.Selecting.{Selecting, begun as begun_selecting}
+use Rattle.item_select.proofs.Selected.{Selects-begun}
+use Rattle.node_core.specs.Offers.{HasSelected, choice_of, names_of}
+use Rattle.node_core.proofs.Takings.{selected_none}
+use Rattle.node_core.proofs.Moves.{Moves, no_run}
+
+-- a capture that has just begun has offered nothing
+selected_begun : (g : History) (ev : Event) → capture g ≡ Some (begun ev) → (choice : Choice) (names : List ℕ) → HasSelected g (begun_selecting choice names)
+selected_begun g ev is choice names = λ c runs. rw (offered-fresh g ev is, items-fresh g ev is) (Selects-begun choice names)
+
+module _ (h : History) (k : Selecting) (who : ℕ) (r : Response) (ok : is_accepted r ≡ true) where
+  pub open_moves : Moves h k who Open r
+  unfolding facts
+  open_moves = record {
+    told = facts_opened h who r ok;
+    selected = selected_none (entry_of who Open r ∷ h) _ (no_run (entry_of who Open r ∷ h) (ap (λ f. f.ledger) (facts_opened h who r ok)));
+  }
+
+  pub close_moves : Moves h k who Close r
+  unfolding facts
+  close_moves = record {
+    told = facts_closed h who r ok;
+    selected = selected_none (entry_of who Close r ∷ h) _ (no_run (entry_of who Close r ∷ h) (ap (λ f. f.ledger) (facts_closed h who r ok)));
+  }
+
+  module _ (t : Since) (held : tenure h ≡ Some t) where
+    pub start_moves : (now : ℕ) → Moves h k who (Start now) r
+    unfolding facts
+    start_moves now =
+        let e : Entry = entry_of who (Start now) r in
+        record {
+          told = facts_started h t who r held ok now;
+          selected = selected_begun (e ∷ h) (event e h) (capture_begun e h t held (tenure_after e h t ok refl refl held) refl) k.choice k.pids;
+        }
+
+    -- a set call, by whether it starts the filter
+    set_selected : (e : Entry) → tenure (e ∷ h) ≡ Some (more (event e h) t) → (choice : Choice) (names : List ℕ) (now : ℕ) → (b : Bool) → begins (event e h) ≡ b
+        → (facts demux (e ∷ h)).ledger ≡ (if b then Some (fresh now) else None) → HasSelected (e ∷ h) (begun_selecting choice names)
+    set_selected e longer choice names now true yea l = selected_begun (e ∷ h) (event e h) (capture_begun e h t held longer yea) choice names
+    set_selected e longer choice names now false nay l = selected_none (e ∷ h) _ (no_run (e ∷ h) l)
+
+    pub set_filter_moves : (p : SectionParams) (now : ℕ) → Moves h k who (SetFilter p now) r
+    unfolding facts
+    set_filter_moves p now =
+        let e : Entry = entry_of who (SetFilter p now) r in
+        record {
+          told = facts_set_filter h t who r held ok p now;
+          selected = set_selected e (tenure_after e h t ok refl refl held) (choice_of (Section p)) [] now (has_flag IMMEDIATE_START p.flags) refl (ap (λ f. f.ledger) (facts_set_filter h t who r held ok p now));
+        }
+
+    pub set_pes_moves : (p : PesParams) (now : ℕ) → Moves h k who (SetPes p now) r
+    unfolding facts
+    set_pes_moves p now =
+        let e : Entry = entry_of who (SetPes p now) r in
+        record {
+          told = facts_set_pes h t who r held ok p now;
+          selected = set_selected e (tenure_after e h t ok refl refl held) (choice_of (Pes p)) (names_of (choice_of (Pes p)) (p.pid ∷ [])) now (has_flag IMMEDIATE_START p.flags) refl (ap (λ f. f.ledger) (facts_set_pes h t who r held ok p now));
+        }
+
+    pub resized_moves : (n : ℕ) → nat_eq n (size h) ≡ false → Moves h k who (SetSize n) r
+    unfolding facts
+    resized_moves n other = record {
+      told = rw other (facts_resized h t who r held ok n other);
+      selected = rw other (selected_none (entry_of who (SetSize n) r ∷ h) k (no_run (entry_of who (SetSize n) r ∷ h) (ap (λ f. f.ledger) (facts_resized h t who r held ok n other))));
+    }
