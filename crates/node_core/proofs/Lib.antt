@@ -4,7 +4,6 @@ pub mod Arrivals
 pub mod Offered
 pub mod Expiries
 pub mod Offerings
-pub mod Selectors
 pub mod Takings
 pub mod Moves
 pub mod Begins
@@ -15,3 +14,5 @@ pub mod Standing
 pub mod Accepted
 pub mod ReadCausing
 pub mod Causing
+pub mod Answering
+pub mod ByValues

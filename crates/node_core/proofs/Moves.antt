@@ -15,13 +15,12 @@ use Rattle.dmx_calls.specs.Ledger.{answered_in, is_overflow, answered}
 use Rattle.dmx_calls.specs.Facts.{Ledger, ledger_at, ledger_of, facts}
 use Rattle.dmx_calls.proofs.Going.{Stays, tenure_stays, pids_changed}
 use Rattle.dmx_calls.proofs.After.{expired_then, facts_free, facts_goes, ledger_still, stays_poll, stays_end, stays_stop, stays_add, stays_remove, stays_same_size, pids_stay}
-use Rattle.item_select.specs.Selecting.{Selecting, with_pids}
-use Rattle.item_select.proofs.Selected.{Selects-with_pids}
+use Rattle.item_select.specs.Selecting.{Selecting}
 use Rattle.node_core.specs.Step.{with_stop, expiring, Knows, moved}
 use Rattle.node_core.specs.Offers.{HasSelected, names_of}
 use Rattle.node_core.specs.Sound.{Coherent, IsSoundFor, IsSound}
 use Rattle.node_core.proofs.Expiries.{never, expiring_is, unclocked}
-use Rattle.node_core.proofs.Takings.{selected_goes, selected_none, selected_quiet}
+use Rattle.node_core.proofs.Takings.{selected_goes, selected_none, selected_quiet, selected_renamed}
 
 -- what a node knows that stands for this history
 abbrev pub known : History → Selecting → Knows
@@ -161,10 +160,6 @@ module _ (h : History) (k : Selecting) (t : Since) (who : ℕ) (r : Response) (h
         selected = rw same (selected_silent h k t who (SetSize n) r held sound has silent stays (λ input. refl));
       }
 
-  -- with other PIDs the selector stands for what it stood for
-  renamed : (g : History) (names : List ℕ) → HasSelected g k → HasSelected g (with_pids names k)
-  renamed g names has' = λ c is. Selects-with_pids _ _ k names (has' c is)
-
   pub add_moves : (s : Since) → setting h ≡ Some s → (pid : ℕ) → Moves h k who (AddPid pid) r
   unfolding facts
   add_moves s set pid =
@@ -172,7 +167,7 @@ module _ (h : History) (k : Selecting) (t : Since) (who : ℕ) (r : Response) (h
       let e : Entry = entry_of who (AddPid pid) r in
       record {
         told = facts_same h k t who (AddPid pid) r held sound has silent stays (λ input. refl) (with_pid pid (pids h)) (pids_changed e h t held (tenure_stays e h t stays held) s set refl) refl refl;
-        selected = renamed (e ∷ h) (names_of k.choice (with_pid pid (pids h))) (selected_silent h k t who (AddPid pid) r held sound has silent stays (λ input. refl));
+        selected = selected_renamed (e ∷ h) k (names_of k.choice (with_pid pid (pids h))) (selected_silent h k t who (AddPid pid) r held sound has silent stays (λ input. refl));
       }
 
   pub remove_moves : (s : Since) → setting h ≡ Some s → (pid : ℕ) → Moves h k who (RemovePid pid) r
@@ -182,7 +177,7 @@ module _ (h : History) (k : Selecting) (t : Since) (who : ℕ) (r : Response) (h
       let e : Entry = entry_of who (RemovePid pid) r in
       record {
         told = facts_same h k t who (RemovePid pid) r held sound has silent stays (λ input. refl) (without_pid pid (pids h)) (pids_changed e h t held (tenure_stays e h t stays held) s set refl) refl refl;
-        selected = renamed (e ∷ h) (names_of k.choice (without_pid pid (pids h))) (selected_silent h k t who (RemovePid pid) r held sound has silent stays (λ input. refl));
+        selected = selected_renamed (e ∷ h) k (names_of k.choice (without_pid pid (pids h))) (selected_silent h k t who (RemovePid pid) r held sound has silent stays (λ input. refl));
       }
 
 -- ------ End, with an owner or without one

@@ -1,5 +1,5 @@
 -- A node that makes a call goes on to stand for the history with that entry.
-use Rattle.std.proofs.Common.{ℕ, ◌+◌, ◌≡◌, refl, sym, ◌∙◌, ap, subst, ◌∷◌, length, inl, inr, add-one}
+use Rattle.std.proofs.Common.{ℕ, ◌+◌, ◌≡◌, refl, sym, ◌∙◌, ap, subst, [], ◌∷◌, length, inl, inr, add-one}
 use Rattle.dmx_calls.specs.Invocation.{Invocation}
 use Rattle.dmx_calls.specs.Response.{Response, NoMemory}
 use Rattle.dmx_calls.specs.History.{History, entry_of}
@@ -7,12 +7,14 @@ use Rattle.dmx_calls.specs.Rules.{demux}
 use Rattle.dmx_calls.specs.Facts.{facts}
 use Rattle.dmx_calls.specs.Legal.{May}
 use Rattle.dmx_calls.proofs.After.{facts_refused}
+use Rattle.dmx_calls.proofs.Nodes.{demux_keeps}
 use Rattle.item_select.specs.Selecting.{Selecting}
 use Rattle.node_core.specs.Step.{Knows, next}
 use Rattle.node_core.specs.Offers.{HasSelected}
 use Rattle.node_core.specs.Sound.{IsSound}
 use Rattle.node_core.specs.Gives.{Gives}
 use Rattle.node_core.specs.Stands.{CoreValue, StandsFor, IsBuilt}
+use Rattle.node_core.proofs.Takings.{selected_none}
 use Rattle.node_core.proofs.Moves.{known}
 use Rattle.node_core.proofs.Cases.{agrees, selected_refused}
 
@@ -59,3 +61,7 @@ stands_on c c' who call r built sound gives after more h s =
         selected = subst Q (sym (ap (λ k. k.selecting) after')) go.selected;
       },
     )
+
+-- before the first call there is no capture, so a selector stands for nothing
+pub selected_new : (k : Selecting) → HasSelected [] k
+selected_new k = selected_none [] k demux_keeps.empty

@@ -14,12 +14,11 @@ use Rattle.dmx_calls.specs.Rules.{expired}
 use Rattle.dmx_calls.specs.Facts.{has_had_its_section}
 use Rattle.dmx_calls.proofs.Going.{Stays, params_stays, capture_stays}
 use Rattle.dmx_calls.proofs.Growth.{is_stopped_after, offered_stopped, offered_after_expiry, offered_more, items_quiet}
-use Rattle.item_select.specs.Items.{Offered}
-use Rattle.item_select.specs.Selecting.{Selecting, is_once, offered_now, items_found, kept_after, Selects}
+use Rattle.item_select.specs.Items.{Choice, Nothing, Sections, Packets, Offered}
+use Rattle.item_select.specs.Selecting.{Selecting, is_once, offered_now, items_found, kept_after, Selects, with_pids, Follows}
 use Rattle.node_core.specs.Offers.{choice_of, names_of, input_of, offers_of, offers, HasSelected}
 use Rattle.node_core.proofs.Offerings.{items_given}
-use Rattle.item_select.proofs.Selected.{spent-selects}
-use Rattle.node_core.proofs.Selectors.{takes_all, once_spent}
+use Rattle.item_select.proofs.Selected.{all-selects, spent-selects, once-spent}
 
 -- the selector stands for the history
 abbrev pub Has : History → Selecting → Type 0
@@ -72,6 +71,18 @@ module _ (e : Entry) (h : History) (t s : Since) (stays : Stays e h) (held : ten
       offers_after ∙ (ap (λ ps. offers (params h) (offered h) ++ offers_of (names_of (choice_of (params h)) (pids h)) ps) (no_offering live (quiet (input_of (params h)))) ∙ append-nil (offers (params h) (offered h))) in
       rw (same, items_quiet e h t s stays held runs quiet) has
 
+-- ------ other PIDs
+
+follows_renamed : (c : Choice) (before : List Offered) (given : List (List ℕ)) (k : Selecting) (names : List ℕ) → Follows c before given k → Follows c before given (with_pids names k)
+follows_renamed Nothing before given k names f = f
+follows_renamed (Packets whole) before given k names f = f
+follows_renamed (Sections pid wanted check once) before given k names f = f
+
+-- what a selector with other PIDs stands for
+pub selected_renamed : (h : History) (k : Selecting) (names : List ℕ) → HasSelected h k → HasSelected h (with_pids names k)
+selected_renamed h k names has = λ c is.
+    record { so_far = (has c is).so_far; follows = follows_renamed k.choice (offers (params h) (offered h)) (items h) k names (has c is).follows }
+
 -- ------ a pass
 
 -- What a selector takes in of packets, where they are offered, and where a one-shot filter has had its section: it stands for them, has none ready, and has the same filter.
@@ -81,7 +92,7 @@ take_in : (k : Selecting) (before : List Offered) (given packets : List (List �
     × ((if offering && not had then kept_after k packets else k).choice ≡ k.choice)
 take_in k before given packets false had ready spent has = (rw (append-nil before, append-nil given) has, ready, refl)
 take_in k before given packets true true ready spent has = (rw (append-nil given) (spent-selects before (map (offered_now k) packets) given k has (spent refl) ready), ready, refl)
-take_in k before given packets true false ready spent has = let all = takes_all packets before given k has ready in (all.stands, all.drained, all.choice)
+take_in k before given packets true false ready spent has = let all = all-selects packets before given k has ready in (all.stands, all.drained, all.choice)
 
 and_apart : (a b c d : Bool) → (a && (b && (c && not d))) ≡ ((a && (b && c)) && not d)
 and_apart false b c d = refl
@@ -123,7 +134,7 @@ module _ (h : History) (t s : Since) (who : ℕ) (input : Input) (first : ℕ) (
         let offering : Bool = is_same_input input (input_of (params h)) && (not (is_stopped h) && not (is_some (expired (passing ∷ h)))) in
         let had : Bool = has_had_its_section (params h) (length (items h)) in
         let spent : had ≡ true → k.is_spent ≡ true =
-        λ yea. let once = had_once (params h) (items h) yea in once_spent (offers (params h) (offered h)) (items h) k has (ap is_once choice ∙ once.0) once.1 in
+        λ yea. let once = had_once (params h) (items h) yea in once-spent (offers (params h) (offered h)) (items h) k has (ap is_once choice ∙ once.0) once.1 in
         let more : offers (params (passing ∷ h)) (offered (passing ∷ h)) ≡ offers (params h) (offered h) ++ map (offered_now k) (if offering then packets else []) =
         offers_after passing h t s stays held runs
         ∙ rw (is_stopped_after passing h t s stays held runs, if_both (is_same_input input (input_of (params h))) (not (is_stopped h) && not (is_some (expired (passing ∷ h)))) packets, ← named) refl in

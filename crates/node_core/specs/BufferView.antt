@@ -1,5 +1,5 @@
 -- How a buffer's fields are seen, and what holds of them.
-use Rattle.std.specs.Prelude.{ℕ, ◌≡◌, ◌≤◌, ◌-◌, false, List, [], Option, Some, None, option_map}
+use Rattle.std.specs.Prelude.{ℕ, ◌≡◌, ◌≤◌, ◌-◌, List, [], Option, Some, None, option_map}
 use Rattle.dmx_calls.specs.Ledger.{Misfit}
 use Rattle.dmx_calls.specs.Facts.{Ledger}
 use Rattle.node_core.specs.Sound.{UnreadFits}
@@ -17,14 +17,14 @@ abbrev pub ledger_of : List ℕ → Capture → Ledger
 ledger_of unread c = record {
   started = c.started;
   is_stopped = c.is_stopped;
-  expired = None;
-  is_told = false;
+  expired = c.expired;
+  is_told = c.is_told;
   count = c.items;
   total = c.total;
   answered = c.answered;
   over = option_map misfit_of c.over;
   unread = unread;
-  rest = 0;
+  rest = c.rest;
 }
 
 -- the size is the ring's

@@ -1,64 +1,103 @@
-// A PES filter: which packets it names, and what they give to the node's reader.
+// A node's filter: what it says of sections, timeouts and packets, and what its selector is to select.
 
-ghost use Rattle.std.specs.Prelude.{◌≡◌, ◌≤◌, ◌<◌, ◌+◌, ◌-◌, ◌^◌, [], ◌∷◌, length, option_map, IfSome};
-ghost use Rattle.std.specs.Option.{option_copied};
-ghost use Rattle.ts_packet.specs.Fields.{IsPacket};
-ghost use Rattle.dmx_calls.specs.Items.{item_of as item_by, picked};
-ghost use Rattle.node_core.specs.Sound.{CoherentIn, total_of};
-ghost use Rattle.node_core.specs.Step.{with_items};
+ghost use Rattle.std.specs.Prelude.{ℕ, ◌≡◌, List};
+ghost use Rattle.dmx_calls.specs.Calls.{params_of, pids_of};
+ghost use Rattle.dmx_calls.specs.Capture.{has_flag};
+ghost use Rattle.dmx_calls.specs.Items.{is_oneshot as once_by, is_same_input, timeout_of as timeout_by};
+ghost use Rattle.dmx_calls.specs.Facts.{has_had_its_section as is_done_by};
+ghost use Rattle.item_select.specs.Selecting.{begun, with_pids};
+ghost use Rattle.node_core.specs.Offers.{choice_by, choice_of, names_of, input_of};
+ghost use Rattle.node_core.specs.Step.{is_section as section_set};
 
-use crate::buffer::Buffer;
-use dmx_calls::limits::ALL_PACKETS;
-use dmx_calls::{Output, PesParams};
-use std::sync::ledger::Ledger;
-use steps::Steps;
-use ts_batch::Batch;
-use ts_packet::Packet;
+use dmx_calls::limits::{CHECK_CRC, IMMEDIATE_START, ONESHOT};
+use dmx_calls::{Input, Output, Params, PesParams, SectionParams};
+use item_select::Selector;
+use pid_set::Pids;
 
-/// The item that a packet gives to the node's reader, if any.
-fn item_of(output: Output, packet: &Packet) -> Option<&[u8]>
-    ensures value { option_copied result ≡ item_by output packet.now }
-    ensures some { IfSome result (λ item. 0 < length item.now) }
-    ensures fits { IfSome result (λ item. length item.now ≤ 188) }
+/// It is a section filter.
+pub fn is_section(params: &Params) -> bool
+    ensures { result ≡ section_set (params_of params.now) }
 {
-    match output {
-        Output::TsdemuxTap => Some(packet.bytes()),
-        Output::Tap => packet.payload(),
-        Output::TsTap | Output::Decoder => None,
+    matches!(params, Params::Section(_))
+}
+
+/// The timeout in milliseconds. Only a section filter has one; 0 is none.
+pub fn timeout_of(params: &Params) -> u32
+    ensures { result ≡ timeout_by (params_of params.now) }
+{
+    match params {
+        Params::Section(wanted) => wanted.timeout,
+        Params::Empty | Params::Pes { .. } => 0,
     }
 }
 
-/// A packet is offered to the filter.
-fn offer(params: &PesParams, buffer: &mut Buffer, packet: &Packet)
-    requires total { total_of buffer.old.ledger + 188 < 2 ^ 64 }
-    requires sound { CoherentIn buffer.old.ledger }
-    requires packet { IsPacket packet.now }
-    ensures after { buffer.new ≡ record { size = buffer.old.size; ledger = option_map (λ l. with_items (buffer.old.size - 1) l (picked params.now.output (params.now.pid ∷ []) (packet.now ∷ []))) buffer.old.ledger } }
-    ensures sound { CoherentIn buffer.new.ledger }
-    ensures total { total_of buffer.new.ledger ≤ total_of buffer.old.ledger + 188 }
+/// Its packets come from this input. Those of a section filter come from the frontend.
+pub fn takes_from(params: &Params, input: Input) -> bool
+    ensures { result ≡ is_same_input input (input_of (params_of params.now)) }
 {
-    if params.pid == ALL_PACKETS || packet.pid() == params.pid {
-        if let Some(item) = item_of(params.output, packet) {
-            buffer.put(item);
+    match params {
+        Params::Pes { params, .. } => params.input == input,
+        Params::Empty | Params::Section(_) => input == Input::Frontend,
+    }
+}
+
+/// DMX_IMMEDIATE_START is among these flags.
+pub fn starts_at_once(flags: u32) -> bool
+    ensures { result ≡ has_flag IMMEDIATE_START flags }
+{
+    flags & IMMEDIATE_START != 0
+}
+
+/// DMX_CHECK_CRC is among its flags.
+fn checks_crc(params: &SectionParams) -> bool
+    ensures { result ≡ has_flag CHECK_CRC params.now.flags }
+{
+    params.flags & CHECK_CRC != 0
+}
+
+/// DMX_ONESHOT is among its flags.
+fn is_oneshot(params: &SectionParams) -> bool
+    ensures { result ≡ once_by params.now }
+{
+    params.flags & ONESHOT != 0
+}
+
+/// With so many items it has had all: it is a section filter with DMX_ONESHOT, and has one.
+pub fn has_had_its_section(params: &Params, items: u64) -> bool
+    ensures { result ≡ is_done_by (params_of params.now) items }
+{
+    match params {
+        Params::Section(wanted) => is_oneshot(wanted) && items > 0,
+        Params::Empty | Params::Pes { .. } => false,
+    }
+}
+
+/// The selector begins anew with this filter. Only the outputs to the demux node select anything for its reader.
+pub fn select(selector: &mut Selector, params: &Params)
+    ensures { selector.new ≡ begun (choice_of (params_of params.now)) (names_of (choice_of (params_of params.now)) (pids_of params.now)) }
+{
+    match params {
+        Params::Empty => selector.set_none(),
+        Params::Section(wanted) => {
+            let once = is_oneshot(wanted);
+            selector.set_sections(wanted.pid, &wanted.filter, checks_crc(wanted), once);
         }
+        Params::Pes { params, pids } => match params.output {
+            Output::Tap => selector.set_packets(false, pids),
+            Output::TsdemuxTap => selector.set_packets(true, pids),
+            Output::TsTap | Output::Decoder => selector.set_none(),
+        },
     }
 }
 
-/// The packets of a batch are offered to the filter, each for one step.
-pub fn offer_all<L: Ledger>(
-    params: &PesParams,
-    buffer: &mut Buffer,
-    batch: &Batch,
-    steps: &mut Steps<L>,
-)
-    requires total { total_of buffer.old.ledger + 12032 < 2 ^ 64 }
-    requires sound { CoherentIn buffer.old.ledger }
-    ensures after { buffer.new ≡ record { size = buffer.old.size; ledger = option_map (λ l. with_items (buffer.old.size - 1) l (picked params.now.output (params.now.pid ∷ []) batch.now.packets)) buffer.old.ledger } }
-    ensures sound { CoherentIn buffer.new.ledger }
-    ensures total { total_of buffer.new.ledger ≤ total_of buffer.old.ledger + 12032 }
-    ensures cost { steps.new ≤ steps.old + length batch.now.packets }
+/// The selector of a PES filter goes on with other PIDs.
+pub fn rename(selector: &mut Selector, params: &PesParams, pids: &Pids)
+    requires choice { selector.old.choice ≡ choice_by params.now.output }
+    requires others { (old : List ℕ) × (selector.old.pids ≡ names_of (choice_by params.now.output) old) }
+    ensures { selector.new ≡ with_pids (names_of selector.old.choice pids.now) selector.old }
 {
-    for i in 0..batch.count() {
-        offer(params, buffer, batch.packet(i, steps));
+    match params.output {
+        Output::Tap | Output::TsdemuxTap => selector.set_pids(pids),
+        Output::TsTap | Output::Decoder => {}
     }
 }

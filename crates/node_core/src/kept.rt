@@ -1,29 +1,37 @@
 // What a node keeps from call to call, and what each call does to it.
 //
-// The clauses name the facts of the node before and after: `said` is the reply that they give, `after` how they go on,
-// `sound` what holds of them, and `total` bounds the bytes of the capture. No reply and no fact looks at a moment yet, and
-// none of a Pass at its caller, so 0 stands for them.
+// A call comes here only where it isn't refused. The clauses name what the node knows before and after: `said` is the reply
+// that it gives, `after` how it goes on, `sound` what holds of it, and `bytes` bounds the bytes of its capture. Only Open
+// looks at its caller, so 0 stands for that of every other call.
 
-ghost use Rattle.std.specs.Prelude.{◌≡◌, ◌≢◌, ◌≤◌, ◌<◌, ◌+◌, ◌^◌, false, length};
-ghost use Rattle.dmx_calls.specs.Invocation.{Open, Close, SetPes, Start, Stop, SetSize, Read, Pass, End};
-ghost use Rattle.dmx_calls.specs.Response.{Passed};
-ghost use Rattle.dmx_calls.specs.Refusal.{is_bad_pes};
+ghost use Rattle.std.specs.Prelude.{◌≡◌, ◌≢◌, ◌≤◌, ◌<◌, ◌+◌, ◌^◌, [], ◌∷◌, true, false, length, IfOk, Some, None, if◌then◌else◌};
+ghost use Rattle.dmx_calls.specs.declared.node.NodeKind.TheVariants.{Demux};
+ghost use Rattle.dmx_calls.specs.declared.limits.TheConstants.{DEMUX_SIZE, IMMEDIATE_START};
+ghost use Rattle.dmx_calls.specs.Invocation.{Open, Close, SetFilter, SetPes, AddPid, RemovePid, Start, Stop, SetSize, Read, Poll, Pass, End};
+ghost use Rattle.dmx_calls.specs.Response.{KeepTap, NoMemory, Passed};
+ghost use Rattle.dmx_calls.specs.Capture.{has_flag};
 ghost use Rattle.dmx_calls.specs.Facts.{state_of};
-ghost use Rattle.dmx_calls.specs.Calls.{response_of};
+ghost use Rattle.dmx_calls.specs.Answer.{refusal_to, is_for_anybody, done_dropping};
+ghost use Rattle.dmx_calls.specs.Calls.{invocation_of, response_of, params_of, pids_of};
 ghost use Rattle.dmx_calls.specs.Back.{BackOfRead};
-ghost use Rattle.node_core.specs.Sound.{is_ts_tap, IsSound, total_of};
-ghost use Rattle.node_core.specs.Gives.{settled, Gives};
-ghost use Rattle.node_core.specs.Step.{next};
-ghost use Rattle.node_core.specs.KeptView.{facts_of};
+ghost use Rattle.item_select.specs.Selecting.{begun as begun_selecting};
+ghost use Rattle.node_core.specs.Offers.{choice_of, names_of};
+ghost use Rattle.node_core.specs.Sound.{is_ts_tap, IsSound};
+ghost use Rattle.node_core.specs.Gives.{Gives};
+ghost use Rattle.node_core.specs.Step.{unset, begun, next};
+ghost use Rattle.node_core.specs.KeptView.{knows_of, bytes_in, IsTaken, reply_to, Replies};
 
 use crate::buffer::Buffer;
-use crate::filter::offer_all;
-use dmx_calls::limits::{
-    ALL_PACKETS, CHECK_CRC, DEMUX_SIZE, IMMEDIATE_START, LARGEST_PES_TYPE, LARGEST_SIZE, ONESHOT,
-    SMALLEST_SIZE,
+use crate::filter::{is_section, rename, select, starts_at_once, takes_from, timeout_of};
+use crate::offer::offer_all;
+use dmx_calls::limits::DEMUX_SIZE;
+use dmx_calls::{
+    ByteBuf, Call, Errno, Input, NodeKind, Params, PesParams, Reply, SectionParams, Span, State,
+    Tap, refusal,
 };
-use dmx_calls::{ByteBuf, Errno, Input, Output, PesParams, Reply, Span, State, Tap};
-use std::alloc::Global;
+use item_select::Selector;
+use pid_set::Pids;
+use std::alloc::{AllocError as NoMemory, Global};
 use std::sync::ledger::Ledger;
 use steps::Steps;
 use ts_batch::Batch;
@@ -42,14 +50,17 @@ pub struct Kept {
 pub struct Tenure {
     /// The caller that opened it.
     pub owner: u32,
-    /// The filter of the last set call.
-    pub filter: Option<PesParams>,
+    /// The filter of the last set call, with its PIDs.
+    pub params: Params,
+    /// What finds the filter's items.
+    pub selector: Selector,
     /// The bytes and the ledger of its capture.
     pub buffer: Buffer,
 }
 
 const NOTHING: Span = Span { from: 0, to: 0 };
 
+/// The call was done. No filter's packets go to the dvr node yet, so its tap is kept.
 fn done(dropped: Span) -> Reply
     ensures { result ≡ Reply.Done dropped Tap.Keep }
 {
@@ -59,194 +70,322 @@ fn done(dropped: Span) -> Reply
     }
 }
 
-/// The filter can't be set.
-fn is_bad(params: &PesParams) -> bool
-    ensures { result ≡ is_bad_pes params.now }
+/// The set of this PID alone.
+#[tactic(auto, unfolding(pid_set::specs::Pids::with_pid))]
+fn only(pid: u16) -> Pids
+    ensures { result ≡ pid ∷ [] }
 {
-    params.pid > ALL_PACKETS
-        || params.flags > CHECK_CRC + (ONESHOT + IMMEDIATE_START)
-        || params.pes_type > LARGEST_PES_TYPE
-        || matches!(params.output, Output::Decoder)
-        || matches!(params.input, Input::Dvr)
+    let mut pids = Pids::new();
+    match pids.add(pid) {
+        Ok(_) => pids,
+        Err(_) => unreachable!(),
+    }
+}
+
+impl Tenure {
+    /// A node that was just opened: it has the default size and no filter.
+    fn new(alloc: Global, owner: u32) -> Result<Tenure, NoMemory>
+        ensures { IfOk result (λ t. t ≡ record { owner = owner; params = Params.Empty; selector = unset; buffer = record { size = DEMUX_SIZE; ledger = None } }) }
+    {
+        Ok(Tenure {
+            owner,
+            params: Params::Empty,
+            selector: Selector::new(alloc)?,
+            buffer: Buffer::new(alloc, DEMUX_SIZE)?,
+        })
+    }
+
+    /// A filter is set. It starts at once where DMX_IMMEDIATE_START is among its flags.
+    fn set(&mut self, params: Params, flags: u32, now: u64) -> Reply
+        ensures said { response_of result ≡ done_dropping self.old.buffer.ledger KeepTap }
+        ensures after { self.new ≡ record {
+          owner = self.old.owner;
+          params = params;
+          selector = begun_selecting (choice_of (params_of params)) (names_of (choice_of (params_of params)) (pids_of params));
+          buffer = record { size = self.old.buffer.size; ledger = if has_flag IMMEDIATE_START flags then Some (begun now) else None };
+        } }
+    {
+        let dropped = self.buffer.unread();
+        self.buffer.renew(starts_at_once(flags), now);
+        select(&mut self.selector, &params);
+        self.params = params;
+        done(dropped)
+    }
 }
 
 impl Kept {
+    /// Why a call of this caller is refused, if it is: the caller isn't the owner, or else by the table of calls and states. A
+    /// SetSize to the size that the node has is never refused to the owner. A refused call changes nothing, and no time
+    /// passes by it.
+    pub fn refusal(&self, who: u32, call: &Call) -> Option<Errno>
+        ensures answer { result ≡ refusal_to Demux (knows_of self.now).facts who (invocation_of call.now) }
+        ensures taken { result ≡ None → is_for_anybody Demux (invocation_of call.now) ≡ false → IsTaken (knows_of self.now) (invocation_of call.now) }
+    {
+        if matches!(call, Call::Open | Call::Pass { .. } | Call::End) {
+            return None;
+        }
+        match &self.tenure {
+            Some(tenure) if tenure.owner == who => match call {
+                Call::SetSize(size) if *size == tenure.buffer.size() => None,
+                _ => {
+                    let state = tenure.buffer.state(&tenure.params);
+                    refusal(NodeKind::Demux, state, call, &tenure.params)
+                }
+            },
+            _ => Some(Errno::Ebadf),
+        }
+    }
+
     /// The caller becomes the owner.
     pub fn open(&mut self, alloc: Global, who: u32) -> Reply
-        requires { IsSound (facts_of self.old) }
-        ensures said { Gives (facts_of self.old) who Open (response_of result) }
-        ensures after { facts_of self.new ≡ next (facts_of self.old) who Open (response_of result) }
-        ensures sound { IsSound (facts_of self.new) }
-        ensures total { total_of (facts_of self.new).ledger ≤ total_of (facts_of self.old).ledger }
+        requires { IsSound (knows_of self.old) }
+        ensures said { Gives (knows_of self.old) who Open (response_of result) }
+        ensures after { knows_of self.new ≡ next (knows_of self.old) who Open (response_of result) }
+        ensures sound { IsSound (knows_of self.new) }
+        ensures bytes { bytes_in (knows_of self.new) ≤ bytes_in (knows_of self.old) }
     {
         if let Some(tenure) = &self.tenure {
             return Reply::Busy {
                 owner: tenure.owner,
             };
         }
-        let Ok(buffer) = Buffer::new(alloc, DEMUX_SIZE) else {
-            return Reply::NoMemory;
-        };
-        self.tenure = Some(Tenure {
-            owner: who,
-            filter: None,
-            buffer,
-        });
-        done(NOTHING)
+        match Tenure::new(alloc, who) {
+            Ok(tenure) => {
+                self.tenure = Some(tenure);
+                done(NOTHING)
+            }
+            Err(_) => Reply::NoMemory,
+        }
     }
 
     /// The node becomes free.
-    pub fn close(&mut self, who: u32) -> Reply
-        requires { IsSound (facts_of self.old) }
-        ensures said { response_of result ≡ settled (facts_of self.old) who Close }
-        ensures after { facts_of self.new ≡ next (facts_of self.old) who Close (response_of result) }
-        ensures sound { IsSound (facts_of self.new) }
-        ensures total { total_of (facts_of self.new).ledger ≤ total_of (facts_of self.old).ledger }
+    pub fn close(&mut self) -> Reply
+        requires sound { IsSound (knows_of self.old) }
+        requires taken { IsTaken (knows_of self.old) Close }
+        ensures said { response_of result ≡ reply_to (knows_of self.old) Close }
+        ensures after { knows_of self.new ≡ next (knows_of self.old) 0 Close (response_of result) }
+        ensures sound { IsSound (knows_of self.new) }
+        ensures bytes { bytes_in (knows_of self.new) ≤ bytes_in (knows_of self.old) }
     {
         match &self.tenure {
-            Some(tenure) if tenure.owner == who => {
+            None => unreachable!(),
+            Some(tenure) => {
                 let dropped = tenure.buffer.unread();
                 self.tenure = None;
                 done(dropped)
             }
-            _ => Reply::Refused(Errno::Ebadf),
         }
     }
 
-    /// A filter is set, and starts at once where its flags say so.
-    pub fn set_pes(&mut self, who: u32, params: PesParams, now: u64) -> Reply
-        requires sound { IsSound (facts_of self.old) }
-        requires built { is_ts_tap params.output ≡ false }
-        ensures said { response_of result ≡ settled (facts_of self.old) who (SetPes params now) }
-        ensures after { facts_of self.new ≡ next (facts_of self.old) who (SetPes params now) (response_of result) }
-        ensures sound { IsSound (facts_of self.new) }
-        ensures total { total_of (facts_of self.new).ledger ≤ total_of (facts_of self.old).ledger }
+    /// A section filter is set.
+    pub fn set_filter(&mut self, params: SectionParams, now: u64) -> Reply
+        requires sound { IsSound (knows_of self.old) }
+        requires taken { IsTaken (knows_of self.old) (SetFilter params now) }
+        ensures said { response_of result ≡ reply_to (knows_of self.old) (SetFilter params now) }
+        ensures after { knows_of self.new ≡ next (knows_of self.old) 0 (SetFilter params now) (response_of result) }
+        ensures sound { IsSound (knows_of self.new) }
+        ensures bytes { bytes_in (knows_of self.new) ≤ bytes_in (knows_of self.old) }
     {
         match &mut self.tenure {
-            Some(tenure) if tenure.owner == who => {
-                if is_bad(&params) {
-                    return Reply::Refused(Errno::Einval);
-                }
-                let dropped = tenure.buffer.unread();
-                if params.flags & IMMEDIATE_START != 0 {
-                    tenure.buffer.begin(now);
-                } else {
-                    tenure.buffer.end();
-                }
-                tenure.filter = Some(params);
-                done(dropped)
+            None => unreachable!(),
+            Some(tenure) => tenure.set(Params::Section(params), params.flags, now),
+        }
+    }
+
+    /// A PES filter is set.
+    pub fn set_pes(&mut self, params: PesParams, now: u64) -> Reply
+        requires sound { IsSound (knows_of self.old) }
+        requires taken { IsTaken (knows_of self.old) (SetPes params now) }
+        requires built { is_ts_tap params.output ≡ false }
+        ensures said { response_of result ≡ reply_to (knows_of self.old) (SetPes params now) }
+        ensures after { knows_of self.new ≡ next (knows_of self.old) 0 (SetPes params now) (response_of result) }
+        ensures sound { IsSound (knows_of self.new) }
+        ensures bytes { bytes_in (knows_of self.new) ≤ bytes_in (knows_of self.old) }
+    {
+        match &mut self.tenure {
+            None => unreachable!(),
+            Some(tenure) => {
+                let pids = only(params.pid);
+                tenure.set(Params::Pes { params, pids }, params.flags, now)
             }
-            _ => Reply::Refused(Errno::Ebadf),
+        }
+    }
+
+    /// A PID is added to a PES filter.
+    pub fn add_pid(&mut self, pid: u16) -> Reply
+        requires sound { IsSound (knows_of self.old) }
+        requires taken { IsTaken (knows_of self.old) (AddPid pid) }
+        ensures said { response_of result ≡ reply_to (knows_of self.old) (AddPid pid) }
+        ensures after { knows_of self.new ≡ next (knows_of self.old) 0 (AddPid pid) (response_of result) }
+        ensures sound { IsSound (knows_of self.new) }
+        ensures bytes { bytes_in (knows_of self.new) ≤ bytes_in (knows_of self.old) }
+    {
+        match &mut self.tenure {
+            None => unreachable!(),
+            Some(tenure) => match &mut tenure.params {
+                Params::Pes { params, pids } => {
+                    let _ = pids.add(pid);
+                    rename(&mut tenure.selector, params, pids);
+                    done(NOTHING)
+                }
+                Params::Empty | Params::Section(_) => unreachable!(),
+            },
+        }
+    }
+
+    /// A PID is removed from a PES filter.
+    pub fn remove_pid(&mut self, pid: u16) -> Reply
+        requires sound { IsSound (knows_of self.old) }
+        requires taken { IsTaken (knows_of self.old) (RemovePid pid) }
+        ensures said { response_of result ≡ reply_to (knows_of self.old) (RemovePid pid) }
+        ensures after { knows_of self.new ≡ next (knows_of self.old) 0 (RemovePid pid) (response_of result) }
+        ensures sound { IsSound (knows_of self.new) }
+        ensures bytes { bytes_in (knows_of self.new) ≤ bytes_in (knows_of self.old) }
+    {
+        match &mut self.tenure {
+            None => unreachable!(),
+            Some(tenure) => match &mut tenure.params {
+                Params::Pes { params, pids } => {
+                    pids.remove(pid);
+                    rename(&mut tenure.selector, params, pids);
+                    done(NOTHING)
+                }
+                Params::Empty | Params::Section(_) => unreachable!(),
+            },
         }
     }
 
     /// A capture begins.
-    pub fn start(&mut self, who: u32, now: u64) -> Reply
-        requires { IsSound (facts_of self.old) }
-        ensures said { response_of result ≡ settled (facts_of self.old) who (Start now) }
-        ensures after { facts_of self.new ≡ next (facts_of self.old) who (Start now) (response_of result) }
-        ensures sound { IsSound (facts_of self.new) }
-        ensures total { total_of (facts_of self.new).ledger ≤ total_of (facts_of self.old).ledger }
+    pub fn start(&mut self, now: u64) -> Reply
+        requires sound { IsSound (knows_of self.old) }
+        requires taken { IsTaken (knows_of self.old) (Start now) }
+        ensures said { response_of result ≡ reply_to (knows_of self.old) (Start now) }
+        ensures after { knows_of self.new ≡ next (knows_of self.old) 0 (Start now) (response_of result) }
+        ensures sound { IsSound (knows_of self.new) }
+        ensures bytes { bytes_in (knows_of self.new) ≤ bytes_in (knows_of self.old) }
     {
         match &mut self.tenure {
-            Some(tenure) if tenure.owner == who => {
-                if tenure.filter.is_none() {
-                    return Reply::Refused(Errno::Einval);
-                }
+            None => unreachable!(),
+            Some(tenure) => {
                 let dropped = tenure.buffer.unread();
+                tenure.selector.restart();
                 tenure.buffer.begin(now);
                 done(dropped)
             }
-            _ => Reply::Refused(Errno::Ebadf),
         }
     }
 
     /// The capture goes on without packets.
-    pub fn stop(&mut self, who: u32) -> Reply
-        requires { IsSound (facts_of self.old) }
-        ensures said { response_of result ≡ settled (facts_of self.old) who Stop }
-        ensures after { facts_of self.new ≡ next (facts_of self.old) who Stop (response_of result) }
-        ensures sound { IsSound (facts_of self.new) }
-        ensures total { total_of (facts_of self.new).ledger ≤ total_of (facts_of self.old).ledger }
+    pub fn stop(&mut self) -> Reply
+        requires sound { IsSound (knows_of self.old) }
+        requires taken { IsTaken (knows_of self.old) Stop }
+        ensures said { response_of result ≡ reply_to (knows_of self.old) Stop }
+        ensures after { knows_of self.new ≡ next (knows_of self.old) 0 Stop (response_of result) }
+        ensures sound { IsSound (knows_of self.new) }
+        ensures bytes { bytes_in (knows_of self.new) ≤ bytes_in (knows_of self.old) }
     {
         match &mut self.tenure {
-            Some(tenure) if tenure.owner == who => {
+            None => unreachable!(),
+            Some(tenure) => {
                 tenure.buffer.stop();
                 done(NOTHING)
             }
-            _ => Reply::Refused(Errno::Ebadf),
         }
     }
 
-    /// Another size ends the capture. It is refused while the filter runs.
-    pub fn set_size(&mut self, alloc: Global, who: u32, size: u32) -> Reply
-        requires { IsSound (facts_of self.old) }
-        ensures said { Gives (facts_of self.old) who (SetSize size) (response_of result) }
-        ensures after { facts_of self.new ≡ next (facts_of self.old) who (SetSize size) (response_of result) }
-        ensures sound { IsSound (facts_of self.new) }
-        ensures total { total_of (facts_of self.new).ledger ≤ total_of (facts_of self.old).ledger }
+    /// Another size ends the capture. The size that the node has changes nothing.
+    pub fn set_size(&mut self, alloc: Global, size: u32) -> Reply
+        requires sound { IsSound (knows_of self.old) }
+        requires taken { IsTaken (knows_of self.old) (SetSize size) }
+        ensures said { Replies (knows_of self.old) (SetSize size) (response_of result) }
+        ensures after { knows_of self.new ≡ next (knows_of self.old) 0 (SetSize size) (response_of result) }
+        ensures sound { IsSound (knows_of self.new) }
+        ensures bytes { bytes_in (knows_of self.new) ≤ bytes_in (knows_of self.old) }
     {
         match &mut self.tenure {
-            Some(tenure) if tenure.owner == who => {
-                if size == tenure.buffer.size() {
-                    return done(NOTHING);
-                }
-                if size < SMALLEST_SIZE || size > LARGEST_SIZE {
-                    return Reply::Refused(Errno::Einval);
-                }
-                if tenure.buffer.is_live() {
-                    return Reply::Refused(Errno::Ebusy);
-                }
+            None => unreachable!(),
+            Some(tenure) if tenure.buffer.size() == size => done(NOTHING),
+            Some(tenure) => {
                 let dropped = tenure.buffer.unread();
                 match tenure.buffer.resize(alloc, size) {
                     Ok(()) => done(dropped),
                     Err(_) => Reply::NoMemory,
                 }
             }
-            _ => Reply::Refused(Errno::Ebadf),
         }
     }
 
-    /// The reply to a Read, with its buffer where the reply doesn't hold it.
-    pub fn read(&mut self, who: u32, buf: ByteBuf) -> (Reply, Option<ByteBuf>)
-        requires { IsSound (facts_of self.old) }
-        ensures said { response_of result.0 ≡ settled (facts_of self.old) who (Read 0 buf.count) }
-        ensures after { facts_of self.new ≡ next (facts_of self.old) who (Read 0 buf.count) (response_of result.0) }
+    /// The reply to a Read, with its buffer where the reply doesn't hold it. The filter may expire first.
+    pub fn read(&mut self, now: u64, buf: ByteBuf) -> (Reply, Option<ByteBuf>)
+        requires sound { IsSound (knows_of self.old) }
+        requires taken { IsTaken (knows_of self.old) (Read now buf.count) }
+        ensures said { response_of result.0 ≡ reply_to (knows_of self.old) (Read now buf.count) }
+        ensures after { knows_of self.new ≡ next (knows_of self.old) 0 (Read now buf.count) (response_of result.0) }
         ensures back { BackOfRead buf result.0 result.1 }
-        ensures sound { IsSound (facts_of self.new) }
-        ensures total { total_of (facts_of self.new).ledger ≤ total_of (facts_of self.old).ledger }
+        ensures sound { IsSound (knows_of self.new) }
+        ensures bytes { bytes_in (knows_of self.new) ≤ bytes_in (knows_of self.old) }
     {
         match &mut self.tenure {
-            Some(tenure) if tenure.owner == who => tenure.buffer.read(self.has_ended, buf),
-            _ => (Reply::Refused(Errno::Ebadf), Some(buf)),
+            None => unreachable!(),
+            Some(tenure) => {
+                tenure.buffer.expire(timeout_of(&tenure.params), now);
+                tenure.buffer.read(&tenure.params, self.has_ended, buf)
+            }
         }
     }
 
-    /// A batch passes. It is looked at only where the filter runs.
-    pub fn pass<L: Ledger>(&mut self, input: Input, batch: &Batch, steps: &mut Steps<L>)
-        requires sound { IsSound (facts_of self.old) }
-        requires total { total_of (facts_of self.old).ledger + 12032 < 2 ^ 64 }
-        ensures after { facts_of self.new ≡ next (facts_of self.old) 0 (Pass input batch.now.first batch.now.packets 0) Passed }
-        ensures sound { IsSound (facts_of self.new) }
-        ensures total { total_of (facts_of self.new).ledger ≤ total_of (facts_of self.old).ledger + 12032 }
+    /// The reply to a Poll. The filter may expire first.
+    pub fn poll(&mut self, now: u64) -> Reply
+        requires sound { IsSound (knows_of self.old) }
+        requires taken { IsTaken (knows_of self.old) (Poll now) }
+        ensures said { response_of result ≡ reply_to (knows_of self.old) (Poll now) }
+        ensures after { knows_of self.new ≡ next (knows_of self.old) 0 (Poll now) (response_of result) }
+        ensures sound { IsSound (knows_of self.new) }
+        ensures bytes { bytes_in (knows_of self.new) ≤ bytes_in (knows_of self.old) }
+    {
+        match &mut self.tenure {
+            None => unreachable!(),
+            Some(tenure) => {
+                tenure.buffer.expire(timeout_of(&tenure.params), now);
+                tenure.buffer.poll(&tenure.params, self.has_ended)
+            }
+        }
+    }
+
+    /// A batch passes. The filter may expire first; where it then still runs and takes this input, its packets are looked at.
+    pub fn pass<L: Ledger>(&mut self, input: Input, batch: &Batch, now: u64, steps: &mut Steps<L>)
+        requires sound { IsSound (knows_of self.old) }
+        requires bytes { bytes_in (knows_of self.old) + 12032 < 2 ^ 64 }
+        ensures after { knows_of self.new ≡ next (knows_of self.old) 0 (Pass input batch.now.first batch.now.packets now) Passed }
+        ensures sound { IsSound (knows_of self.new) }
+        ensures bytes { bytes_in (knows_of self.new) ≤ bytes_in (knows_of self.old) + 12032 }
         ensures cost { steps.new ≤ steps.old + length batch.now.packets }
-        ensures idle { state_of (facts_of self.old) ≢ State.Go → steps.new ≡ steps.old }
+        ensures idle { state_of (knows_of self.old).facts ≢ State.Go → steps.new ≡ steps.old }
     {
         if let Some(tenure) = &mut self.tenure {
-            if let Some(filter) = &tenure.filter {
-                if filter.input == input && tenure.buffer.is_live() {
-                    offer_all(filter, &mut tenure.buffer, batch, steps);
+            tenure.buffer.expire(timeout_of(&tenure.params), now);
+            match tenure.buffer.state(&tenure.params) {
+                State::Go if takes_from(&tenure.params, input) => {
+                    let by_section = is_section(&tenure.params);
+                    offer_all(
+                        &mut tenure.selector,
+                        &mut tenure.buffer,
+                        by_section,
+                        batch,
+                        steps,
+                    );
                 }
+                _ => {}
             }
         }
     }
 
     /// The stream has ended.
     pub fn end(&mut self)
-        requires { IsSound (facts_of self.old) }
-        ensures after { facts_of self.new ≡ next (facts_of self.old) 0 End Passed }
-        ensures sound { IsSound (facts_of self.new) }
-        ensures total { total_of (facts_of self.new).ledger ≤ total_of (facts_of self.old).ledger }
+        requires { IsSound (knows_of self.old) }
+        ensures after { knows_of self.new ≡ next (knows_of self.old) 0 End Passed }
+        ensures sound { IsSound (knows_of self.new) }
+        ensures bytes { bytes_in (knows_of self.new) ≤ bytes_in (knows_of self.old) }
     {
         self.has_ended = true;
     }

@@ -23,6 +23,7 @@ mod buffer;
 mod filter;
 mod kept;
 mod node;
+mod offer;
 #[cfg(test)]
 mod tests;
 

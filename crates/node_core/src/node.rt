@@ -8,14 +8,15 @@ ghost use Rattle.dmx_calls.specs.Facts.{state_of};
 ghost use Rattle.dmx_calls.specs.Legal.{May};
 ghost use Rattle.dmx_calls.specs.Calls.{invocation_of, response_of};
 ghost use Rattle.dmx_calls.specs.Back.{GivesBack};
-ghost use Rattle.node_core.specs.Sound.{IsSound, total_of};
+ghost use Rattle.node_core.specs.Sound.{IsSound};
 ghost use Rattle.node_core.specs.Gives.{Gives};
 ghost use Rattle.node_core.specs.Step.{next};
-ghost use Rattle.node_core.specs.KeptView.{facts_of};
+ghost use Rattle.node_core.specs.KeptView.{knows_of, bytes_in};
+ghost use Rattle.node_core.specs.Causes.{Causes};
 ghost use Rattle.node_core.specs.Stands.{StandsFor, IsBuilt, packets_of_call};
 
 use crate::kept::Kept;
-use dmx_calls::{Answer, Call, Reply, State};
+use dmx_calls::{Answer, Call, Errno, Reply, State};
 use std::alloc::Global;
 use std::marker::Model;
 use std::sync::ledger::Ledger;
@@ -32,6 +33,7 @@ pub struct NodeCore {
 }
 
 impl Model for NodeCore {
+    ghost use Rattle.node_core.specs.Causes.{Causes};
     ghost use Rattle.node_core.specs.Stands.{CoreValue};
 
     ghost Value = { CoreValue };
@@ -53,6 +55,27 @@ fn plain(reply: Reply) -> Answer
     }
 }
 
+/// The call is refused: what it brought is handed back.
+fn refused(errno: Errno, call: Call) -> Answer
+    ensures reply { result.reply ≡ Reply.Refused errno }
+    ensures back { GivesBack call result }
+{
+    let reply = Reply::Refused(errno);
+    match call {
+        Call::Read { buf, .. } => Answer {
+            reply,
+            back: Some(buf),
+            batch: None,
+        },
+        Call::Pass { batch, .. } => Answer {
+            reply,
+            back: None,
+            batch: Some(batch),
+        },
+        _ => plain(reply),
+    }
+}
+
 /// Makes a call on what the node keeps.
 fn act<L: Ledger>(
     kept: &mut Kept,
@@ -61,38 +84,41 @@ fn act<L: Ledger>(
     call: Call,
     steps: &mut Steps<L>,
 ) -> Answer
-    requires sound { IsSound (facts_of kept.old) }
+    requires sound { IsSound (knows_of kept.old) }
     requires built { IsBuilt (invocation_of call) }
-    requires total { total_of (facts_of kept.old).ledger + 12032 < 2 ^ 64 }
-    ensures said { Gives (facts_of kept.old) who (invocation_of call) (response_of result.reply) }
-    ensures after { facts_of kept.new ≡ next (facts_of kept.old) who (invocation_of call) (response_of result.reply) }
+    requires bytes { bytes_in (knows_of kept.old) + 12032 < 2 ^ 64 }
+    ensures said { Gives (knows_of kept.old) who (invocation_of call) (response_of result.reply) }
+    ensures after { knows_of kept.new ≡ next (knows_of kept.old) who (invocation_of call) (response_of result.reply) }
     ensures back { GivesBack call result }
-    ensures sound { IsSound (facts_of kept.new) }
-    ensures total { total_of (facts_of kept.new).ledger ≤ total_of (facts_of kept.old).ledger + 12032 }
+    ensures sound { IsSound (knows_of kept.new) }
+    ensures bytes { bytes_in (knows_of kept.new) ≤ bytes_in (knows_of kept.old) + 12032 }
     ensures cost { steps.new ≤ steps.old + packets_of_call (invocation_of call) }
-    ensures idle { state_of (facts_of kept.old) ≢ State.Go → steps.new ≡ steps.old }
+    ensures idle { state_of (knows_of kept.old).facts ≢ State.Go → steps.new ≡ steps.old }
 {
+    if let Some(errno) = kept.refusal(who, &call) {
+        return refused(errno, call);
+    }
     match call {
         Call::Open => plain(kept.open(alloc, who)),
-        Call::Close => plain(kept.close(who)),
-        Call::SetPes { params, now } => plain(kept.set_pes(who, params, now)),
-        Call::Start { now } => plain(kept.start(who, now)),
-        Call::Stop => plain(kept.stop(who)),
-        Call::SetSize(size) => plain(kept.set_size(alloc, who, size)),
-        Call::Read { now: _, buf } => {
-            let (reply, back) = kept.read(who, buf);
+        Call::Close => plain(kept.close()),
+        Call::SetFilter { params, now } => plain(kept.set_filter(params, now)),
+        Call::SetPes { params, now } => plain(kept.set_pes(params, now)),
+        Call::AddPid(pid) => plain(kept.add_pid(pid)),
+        Call::RemovePid(pid) => plain(kept.remove_pid(pid)),
+        Call::Start { now } => plain(kept.start(now)),
+        Call::Stop => plain(kept.stop()),
+        Call::SetSize(size) => plain(kept.set_size(alloc, size)),
+        Call::Read { now, buf } => {
+            let (reply, back) = kept.read(now, buf);
             Answer {
                 reply,
                 back,
                 batch: None,
             }
         }
-        Call::Pass {
-            input,
-            batch,
-            now: _,
-        } => {
-            kept.pass(input, &batch, steps);
+        Call::Poll { now } => plain(kept.poll(now)),
+        Call::Pass { input, batch, now } => {
+            kept.pass(input, &batch, now, steps);
             Answer {
                 reply: Reply::Passed,
                 back: None,
@@ -146,6 +172,7 @@ impl NodeCore {
         ensures stands { (h : History) → StandsFor self.old h
             → May demux h who (invocation_of call) (response_of result.reply)
             × StandsFor self.new (entry_of who (invocation_of call) (response_of result.reply) ∷ h) }
+        ensures causes { (h : History) → StandsFor self.old h → Causes self.old.facts self.new.facts who (invocation_of call) (response_of result.reply) }
         ensures back { GivesBack call result }
         ensures rises { self.new.entries ≡ self.old.entries + 1 }
         ensures number { self.new.number ≡ self.old.number }
