@@ -1,3 +1,4 @@
+pub mod Places
 pub mod Tapping
 pub mod Going
 pub mod Ledgers
