@@ -23,6 +23,8 @@
 
 mod buffer;
 mod filter;
+#[cfg(test)]
+mod tests;
 
 pub use buffer::Buffer;
 pub use filter::{is_oneshot, is_section, timeout_of};

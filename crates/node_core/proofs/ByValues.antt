@@ -9,11 +9,11 @@ use Rattle.dmx_calls.specs.Items.{timeout_of}
 use Rattle.dmx_calls.specs.Facts.{Ledger, state_of_filter, state_of_ledger}
 use Rattle.dmx_calls.specs.Answer.{expired_of, response_to}
 use Rattle.node_buffer.specs.Capturing.{is_section, read_by, is_due, expiring, with_response}
+use Rattle.node_buffer.proofs.Accepted.{read_accepted}
 use Rattle.node_buffer.proofs.Answering.{read_is}
 use Rattle.node_buffer.proofs.Readings.{expired_at, then_answered}
 use Rattle.node_core.specs.Step.{Knows, next, moved}
 use Rattle.node_core.specs.KeptView.{reply_to}
-use Rattle.node_core.proofs.Accepted.{read_accepted}
 
 -- ------ a Read
 

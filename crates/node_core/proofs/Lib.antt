@@ -9,7 +9,5 @@ pub mod Passes
 pub mod Reading
 pub mod Cases
 pub mod Standing
-pub mod Accepted
-pub mod ReadCausing
 pub mod Causing
 pub mod ByValues

@@ -5,4 +5,3 @@ pub mod Gives
 pub mod KeptView
 pub mod Stands
 pub mod CoreView
-pub mod Causes

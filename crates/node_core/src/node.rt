@@ -1,6 +1,7 @@
 // A demux node, and its one call.
 
 ghost use Rattle.std.specs.Prelude.{◌≡◌, ◌≢◌, ◌≤◌, ◌<◌, ◌+◌, ◌^◌, ◌∷◌, []};
+ghost use Rattle.dmx_calls.specs.declared.node.NodeKind.TheVariants.{Demux};
 ghost use Rattle.dmx_calls.specs.declared.limits.TheConstants.{DEMUX_NODES};
 ghost use Rattle.dmx_calls.specs.History.{History, entry_of};
 ghost use Rattle.dmx_calls.specs.Rules.{demux};
@@ -8,11 +9,11 @@ ghost use Rattle.dmx_calls.specs.Facts.{state_of};
 ghost use Rattle.dmx_calls.specs.Legal.{May};
 ghost use Rattle.dmx_calls.specs.Calls.{invocation_of, response_of};
 ghost use Rattle.dmx_calls.specs.Back.{GivesBack};
+ghost use Rattle.node_buffer.specs.Causes.{Causes};
 ghost use Rattle.node_core.specs.Sound.{IsSound};
 ghost use Rattle.node_core.specs.Gives.{Gives};
 ghost use Rattle.node_core.specs.Step.{next};
 ghost use Rattle.node_core.specs.KeptView.{knows_of, bytes_in};
-ghost use Rattle.node_core.specs.Causes.{Causes};
 ghost use Rattle.node_core.specs.Stands.{StandsFor, IsBuilt, packets_of_call};
 
 use crate::kept::Kept;
@@ -33,7 +34,6 @@ pub struct NodeCore {
 }
 
 impl Model for NodeCore {
-    ghost use Rattle.node_core.specs.Causes.{Causes};
     ghost use Rattle.node_core.specs.Stands.{CoreValue};
 
     ghost Value = { CoreValue };
@@ -172,7 +172,7 @@ impl NodeCore {
         ensures stands { (h : History) → StandsFor self.old h
             → May demux h who (invocation_of call) (response_of result.reply)
             × StandsFor self.new (entry_of who (invocation_of call) (response_of result.reply) ∷ h) }
-        ensures causes { (h : History) → StandsFor self.old h → Causes self.old.facts self.new.facts who (invocation_of call) (response_of result.reply) }
+        ensures causes { (h : History) → StandsFor self.old h → Causes Demux self.old.facts self.new.facts who (invocation_of call) (response_of result.reply) }
         ensures back { GivesBack call result }
         ensures rises { self.new.entries ≡ self.old.entries + 1 }
         ensures number { self.new.number ≡ self.old.number }

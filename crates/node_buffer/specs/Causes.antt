@@ -1,6 +1,6 @@
--- When each answer of a demux node comes, by what its history says before the call and after it.
+-- When each answer of a node comes, by what its history says before the call and after it.
 use Rattle.std.specs.Prelude.{ℕ, ◌≡◌, ◌≢◌, ◌↔◌, Bool, true, false, not, ◌&&◌, ◌||◌, nat_eq, nat_lt, [], ◌∷◌, Option, Some, None, is_some}
-use Rattle.dmx_calls.specs.declared.node.NodeKind.TheVariants.{Demux}
+use Rattle.dmx_calls.specs.declared.node.NodeKind.{NodeKind}
 use Rattle.dmx_calls.specs.declared.reply.Errno.{Errno}
 use Rattle.dmx_calls.specs.Invocation.{Invocation, Open, SetSize, Read}
 use Rattle.dmx_calls.specs.Response.{Response, Busy, Refused, NoMemory, Data, Again, Overflow, TimedOut}
@@ -71,12 +71,12 @@ TakesMemory f Open = f.owner ≡ None
 TakesMemory f (SetSize size) = size ≢ f.size
 TakesMemory f _ = ⊥
 
--- f is before the call, g after it.
-pub record Causes (f g : Facts) (who : ℕ) (call : Invocation) (r : Response) : Type 0 where
+-- Of a node of this kind: f is before the call, g after it.
+pub record Causes (kind : NodeKind) (f g : Facts) (who : ℕ) (call : Invocation) (r : Response) : Type 0 where
   -- exactly what the owner test and the table of refusals say
-  pub refused : (errno : Errno) → (r ≡ Refused errno) ↔ (refusal_to Demux f who call ≡ Some errno)
+  pub refused : (errno : Errno) → (r ≡ Refused errno) ↔ (refusal_to kind f who call ≡ Some errno)
   -- exactly an Open of a node that has an owner
   pub busy : (owner : ℕ) → (r ≡ Busy owner) ↔ ((call ≡ Open) × (f.owner ≡ Some owner))
   -- want of memory comes to no other call, and to none that is refused
-  pub memory : r ≡ NoMemory → (refusal_to Demux f who call ≡ None) × TakesMemory f call
-  pub reads : (now count : ℕ) → call ≡ Read now count → refusal_to Demux f who call ≡ None → ReadCauses f.ledger (expired_of g.ledger) count r
+  pub memory : r ≡ NoMemory → (refusal_to kind f who call ≡ None) × TakesMemory f call
+  pub reads : (now count : ℕ) → call ≡ Read now count → refusal_to kind f who call ≡ None → ReadCauses f.ledger (expired_of g.ledger) count r

@@ -4,19 +4,14 @@ use Rattle.std.specs.Prelude.{if◌then◌else◌, not, ◌&&◌, nat_eq, nat_lt
 use Rattle.std.specs.List.{concat}
 use Rattle.std.proofs.lemmas.Bool.Decides.{nat_tests}
 use Rattle.dmx_calls.specs.Response.{Response, Done, Busy, Refused, NoMemory, Data, Again, Overflow, TimedOut, Ready, Passed}
-use Rattle.dmx_calls.specs.History.{History, Since}
-use Rattle.dmx_calls.specs.Tenure.{Params, Empty, Section, Pes, params}
-use Rattle.dmx_calls.specs.Capture.{capture}
-use Rattle.dmx_calls.specs.Items.{timeout_of, items}
-use Rattle.dmx_calls.specs.Rules.{demux}
-use Rattle.dmx_calls.specs.Ledger.{Misfit, joined, total, answered, over}
-use Rattle.dmx_calls.specs.Facts.{Ledger, Facts, rest_of_item, rest_of, ledger_of, facts}
+use Rattle.dmx_calls.specs.Tenure.{Params, Empty, Section, Pes}
+use Rattle.dmx_calls.specs.Items.{timeout_of}
+use Rattle.dmx_calls.specs.Ledger.{Misfit}
+use Rattle.dmx_calls.specs.Facts.{Ledger, Facts, rest_of_item, rest_of}
 use Rattle.dmx_calls.specs.Answer.{most_bytes, read_bytes, read_over, read_response, expired_of}
 use Rattle.node_buffer.specs.Capturing.{with_response}
-use Rattle.node_buffer.specs.Coherent.{Coherent, CoherentIn}
-use Rattle.node_core.specs.Sound.{IsSoundFor}
-use Rattle.node_core.specs.Causes.{gives_no_bytes, gives_bytes, ReadCausesBy, ReadCauses}
-use Rattle.node_core.proofs.Moves.{coherent_by}
+use Rattle.node_buffer.specs.Coherent.{Coherent}
+use Rattle.node_buffer.specs.Causes.{gives_no_bytes, gives_bytes, ReadCausesBy, ReadCauses}
 
 -- on a section filter, where something is unread, something is left of the section at the front
 abbrev pub StillToRead : Params → Option Misfit → (answered total rest : ℕ) → Type 0
@@ -30,7 +25,7 @@ rest_some (x ∷ xs) n lt = by_test (nat_lt n (length x)) refl (λ later. rest_s
   by_test true y ih = let lt' : n < length x = grind (arith, nat_tests) in omega (arith, lt')
   by_test false y ih = ih (let le : length x ≤ n = grind (arith, nat_tests) in omega (arith, le, lt, length-append x (concat xs)))
 
-still_by : (set : Params) (o : Option Misfit) (xs : List (List ℕ)) (n : ℕ) → StillToRead set o n (length (concat xs)) (rest_of set o xs n)
+pub still_by : (set : Params) (o : Option Misfit) (xs : List (List ℕ)) (n : ℕ) → StillToRead set o n (length (concat xs)) (rest_of set o xs n)
 still_by (Section p) None xs n = rest_some xs n
 still_by (Section p) (Some m) xs n = tt
 still_by Empty o xs n = tt
@@ -40,19 +35,6 @@ still_by (Pes p) o xs n = tt
 abbrev pub Readable : Params → Option Ledger → Type 0
 Readable set None = Unit {0}
 Readable set (Some l) = Coherent l × StillToRead set l.over l.answered l.total l.rest
-
-readable_of : (h : History) (o : Option Since) → CoherentIn (ledger_of demux h o) → Readable (params h) (ledger_of demux h o)
-unfolding total joined
-readable_of h None c = tt
-readable_of h (Some s) c = (c, still_by (params h) (over demux h) (items h) (answered demux h))
-
-pub readable : (h : History) → CoherentIn (facts demux h).ledger → Readable (facts demux h).params (facts demux h).ledger
-unfolding facts
-readable h c = readable_of h (capture h) c
-
-pub coherent_in : (o : Option ℕ) (set : Params) (l : Option Ledger) → IsSoundFor o set l → CoherentIn l
-coherent_in o set None k = tt
-coherent_in o set (Some l) k = coherent_by o set l k
 
 -- bytes that are there
 some_bytes : (xs : List ℕ) → 0 < length xs → (gives_no_bytes (Data xs) ≡ false) × (gives_bytes (Data xs) ≡ true)

@@ -1,0 +1,9 @@
+pub mod Places
+pub mod Tapping
+pub mod Going
+pub mod Ledgers
+pub mod Moves
+pub mod Reading
+pub mod Cases
+pub mod Standing
+pub mod Causing

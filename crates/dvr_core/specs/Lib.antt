@@ -1,0 +1,4 @@
+pub mod Tapped
+pub mod Step
+pub mod Gives
+pub mod Stands

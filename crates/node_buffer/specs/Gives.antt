@@ -1,0 +1,13 @@
+-- What a reply must be, by what is known before the call and with it.
+use Rattle.std.specs.Prelude.{ℕ, ◌≡◌, true, ◌⊎◌}
+use Rattle.dmx_calls.specs.declared.node.NodeKind.{NodeKind}
+use Rattle.dmx_calls.specs.Invocation.{Invocation}
+use Rattle.dmx_calls.specs.Response.{Response, NoMemory}
+use Rattle.dmx_calls.specs.Facts.{Facts}
+use Rattle.dmx_calls.specs.Answer.{answer_by}
+use Rattle.dmx_calls.specs.Legal.{is_done, takes_memory}
+
+-- the answer of a node of this kind, or want of memory: f is known before the call, and g with it
+abbrev pub GivesBy : NodeKind → (f g : Facts) → (who : ℕ) → Invocation → Response → Type 0
+GivesBy kind f g who call r =
+    (r ≡ answer_by kind f g who call) ⊎ (r ≡ NoMemory) × (is_done (answer_by kind f g who call) ≡ true) × (takes_memory f call ≡ true)
