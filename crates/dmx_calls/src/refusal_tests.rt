@@ -209,48 +209,61 @@ fn params_of(column: usize, was: Was) -> Params {
             timeout: 0,
             flags: 0,
         }),
-        Packets(output, pids) => {
-            let mut set = Pids::new();
-            for pid in pids {
-                let _ = set.add(*pid);
-            }
-            Params::Pes {
-                params: PesParams {
-                    pid: 256,
-                    input: Input::Frontend,
-                    output,
-                    pes_type: 20,
-                    flags: 0,
-                },
-                pids: set,
-            }
-        }
+        Packets(output, pids) => Params::Pes {
+            params: PesParams {
+                pid: 256,
+                input: Input::Frontend,
+                output,
+                pes_type: 20,
+                flags: 0,
+            },
+            pids: set_of(pids),
+        },
     }
 }
 
+fn set_of(pids: &[u16]) -> Pids {
+    let mut set = Pids::new();
+    for pid in pids {
+        let _ = set.add(*pid);
+    }
+    set
+}
+
 // The call that a report tells so. The batch of a Pass begins with the packet of number 7 and has one packet.
-fn call_of(alloc: Global, act: Act) -> Result<Call, Fail> {
+fn call_of(alloc: Global, act: &Act) -> Result<Call, Fail> {
     Ok(match act {
         Act::Open => Call::Open,
         Act::Close => Call::Close,
-        Act::SetFilter { params, now } => Call::SetFilter { params, now },
-        Act::SetPes { params, now } => Call::SetPes { params, now },
-        Act::AddPid(pid) => Call::AddPid(pid),
-        Act::RemovePid(pid) => Call::RemovePid(pid),
-        Act::Start { now } => Call::Start { now },
-        Act::Stop => Call::Stop,
-        Act::SetSize(size) => Call::SetSize(size),
-        Act::Read { now, count } => Call::Read {
-            now,
-            buf: ByteBuf::new(alloc, count.min(65_536))?,
+        Act::SetFilter { params, now } => Call::SetFilter {
+            params: *params,
+            now: *now,
         },
-        Act::Poll { now } => Call::Poll { now },
+        Act::SetPes { params, now } => Call::SetPes {
+            params: *params,
+            now: *now,
+        },
+        Act::AddPid(pid) => Call::AddPid(*pid),
+        Act::RemovePid(pid) => Call::RemovePid(*pid),
+        Act::Start { now } => Call::Start { now: *now },
+        Act::Stop => Call::Stop,
+        Act::SetSize(size) => Call::SetSize(*size),
+        Act::Read { now, count } => Call::Read {
+            now: *now,
+            buf: ByteBuf::new(alloc, (*count).min(65_536))?,
+        },
+        Act::Poll { now } => Call::Poll { now: *now },
         Act::Pass { input, now, .. } => Call::Pass {
-            input,
+            input: *input,
             batch: one_packet(alloc)?,
-            now,
+            now: *now,
         },
         Act::End => Call::End,
+        Act::Attach { node, pids } => Call::Attach {
+            node: *node,
+            pids: pids.copied(),
+        },
+        Act::Detach { node } => Call::Detach { node: *node },
     })
 }
 
@@ -267,7 +280,7 @@ fn one_packet(alloc: Global) -> Result<Arc<Batch>, Fail> {
 #[test]
 fn each_call_on_each_node(rt: HostRuntime) -> Result<(), Fail> {
     for (was, act, wanted) in TABLE.iter() {
-        let call = call_of(rt.alloc(), *act)?;
+        let call = call_of(rt.alloc(), act)?;
         for (i, (kind, state)) in COLUMNS.iter().enumerate() {
             let params = params_of(i, *was);
             assert_eq!(rt;
@@ -283,7 +296,31 @@ fn each_call_on_each_node(rt: HostRuntime) -> Result<(), Fail> {
 #[test]
 fn a_call_is_told_as_it_was_made(rt: HostRuntime) -> Result<(), Fail> {
     for (_, act, _) in TABLE.iter() {
-        assert_eq!(rt; Act::of(&call_of(rt.alloc(), *act)?), *act);
+        assert_eq!(rt; Act::of(&call_of(rt.alloc(), act)?), *act);
+    }
+    Ok(())
+}
+
+// A demux node of any state refuses them, whatever they name.
+const DVR_ALONE: [Option<Errno>; 6] = [EINVAL, EINVAL, EINVAL, EINVAL, EINVAL, OK];
+
+#[test]
+fn taps_belong_to_the_dvr_node(rt: HostRuntime) -> Result<(), Fail> {
+    for pids in [[].as_slice(), &[256], &[0, 256, 8192]] {
+        for node in [0, 31, 32] {
+            let attach = Act::Attach {
+                node,
+                pids: set_of(pids),
+            };
+            for act in [attach, Act::Detach { node }] {
+                let call = call_of(rt.alloc(), &act)?;
+                assert_eq!(rt; Act::of(&call), act);
+                for (i, (kind, state)) in COLUMNS.iter().enumerate() {
+                    let params = params_of(i, RECORDED);
+                    assert_eq!(rt; refusal(*kind, *state, &call, &params), DVR_ALONE[i]);
+                }
+            }
+        }
     }
     Ok(())
 }

@@ -1,4 +1,6 @@
 pub mod Places
+pub mod Recorded
+pub mod ByValues
 pub mod Tapping
 pub mod Going
 pub mod Ledgers

@@ -2,3 +2,5 @@ pub mod Tapped
 pub mod Step
 pub mod Gives
 pub mod Stands
+pub mod KeptView
+pub mod CoreView

@@ -17,8 +17,11 @@
 //! Limits: the node itself isn't here yet. No memory is taken. `names` looks at each of the 32 taps.
 #![tactic(auto)]
 
+mod dvr;
+mod kept;
+mod record;
 mod taps;
 #[cfg(test)]
 mod tests;
 
-pub use taps::Taps;
+pub use dvr::DvrCore;

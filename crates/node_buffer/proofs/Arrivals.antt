@@ -1,6 +1,6 @@
 -- Items that arrive one by one, and the same items at once.
-use Rattle.std.proofs.Common.{ℕ, ◌+◌, ◌-◌, ◌≤◌, ◌≡◌, refl, sym, ◌∙◌, ap, Bool, true, false, List, [], ◌∷◌, ◌++◌, Option, Some, None, length, arith, append_assoc, length-append, add-zero, zero-add, add_assoc, one-add}
-use Rattle.std.specs.Prelude.{nat_eq, nat_lt, if◌then◌else◌}
+use Rattle.std.proofs.Common.{ℕ, zero, suc, drop, add-one, ◌+◌, ◌-◌, ◌≤◌, ◌≡◌, refl, sym, ◌∙◌, ap, Bool, true, false, List, [], ◌∷◌, ◌++◌, Option, Some, None, length, arith, append_assoc, length-append, add-zero, zero-add, add_assoc, one-add}
+use Rattle.std.specs.Prelude.{nat_eq, nat_lt, if◌then◌else◌, slice_get}
 use Rattle.std.specs.Option.{option_or}
 use Rattle.std.specs.List.{concat}
 use Rattle.std.proofs.lemmas.Bool.Decides.{nat_tests}
@@ -9,7 +9,7 @@ use Rattle.dmx_calls.specs.Tenure.{Params, Empty, Section, Pes}
 use Rattle.dmx_calls.specs.Ledger.{Misfit, misfit}
 use Rattle.dmx_calls.specs.Facts.{Ledger, unread_of, rest_of_item, rest_of}
 use Rattle.dmx_calls.proofs.Ledgers.{over_after, ledger_next}
-use Rattle.node_buffer.specs.Capturing.{is_section, rest_with, with_lost, with_misfit, with_kept, with_item_by, with_items}
+use Rattle.node_buffer.specs.Capturing.{is_section, rest_with, with_lost, with_misfit, with_kept, with_item_by, with_item, with_items}
 use Rattle.node_buffer.specs.Coherent.{UnreadFits}
 use Rattle.node_buffer.proofs.Rests.{rest_more}
 
@@ -146,3 +146,16 @@ arrives set cap old new l expired le rest =
     let same : rest_of set (over_after cap l new) (old ++ new) l.answered ≡ rest_once (is_section set) (over_after cap l new) l.rest new =
     rest_arrives set l.over (misfit cap l.count l.total l.answered new) old new l.answered le ∙ ap (λ r. rest_once (is_section set) (over_after cap l new) r new) (sym rest) in
     rw (zero-add l.answered, same) refl
+
+-- ------ items of one part, and then those of the rest
+
+pub with_items-append : (by_section : Bool) (capacity : ℕ) (xs ys : List (List ℕ)) (l : Ledger)
+    → with_items by_section capacity l (xs ++ ys) ≡ with_items by_section capacity (with_items by_section capacity l xs) ys
+with_items-append by_section capacity [] ys l = refl
+with_items-append by_section capacity (x ∷ xs) ys l = with_items-append by_section capacity xs ys (with_item by_section capacity l x)
+
+-- the element in place i, and then those behind it
+pub drop-one : {X : Type 0} (xs : List X) (i : ℕ) (x : X) → slice_get xs i ≡ Some x → drop i xs ≡ x ∷ drop (i + 1) xs
+drop-one [] i x is = absurd (cc)
+drop-one (y ∷ ys) zero x is = let e : y ≡ x = cc in ap (λ z. z ∷ ys) e
+drop-one (y ∷ ys) (suc i) x is = rw (add-one) (let e = drop-one ys i x is in rw (add-one) at e)

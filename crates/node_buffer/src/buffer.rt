@@ -71,7 +71,7 @@ impl Model for Buffer {
 }
 
 impl Buffer {
-    /// An empty buffer without a capture.
+    /// An empty buffer of a size from 2 to 16,777,216 bytes, without a capture.
     pub fn new(alloc: Global, size: u32) -> Result<Buffer, NoMemory>
         requires least { SMALLEST_SIZE ≤ size }
         requires most { size ≤ LARGEST_SIZE }
@@ -120,7 +120,7 @@ impl Buffer {
         }
     }
 
-    /// Ends the capture and begins another.
+    /// Ends the capture and begins another at this moment, in milliseconds.
     pub fn begin(&mut self, now: u64)
         ensures after { self.new ≡ record { size = self.old.size; ledger = Some (begun now) } }
         ensures holds { CoherentIn self.new.ledger }
@@ -147,7 +147,7 @@ impl Buffer {
         self.capture = None;
     }
 
-    /// Ends the capture. Where `begins` says so, another begins.
+    /// Ends the capture. Where `begins` says so, another begins at this moment, in milliseconds.
     pub fn renew(&mut self, begins: bool, now: u64)
         ensures after { self.new ≡ record { size = self.old.size; ledger = if begins then Some (begun now) else None } }
         ensures holds { CoherentIn self.new.ledger }
@@ -169,7 +169,8 @@ impl Buffer {
         }
     }
 
-    /// Notes the moment of a call: a capture that goes on expires where its time is over and no item came.
+    /// Notes the moment of a call: a capture that goes on expires where its time is over and no item came. Both are in
+    /// milliseconds; a timeout of 0 is none.
     pub fn expire(&mut self, timeout: u32, now: u64)
         ensures after { self.new ≡ record { size = self.old.size; ledger = option_map (expiring timeout now) self.old.ledger } }
         ensures holds { CoherentIn self.new.ledger }
@@ -182,7 +183,7 @@ impl Buffer {
         }
     }
 
-    /// Ends the capture and takes another size. After an `Err` it is unchanged.
+    /// Ends the capture and takes another size, from 2 to 16,777,216 bytes. After an `Err` it is unchanged.
     pub fn resize(&mut self, alloc: Global, size: u32) -> Result<(), NoMemory>
         requires least { SMALLEST_SIZE ≤ size }
         requires most { size ≤ LARGEST_SIZE }
@@ -194,8 +195,8 @@ impl Buffer {
         Ok(())
     }
 
-    /// An item arrives. It is lost where one before it is; where it is longer than the room, the overflow is pending and
-    /// nothing that is unread will be given.
+    /// An item of at least one byte arrives; `by_section` says that it is a section. It is lost where one before it is; where
+    /// it is longer than the room, the overflow is pending and nothing that is unread will be given.
     pub fn put(&mut self, by_section: bool, item: &[u8])
         requires some { 0 < length item.now }
         requires total { total_of self.old.ledger + length item.now < 2 ^ 64 }
@@ -228,7 +229,7 @@ impl Buffer {
     }
 
     /// The reply to a Read, with its buffer where the reply doesn't hold it: a pending overflow, else an expiry that wasn't
-    /// told, else bytes.
+    /// told, else bytes. `ended` says that the stream has ended, which Again tells.
     pub fn read(&mut self, params: &Params, ended: bool, buf: ByteBuf) -> (Reply, Option<ByteBuf>)
         ensures said { response_of result.0 ≡ read_by ended (params_of params.now) self.old.ledger buf.count }
         ensures after { self.new ≡ record { size = self.old.size; ledger = option_map (with_response (section_set (params_of params.now)) (response_of result.0)) self.old.ledger } }
@@ -294,7 +295,8 @@ impl Buffer {
         (Reply::Data(filled), None)
     }
 
-    /// The reply to a Poll.
+    /// The reply to a Poll: whether a Read of one byte would give something, what is pending, and the place up to which all is
+    /// answered.
     pub fn poll(&self, params: &Params, ended: bool) -> Reply
         ensures { response_of result ≡ Ready (is_readable (read_by ended (params_of params.now) self.now.ledger 1)) (pending self.now.ledger (expired_of self.now.ledger)) (answered_of self.now.ledger) ended }
     {

@@ -21,10 +21,12 @@
 //! dmx_sct_filter_params. The spans of lost and dropped bytes, and what an overflow loses, are this project's rules.
 #![tactic(auto)]
 
+mod answers;
 mod buffer;
 mod filter;
 #[cfg(test)]
 mod tests;
 
+pub use answers::{plain, refused};
 pub use buffer::Buffer;
 pub use filter::{is_oneshot, is_section, timeout_of};

@@ -123,6 +123,11 @@ pes_set : (h : History) → is_pes (facts demux h).params ≡ true → (s : Sinc
 unfolding facts
 pes_set h is = setting_some h (λ empty. let nay : false ≡ true = rw empty at is in cc)
 
+-- a call that the table refuses in every state
+always_refused : (own : Bool) → (if not own then Some Ebadf else Some Einval) ≡ None → ⊥
+always_refused true is = cc
+always_refused false is = cc
+
 -- ------ calls that answer no bytes
 
 dropping : (o : Option Ledger) (tap : TapChange) → Silent (done_dropping o tap)
@@ -233,6 +238,14 @@ module _ (h : History) (k : Selecting) (who : ℕ) (sound : IsSound (known h k))
         moves = read_moves h k t.0 who now count t.1 sound has _ fine.0 fine.1;
       })
 
+  -- ------ taps are attached to the dvr node alone
+
+  case_attach : (node : ℕ) (names : List ℕ) → Agrees h k who (Attach node names) (settled (known h k) who (Attach node names))
+  case_attach node names = decided h k who (Attach node names) has (λ is. absurd (always_refused (is_owned_by who (facts demux h).owner) is))
+
+  case_detach : (node : ℕ) → Agrees h k who (Detach node) (settled (known h k) who (Detach node))
+  case_detach node = decided h k who (Detach node) has (λ is. absurd (always_refused (is_owned_by who (facts demux h).owner) is))
+
   -- ------ all of them
 
   pub agrees : (call : Invocation) → IsBuilt call → Agrees h k who call (settled (known h k) who call)
@@ -249,5 +262,5 @@ module _ (h : History) (k : Selecting) (who : ℕ) (sound : IsSound (known h k))
   agrees (Poll now) built = case_poll now
   agrees (Pass input first packets now) built = case_pass input first packets now
   agrees End built = case_end
-  agrees (Attach node names) built = absurd built
-  agrees (Detach node) built = absurd built
+  agrees (Attach node names) built = case_attach node names
+  agrees (Detach node) built = case_detach node

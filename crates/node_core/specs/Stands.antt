@@ -1,6 +1,6 @@
 -- What it means that a node stands for a history.
 use Rattle.std.specs.Prelude.{ℕ, ◌≡◌, false, length}
-use Rattle.dmx_calls.specs.Invocation.{Invocation, SetPes, Pass, Attach, Detach}
+use Rattle.dmx_calls.specs.Invocation.{Invocation, SetPes}
 use Rattle.dmx_calls.specs.History.{History}
 use Rattle.dmx_calls.specs.Rules.{demux}
 use Rattle.dmx_calls.specs.Facts.{Facts, facts}
@@ -23,14 +23,7 @@ pub record StandsFor (node : CoreValue) (h : History) : Type 0 where
   pub known : node.facts ≡ facts demux h
   pub selected : HasSelected h node.selecting
 
--- The calls that are built: all of the demux node, but no SetPes for the dvr node.
+-- The calls that are built: all but a SetPes for the dvr node.
 abbrev pub IsBuilt : Invocation → Type 0
 IsBuilt (SetPes p now) = is_ts_tap p.output ≡ false
-IsBuilt (Attach node pids) = ⊥
-IsBuilt (Detach node) = ⊥
 IsBuilt _ = Unit {0}
-
--- how many packets a call brings
-abbrev pub packets_of_call : Invocation → ℕ
-packets_of_call (Pass input first packets now) = length packets
-packets_of_call _ = 0

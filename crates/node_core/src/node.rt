@@ -3,6 +3,7 @@
 ghost use Rattle.std.specs.Prelude.{◌≡◌, ◌≢◌, ◌≤◌, ◌<◌, ◌+◌, ◌^◌, ◌∷◌, []};
 ghost use Rattle.dmx_calls.specs.declared.node.NodeKind.TheVariants.{Demux};
 ghost use Rattle.dmx_calls.specs.declared.limits.TheConstants.{DEMUX_NODES};
+ghost use Rattle.dmx_calls.specs.Invocation.{packets_of_call};
 ghost use Rattle.dmx_calls.specs.History.{History, entry_of};
 ghost use Rattle.dmx_calls.specs.Rules.{demux};
 ghost use Rattle.dmx_calls.specs.Facts.{state_of};
@@ -14,10 +15,11 @@ ghost use Rattle.node_core.specs.Sound.{IsSound};
 ghost use Rattle.node_core.specs.Gives.{Gives};
 ghost use Rattle.node_core.specs.Step.{next};
 ghost use Rattle.node_core.specs.KeptView.{knows_of, bytes_in};
-ghost use Rattle.node_core.specs.Stands.{StandsFor, IsBuilt, packets_of_call};
+ghost use Rattle.node_core.specs.Stands.{StandsFor, IsBuilt};
 
 use crate::kept::Kept;
-use dmx_calls::{Answer, Call, Errno, Reply, State};
+use dmx_calls::{Answer, Call, Reply, State};
+use node_buffer::{plain, refused};
 use std::alloc::Global;
 use std::marker::Model;
 use std::sync::ledger::Ledger;
@@ -43,37 +45,6 @@ impl Model for NodeCore {
     ghost view = { core_view };
 
     ghost invariant = { CoreHolds };
-}
-
-fn plain(reply: Reply) -> Answer
-    ensures { result ≡ record { reply = reply; back = None; batch = None } }
-{
-    Answer {
-        reply,
-        back: None,
-        batch: None,
-    }
-}
-
-/// The call is refused: what it brought is handed back.
-fn refused(errno: Errno, call: Call) -> Answer
-    ensures reply { result.reply ≡ Reply.Refused errno }
-    ensures back { GivesBack call result }
-{
-    let reply = Reply::Refused(errno);
-    match call {
-        Call::Read { buf, .. } => Answer {
-            reply,
-            back: Some(buf),
-            batch: None,
-        },
-        Call::Pass { batch, .. } => Answer {
-            reply,
-            back: None,
-            batch: Some(batch),
-        },
-        _ => plain(reply),
-    }
 }
 
 /// Makes a call on what the node keeps.
@@ -129,6 +100,7 @@ fn act<L: Ledger>(
             kept.end();
             plain(Reply::Passed)
         }
+        Call::Attach { .. } | Call::Detach { .. } => unreachable!(),
     }
 }
 
