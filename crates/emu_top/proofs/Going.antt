@@ -1,5 +1,7 @@
 -- What each step of a run does to its history, its log and its counters.
-use Rattle.std.proofs.Common.{◌≡◌, refl, sym, ap, subst, ◌∙◌, ℕ, suc, ◌+◌, ◌-◌, ◌/◌, ◌%◌, ◌<◌, ◌≤◌, ◌==◌, min, Bool, true, false, nat_eq, List, [], ◌∷◌, take, drop, fold, cond, map, arith, inl, inr}
+use Rattle.std.proofs.Common.{◌≡◌, ◌≢◌, refl, sym, ap, subst, ◌∙◌, ℕ, suc, ◌+◌, ◌-◌, ◌/◌, ◌%◌, ◌<◌, ◌≤◌, ◌==◌, min, Bool, true, false, nat_eq, List, [], ◌∷◌, length, take, drop, replicate, fold, cond, map, slice_set, Result, Ok, Err, OnOk, arith, inl, inr}
+use Rattle.std.specs.Prelude.{slice_index}
+use Rattle.std.proofs.lemmas.List.{get_or-replicate, get_or-set_same, get_or-set_other}
 use Rattle.std.proofs.lemmas.Bool.{cases_lt}
 use Rattle.std.proofs.lemmas.Bool.Decides.{nat_tests}
 use Rattle.std.proofs.lemmas.List.Sums.{sum_by-cons}
@@ -17,12 +19,12 @@ use Rattle.dmx_calls.specs.Log.{log_of, calls_of}
 use Rattle.dmx_calls.proofs.Going.{has_ended_after, has_ended_refused}
 use Rattle.node_core.specs.Stands.{StandsFor}
 use Rattle.emu_top.specs.declared.script.Verb.{Verb}
-use Rattle.emu_top.specs.declared.script.Verb.TheVariants.{Open, Close, Pes, Start, Stop, Size, Read}
+use Rattle.emu_top.specs.declared.script.Verb.TheVariants.{Open, Close, Section, Pes, Add, Remove, Start, Stop, Size, Read, Poll}
 use Rattle.emu_top.specs.declared.script.Line.{Line}
 use Rattle.emu_top.specs.SerialRun.{Run, begun, answered, called, passed, batch_sizes, all_passed, ended, asked, done, finished, serial_run}
 use Rattle.dmx_calls.specs.Calls.{told_entry}
 use Rattle.emu_top.specs.declared.runner.Runner.{Runner}
-use Rattle.emu_top.specs.Runner.{IsAt}
+use Rattle.emu_top.specs.Runner.{IsAt, Counts}
 
 -- a caller's own call counts, and no other caller's does
 calls_more : (who : ℕ) (c : Invocation) (h : History) → calls_of who (answered who c h) ≡ calls_of who h + 1
@@ -44,62 +46,93 @@ end_ends : (who : ℕ) (h : History) → has_ended (answered who call.End h) ≡
 unfolding answer
 end_ends who h = rw (has_ended_after (entry_of who call.End (answer demux h who call.End)) h refl) refl
 
-verb_goes_on : (who : ℕ) (verb : Verb) (h : History) → has_ended (answered who (asked verb) h) ≡ has_ended h
-verb_goes_on who Open h = not_end who call.Open h refl
-verb_goes_on who Close h = not_end who call.Close h refl
-verb_goes_on who (Pes p) h = not_end who (call.SetPes p 0) h refl
-verb_goes_on who Start h = not_end who (call.Start 0) h refl
-verb_goes_on who Stop h = not_end who call.Stop h refl
-verb_goes_on who (Size n) h = not_end who (call.SetSize n) h refl
-verb_goes_on who (Read n) h = not_end who (call.Read 0 n) h refl
+verb_goes_on : (who now : ℕ) (verb : Verb) (h : History) → has_ended (answered who (asked verb now) h) ≡ has_ended h
+verb_goes_on who now Open h = not_end who call.Open h refl
+verb_goes_on who now Close h = not_end who call.Close h refl
+verb_goes_on who now (Section p) h = not_end who (call.SetFilter p now) h refl
+verb_goes_on who now (Pes p) h = not_end who (call.SetPes p now) h refl
+verb_goes_on who now (Add pid) h = not_end who (call.AddPid pid) h refl
+verb_goes_on who now (Remove pid) h = not_end who (call.RemovePid pid) h refl
+verb_goes_on who now Start h = not_end who (call.Start now) h refl
+verb_goes_on who now Stop h = not_end who call.Stop h refl
+verb_goes_on who now (Size n) h = not_end who (call.SetSize n) h refl
+verb_goes_on who now (Read n) h = not_end who (call.Read now n) h refl
+verb_goes_on who now Poll h = not_end who (call.Poll now) h refl
+
+-- what follows from facts of a call that succeeded
+pub all_ok : {T E P Q R S : Type 0} (r : Result T E) → (P → Q → R → S) → OnOk r P → OnOk r Q → OnOk r R → OnOk r S
+all_ok (Ok v) then p q s = then p q s
+all_ok (Err e) then p q s = tt
+
+-- ------ the callers' counts
+
+-- these are the callers' counts after this history
+abbrev pub AreCounts : List ℕ → History → Type 0
+AreCounts counts h = (who : ℕ) → who < 9 → slice_index counts who ≡ calls_of who h
+
+-- one more call of a caller
+counts_more : (who : ℕ) (c : Invocation) (counts : List ℕ) (h : History) → who < length counts → AreCounts counts h
+    → AreCounts (slice_set counts who (slice_index counts who + 1)) (answered who c h)
+counts_more who c counts h there at = λ other below. go other below (nat_eq who other) refl where
+  go : (other : ℕ) → other < 9 → (b : Bool) → nat_eq who other ≡ b → slice_index (slice_set counts who (slice_index counts who + 1)) other ≡ calls_of other (answered who c h)
+  go other below true same =
+      let e : who ≡ other = grind (arith, nat_tests) in
+      let below' : who < 9 = omega arith in
+      rw (← e) (get_or-set_same counts who _ 0 there ∙ (ap (λ n. n + 1) (at who below') ∙ sym (calls_more who c h)))
+  go other below false differs =
+      let d : other ≢ who = grind (arith, nat_tests) in
+      get_or-set_other counts who other _ 0 d ∙ (at other below ∙ sym (calls_other other who c h differs))
 
 -- ------ the runner goes on with the run
 
-pub at_called : (old new : Runner) (r : Run) (verb : Verb) → IsAt old r
-    → StandsFor new.node (answered 1 (asked verb) r.history) → map told_entry new.entries.items ≡ log_of 0 (answered 1 (asked verb) r.history)
-    → new.packets.now ≡ old.packets.now → new.first ≡ old.first → new.feeds ≡ old.feeds → new.calls ≡ old.calls + 1 → new.has_ended ≡ old.has_ended
-    → IsAt new (called 1 (asked verb) r)
-at_called old new r verb at stands entries left first feeds calls end = record {
-  stands = stands;
-  entries = entries;
+-- a runner behind one more call that doesn't end the stream, made by caller `who`
+pub record Called (old new : Runner) (who : ℕ) (c : Invocation) (h : History) : Type 0 where
+  pub stands : StandsFor new.node (answered who c h)
+  pub entries : map told_entry new.entries.items ≡ log_of 0 (answered who c h)
+  pub calls : new.calls ≡ slice_set old.calls who (slice_index old.calls who + 1)
+
+pub at_called : (old new : Runner) (r : Run) (who : ℕ) (verb : Verb) → IsAt old r → Counts old → who < 9 → Called old new who (asked verb r.moment) r.history
+    → new.packets.now ≡ old.packets.now → new.first ≡ old.first → new.moment ≡ old.moment → new.has_ended ≡ old.has_ended
+    → IsAt new (called who (asked verb r.moment) r)
+at_called old new r who verb at counts below more left first moment end = record {
+  stands = more.stands;
+  entries = more.entries;
   left = left ∙ at.left;
   first = first ∙ at.first;
-  feeds = feeds ∙ (at.feeds ∙ sym (calls_other 0 1 (asked verb) r.history refl));
-  calls = calls ∙ (ap (λ n. n + 1) at.calls ∙ sym (calls_more 1 (asked verb) r.history));
-  has_ended = end ∙ (at.has_ended ∙ sym (verb_goes_on 1 verb r.history));
+  moment = moment ∙ at.moment;
+  calls = rw more.calls (counts_more who (asked verb r.moment) old.calls r.history (omega (arith, counts.callers)) at.calls);
+  has_ended = end ∙ (at.has_ended ∙ sym (verb_goes_on who r.moment verb r.history));
 }
 
-pub at_passed : (old new : Runner) (r : Run) (size : ℕ) → IsAt old r
-    → StandsFor new.node (answered 0 (call.Pass Frontend old.first (take size old.packets.now) 0) r.history)
-    → map told_entry new.entries.items ≡ log_of 0 (answered 0 (call.Pass Frontend old.first (take size old.packets.now) 0) r.history)
-    → new.packets.now ≡ drop size old.packets.now → new.first ≡ old.first + size → new.feeds ≡ old.feeds + 1 → new.calls ≡ old.calls → new.has_ended ≡ old.has_ended
+pub at_passed : (old new : Runner) (r : Run) (size : ℕ) → IsAt old r → Counts old
+    → Called old new 0 (call.Pass Frontend old.first (take size old.packets.now) old.moment) r.history
+    → new.packets.now ≡ drop size old.packets.now → new.first ≡ old.first + size → new.moment ≡ old.moment → new.has_ended ≡ old.has_ended
     → IsAt new (passed r size)
-at_passed old new r size at stands entries left first feeds calls end =
-    let c : Invocation = call.Pass Frontend r.first (take size r.left) 0 in
+at_passed old new r size at counts more left first moment end =
+    let c : Invocation = call.Pass Frontend r.first (take size r.left) r.moment in
+    let same : call.Pass Frontend old.first (take size old.packets.now) old.moment ≡ c = rw (at.first, at.left, at.moment) refl in
+    let more' : Called old new 0 c r.history = subst (λ d. Called old new 0 d r.history) same more in
     record {
-      stands = subst (λ xs. StandsFor new.node (answered 0 (call.Pass Frontend r.first (take size xs) 0) r.history)) at.left
-          (subst (λ n. StandsFor new.node (answered 0 (call.Pass Frontend n (take size old.packets.now) 0) r.history)) at.first stands);
-      entries = entries ∙ (ap (λ xs. log_of 0 (answered 0 (call.Pass Frontend old.first (take size xs) 0) r.history)) at.left
-          ∙ ap (λ n. log_of 0 (answered 0 (call.Pass Frontend n (take size r.left) 0) r.history)) at.first);
+      stands = more'.stands;
+      entries = more'.entries;
       left = left ∙ ap (drop size) at.left;
       first = first ∙ ap (λ n. n + size) at.first;
-      feeds = feeds ∙ (ap (λ n. n + 1) at.feeds ∙ sym (calls_more 0 c r.history));
-      calls = calls ∙ (at.calls ∙ sym (calls_other 1 0 c r.history refl));
+      moment = moment ∙ at.moment;
+      calls = rw more'.calls (counts_more 0 c old.calls r.history (omega (arith, counts.callers)) at.calls);
       has_ended = end ∙ (at.has_ended ∙ sym (not_end 0 c r.history refl));
     }
 
 -- End passes, where it hasn't
-pub at_ended : (old new : Runner) (r : Run) → IsAt old r → old.has_ended ≡ false
-    → StandsFor new.node (answered 0 call.End r.history) → map told_entry new.entries.items ≡ log_of 0 (answered 0 call.End r.history)
-    → new.packets.now ≡ old.packets.now → new.first ≡ old.first → new.feeds ≡ old.feeds + 1 → new.calls ≡ old.calls → new.has_ended ≡ true
+pub at_ended : (old new : Runner) (r : Run) → IsAt old r → Counts old → old.has_ended ≡ false → Called old new 0 call.End r.history
+    → new.packets.now ≡ old.packets.now → new.first ≡ old.first → new.moment ≡ old.moment → new.has_ended ≡ true
     → IsAt new (ended r)
-at_ended old new r at before stands entries left first feeds calls end = rw (sym at.has_ended ∙ before) record {
-  stands = stands;
-  entries = entries;
+at_ended old new r at counts before more left first moment end = rw (sym at.has_ended ∙ before) record {
+  stands = more.stands;
+  entries = more.entries;
   left = left ∙ at.left;
   first = first ∙ at.first;
-  feeds = feeds ∙ (ap (λ n. n + 1) at.feeds ∙ sym (calls_more 0 call.End r.history));
-  calls = calls ∙ (at.calls ∙ sym (calls_other 1 0 call.End r.history refl));
+  moment = moment ∙ at.moment;
+  calls = rw more.calls (counts_more 0 call.End old.calls r.history (omega (arith, counts.callers)) at.calls);
   has_ended = end ∙ sym (end_ends 0 r.history);
 }
 
@@ -137,10 +170,10 @@ passed_more batch n r some more = rw (sizes_more batch n some more) refl
 
 -- a new runner is before the first line
 pub at_begun : (v : Runner) (packets : List (List ℕ)) → StandsFor v.node [] → map told_entry v.entries.items ≡ [] → v.packets.now ≡ packets
-    → v.first ≡ 0 → v.feeds ≡ 0 → v.calls ≡ 0 → v.has_ended ≡ false → IsAt v (begun packets)
+    → v.first ≡ 0 → v.moment ≡ 0 → v.calls ≡ replicate 9 0 → v.has_ended ≡ false → IsAt v (begun packets)
 unfolding has_ended
-at_begun v packets stands entries left first feeds calls end =
-    record { stands = stands; entries = entries; left = left; first = first; feeds = feeds; calls = calls; has_ended = end }
+at_begun v packets stands entries left first moment calls end =
+    record { stands = stands; entries = entries; left = left; first = first; moment = moment; calls = λ who below. rw calls (get_or-replicate 9 who 0 0 below); has_ended = end }
 
 -- where the run is finished, the log is that of the whole run
 pub log_at_end : (v : Runner) (batch : ℕ) (lines : List Line) (packets : List (List ℕ))

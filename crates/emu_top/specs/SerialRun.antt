@@ -8,34 +8,36 @@ use Rattle.dmx_calls.specs.Tenure.{has_ended}
 use Rattle.dmx_calls.specs.Rules.{demux}
 use Rattle.dmx_calls.specs.Answer.{answer}
 use Rattle.emu_top.specs.declared.script.Verb.{Verb}
-use Rattle.emu_top.specs.declared.script.Verb.TheVariants.{Open, Close, Pes, Start, Stop, Size, Read}
+use Rattle.emu_top.specs.declared.script.Verb.TheVariants.{Open, Close, Section, Pes, Add, Remove, Start, Stop, Size, Read, Poll}
 use Rattle.emu_top.specs.declared.script.Line.{Line}
-use Rattle.emu_top.specs.declared.script.Line.TheVariants.{Feed, Command}
+use Rattle.emu_top.specs.declared.script.Line.TheVariants.{Feed, Tick, Command}
 
--- A run so far: the history of node 0, the packets that haven't passed it yet, and the number of the first of them in the stream.
+-- A run so far: the history of node 0, the packets that haven't passed it yet, the number of the first of them in the stream, and the moment in milliseconds.
 pub record Run : Type 0 where
   pub history : History
   pub left : List (List ℕ)
   pub first : ℕ
+  pub moment : ℕ
 
 -- before the first line
 abbrev pub begun : List (List ℕ) → Run
-begun packets = record { history = []; left = packets; first = 0 }
+begun packets = record { history = []; left = packets; first = 0; moment = 0 }
 
 -- the history with this call and its answer
 abbrev pub answered : (who : ℕ) → Invocation → History → History
 answered who invocation h = entry_of who invocation (answer demux h who invocation) ∷ h
 
--- a caller makes a call on the node: caller 0 is the feeder, caller 1 is client 0
+-- a caller makes a call on the node: caller 0 is the feeder, and caller c + 1 is client c
 abbrev pub called : (who : ℕ) → Invocation → Run → Run
-called who invocation r = record { history = answered who invocation r.history; left = r.left; first = r.first }
+called who invocation r = record { history = answered who invocation r.history; left = r.left; first = r.first; moment = r.moment }
 
 -- the next packets pass in one batch of this size
 abbrev pub passed : Run → (size : ℕ) → Run
 passed r size = record {
-  history = answered 0 (call.Pass Frontend r.first (take size r.left) 0) r.history;
+  history = answered 0 (call.Pass Frontend r.first (take size r.left) r.moment) r.history;
   left = drop size r.left;
   first = r.first + size;
+  moment = r.moment;
 }
 
 -- So many packets in batches of this size: whole ones, and one of what is over.
@@ -55,20 +57,29 @@ abbrev pub fed : (batch count : ℕ) → Run → Run
 fed batch count r =
     if nat_lt (length r.left) count then ended (all_passed batch (length r.left) r) else all_passed batch count r
 
--- what a command asks of the node, at moment 0
-abbrev pub asked : Verb → Invocation
-asked Open = call.Open
-asked Close = call.Close
-asked (Pes params) = call.SetPes params 0
-asked Start = call.Start 0
-asked Stop = call.Stop
-asked (Size size) = call.SetSize size
-asked (Read count) = call.Read 0 count
+-- so many milliseconds go by
+abbrev pub ticked : (time : ℕ) → Run → Run
+ticked time r = record { history = r.history; left = r.left; first = r.first; moment = r.moment + time }
+
+-- what a command asks of the node at this moment
+abbrev pub asked : Verb → (now : ℕ) → Invocation
+asked Open now = call.Open
+asked Close now = call.Close
+asked (Section params) now = call.SetFilter params now
+asked (Pes params) now = call.SetPes params now
+asked (Add pid) now = call.AddPid pid
+asked (Remove pid) now = call.RemovePid pid
+asked Start now = call.Start now
+asked Stop now = call.Stop
+asked (Size size) now = call.SetSize size
+asked (Read count) now = call.Read now count
+asked Poll now = call.Poll now
 
 -- a line is done
 abbrev pub done : (batch : ℕ) → Run → Line → Run
 done batch r (Feed count) = fed batch count r
-done batch r (Command verb) = called 1 (asked verb) r
+done batch r (Tick time) = ticked time r
+done batch r (Command client verb) = called (client + 1) (asked verb r.moment) r
 
 -- the rest of the stream passes, and then End
 abbrev pub finished : (batch : ℕ) → Run → Run

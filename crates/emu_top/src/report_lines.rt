@@ -2,9 +2,13 @@
 ghost use Rattle.std.specs.Prelude.{◌≡◌, ◌++◌, ◌<◌, OnOk, string_bytes};
 ghost use Rattle.std.specs.List.{flat_map};
 ghost use Rattle.dmx_calls.specs.Calls.{told_act, told_entry, response_of, tap_change_of};
-ghost use Rattle.emu_top.specs.Report.{act_text, byte_text, caller_text, data_text, entry_text, errno_text, hex_digit, input_text, output_text, response_text, tap_text, who_text};
+ghost use Rattle.filter_match.specs.Match.{below};
+ghost use Rattle.emu_top.specs.Report.{act_text, byte_text, caller_text, data_text, entry_text, errno_text, filter_byte_text, flag_text, hex_digit, input_text, output_text, pending_text, pes_text, response_text, section_text, tap_text, who_text};
 
-use dmx_calls::{Act, Entry, Errno, Input, Output, Reply, Tap};
+use dmx_calls::{
+    Act, Entry, Errno, Input, Output, PesParams, PollError, Reply, SectionParams, Tap,
+};
+use filter_match::SectionFilter;
 use std::alloc::AllocError as NoMemory;
 
 #[tactic(auto, unfolding(crate::specs::Report::input_text))]
@@ -41,6 +45,22 @@ fn errno_name(errno: Errno) -> &'static str
     }
 }
 
+fn pending_name(error: PollError) -> &'static str
+    ensures { result.now ≡ pending_text error }
+{
+    match error {
+        PollError::Quiet => "none",
+        PollError::Overflow => "overflow",
+        PollError::TimedOut => "timedout",
+    }
+}
+
+fn flag_name(flag: bool) -> &'static str
+    ensures { result.now ≡ flag_text flag }
+{
+    if flag { "1" } else { "0" }
+}
+
 #[tactic(auto, unfolding(crate::specs::Report::tap_text))]
 fn tap_name(tap: Tap) -> &'static str
     ensures { result.now ≡ tap_text (tap_change_of tap) }
@@ -60,44 +80,6 @@ fn add_who(text: &mut String, who: u32) -> Result<(), NoMemory>
     }
     let client = who - 1;
     write!(text, "c{client}")
-}
-
-#[tactic(auto, unfolding(crate::specs::Report::act_text))]
-fn add_act(text: &mut String, act: &Act) -> Result<(), NoMemory>
-    ensures { OnOk result (string_bytes text.new ≡ string_bytes text.old ++ act_text (told_act act.now)) }
-{
-    match act {
-        Act::Open => text.push_str("open"),
-        Act::Close => text.push_str("close"),
-        Act::SetPes { params, now } => {
-            let pid = params.pid;
-            let input = input_name(params.input);
-            let output = output_name(params.output);
-            let pes_type = params.pes_type;
-            let flags = params.flags;
-            write!(
-                text,
-                "pes pid={pid} input={input} output={output} type={pes_type} flags={flags} at={now}"
-            )
-        }
-        Act::Start { now } => write!(text, "start at={now}"),
-        Act::Stop => text.push_str("stop"),
-        Act::SetSize(size) => write!(text, "size {size}"),
-        Act::Read { now, count } => write!(text, "read {count} at={now}"),
-        Act::Pass {
-            input,
-            first,
-            count,
-            now,
-        } => {
-            let name = input_name(*input);
-            write!(
-                text,
-                "pass input={name} first={first} count={count} at={now}"
-            )
-        }
-        Act::End => text.push_str("end"),
-    }
 }
 
 fn hex_char(digit: u8) -> char
@@ -126,6 +108,96 @@ fn add_bytes(text: &mut String, bytes: &[u8]) -> Result<(), NoMemory>
         add_byte(text, *byte)?;
     }
     Ok(())
+}
+
+// ` I=FF/MM/DD` for place I of a filter; nothing where its three bytes are 0.
+fn add_place(text: &mut String, filter: &SectionFilter, place: usize) -> Result<(), NoMemory>
+    requires { place < 16 }
+    ensures { OnOk result (string_bytes text.new ≡ string_bytes text.old ++ filter_byte_text filter.now place) }
+{
+    let byte = filter.filter[place];
+    let mask = filter.mask[place];
+    let mode = filter.mode[place];
+    if byte == 0 && mask == 0 && mode == 0 {
+        return Ok(());
+    }
+    write!(text, " {place}=")?;
+    add_byte(text, byte)?;
+    text.push_str("/")?;
+    add_byte(text, mask)?;
+    text.push_str("/")?;
+    add_byte(text, mode)
+}
+
+// The places of a filter that aren't 0.
+fn add_filter(text: &mut String, filter: &SectionFilter) -> Result<(), NoMemory>
+    ensures { OnOk result (string_bytes text.new ≡ string_bytes text.old ++ flat_map (filter_byte_text filter.now) (below 16)) }
+{
+    'places: for place in 0..16usize {
+        add_place(text, filter, place)?;
+    }
+    Ok(())
+}
+
+// A section filter that is set at this moment.
+fn add_section(text: &mut String, params: &SectionParams, now: u64) -> Result<(), NoMemory>
+    ensures { OnOk result (string_bytes text.new ≡ string_bytes text.old ++ section_text params.now now) }
+{
+    let pid = params.pid;
+    let timeout = params.timeout;
+    let flags = params.flags;
+    write!(
+        text,
+        "section pid={pid} timeout={timeout} flags={flags} at={now}"
+    )?;
+    add_filter(text, &params.filter)
+}
+
+// A PES filter that is set at this moment.
+fn add_pes(text: &mut String, params: &PesParams, now: u64) -> Result<(), NoMemory>
+    ensures { OnOk result (string_bytes text.new ≡ string_bytes text.old ++ pes_text params.now now) }
+{
+    let pid = params.pid;
+    let input = input_name(params.input);
+    let output = output_name(params.output);
+    let pes_type = params.pes_type;
+    let flags = params.flags;
+    write!(
+        text,
+        "pes pid={pid} input={input} output={output} type={pes_type} flags={flags} at={now}"
+    )
+}
+
+#[tactic(auto, unfolding(crate::specs::Report::act_text))]
+fn add_act(text: &mut String, act: &Act) -> Result<(), NoMemory>
+    ensures { OnOk result (string_bytes text.new ≡ string_bytes text.old ++ act_text (told_act act.now)) }
+{
+    match act {
+        Act::Open => text.push_str("open"),
+        Act::Close => text.push_str("close"),
+        Act::SetFilter { params, now } => add_section(text, params, *now),
+        Act::SetPes { params, now } => add_pes(text, params, *now),
+        Act::AddPid(pid) => write!(text, "add {pid}"),
+        Act::RemovePid(pid) => write!(text, "remove {pid}"),
+        Act::Start { now } => write!(text, "start at={now}"),
+        Act::Stop => text.push_str("stop"),
+        Act::SetSize(size) => write!(text, "size {size}"),
+        Act::Read { now, count } => write!(text, "read {count} at={now}"),
+        Act::Poll { now } => write!(text, "poll at={now}"),
+        Act::Pass {
+            input,
+            first,
+            count,
+            now,
+        } => {
+            let name = input_name(*input);
+            write!(
+                text,
+                "pass input={name} first={first} count={count} at={now}"
+            )
+        }
+        Act::End => text.push_str("end"),
+    }
 }
 
 // The bytes of a read in hexadecimal, or `-`.
@@ -172,6 +244,28 @@ fn add_reply(text: &mut String, reply: &Reply) -> Result<(), NoMemory>
             write!(
                 text,
                 "overflow {from}..{to} item={item} need={need} room={room}"
+            )
+        }
+        Reply::TimedOut {
+            started,
+            now,
+            timeout,
+        } => write!(
+            text,
+            "timedout started={started} now={now} timeout={timeout}"
+        ),
+        Reply::Ready {
+            readable,
+            error,
+            at,
+            ended,
+        } => {
+            let readable = flag_name(*readable);
+            let error = pending_name(*error);
+            let ended = flag_name(*ended);
+            write!(
+                text,
+                "ready readable={readable} error={error} at={at} ended={ended}"
             )
         }
         Reply::Passed => text.push_str("passed"),

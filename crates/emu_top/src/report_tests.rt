@@ -1,14 +1,16 @@
 // The report's lines, and the report of a node.
 ghost use Rattle.std.specs.Prelude.{◌≡◌, ℕ, List, [], ◌∷◌, true, false, codes};
-ghost use Rattle.filter_match.specs.declared.filter.SectionFilter.{SectionFilter};
-ghost use Rattle.dmx_calls.specs.declared.reply.PollError.TheVariants as pending;
-ghost use Rattle.dmx_calls.specs.Log.{SetFilterAct, AddPidAct, RemovePidAct, PollAct, AttachAct, DetachAct};
-ghost use Rattle.dmx_calls.specs.Response.{AttachTap, DetachTap, Done, TimedOut, Ready};
+ghost use Rattle.dmx_calls.specs.Log.{AttachAct, DetachAct};
+ghost use Rattle.dmx_calls.specs.Response.{AttachTap, DetachTap, Done};
 ghost use Rattle.emu_top.specs.Report.{act_text, response_text};
 
 use crate::report::{add_node, report};
 use crate::report_lines::add_entry;
-use dmx_calls::{Act, ByteBuf, Entry, Errno, Input, Output, PesParams, Reply, Span, Tap};
+use dmx_calls::{
+    Act, ByteBuf, Entry, Errno, Input, Output, PesParams, PollError, Reply, SectionParams, Span,
+    Tap,
+};
+use filter_match::SectionFilter;
 use std::alloc::Global;
 use std::test::Fail;
 use ts_packet::Tally;
@@ -33,21 +35,32 @@ fn done(from: u64, to: u64) -> Reply {
 }
 
 // A set call at moment 3.
-fn pes(pid: u16, input: Input, output: Output, pes_type: u32, flags: u32) -> Act {
-    Act::SetPes {
-        params: PesParams {
-            pid,
-            input,
-            output,
-            pes_type,
-            flags,
-        },
-        now: 3,
-    }
+macro_rules! pes {
+    ($pid:expr, $input:ident, $output:ident, $pes_type:expr, $flags:expr) => {
+        Act::SetPes {
+            params: PesParams {
+                pid: $pid,
+                input: Input::$input,
+                output: Output::$output,
+                pes_type: $pes_type,
+                flags: $flags,
+            },
+            now: 3,
+        }
+    };
 }
 
 fn read(count: u32) -> Act {
     Act::Read { now: 0, count }
+}
+
+fn ready(readable: bool, error: PollError, at: u64, ended: bool) -> Reply {
+    Reply::Ready {
+        readable,
+        error,
+        at,
+        ended,
+    }
 }
 
 fn data(alloc: Global, bytes: [u8; 4]) -> Result<Reply, Fail> {
@@ -56,61 +69,172 @@ fn data(alloc: Global, bytes: [u8; 4]) -> Result<Reply, Fail> {
     Ok(Reply::Data(buf))
 }
 
+static CALLS: [(Act, &str); 16] = [
+    (Act::Open, "open"),
+    (Act::Close, "close"),
+    (
+        pes!(256, Frontend, TsdemuxTap, 20, 0),
+        "pes pid=256 input=frontend output=tsdemux_tap type=20 flags=0 at=3",
+    ),
+    (
+        pes!(0, Dvr, Tap, 1, 4),
+        "pes pid=0 input=dvr output=tap type=1 flags=4 at=3",
+    ),
+    (
+        pes!(65535, Frontend, TsTap, 0, 4294967295),
+        "pes pid=65535 input=frontend output=ts_tap type=0 flags=4294967295 at=3",
+    ),
+    (
+        pes!(8192, Frontend, Decoder, 21, 1),
+        "pes pid=8192 input=frontend output=decoder type=21 flags=1 at=3",
+    ),
+    (
+        Act::Start {
+            now: 18446744073709551615,
+        },
+        "start at=18446744073709551615",
+    ),
+    (Act::AddPid(257), "add 257"),
+    (Act::RemovePid(65535), "remove 65535"),
+    (Act::Stop, "stop"),
+    (Act::SetSize(16777216), "size 16777216"),
+    (Act::Read { now: 70, count: 4 }, "read 4 at=70"),
+    (Act::Poll { now: 12 }, "poll at=12"),
+    (
+        Act::Pass {
+            input: Input::Frontend,
+            first: 128,
+            count: 64,
+            now: 5,
+        },
+        "pass input=frontend first=128 count=64 at=5",
+    ),
+    (
+        Act::Pass {
+            input: Input::Dvr,
+            first: 0,
+            count: 1,
+            now: 0,
+        },
+        "pass input=dvr first=0 count=1 at=0",
+    ),
+    (Act::End, "end"),
+];
+
 #[test]
 fn each_call_has_its_text(rt: HostRuntime) -> Result<(), Fail> {
     let alloc = rt.alloc();
-    let cases: [(Act, &str); 13] = [
-        (Act::Open, "open"),
-        (Act::Close, "close"),
-        (
-            pes(256, Input::Frontend, Output::TsdemuxTap, 20, 0),
-            "pes pid=256 input=frontend output=tsdemux_tap type=20 flags=0 at=3",
-        ),
-        (
-            pes(0, Input::Dvr, Output::Tap, 1, 4),
-            "pes pid=0 input=dvr output=tap type=1 flags=4 at=3",
-        ),
-        (
-            pes(65535, Input::Frontend, Output::TsTap, 0, 4294967295),
-            "pes pid=65535 input=frontend output=ts_tap type=0 flags=4294967295 at=3",
-        ),
-        (
-            pes(8192, Input::Frontend, Output::Decoder, 21, 1),
-            "pes pid=8192 input=frontend output=decoder type=21 flags=1 at=3",
-        ),
-        (
-            Act::Start {
-                now: 18446744073709551615,
-            },
-            "start at=18446744073709551615",
-        ),
-        (Act::Stop, "stop"),
-        (Act::SetSize(16777216), "size 16777216"),
-        (Act::Read { now: 70, count: 4 }, "read 4 at=70"),
-        (
-            Act::Pass {
-                input: Input::Frontend,
-                first: 128,
-                count: 64,
-                now: 5,
-            },
-            "pass input=frontend first=128 count=64 at=5",
-        ),
-        (
-            Act::Pass {
-                input: Input::Dvr,
-                first: 0,
-                count: 1,
-                now: 0,
-            },
-            "pass input=dvr first=0 count=1 at=0",
-        ),
-        (Act::End, "end"),
-    ];
-    for (act, want) in cases {
+    for (act, want) in CALLS.iter() {
         let mut text = String::new(alloc);
-        add_entry(&mut text, &told(2, 3, 1, act, Reply::Passed))?;
+        add_entry(&mut text, &told(2, 3, 1, *act, Reply::Passed))?;
         assert_eq!(rt; text, format!(in alloc; "2 c2 1 {want} = passed\n")?);
+    }
+    Ok(())
+}
+
+// The PID, the timeout, the flags, the moment, the places of the filter that aren't 0, and the text.
+type Section = (
+    u16,
+    u32,
+    u32,
+    u64,
+    &'static [(usize, u8, u8, u8)],
+    &'static str,
+);
+
+static SECTIONS: [Section; 6] = [
+    (17, 0, 1, 5, &[], "section pid=17 timeout=0 flags=1 at=5"),
+    (
+        0,
+        100,
+        7,
+        0,
+        &[(0, 0x42, 0xff, 0), (2, 0x01, 0x0f, 0), (3, 0, 0, 0xa0)],
+        "section pid=0 timeout=100 flags=7 at=0 0=42/ff/00 2=01/0f/00 3=00/00/a0",
+    ),
+    (
+        8191,
+        0,
+        0,
+        3,
+        &[(1, 0, 0x80, 0), (10, 0x0a, 0, 0), (15, 0xff, 0xff, 0xff)],
+        "section pid=8191 timeout=0 flags=0 at=3 1=00/80/00 10=0a/00/00 15=ff/ff/ff",
+    ),
+    (
+        65535,
+        4294967295,
+        4294967295,
+        18446744073709551615,
+        &[(15, 1, 0, 0)],
+        "section pid=65535 timeout=4294967295 flags=4294967295 at=18446744073709551615 15=01/00/00",
+    ),
+    (
+        1,
+        2,
+        3,
+        4,
+        &[(0, 0, 0xff, 0xff)],
+        "section pid=1 timeout=2 flags=3 at=4 0=00/ff/ff",
+    ),
+    (
+        256,
+        0,
+        0,
+        0,
+        &[
+            (0, 0, 0, 1),
+            (1, 0, 0, 1),
+            (2, 0, 0, 1),
+            (3, 0, 0, 1),
+            (4, 0, 0, 1),
+            (5, 0, 0, 1),
+            (6, 0, 0, 1),
+            (7, 0, 0, 1),
+            (8, 0, 0, 1),
+            (9, 0, 0, 1),
+            (10, 0, 0, 1),
+            (11, 0, 0, 1),
+            (12, 0, 0, 1),
+            (13, 0, 0, 1),
+            (14, 0, 0, 1),
+            (15, 0, 0, 1),
+        ],
+        "section pid=256 timeout=0 flags=0 at=0 0=00/00/01 1=00/00/01 2=00/00/01 3=00/00/01 4=00/00/01 5=00/00/01 6=00/00/01 7=00/00/01 8=00/00/01 9=00/00/01 10=00/00/01 11=00/00/01 12=00/00/01 13=00/00/01 14=00/00/01 15=00/00/01",
+    ),
+];
+
+// The filter with these places.
+fn filter_of(places: &[(usize, u8, u8, u8)]) -> SectionFilter {
+    let mut all = SectionFilter {
+        filter: [0; 16],
+        mask: [0; 16],
+        mode: [0; 16],
+    };
+    for (place, filter, mask, mode) in places {
+        let i = *place % 16;
+        all.filter[i] = *filter;
+        all.mask[i] = *mask;
+        all.mode[i] = *mode;
+    }
+    all
+}
+
+#[test]
+fn a_section_filter_has_its_text(rt: HostRuntime) -> Result<(), Fail> {
+    let alloc = rt.alloc();
+    for (pid, timeout, flags, now, places, want) in SECTIONS.iter() {
+        let act = Act::SetFilter {
+            params: SectionParams {
+                pid: *pid,
+                filter: filter_of(places),
+                timeout: *timeout,
+                flags: *flags,
+            },
+            now: *now,
+        };
+        let mut text = String::new(alloc);
+        add_entry(&mut text, &told(0, 8, 2, act, Reply::Passed))?;
+        assert_eq!(rt; text, format!(in alloc; "0 c7 2 {want} = passed\n")?);
     }
     Ok(())
 }
@@ -118,7 +242,7 @@ fn each_call_has_its_text(rt: HostRuntime) -> Result<(), Fail> {
 #[test]
 fn each_reply_has_its_text(rt: HostRuntime) -> Result<(), Fail> {
     let alloc = rt.alloc();
-    let cases: [(Reply, &str); 16] = [
+    let cases: [(Reply, &str); 20] = [
         (done(0, 0), "done drop=0..0 tap=keep"),
         (done(376, 564), "done drop=376..564 tap=keep"),
         (Reply::Busy { owner: 1 }, "busy owner=c0"),
@@ -142,6 +266,26 @@ fn each_reply_has_its_text(rt: HostRuntime) -> Result<(), Fail> {
                 room: 0,
             },
             "overflow 0..564 item=2 need=188 room=0",
+        ),
+        (
+            Reply::TimedOut {
+                started: 10,
+                now: 110,
+                timeout: 100,
+            },
+            "timedout started=10 now=110 timeout=100",
+        ),
+        (
+            ready(false, PollError::Quiet, 0, false),
+            "ready readable=0 error=none at=0 ended=0",
+        ),
+        (
+            ready(true, PollError::Overflow, 376, true),
+            "ready readable=1 error=overflow at=376 ended=1",
+        ),
+        (
+            ready(true, PollError::TimedOut, 0, false),
+            "ready readable=1 error=timedout at=0 ended=0",
         ),
         (Reply::Passed, "passed"),
     ];
@@ -208,13 +352,6 @@ fn a_node_has_its_entries_in_their_order(rt: HostRuntime) -> Result<(), Fail> {
 
 // What the definitions say of calls and replies that no code makes yet, at single values.
 fn calls_to_come()
-    ensures section_without_bytes { act_text (SetFilterAct (record { pid = 17; filter = record { filter = []; mask = []; mode = [] }; timeout = 0; flags = 1 }) 5)
-        ≡ codes "section pid=17 timeout=0 flags=1 at=5" }
-    ensures section_with_bytes { act_text (SetFilterAct (record { pid = 0; filter = record { filter = 66 ∷ 0 ∷ 1 ∷ []; mask = 255 ∷ 0 ∷ 15 ∷ 0 ∷ []; mode = 0 ∷ 0 ∷ 0 ∷ 160 ∷ [] }; timeout = 100; flags = 7 }) 0)
-        ≡ codes "section pid=0 timeout=100 flags=7 at=0 0=42/ff/00 2=01/0f/00 3=00/00/a0" }
-    ensures add { act_text (AddPidAct 257) ≡ codes "add 257" }
-    ensures remove { act_text (RemovePidAct 257) ≡ codes "remove 257" }
-    ensures poll { act_text (PollAct 12) ≡ codes "poll at=12" }
     ensures attach_none { act_text (AttachAct 4 []) ≡ codes "attach node=4 pids=-" }
     ensures attach { act_text (AttachAct 31 (0 ∷ 256 ∷ 8191 ∷ [])) ≡ codes "attach node=31 pids=0,256,8191" }
     ensures detach { act_text (DetachAct 4) ≡ codes "detach node=4" }
@@ -225,10 +362,6 @@ fn replies_to_come()
     ensures attach_none { response_text (Done 0 0 (AttachTap [])) ≡ codes "done drop=0..0 tap=attach:-" }
     ensures attach_more { response_text (Done 0 0 (AttachTap (1 ∷ 2 ∷ 3 ∷ []))) ≡ codes "done drop=0..0 tap=attach:1,2,3" }
     ensures detach { response_text (Done 5 6 DetachTap) ≡ codes "done drop=5..6 tap=detach" }
-    ensures timed_out { response_text (TimedOut 10 110 100) ≡ codes "timedout started=10 now=110 timeout=100" }
-    ensures nothing_ready { response_text (Ready false pending.Quiet 0 false) ≡ codes "ready readable=0 error=none at=0 ended=0" }
-    ensures overflow_ready { response_text (Ready true pending.Overflow 376 true) ≡ codes "ready readable=1 error=overflow at=376 ended=1" }
-    ensures timeout_ready { response_text (Ready false pending.TimedOut 0 true) ≡ codes "ready readable=0 error=timedout at=0 ended=1" }
 {}
 
 #[test]

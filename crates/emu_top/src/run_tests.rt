@@ -661,6 +661,97 @@ fn calls_and_refusals_stand_in_their_order(rt: HostRuntime) -> Result<(), Fail> 
     Ok(())
 }
 
+#[test]
+fn each_call_is_told_with_its_caller_and_its_moment(rt: HostRuntime) -> Result<(), Fail> {
+    let cases: [Case; 2] = [
+        // Three clients, and ticks beyond 32 bits.
+        (
+            "1",
+            &[
+                (
+                    b"c1 open n0\n\
+                    tick 5\n\
+                    c1 section n0 17 0 0 2=01/0f/00\n\
+                    c0 open n0\n\
+                    c1 start n0\n\
+                    feed 1\n\
+                    tick 4294967295\n\
+                    tick 1\n\
+                    c1 poll n0\n\
+                    c7 stop n0\n\
+                    stream\n",
+                    0,
+                    0,
+                ),
+                FIRST,
+                OTHER,
+            ],
+            &[(
+                b"dvbemu 1\n\
+                    packets=2 skipped=0 rest=0\n\
+                    node 0\n\
+                    0 c1 0 open = done drop=0..0 tap=keep\n\
+                    1 c1 1 section pid=17 timeout=0 flags=0 at=5 2=01/0f/00 = done drop=0..0 tap=keep\n\
+                    2 c0 0 open = busy owner=c1\n\
+                    3 c1 2 start at=5 = done drop=0..0 tap=keep\n\
+                    4 feed 0 pass input=frontend first=0 count=1 at=5 = passed\n\
+                    5 c1 3 poll at=4294967301 = ready readable=0 error=none at=0 ended=0\n\
+                    6 c7 0 stop = EBADF\n\
+                    7 feed 1 pass input=frontend first=1 count=1 at=4294967301 = passed\n\
+                    8 feed 2 end = passed\n\
+                    end\n",
+                0,
+                0,
+            )],
+        ),
+        // A timeout of 100 milliseconds, started at moment 5.
+        (
+            "64",
+            &[
+                (
+                    b"c0 open n0\n\
+                    c0 section n0 256 100 0\n\
+                    tick 5\n\
+                    c0 start n0\n\
+                    tick 99\n\
+                    feed 1\n\
+                    c0 read n0 4096\n\
+                    tick 1\n\
+                    c0 read n0 4096\n\
+                    c0 read n0 4096\n\
+                    stream\n",
+                    0,
+                    0,
+                ),
+                (b"\x47\x01\x2c\x10", 184, 0),
+            ],
+            &[(
+                b"dvbemu 1\n\
+                    packets=1 skipped=0 rest=0\n\
+                    node 0\n\
+                    0 c0 0 open = done drop=0..0 tap=keep\n\
+                    1 c0 1 section pid=256 timeout=100 flags=0 at=0 = done drop=0..0 tap=keep\n\
+                    2 c0 2 start at=5 = done drop=0..0 tap=keep\n\
+                    3 feed 0 pass input=frontend first=0 count=1 at=104 = passed\n\
+                    4 c0 3 read 4096 at=104 = again ended=0\n\
+                    5 c0 4 read 4096 at=105 = timedout started=5 now=105 timeout=100\n\
+                    6 c0 5 read 4096 at=105 = again ended=0\n\
+                    7 feed 1 end = passed\n\
+                    end\n",
+                0,
+                0,
+            )],
+        ),
+    ];
+    for (case, (batch, parts, want)) in cases.into_iter().enumerate() {
+        let (status, written) = told(rt.alloc(), &["steps", "--batch", batch], parts)?;
+        assert!(rt; status == Status::Ok, "case {case}");
+        let want = input_of(rt.alloc(), want)?;
+        assert_eq!(rt; written.as_slice(), want.as_slice(), "case {case}");
+    }
+    Ok(())
+}
+
 // The sessions of the folder examples, each with the report that stands beside it.
 #[test]
 fn the_examples_give_their_reports(rt: HostRuntime) -> Result<(), Fail> {

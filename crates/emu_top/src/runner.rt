@@ -1,11 +1,11 @@
 // A script, run on one thread.
-ghost use Rattle.std.specs.Prelude.{◌≡◌, ℕ, ◌+◌, ◌<◌, ◌≤◌, ◌^◌, List, [], ◌∷◌, ◌++◌, length, take, drop, map, All, IfOk, OnOk};
+ghost use Rattle.std.specs.Prelude.{◌≡◌, ℕ, ◌+◌, ◌<◌, ◌≤◌, ◌^◌, List, [], ◌∷◌, ◌++◌, length, take, drop, map, slice_index, slice_set, All, IfOk, OnOk};
 ghost use Rattle.dmx_calls.specs.History.{History};
 ghost use Rattle.dmx_calls.specs.Calls.{invocation_of, response_of, told_entry};
 ghost use Rattle.dmx_calls.specs.Log.{log_of, calls_of};
 ghost use Rattle.node_core.specs.Stands.{StandsFor, IsBuilt};
 ghost use Rattle.emu_top.specs.Script.{IsVerbInRange, IsInRange};
-ghost use Rattle.emu_top.specs.SerialRun.{Run, answered, called, passed, all_passed, ended, fed, asked, done, finished, serial_run};
+ghost use Rattle.emu_top.specs.SerialRun.{Run, answered, called, passed, all_passed, ended, fed, ticked, asked, done, finished, serial_run};
 ghost use Rattle.emu_top.specs.Runner.{IsAt, Counts};
 
 use crate::script::{Line, Verb};
@@ -28,9 +28,10 @@ pub struct Runner<'a> {
     pub packets: &'a [Packet],
     // The number of the first of these packets in the stream.
     pub first: u64,
-    // How many calls the feeder and the client have made.
-    pub feeds: u64,
-    pub calls: u64,
+    // The moment, in milliseconds.
+    pub moment: u64,
+    // How many calls each caller has made: the feeder, and the clients in their order.
+    pub calls: [u64; 9],
     pub has_ended: bool,
 }
 
@@ -63,17 +64,19 @@ impl<'a> Runner<'a> {
     fn call<L: Ledger>(
         &mut self,
         who: u32,
-        step: u64,
         call: Call,
         steps: &mut Steps<L>,
     ) -> Result<(), NoMemory>
         requires few { self.old.node.entries < 2 ^ 50 }
         requires counts { Counts self.old }
+        requires caller { who < 9 }
         requires built { IsBuilt (invocation_of call) }
-        ensures stands { OnOk result ((h : History) → StandsFor self.old.node h → map told_entry self.old.entries.items ≡ log_of 0 h → step ≡ calls_of who h
+        ensures stands { OnOk result ((h : History) → StandsFor self.old.node h → map told_entry self.old.entries.items ≡ log_of 0 h → slice_index self.old.calls who ≡ calls_of who h
             → StandsFor self.new.node (answered who (invocation_of call) h) × (map told_entry self.new.entries.items ≡ log_of 0 (answered who (invocation_of call) h))) }
+        ensures counts { OnOk result (Counts self.new) }
+        ensures one_more { OnOk result (self.new.calls ≡ slice_set self.old.calls who (slice_index self.old.calls who + 1)) }
         ensures rises { OnOk result (self.new.node.entries ≡ self.old.node.entries + 1) }
-        ensures keeps { OnOk result ((self.new.packets ≡ self.old.packets) × (self.new.first ≡ self.old.first) × (self.new.feeds ≡ self.old.feeds) × (self.new.calls ≡ self.old.calls) × (self.new.has_ended ≡ self.old.has_ended)) }
+        ensures keeps { OnOk result ((self.new.packets ≡ self.old.packets) × (self.new.first ≡ self.old.first) × (self.new.moment ≡ self.old.moment) × (self.new.has_ended ≡ self.old.has_ended)) }
     {
         let place = self.node.entries();
         let act = Act::of(&call);
@@ -82,6 +85,7 @@ impl<'a> Runner<'a> {
             return Err(NoMemory);
         }
         let reply = fitted(self.alloc, answer.reply)?;
+        let step = self.calls[who as usize];
         self.entries.push(Entry {
             node: 0,
             place,
@@ -90,6 +94,7 @@ impl<'a> Runner<'a> {
             act,
             reply,
         })?;
+        self.calls[who as usize] += 1;
         Ok(())
     }
 
@@ -106,16 +111,16 @@ impl<'a> Runner<'a> {
         ensures rises { OnOk result (self.new.node.entries ≡ self.old.node.entries + 1) }
         ensures left { OnOk result (self.new.packets.now ≡ drop size self.old.packets.now) }
         ensures first { OnOk result (self.new.first ≡ self.old.first + size) }
+        ensures moment { OnOk result (self.new.moment ≡ self.old.moment) }
     {
         let (now, later) = self.packets.split_at(size);
         let batch = batch_of(self.alloc, self.first, now)?;
         let call = Call::Pass {
             input: Input::Frontend,
             batch,
-            now: 0,
+            now: self.moment,
         };
-        self.call(0, self.feeds, call, steps)?;
-        self.feeds += 1;
+        self.call(0, call, steps)?;
         self.first += size as u64;
         self.packets = later;
         Ok(())
@@ -139,6 +144,7 @@ impl<'a> Runner<'a> {
         ensures rises { OnOk result (self.new.node.entries ≤ self.old.node.entries + count) }
         ensures left { OnOk result (self.new.packets.now ≡ drop count self.old.packets.now) }
         ensures first { OnOk result (self.new.first ≡ self.old.first + count) }
+        ensures moment { OnOk result (self.new.moment ≡ self.old.moment) }
     {
         let mut left = count;
         'batches: while left > 0 {
@@ -158,12 +164,12 @@ impl<'a> Runner<'a> {
         ensures rises { OnOk result (self.new.node.entries ≤ self.old.node.entries + 1) }
         ensures left { OnOk result (self.new.packets.now ≡ self.old.packets.now) }
         ensures first { OnOk result (self.new.first ≡ self.old.first) }
+        ensures moment { OnOk result (self.new.moment ≡ self.old.moment) }
     {
         if self.has_ended {
             return Ok(());
         }
-        self.call(0, self.feeds, Call::End, steps)?;
-        self.feeds += 1;
+        self.call(0, Call::End, steps)?;
         self.has_ended = true;
         Ok(())
     }
@@ -184,6 +190,7 @@ impl<'a> Runner<'a> {
         ensures counts { OnOk result (Counts self.new) }
         ensures rises { OnOk result (self.new.node.entries + self.old.first ≤ self.old.node.entries + self.new.first + 1) }
         ensures whole { OnOk result (self.new.first + length self.new.packets.now ≡ self.old.first + length self.old.packets.now) }
+        ensures moment { OnOk result (self.new.moment ≡ self.old.moment) }
     {
         if count <= self.packets.len() {
             self.pass_all(batch, count, steps)
@@ -203,26 +210,45 @@ impl<'a> Runner<'a> {
         ensures counts { OnOk result (Counts self.new) }
         ensures rises { OnOk result (self.new.node.entries + self.old.first ≤ self.old.node.entries + self.new.first + 1) }
         ensures whole { OnOk result (self.new.first + length self.new.packets.now ≡ self.old.first + length self.old.packets.now) }
+        ensures moment { OnOk result (self.new.moment ≡ self.old.moment) }
     {
         self.pass_all(batch, self.packets.len(), steps)?;
         self.end(steps)
     }
 
-    // The client makes the call of a command.
-    fn command<L: Ledger>(&mut self, verb: Verb, steps: &mut Steps<L>) -> Result<(), NoMemory>
+    // A client makes the call of a command.
+    fn command<L: Ledger>(
+        &mut self,
+        client: u32,
+        verb: Verb,
+        steps: &mut Steps<L>,
+    ) -> Result<(), NoMemory>
         requires few { self.old.node.entries < 2 ^ 50 }
         requires counts { Counts self.old }
+        requires client { client ≤ 7 }
         requires range { IsVerbInRange verb }
-        ensures at { OnOk result ((r : Run) → IsAt self.old r → IsAt self.new (called 1 (asked verb) r)) }
+        ensures at { OnOk result ((r : Run) → IsAt self.old r → IsAt self.new (called (client + 1) (asked verb r.moment) r)) }
         ensures counts { OnOk result (Counts self.new) }
         ensures rises { OnOk result (self.new.node.entries ≡ self.old.node.entries + 1) }
         ensures left { OnOk result (self.new.packets.now ≡ self.old.packets.now) }
         ensures first { OnOk result (self.new.first ≡ self.old.first) }
+        ensures moment { OnOk result (self.new.moment ≡ self.old.moment) }
     {
-        let call = call_of(self.alloc, verb)?;
-        self.call(1, self.calls, call, steps)?;
-        self.calls += 1;
-        Ok(())
+        let call = call_of(self.alloc, verb, self.moment)?;
+        self.call(client + 1, call, steps)
+    }
+
+    // So many milliseconds go by.
+    fn tick(&mut self, time: u32)
+        requires late { self.old.moment + 2 ^ 32 ≤ 2 ^ 64 }
+        ensures at { (r : Run) → IsAt self.old r → IsAt self.new (ticked time r) }
+        ensures counts { Counts self.old → Counts self.new }
+        ensures rises { self.new.node.entries ≡ self.old.node.entries }
+        ensures left { self.new.packets.now ≡ self.old.packets.now }
+        ensures first { self.new.first ≡ self.old.first }
+        ensures moment { self.new.moment ≡ self.old.moment + time }
+    {
+        self.moment += time as u64;
     }
 
     // A line is done.
@@ -235,6 +261,7 @@ impl<'a> Runner<'a> {
         requires few { self.old.node.entries + length self.old.packets.now + 1 < 2 ^ 50 }
         requires counts { Counts self.old }
         requires numbered { self.old.first + length self.old.packets.now + 64 < 2 ^ 64 }
+        requires late { self.old.moment + 2 ^ 32 ≤ 2 ^ 64 }
         requires some { 0 < batch }
         requires most { batch ≤ 64 }
         requires range { IsInRange line }
@@ -242,31 +269,40 @@ impl<'a> Runner<'a> {
         ensures counts { OnOk result (Counts self.new) }
         ensures rises { OnOk result (self.new.node.entries + self.old.first ≤ self.old.node.entries + self.new.first + 1) }
         ensures whole { OnOk result (self.new.first + length self.new.packets.now ≡ self.old.first + length self.old.packets.now) }
+        ensures moment { OnOk result (self.new.moment < self.old.moment + 2 ^ 32) }
     {
         match line {
             Line::Feed(count) => self.feed(batch, count as usize, steps),
-            Line::Command(verb) => self.command(verb, steps),
+            Line::Tick(time) => {
+                self.tick(time);
+                Ok(())
+            }
+            Line::Command { client, verb } => self.command(client, verb, steps),
         }
     }
 }
 
-// The call of a command, at moment 0.
-fn call_of(alloc: Global, verb: Verb) -> Result<Call, NoMemory>
+// The call of a command at this moment.
+fn call_of(alloc: Global, verb: Verb, now: u64) -> Result<Call, NoMemory>
     requires { IsVerbInRange verb }
-    ensures asked { IfOk result (λ call. invocation_of call ≡ asked verb) }
+    ensures asked { IfOk result (λ call. invocation_of call ≡ asked verb now) }
     ensures built { IfOk result (λ call. IsBuilt (invocation_of call)) }
 {
     Ok(match verb {
         Verb::Open => Call::Open,
         Verb::Close => Call::Close,
-        Verb::Pes(params) => Call::SetPes { params, now: 0 },
-        Verb::Start => Call::Start { now: 0 },
+        Verb::Section(params) => Call::SetFilter { params, now },
+        Verb::Pes(params) => Call::SetPes { params, now },
+        Verb::Add(pid) => Call::AddPid(pid),
+        Verb::Remove(pid) => Call::RemovePid(pid),
+        Verb::Start => Call::Start { now },
         Verb::Stop => Call::Stop,
         Verb::Size(size) => Call::SetSize(size),
         Verb::Read(count) => Call::Read {
-            now: 0,
+            now,
             buf: ByteBuf::new(alloc, count)?,
         },
+        Verb::Poll => Call::Poll { now },
     })
 }
 
@@ -295,8 +331,8 @@ fn run_counted<L: Ledger>(
         entries: Vec::new(alloc),
         packets,
         first: 0,
-        feeds: 0,
-        calls: 0,
+        moment: 0,
+        calls: [0; 9],
         has_ended: false,
     };
     'lines: for line in lines {

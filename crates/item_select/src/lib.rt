@@ -3,18 +3,15 @@
 //! A `Selector` is given a filter (Linux media API, Digital TV demux, DMX_SET_FILTER and DMX_SET_PES_FILTER), is offered
 //! packets one by one, and lends each item as soon as the packet that completes it was offered.
 //!
-//! What a contract sees: a selector is what it keeps between two calls (`specs/Selecting.antt`): what is selected, the
-//! PIDs, what the assembler of a section filter holds, and the items that are ready.
+//! What a contract sees: what a selector keeps between two calls (`specs/Selecting.antt`): the filter, its PIDs, what the
+//! assembler of a section filter holds, and the items that are ready.
 //!
-//! What is proved, against `items_of` over the whole list of packets, each with the PIDs of its moment
-//! (`specs/Items.antt`):
+//! What is proved, against `items_of` over the whole list of packets, each with the PIDs of its moment (`specs/Items.antt`):
 //! - `offer` and `item` hand out the items of all packets offered since the filter began, in order, each once, and `item`
-//!   answers None exactly where no further one lies in them. An item has 1 to 4096 bytes, and all together have at most
-//!   188 a packet.
-//! - The calls that set a filter, and `restart`, begin with no packets. `set_pids` leaves the packets offered before it
-//!   as they were named then.
-//! - Laws: packets offered in a row, each item taken before the next packet, give all their items; after its one section
-//!   a one-shot filter has no further item, whatever packets follow.
+//!   answers None exactly where no further one lies in them. An item has 1 to 4096 bytes, and all have 188 a packet at most.
+//! - The calls that set a filter, and `restart`, begin with no packets. `set_pids` leaves those offered before as they were.
+//! - Laws: packets in a row, each item taken before the next packet, give all their items; a one-shot filter that has given
+//!   its section has no further item, whatever packets follow.
 //!
 //! What is only tested: that ample memory is enough.
 //!

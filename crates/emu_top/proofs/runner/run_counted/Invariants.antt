@@ -1,4 +1,4 @@
-use Rattle.std.proofs.Common.{◌≡◌, ℕ, ◌+◌, ◌≤◌, List, fold, length, take}
+use Rattle.std.proofs.Common.{◌≡◌, ℕ, ◌+◌, ◌*◌, ◌^◌, ◌≤◌, List, fold, length, take}
 use Rattle.emu_top.specs.declared.runner.Runner.{Runner}
 use Rattle.emu_top.specs.declared.script.Line.{Line}
 use Rattle.emu_top.specs.SerialRun.{begun, done}
@@ -10,6 +10,7 @@ pub record Running (batch : ℕ) (lines : List Line) (packets : List (List ℕ))
   pub at : IsAt now (fold (done batch) (begun packets) (take i lines))
   pub counts : Counts now
   pub few : now.node.entries ≤ i + now.first
+  pub moment : now.moment ≤ i * 2 ^ 32
   pub whole : now.first + length now.packets.now ≡ length packets
 
 abbrev pub invariant-lines : goal.invariant-lines

@@ -19,4 +19,5 @@ batches-preserved g c =
       rises = omega arith;
       packets = k.left ∙ (ap (drop c.min-size.result) i.packets ∙ (drop-drop c.min-size.result (c.args.count - c.batches.left) _ ∙ ap (λ n. drop n c.args.self.now.packets.now) sum));
       first = k.first ∙ (ap (λ n. n + c.min-size.result) i.first ∙ omega arith);
+      moment = k.moment ∙ i.moment;
     }

@@ -12,6 +12,7 @@ pub record Passing (batch count left : ℕ) (start now : Runner) : Type 0 where
   pub rises : now.node.entries ≤ start.node.entries + (count - left)
   pub packets : now.packets.now ≡ drop (count - left) start.packets.now
   pub first : now.first ≡ start.first + (count - left)
+  pub moment : now.moment ≡ start.moment
 
 abbrev pub invariant-batches : goal.invariant-batches
 invariant-batches g l = Passing l.batch l.count l.left l.initial.self l.self
