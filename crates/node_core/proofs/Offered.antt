@@ -1,5 +1,5 @@
 -- Packets that are offered one by one, and the same packets at once.
-use Rattle.std.proofs.Common.{ℕ, zero, suc, ◌+◌, ◌≡◌, refl, sym, ◌∙◌, ap, Bool, List, [], ◌∷◌, ◌++◌, Option, Some, None, drop, add-one}
+use Rattle.std.proofs.Common.{ℕ, zero, suc, ◌+◌, ◌≡◌, refl, ap, Bool, List, [], ◌∷◌, ◌++◌, Option, Some, None, drop, add-one}
 use Rattle.std.specs.Prelude.{slice_get, option_map}
 use Rattle.dmx_calls.specs.Facts.{Ledger}
 use Rattle.item_select.specs.Selecting.{Selecting, after_offer, all_given, items_found, kept_after}

@@ -1,8 +1,6 @@
-use Rattle.std.proofs.Common.{◌≡◌, ◌≤◌, ◌-◌, [], length, drop, arith, refl, sym, ◌∙◌, ap}
-use Rattle.std.specs.Prelude.{option_map}
+use Rattle.std.proofs.Common.{◌≡◌, ◌-◌, [], drop, arith, refl, ◌∙◌, ap}
 use Rattle.std.proofs.lemmas.List.{drop_all}
-use Rattle.item_select.specs.Selecting.{items_found, kept_after}
-use Rattle.node_core.specs.Step.{with_items}
+use Rattle.item_select.specs.Selecting.{kept_after}
 use Rattle.node_core.proofs.Offered.{kept-next, items-next, none-left}
 use Rattle.node_core.proofs.offer.offer_all.Goals as goal
 

@@ -1,5 +1,4 @@
-use Rattle.std.proofs.Common.{◌≡◌, ◌∙◌, ap, sym, Some}
-use Rattle.dmx_calls.specs.declared.node.State.TheVariants.{Go}
+use Rattle.std.proofs.Common.{◌∙◌, ap, sym}
 use Rattle.dmx_calls.specs.Calls.{params_of}
 use Rattle.dmx_calls.specs.Facts.{state_of, state_of_filter}
 use Rattle.node_core.specs.KeptView.{knows_in}
