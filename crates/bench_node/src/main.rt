@@ -11,7 +11,7 @@
 //! that the node has. What it prints is tested, by its run and by `bench/node`.
 #![tactic(auto)]
 
-ghost use Rattle.std.specs.Prelude.{◌≡◌, ◌×◌, ◌<◌, ◌+◌, ◌^◌, length, OnOk};
+ghost use Rattle.std.specs.Prelude.{◌≡◌, ◌<◌, ◌+◌, ◌^◌, length, OnOk};
 ghost use Rattle.ts_packet.specs.Cutting.{bytes_taken};
 
 mod station;

@@ -1,6 +1,6 @@
 // A node that packets pass, and that is read.
 
-ghost use Rattle.std.specs.Prelude.{◌≡◌, ◌×◌, ◌<◌, false};
+ghost use Rattle.std.specs.Prelude.{◌≡◌, ◌<◌, false};
 ghost use Rattle.dmx_calls.specs.Calls.{invocation_of};
 ghost use Rattle.node_core.specs.Sound.{is_ts_tap};
 ghost use Rattle.node_core.specs.Stands.{IsBuilt};
