@@ -89,6 +89,9 @@ fn filter_of(word: Option<&str>) -> Option<Filter> {
 fn main(rt: HostRuntime) -> anyhow::Result<()> {
     let word = env::args(&rt)?.nth(1);
     let given = measure::<Brand>(&rt, filter_of(word.as_deref()), Blank::new(1))?;
-    println!(rt; "reads={} bytes={} sum={}", given.reads, given.bytes, given.sum)?;
+    println!(rt;
+        "reads={} bytes={} sum={}",
+        given.reads, given.bytes, given.sum
+    )?;
     Ok(())
 }

@@ -125,10 +125,12 @@ impl<L: Ledger> Station<L> {
         requires { IsBuilt (invocation_of call) }
     {
         match self.call(call) {
-            Some(Answer {
-                reply: Reply::Done { .. },
-                ..
-            }) => Ok(()),
+            Some(
+                Answer {
+                    reply: Reply::Done { .. },
+                    ..
+                },
+            ) => Ok(()),
             _ => Err(NoMemory),
         }
     }
@@ -166,10 +168,10 @@ impl<L: Ledger> Station<L> {
     pub fn read_all(&mut self) -> Result<(), NoMemory> {
         let mut buf = ByteBuf::new(self.alloc, LARGEST_READ)?;
         'reads: for _ in 0..SIZE {
-            let Some(answer) = self.call(Call::Read { now: 0, buf }) else {
+            let Some(Answer { reply, .. }) = self.call(Call::Read { now: 0, buf }) else {
                 break;
             };
-            let Reply::Data(mut filled) = answer.reply else {
+            let Reply::Data(mut filled) = reply else {
                 break;
             };
             self.count(filled.bytes());
