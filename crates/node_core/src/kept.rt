@@ -137,7 +137,7 @@ impl Kept {
         }
     }
 
-    /// The caller becomes the owner.
+    /// open(): the caller becomes the owner. A node has one owner, by this project's rule.
     pub fn open(&mut self, alloc: Global, who: u32) -> Reply
         requires { IsSound (knows_of self.old) }
         ensures said { Gives (knows_of self.old) who Open (response_of result) }
@@ -159,7 +159,7 @@ impl Kept {
         }
     }
 
-    /// The node becomes free.
+    /// close(): the node becomes free, and its filter, size and unread bytes are gone.
     pub fn close(&mut self) -> Reply
         requires sound { IsSound (knows_of self.old) }
         requires taken { IsTaken (knows_of self.old) Close }
@@ -178,7 +178,7 @@ impl Kept {
         }
     }
 
-    /// A section filter is set.
+    /// DMX_SET_FILTER: a section filter is set.
     pub fn set_filter(&mut self, params: SectionParams, now: u64) -> Reply
         requires sound { IsSound (knows_of self.old) }
         requires taken { IsTaken (knows_of self.old) (SetFilter params now) }
@@ -193,7 +193,7 @@ impl Kept {
         }
     }
 
-    /// A PES filter is set.
+    /// DMX_SET_PES_FILTER: a filter of packets is set.
     pub fn set_pes(&mut self, params: PesParams, now: u64) -> Reply
         requires sound { IsSound (knows_of self.old) }
         requires taken { IsTaken (knows_of self.old) (SetPes params now) }
@@ -212,7 +212,7 @@ impl Kept {
         }
     }
 
-    /// A PID is added to a PES filter.
+    /// DMX_ADD_PID: a PID is added, from the next packet on.
     pub fn add_pid(&mut self, pid: u16) -> Reply
         requires sound { IsSound (knows_of self.old) }
         requires taken { IsTaken (knows_of self.old) (AddPid pid) }
@@ -225,6 +225,7 @@ impl Kept {
             None => unreachable!(),
             Some(tenure) => match &mut tenure.params {
                 Params::Pes { params, pids } => {
+                    // a full set was refused
                     let _ = pids.add(pid);
                     rename(&mut tenure.selector, params, pids);
                     done(NOTHING)
@@ -234,7 +235,7 @@ impl Kept {
         }
     }
 
-    /// A PID is removed from a PES filter.
+    /// DMX_REMOVE_PID: a PID is removed, from the next packet on.
     pub fn remove_pid(&mut self, pid: u16) -> Reply
         requires sound { IsSound (knows_of self.old) }
         requires taken { IsTaken (knows_of self.old) (RemovePid pid) }
@@ -256,7 +257,7 @@ impl Kept {
         }
     }
 
-    /// A capture begins.
+    /// DMX_START: a capture begins, and the selector begins anew with it.
     pub fn start(&mut self, now: u64) -> Reply
         requires sound { IsSound (knows_of self.old) }
         requires taken { IsTaken (knows_of self.old) (Start now) }
@@ -276,7 +277,7 @@ impl Kept {
         }
     }
 
-    /// The capture goes on without packets.
+    /// DMX_STOP: the capture goes on without packets.
     pub fn stop(&mut self) -> Reply
         requires sound { IsSound (knows_of self.old) }
         requires taken { IsTaken (knows_of self.old) Stop }
@@ -294,7 +295,7 @@ impl Kept {
         }
     }
 
-    /// Another size ends the capture. The size that the node has changes nothing.
+    /// DMX_SET_BUFFER_SIZE: another size ends the capture. The size that the node has changes nothing.
     pub fn set_size(&mut self, alloc: Global, size: u32) -> Reply
         requires sound { IsSound (knows_of self.old) }
         requires taken { IsTaken (knows_of self.old) (SetSize size) }
@@ -316,7 +317,7 @@ impl Kept {
         }
     }
 
-    /// The reply to a Read, with its buffer where the reply doesn't hold it. The filter may expire first.
+    /// read(): the reply, with its buffer where the reply doesn't hold it. The filter may expire first.
     pub fn read(&mut self, now: u64, buf: ByteBuf) -> (Reply, Option<ByteBuf>)
         requires sound { IsSound (knows_of self.old) }
         requires taken { IsTaken (knows_of self.old) (Read now buf.count) }
@@ -335,7 +336,7 @@ impl Kept {
         }
     }
 
-    /// The reply to a Poll. The filter may expire first.
+    /// poll(): the reply. The filter may expire first.
     pub fn poll(&mut self, now: u64) -> Reply
         requires sound { IsSound (knows_of self.old) }
         requires taken { IsTaken (knows_of self.old) (Poll now) }

@@ -1,22 +1,24 @@
 //! A demux node: an object on which calls are made one after another.
 //!
-//! What a contract sees: the record `CoreValue` of the node's number, how many calls were made on it, and the `Facts` of
-//! dmx_calls, which is what its history says to the next call. It keeps no history.
+//! What a contract sees: the record `CoreValue` of the node's number, how many calls were made on it, the `Facts` of
+//! dmx_calls, which are what its history says to the next call, and what its selector keeps. It keeps no history.
 //!
 //! What is proved: `new` stands for the empty history. For each history that the node stands for, the reply of `apply` is
-//! one that this history allows, and the node then stands for the history with that entry. So a refused call changes
-//! nothing, and after want of memory, which only Open and SetSize to another size can answer, all is as before. `apply`
-//! hands back the buffer of a Read unless the reply holds it, and the batch of a Pass always. A Pass takes at most a step
-//! for each packet, and none where the filter doesn't run; no other call takes one. `number` and `entries` are the node's.
+//! one that this history allows, it comes for the cause that `Causes` names, and the node then stands for the history with
+//! that entry. So a refused call changes nothing, and no filter expires by it. After want of memory, which only Open and
+//! SetSize to another size can answer, all is as before. `apply` hands back the buffer of a Read unless the reply holds
+//! it, and the batch of a Pass always. A Pass takes at most a step for each packet, and none where the filter doesn't run;
+//! no other call takes one. `number` and `entries` are the node's.
 //!
 //! What is only tested: that the rules are those meant, on replies worked by hand. What isn't proved: time. An item is
-//! copied once into the ring and once out of it.
+//! copied once into the ring and once out of it, and a section once more where it is selected.
 //!
-//! Limits: SetFilter, AddPid, RemovePid and Poll aren't built, nor filters whose packets go to the dvr node. Fewer than
-//! 2^50 calls come before a call. The room that Pass and Read need was taken by the last Open or SetSize.
+//! Limits: filters whose packets go to the dvr node aren't built. Fewer than 2^50 calls come before a call. The room that
+//! Pass and Read need was taken by the last Open or SetSize.
 //!
-//! Source: the Linux media API, chapter Digital TV demux: DMX_SET_PES_FILTER, DMX_START, DMX_STOP, DMX_SET_BUFFER_SIZE,
-//! read. Owners, the spans of lost and dropped bytes and the order of refusals are this project's rules.
+//! Source: the Linux media API, chapter Digital TV demux: open, close, read, poll, DMX_SET_FILTER, DMX_SET_PES_FILTER,
+//! DMX_ADD_PID, DMX_REMOVE_PID, DMX_START, DMX_STOP, DMX_SET_BUFFER_SIZE. Owners, the spans of lost and dropped bytes, one
+//! section a read, when a filter expires, and the order of refusals are this project's rules.
 #![tactic(auto)]
 
 mod filter;

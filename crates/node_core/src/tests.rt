@@ -4,8 +4,12 @@ ghost use Rattle.std.specs.Prelude.{◌≡◌, ◌<◌, ◌≤◌, ◌+◌, ◌^
 ghost use Rattle.dmx_calls.specs.Calls.{invocation_of};
 ghost use Rattle.node_core.specs.Stands.{IsBuilt};
 
+mod of_packets;
+mod of_sections;
+
 use crate::NodeCore;
-use dmx_calls::{ByteBuf, Call, Errno, Input, Output, PesParams, Reply};
+use dmx_calls::{ByteBuf, Call, Errno, Input, Output, PesParams, PollError, Reply, SectionParams};
+use filter_match::SectionFilter;
 use std::alloc::{AllocError as NoMemory, Global};
 use std::marker::Brand;
 use std::process::Abort;
@@ -25,7 +29,17 @@ enum Cell {
     NoPayload,
     /// A packet of PID 256 whose adaptation field of 182 bytes leaves the one byte 0xaa.
     OneByte,
+    /// A packet of this PID with this counter and payload_unit_start_indicator; its pointer_field is 0, and these bytes stand
+    /// from place 5 on.
+    U(u16, u8, &'static [u8]),
+    /// The first 183 bytes of the section of 203 bytes `40 00 c8 11 .. 11`, from place 5 of a packet of PID 256 on.
+    LongBegins,
+    /// Its last 20 bytes, from place 5 of the packet of PID 256 with this counter on, and then the section `A`.
+    LongEnds(u8),
 }
+
+/// A section of 8 bytes. Its section_syntax_indicator is 0, so it has no CRC.
+const A: &[u8] = &[0x42, 0x00, 0x05, 1, 2, 3, 4, 5];
 
 /// One call, or some packets that pass.
 #[derive(Clone, Copy, Drop)]
@@ -42,11 +56,22 @@ enum Step {
     Type(u32),
     /// Input DVR.
     FromDvr,
+    /// A section filter.
+    Section(SectionParams),
+    /// A filter of all sections: the PID, the timeout, the flags.
+    Sections(u16, u32, u32),
+    /// A filter of the sections of this PID with this table_id, with DMX_CHECK_CRC and DMX_IMMEDIATE_START.
+    Table(u16, u8),
+    Add(u16),
+    Remove(u16),
     Start,
     Stop,
     Size(u32),
     Read(u32),
+    Poll,
     End,
+    /// What follows is done at this moment.
+    At(u64),
     /// These packets of the frontend pass.
     Feed(&'static [Cell]),
     /// A packet of input DVR passes.
@@ -62,6 +87,8 @@ enum Want {
     Data(&'static [(Cell, usize, usize)]),
     Again(bool),
     Overflow(u64, u64, u64, u64, u64),
+    TimedOut(u64, u64, u32),
+    Ready(bool, PollError, u64, bool),
     Passed,
 }
 
@@ -91,8 +118,30 @@ fn bytes_of(cell: Cell) -> [u8; 188] {
             bytes[5] = 0;
             bytes[187] = 0xaa;
         }
+        Cell::U(pid, counter, section) => put(&mut bytes, pid, counter, 0, section),
+        Cell::LongBegins => {
+            put(&mut bytes, 256, 0, 0, &[0x11; 183]);
+            put(&mut bytes, 256, 0, 0, &[0x40, 0x00, 0xc8]);
+        }
+        Cell::LongEnds(counter) => {
+            put(&mut bytes, 256, counter, 20, &[0x11; 20]);
+            for (to, from) in bytes[25..].iter_mut().zip(A) {
+                *to = *from;
+            }
+        }
     }
     bytes
+}
+
+/// A header with payload_unit_start_indicator, the pointer_field, and these bytes behind it.
+fn put(bytes: &mut [u8; 188], pid: u16, counter: u8, pointer: u8, section: &[u8]) {
+    bytes[1] = 0x40 + (pid / 256 % 32) as u8;
+    bytes[2] = (pid % 256) as u8;
+    bytes[3] = 0x10 + counter % 16;
+    bytes[4] = pointer;
+    for (to, from) in bytes[5..].iter_mut().zip(section) {
+        *to = *from;
+    }
 }
 
 /// A batch of these packets, at most 64; None of no packets.
@@ -123,6 +172,24 @@ fn pes(pid: u16, input: Input, output: Output, pes_type: u32, flags: u32) -> Pes
     }
 }
 
+/// What DMX_SET_FILTER is asked for, with byte 0 of the filter and of the mask.
+fn sections(pid: u16, table_id: u8, mask: u8, timeout: u32, flags: u32) -> SectionParams {
+    let mut filter = [0; 16];
+    filter[0] = table_id;
+    let mut masks = [0; 16];
+    masks[0] = mask;
+    SectionParams {
+        pid,
+        filter: SectionFilter {
+            filter,
+            mask: masks,
+            mode: [0; 16],
+        },
+        timeout,
+        flags,
+    }
+}
+
 /// Packets pass, in batches of at most `most`.
 fn feed<L: Ledger, A: Abort>(
     rt: &A,
@@ -131,6 +198,7 @@ fn feed<L: Ledger, A: Abort>(
     steps: &mut Steps<L>,
     input: Input,
     cells: &[Cell],
+    now: u64,
     most: usize,
 ) -> Result<(), NoMemory>
     requires { 0 < most }
@@ -138,11 +206,7 @@ fn feed<L: Ledger, A: Abort>(
     for chunk in cells.chunks(most) {
         if let Some(batch) = batch_of(alloc, chunk)? {
             assert!(rt; node.entries() < 1_000_000);
-            let call = Call::Pass {
-                input,
-                batch,
-                now: 0,
-            };
+            let call = Call::Pass { input, batch, now };
             let answer = node.apply(0, call, steps);
             assert!(rt; matches!(answer.reply, Reply::Passed) && answer.batch.is_some());
         }
@@ -157,10 +221,10 @@ fn ask<L: Ledger>(
     steps: &mut Steps<L>,
     who: u32,
     step: Step,
+    now: u64,
 ) -> Result<Reply, NoMemory>
     requires { node.old.entries < 2 ^ 50 }
 {
-    let now = 0;
     let answer = match step {
         Step::Open => node.apply(who, Call::Open, steps),
         Step::Close => node.apply(who, Call::Close, steps),
@@ -184,6 +248,17 @@ fn ask<L: Ledger>(
             let params = pes(256, Input::Dvr, Output::Tap, 20, 0);
             node.apply(who, Call::SetPes { params, now }, steps)
         }
+        Step::Section(params) => node.apply(who, Call::SetFilter { params, now }, steps),
+        Step::Sections(pid, timeout, flags) => {
+            let params = sections(pid, 0, 0, timeout, flags);
+            node.apply(who, Call::SetFilter { params, now }, steps)
+        }
+        Step::Table(pid, table_id) => {
+            let params = sections(pid, table_id, 0xff, 0, 5);
+            node.apply(who, Call::SetFilter { params, now }, steps)
+        }
+        Step::Add(pid) => node.apply(who, Call::AddPid(pid), steps),
+        Step::Remove(pid) => node.apply(who, Call::RemovePid(pid), steps),
         Step::Start => node.apply(who, Call::Start { now }, steps),
         Step::Stop => node.apply(who, Call::Stop, steps),
         Step::Size(size) => node.apply(who, Call::SetSize(size), steps),
@@ -191,7 +266,10 @@ fn ask<L: Ledger>(
             let buf = ByteBuf::new(alloc, count.min(65_536))?;
             node.apply(who, Call::Read { now, buf }, steps)
         }
-        Step::End | Step::Feed(_) | Step::Write => node.apply(who, Call::End, steps),
+        Step::Poll => node.apply(who, Call::Poll { now }, steps),
+        Step::End | Step::At(_) | Step::Feed(_) | Step::Write => {
+            node.apply(who, Call::End, steps)
+        }
     };
     Ok(answer.reply)
 }
@@ -221,6 +299,23 @@ fn is_wanted(alloc: Global, reply: &Reply, want: Want) -> Result<bool, NoMemory>
                 room,
             },
         ) => { (*from, *to, *item, *need, *room) == (a, b, c, d, e) }
+        (
+            Want::TimedOut(a, b, c),
+            Reply::TimedOut {
+                started,
+                now,
+                timeout,
+            },
+        ) => { (*started, *now, *timeout) == (a, b, c) }
+        (
+            Want::Ready(a, b, c, d),
+            Reply::Ready {
+                readable,
+                error,
+                at,
+                ended,
+            },
+        ) => { (*readable, *error, *at, *ended) == (a, b, c, d) }
         (Want::Passed, Reply::Passed) => true,
         _ => false,
     })
@@ -239,8 +334,10 @@ fn run<L: Ledger, A: Abort>(
 {
     let mut steps = Steps::<L>::new(blank);
     let mut node = NodeCore::new(alloc, 0);
+    let mut now = 0;
     for (number, (who, step, want)) in rows.iter().enumerate() {
         match *step {
+            Step::At(moment) => now = moment,
             Step::Feed(cells) => feed(
                 rt,
                 alloc,
@@ -248,12 +345,22 @@ fn run<L: Ledger, A: Abort>(
                 &mut steps,
                 Input::Frontend,
                 cells,
+                now,
                 most,
             )?,
-            Step::Write => feed(rt, alloc, &mut node, &mut steps, Input::Dvr, &[P0], most)?,
+            Step::Write => feed(
+                rt,
+                alloc,
+                &mut node,
+                &mut steps,
+                Input::Dvr,
+                &[P0],
+                now,
+                most,
+            )?,
             _ => {
                 assert!(rt; node.entries() < 1_000_000);
-                let reply = ask(alloc, &mut node, &mut steps, *who, *step)?;
+                let reply = ask(alloc, &mut node, &mut steps, *who, *step, now)?;
                 assert!(rt; is_wanted(alloc, &reply, *want)?, "row {number}");
             }
         }
@@ -540,7 +647,7 @@ fn fill<L: Ledger, A: Abort>(
     let mut node = NodeCore::new(alloc, 31);
     for step in [Step::Open, Step::Size(size), Step::Whole(256, 4)] {
         assert!(rt; node.entries() < 1_000_000);
-        let reply = ask(alloc, &mut node, &mut steps, 1, step)?;
+        let reply = ask(alloc, &mut node, &mut steps, 1, step, 0)?;
         assert!(rt; is_wanted(alloc, &reply, Want::Done(0, 0))?);
     }
     let cells = vec![in alloc; P0; packets]?;
@@ -551,10 +658,11 @@ fn fill<L: Ledger, A: Abort>(
         &mut steps,
         Input::Frontend,
         &cells,
+        0,
         64,
     )?;
     assert!(rt; node.entries() < 1_000_000);
-    let reply = ask(alloc, &mut node, &mut steps, 1, Step::Read(65_536))?;
+    let reply = ask(alloc, &mut node, &mut steps, 1, Step::Read(65_536), 0)?;
     assert!(rt; is_wanted(alloc, &reply, want)?, "size {size}");
     Ok(())
 }

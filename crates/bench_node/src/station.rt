@@ -1,0 +1,191 @@
+// A node that packets pass, and that is read.
+
+ghost use Rattle.std.specs.Prelude.{◌≡◌, ◌<◌, false};
+ghost use Rattle.dmx_calls.specs.Calls.{invocation_of};
+ghost use Rattle.node_core.specs.Sound.{is_ts_tap};
+ghost use Rattle.node_core.specs.Stands.{IsBuilt};
+
+use dmx_calls::limits::{CHECK_CRC, IMMEDIATE_START, LARGEST_READ};
+use dmx_calls::{Answer, ByteBuf, Call, Input, Output, PesParams, Reply, SectionParams};
+use filter_match::SectionFilter;
+use node_core::NodeCore;
+use std::alloc::{AllocError as NoMemory, Global};
+use std::sync::ledger::{Blank, Ledger};
+use steps::Steps;
+use ts_batch::Batch;
+use ts_packet::PacketBuf;
+
+// The caller of all calls.
+const CALLER: u32 = 1;
+
+// More calls, and more packets, than a stream needs.
+const MOST: u64 = 1_099_511_627_776;
+
+// The buffer's size in bytes: more than what one piece of the stream brings.
+const SIZE: u32 = 262_144;
+
+/// What the node is asked for.
+#[derive(Clone, Copy, Drop)]
+pub enum Filter {
+    /// The sections of PID 512 with table_id 0x42, with CRC check.
+    Sections,
+    /// The payloads of PID 256.
+    Payloads,
+    /// The packets of the PIDs 256 and 257.
+    Packets,
+}
+
+/// What the reads gave: how many gave bytes, how many bytes, and the sum of the last byte of each, all modulo 2^64.
+#[derive(Clone, Copy, Drop)]
+pub struct Given {
+    pub reads: u64,
+    pub bytes: u64,
+    pub sum: u64,
+}
+
+/// A node, how many packets passed it, and what it gave.
+#[derive(Drop)]
+pub struct Station<L: Ledger> {
+    alloc: Global,
+    node: NodeCore,
+    steps: Steps<L>,
+    passed: u64,
+    pub given: Given,
+}
+
+// Sets a section filter that asks for this table_id, and starts it.
+fn sections_of(pid: u16, table_id: u8) -> Call
+    ensures { IsBuilt (invocation_of result) }
+{
+    let mut filter = SectionFilter {
+        filter: [0; 16],
+        mask: [0; 16],
+        mode: [0; 16],
+    };
+    filter.filter[0] = table_id;
+    filter.mask[0] = 0xff;
+    Call::SetFilter {
+        params: SectionParams {
+            pid,
+            filter,
+            timeout: 0,
+            flags: CHECK_CRC + IMMEDIATE_START,
+        },
+        now: 0,
+    }
+}
+
+// Sets a PES filter and starts it.
+fn tap_of(pid: u16, output: Output) -> Call
+    requires { is_ts_tap output ≡ false }
+    ensures { IsBuilt (invocation_of result) }
+{
+    Call::SetPes {
+        params: PesParams {
+            pid,
+            input: Input::Frontend,
+            output,
+            pes_type: 20,
+            flags: IMMEDIATE_START,
+        },
+        now: 0,
+    }
+}
+
+impl<L: Ledger> Station<L> {
+    /// A node without an owner.
+    pub fn new(alloc: Global, blank: Blank) -> Station<L>
+        requires ledger { (blank.name ≡ L.name) × (blank.parts ≡ L.parts) × (0 < L.parts) }
+    {
+        Station {
+            alloc,
+            node: NodeCore::new(alloc, 0),
+            steps: Steps::new(blank),
+            passed: 0,
+            given: Given {
+                reads: 0,
+                bytes: 0,
+                sum: 0,
+            },
+        }
+    }
+
+    // Makes a call. None after more calls than a stream needs.
+    fn call(&mut self, call: Call) -> Option<Answer>
+        requires { IsBuilt (invocation_of call) }
+    {
+        if self.node.entries() >= MOST {
+            return None;
+        }
+        Some(self.node.apply(CALLER, call, &mut self.steps))
+    }
+
+    // Makes a call that nothing but want of memory can refuse.
+    fn ask(&mut self, call: Call) -> Result<(), NoMemory>
+        requires { IsBuilt (invocation_of call) }
+    {
+        match self.call(call) {
+            Some(
+                Answer {
+                    reply: Reply::Done { .. },
+                    ..
+                },
+            ) => Ok(()),
+            _ => Err(NoMemory),
+        }
+    }
+
+    /// Opens the node and starts a filter.
+    pub fn open(&mut self, filter: Filter) -> Result<(), NoMemory> {
+        self.ask(Call::Open)?;
+        self.ask(Call::SetSize(SIZE))?;
+        match filter {
+            Filter::Sections => self.ask(sections_of(512, 0x42)),
+            Filter::Payloads => self.ask(tap_of(256, Output::Tap)),
+            Filter::Packets => {
+                self.ask(tap_of(256, Output::TsdemuxTap))?;
+                self.ask(Call::AddPid(257))
+            }
+        }
+    }
+
+    /// These packets pass the node, in one batch.
+    pub fn pass(&mut self, packets: &PacketBuf) -> Result<(), NoMemory> {
+        if packets.len() == 0 || self.passed >= MOST {
+            return Ok(());
+        }
+        let batch = Batch::of(self.alloc, self.passed, packets)?;
+        self.passed += u64::from(batch.count());
+        let _ = self.call(Call::Pass {
+            input: Input::Frontend,
+            batch,
+            now: 0,
+        });
+        Ok(())
+    }
+
+    /// Reads until the node has nothing more.
+    pub fn read_all(&mut self) -> Result<(), NoMemory> {
+        let mut buf = ByteBuf::new(self.alloc, LARGEST_READ)?;
+        'reads: for _ in 0..SIZE {
+            let Some(Answer { reply, .. }) = self.call(Call::Read { now: 0, buf }) else {
+                break;
+            };
+            let Reply::Data(mut filled) = reply else {
+                break;
+            };
+            self.count(filled.bytes());
+            filled.clear();
+            buf = filled;
+        }
+        Ok(())
+    }
+
+    // Counts the bytes of a read.
+    fn count(&mut self, bytes: &[u8]) {
+        self.given.reads = self.given.reads.wrapping_add(1);
+        self.given.bytes = self.given.bytes.wrapping_add(bytes.len() as u64);
+        let last = bytes.last().map_or(0, |byte| u64::from(*byte));
+        self.given.sum = self.given.sum.wrapping_add(last);
+    }
+}
