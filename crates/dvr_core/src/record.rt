@@ -28,12 +28,7 @@ fn record(buffer: &mut Buffer, taps: &Taps, packet: &Packet)
 }
 
 /// The packets of a batch are looked at, each for one step.
-pub fn record_all<L: Ledger>(
-    buffer: &mut Buffer,
-    taps: &Taps,
-    batch: &Batch,
-    steps: &mut Steps<L>,
-)
+pub fn record_all<L: Ledger>(buffer: &mut Buffer, taps: &Taps, batch: &Batch, steps: &mut Steps<L>)
     requires bytes { total_of buffer.old.ledger + 12032 < 2 ^ 64 }
     requires sound { CoherentIn buffer.old.ledger }
     ensures after { buffer.new ≡ record { size = buffer.old.size; ledger = option_map (λ l. with_items false (buffer.old.size - 1) l (filter (some_names taps.now) batch.now.packets)) buffer.old.ledger } }

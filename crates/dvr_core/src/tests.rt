@@ -1,6 +1,6 @@
 //! Taps against cases worked out by hand from the rules.
 
-use crate::Taps;
+use crate::taps::Taps;
 use pid_set::Pids;
 use ts_packet::Packet;
 

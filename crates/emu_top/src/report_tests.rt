@@ -1,9 +1,4 @@
 // The report's lines, and the report of a node.
-ghost use Rattle.std.specs.Prelude.{◌≡◌, ℕ, List, [], ◌∷◌, true, false, codes};
-ghost use Rattle.dmx_calls.specs.Log.{AttachAct, DetachAct};
-ghost use Rattle.dmx_calls.specs.Response.{AttachTap, DetachTap, Done};
-ghost use Rattle.emu_top.specs.Report.{act_text, response_text};
-
 use crate::report::{add_node, report};
 use crate::report_lines::add_entry;
 use dmx_calls::{
@@ -11,6 +6,7 @@ use dmx_calls::{
     Tap,
 };
 use filter_match::SectionFilter;
+use pid_set::Pids;
 use std::alloc::Global;
 use std::test::Fail;
 use ts_packet::Tally;
@@ -126,7 +122,7 @@ fn each_call_has_its_text(rt: HostRuntime) -> Result<(), Fail> {
     let alloc = rt.alloc();
     for (act, want) in CALLS.iter() {
         let mut text = String::new(alloc);
-        add_entry(&mut text, &told(2, 3, 1, *act, Reply::Passed))?;
+        add_entry(&mut text, &told(2, 3, 1, act.clone()?, Reply::Passed))?;
         assert_eq!(rt; text, format!(in alloc; "2 c2 1 {want} = passed\n")?);
     }
     Ok(())
@@ -350,23 +346,45 @@ fn a_node_has_its_entries_in_their_order(rt: HostRuntime) -> Result<(), Fail> {
     Ok(())
 }
 
-// What the definitions say of calls and replies that no code makes yet, at single values.
-fn calls_to_come()
-    ensures attach_none { act_text (AttachAct 4 []) ≡ codes "attach node=4 pids=-" }
-    ensures attach { act_text (AttachAct 31 (0 ∷ 256 ∷ 8191 ∷ [])) ≡ codes "attach node=31 pids=0,256,8191" }
-    ensures detach { act_text (DetachAct 4) ≡ codes "detach node=4" }
-{}
+// The PIDs of a tap, and their text.
+static TAPS: [(&[u16], &str); 4] = [
+    (&[], "-"),
+    (&[256], "256"),
+    (&[1, 2, 3], "1,2,3"),
+    (&[0, 256, 8191, 8192], "0,256,8191,8192"),
+];
 
-fn replies_to_come()
-    ensures attach { response_text (Done 0 188 (AttachTap (256 ∷ []))) ≡ codes "done drop=0..188 tap=attach:256" }
-    ensures attach_none { response_text (Done 0 0 (AttachTap [])) ≡ codes "done drop=0..0 tap=attach:-" }
-    ensures attach_more { response_text (Done 0 0 (AttachTap (1 ∷ 2 ∷ 3 ∷ []))) ≡ codes "done drop=0..0 tap=attach:1,2,3" }
-    ensures detach { response_text (Done 5 6 DetachTap) ≡ codes "done drop=5..6 tap=detach" }
-{}
+fn set_of(pids: &[u16]) -> Pids {
+    let mut set = Pids::new();
+    for pid in pids {
+        let _ = set.add(*pid);
+    }
+    set
+}
 
 #[test]
-fn calls_and_replies_to_come_have_their_texts(_rt: HostRuntime) -> Result<(), Fail> {
-    calls_to_come();
-    replies_to_come();
+fn taps_have_their_texts(rt: HostRuntime) -> Result<(), Fail> {
+    let alloc = rt.alloc();
+    for (pids, want) in TAPS.iter() {
+        let act = Act::Attach {
+            node: 31,
+            pids: set_of(pids),
+        };
+        let reply = Reply::Done {
+            dropped: Span { from: 0, to: 188 },
+            tap: Tap::Attach(set_of(pids)),
+        };
+        let mut text = String::new(alloc);
+        add_entry(&mut text, &told(2, 1, 4, act, reply))?;
+        let line = format!(in alloc; "2 c0 4 attach node=31 pids={want} = done drop=0..188 tap=attach:{want}\n")?;
+        assert_eq!(rt; text, line);
+    }
+    let reply = Reply::Done {
+        dropped: Span { from: 5, to: 6 },
+        tap: Tap::Detach,
+    };
+    let mut text = String::new(alloc);
+    add_entry(&mut text, &told(3, 8, 5, Act::Detach { node: 4 }, reply))?;
+    assert_eq!(rt; text, "3 c7 5 detach node=4 = done drop=5..6 tap=detach\n");
     Ok(())
 }

@@ -1,4 +1,4 @@
-use Rattle.std.proofs.Common.{◌≡◌, ◌-◌, [], drop, arith, ap, ◌∙◌, refl}
+use Rattle.std.proofs.Common.{◌≡◌, ◌-◌, [], drop, arith, ◌∙◌, refl}
 use Rattle.std.proofs.lemmas.List.{drop_all}
 use Rattle.dvr_core.specs.Tapped.{some_names}
 use Rattle.dvr_core.proofs.Recorded.{recorded-next, none-left}
@@ -9,7 +9,7 @@ loop-i-preserved g c =
     let i = c.loop-i.invariant in
     let r = c.record.ensures in
     record {
-      size = ap (λ b. b.size) r.after ∙ i.size;
+      size = rw r.after i.size;
       ledger = rw (r.after, i.size, recorded-next (some_names c.args.taps.now) (c.args.buffer.now.size - 1) c.args.batch.now.packets c.loop-i.i c.packet.result.now c.loop-i.buffer.ledger c.packet.ensures.at) i.ledger;
       sound = r.sound;
       bytes = omega arith;
