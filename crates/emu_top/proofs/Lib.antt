@@ -1,4 +1,7 @@
 pub mod Filters
 pub mod Going
+pub mod Lawful
+pub mod Pairs
 pub mod Scripts
+pub mod Told
 pub mod Values
