@@ -1,5 +1,6 @@
 // The report's lines, and the report of a node.
-use crate::report::{add_node, report};
+use crate::log::Log;
+use crate::report::report;
 use crate::report_lines::add_entry;
 use dmx_calls::{
     Act, ByteBuf, Entry, Errno, Input, Output, PesParams, PollError, Reply, SectionParams, Span,
@@ -293,6 +294,22 @@ fn each_reply_has_its_text(rt: HostRuntime) -> Result<(), Fail> {
     Ok(())
 }
 
+// The log of a node that a client has opened between a batch and the end of the stream.
+fn called(alloc: Global, node: u32) -> Result<Log, Fail> {
+    let pass = Act::Pass {
+        input: Input::Frontend,
+        first: 0,
+        count: 2,
+        now: 0,
+    };
+    let entries = vec![in alloc;
+        told(0, 0, 0, pass, Reply::Passed),
+        told(1, 1, 0, Act::Open, done(0, 0)),
+        told(2, 0, 1, Act::End, Reply::Passed),
+    ]?;
+    Ok(Log { node, entries })
+}
+
 const TALLY: Tally = Tally {
     packets: 2,
     skipped: 1,
@@ -308,41 +325,35 @@ fn a_node_without_clients_is_not_printed(rt: HostRuntime) -> Result<(), Fail> {
         count: 2,
         now: 0,
     };
-    let entries = [
+    let entries = vec![in alloc;
         told(0, 0, 0, pass, Reply::Passed),
         told(1, 0, 1, Act::End, Reply::Passed),
-    ];
+    ]?;
+    let untouched = [Log { node: 0, entries }];
     let want = "dvbemu 1\npackets=2 skipped=1 rest=100\nend\n";
-    assert_eq!(rt; report(alloc, &TALLY, &entries)?.as_str(), want);
+    assert_eq!(rt; report(alloc, &TALLY, &untouched)?.as_str(), want);
     assert_eq!(rt; report(alloc, &TALLY, &[])?.as_str(), want);
     Ok(())
 }
 
 #[test]
-fn a_node_has_its_entries_in_their_order(rt: HostRuntime) -> Result<(), Fail> {
+fn nodes_have_their_entries_in_their_order(rt: HostRuntime) -> Result<(), Fail> {
     let alloc = rt.alloc();
-    let pass = Act::Pass {
-        input: Input::Frontend,
-        first: 0,
-        count: 2,
-        now: 0,
-    };
-    let entries = [
-        told(0, 0, 0, pass, Reply::Passed),
-        told(1, 1, 0, Act::Open, done(0, 0)),
-        told(2, 0, 1, Act::End, Reply::Passed),
+    let logs = [
+        called(alloc, 0)?,
+        called(alloc, 31)?,
+        Log {
+            node: 7,
+            entries: vec![in alloc; told(0, 0, 0, Act::End, Reply::Passed)]?,
+        },
+        called(alloc, 32)?,
     ];
     let lines =
         "0 feed 0 pass input=frontend first=0 count=2 at=0 = passed\n1 c0 0 open = done drop=0..0 tap=keep\n2 feed 1 end = passed\n";
-    assert_eq!(rt;
-        report(alloc, &TALLY, &entries)?,
-        format!(in alloc; "dvbemu 1\npackets=2 skipped=1 rest=100\nnode 0\n{lines}end\n")?
-    );
-    for (node, name) in [(31, "31"), (32, "dvr")] {
-        let mut text = String::new(alloc);
-        add_node(&mut text, node, &entries)?;
-        assert_eq!(rt; text, format!(in alloc; "node {name}\n{lines}")?);
-    }
+    let want = format!(in alloc;
+        "dvbemu 1\npackets=2 skipped=1 rest=100\nnode 0\n{lines}node 31\n{lines}node dvr\n{lines}end\n"
+    )?;
+    assert_eq!(rt; report(alloc, &TALLY, &logs)?, want);
     Ok(())
 }
 
