@@ -1,5 +1,5 @@
 // A script, run on one thread.
-ghost use Rattle.std.specs.Prelude.{◌≡◌, ℕ, ◌+◌, ◌*◌, ◌-◌, ◌<◌, ◌≤◌, ◌^◌, List, ◌++◌, length, drop, map, slice_index, All, IfOk, OnOk};
+ghost use Rattle.std.specs.Prelude.{◌≡◌, ℕ, ◌+◌, ◌*◌, ◌-◌, ◌<◌, ◌≤◌, ◌^◌, List, [], ◌∷◌, ◌++◌, length, drop, map, slice_index, All, IfOk, OnOk};
 ghost use Rattle.dmx_calls.specs.declared.limits.TheConstants.{DEMUX_NODES as nodes};
 ghost use Rattle.dmx_calls.specs.Calls.{invocation_of, tap_change_of};
 ghost use Rattle.node_core.specs.Stands.{IsBuilt};
@@ -329,13 +329,16 @@ impl<'a> Runner<'a> {
 
     // The logs of the nodes, the dvr node's last.
     fn into_logs(self) -> Result<Vec<Log>, NoMemory>
-        ensures { IfOk result (λ logs. map told_log logs.items ≡ map (λ seat. told_log seat.log) self.demux.items ++ told_log self.dvr.log ∷ []) }
+        ensures { IfOk result (λ logs. map told_log logs.items ≡ map (λ seat. told_log seat.log) self.entry.demux.items ++ told_log self.entry.dvr.log ∷ []) }
     {
-        let mut logs = Vec::new(self.alloc);
-        'seats: for seat in self.demux {
+        let Runner {
+            alloc, demux, dvr, ..
+        } = self;
+        let mut logs = Vec::new(alloc);
+        'seats: for seat in demux {
             logs.push(seat.log)?;
         }
-        logs.push(self.dvr.log)?;
+        logs.push(dvr.log)?;
         Ok(logs)
     }
 }

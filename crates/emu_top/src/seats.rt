@@ -175,17 +175,17 @@ pub fn demux_seats(alloc: Global) -> Result<Vec<DemuxSeat>, NoMemory>
 
 // A batch passes each of these nodes, and is handed on from one to the next.
 pub fn pass_demux<L: Ledger>(
-    seats: &mut Vec<DemuxSeat>,
+    seats: &mut [DemuxSeat],
     alloc: Global,
     step: u64,
     batch: Arc<Batch>,
     now: u64,
     steps: &mut Steps<L>,
 ) -> Result<Arc<Batch>, NoMemory>
-    requires few { AreUnder seats.old.items (2 ^ 50 - 1) }
-    ensures at { OnOk result ((ns : List Node) → Pairs IsSeat seats.old.items ns
-        → Pairs IsSeat seats.new.items (map (answered rules.demux 0 step (asks.Pass Frontend batch.value.first batch.value.packets now)) ns)) }
-    ensures rises { OnOk result ((most : ℕ) → AreUnder seats.old.items most → AreUnder seats.new.items (most + 1)) }
+    requires few { AreUnder seats.old (2 ^ 50 - 1) }
+    ensures at { OnOk result ((ns : List Node) → Pairs IsSeat seats.old ns
+        → Pairs IsSeat seats.new (map (answered rules.demux 0 step (asks.Pass Frontend batch.value.first batch.value.packets now)) ns)) }
+    ensures rises { OnOk result ((most : ℕ) → AreUnder seats.old most → AreUnder seats.new (most + 1)) }
     ensures back { IfOk result (λ back. back.value ≡ batch.value) }
 {
     let mut batch = batch;
@@ -197,14 +197,14 @@ pub fn pass_demux<L: Ledger>(
 
 // End passes each of these nodes.
 pub fn end_demux<L: Ledger>(
-    seats: &mut Vec<DemuxSeat>,
+    seats: &mut [DemuxSeat],
     alloc: Global,
     step: u64,
     steps: &mut Steps<L>,
 ) -> Result<(), NoMemory>
-    requires few { AreUnder seats.old.items (2 ^ 50 - 1) }
-    ensures at { OnOk result ((ns : List Node) → Pairs IsSeat seats.old.items ns → Pairs IsSeat seats.new.items (map (answered rules.demux 0 step asks.End) ns)) }
-    ensures rises { OnOk result ((most : ℕ) → AreUnder seats.old.items most → AreUnder seats.new.items (most + 1)) }
+    requires few { AreUnder seats.old (2 ^ 50 - 1) }
+    ensures at { OnOk result ((ns : List Node) → Pairs IsSeat seats.old ns → Pairs IsSeat seats.new (map (answered rules.demux 0 step asks.End) ns)) }
+    ensures rises { OnOk result ((most : ℕ) → AreUnder seats.old most → AreUnder seats.new (most + 1)) }
 {
     'seats: for seat in seats.iter_mut() {
         seat.call(alloc, 0, step, Call::End, steps)?;
