@@ -1,9 +1,6 @@
 // A node that packets pass, and that is read.
 
 ghost use Rattle.std.specs.Prelude.{◌≡◌, ◌<◌, false};
-ghost use Rattle.dmx_calls.specs.Calls.{invocation_of};
-ghost use Rattle.node_core.specs.Sound.{is_ts_tap};
-ghost use Rattle.node_core.specs.Stands.{IsBuilt};
 
 use dmx_calls::limits::{CHECK_CRC, IMMEDIATE_START, LARGEST_READ};
 use dmx_calls::{Answer, ByteBuf, Call, Input, Output, PesParams, Reply, SectionParams};
@@ -55,7 +52,6 @@ pub struct Station<L: Ledger> {
 
 // Sets a section filter that asks for this table_id, and starts it.
 fn sections_of(pid: u16, table_id: u8) -> Call
-    ensures { IsBuilt (invocation_of result) }
 {
     let mut filter = SectionFilter {
         filter: [0; 16],
@@ -77,8 +73,6 @@ fn sections_of(pid: u16, table_id: u8) -> Call
 
 // Sets a PES filter and starts it.
 fn tap_of(pid: u16, output: Output) -> Call
-    requires { is_ts_tap output ≡ false }
-    ensures { IsBuilt (invocation_of result) }
 {
     Call::SetPes {
         params: PesParams {
@@ -112,7 +106,6 @@ impl<L: Ledger> Station<L> {
 
     // Makes a call. None after more calls than a stream needs.
     fn call(&mut self, call: Call) -> Option<Answer>
-        requires { IsBuilt (invocation_of call) }
     {
         if self.node.entries() >= MOST {
             return None;
@@ -122,7 +115,6 @@ impl<L: Ledger> Station<L> {
 
     // Makes a call that nothing but want of memory can refuse.
     fn ask(&mut self, call: Call) -> Result<(), NoMemory>
-        requires { IsBuilt (invocation_of call) }
     {
         match self.call(call) {
             Some(

@@ -25,7 +25,6 @@ use Rattle.node_core.specs.Step.{moved, next}
 use Rattle.node_core.specs.Offers.{HasSelected}
 use Rattle.node_core.specs.Sound.{IsSound}
 use Rattle.node_core.specs.Gives.{settled}
-use Rattle.node_core.specs.Stands.{IsBuilt}
 use Rattle.node_core.proofs.Moves.{known, Moves, Silent, as_done, as_ready, as_passed, accepted_of, stop_moves, poll_moves, same_size_moves, add_moves, remove_moves, end_moves}
 use Rattle.node_core.proofs.Begins.{open_moves, close_moves, start_moves, set_filter_moves, set_pes_moves, resized_moves}
 use Rattle.node_core.proofs.Passes.{pass_moves}
@@ -248,19 +247,19 @@ module _ (h : History) (k : Selecting) (who : ℕ) (sound : IsSound (known h k))
 
   -- ------ all of them
 
-  pub agrees : (call : Invocation) → IsBuilt call → Agrees h k who call (settled (known h k) who call)
-  agrees Open built = case_open
-  agrees Close built = case_close
-  agrees (SetFilter p now) built = case_set_filter p now
-  agrees (SetPes p now) built = case_set_pes p now
-  agrees (AddPid pid) built = case_add pid
-  agrees (RemovePid pid) built = case_remove pid
-  agrees (Start now) built = case_start now
-  agrees Stop built = case_stop
-  agrees (SetSize n) built = case_set_size n
-  agrees (Read now count) built = case_read now count
-  agrees (Poll now) built = case_poll now
-  agrees (Pass input first packets now) built = case_pass input first packets now
-  agrees End built = case_end
-  agrees (Attach node names) built = case_attach node names
-  agrees (Detach node) built = case_detach node
+  pub agrees : (call : Invocation) → Agrees h k who call (settled (known h k) who call)
+  agrees Open = case_open
+  agrees Close = case_close
+  agrees (SetFilter p now) = case_set_filter p now
+  agrees (SetPes p now) = case_set_pes p now
+  agrees (AddPid pid) = case_add pid
+  agrees (RemovePid pid) = case_remove pid
+  agrees (Start now) = case_start now
+  agrees Stop = case_stop
+  agrees (SetSize n) = case_set_size n
+  agrees (Read now count) = case_read now count
+  agrees (Poll now) = case_poll now
+  agrees (Pass input first packets now) = case_pass input first packets now
+  agrees End = case_end
+  agrees (Attach node names) = case_attach node names
+  agrees (Detach node) = case_detach node

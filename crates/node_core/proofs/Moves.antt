@@ -39,7 +39,7 @@ pub coherent_by : (o : Option ℕ) (set : Params) (l : Ledger) → IsSoundFor o 
 coherent_by None set l k = absurd (let n : Some l ≡ None = k.1 in cc)
 coherent_by (Some who) Empty l k = absurd (let n : Some l ≡ None = k in cc)
 coherent_by (Some who) (Section p) l k = k
-coherent_by (Some who) (Pes p) l k = k.1
+coherent_by (Some who) (Pes p) l k = k
 
 pub coherent : (h : History) (k : Selecting) (s : Since) → IsSound (known h k) → capture h ≡ Some s → Coherent (ledger_at demux h)
 unfolding facts

@@ -1,7 +1,5 @@
--- What holds of what each node knows, as far as the calls are built.
-use Rattle.std.specs.Prelude.{ℕ, ◌≡◌, Bool, true, false, [], Option, Some, None}
-use Rattle.dmx_calls.specs.declared.params.Output.{Output}
-use Rattle.dmx_calls.specs.declared.params.Output.TheVariants.{TsTap}
+-- What holds of what each node knows.
+use Rattle.std.specs.Prelude.{ℕ, ◌≡◌, [], Option, Some, None}
 use Rattle.dmx_calls.specs.Tenure.{Params, Empty, Section, Pes}
 use Rattle.dmx_calls.specs.Facts.{Ledger, Facts}
 use Rattle.item_select.specs.Selecting.{Selecting}
@@ -9,16 +7,11 @@ use Rattle.node_buffer.specs.Coherent.{CoherentIn}
 use Rattle.node_core.specs.Offers.{choice_of, names_of}
 use Rattle.node_core.specs.Step.{Knows}
 
--- DMX_OUT_TS_TAP
-abbrev pub is_ts_tap : Output → Bool
-is_ts_tap TsTap = true
-is_ts_tap _ = false
-
--- a capture has a filter, which isn't for the dvr node
+-- a capture has a filter
 abbrev pub IsSoundBy : Params → Option Ledger → Type 0
 IsSoundBy Empty ledger = ledger ≡ None
 IsSoundBy (Section p) ledger = CoherentIn ledger
-IsSoundBy (Pes p) ledger = (is_ts_tap p.output ≡ false) × CoherentIn ledger
+IsSoundBy (Pes p) ledger = CoherentIn ledger
 
 -- a node without an owner has no filter and no capture
 abbrev pub IsSoundFor : Option ℕ → Params → Option Ledger → Type 0

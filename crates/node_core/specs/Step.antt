@@ -1,4 +1,4 @@
--- How a demux node goes on with an accepted call, as far as the calls are built. The proofs alone use it: no public contract cites it.
+-- How a demux node goes on with an accepted call. The proofs alone use it: no public contract cites it.
 use Rattle.std.specs.Prelude.{ℕ, ◌-◌, Bool, true, not, ◌&&◌, nat_eq, if◌then◌else◌, List, [], ◌∷◌, Option, Some, None, is_some, option_map}
 use Rattle.pid_set.specs.Pids.{with_pid, without_pid}
 use Rattle.dmx_calls.specs.declared.params.Input.{Input}

@@ -15,7 +15,7 @@ ghost use Rattle.node_core.specs.Sound.{IsSound};
 ghost use Rattle.node_core.specs.Gives.{Gives};
 ghost use Rattle.node_core.specs.Step.{next};
 ghost use Rattle.node_core.specs.KeptView.{knows_of, bytes_in};
-ghost use Rattle.node_core.specs.Stands.{StandsFor, IsBuilt};
+ghost use Rattle.node_core.specs.Stands.{StandsFor};
 
 use crate::kept::Kept;
 use dmx_calls::{Answer, Call, Reply, State};
@@ -56,7 +56,6 @@ fn act<L: Ledger>(
     steps: &mut Steps<L>,
 ) -> Answer
     requires sound { IsSound (knows_of kept.old) }
-    requires built { IsBuilt (invocation_of call) }
     requires bytes { bytes_in (knows_of kept.old) + 12032 < 2 ^ 64 }
     ensures said { Gives (knows_of kept.old) who (invocation_of call) (response_of result.reply) }
     ensures after { knows_of kept.new ≡ next (knows_of kept.old) who (invocation_of call) (response_of result.reply) }
@@ -140,7 +139,6 @@ impl NodeCore {
     /// whoever makes them.
     pub fn apply<L: Ledger>(&mut self, who: u32, call: Call, steps: &mut Steps<L>) -> Answer
         requires few { self.old.entries < 2 ^ 50 }
-        requires built { IsBuilt (invocation_of call) }
         ensures stands { (h : History) → StandsFor self.old h
             → May demux h who (invocation_of call) (response_of result.reply)
             × StandsFor self.new (entry_of who (invocation_of call) (response_of result.reply) ∷ h) }

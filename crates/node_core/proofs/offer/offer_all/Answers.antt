@@ -1,4 +1,4 @@
-use Rattle.std.proofs.Common.{◌≡◌, ◌-◌, [], drop, arith, refl, ◌∙◌, ap}
+use Rattle.std.proofs.Common.{◌≡◌, ◌-◌, [], drop, arith, refl, ◌∙◌}
 use Rattle.std.proofs.lemmas.List.{drop_all}
 use Rattle.item_select.specs.Selecting.{kept_after}
 use Rattle.node_core.proofs.Offered.{kept-next, items-next, none-left}
