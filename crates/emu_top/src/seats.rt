@@ -7,7 +7,6 @@ ghost use Rattle.dmx_calls.specs.declared.limits.TheConstants.{DEMUX_NODES as no
 ghost use Rattle.dmx_calls.specs.Invocation as asks;
 ghost use Rattle.dmx_calls.specs.Calls.{invocation_of, response_of, tap_change_of};
 ghost use Rattle.dmx_calls.specs.Rules as rules;
-ghost use Rattle.node_core.specs.Stands.{IsBuilt};
 ghost use Rattle.emu_top.specs.Nodes.{Node, answered, tap_in, tap_by, uncalled};
 ghost use Rattle.emu_top.specs.Runner.{IsSeat, IsDvrSeat, Pairs, AreUnder};
 
@@ -83,7 +82,6 @@ impl DemuxSeat {
         steps: &mut Steps<L>,
     ) -> Result<Heard, NoMemory>
         requires few { self.old.core.entries < 2 ^ 50 }
-        requires built { IsBuilt (invocation_of call) }
         ensures at { OnOk result ((n : Node) → IsSeat self.old n → IsSeat self.new (answered rules.demux who step (invocation_of call) n)) }
         ensures tap { IfOk result (λ heard. (n : Node) → IsSeat self.old n → tap_change_of heard.tap ≡ tap_by rules.demux who (invocation_of call) n) }
         ensures rises { OnOk result (self.new.core.entries ≡ self.old.core.entries + 1) }

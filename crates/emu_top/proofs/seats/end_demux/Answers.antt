@@ -3,10 +3,10 @@ use Rattle.dmx_calls.specs.Invocation as call
 use Rattle.emu_top.proofs.Told.{fed_more, fed_few, fed_at, fed_under}
 use Rattle.emu_top.proofs.seats.end_demux.Goals as goal
 
-pub call-requires-clause-few : goal.call-requires-clause-few
-call-requires-clause-few g c =
+pub call-requires : goal.call-requires
+call-requires g c =
     let there : c.seats.seat-index < length c.seats.seats = omega (arith, c.seats.auto.seats, c.seats-test.true) in
-    fed_few c.args.step call.End c.args.seats.now c.seats.seats c.seats.seat-index c.seat-item.result there c.requires.few c.seats.invariant
+    record { few = fed_few c.args.step call.End c.args.seats.now c.seats.seats c.seats.seat-index c.seat-item.result there c.requires.few c.seats.invariant }
 
 pub seats-preserved : goal.seats-preserved
 seats-preserved g c =

@@ -15,10 +15,10 @@ index_mut-requires g c =
     let fits : length c.args.self.now.demux.items ≡ vec_len c.args.self.now.demux = sym c.args.self.now.demux.ok.0 in
     omega (arith, there, count, fits)
 
-pub call-requires-clause-few : goal.call-requires-clause-few
-call-requires-clause-few g c =
+pub call-requires : goal.call-requires
+call-requires g c =
     let few : turns c.args.self.now.calls < 2 ^ 50 - 1 = c.requires.few in
-    rw c.index_mut.ensures.value (omega (arith, few, seat_under c.args.self.now.demux.items c.args.node (turns c.args.self.now.calls) c.index_mut.result.now c.requires.there c.requires.counts.demux))
+    record { few = rw c.index_mut.ensures.value (omega (arith, few, seat_under c.args.self.now.demux.items c.args.node (turns c.args.self.now.calls) c.index_mut.result.now c.requires.there c.requires.counts.demux)) }
 
 pub returns-clause-at : goal.returns-clause-at
 returns-clause-at g c r h =
