@@ -1,7 +1,7 @@
 -- What each step of a run does to its nodes, its counts and its packets.
-use Rattle.std.proofs.Common.{◌≡◌, refl, sym, ap, subst, ◌∙◌, ℕ, suc, ◌+◌, ◌-◌, ◌/◌, ◌%◌, ◌<◌, ◌≤◌, ◌==◌, min, true, false, List, [], ◌∷◌, ◌++◌, length, take, drop, replicate, fold, map, set, get_or, Result, Ok, Err, OnOk, arith, inl, inr}
-use Rattle.std.specs.Prelude.{slice_index, slice_get, Option, Some, None, sum}
-use Rattle.std.proofs.lemmas.List.{length-set, map-append}
+use Rattle.std.proofs.Common.{◌≡◌, refl, sym, ap, subst, ◌∙◌, ℕ, suc, ◌+◌, ◌-◌, ◌/◌, ◌%◌, ◌<◌, ◌≤◌, ◌==◌, if◌then◌else◌, min, true, false, List, [], ◌∷◌, ◌++◌, length, take, drop, replicate, fold, map, set, get_or, Result, Ok, Err, OnOk, arith, inl, inr}
+use Rattle.std.specs.Prelude.{slice_index, sum}
+use Rattle.std.proofs.lemmas.List.{length-set, length-replicate, get_or-replicate, map-append, take-append-le, take_all}
 use Rattle.std.proofs.lemmas.List.Sums.{sum_by-set, get_or-le-sum_by}
 use Rattle.std.proofs.lemmas.Bool.{cases_lt}
 use Rattle.std.proofs.lemmas.Bool.Decides.{nat_tests}
@@ -11,20 +11,20 @@ use Rattle.dmx_calls.specs.declared.params.Input.TheVariants.{Frontend}
 use Rattle.dmx_calls.specs.declared.limits.TheConstants.{DEMUX_NODES}
 use Rattle.dmx_calls.specs.Invocation as call
 use Rattle.dmx_calls.specs.Invocation.{Invocation}
-use Rattle.dmx_calls.specs.Response.{TapChange, KeepTap}
+use Rattle.dmx_calls.specs.Response.{TapChange}
 use Rattle.dmx_calls.specs.Rules as rules
 use Rattle.emu_top.specs.declared.seats.DemuxSeat.{DemuxSeat}
 use Rattle.emu_top.specs.declared.script.Line.{Line}
 use Rattle.emu_top.specs.declared.runner.Runner.{Runner}
-use Rattle.emu_top.specs.Nodes.{Node, answered, tap_by, log_of}
-use Rattle.emu_top.specs.SerialRun.{Run, begun, one_more, fed_to_all, passed, batch_sizes, all_passed, ended, called_dvr, called_demux, told_tap, done, finished, serial_run, nodes_of}
+use Rattle.emu_top.specs.Nodes.{Node, uncalled, answered, tap_by, log_of}
+use Rattle.emu_top.specs.SerialRun.{Run, begun, one_more, fed_to_all, passed, batch_sizes, all_passed, ended, called_dvr, called_demux, demux_node, told_tap, done, finished, serial_run, nodes_of}
 use Rattle.emu_top.specs.Runner.{told_log, Pairs, IsSeat, IsDvrSeat, IsAt, IsUnder, AreUnder, Counts, turns}
-use Rattle.emu_top.proofs.Pairs.{pair_at, equal_by, same_weaker, same_set}
+use Rattle.emu_top.proofs.Pairs.{pair_at, same_length, equal_by, same_weaker, same_set}
 
 -- what follows from facts of a call that succeeded
 pub all_ok : {T E P Q R S : Type 0} (r : Result T E) → (P → Q → R → S) → OnOk r P → OnOk r Q → OnOk r R → OnOk r S
-all_ok (Ok v) then p q s = then p q s
-all_ok (Err e) then p q s = tt
+all_ok (Ok v) next p q s = next p q s
+all_ok (Err e) next p q s = tt
 
 -- ------ the callers' counts
 
@@ -47,6 +47,21 @@ counts_more old new who counts there more demux dvr =
 
 pub under_more : (seats : List DemuxSeat) (m n : ℕ) → m ≤ n → AreUnder seats m → AreUnder seats n
 under_more seats m n le under = same_weaker IsUnder DEMUX_NODES seats m n (λ seat u. omega (arith, u, le)) under
+
+-- all elements of a vector were lent, and came back as many
+pub whole_back : {X : Type 0} (items lent now : List X) (len : ℕ) → len ≡ length items → lent ≡ items → length now ≡ length lent → take len (now ++ drop (length now) items) ≡ now
+whole_back items lent now len fits is same =
+    let count : length now ≡ len = same ∙ (ap length is ∙ sym fits) in
+    take-append-le len now (drop (length now) items) (omega (arith, count)) ∙ take_all len now (omega (arith, count))
+
+-- there are as many nodes as they should be
+pub seats_count : (seats : List DemuxSeat) (m : ℕ) → AreUnder seats m → length seats ≡ DEMUX_NODES
+seats_count seats m under = same_length IsUnder seats (replicate DEMUX_NODES m) under ∙ length-replicate DEMUX_NODES m
+
+pub seat_under : (seats : List DemuxSeat) (i m : ℕ) (d : DemuxSeat) → i < DEMUX_NODES → AreUnder seats m → (get_or seats i d).core.entries ≤ m
+seat_under seats i m d there under =
+    let there' : i < length seats = omega (arith, seats_count seats m under, there) in
+    subst (λ n. (get_or seats i d).core.entries ≤ n) (get_or-replicate DEMUX_NODES i m m there) (pair_at IsUnder i seats (replicate DEMUX_NODES m) d m there' under)
 
 pub under_set : (seats : List DemuxSeat) (i m : ℕ) (seat : DemuxSeat) → IsUnder seat m → AreUnder seats m → AreUnder (set seats i seat) m
 under_set seats i m seat u under = same_set IsUnder DEMUX_NODES i seats m seat u under
@@ -92,7 +107,7 @@ at_ended old new r at before more left first moment end = rw (sym at.has_ended �
 
 -- it has passed
 pub at_ended_before : (v : Runner) (r : Run) → IsAt v r → v.has_ended ≡ true → IsAt v (ended r)
-at_ended_before v r at before = rw (sym at.has_ended ∙ before) at
+at_ended_before v r at before = subst (λ b. IsAt v (if b then r else record (fed_to_all call.End r) { has_ended = true })) (sym (sym at.has_ended ∙ before)) at
 
 -- a caller's call on the dvr node
 pub at_called_dvr : (old new : Runner) (r : Run) (who : ℕ) (c : Invocation) → IsAt old r
@@ -130,8 +145,7 @@ at_called_demux old new r node who c at more dvr calls left first moment end = r
 pub tap_told : (seats : List DemuxSeat) (r : Run) (node who : ℕ) (c : Invocation) (seat : DemuxSeat) (tap : TapChange) → node < length seats → Pairs IsSeat seats r.demux
     → ((n : Node) → IsSeat (get_or seats node seat) n → tap ≡ tap_by rules.demux who c n) → tap ≡ told_tap node who c r
 tap_told seats r node who c seat tap there at is =
-    let k = pair_at IsSeat node seats r.demux seat there at in
-    rw k.1 (is k.0 k.2)
+    is (demux_node node r) (pair_at IsSeat node seats r.demux seat (uncalled node) there at)
 
 -- ------ batches
 

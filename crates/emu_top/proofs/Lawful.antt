@@ -1,8 +1,9 @@
 -- The histories of the serial run are legal: each entry has the answer of the history before it.
-use Rattle.std.proofs.Common.{◌≡◌, refl, ap, ◌∙◌, ℕ, zero, suc, Bool, true, false, List, [], ◌∷◌, length, map, take, fold, nat_lt, inl}
-use Rattle.std.specs.Prelude.{slice_index, Option, Some, None}
+use Rattle.std.proofs.Common.{◌≡◌, refl, sym, ap, subst, if◌then◌else◌, ◌∙◌, ℕ, zero, suc, Bool, true, false, List, [], ◌∷◌, length, map, take, fold, get_or, nat_lt, inl}
+use Rattle.std.specs.Prelude.{slice_index}
 use Rattle.std.specs.List.{All, range_with_len}
-use Rattle.std.proofs.lemmas.List.Elements.{All-cons, All-head, All-tail, All-map, All-weaker}
+use Rattle.std.proofs.lemmas.List.Elements.{All-head, All-tail, All-map, All-weaker, All-set}
+use Rattle.std.proofs.Math.Seq.{map-set_same}
 use Rattle.dmx_calls.specs.declared.limits.TheConstants.{DEMUX_NODES}
 use Rattle.dmx_calls.specs.declared.params.Input.TheVariants.{Frontend}
 use Rattle.dmx_calls.specs.Invocation as call
@@ -10,13 +11,12 @@ use Rattle.dmx_calls.specs.Invocation.{Invocation}
 use Rattle.dmx_calls.specs.Response.{TapChange, KeepTap, AttachTap, DetachTap}
 use Rattle.dmx_calls.specs.Legal.{IsLegal, IsLegalDvr}
 use Rattle.dmx_calls.specs.Rules as rules
-use Rattle.dvr_core.specs.Tapped.{changed_at}
 use Rattle.emu_top.specs.declared.script.Target.{Target}
 use Rattle.emu_top.specs.declared.script.Target.TheVariants.{Node as OnNode, Dvr}
 use Rattle.emu_top.specs.declared.script.Line.{Line}
 use Rattle.emu_top.specs.declared.script.Line.TheVariants.{Feed, Tick, Command}
 use Rattle.emu_top.specs.Nodes.{Node, uncalled, history_of, answered}
-use Rattle.emu_top.specs.SerialRun.{Run, begun, fed_to_all, passed, batch_sizes, all_passed, ended, fed, called_dvr, called_demux, told_tap, tapped, called, asked, done, finished, serial_run}
+use Rattle.emu_top.specs.SerialRun.{Run, begun, fed_to_all, passed, batch_sizes, all_passed, ended, fed, called_dvr, demux_node, called_demux, told_tap, tapped, called, asked, done, finished, serial_run}
 use Rattle.emu_top.specs.Legal.{AreLegal}
 
 abbrev pub IsLegalNode : Node → Type 0
@@ -30,15 +30,10 @@ same_numbers : (who step : ℕ) (c : Invocation) (ns : List Node) → map (λ n.
 same_numbers who step c [] = refl
 same_numbers who step c (n ∷ ns) = ap (λ ms. n.number ∷ ms) (same_numbers who step c ns)
 
-one_answered : (i who step : ℕ) (c : Invocation) (ns : List Node) → All IsLegalNode ns → All IsLegalNode (changed_at i (answered rules.demux who step c) ns)
-one_answered i who step c [] all = all
-one_answered zero who step c (n ∷ ns) all = All-cons IsLegalNode _ ns (All-head IsLegalNode n ns all, inl refl) (All-tail IsLegalNode n ns all)
-one_answered (suc i) who step c (n ∷ ns) all = All-cons IsLegalNode n _ (All-head IsLegalNode n ns all) (one_answered i who step c ns (All-tail IsLegalNode n ns all))
-
-same_numbers_at : (i who step : ℕ) (c : Invocation) (ns : List Node) → map (λ n. n.number) (changed_at i (answered rules.demux who step c) ns) ≡ map (λ n. n.number) ns
-same_numbers_at i who step c [] = refl
-same_numbers_at zero who step c (n ∷ ns) = refl
-same_numbers_at (suc i) who step c (n ∷ ns) = ap (λ ms. n.number ∷ ms) (same_numbers_at i who step c ns)
+one_legal : (i number : ℕ) (ns : List Node) → All IsLegalNode ns → IsLegalNode (get_or ns i (uncalled number))
+one_legal i number [] all = tt
+one_legal zero number (n ∷ ns) all = All-head IsLegalNode n ns all
+one_legal (suc i) number (n ∷ ns) all = one_legal i number ns (All-tail IsLegalNode n ns all)
 
 fed_legal : (c : Invocation) (r : Run) → AreLegal r → AreLegal (fed_to_all c r)
 fed_legal c r legal = record {
@@ -60,7 +55,7 @@ all_passed_legal (size ∷ sizes) r legal = all_passed_legal sizes (passed r siz
 ended_legal : (r : Run) → AreLegal r → AreLegal (ended r)
 ended_legal r legal = go r.has_ended refl where
   go : (b : Bool) → r.has_ended ≡ b → AreLegal (ended r)
-  go true is = rw is legal
+  go true is = subst (λ b. AreLegal (if b then r else record (fed_to_all call.End r) { has_ended = true })) (sym is) legal
   go false is =
       let k = fed_legal call.End r legal in
       rw is record { numbers = k.numbers; dvr_number = k.dvr_number; demux = k.demux; dvr = k.dvr }
@@ -76,9 +71,9 @@ called_dvr_legal who c r legal = record { numbers = legal.numbers; dvr_number = 
 
 called_demux_legal : (node who : ℕ) (c : Invocation) (r : Run) → AreLegal r → AreLegal (called_demux node who c r)
 called_demux_legal node who c r legal = record {
-  numbers = same_numbers_at node who (slice_index r.calls who) c r.demux ∙ legal.numbers;
+  numbers = map-set_same (λ n. n.number) r.demux node (answered rules.demux who (slice_index r.calls who) c (demux_node node r)) (uncalled node) refl ∙ legal.numbers;
   dvr_number = legal.dvr_number;
-  demux = one_answered node who (slice_index r.calls who) c r.demux legal.demux;
+  demux = All-set IsLegalNode r.demux node (answered rules.demux who (slice_index r.calls who) c (demux_node node r)) (one_legal node node r.demux legal.demux, inl refl) legal.demux;
   dvr = legal.dvr;
 }
 

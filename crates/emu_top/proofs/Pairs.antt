@@ -1,8 +1,6 @@
 -- Lists whose elements are related one by one, and a change of one element of each.
 use Rattle.std.proofs.Common.{ℕ, zero, suc, ◌+◌, ◌<◌, ◌≤◌, ◌≡◌, refl, ap, sym, subst, ◌∙◌, List, [], ◌∷◌, ◌++◌, set, get_or, map, replicate, length, arith}
-use Rattle.std.specs.Prelude.{Option, Some, slice_get}
 use Rattle.std.proofs.Math.Numerals.{add-one}
-use Rattle.dvr_core.specs.Tapped.{changed_at}
 use Rattle.emu_top.specs.Runner.{Pairs}
 
 -- the first so many elements are changed
@@ -34,32 +32,32 @@ module _ {X Y : Type 0} (R : X → Y → Type 0) where
   same_length (x ∷ xs) (y ∷ ys) p = ap suc (same_length xs ys p.1)
 
   -- one more element of each is changed
-  front_suc : (f : Y → Y) (i : ℕ) (xs : List X) (ys : List Y) (x' : X) → i < length xs → ((d : X) (y : Y) → R (get_or xs i d) y → R x' (f y))
+  front_suc : (f : Y → Y) (i : ℕ) (xs : List X) (ys : List Y) (x' d : X) → i < length xs → ((y : Y) → R (get_or xs i d) y → R x' (f y))
       → Pairs R xs (changed_front i f ys) → Pairs R (set xs i x') (changed_front (suc i) f ys)
-  front_suc f i [] ys x' lt more p = absurd (omega (arith, lt))
-  front_suc f zero (x ∷ xs) [] x' lt more p = absurd p
-  front_suc f (suc i) (x ∷ xs) [] x' lt more p = absurd p
-  front_suc f zero (x ∷ xs) (y ∷ ys) x' lt more p = (more x y p.0, p.1)
-  front_suc f (suc i) (x ∷ xs) (y ∷ ys) x' lt more p = (p.0, front_suc f i xs ys x' (omega (arith, lt)) more p.1)
+  front_suc f i [] ys x' d lt more p = absurd (omega (arith, lt))
+  front_suc f zero (x ∷ xs) [] x' d lt more p = absurd p
+  front_suc f (suc i) (x ∷ xs) [] x' d lt more p = absurd p
+  front_suc f zero (x ∷ xs) (y ∷ ys) x' d lt more p = (more y p.0, p.1)
+  front_suc f (suc i) (x ∷ xs) (y ∷ ys) x' d lt more p = (p.0, front_suc f i xs ys x' d (omega (arith, lt)) more p.1)
 
-  pub front_more : (f : Y → Y) (i : ℕ) (xs : List X) (ys : List Y) (x' : X) → i < length xs → ((d : X) (y : Y) → R (get_or xs i d) y → R x' (f y))
+  pub front_more : (f : Y → Y) (i : ℕ) (xs : List X) (ys : List Y) (x' d : X) → i < length xs → ((y : Y) → R (get_or xs i d) y → R x' (f y))
       → Pairs R xs (changed_front i f ys) → Pairs R (set xs i x') (changed_front (i + 1) f ys)
-  front_more f i xs ys x' lt more p = subst (λ n. Pairs R (set xs i x') (changed_front n f ys)) (sym (add-one i)) (front_suc f i xs ys x' lt more p)
+  front_more f i xs ys x' d lt more p = subst (λ n. Pairs R (set xs i x') (changed_front n f ys)) (sym (add-one i)) (front_suc f i xs ys x' d lt more p)
 
-  -- one element of each is changed
-  pub changed_pair : (f : Y → Y) (i : ℕ) (xs : List X) (ys : List Y) (x' : X) → i < length xs → ((d : X) (y : Y) → R (get_or xs i d) y → R x' (f y))
-      → Pairs R xs ys → Pairs R (set xs i x') (changed_at i f ys)
-  changed_pair f i [] ys x' lt more p = absurd (omega (arith, lt))
-  changed_pair f i (x ∷ xs) [] x' lt more p = absurd p
-  changed_pair f zero (x ∷ xs) (y ∷ ys) x' lt more p = (more x y p.0, p.1)
-  changed_pair f (suc i) (x ∷ xs) (y ∷ ys) x' lt more p = (p.0, changed_pair f i xs ys x' (omega (arith, lt)) more p.1)
+  -- one element of each is replaced
+  pub set_pair : (i : ℕ) (xs : List X) (ys : List Y) (x' : X) (y' : Y) → R x' y' → Pairs R xs ys → Pairs R (set xs i x') (set ys i y')
+  set_pair i [] [] x' y' r p = p
+  set_pair i [] (y ∷ ys) x' y' r p = absurd p
+  set_pair i (x ∷ xs) [] x' y' r p = absurd p
+  set_pair zero (x ∷ xs) (y ∷ ys) x' y' r p = (r, p.1)
+  set_pair (suc i) (x ∷ xs) (y ∷ ys) x' y' r p = (p.0, set_pair i xs ys x' y' r p.1)
 
   -- the elements in one place
-  pub pair_at : (i : ℕ) (xs : List X) (ys : List Y) (d : X) → i < length xs → Pairs R xs ys → (y : Y) × (slice_get ys i ≡ Some y) × R (get_or xs i d) y
-  pair_at i [] ys d lt p = absurd (omega (arith, lt))
-  pair_at i (x ∷ xs) [] d lt p = absurd p
-  pair_at zero (x ∷ xs) (y ∷ ys) d lt p = (y, refl, p.0)
-  pair_at (suc i) (x ∷ xs) (y ∷ ys) d lt p = pair_at i xs ys d (omega (arith, lt)) p.1
+  pub pair_at : (i : ℕ) (xs : List X) (ys : List Y) (d : X) (e : Y) → i < length xs → Pairs R xs ys → R (get_or xs i d) (get_or ys i e)
+  pair_at i [] ys d e lt p = absurd (omega (arith, lt))
+  pair_at i (x ∷ xs) [] d e lt p = absurd p
+  pair_at zero (x ∷ xs) (y ∷ ys) d e lt p = p.0
+  pair_at (suc i) (x ∷ xs) (y ∷ ys) d e lt p = pair_at i xs ys d e (omega (arith, lt)) p.1
 
   -- the same behind the changed front
   pub front_at : (f : Y → Y) (i count : ℕ) (xs : List X) (m : Y) (d : X) → i < length xs → Pairs R xs (changed_front i f (replicate count m)) → R (get_or xs i d) m

@@ -54,13 +54,13 @@ pub fed_none : (step : ℕ) (c : Invocation) (start : List DemuxSeat) → FedOn 
 fed_none step c start = record { at = λ ns p. p; under = λ most p. p }
 
 -- the next node takes the call
-pub fed_more : (step : ℕ) (c : Invocation) (start now : List DemuxSeat) (i : ℕ) (seat : DemuxSeat) → i < length now
-    → ((d : DemuxSeat) (n : Node) → IsSeat (get_or now i d) n → IsSeat seat (answered rules.demux 0 step c n))
-    → ((d : DemuxSeat) → seat.core.entries ≡ (get_or now i d).core.entries + 1)
+pub fed_more : (step : ℕ) (c : Invocation) (start now : List DemuxSeat) (i : ℕ) (seat d : DemuxSeat) → i < length now
+    → ((n : Node) → IsSeat (get_or now i d) n → IsSeat seat (answered rules.demux 0 step c n))
+    → seat.core.entries ≡ (get_or now i d).core.entries + 1
     → FedOn step c start now i → FedOn step c start (set now i seat) (i + 1)
-fed_more step c start now i seat there goes rises fed = record {
-  at = λ ns p. front_more IsSeat (answered rules.demux 0 step c) i now ns seat there goes (fed.at ns p);
-  under = λ most p. front_more IsUnder (λ n. n + 1) i now (replicate DEMUX_NODES most) seat there (λ d m u. omega (arith, rises d, u)) (fed.under most p);
+fed_more step c start now i seat d there goes rises fed = record {
+  at = λ ns p. front_more IsSeat (answered rules.demux 0 step c) i now ns seat d there goes (fed.at ns p);
+  under = λ most p. front_more IsUnder (λ n. n + 1) i now (replicate DEMUX_NODES most) seat d there (λ m u. omega (arith, rises, u)) (fed.under most p);
 }
 
 pub fed_few : (step : ℕ) (c : Invocation) (start now : List DemuxSeat) (i : ℕ) (d : DemuxSeat) → i < length now → AreUnder start (2 ^ 50 - 1) → FedOn step c start now i

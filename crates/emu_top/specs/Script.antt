@@ -1,13 +1,12 @@
 -- What the lines of a script ask for (this project's own).
-use Rattle.std.specs.Prelude.{◌≡◌, false, ℕ, ◌≤◌, ◌==◌, List, [], ◌∷◌, Option, Some, None, if◌then◌else◌, codes}
+use Rattle.std.specs.Prelude.{ℕ, ◌≤◌, ◌==◌, List, [], ◌∷◌, Option, Some, None, if◌then◌else◌, codes}
 use Rattle.std.specs.List.{slice_split}
 use Rattle.std.specs.Option.{option_map, option_and_then}
 use Rattle.dmx_calls.specs.declared.limits.TheConstants.{LARGEST_READ}
 use Rattle.dmx_calls.specs.declared.params.Input.{Input}
 use Rattle.dmx_calls.specs.declared.params.Input.TheVariants.{Frontend, Dvr as DvrInput}
 use Rattle.dmx_calls.specs.declared.params.Output.{Output}
-use Rattle.dmx_calls.specs.declared.params.Output.TheVariants.{Decoder, Tap, TsdemuxTap}
-use Rattle.node_core.specs.Sound.{is_ts_tap}
+use Rattle.dmx_calls.specs.declared.params.Output.TheVariants.{Decoder, Tap, TsTap, TsdemuxTap}
 use Rattle.emu_top.specs.Numbers.{number_between}
 use Rattle.emu_top.specs.Places.{given, filter_of}
 use Rattle.emu_top.specs.Words.{is_word}
@@ -56,12 +55,13 @@ input_named word =
     if is_word word (codes "frontend") then Some Frontend
     else (if is_word word (codes "dvr") then Some DvrInput else None)
 
--- OUTPUT: where its items go; `ts_tap` isn't built yet
+-- OUTPUT: where its items go
 unfoldable pub output_named : List ℕ → Option Output
 output_named word =
     if is_word word (codes "decoder") then Some Decoder
     else (if is_word word (codes "tap") then Some Tap
-    else (if is_word word (codes "tsdemux_tap") then Some TsdemuxTap else None))
+    else (if is_word word (codes "ts_tap") then Some TsTap
+    else (if is_word word (codes "tsdemux_tap") then Some TsdemuxTap else None)))
 
 -- `pes PID INPUT OUTPUT TYPE FLAGS`
 unfoldable pub pes_of : (arguments : List (List ℕ)) → Option Verb
@@ -158,10 +158,9 @@ script_in s = option_map (λ lines. record { lines = lines; stream = s.stream })
 abbrev pub script_of : List ℕ → Option Script
 script_of input = option_and_then script_in (session_of input)
 
--- no read is larger than a node allows, and no filter is for the dvr node
+-- no read is larger than a node allows
 abbrev pub IsVerbInRange : Verb → Type 0
 IsVerbInRange (Read count) = count ≤ LARGEST_READ
-IsVerbInRange (Pes params) = is_ts_tap params.output ≡ false
 IsVerbInRange _ = Unit {0}
 
 -- there are 32 demux nodes

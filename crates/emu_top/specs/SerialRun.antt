@@ -1,5 +1,5 @@
 -- The serial run of a script: its lines done in their order, by one thread, on 32 demux nodes and the dvr node.
-use Rattle.std.specs.Prelude.{ℕ, ◌+◌, ◌/◌, ◌%◌, ◌==◌, Bool, true, false, List, [], ◌∷◌, ◌++◌, length, map, take, drop, replicate, fold, nat_lt, Option, Some, None, slice_get, slice_index, slice_set, if◌then◌else◌}
+use Rattle.std.specs.Prelude.{ℕ, ◌+◌, ◌/◌, ◌%◌, ◌==◌, Bool, true, false, List, [], ◌∷◌, ◌++◌, length, map, take, drop, replicate, fold, nat_lt, slice_index, slice_index_or, slice_set, if◌then◌else◌}
 use Rattle.std.specs.List.{range_with_len}
 use Rattle.dmx_calls.specs.declared.params.Input.TheVariants.{Frontend}
 use Rattle.dmx_calls.specs.declared.limits.TheConstants.{DEMUX_NODES}
@@ -7,7 +7,6 @@ use Rattle.dmx_calls.specs.Invocation as call
 use Rattle.dmx_calls.specs.Invocation.{Invocation}
 use Rattle.dmx_calls.specs.Response.{TapChange, KeepTap, AttachTap, DetachTap}
 use Rattle.dmx_calls.specs.Rules as rules
-use Rattle.dvr_core.specs.Tapped.{changed_at}
 use Rattle.emu_top.specs.declared.script.Verb.{Verb}
 use Rattle.emu_top.specs.declared.script.Verb.TheVariants.{Open, Close, Section, Pes, Add, Remove, Start, Stop, Size, Read, Poll}
 use Rattle.emu_top.specs.declared.script.Target.{Target}
@@ -83,16 +82,20 @@ ticked time r = record r { moment = r.moment + time }
 abbrev pub called_dvr : (who : ℕ) → Invocation → Run → Run
 called_dvr who c r = record r { dvr = answered rules.dvr who (slice_index r.calls who) c r.dvr; calls = one_more who r.calls }
 
+-- the demux node of this number
+abbrev pub demux_node : (node : ℕ) → Run → Node
+demux_node node r = slice_index_or r.demux node (uncalled node)
+
 -- a caller makes a call on this demux node
 abbrev pub called_demux : (node who : ℕ) → Invocation → Run → Run
 called_demux node who c r = record r {
-  demux = changed_at node (answered rules.demux who (slice_index r.calls who) c) r.demux;
+  demux = slice_set r.demux node (answered rules.demux who (slice_index r.calls who) c (demux_node node r));
   calls = one_more who r.calls;
 }
 
 -- what the answer to that call tells of the node's tap
 abbrev pub told_tap : (node who : ℕ) → Invocation → Run → TapChange
-told_tap node who c r = elim (slice_get r.demux node) [ Some n ↦ tap_by rules.demux who c n | None ↦ KeepTap ]
+told_tap node who c r = tap_by rules.demux who c (demux_node node r)
 
 -- a caller tells the dvr node of the change of a demux node's tap
 abbrev pub tapped : TapChange → (node who : ℕ) → Run → Run

@@ -1,8 +1,7 @@
 // A script, run on one thread.
-ghost use Rattle.std.specs.Prelude.{◌≡◌, ℕ, ◌+◌, ◌*◌, ◌-◌, ◌<◌, ◌≤◌, ◌^◌, List, ◌++◌, length, drop, map, slice_index, All, IfOk, OnOk};
+ghost use Rattle.std.specs.Prelude.{◌≡◌, ℕ, ◌+◌, ◌*◌, ◌-◌, ◌<◌, ◌≤◌, ◌^◌, List, [], ◌∷◌, ◌++◌, length, drop, map, slice_index, All, IfOk, OnOk};
 ghost use Rattle.dmx_calls.specs.declared.limits.TheConstants.{DEMUX_NODES as nodes};
 ghost use Rattle.dmx_calls.specs.Calls.{invocation_of, tap_change_of};
-ghost use Rattle.node_core.specs.Stands.{IsBuilt};
 ghost use Rattle.emu_top.specs.Script.{IsVerbInRange, IsTargetInRange, IsInRange};
 ghost use Rattle.emu_top.specs.Nodes.{log_of};
 ghost use Rattle.emu_top.specs.SerialRun.{Run, passed, all_passed, ended, fed, ticked, called_dvr, called_demux, told_tap, tapped, called, asked, done, finished, serial_run, nodes_of};
@@ -210,7 +209,6 @@ impl<'a> Runner<'a> {
         requires counts { Counts self.old }
         requires there { node < nodes }
         requires caller { who < 9 }
-        requires built { IsBuilt (invocation_of call) }
         ensures at { OnOk result ((r : Run) → IsAt self.old r → IsAt self.new (called_demux node who (invocation_of call) r)) }
         ensures tap { IfOk result (λ tap. (r : Run) → IsAt self.old r → tap_change_of tap ≡ told_tap node who (invocation_of call) r) }
         ensures counts { OnOk result (Counts self.new) }
@@ -329,13 +327,16 @@ impl<'a> Runner<'a> {
 
     // The logs of the nodes, the dvr node's last.
     fn into_logs(self) -> Result<Vec<Log>, NoMemory>
-        ensures { IfOk result (λ logs. map told_log logs.items ≡ map (λ seat. told_log seat.log) self.demux.items ++ told_log self.dvr.log ∷ []) }
+        ensures { IfOk result (λ logs. map told_log logs.items ≡ map (λ seat. told_log seat.log) self.entry.demux.items ++ told_log self.entry.dvr.log ∷ []) }
     {
-        let mut logs = Vec::new(self.alloc);
-        'seats: for seat in self.demux {
+        let Runner {
+            alloc, demux, dvr, ..
+        } = self;
+        let mut logs = Vec::new(alloc);
+        'seats: for seat in demux {
             logs.push(seat.log)?;
         }
-        logs.push(self.dvr.log)?;
+        logs.push(dvr.log)?;
         Ok(logs)
     }
 }
@@ -343,8 +344,7 @@ impl<'a> Runner<'a> {
 // The call of a command at this moment.
 fn call_of(alloc: Global, verb: Verb, now: u64) -> Result<Call, NoMemory>
     requires { IsVerbInRange verb }
-    ensures asked { IfOk result (λ call. invocation_of call ≡ asked verb now) }
-    ensures built { IfOk result (λ call. IsBuilt (invocation_of call)) }
+    ensures { IfOk result (λ call. invocation_of call ≡ asked verb now) }
 {
     Ok(match verb {
         Verb::Open => Call::Open,

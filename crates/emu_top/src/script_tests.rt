@@ -194,11 +194,11 @@ const PES: [(&[u8], PesParams); 4] = [
         },
     ),
     (
-        b"c2 pes n0 65535 dvr tap 4294967295 4294967294",
+        b"c2 pes n0 65535 dvr ts_tap 4294967295 4294967294",
         PesParams {
             pid: 65535,
             input: Input::Dvr,
-            output: Output::Tap,
+            output: Output::TsTap,
             pes_type: 4294967295,
             flags: 4294967294,
         },
@@ -374,7 +374,7 @@ const NONE: [&[u8]; 142] = [
     b"c0 pes n0 1 Frontend tap 20 0",
     b"c0 pes n0 1 tap frontend 20 0",
     b"c0 pes n0 1 dvr1 tap 20 0",
-    b"c0 pes n0 1 frontend ts_tap 20 0",
+    b"c0 pes n0 1 frontend TS_TAP 20 0",
     b"c0 pes n0 1 frontend tsdemux 20 0",
     b"c0 pes n0 1 frontend tap 4294967296 0",
     b"c0 pes n0 1 frontend tap 20 4294967296",

@@ -7,7 +7,6 @@ ghost use Rattle.dmx_calls.specs.declared.limits.TheConstants.{DEMUX_NODES as no
 ghost use Rattle.dmx_calls.specs.Invocation as asks;
 ghost use Rattle.dmx_calls.specs.Calls.{invocation_of, response_of, tap_change_of};
 ghost use Rattle.dmx_calls.specs.Rules as rules;
-ghost use Rattle.node_core.specs.Stands.{IsBuilt};
 ghost use Rattle.emu_top.specs.Nodes.{Node, answered, tap_in, tap_by, uncalled};
 ghost use Rattle.emu_top.specs.Runner.{IsSeat, IsDvrSeat, Pairs, AreUnder};
 
@@ -83,7 +82,6 @@ impl DemuxSeat {
         steps: &mut Steps<L>,
     ) -> Result<Heard, NoMemory>
         requires few { self.old.core.entries < 2 ^ 50 }
-        requires built { IsBuilt (invocation_of call) }
         ensures at { OnOk result ((n : Node) → IsSeat self.old n → IsSeat self.new (answered rules.demux who step (invocation_of call) n)) }
         ensures tap { IfOk result (λ heard. (n : Node) → IsSeat self.old n → tap_change_of heard.tap ≡ tap_by rules.demux who (invocation_of call) n) }
         ensures rises { OnOk result (self.new.core.entries ≡ self.old.core.entries + 1) }
@@ -175,17 +173,17 @@ pub fn demux_seats(alloc: Global) -> Result<Vec<DemuxSeat>, NoMemory>
 
 // A batch passes each of these nodes, and is handed on from one to the next.
 pub fn pass_demux<L: Ledger>(
-    seats: &mut Vec<DemuxSeat>,
+    seats: &mut [DemuxSeat],
     alloc: Global,
     step: u64,
     batch: Arc<Batch>,
     now: u64,
     steps: &mut Steps<L>,
 ) -> Result<Arc<Batch>, NoMemory>
-    requires few { AreUnder seats.old.items (2 ^ 50 - 1) }
-    ensures at { OnOk result ((ns : List Node) → Pairs IsSeat seats.old.items ns
-        → Pairs IsSeat seats.new.items (map (answered rules.demux 0 step (asks.Pass Frontend batch.value.first batch.value.packets now)) ns)) }
-    ensures rises { OnOk result ((most : ℕ) → AreUnder seats.old.items most → AreUnder seats.new.items (most + 1)) }
+    requires few { AreUnder seats.old (2 ^ 50 - 1) }
+    ensures at { OnOk result ((ns : List Node) → Pairs IsSeat seats.old ns
+        → Pairs IsSeat seats.new (map (answered rules.demux 0 step (asks.Pass Frontend batch.value.first batch.value.packets now)) ns)) }
+    ensures rises { OnOk result ((most : ℕ) → AreUnder seats.old most → AreUnder seats.new (most + 1)) }
     ensures back { IfOk result (λ back. back.value ≡ batch.value) }
 {
     let mut batch = batch;
@@ -197,14 +195,14 @@ pub fn pass_demux<L: Ledger>(
 
 // End passes each of these nodes.
 pub fn end_demux<L: Ledger>(
-    seats: &mut Vec<DemuxSeat>,
+    seats: &mut [DemuxSeat],
     alloc: Global,
     step: u64,
     steps: &mut Steps<L>,
 ) -> Result<(), NoMemory>
-    requires few { AreUnder seats.old.items (2 ^ 50 - 1) }
-    ensures at { OnOk result ((ns : List Node) → Pairs IsSeat seats.old.items ns → Pairs IsSeat seats.new.items (map (answered rules.demux 0 step asks.End) ns)) }
-    ensures rises { OnOk result ((most : ℕ) → AreUnder seats.old.items most → AreUnder seats.new.items (most + 1)) }
+    requires few { AreUnder seats.old (2 ^ 50 - 1) }
+    ensures at { OnOk result ((ns : List Node) → Pairs IsSeat seats.old ns → Pairs IsSeat seats.new (map (answered rules.demux 0 step asks.End) ns)) }
+    ensures rises { OnOk result ((most : ℕ) → AreUnder seats.old most → AreUnder seats.new (most + 1)) }
 {
     'seats: for seat in seats.iter_mut() {
         seat.call(alloc, 0, step, Call::End, steps)?;

@@ -1,5 +1,6 @@
 use Rattle.std.proofs.Common.{refl, ◌+◌, ◌<◌, length, arith}
 use Rattle.dmx_calls.specs.Calls.{invocation_of}
+use Rattle.emu_top.specs.Runner.{turns}
 use Rattle.emu_top.proofs.Going.{at_called_dvr, counts_more, turns_more, under_more}
 use Rattle.emu_top.proofs.runner.Runner.call_dvr.Goals as goal
 
@@ -8,7 +9,7 @@ returns-clause-at g c r h = at_called_dvr c.args.self.now _ r c.args.who (invoca
 
 pub returns-clause-counts : goal.returns-clause-counts
 returns-clause-counts g c =
-    counts_more c.args.self.now _ c.args.who c.requires.counts c.requires.caller refl (under_more _ _ _ (omega arith) c.requires.counts.demux) (omega (arith, c.in_ok-call.ensures.rises, c.requires.counts.dvr))
+    counts_more c.args.self.now _ c.args.who c.requires.counts c.requires.caller refl (under_more c.args.self.now.demux.items (turns c.args.self.now.calls) (turns c.args.self.now.calls + 1) (omega arith) c.requires.counts.demux) (omega (arith, c.in_ok-call.ensures.rises, c.requires.counts.dvr))
 
 pub returns-clause-rises : goal.returns-clause-rises
 returns-clause-rises g c =
