@@ -66,64 +66,67 @@ fn data(alloc: Global, bytes: [u8; 4]) -> Result<Reply, Fail> {
     Ok(Reply::Data(buf))
 }
 
-static CALLS: [(Act, &str); 16] = [
-    (Act::Open, "open"),
-    (Act::Close, "close"),
-    (
-        pes!(256, Frontend, TsdemuxTap, 20, 0),
-        "pes pid=256 input=frontend output=tsdemux_tap type=20 flags=0 at=3",
-    ),
-    (
-        pes!(0, Dvr, Tap, 1, 4),
-        "pes pid=0 input=dvr output=tap type=1 flags=4 at=3",
-    ),
-    (
-        pes!(65535, Frontend, TsTap, 0, 4294967295),
-        "pes pid=65535 input=frontend output=ts_tap type=0 flags=4294967295 at=3",
-    ),
-    (
-        pes!(8192, Frontend, Decoder, 21, 1),
-        "pes pid=8192 input=frontend output=decoder type=21 flags=1 at=3",
-    ),
-    (
-        Act::Start {
-            now: 18446744073709551615,
-        },
-        "start at=18446744073709551615",
-    ),
-    (Act::AddPid(257), "add 257"),
-    (Act::RemovePid(65535), "remove 65535"),
-    (Act::Stop, "stop"),
-    (Act::SetSize(16777216), "size 16777216"),
-    (Act::Read { now: 70, count: 4 }, "read 4 at=70"),
-    (Act::Poll { now: 12 }, "poll at=12"),
-    (
-        Act::Pass {
-            input: Input::Frontend,
-            first: 128,
-            count: 64,
-            now: 5,
-        },
-        "pass input=frontend first=128 count=64 at=5",
-    ),
-    (
-        Act::Pass {
-            input: Input::Dvr,
-            first: 0,
-            count: 1,
-            now: 0,
-        },
-        "pass input=dvr first=0 count=1 at=0",
-    ),
-    (Act::End, "end"),
-];
+// Calls, and their texts.
+fn calls() -> [(Act, &'static str); 16] {
+    [
+        (Act::Open, "open"),
+        (Act::Close, "close"),
+        (
+            pes!(256, Frontend, TsdemuxTap, 20, 0),
+            "pes pid=256 input=frontend output=tsdemux_tap type=20 flags=0 at=3",
+        ),
+        (
+            pes!(0, Dvr, Tap, 1, 4),
+            "pes pid=0 input=dvr output=tap type=1 flags=4 at=3",
+        ),
+        (
+            pes!(65535, Frontend, TsTap, 0, 4294967295),
+            "pes pid=65535 input=frontend output=ts_tap type=0 flags=4294967295 at=3",
+        ),
+        (
+            pes!(8192, Frontend, Decoder, 21, 1),
+            "pes pid=8192 input=frontend output=decoder type=21 flags=1 at=3",
+        ),
+        (
+            Act::Start {
+                now: 18446744073709551615,
+            },
+            "start at=18446744073709551615",
+        ),
+        (Act::AddPid(257), "add 257"),
+        (Act::RemovePid(65535), "remove 65535"),
+        (Act::Stop, "stop"),
+        (Act::SetSize(16777216), "size 16777216"),
+        (Act::Read { now: 70, count: 4 }, "read 4 at=70"),
+        (Act::Poll { now: 12 }, "poll at=12"),
+        (
+            Act::Pass {
+                input: Input::Frontend,
+                first: 128,
+                count: 64,
+                now: 5,
+            },
+            "pass input=frontend first=128 count=64 at=5",
+        ),
+        (
+            Act::Pass {
+                input: Input::Dvr,
+                first: 0,
+                count: 1,
+                now: 0,
+            },
+            "pass input=dvr first=0 count=1 at=0",
+        ),
+        (Act::End, "end"),
+    ]
+}
 
 #[test]
 fn each_call_has_its_text(rt: HostRuntime) -> Result<(), Fail> {
     let alloc = rt.alloc();
-    for (act, want) in CALLS.iter() {
+    for (act, want) in calls() {
         let mut text = String::new(alloc);
-        add_entry(&mut text, &told(2, 3, 1, act.clone()?, Reply::Passed))?;
+        add_entry(&mut text, &told(2, 3, 1, act, Reply::Passed))?;
         assert_eq!(rt; text, format!(in alloc; "2 c2 1 {want} = passed\n")?);
     }
     Ok(())
@@ -387,7 +390,9 @@ fn taps_have_their_texts(rt: HostRuntime) -> Result<(), Fail> {
         };
         let mut text = String::new(alloc);
         add_entry(&mut text, &told(2, 1, 4, act, reply))?;
-        let line = format!(in alloc; "2 c0 4 attach node=31 pids={want} = done drop=0..188 tap=attach:{want}\n")?;
+        let line = format!(in alloc;
+            "2 c0 4 attach node=31 pids={want} = done drop=0..188 tap=attach:{want}\n"
+        )?;
         assert_eq!(rt; text, line);
     }
     let reply = Reply::Done {
@@ -396,6 +401,9 @@ fn taps_have_their_texts(rt: HostRuntime) -> Result<(), Fail> {
     };
     let mut text = String::new(alloc);
     add_entry(&mut text, &told(3, 8, 5, Act::Detach { node: 4 }, reply))?;
-    assert_eq!(rt; text, "3 c7 5 detach node=4 = done drop=5..6 tap=detach\n");
+    assert_eq!(rt;
+        text.as_str(),
+        "3 c7 5 detach node=4 = done drop=5..6 tap=detach\n"
+    );
     Ok(())
 }

@@ -330,7 +330,10 @@ impl<'a> Runner<'a> {
         ensures { IfOk result (λ logs. map told_log logs.items ≡ map (λ seat. told_log seat.log) self.entry.demux.items ++ told_log self.entry.dvr.log ∷ []) }
     {
         let Runner {
-            alloc, demux, dvr, ..
+            alloc,
+            demux,
+            dvr,
+            ..
         } = self;
         let mut logs = Vec::new(alloc);
         'seats: for seat in demux {

@@ -11,7 +11,7 @@ one_more : (start before after : List ℕ) (logs : List Log) (i : ℕ) (log : Lo
     → before ≡ start ++ flat_map log_text (map told_log (take i logs)) → after ≡ before ++ log_text (told_log log) → after ≡ start ++ flat_map log_text (map told_log (take (i + 1) logs))
 one_more start before after logs i log there is so_far added =
     let next : map told_log (take (i + 1) logs) ≡ map told_log (take i logs) ++ told_log log ∷ [] =
-        ap (λ ls. map told_log ls) (take_more logs i log there) ∙ (map-append told_log (take i logs) (get_or logs i log ∷ []) ∙ ap (λ l. map told_log (take i logs) ++ told_log l ∷ []) (sym is)) in
+    ap (λ ls. map told_log ls) (take_more logs i log there) ∙ (map-append told_log (take i logs) (get_or logs i log ∷ []) ∙ ap (λ l. map told_log (take i logs) ++ told_log l ∷ []) (sym is)) in
     added ∙ (ap (λ text. text ++ log_text (told_log log)) so_far ∙ (flat_map_more log_text start (map told_log (take i logs)) (told_log log) ∙ ap (λ ls. start ++ flat_map log_text ls) (sym next)))
 
 pub logs-init : goal.logs-init

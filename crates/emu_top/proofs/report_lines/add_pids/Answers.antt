@@ -16,8 +16,8 @@ one_more start before after pids place pid some there is so_far added =
 pub pids-preserved : goal.pids-preserved
 pids-preserved c =
     elim c.match-get-2.branch [
-      in-Some-get+in_ok-write-2 w ↦
+      | in-Some-get+in_ok-write-2 w ↦
           one_more (string_bytes c.write.new.self) (string_bytes c.pids.text) (string_bytes c.match-get-2.text) c.args.pids.now c.pids.place w.in-Some-get.pid
           (omega (arith, c.pids.auto.place)) (omega (arith, c.pids-test.true, c.len-place-end.ensures.value)) w.in-Some-get.ensures.value c.pids.invariant (ap string_bytes w.text-is ∙ w.in_ok-write-2.ensures.bytes)
-    | in_default-get w ↦ absurd (omega (arith, w.in_default-get.ensures.none.0 refl, c.pids-test.true, c.len-place-end.ensures.value))
+      | in_default-get w ↦ absurd (omega (arith, w.in_default-get.ensures.none.0 refl, c.pids-test.true, c.len-place-end.ensures.value))
     ]

@@ -14,8 +14,7 @@ next_push R f n xs xs' x grown one before =
 
 pub nodes-preserved : goal.nodes-preserved
 nodes-preserved c =
-    let none : c.new.result.core.entries ≤ 0 = omega (arith, c.new.ensures.none) in
-    (
+    let none : c.new.result.core.entries ≤ 0 = omega (arith, c.new.ensures.none) in (
       next_push IsSeat uncalled c.nodes.node c.nodes.seats.items c.push.new.self.items c.new.result c.in_ok-push.ensures.items c.new.ensures.at c.nodes.invariant.0,
-      next_push IsUnder (λ n. 0) c.nodes.node c.nodes.seats.items c.push.new.self.items c.new.result c.in_ok-push.ensures.items none c.nodes.invariant.1
+      next_push IsUnder (λ n. 0) c.nodes.node c.nodes.seats.items c.push.new.self.items c.new.result c.in_ok-push.ensures.items none c.nodes.invariant.1,
     )

@@ -13,10 +13,9 @@ pub seats-preserved : goal.seats-preserved
 seats-preserved g c =
     let there : c.seats.seat-index < length c.seats.seats = omega (arith, c.seats.auto.seats, c.seats-test.true) in
     let k = c.in_ok-batch.ensures in
-    let goes = rw c.seats.invariant.0 at k.at in
-    (
+    let goes = rw c.seats.invariant.0 at k.at in (
       k.back ∙ c.seats.invariant.0,
-      fed_more c.args.step (call.Pass Frontend c.args.batch.value.first c.args.batch.value.packets c.args.now) c.args.seats.now c.seats.seats c.seats.seat-index c.pass.new.self c.seat-item.result there goes k.rises c.seats.invariant.1
+      fed_more c.args.step (call.Pass Frontend c.args.batch.value.first c.args.batch.value.packets c.args.now) c.args.seats.now c.seats.seats c.seats.seat-index c.pass.new.self c.seat-item.result there goes k.rises c.seats.invariant.1,
     )
 
 pub returns-clause-at : goal.returns-clause-at
