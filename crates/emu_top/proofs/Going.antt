@@ -1,8 +1,8 @@
 -- What each step of a run does to its nodes, its counts and its packets.
-use Rattle.std.proofs.Common.{◌≡◌, refl, sym, ap, subst, ◌∙◌, ℕ, suc, ◌+◌, ◌-◌, ◌/◌, ◌%◌, ◌<◌, ◌≤◌, ◌==◌, if◌then◌else◌, min, true, false, List, [], ◌∷◌, ◌++◌, length, take, drop, replicate, fold, map, set, get_or, Result, Ok, Err, OnOk, arith, inl, inr}
-use Rattle.std.specs.Prelude.{slice_index, sum}
+use Rattle.std.proofs.Common.{◌≡◌, refl, sym, ap, subst, ◌∙◌, ℕ, suc, ◌+◌, ◌-◌, ◌/◌, ◌%◌, ◌<◌, ◌≤◌, ◌==◌, min, true, false, List, [], ◌∷◌, ◌++◌, length, take, drop, replicate, fold, map, set, get_or, arith, inl, inr}
+use Rattle.std.specs.Prelude.{slice_index}
 use Rattle.std.proofs.lemmas.List.{length-set, length-replicate, get_or-replicate, map-append, take-append-le, take_all}
-use Rattle.std.proofs.lemmas.List.Sums.{sum_by-set, get_or-le-sum_by}
+use Rattle.std.proofs.lemmas.List.Sums.{sum_by-set}
 use Rattle.std.proofs.lemmas.Bool.{cases_lt}
 use Rattle.std.proofs.lemmas.Bool.Decides.{nat_tests}
 use Rattle.std.proofs.Math.Numerals.{add-one}
@@ -11,28 +11,19 @@ use Rattle.dmx_calls.specs.declared.params.Input.TheVariants.{Frontend}
 use Rattle.dmx_calls.specs.declared.limits.TheConstants.{DEMUX_NODES}
 use Rattle.dmx_calls.specs.Invocation as call
 use Rattle.dmx_calls.specs.Invocation.{Invocation}
-use Rattle.dmx_calls.specs.Response.{TapChange}
 use Rattle.dmx_calls.specs.Rules as rules
 use Rattle.emu_top.specs.declared.seats.DemuxSeat.{DemuxSeat}
 use Rattle.emu_top.specs.declared.script.Line.{Line}
 use Rattle.emu_top.specs.declared.runner.Runner.{Runner}
-use Rattle.emu_top.specs.Nodes.{Node, uncalled, answered, tap_by, log_of}
-use Rattle.emu_top.specs.SerialRun.{Run, begun, one_more, fed_to_all, passed, batch_sizes, all_passed, ended, called_dvr, called_demux, demux_node, told_tap, done, finished, serial_run, nodes_of}
+use Rattle.emu_top.specs.Nodes.{Node, answered, log_of}
+use Rattle.emu_top.specs.SerialRun.{Run, begun, one_more, passed, batch_sizes, all_passed, ended, called_dvr, called_demux, done, finished, serial_run, nodes_of}
 use Rattle.emu_top.specs.Runner.{told_log, Pairs, IsSeat, IsDvrSeat, IsAt, IsUnder, AreUnder, Counts, turns}
 use Rattle.emu_top.proofs.Pairs.{pair_at, same_length, equal_by, same_weaker, same_set}
-
--- what follows from facts of a call that succeeded
-pub all_ok : {T E P Q R S : Type 0} (r : Result T E) → (P → Q → R → S) → OnOk r P → OnOk r Q → OnOk r R → OnOk r S
-all_ok (Ok v) next p q s = next p q s
-all_ok (Err e) next p q s = tt
 
 -- ------ the callers' counts
 
 pub turns_more : (calls : List ℕ) (who : ℕ) → who < length calls → turns (one_more who calls) ≡ turns calls + 1
 turns_more calls who there = omega (arith, sum_by-set (λ n. n) calls who (slice_index calls who + 1) 0 there)
-
-pub calls_under : (calls : List ℕ) (who : ℕ) → who < length calls → slice_index calls who ≤ turns calls
-calls_under calls who there = get_or-le-sum_by (λ n. n) calls who 0 there
 
 -- one more call, which puts at most one entry on each node
 pub counts_more : (old new : Runner) (who : ℕ) → Counts old → who < 9 → new.calls ≡ one_more who old.calls → AreUnder new.demux.items (turns old.calls + 1) → new.dvr.core.entries ≤ turns old.calls + 1 → Counts new
@@ -105,10 +96,6 @@ at_ended old new r at before more left first moment end = rw (sym at.has_ended �
   has_ended = end;
 }
 
--- it has passed
-pub at_ended_before : (v : Runner) (r : Run) → IsAt v r → v.has_ended ≡ true → IsAt v (ended r)
-at_ended_before v r at before = subst (λ b. IsAt v (if b then r else record (fed_to_all call.End r) { has_ended = true })) (sym (sym at.has_ended ∙ before)) at
-
 -- a caller's call on the dvr node
 pub at_called_dvr : (old new : Runner) (r : Run) (who : ℕ) (c : Invocation) → IsAt old r
     → ((n : Node) → IsDvrSeat old.dvr n → IsDvrSeat new.dvr (answered rules.dvr who (slice_index old.calls who) c n))
@@ -140,12 +127,6 @@ at_called_demux old new r node who c at more dvr calls left first moment end = r
   moment = moment ∙ at.moment;
   has_ended = end ∙ at.has_ended;
 }
-
--- what a node's answer tells of its tap
-pub tap_told : (seats : List DemuxSeat) (r : Run) (node who : ℕ) (c : Invocation) (seat : DemuxSeat) (tap : TapChange) → node < length seats → Pairs IsSeat seats r.demux
-    → ((n : Node) → IsSeat (get_or seats node seat) n → tap ≡ tap_by rules.demux who c n) → tap ≡ told_tap node who c r
-tap_told seats r node who c seat tap there at is =
-    is (demux_node node r) (pair_at IsSeat node seats r.demux seat (uncalled node) there at)
 
 -- ------ batches
 

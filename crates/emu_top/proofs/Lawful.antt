@@ -9,14 +9,14 @@ use Rattle.dmx_calls.specs.declared.params.Input.TheVariants.{Frontend}
 use Rattle.dmx_calls.specs.Invocation as call
 use Rattle.dmx_calls.specs.Invocation.{Invocation}
 use Rattle.dmx_calls.specs.Response.{TapChange, KeepTap, AttachTap, DetachTap}
-use Rattle.dmx_calls.specs.Legal.{IsLegal, IsLegalDvr}
+use Rattle.dmx_calls.specs.Legal.{IsLegal}
 use Rattle.dmx_calls.specs.Rules as rules
 use Rattle.emu_top.specs.declared.script.Target.{Target}
 use Rattle.emu_top.specs.declared.script.Target.TheVariants.{Node as OnNode, Dvr}
 use Rattle.emu_top.specs.declared.script.Line.{Line}
 use Rattle.emu_top.specs.declared.script.Line.TheVariants.{Feed, Tick, Command}
 use Rattle.emu_top.specs.Nodes.{Node, uncalled, history_of, answered}
-use Rattle.emu_top.specs.SerialRun.{Run, begun, fed_to_all, passed, batch_sizes, all_passed, ended, fed, called_dvr, demux_node, called_demux, told_tap, tapped, called, asked, done, finished, serial_run}
+use Rattle.emu_top.specs.SerialRun.{Run, begun, fed_to_all, passed, batch_sizes, all_passed, ended, fed, called_dvr, demux_node, called_demux, told_tap, tapped, called, asked, done, serial_run}
 use Rattle.emu_top.specs.Legal.{AreLegal}
 
 abbrev pub IsLegalNode : Node → Type 0

@@ -1,5 +1,5 @@
 -- Lists whose elements are related one by one, and a change of one element of each.
-use Rattle.std.proofs.Common.{ℕ, zero, suc, ◌+◌, ◌<◌, ◌≤◌, ◌≡◌, refl, ap, sym, subst, ◌∙◌, List, [], ◌∷◌, ◌++◌, set, get_or, map, replicate, length, arith}
+use Rattle.std.proofs.Common.{ℕ, zero, suc, ◌+◌, ◌<◌, ◌≤◌, ◌≡◌, refl, ap, sym, subst, List, [], ◌∷◌, ◌++◌, set, get_or, map, replicate, length, arith}
 use Rattle.std.proofs.Math.Numerals.{add-one}
 use Rattle.emu_top.specs.Runner.{Pairs}
 

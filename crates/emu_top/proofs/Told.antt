@@ -1,5 +1,5 @@
 -- What one call does to a node with its log.
-use Rattle.std.proofs.Common.{◌≡◌, ◌≢◌, refl, sym, ap, subst, ◌∙◌, ℕ, ◌+◌, ◌-◌, ◌<◌, ◌≤◌, ◌^◌, List, ◌∷◌, length, map, replicate, get_or, set, inl, inr, arith}
+use Rattle.std.proofs.Common.{◌≡◌, ◌≢◌, ap, subst, ◌∙◌, ℕ, ◌+◌, ◌-◌, ◌<◌, ◌≤◌, ◌^◌, List, ◌∷◌, length, map, replicate, get_or, set, inl, inr, arith}
 use Rattle.dmx_calls.specs.declared.limits.TheConstants.{DEMUX_NODES}
 use Rattle.dmx_calls.specs.Invocation.{Invocation}
 use Rattle.dmx_calls.specs.Response.{Response, NoMemory}
@@ -49,9 +49,6 @@ dvr_seat_answered old new n who step c r at some may stands more =
 pub record FedOn (step : ℕ) (c : Invocation) (start now : List DemuxSeat) (count : ℕ) : Type 0 where
   pub at : (ns : List Node) → Pairs IsSeat start ns → Pairs IsSeat now (changed_front count (answered rules.demux 0 step c) ns)
   pub under : (most : ℕ) → AreUnder start most → Pairs IsUnder now (changed_front count (λ n. n + 1) (replicate DEMUX_NODES most))
-
-pub fed_none : (step : ℕ) (c : Invocation) (start : List DemuxSeat) → FedOn step c start start 0
-fed_none step c start = record { at = λ ns p. p; under = λ most p. p }
 
 -- the next node takes the call
 pub fed_more : (step : ℕ) (c : Invocation) (start now : List DemuxSeat) (i : ℕ) (seat d : DemuxSeat) → i < length now

@@ -25,7 +25,7 @@ pub record Run : Type 0 where
   pub moment : ℕ
   pub has_ended : Bool
 
--- before the first line
+-- before the first line; the callers are the feeder and eight clients
 abbrev pub begun : List (List ℕ) → Run
 begun packets = record {
   demux = map uncalled (range_with_len 0 DEMUX_NODES);

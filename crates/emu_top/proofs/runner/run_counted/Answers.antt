@@ -1,4 +1,4 @@
-use Rattle.std.proofs.Common.{rules, subst, refl, sym, ap, ◌∙◌, ◌≡◌, ◌≤◌, ℕ, take, replicate, length, map, fold, IfOk, arith}
+use Rattle.std.proofs.Common.{rules, subst, refl, ◌≡◌, ◌≤◌, take, length, map, fold, IfOk, arith}
 use Rattle.std.proofs.lemmas.List.{take_all}
 use Rattle.emu_top.specs.SerialRun.{begun, done}
 use Rattle.emu_top.specs.Runner.{told_log, IsAt}
