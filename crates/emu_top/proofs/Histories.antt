@@ -1,5 +1,5 @@
 -- What is written for an input is the report of 33 lawful histories.
-use Rattle.std.proofs.Common.{refl, ℕ, Bool, true, false, if◌then◌else◌, List, length, Option, Some, None}
+use Rattle.std.proofs.Common.{ℕ, Bool, true, false, if◌then◌else◌, List, length, Option, Some, None}
 use Rattle.std.specs.Prelude.{nat_le, MatchOption}
 use Rattle.std.specs.Option.{option_and_then, option_map}
 use Rattle.std.specs.Io.KnownBytes.{Appends}

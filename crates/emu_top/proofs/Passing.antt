@@ -1,5 +1,5 @@
 -- Every packet of a serial run passes each node once, in its order: those that have passed a node are followed by those that are left.
-use Rattle.std.proofs.Common.{◌≡◌, refl, sym, ap, subst, if◌then◌else◌, ◌∙◌, ℕ, zero, suc, ◌+◌, ◌*◌, ◌/◌, ◌%◌, ◌<◌, ◌≤◌, ◌==◌, Bool, true, false, List, [], ◌∷◌, ◌++◌, length, map, take, drop, replicate, fold, get_or, nat_lt, append-nil, zero-add, arith}
+use Rattle.std.proofs.Common.{◌≡◌, refl, sym, ap, subst, if◌then◌else◌, ◌∙◌, ℕ, zero, suc, ◌+◌, ◌/◌, ◌%◌, ◌==◌, Bool, true, false, List, [], ◌∷◌, ◌++◌, length, map, take, drop, replicate, fold, nat_lt, append-nil, zero-add, arith}
 use Rattle.std.specs.Prelude.{slice_index, sum}
 use Rattle.std.proofs.lemmas.List.{take-append-drop, drop_all, drop-drop, append_assoc, map-append, replicate-append-replicate}
 use Rattle.std.proofs.lemmas.List.Sums.{sum_by-append, sum_by-cons}
@@ -21,7 +21,7 @@ use Rattle.emu_top.specs.declared.script.Target.TheVariants.{Node as OnNode, Dvr
 use Rattle.emu_top.specs.declared.script.Line.{Line}
 use Rattle.emu_top.specs.declared.script.Line.TheVariants.{Feed, Tick, Command}
 use Rattle.emu_top.specs.Nodes.{Node, uncalled, answered}
-use Rattle.emu_top.specs.SerialRun.{Run, begun, fed_to_all, passed, batch_sizes, all_passed, ended, fed, called_dvr, demux_node, called_demux, told_tap, tapped, called, asked, done, finished, serial_run, nodes_of}
+use Rattle.emu_top.specs.SerialRun.{Run, begun, fed_to_all, passed, batch_sizes, all_passed, ended, fed, called_dvr, demux_node, called_demux, told_tap, tapped, called, asked, done, finished, serial_run}
 use Rattle.emu_top.specs.Legal.{brought, packets_through, HavePassed}
 
 -- the same packets have passed all nodes, and are followed by those that are left

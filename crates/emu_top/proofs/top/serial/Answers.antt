@@ -1,5 +1,4 @@
 use Rattle.std.proofs.Common.{rules, map, string_bytes}
-use Rattle.emu_top.specs.Serial.{WritesOutput}
 use Rattle.emu_top.proofs.Histories.{writes_histories}
 use Rattle.emu_top.proofs.top.serial.Goals as goal
 
