@@ -135,7 +135,7 @@ impl Kept {
         }
     }
 
-    /// Another size ends the capture, and another begins. The size that the node has changes nothing.
+    /// Another size, in bytes, ends the capture, and another begins. The size that the node has changes nothing.
     pub fn set_size(&mut self, alloc: Global, size: u32) -> Reply
         requires sound { CoherentIn (knows_of self.old).facts.ledger }
         requires taken { IsTaken (knows_of self.old) (SetSize size) }

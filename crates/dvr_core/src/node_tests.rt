@@ -403,14 +403,18 @@ const PIECES: &[Row] = &[
     // packets of another input aren't recorded
     (0, Step::Write, Want::Passed),
     (1, Step::Read(65_536), Want::Again(false)),
-    // there is no demux node above 31
+    // there is no demux node above 31: the tap of node 0 is neither replaced nor detached
+    (1, Step::Attach(32, &[]), DONE),
+    (1, Step::Detach(32), DONE),
+    (0, Step::Feed(&[P2]), Want::Passed),
+    (1, Step::Read(65_536), Want::Data(&[(P2, 0, 188)])),
+    // and no tap comes
     (1, Step::Detach(0), DONE),
     (1, Step::Attach(32, &[0x2000]), DONE),
     (1, Step::Attach(4_294_967_295, &[0x2000]), DONE),
-    (1, Step::Detach(32), DONE),
-    (0, Step::Feed(&[P2]), Want::Passed),
+    (0, Step::Feed(&[P3]), Want::Passed),
     (1, Step::Read(65_536), Want::Again(false)),
-    (1, Step::Close, Want::Done(376, 376)),
+    (1, Step::Close, Want::Done(564, 564)),
 ];
 
 #[test]
@@ -471,7 +475,11 @@ const REFUSALS: &[Row] = &[
     // another caller
     (2, Step::Close, EBADF),
     (2, Step::SetFilter, EBADF),
+    (2, Step::SetPes, EBADF),
+    (2, Step::Add, EBADF),
+    (2, Step::Remove, EBADF),
     (2, Step::Start, EBADF),
+    (2, Step::Stop, EBADF),
     (2, Step::Size(1_925_120), EBADF),
     (2, Step::Read(0), EBADF),
     (2, Step::Poll, EBADF),

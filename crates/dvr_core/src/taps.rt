@@ -10,7 +10,7 @@ use pid_set::Pids;
 use std::marker::Model;
 use ts_packet::Packet;
 
-// A demux node's tap: the client that attached it, and the PIDs that it names.
+/// A demux node's tap: the client that attached it, and the PIDs that it names.
 #[derive(Drop)]
 struct Tap {
     by: u32,
@@ -82,7 +82,7 @@ impl Taps {
     }
 }
 
-// Whether the client `who` attached this tap.
+/// Whether the client `who` attached this tap.
 fn is_of(tap: &Option<Tap>, who: u32) -> bool
     ensures own { result ≡ true → detached_by who tap.now ≡ None }
     ensures other { result ≡ false → detached_by who tap.now ≡ tap.now }
@@ -93,7 +93,7 @@ fn is_of(tap: &Option<Tap>, who: u32) -> bool
     }
 }
 
-// Whether this tap names a packet: one of its PIDs is the packet's, or names every packet.
+/// Whether this tap names a packet: one of its PIDs is the packet's, or names every packet.
 fn names_packet(tap: &Option<Tap>, packet: &Packet) -> bool
     ensures { result ≡ tap_names packet.now tap.now }
 {

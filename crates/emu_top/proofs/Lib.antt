@@ -6,3 +6,5 @@ pub mod Scripts
 pub mod Told
 pub mod Values
 pub mod PidTexts
+pub mod Passing
+pub mod Histories
