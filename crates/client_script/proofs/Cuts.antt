@@ -1,0 +1,43 @@
+-- The first piece of a list, and the pieces behind it.
+use Rattle.std.proofs.Common.{◌≡◌, ◌<◌, ◌≤◌, ◌+◌, refl, sym, ap, ◌∙◌, ℕ, Bool, true, false, not, cond, List, [], ◌∷◌, length, take, drop, Option, Some, None, rules, arith}
+use Rattle.std.proofs.lemmas.Bool.Decides.{nat_tests}
+use Rattle.std.proofs.lemmas.List.Splits.{slice_split_first, slice_split-cons_no}
+use Rattle.std.specs.Prelude.{nat_lt}
+use Rattle.std.specs.List.{slice_split, onto_first, position, position_or_len}
+
+cut_below : (p : ℕ → Bool) (xs : List ℕ) (i : ℕ) (b : Bool) → nat_lt (position_or_len p xs) (length xs) ≡ b → cond b (Some (position_or_len p xs)) None ≡ Some i
+    → slice_split p xs ≡ take i xs ∷ slice_split p (drop (i + 1) xs)
+cut_below p xs i true e h =
+    let same : position_or_len p xs ≡ i = cc in
+    let below : position_or_len p xs < length xs = grind (arith, nat_tests) in
+    rw (← same) (slice_split_first p xs 0 below)
+cut_below p xs i false e h = absurd (cc)
+
+-- the piece in front of the first place that passes
+pub cut-some : (p : ℕ → Bool) (xs : List ℕ) (i : ℕ) → position p xs ≡ Some i → slice_split p xs ≡ take i xs ∷ slice_split p (drop (i + 1) xs)
+cut-some p xs i h = cut_below p xs i (nat_lt (position_or_len p xs) (length xs)) refl h
+
+whole_more : (p : ℕ → Bool) (x : ℕ) (xs : List ℕ) → (length xs ≡ position_or_len p xs → slice_split p xs ≡ xs ∷ []) → length (x ∷ xs) ≡ position_or_len p (x ∷ xs)
+    → (b : Bool) → p x ≡ b → slice_split p (x ∷ xs) ≡ (x ∷ xs) ∷ []
+whole_more p x xs more h true e = absurd (grind arith)
+whole_more p x xs more h false e =
+    let shorter : length xs ≡ position_or_len p xs = grind arith in
+    slice_split-cons_no p x xs e ∙ ap (onto_first x) (more shorter)
+
+whole : (p : ℕ → Bool) (xs : List ℕ) → length xs ≡ position_or_len p xs → slice_split p xs ≡ xs ∷ []
+whole p [] h = refl
+whole p (x ∷ xs) h = whole_more p x xs (whole p xs) h (p x) refl
+
+within : (p : ℕ → Bool) (xs : List ℕ) → position_or_len p xs ≤ length xs
+within p [] = omega arith
+within p (x ∷ xs) = grind (arith, within p xs)
+
+cut_nowhere : (p : ℕ → Bool) (xs : List ℕ) (b : Bool) → nat_lt (position_or_len p xs) (length xs) ≡ b → cond b (Some (position_or_len p xs)) None ≡ None → slice_split p xs ≡ xs ∷ []
+cut_nowhere p xs true e h = absurd (cc)
+cut_nowhere p xs false e h =
+    let all : length xs ≤ position_or_len p xs = grind (arith, nat_tests) in
+    whole p xs (omega (arith, within p xs))
+
+-- the one piece, where no place passes
+pub cut-none : (p : ℕ → Bool) (xs : List ℕ) → position p xs ≡ None → slice_split p xs ≡ xs ∷ []
+cut-none p xs h = cut_nowhere p xs (nat_lt (position_or_len p xs) (length xs)) refl h

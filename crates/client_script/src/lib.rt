@@ -1,0 +1,14 @@
+//! The script language of sessions.
+#![tactic(auto)]
+
+mod fault;
+mod line;
+mod names;
+mod number;
+mod pieces;
+mod places;
+mod verbs;
+mod words;
+
+pub use fault::{FaultKind, ScriptError, ScriptFault};
+pub use line::{Line, Target, Verb};
