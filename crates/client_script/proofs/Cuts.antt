@@ -1,9 +1,10 @@
 -- The first piece of a list, and the pieces behind it.
 use Rattle.std.proofs.Common.{◌≡◌, ◌<◌, ◌≤◌, ◌+◌, refl, sym, ap, ◌∙◌, ℕ, Bool, true, false, not, cond, List, [], ◌∷◌, length, take, drop, Option, Some, None, rules, arith}
 use Rattle.std.proofs.lemmas.Bool.Decides.{nat_tests}
-use Rattle.std.proofs.lemmas.List.Splits.{slice_split_first, slice_split-cons_no}
-use Rattle.std.specs.Prelude.{nat_lt}
+use Rattle.std.proofs.lemmas.List.Splits.{slice_split_first, slice_split-cons_no, length-slice_split}
+use Rattle.std.specs.Prelude.{nat_lt, ◌==◌}
 use Rattle.std.specs.List.{slice_split, onto_first, position, position_or_len}
+use Rattle.client_script.specs.Script.{without_last, whole_lines}
 
 cut_below : (p : ℕ → Bool) (xs : List ℕ) (i : ℕ) (b : Bool) → nat_lt (position_or_len p xs) (length xs) ≡ b → cond b (Some (position_or_len p xs)) None ≡ Some i
     → slice_split p xs ≡ take i xs ∷ slice_split p (drop (i + 1) xs)
@@ -41,3 +42,13 @@ cut_nowhere p xs false e h =
 -- the one piece, where no place passes
 pub cut-none : (p : ℕ → Bool) (xs : List ℕ) → position p xs ≡ None → slice_split p xs ≡ xs ∷ []
 cut-none p xs h = cut_nowhere p xs (nat_lt (position_or_len p xs) (length xs)) refl h
+
+behind_first : (line : List ℕ) (pieces : List (List ℕ)) → 0 < length pieces → without_last (line ∷ pieces) ≡ line ∷ without_last pieces
+behind_first line [] some = absurd (omega arith)
+behind_first line (piece ∷ more) some = refl
+
+-- the first whole line, and those behind it
+pub first-line : (bytes line behind : List ℕ) → slice_split (λ byte. byte == 10) bytes ≡ line ∷ slice_split (λ byte. byte == 10) behind → whole_lines bytes ≡ line ∷ whole_lines behind
+first-line bytes line behind split =
+    let some : 0 < length (slice_split (λ byte. byte == 10) behind) = omega (arith, length-slice_split (λ (byte : ℕ). byte == 10) behind) in
+    rw split (behind_first line (slice_split (λ byte. byte == 10) behind) some)

@@ -1,3 +1,4 @@
 pub mod Cuts
 pub mod Filters
+pub mod Scripts
 pub mod Values

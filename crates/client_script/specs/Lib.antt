@@ -1,4 +1,5 @@
 pub mod Grammar
 pub mod Numbers
 pub mod Places
+pub mod Script
 pub mod Words

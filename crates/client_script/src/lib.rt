@@ -7,8 +7,10 @@ mod names;
 mod number;
 mod pieces;
 mod places;
+mod script;
 mod verbs;
 mod words;
 
 pub use fault::{FaultKind, ScriptError, ScriptFault};
 pub use line::{Line, Target, Verb};
+pub use script::Script;
