@@ -3,7 +3,7 @@ use Rattle.std.proofs.Common.{◌≡◌, ◌<◌, ◌≤◌, ◌+◌, refl, sym,
 use Rattle.std.proofs.lemmas.Bool.Decides.{nat_tests}
 use Rattle.std.proofs.lemmas.List.Splits.{slice_split_first, slice_split-cons_no, length-slice_split}
 use Rattle.std.specs.Prelude.{nat_lt, ◌==◌}
-use Rattle.std.specs.List.{slice_split, onto_first, position, position_or_len}
+use Rattle.std.specs.List.{slice_split, onto_first, position, position_or_len, count_by}
 use Rattle.client_script.specs.Script.{without_last, whole_lines}
 
 cut_below : (p : ℕ → Bool) (xs : List ℕ) (i : ℕ) (b : Bool) → nat_lt (position_or_len p xs) (length xs) ≡ b → cond b (Some (position_or_len p xs)) None ≡ Some i
@@ -52,3 +52,14 @@ pub first-line : (bytes line behind : List ℕ) → slice_split (λ byte. byte =
 first-line bytes line behind split =
     let some : 0 < length (slice_split (λ byte. byte == 10) behind) = omega (arith, length-slice_split (λ (byte : ℕ). byte == 10) behind) in
     rw split (behind_first line (slice_split (λ byte. byte == 10) behind) some)
+
+length-without_last : (pieces : List (List ℕ)) → 0 < length pieces → length (without_last pieces) + 1 ≡ length pieces
+length-without_last [] some = absurd (omega arith)
+length-without_last (piece ∷ []) some = refl
+length-without_last (piece ∷ next ∷ more) some = omega (arith, length-without_last (next ∷ more) (omega arith))
+
+-- there are as many whole lines as line feeds
+pub length-whole_lines : (bytes : List ℕ) → length (whole_lines bytes) ≡ count_by (λ byte. byte == 10) bytes
+length-whole_lines bytes =
+    let pieces = length-slice_split (λ (byte : ℕ). byte == 10) bytes in
+    omega (arith, length-without_last (slice_split (λ byte. byte == 10) bytes) (omega arith))

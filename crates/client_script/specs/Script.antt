@@ -1,6 +1,6 @@
 -- The lines of a script, and how a session's input falls into a script and a stream (this project's own).
 use Rattle.std.specs.Prelude.{◌≡◌, ℕ, ◌+◌, ◌≤◌, ◌==◌, Bool, List, [], ◌∷◌, ◌++◌, length, take, drop, max, fold, Option, Some, None, Result, Ok, Err, if◌then◌else◌, codes}
-use Rattle.std.specs.List.{All, slice_split}
+use Rattle.std.specs.List.{All, slice_split, count_by}
 use Rattle.std.specs.Option.{option_map}
 use Rattle.client_script.specs.Words.{is_word}
 use Rattle.client_script.specs.Grammar.{meaning, IsInRange}
@@ -46,15 +46,19 @@ before line (Err kind) behind = Err (record { line = line; kind = kind })
 before line (Ok asked) (Ok lines) = Ok (lines_of asked ++ lines)
 before line (Ok asked) (Err fault) = Err fault
 
--- What whole lines ask for, up to the line `stream`, where the first of them has this number. Without a line `stream` the
--- fault is in the line behind them.
-unfoldable pub lines_from : (line : ℕ) → List (List ℕ) → Parsed
-lines_from line [] = Err (record { line = line; kind = NoStream })
-lines_from line (bytes ∷ more) = if is_stream bytes then Ok [] else before line (meaning line bytes) (lines_from (line + 1) more)
+-- What whole lines mean, up to the line `stream`, where the first of them has this number; and `missing` where none of
+-- them is the line `stream` and none has a fault.
+unfoldable pub lines_from : (missing : ScriptFault) → (line : ℕ) → List (List ℕ) → Parsed
+lines_from missing line [] = Err missing
+lines_from missing line (bytes ∷ more) =
+    if is_stream bytes then Ok [] else before line (meaning line bytes) (lines_from missing (line + 1) more)
 
--- What the lines of a script ask for, in their order, or the first fault. Lines are numbered from 1.
+-- The lines of a script, in their order, or its first fault. Lines are numbered from 1. Where none is the line `stream`,
+-- and none has a fault, the fault is in the line 1 plus the number of line feeds.
 unfoldable pub grammar : List ℕ → Parsed
-grammar bytes = lines_from 1 (whole_lines bytes)
+grammar bytes =
+    let missing : ScriptFault = record { line = 1 + count_by (λ byte. byte == 10) bytes; kind = NoStream } in
+    lines_from missing 1 (whole_lines bytes)
 
 -- ------ what is known of a script
 
