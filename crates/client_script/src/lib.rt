@@ -8,6 +8,8 @@ mod number;
 mod pieces;
 mod places;
 mod script;
+#[cfg(test)]
+mod tests;
 mod verbs;
 mod words;
 

@@ -6,7 +6,9 @@ ghost use Rattle.client_script.specs.declared.fault.FaultKind.TheVariants.{Name 
 
 use crate::fault::FaultKind;
 use crate::line::{Line, Target, Verb};
-use crate::names::{CommandName, client_named, command_named, input_named, output_named, target_named};
+use crate::names::{
+    CommandName, client_named, command_named, input_named, output_named, target_named,
+};
 use crate::number::number_between;
 use crate::places::read_filter;
 use crate::words::{Words, is_word};
