@@ -1,6 +1,7 @@
 //! The script language of sessions.
 #![tactic(auto)]
 
+pub mod examples;
 mod fault;
 mod line;
 mod names;

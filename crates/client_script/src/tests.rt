@@ -574,11 +574,20 @@ fn a_script_gives_its_lines_in_their_order(rt: HostRuntime) -> Result<(), Fail> 
     Ok(())
 }
 
+// So many bytes of one kind.
+fn repeated(alloc: Global, byte: u8, count: usize) -> Result<Vec<u8>, Fail> {
+    let mut bytes = Vec::new(alloc);
+    for _ in 0..count {
+        bytes.push(byte)?;
+    }
+    Ok(bytes)
+}
+
 #[test]
 fn the_most_bytes_without_a_script(rt: HostRuntime) -> Result<(), Fail> {
-    let comment = [b'#'].repeat(rt.alloc(), MOST_BYTES)?;
-    assert!(rt; has_fault(&rt, rt.alloc(), &comment, 1, FaultKind::NoStream)?);
-    let empty = [b'\n'].repeat(rt.alloc(), MOST_BYTES)?;
-    assert!(rt; has_fault(&rt, rt.alloc(), &empty, 1_048_577, FaultKind::NoStream)?);
+    for (byte, line) in [(b'#', 1), (b'\n', 1_048_577)] {
+        let bytes = repeated(rt.alloc(), byte, MOST_BYTES)?;
+        assert!(rt; has_fault(&rt, rt.alloc(), &bytes, line, FaultKind::NoStream)?);
+    }
     Ok(())
 }
