@@ -1,8 +1,8 @@
 -- What the words that are still to come make of a filter.
 use Rattle.std.proofs.Common.{◌≡◌, refl, ℕ, suc, ◌+◌, List, [], ◌∷◌, fold}
-use Rattle.std.specs.Prelude.{Option, Some, None, Ok, Err}
+use Rattle.std.specs.Prelude.{Some, None, Ok, Err}
 use Rattle.filter_match.specs.declared.filter.SectionFilter.{SectionFilter}
-use Rattle.client_script.specs.Words.{Reading, and_then, made, said}
+use Rattle.client_script.specs.Words.{Reading, and_then, made}
 use Rattle.client_script.specs.Places.{place_of, places_in, with_place}
 use Rattle.client_script.specs.declared.fault.FaultKind.TheVariants.{Bytes}
 use Rattle.client_script.specs.declared.places.Place.{Place}

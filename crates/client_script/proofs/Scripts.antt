@@ -1,8 +1,8 @@
 -- What the lines that were read and the bytes behind them make of a script.
-use Rattle.std.proofs.Common.{◌≡◌, refl, Bool, true, false, ℕ, List, [], ◌∷◌, ◌++◌, ◌+◌, sym, append_assoc}
+use Rattle.std.proofs.Common.{◌≡◌, refl, true, false, ℕ, List, [], ◌∷◌, ◌++◌, ◌+◌, append_assoc}
 use Rattle.std.proofs.lemmas.List.{append-nil}
 use Rattle.std.specs.List.{count_by}
-use Rattle.std.specs.Prelude.{◌==◌, Option, Some, None, Ok, Err}
+use Rattle.std.specs.Prelude.{◌==◌, Option, Ok, Err}
 use Rattle.client_script.specs.Grammar.{meaning}
 use Rattle.client_script.specs.Script.{Parsed, before, lines_of, lines_from, whole_lines, is_stream, grammar}
 use Rattle.client_script.specs.declared.fault.ScriptFault.{ScriptFault}

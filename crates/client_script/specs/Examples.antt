@@ -4,7 +4,7 @@ use Rattle.std.specs.List.{flat_map}
 use Rattle.dmx_calls.specs.declared.params.Input.TheVariants.{Frontend}
 use Rattle.dmx_calls.specs.declared.params.Output.TheVariants.{TsTap}
 use Rattle.client_script.specs.Grammar.{meaning}
-use Rattle.client_script.specs.Script.{Parsed, grammar, split}
+use Rattle.client_script.specs.Script.{grammar, split}
 use Rattle.client_script.specs.declared.fault.FaultKind.{FaultKind}
 use Rattle.client_script.specs.declared.fault.FaultKind.TheVariants.{Client, Command as NoCommand, Target as NoTarget, Number, Name, Bytes, Count, NoStream}
 use Rattle.client_script.specs.declared.line.Line.{Line}

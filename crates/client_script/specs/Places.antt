@@ -1,6 +1,6 @@
 -- How words name the bytes of a section filter (this project's own).
 use Rattle.std.specs.Prelude.{ℕ, zero, suc, ◌+◌, ◌-◌, ◌==◌, ◌&&◌, List, [], ◌∷◌, length, take, drop, fold, replicate, slice_set, Option, Some, None, Ok, if◌then◌else◌}
-use Rattle.std.specs.Option.{option_map, option_and_then}
+use Rattle.std.specs.Option.{option_and_then}
 use Rattle.filter_match.specs.declared.filter.SectionFilter.{SectionFilter}
 use Rattle.client_script.specs.Numbers.{number_between, hex_byte}
 use Rattle.client_script.specs.Words.{Reading, and_then, made, said}

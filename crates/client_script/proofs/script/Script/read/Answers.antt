@@ -1,7 +1,6 @@
-use Rattle.std.proofs.Common.{◌≡◌, ◌+◌, ◌≤◌, ◌<◌, ◌∷◌, ◌++◌, [], length, true, false, ap, ◌∙◌, rules, arith, length-append}
-use Rattle.std.proofs.lemmas.List.Elements.{All-push}
-use Rattle.std.specs.Prelude.{Some, None, Ok, Err}
-use Rattle.client_script.specs.Grammar.{IsInRange, meaning}
+use Rattle.std.proofs.Common.{◌≡◌, ◌∷◌, ◌++◌, [], length, true, false, ap, ◌∙◌, rules, arith}
+use Rattle.std.specs.Prelude.{Ok, Err}
+use Rattle.client_script.specs.Grammar.{meaning}
 use Rattle.client_script.specs.Script.{whole_lines, is_stream, lines_of}
 use Rattle.client_script.proofs.Cuts.{length-whole_lines}
 use Rattle.client_script.proofs.Scripts.{missing_in, script_by-start, script_by-end, script_by-stream, script_by-fault, script_by-line}
