@@ -3,4 +3,5 @@ pub mod Grammar
 pub mod Numbers
 pub mod Places
 pub mod Script
+pub mod Spelling
 pub mod Words

@@ -31,6 +31,7 @@ mod number;
 mod pieces;
 mod places;
 mod script;
+mod spelling;
 #[cfg(test)]
 mod tests;
 mod verbs;
@@ -39,3 +40,4 @@ mod words;
 pub use fault::{FaultKind, ScriptError, ScriptFault};
 pub use line::{Line, Target, Verb};
 pub use script::Script;
+pub use spelling::print;
