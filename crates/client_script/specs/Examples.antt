@@ -5,6 +5,7 @@ use Rattle.dmx_calls.specs.declared.params.Input.TheVariants.{Frontend}
 use Rattle.dmx_calls.specs.declared.params.Output.TheVariants.{TsTap}
 use Rattle.client_script.specs.Grammar.{meaning}
 use Rattle.client_script.specs.Script.{grammar, split}
+use Rattle.client_script.specs.Spelling.{spelling}
 use Rattle.client_script.specs.declared.fault.FaultKind.{FaultKind}
 use Rattle.client_script.specs.declared.fault.FaultKind.TheVariants.{Client, Command as NoCommand, Target as NoTarget, Number, Name, Bytes, Count, NoStream}
 use Rattle.client_script.specs.declared.line.Line.{Line}
@@ -105,3 +106,30 @@ InputWithAStream =
 
 abbrev pub InputWithoutAStream : Type 0
 InputWithoutAStream = split (codes "stream") ≡ record { script = codes "stream"; stream = None }
+
+-- ------ spellings
+
+-- these lines are spelled so, each with its line feed
+abbrev pub Spellings : Type 0
+Spellings =
+    map spelling (Feed 1 ∷ Tick 0 ∷ Command 5 7 Dvr Open ∷ Command 5 1 (Slot 31) (ReadWait 65536) ∷ [])
+    ≡ map (λ line. line ++ 10 ∷ []) (codes "feed 1" ∷ codes "tick 0" ∷ codes "c7 open dvr" ∷ codes "c1 readw h31 65536" ∷ [])
+
+abbrev pub SectionSpelling : Type 0
+SectionSpelling =
+    spelling (Command 5 0 (Node 0) (Section (record {
+      pid = 1;
+      filter = record {
+        filter = 0 ∷ 0 ∷ 0 ∷ 10 ∷ replicate 12 0;
+        mask = 0 ∷ 0 ∷ 0 ∷ 255 ∷ replicate 12 0;
+        mode = replicate 16 0;
+      };
+      timeout = 0;
+      flags = 0;
+    })))
+    ≡ codes "c0 section n0 1 0 0 3=0a/ff/00" ++ 10 ∷ []
+
+abbrev pub PesSpelling : Type 0
+PesSpelling =
+    spelling (Command 5 4 (Node 4) (Pes (record { pid = 256; input = Frontend; output = TsTap; pes_type = 20; flags = 0 })))
+    ≡ codes "c4 pes n4 256 frontend ts_tap 20 0" ++ 10 ∷ []

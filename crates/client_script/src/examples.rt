@@ -1,7 +1,7 @@
 // Worked examples: what the grammar gives for lines and scripts that were worked out by hand from the rules. Each is a
 // clause of a function that does nothing, so the check computes it.
 
-ghost use Rattle.client_script.specs.Examples.{PassedOver, FeedsAndTicks, Commands, PesFilter, SectionFilter, ClientFaults, CommandFaults, TargetFaults, NumberFaults, NameFaults, BytesFaults, CountFaults, ThirdLine, LinesBehindTheStream, NoBytes, LineWithoutItsEnd, FaultBeforeTheEnd, InputWithAStream, InputWithoutAStream};
+ghost use Rattle.client_script.specs.Examples.{PassedOver, FeedsAndTicks, Commands, PesFilter, SectionFilter, ClientFaults, CommandFaults, TargetFaults, NumberFaults, NameFaults, BytesFaults, CountFaults, ThirdLine, LinesBehindTheStream, NoBytes, LineWithoutItsEnd, FaultBeforeTheEnd, InputWithAStream, InputWithoutAStream, Spellings, SectionSpelling, PesSpelling};
 
 /// What lines ask for.
 pub fn lines()
@@ -36,4 +36,11 @@ pub fn scripts()
 pub fn inputs()
     ensures with_a_stream { InputWithAStream }
     ensures without_a_stream { InputWithoutAStream }
+{}
+
+/// Spellings.
+pub fn spellings()
+    ensures lines { Spellings }
+    ensures section { SectionSpelling }
+    ensures pes { PesSpelling }
 {}

@@ -1,5 +1,5 @@
 // Lines and what they ask for, scripts and what they give, and faults, worked out by hand from the rules.
-use crate::{FaultKind, Line, Script, ScriptError, ScriptFault, Target, Verb};
+use crate::{FaultKind, Line, Script, ScriptError, ScriptFault, Target, Verb, print};
 use dmx_calls::{Input, Output, PesParams, SectionParams};
 use filter_match::SectionFilter;
 use std::alloc::Global;
@@ -589,5 +589,58 @@ fn the_most_bytes_without_a_script(rt: HostRuntime) -> Result<(), Fail> {
         let bytes = repeated(rt.alloc(), byte, MOST_BYTES)?;
         assert!(rt; has_fault(&rt, rt.alloc(), &bytes, line, FaultKind::NoStream)?);
     }
+    Ok(())
+}
+
+// The bytes that `print` appends for the lines of a script.
+fn printed(rt: &impl Abort, alloc: Global, bytes: &[u8]) -> Result<Vec<u8>, Fail> {
+    let mut out = Vec::new(alloc);
+    if let Ok(script) = read(rt, alloc, bytes)? {
+        for line in script.lines() {
+            print(alloc, line, &mut out)?;
+        }
+    }
+    Ok(out)
+}
+
+// Whether `print` of the line read from these bytes gives these bytes, with a line feed.
+fn is_its_spelling(rt: &impl Abort, alloc: Global, line: &[u8]) -> Result<bool, Fail> {
+    let bytes = joined(alloc, &[line, b"\nstream\n"])?;
+    let want = joined(alloc, &[line, b"\n"])?;
+    let out = printed(rt, alloc, &bytes)?;
+    Ok(out == want)
+}
+
+#[test]
+fn a_line_is_printed_as_it_was_spelled(rt: HostRuntime) -> Result<(), Fail> {
+    for (line, _) in SHORT {
+        assert!(rt; is_its_spelling(&rt, rt.alloc(), line)?, "{line:?}");
+    }
+    for (line, _) in SECTIONS {
+        assert!(rt; is_its_spelling(&rt, rt.alloc(), line)?, "{line:?}");
+    }
+    for (line, _) in PES {
+        assert!(rt; is_its_spelling(&rt, rt.alloc(), line)?, "{line:?}");
+    }
+    assert!(rt; is_its_spelling(&rt, rt.alloc(), b"c0 section n0 1 0 0 3=0a/ff/00")?);
+    Ok(())
+}
+
+#[test]
+fn places_of_zeros_are_not_printed(rt: HostRuntime) -> Result<(), Fail> {
+    let script = b"# a comment\nc0 section n0 1 0 0 2=00/00/00 3=0a/ff/00\n\nfeed 1\nstream\n";
+    let out = printed(&rt, rt.alloc(), script)?;
+    assert_eq!(rt;
+        out.as_slice(),
+        b"c0 section n0 1 0 0 3=0a/ff/00\nfeed 1\n".as_slice()
+    );
+    Ok(())
+}
+
+#[test]
+fn a_line_is_printed_behind_what_is_there(rt: HostRuntime) -> Result<(), Fail> {
+    let mut out = joined(rt.alloc(), &[b"feed 1\n"])?;
+    print(rt.alloc(), &Line::Tick(20), &mut out)?;
+    assert_eq!(rt; out.as_slice(), b"feed 1\ntick 20\n".as_slice());
     Ok(())
 }
