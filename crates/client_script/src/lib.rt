@@ -15,7 +15,9 @@
 //! script has at most 1,048,576 lines, each with its client, its target and its numbers in the ranges of the grammar
 //! (`IsScript`, which `Script::lines` tells). `Script::clients` is 1 plus the highest client that a line names, or 0.
 //! `print` appends the spelling of a line, and where memory is refused the bytes are as they were. What the grammar gives
-//! for lines and scripts worked out by hand are the clauses of `examples`, computed by the check.
+//! for lines and scripts worked out by hand are the clauses of `examples`, computed by the check. The law
+//! `nothing_behind_the_stream_is_examined` is about the definitions alone: the script part has the lines, or the fault, of
+//! all bytes that are searched for it.
 //!
 //! What is only tested: that reading a spelling gives its line again; that memory isn't refused where there is enough.
 //!
@@ -27,6 +29,7 @@
 
 pub mod examples;
 mod fault;
+mod laws;
 mod line;
 mod names;
 mod number;
@@ -40,6 +43,7 @@ mod verbs;
 mod words;
 
 pub use fault::{FaultKind, ScriptError, ScriptFault};
+pub use laws::nothing_behind_the_stream_is_examined;
 pub use line::{Line, Target, Verb};
 pub use script::Script;
 pub use spelling::print;
