@@ -1,10 +1,11 @@
-//! Passes the stream on standard input through a demux node, in batches of 64 packets at most, and reads what the node has
+//! Passes the stream on standard input through a demux node or the dvr node, in batches of 64 packets at most, and reads what the node has
 //! after each piece of 65,536 bytes, with reads of that many bytes. Prints how many reads gave bytes, how many bytes, and the
 //! sum of the last byte of each.
 //!
 //! A program to measure a node with; `bench/node` runs it. With the word `sections` the node has a section filter with CRC
 //! check on PID 512, with `payloads` a tap of payloads on PID 256, with `packets` a tap of whole packets on the PIDs 256 and
-//! 257. With any other word no node is there, and the program only reads, cuts and makes the batches: what a node costs is
+//! 257. With `recording` it is the dvr node with taps of these two PIDs, and with `recordings` there are 30 other taps before
+//! them. With any other word no node is there, and the program only reads, cuts and makes the batches: what a node costs is
 //! the difference to that.
 //!
 //! What is proved: no call goes past a bound, each byte read is taken by the cutter, and every call that is made is one
@@ -82,6 +83,8 @@ fn filter_of(word: Option<&str>) -> Option<Filter> {
         Some("sections") => Some(Filter::Sections),
         Some("payloads") => Some(Filter::Payloads),
         Some("packets") => Some(Filter::Packets),
+        Some("recording") => Some(Filter::Recording),
+        Some("recordings") => Some(Filter::Recordings),
         _ => None,
     }
 }

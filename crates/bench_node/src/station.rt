@@ -1,14 +1,13 @@
 // A node that packets pass, and that is read.
 
 ghost use Rattle.std.specs.Prelude.{◌≡◌, ◌<◌, false};
-ghost use Rattle.dmx_calls.specs.Calls.{invocation_of};
-ghost use Rattle.node_core.specs.Sound.{is_ts_tap};
-ghost use Rattle.node_core.specs.Stands.{IsBuilt};
 
-use dmx_calls::limits::{CHECK_CRC, IMMEDIATE_START, LARGEST_READ};
+use dmx_calls::limits::{CHECK_CRC, DEMUX_NODES, IMMEDIATE_START, LARGEST_READ};
 use dmx_calls::{Answer, ByteBuf, Call, Input, Output, PesParams, Reply, SectionParams};
+use dvr_core::DvrCore;
 use filter_match::SectionFilter;
 use node_core::NodeCore;
+use pid_set::Pids;
 use std::alloc::{AllocError as NoMemory, Global};
 use std::sync::ledger::{Blank, Ledger};
 use steps::Steps;
@@ -33,6 +32,28 @@ pub enum Filter {
     Payloads,
     /// The packets of the PIDs 256 and 257.
     Packets,
+    /// The packets of the PIDs 256 and 257 by the dvr node: the taps of two demux nodes.
+    Recording,
+    /// The same by the taps of 32 demux nodes, of which the last two name these PIDs and the others none of the stream.
+    Recordings,
+}
+
+/// The node that is measured.
+#[derive(Drop)]
+enum Node {
+    Demux(NodeCore),
+    Dvr(DvrCore),
+}
+
+impl Node {
+    // Makes a call. None after more calls than a stream needs.
+    fn call<L: Ledger>(&mut self, call: Call, steps: &mut Steps<L>) -> Option<Answer> {
+        match self {
+            Node::Demux(node) if node.entries() < MOST => Some(node.apply(CALLER, call, steps)),
+            Node::Dvr(node) if node.entries() < MOST => Some(node.apply(CALLER, call, steps)),
+            _ => None,
+        }
+    }
 }
 
 /// What the reads gave: how many gave bytes, how many bytes, and the sum of the last byte of each, all modulo 2^64.
@@ -47,16 +68,14 @@ pub struct Given {
 #[derive(Drop)]
 pub struct Station<L: Ledger> {
     alloc: Global,
-    node: NodeCore,
+    node: Node,
     steps: Steps<L>,
     passed: u64,
     pub given: Given,
 }
 
 // Sets a section filter that asks for this table_id, and starts it.
-fn sections_of(pid: u16, table_id: u8) -> Call
-    ensures { IsBuilt (invocation_of result) }
-{
+fn sections_of(pid: u16, table_id: u8) -> Call {
     let mut filter = SectionFilter {
         filter: [0; 16],
         mask: [0; 16],
@@ -76,10 +95,7 @@ fn sections_of(pid: u16, table_id: u8) -> Call
 }
 
 // Sets a PES filter and starts it.
-fn tap_of(pid: u16, output: Output) -> Call
-    requires { is_ts_tap output ≡ false }
-    ensures { IsBuilt (invocation_of result) }
-{
+fn tap_of(pid: u16, output: Output) -> Call {
     Call::SetPes {
         params: PesParams {
             pid,
@@ -92,6 +108,13 @@ fn tap_of(pid: u16, output: Output) -> Call
     }
 }
 
+// The set of this PID alone.
+fn only(pid: u16) -> Pids {
+    let mut pids = Pids::new();
+    let _ = pids.add(pid);
+    pids
+}
+
 impl<L: Ledger> Station<L> {
     /// A node without an owner.
     pub fn new(alloc: Global, blank: Blank) -> Station<L>
@@ -99,7 +122,7 @@ impl<L: Ledger> Station<L> {
     {
         Station {
             alloc,
-            node: NodeCore::new(alloc, 0),
+            node: Node::Demux(NodeCore::new(alloc, 0)),
             steps: Steps::new(blank),
             passed: 0,
             given: Given {
@@ -110,21 +133,9 @@ impl<L: Ledger> Station<L> {
         }
     }
 
-    // Makes a call. None after more calls than a stream needs.
-    fn call(&mut self, call: Call) -> Option<Answer>
-        requires { IsBuilt (invocation_of call) }
-    {
-        if self.node.entries() >= MOST {
-            return None;
-        }
-        Some(self.node.apply(CALLER, call, &mut self.steps))
-    }
-
     // Makes a call that nothing but want of memory can refuse.
-    fn ask(&mut self, call: Call) -> Result<(), NoMemory>
-        requires { IsBuilt (invocation_of call) }
-    {
-        match self.call(call) {
+    fn ask(&mut self, call: Call) -> Result<(), NoMemory> {
+        match self.node.call(call, &mut self.steps) {
             Some(
                 Answer {
                     reply: Reply::Done { .. },
@@ -137,6 +148,9 @@ impl<L: Ledger> Station<L> {
 
     /// Opens the node and starts a filter.
     pub fn open(&mut self, filter: Filter) -> Result<(), NoMemory> {
+        if matches!(filter, Filter::Recording | Filter::Recordings) {
+            self.node = Node::Dvr(DvrCore::new(self.alloc));
+        }
         self.ask(Call::Open)?;
         self.ask(Call::SetSize(SIZE))?;
         match filter {
@@ -146,7 +160,18 @@ impl<L: Ledger> Station<L> {
                 self.ask(tap_of(256, Output::TsdemuxTap))?;
                 self.ask(Call::AddPid(257))
             }
+            Filter::Recording => self.attach_from(DEMUX_NODES - 2),
+            Filter::Recordings => self.attach_from(0),
         }
+    }
+
+    // Attaches the taps of the demux nodes from this one on: the last two name the PIDs 256 and 257.
+    fn attach_from(&mut self, first: u32) -> Result<(), NoMemory> {
+        'nodes: for node in first..DEMUX_NODES {
+            let pids = only(226 + node as u16);
+            self.ask(Call::Attach { node, pids })?;
+        }
+        Ok(())
     }
 
     /// These packets pass the node, in one batch.
@@ -156,11 +181,12 @@ impl<L: Ledger> Station<L> {
         }
         let batch = Batch::of(self.alloc, self.passed, packets)?;
         self.passed += u64::from(batch.count());
-        let _ = self.call(Call::Pass {
+        let pass = Call::Pass {
             input: Input::Frontend,
             batch,
             now: 0,
-        });
+        };
+        let _ = self.node.call(pass, &mut self.steps);
         Ok(())
     }
 
@@ -168,7 +194,8 @@ impl<L: Ledger> Station<L> {
     pub fn read_all(&mut self) -> Result<(), NoMemory> {
         let mut buf = ByteBuf::new(self.alloc, LARGEST_READ)?;
         'reads: for _ in 0..SIZE {
-            let Some(Answer { reply, .. }) = self.call(Call::Read { now: 0, buf }) else {
+            let read = Call::Read { now: 0, buf };
+            let Some(Answer { reply, .. }) = self.node.call(read, &mut self.steps) else {
                 break;
             };
             let Reply::Data(mut filled) = reply else {

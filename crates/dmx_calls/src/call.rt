@@ -2,6 +2,7 @@
 
 use crate::byte_buf::ByteBuf;
 use crate::params::{Input, PesParams, SectionParams};
+use pid_set::Pids;
 use std::sync::Arc;
 use ts_batch::Batch;
 
@@ -62,4 +63,16 @@ pub enum Call {
     },
     /// The stream has ended.
     End,
+    /// Attaches a demux node's tap to the dvr node, in place of the one that it has.
+    Attach {
+        /// The demux node, 0 to 31.
+        node: u32,
+        /// The PIDs of the packets that it records; 0x2000 among them names every packet.
+        pids: Pids,
+    },
+    /// Detaches a demux node's tap from the dvr node, where the same client attached it.
+    Detach {
+        /// The demux node, 0 to 31.
+        node: u32,
+    },
 }

@@ -7,10 +7,11 @@ ghost use Rattle.dmx_calls.specs.Log.{act_of};
 use crate::call::Call;
 use crate::params::{Input, PesParams, SectionParams};
 use crate::reply::Reply;
+use pid_set::Pids;
 
 /// A call as a report tells it: a Read by its count, and a Pass by the number of its first packet and how many there are.
 /// `now` is the moment at which the call was made, in milliseconds.
-#[derive(Clone, Copy, Debug, PartialEq, Eq, Drop)]
+#[derive(Clone, Debug, PartialEq, Eq, Drop)]
 pub enum Act {
     /// Takes the node.
     Open,
@@ -68,6 +69,18 @@ pub enum Act {
     },
     /// The stream has ended.
     End,
+    /// Attaches a demux node's tap to the dvr node.
+    Attach {
+        /// The demux node, 0 to 31.
+        node: u32,
+        /// The PIDs of the packets that it records.
+        pids: Pids,
+    },
+    /// Detaches a demux node's tap from the dvr node.
+    Detach {
+        /// The demux node, 0 to 31.
+        node: u32,
+    },
 }
 
 impl Act {
@@ -103,6 +116,11 @@ impl Act {
                 now: *now,
             },
             Call::End => Act::End,
+            Call::Attach { node, pids } => Act::Attach {
+                node: *node,
+                pids: pids.copied(),
+            },
+            Call::Detach { node } => Act::Detach { node: *node },
         }
     }
 }

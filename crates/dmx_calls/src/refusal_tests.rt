@@ -12,10 +12,29 @@ use std::test::Fail;
 use ts_batch::Batch;
 use ts_packet::{Cutter, PacketBuf};
 
+// A call on a node of either kind, as a table can hold it.
+#[derive(Clone, Copy, Debug)]
+enum Ask {
+    Open,
+    Close,
+    SetFilter { params: SectionParams, now: u64 },
+    SetPes { params: PesParams, now: u64 },
+    AddPid(u16),
+    RemovePid(u16),
+    Start { now: u64 },
+    Stop,
+    SetSize(u32),
+    Read { now: u64, count: u32 },
+    Poll { now: u64 },
+    // One packet, the one of number 7 in its stream.
+    Pass { now: u64 },
+    End,
+}
+
 // A set call for the sections of a PID, with flags.
 macro_rules! sections {
     ($pid:expr, $flags:expr) => {
-        Act::SetFilter {
+        Ask::SetFilter {
             params: SectionParams {
                 pid: $pid,
                 filter: SectionFilter {
@@ -34,7 +53,7 @@ macro_rules! sections {
 // A set call for packets, with a PID, an input, an output, a PES type and flags.
 macro_rules! packets {
     ($pid:expr, $input:ident, $output:ident, $pes_type:expr, $flags:expr) => {
-        Act::SetPes {
+        Ask::SetPes {
             params: PesParams {
                 pid: $pid,
                 input: Input::$input,
@@ -102,11 +121,11 @@ const NOT_DVR: [Option<Errno>; 6] = [OK, OK, OK, OK, OK, EINVAL];
 const WITH_FILTER: [Option<Errno>; 6] = [EINVAL, OK, OK, OK, OK, EINVAL];
 
 // What was set, the call, and what is wanted on each of these nodes.
-static TABLE: [(Was, Act, [Option<Errno>; 6]); 62] = [
-    (Sections, Act::Open, TAKEN),
-    (SEVERAL, Act::Open, TAKEN),
-    (Sections, Act::Close, TAKEN),
-    (SEVERAL, Act::Close, TAKEN),
+static TABLE: [(Was, Ask, [Option<Errno>; 6]); 62] = [
+    (Sections, Ask::Open, TAKEN),
+    (SEVERAL, Ask::Open, TAKEN),
+    (Sections, Ask::Close, TAKEN),
+    (SEVERAL, Ask::Close, TAKEN),
     // set calls, with flags or without
     (Sections, sections!(256, 0), NOT_DVR),
     (PAYLOADS, sections!(0, 7), NOT_DVR),
@@ -115,64 +134,55 @@ static TABLE: [(Was, Act, [Option<Errno>; 6]); 62] = [
     (SEVERAL, packets!(8192, Frontend, TsTap, 0, 7), NOT_DVR),
     (PAYLOADS, packets!(0, Frontend, TsdemuxTap, 1, 4), NOT_DVR),
     // PIDs belong to PES filters
-    (Sections, Act::AddPid(256), REFUSED),
-    (Sections, Act::AddPid(257), REFUSED),
-    (Sections, Act::RemovePid(256), REFUSED),
-    (SEVERAL, Act::RemovePid(256), WITH_FILTER),
-    (SEVERAL, Act::RemovePid(257), WITH_FILTER),
-    (PAYLOADS, Act::RemovePid(256), WITH_FILTER),
-    (NOT_RECORDED, Act::RemovePid(8192), WITH_FILTER),
+    (Sections, Ask::AddPid(256), REFUSED),
+    (Sections, Ask::AddPid(257), REFUSED),
+    (Sections, Ask::RemovePid(256), REFUSED),
+    (SEVERAL, Ask::RemovePid(256), WITH_FILTER),
+    (SEVERAL, Ask::RemovePid(257), WITH_FILTER),
+    (PAYLOADS, Ask::RemovePid(256), WITH_FILTER),
+    (NOT_RECORDED, Ask::RemovePid(8192), WITH_FILTER),
     // several PIDs for a filter of whole packets alone, one for the others
-    (SEVERAL, Act::AddPid(256), WITH_FILTER),
-    (SEVERAL, Act::AddPid(257), WITH_FILTER),
-    (SEVERAL, Act::AddPid(8192), WITH_FILTER),
-    (PAYLOADS, Act::AddPid(256), WITH_FILTER),
-    (PAYLOADS, Act::AddPid(257), REFUSED),
-    (NO_PAYLOADS, Act::AddPid(257), WITH_FILTER),
-    (RECORDED, Act::AddPid(256), WITH_FILTER),
-    (RECORDED, Act::AddPid(0), REFUSED),
-    (NOT_RECORDED, Act::AddPid(0), WITH_FILTER),
+    (SEVERAL, Ask::AddPid(256), WITH_FILTER),
+    (SEVERAL, Ask::AddPid(257), WITH_FILTER),
+    (SEVERAL, Ask::AddPid(8192), WITH_FILTER),
+    (PAYLOADS, Ask::AddPid(256), WITH_FILTER),
+    (PAYLOADS, Ask::AddPid(257), REFUSED),
+    (NO_PAYLOADS, Ask::AddPid(257), WITH_FILTER),
+    (RECORDED, Ask::AddPid(256), WITH_FILTER),
+    (RECORDED, Ask::AddPid(0), REFUSED),
+    (NOT_RECORDED, Ask::AddPid(0), WITH_FILTER),
     // 32 PIDs at most
     (
         FULL,
-        Act::AddPid(32),
+        Ask::AddPid(32),
         [EINVAL, ENOSPC, ENOSPC, ENOSPC, ENOSPC, EINVAL],
     ),
     (
         FULL,
-        Act::AddPid(8192),
+        Ask::AddPid(8192),
         [EINVAL, ENOSPC, ENOSPC, ENOSPC, ENOSPC, EINVAL],
     ),
-    (FULL, Act::AddPid(31), WITH_FILTER),
-    (FULL, Act::AddPid(8193), REFUSED),
-    (FULL, Act::RemovePid(32), WITH_FILTER),
+    (FULL, Ask::AddPid(31), WITH_FILTER),
+    (FULL, Ask::AddPid(8193), REFUSED),
+    (FULL, Ask::RemovePid(32), WITH_FILTER),
     // start and stop
-    (Sections, Act::Start { now: 3 }, WITH_FILTER),
-    (SEVERAL, Act::Start { now: 3 }, WITH_FILTER),
-    (Sections, Act::Stop, NOT_DVR),
-    (SEVERAL, Act::Stop, NOT_DVR),
+    (Sections, Ask::Start { now: 3 }, WITH_FILTER),
+    (SEVERAL, Ask::Start { now: 3 }, WITH_FILTER),
+    (Sections, Ask::Stop, NOT_DVR),
+    (SEVERAL, Ask::Stop, NOT_DVR),
     // another size than the node has
-    (Sections, Act::SetSize(2), [OK, OK, EBUSY, EBUSY, EBUSY, OK]),
+    (Sections, Ask::SetSize(2), [OK, OK, EBUSY, EBUSY, EBUSY, OK]),
     (
         SEVERAL,
-        Act::SetSize(16_777_216),
+        Ask::SetSize(16_777_216),
         [OK, OK, EBUSY, EBUSY, EBUSY, OK],
     ),
-    (Sections, Act::Read { now: 4, count: 0 }, TAKEN),
-    (SEVERAL, Act::Read { now: 4, count: 188 }, TAKEN),
-    (Sections, Act::Poll { now: 5 }, TAKEN),
-    (SEVERAL, Act::Poll { now: 5 }, TAKEN),
-    (
-        SEVERAL,
-        Act::Pass {
-            input: Input::Frontend,
-            first: 7,
-            count: 1,
-            now: 8,
-        },
-        TAKEN,
-    ),
-    (SEVERAL, Act::End, TAKEN),
+    (Sections, Ask::Read { now: 4, count: 0 }, TAKEN),
+    (SEVERAL, Ask::Read { now: 4, count: 188 }, TAKEN),
+    (Sections, Ask::Poll { now: 5 }, TAKEN),
+    (SEVERAL, Ask::Poll { now: 5 }, TAKEN),
+    (SEVERAL, Ask::Pass { now: 8 }, TAKEN),
+    (SEVERAL, Ask::End, TAKEN),
     // arguments out of range
     (Sections, sections!(8192, 0), REFUSED),
     (Sections, sections!(65_535, 0), REFUSED),
@@ -185,14 +195,14 @@ static TABLE: [(Was, Act, [Option<Errno>; 6]); 62] = [
     (SEVERAL, packets!(256, Frontend, Tap, 21, 0), REFUSED),
     (SEVERAL, packets!(256, Frontend, Tap, 20, 8), REFUSED),
     (SEVERAL, packets!(256, Frontend, Tap, 20, 16), REFUSED),
-    (SEVERAL, Act::AddPid(8193), REFUSED),
-    (NO_PAYLOADS, Act::AddPid(65_535), REFUSED),
-    (SEVERAL, Act::RemovePid(8193), REFUSED),
-    (Sections, Act::SetSize(0), REFUSED),
-    (Sections, Act::SetSize(1), REFUSED),
-    (SEVERAL, Act::SetSize(16_777_217), REFUSED),
-    (SEVERAL, Act::SetSize(4_294_967_295), REFUSED),
-    (FULL, Act::RemovePid(65_535), REFUSED),
+    (SEVERAL, Ask::AddPid(8193), REFUSED),
+    (NO_PAYLOADS, Ask::AddPid(65_535), REFUSED),
+    (SEVERAL, Ask::RemovePid(8193), REFUSED),
+    (Sections, Ask::SetSize(0), REFUSED),
+    (Sections, Ask::SetSize(1), REFUSED),
+    (SEVERAL, Ask::SetSize(16_777_217), REFUSED),
+    (SEVERAL, Ask::SetSize(4_294_967_295), REFUSED),
+    (FULL, Ask::RemovePid(65_535), REFUSED),
 ];
 
 // What was set on a node of this column.
@@ -209,49 +219,74 @@ fn params_of(column: usize, was: Was) -> Params {
             timeout: 0,
             flags: 0,
         }),
-        Packets(output, pids) => {
-            let mut set = Pids::new();
-            for pid in pids {
-                let _ = set.add(*pid);
-            }
-            Params::Pes {
-                params: PesParams {
-                    pid: 256,
-                    input: Input::Frontend,
-                    output,
-                    pes_type: 20,
-                    flags: 0,
-                },
-                pids: set,
-            }
-        }
+        Packets(output, pids) => Params::Pes {
+            params: PesParams {
+                pid: 256,
+                input: Input::Frontend,
+                output,
+                pes_type: 20,
+                flags: 0,
+            },
+            pids: set_of(pids),
+        },
     }
 }
 
-// The call that a report tells so. The batch of a Pass begins with the packet of number 7 and has one packet.
-fn call_of(alloc: Global, act: Act) -> Result<Call, Fail> {
-    Ok(match act {
-        Act::Open => Call::Open,
-        Act::Close => Call::Close,
-        Act::SetFilter { params, now } => Call::SetFilter { params, now },
-        Act::SetPes { params, now } => Call::SetPes { params, now },
-        Act::AddPid(pid) => Call::AddPid(pid),
-        Act::RemovePid(pid) => Call::RemovePid(pid),
-        Act::Start { now } => Call::Start { now },
-        Act::Stop => Call::Stop,
-        Act::SetSize(size) => Call::SetSize(size),
-        Act::Read { now, count } => Call::Read {
+fn set_of(pids: &[u16]) -> Pids {
+    let mut set = Pids::new();
+    for pid in pids {
+        let _ = set.add(*pid);
+    }
+    set
+}
+
+fn call_of(alloc: Global, ask: Ask) -> Result<Call, Fail> {
+    Ok(match ask {
+        Ask::Open => Call::Open,
+        Ask::Close => Call::Close,
+        Ask::SetFilter { params, now } => Call::SetFilter { params, now },
+        Ask::SetPes { params, now } => Call::SetPes { params, now },
+        Ask::AddPid(pid) => Call::AddPid(pid),
+        Ask::RemovePid(pid) => Call::RemovePid(pid),
+        Ask::Start { now } => Call::Start { now },
+        Ask::Stop => Call::Stop,
+        Ask::SetSize(size) => Call::SetSize(size),
+        Ask::Read { now, count } => Call::Read {
             now,
             buf: ByteBuf::new(alloc, count.min(65_536))?,
         },
-        Act::Poll { now } => Call::Poll { now },
-        Act::Pass { input, now, .. } => Call::Pass {
-            input,
+        Ask::Poll { now } => Call::Poll { now },
+        Ask::Pass { now } => Call::Pass {
+            input: Input::Frontend,
             batch: one_packet(alloc)?,
             now,
         },
-        Act::End => Call::End,
+        Ask::End => Call::End,
     })
+}
+
+// How a report tells it.
+fn act_of(ask: Ask) -> Act {
+    match ask {
+        Ask::Open => Act::Open,
+        Ask::Close => Act::Close,
+        Ask::SetFilter { params, now } => Act::SetFilter { params, now },
+        Ask::SetPes { params, now } => Act::SetPes { params, now },
+        Ask::AddPid(pid) => Act::AddPid(pid),
+        Ask::RemovePid(pid) => Act::RemovePid(pid),
+        Ask::Start { now } => Act::Start { now },
+        Ask::Stop => Act::Stop,
+        Ask::SetSize(size) => Act::SetSize(size),
+        Ask::Read { now, count } => Act::Read { now, count },
+        Ask::Poll { now } => Act::Poll { now },
+        Ask::Pass { now } => Act::Pass {
+            input: Input::Frontend,
+            first: 7,
+            count: 1,
+            now,
+        },
+        Ask::End => Act::End,
+    }
 }
 
 // A batch of one packet, the one of number 7 in its stream.
@@ -266,14 +301,14 @@ fn one_packet(alloc: Global) -> Result<Arc<Batch>, Fail> {
 
 #[test]
 fn each_call_on_each_node(rt: HostRuntime) -> Result<(), Fail> {
-    for (was, act, wanted) in TABLE.iter() {
-        let call = call_of(rt.alloc(), *act)?;
+    for (was, ask, wanted) in TABLE.iter() {
+        let call = call_of(rt.alloc(), *ask)?;
         for (i, (kind, state)) in COLUMNS.iter().enumerate() {
             let params = params_of(i, *was);
             assert_eq!(rt;
                 refusal(*kind, *state, &call, &params),
                 wanted[i],
-                "{was:?} {act:?} {state:?}"
+                "{was:?} {ask:?} {state:?}"
             );
         }
     }
@@ -282,8 +317,38 @@ fn each_call_on_each_node(rt: HostRuntime) -> Result<(), Fail> {
 
 #[test]
 fn a_call_is_told_as_it_was_made(rt: HostRuntime) -> Result<(), Fail> {
-    for (_, act, _) in TABLE.iter() {
-        assert_eq!(rt; Act::of(&call_of(rt.alloc(), *act)?), *act);
+    for (_, ask, _) in TABLE.iter() {
+        assert_eq!(rt; Act::of(&call_of(rt.alloc(), *ask)?), act_of(*ask));
     }
     Ok(())
+}
+
+// A demux node of any state refuses them, whatever they name.
+const DVR_ALONE: [Option<Errno>; 6] = [EINVAL, EINVAL, EINVAL, EINVAL, EINVAL, OK];
+
+// Each of the table's nodes is asked.
+fn are_for_the_dvr_node(call: &Call) -> bool {
+    COLUMNS.iter().enumerate().all(|(i, (kind, state))| {
+        refusal(*kind, *state, call, &params_of(i, RECORDED)) == DVR_ALONE[i]
+    })
+}
+
+#[test]
+fn taps_belong_to_the_dvr_node(rt: HostRuntime) {
+    for pids in [[].as_slice(), &[256], &[0, 256, 8192]] {
+        for node in [0, 31, 32] {
+            let call = Call::Attach {
+                node,
+                pids: set_of(pids),
+            };
+            let act = Act::Attach {
+                node,
+                pids: set_of(pids),
+            };
+            assert!(rt; are_for_the_dvr_node(&call));
+            assert_eq!(rt; Act::of(&call), act);
+            assert!(rt; are_for_the_dvr_node(&Call::Detach { node }));
+            assert_eq!(rt; Act::of(&Call::Detach { node }), Act::Detach { node });
+        }
+    }
 }

@@ -42,6 +42,7 @@ macro_rules! table {
 /// | AddPid, RemovePid | EINVAL | by the PIDs | by the PIDs | EINVAL |
 /// | Start | EINVAL | taken | taken | EINVAL |
 /// | SetSize to another size | taken | taken | EBUSY | taken |
+/// | Attach, Detach | EINVAL | EINVAL | EINVAL | taken |
 /// | every other call | taken | taken | taken | taken |
 ///
 /// By the PIDs: both are EINVAL without a PES filter. A PID that is there can be added, and any PID can be removed.
@@ -59,7 +60,7 @@ pub fn refusal(kind: NodeKind, state: State, call: &Call, params: &Params) -> Op
     }
     let taken = None;
     let ebusy = Some(Errno::Ebusy);
-    let by_pids = refusal_by_pids(call, params);
+    let by_pids = refusal_in_set(call, params);
     table! { kind, state, call;
         //                      Allocated  Set      Go       Done     TimedOut  dvr
         Call::Open           => taken      taken    taken    taken    taken     taken
@@ -75,6 +76,8 @@ pub fn refusal(kind: NodeKind, state: State, call: &Call, params: &Params) -> Op
         Call::Poll {..}      => taken      taken    taken    taken    taken     taken
         Call::Pass {..}      => taken      taken    taken    taken    taken     taken
         Call::End            => taken      taken    taken    taken    taken     taken
+        Call::Attach {..}    => einval     einval   einval   einval   einval    taken
+        Call::Detach {..}    => einval     einval   einval   einval   einval    taken
     }
 }
 
@@ -111,14 +114,16 @@ fn is_bad_filter(params: &PesParams) -> bool
         || params.input == Input::Dvr
 }
 
-// Why what was set doesn't let a PID be added or removed: PIDs belong to PES filters.
-fn refusal_by_pids(call: &Call, params: &Params) -> Option<Errno>
+// Why a call is refused where a filter is set: PIDs are added to PES filters and removed from them, and taps are attached
+// to the dvr node alone.
+fn refusal_in_set(call: &Call, params: &Params) -> Option<Errno>
     ensures { result ≡ refusal_by_state SetState (params_of params.now) (pids_of params.now) (invocation_of call.now) }
 {
     match (call, params) {
         (Call::AddPid(pid), Params::Pes { params, pids }) => add_refusal(params, pids, *pid),
         (Call::RemovePid(_), Params::Pes { .. }) => None,
         (Call::AddPid(_) | Call::RemovePid(_), _) => Some(Errno::Einval),
+        (Call::Attach { .. } | Call::Detach { .. }, _) => Some(Errno::Einval),
         _ => None,
     }
 }

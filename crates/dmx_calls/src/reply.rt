@@ -1,6 +1,7 @@
 // The replies of a node.
 
 use crate::byte_buf::ByteBuf;
+use pid_set::Pids;
 use std::sync::Arc;
 use ts_batch::Batch;
 
@@ -38,10 +39,14 @@ pub struct Span {
 }
 
 /// What the dvr node is to be told of this node's tap.
-#[derive(Clone, Copy, Debug, PartialEq, Eq, Drop)]
+#[derive(Clone, Debug, PartialEq, Eq, Drop)]
 pub enum Tap {
     /// Nothing.
     Keep,
+    /// The tap is attached, with these PIDs.
+    Attach(Pids),
+    /// The tap is detached.
+    Detach,
 }
 
 /// What a node replies.

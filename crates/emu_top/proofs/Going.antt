@@ -1,144 +1,132 @@
--- What each step of a run does to its history, its log and its counters.
-use Rattle.std.proofs.Common.{◌≡◌, ◌≢◌, refl, sym, ap, subst, ◌∙◌, ℕ, suc, ◌+◌, ◌-◌, ◌/◌, ◌%◌, ◌<◌, ◌≤◌, ◌==◌, min, Bool, true, false, nat_eq, List, [], ◌∷◌, length, take, drop, replicate, fold, cond, map, slice_set, Result, Ok, Err, OnOk, arith, inl, inr}
+-- What each step of a run does to its nodes, its counts and its packets.
+use Rattle.std.proofs.Common.{◌≡◌, refl, sym, ap, subst, ◌∙◌, ℕ, suc, ◌+◌, ◌-◌, ◌/◌, ◌%◌, ◌<◌, ◌≤◌, ◌==◌, min, true, false, List, [], ◌∷◌, ◌++◌, length, take, drop, replicate, fold, map, set, get_or, arith, inl, inr}
 use Rattle.std.specs.Prelude.{slice_index}
-use Rattle.std.proofs.lemmas.List.{get_or-replicate, get_or-set_same, get_or-set_other}
+use Rattle.std.proofs.lemmas.List.{length-set, length-replicate, get_or-replicate, map-append, take-append-le, take_all}
+use Rattle.std.proofs.lemmas.List.Sums.{sum_by-set}
 use Rattle.std.proofs.lemmas.Bool.{cases_lt}
 use Rattle.std.proofs.lemmas.Bool.Decides.{nat_tests}
-use Rattle.std.proofs.lemmas.List.Sums.{sum_by-cons}
 use Rattle.std.proofs.Math.Numerals.{add-one}
 use Rattle.std.proofs.Math.Nat.{div-eq_of_lt, mod-eq_of_lt, add-div_right, add-mod_right}
 use Rattle.dmx_calls.specs.declared.params.Input.TheVariants.{Frontend}
+use Rattle.dmx_calls.specs.declared.limits.TheConstants.{DEMUX_NODES}
 use Rattle.dmx_calls.specs.Invocation as call
 use Rattle.dmx_calls.specs.Invocation.{Invocation}
-use Rattle.dmx_calls.specs.Response.{is_accepted}
-use Rattle.dmx_calls.specs.History.{History, entry_of, event}
-use Rattle.dmx_calls.specs.Tenure.{has_ended, is_end}
-use Rattle.dmx_calls.specs.Rules.{demux}
-use Rattle.dmx_calls.specs.Answer.{answer}
-use Rattle.dmx_calls.specs.Log.{log_of, calls_of}
-use Rattle.dmx_calls.proofs.Going.{has_ended_after, has_ended_refused}
-use Rattle.node_core.specs.Stands.{StandsFor}
-use Rattle.emu_top.specs.declared.script.Verb.{Verb}
-use Rattle.emu_top.specs.declared.script.Verb.TheVariants.{Open, Close, Section, Pes, Add, Remove, Start, Stop, Size, Read, Poll}
+use Rattle.dmx_calls.specs.Rules as rules
+use Rattle.emu_top.specs.declared.seats.DemuxSeat.{DemuxSeat}
 use Rattle.emu_top.specs.declared.script.Line.{Line}
-use Rattle.emu_top.specs.SerialRun.{Run, begun, answered, called, passed, batch_sizes, all_passed, ended, asked, done, finished, serial_run}
-use Rattle.dmx_calls.specs.Calls.{told_entry}
 use Rattle.emu_top.specs.declared.runner.Runner.{Runner}
-use Rattle.emu_top.specs.Runner.{IsAt, Counts}
-
--- a caller's own call counts, and no other caller's does
-calls_more : (who : ℕ) (c : Invocation) (h : History) → calls_of who (answered who c h) ≡ calls_of who h + 1
-calls_more who c h = rw (sum_by-cons (λ e. cond (nat_eq e.who who) 1 0) (entry_of who c (answer demux h who c)) h, same who) (omega arith) where
-  same : (n : ℕ) → nat_eq n n ≡ true
-  same n = grind (arith, nat_tests)
-
-calls_other : (who other : ℕ) (c : Invocation) (h : History) → nat_eq other who ≡ false → calls_of who (answered other c h) ≡ calls_of who h
-calls_other who other c h nay = rw (sum_by-cons (λ e. cond (nat_eq e.who who) 1 0) (entry_of other c (answer demux h other c)) h, nay) (omega arith)
-
--- only End ends
-not_end : (who : ℕ) (c : Invocation) (h : History) → is_end (event (entry_of who c (answer demux h who c)) h) ≡ false → has_ended (answered who c h) ≡ has_ended h
-not_end who c h quiet = go (is_accepted (answer demux h who c)) refl where
-  go : (b : Bool) → is_accepted (answer demux h who c) ≡ b → has_ended (answered who c h) ≡ has_ended h
-  go true ok = rw (has_ended_after (entry_of who c (answer demux h who c)) h ok, quiet) refl
-  go false nay = has_ended_refused (entry_of who c (answer demux h who c)) h nay
-
-end_ends : (who : ℕ) (h : History) → has_ended (answered who call.End h) ≡ true
-unfolding answer
-end_ends who h = rw (has_ended_after (entry_of who call.End (answer demux h who call.End)) h refl) refl
-
-verb_goes_on : (who now : ℕ) (verb : Verb) (h : History) → has_ended (answered who (asked verb now) h) ≡ has_ended h
-verb_goes_on who now Open h = not_end who call.Open h refl
-verb_goes_on who now Close h = not_end who call.Close h refl
-verb_goes_on who now (Section p) h = not_end who (call.SetFilter p now) h refl
-verb_goes_on who now (Pes p) h = not_end who (call.SetPes p now) h refl
-verb_goes_on who now (Add pid) h = not_end who (call.AddPid pid) h refl
-verb_goes_on who now (Remove pid) h = not_end who (call.RemovePid pid) h refl
-verb_goes_on who now Start h = not_end who (call.Start now) h refl
-verb_goes_on who now Stop h = not_end who call.Stop h refl
-verb_goes_on who now (Size n) h = not_end who (call.SetSize n) h refl
-verb_goes_on who now (Read n) h = not_end who (call.Read now n) h refl
-verb_goes_on who now Poll h = not_end who (call.Poll now) h refl
-
--- what follows from facts of a call that succeeded
-pub all_ok : {T E P Q R S : Type 0} (r : Result T E) → (P → Q → R → S) → OnOk r P → OnOk r Q → OnOk r R → OnOk r S
-all_ok (Ok v) then p q s = then p q s
-all_ok (Err e) then p q s = tt
+use Rattle.emu_top.specs.Nodes.{Node, answered, log_of}
+use Rattle.emu_top.specs.SerialRun.{Run, begun, one_more, passed, batch_sizes, all_passed, ended, called_dvr, called_demux, done, finished, serial_run, nodes_of}
+use Rattle.emu_top.specs.Runner.{told_log, Pairs, IsSeat, IsDvrSeat, IsAt, IsUnder, AreUnder, Counts, turns}
+use Rattle.emu_top.proofs.Pairs.{pair_at, same_length, equal_by, same_weaker, same_set}
 
 -- ------ the callers' counts
 
--- these are the callers' counts after this history
-abbrev pub AreCounts : List ℕ → History → Type 0
-AreCounts counts h = (who : ℕ) → who < 9 → slice_index counts who ≡ calls_of who h
+pub turns_more : (calls : List ℕ) (who : ℕ) → who < length calls → turns (one_more who calls) ≡ turns calls + 1
+turns_more calls who there = omega (arith, sum_by-set (λ n. n) calls who (slice_index calls who + 1) 0 there)
 
--- one more call of a caller
-counts_more : (who : ℕ) (c : Invocation) (counts : List ℕ) (h : History) → who < length counts → AreCounts counts h
-    → AreCounts (slice_set counts who (slice_index counts who + 1)) (answered who c h)
-counts_more who c counts h there at = λ other below. go other below (nat_eq who other) refl where
-  go : (other : ℕ) → other < 9 → (b : Bool) → nat_eq who other ≡ b → slice_index (slice_set counts who (slice_index counts who + 1)) other ≡ calls_of other (answered who c h)
-  go other below true same =
-      let e : who ≡ other = grind (arith, nat_tests) in
-      let below' : who < 9 = omega arith in
-      rw (← e) (get_or-set_same counts who _ 0 there ∙ (ap (λ n. n + 1) (at who below') ∙ sym (calls_more who c h)))
-  go other below false differs =
-      let d : other ≢ who = grind (arith, nat_tests) in
-      get_or-set_other counts who other _ 0 d ∙ (at other below ∙ sym (calls_other other who c h differs))
+-- one more call, which puts at most one entry on each node
+pub counts_more : (old new : Runner) (who : ℕ) → Counts old → who < 9 → new.calls ≡ one_more who old.calls → AreUnder new.demux.items (turns old.calls + 1) → new.dvr.core.entries ≤ turns old.calls + 1 → Counts new
+counts_more old new who counts there more demux dvr =
+    let there' : who < length old.calls = omega (arith, counts.callers) in
+    let sum' : turns new.calls ≡ turns old.calls + 1 = ap turns more ∙ turns_more old.calls who there' in
+    record {
+      callers = ap length more ∙ (length-set old.calls who (slice_index old.calls who + 1) ∙ counts.callers);
+      demux = subst (λ n. AreUnder new.demux.items n) (sym sum') demux;
+      dvr = subst (λ n. new.dvr.core.entries ≤ n) (sym sum') dvr;
+    }
+
+pub under_more : (seats : List DemuxSeat) (m n : ℕ) → m ≤ n → AreUnder seats m → AreUnder seats n
+under_more seats m n le under = same_weaker IsUnder DEMUX_NODES seats m n (λ seat u. omega (arith, u, le)) under
+
+-- all elements of a vector were lent, and came back as many
+pub whole_back : {X : Type 0} (items lent now : List X) (len : ℕ) → len ≡ length items → lent ≡ items → length now ≡ length lent → take len (now ++ drop (length now) items) ≡ now
+whole_back items lent now len fits is same =
+    let count : length now ≡ len = same ∙ (ap length is ∙ sym fits) in
+    take-append-le len now (drop (length now) items) (omega (arith, count)) ∙ take_all len now (omega (arith, count))
+
+-- there are as many nodes as they should be
+pub seats_count : (seats : List DemuxSeat) (m : ℕ) → AreUnder seats m → length seats ≡ DEMUX_NODES
+seats_count seats m under = same_length IsUnder seats (replicate DEMUX_NODES m) under ∙ length-replicate DEMUX_NODES m
+
+pub seat_under : (seats : List DemuxSeat) (i m : ℕ) (d : DemuxSeat) → i < DEMUX_NODES → AreUnder seats m → (get_or seats i d).core.entries ≤ m
+seat_under seats i m d there under =
+    let there' : i < length seats = omega (arith, seats_count seats m under, there) in
+    subst (λ n. (get_or seats i d).core.entries ≤ n) (get_or-replicate DEMUX_NODES i m m there) (pair_at IsUnder i seats (replicate DEMUX_NODES m) d m there' under)
+
+pub under_set : (seats : List DemuxSeat) (i m : ℕ) (seat : DemuxSeat) → IsUnder seat m → AreUnder seats m → AreUnder (set seats i seat) m
+under_set seats i m seat u under = same_set IsUnder DEMUX_NODES i seats m seat u under
 
 -- ------ the runner goes on with the run
 
--- a runner behind one more call that doesn't end the stream, made by caller `who`
-pub record Called (old new : Runner) (who : ℕ) (c : Invocation) (h : History) : Type 0 where
-  pub stands : StandsFor new.node (answered who c h)
-  pub entries : map told_entry new.entries.items ≡ log_of 0 (answered who c h)
-  pub calls : new.calls ≡ slice_set old.calls who (slice_index old.calls who + 1)
+-- a runner behind a call of the feeder on all nodes
+pub record Fed (old new : Runner) (c : Invocation) : Type 0 where
+  pub demux : (ns : List Node) → Pairs IsSeat old.demux.items ns → Pairs IsSeat new.demux.items (map (answered rules.demux 0 (slice_index old.calls 0) c) ns)
+  pub dvr : (n : Node) → IsDvrSeat old.dvr n → IsDvrSeat new.dvr (answered rules.dvr 0 (slice_index old.calls 0) c n)
+  pub calls : new.calls ≡ one_more 0 old.calls
 
-pub at_called : (old new : Runner) (r : Run) (who : ℕ) (verb : Verb) → IsAt old r → Counts old → who < 9 → Called old new who (asked verb r.moment) r.history
-    → new.packets.now ≡ old.packets.now → new.first ≡ old.first → new.moment ≡ old.moment → new.has_ended ≡ old.has_ended
-    → IsAt new (called who (asked verb r.moment) r)
-at_called old new r who verb at counts below more left first moment end = record {
-  stands = more.stands;
-  entries = more.entries;
-  left = left ∙ at.left;
-  first = first ∙ at.first;
-  moment = moment ∙ at.moment;
-  calls = rw more.calls (counts_more who (asked verb r.moment) old.calls r.history (omega (arith, counts.callers)) at.calls);
-  has_ended = end ∙ (at.has_ended ∙ sym (verb_goes_on who r.moment verb r.history));
-}
-
-pub at_passed : (old new : Runner) (r : Run) (size : ℕ) → IsAt old r → Counts old
-    → Called old new 0 (call.Pass Frontend old.first (take size old.packets.now) old.moment) r.history
+pub at_passed : (old new : Runner) (r : Run) (size : ℕ) → IsAt old r → Fed old new (call.Pass Frontend old.first (take size old.packets.now) old.moment)
     → new.packets.now ≡ drop size old.packets.now → new.first ≡ old.first + size → new.moment ≡ old.moment → new.has_ended ≡ old.has_ended
     → IsAt new (passed r size)
-at_passed old new r size at counts more left first moment end =
+at_passed old new r size at fed left first moment end =
     let c : Invocation = call.Pass Frontend r.first (take size r.left) r.moment in
     let same : call.Pass Frontend old.first (take size old.packets.now) old.moment ≡ c = rw (at.first, at.left, at.moment) refl in
-    let more' : Called old new 0 c r.history = subst (λ d. Called old new 0 d r.history) same more in
+    let more : Fed old new c = subst (λ d. Fed old new d) same fed in
     record {
-      stands = more'.stands;
-      entries = more'.entries;
+      demux = subst (λ calls. Pairs IsSeat new.demux.items (map (answered rules.demux 0 (slice_index calls 0) c) r.demux)) at.calls (more.demux r.demux at.demux);
+      dvr = subst (λ calls. IsDvrSeat new.dvr (answered rules.dvr 0 (slice_index calls 0) c r.dvr)) at.calls (more.dvr r.dvr at.dvr);
+      calls = more.calls ∙ ap (one_more 0) at.calls;
       left = left ∙ ap (drop size) at.left;
       first = first ∙ ap (λ n. n + size) at.first;
       moment = moment ∙ at.moment;
-      calls = rw more'.calls (counts_more 0 c old.calls r.history (omega (arith, counts.callers)) at.calls);
-      has_ended = end ∙ (at.has_ended ∙ sym (not_end 0 c r.history refl));
+      has_ended = end ∙ at.has_ended;
     }
 
 -- End passes, where it hasn't
-pub at_ended : (old new : Runner) (r : Run) → IsAt old r → Counts old → old.has_ended ≡ false → Called old new 0 call.End r.history
+pub at_ended : (old new : Runner) (r : Run) → IsAt old r → old.has_ended ≡ false → Fed old new call.End
     → new.packets.now ≡ old.packets.now → new.first ≡ old.first → new.moment ≡ old.moment → new.has_ended ≡ true
     → IsAt new (ended r)
-at_ended old new r at counts before more left first moment end = rw (sym at.has_ended ∙ before) record {
-  stands = more.stands;
-  entries = more.entries;
+at_ended old new r at before more left first moment end = rw (sym at.has_ended ∙ before) record {
+  demux = subst (λ calls. Pairs IsSeat new.demux.items (map (answered rules.demux 0 (slice_index calls 0) call.End) r.demux)) at.calls (more.demux r.demux at.demux);
+  dvr = subst (λ calls. IsDvrSeat new.dvr (answered rules.dvr 0 (slice_index calls 0) call.End r.dvr)) at.calls (more.dvr r.dvr at.dvr);
+  calls = more.calls ∙ ap (one_more 0) at.calls;
   left = left ∙ at.left;
   first = first ∙ at.first;
   moment = moment ∙ at.moment;
-  calls = rw more.calls (counts_more 0 call.End old.calls r.history (omega (arith, counts.callers)) at.calls);
-  has_ended = end ∙ sym (end_ends 0 r.history);
+  has_ended = end;
 }
 
--- it has passed
-pub at_ended_before : (v : Runner) (r : Run) → IsAt v r → v.has_ended ≡ true → IsAt v (ended r)
-at_ended_before v r at before = rw (sym at.has_ended ∙ before) at
+-- a caller's call on the dvr node
+pub at_called_dvr : (old new : Runner) (r : Run) (who : ℕ) (c : Invocation) → IsAt old r
+    → ((n : Node) → IsDvrSeat old.dvr n → IsDvrSeat new.dvr (answered rules.dvr who (slice_index old.calls who) c n))
+    → new.demux.items ≡ old.demux.items → new.calls ≡ one_more who old.calls
+    → new.packets.now ≡ old.packets.now → new.first ≡ old.first → new.moment ≡ old.moment → new.has_ended ≡ old.has_ended
+    → IsAt new (called_dvr who c r)
+at_called_dvr old new r who c at more demux calls left first moment end = record {
+  demux = subst (λ seats. Pairs IsSeat seats r.demux) (sym demux) at.demux;
+  dvr = subst (λ calls. IsDvrSeat new.dvr (answered rules.dvr who (slice_index calls who) c r.dvr)) at.calls (more r.dvr at.dvr);
+  calls = calls ∙ ap (one_more who) at.calls;
+  left = left ∙ at.left;
+  first = first ∙ at.first;
+  moment = moment ∙ at.moment;
+  has_ended = end ∙ at.has_ended;
+}
+
+-- a caller's call on a demux node
+pub at_called_demux : (old new : Runner) (r : Run) (node who : ℕ) (c : Invocation) → IsAt old r
+    → Pairs IsSeat new.demux.items (called_demux node who c (record r { calls = old.calls })).demux
+    → new.dvr ≡ old.dvr → new.calls ≡ one_more who old.calls
+    → new.packets.now ≡ old.packets.now → new.first ≡ old.first → new.moment ≡ old.moment → new.has_ended ≡ old.has_ended
+    → IsAt new (called_demux node who c r)
+at_called_demux old new r node who c at more dvr calls left first moment end = record {
+  demux = subst (λ calls. Pairs IsSeat new.demux.items (called_demux node who c (record r { calls = calls })).demux) at.calls more;
+  dvr = subst (λ seat. IsDvrSeat seat r.dvr) (sym dvr) at.dvr;
+  calls = calls ∙ ap (one_more who) at.calls;
+  left = left ∙ at.left;
+  first = first ∙ at.first;
+  moment = moment ∙ at.moment;
+  has_ended = end ∙ at.has_ended;
+}
 
 -- ------ batches
 
@@ -168,15 +156,12 @@ passed_more batch n r some more = rw (sizes_more batch n some more) refl
 
 -- ------ the whole run
 
--- a new runner is before the first line
-pub at_begun : (v : Runner) (packets : List (List ℕ)) → StandsFor v.node [] → map told_entry v.entries.items ≡ [] → v.packets.now ≡ packets
-    → v.first ≡ 0 → v.moment ≡ 0 → v.calls ≡ replicate 9 0 → v.has_ended ≡ false → IsAt v (begun packets)
-unfolding has_ended
-at_begun v packets stands entries left first moment calls end =
-    record { stands = stands; entries = entries; left = left; first = first; moment = moment; calls = λ who below. rw calls (get_or-replicate 9 who 0 0 below); has_ended = end }
-
--- where the run is finished, the log is that of the whole run
-pub log_at_end : (v : Runner) (batch : ℕ) (lines : List Line) (packets : List (List ℕ))
-    → IsAt v (finished batch (fold (done batch) (begun packets) lines)) → map told_entry v.entries.items ≡ log_of 0 (serial_run batch lines packets)
+-- where the run is finished, the logs are those of the whole run
+pub logs_at_end : (v : Runner) (batch : ℕ) (lines : List Line) (packets : List (List ℕ))
+    → IsAt v (finished batch (fold (done batch) (begun packets) lines))
+    → map (λ seat. told_log seat.log) v.demux.items ++ told_log v.dvr.log ∷ [] ≡ map log_of (nodes_of (serial_run batch lines packets))
 unfolding serial_run
-log_at_end v batch lines packets h = h.entries
+logs_at_end v batch lines packets h =
+    let r : Run = finished batch (fold (done batch) (begun packets) lines) in
+    let front : map (λ seat. told_log seat.log) v.demux.items ≡ map log_of r.demux = equal_by IsSeat (λ seat. told_log seat.log) log_of (λ seat n at. at.log) v.demux.items r.demux h.demux in
+    ap (λ logs. logs ++ told_log v.dvr.log ∷ []) front ∙ (ap (λ log. map log_of r.demux ++ log ∷ []) h.dvr.log ∙ sym (map-append log_of r.demux (r.dvr ∷ [])))

@@ -1,19 +1,20 @@
 -- What the lines of a script ask for (this project's own).
-use Rattle.std.specs.Prelude.{◌≡◌, false, ℕ, ◌≤◌, ◌==◌, List, [], ◌∷◌, Option, Some, None, if◌then◌else◌, codes}
+use Rattle.std.specs.Prelude.{ℕ, ◌≤◌, ◌==◌, List, [], ◌∷◌, Option, Some, None, if◌then◌else◌, codes}
 use Rattle.std.specs.List.{slice_split}
 use Rattle.std.specs.Option.{option_map, option_and_then}
 use Rattle.dmx_calls.specs.declared.limits.TheConstants.{LARGEST_READ}
 use Rattle.dmx_calls.specs.declared.params.Input.{Input}
-use Rattle.dmx_calls.specs.declared.params.Input.TheVariants.{Frontend, Dvr}
+use Rattle.dmx_calls.specs.declared.params.Input.TheVariants.{Frontend, Dvr as DvrInput}
 use Rattle.dmx_calls.specs.declared.params.Output.{Output}
-use Rattle.dmx_calls.specs.declared.params.Output.TheVariants.{Decoder, Tap, TsdemuxTap}
-use Rattle.node_core.specs.Sound.{is_ts_tap}
+use Rattle.dmx_calls.specs.declared.params.Output.TheVariants.{Decoder, Tap, TsTap, TsdemuxTap}
 use Rattle.emu_top.specs.Numbers.{number_between}
 use Rattle.emu_top.specs.Places.{given, filter_of}
 use Rattle.emu_top.specs.Words.{is_word}
 use Rattle.emu_top.specs.Session.{Session, session_of, is_passed_over}
 use Rattle.emu_top.specs.declared.script.Verb.{Verb}
 use Rattle.emu_top.specs.declared.script.Verb.TheVariants.{Open, Close, Section, Pes, Add, Remove, Start, Stop, Size, Read, Poll}
+use Rattle.emu_top.specs.declared.script.Target.{Target}
+use Rattle.emu_top.specs.declared.script.Target.TheVariants.{Node, Dvr}
 use Rattle.emu_top.specs.declared.script.Line.{Line}
 use Rattle.emu_top.specs.declared.script.Line.TheVariants.{Feed, Tick, Command}
 
@@ -52,14 +53,15 @@ counted_verb name number =
 unfoldable pub input_named : List ℕ → Option Input
 input_named word =
     if is_word word (codes "frontend") then Some Frontend
-    else (if is_word word (codes "dvr") then Some Dvr else None)
+    else (if is_word word (codes "dvr") then Some DvrInput else None)
 
--- OUTPUT: where its items go; `ts_tap` isn't built yet
+-- OUTPUT: where its items go
 unfoldable pub output_named : List ℕ → Option Output
 output_named word =
     if is_word word (codes "decoder") then Some Decoder
     else (if is_word word (codes "tap") then Some Tap
-    else (if is_word word (codes "tsdemux_tap") then Some TsdemuxTap else None))
+    else (if is_word word (codes "ts_tap") then Some TsTap
+    else (if is_word word (codes "tsdemux_tap") then Some TsdemuxTap else None)))
 
 -- `pes PID INPUT OUTPUT TYPE FLAGS`
 unfoldable pub pes_of : (arguments : List (List ℕ)) → Option Verb
@@ -108,12 +110,21 @@ unfoldable pub client_of : List ℕ → Option ℕ
 client_of (letter ∷ number) = if letter == 99 then number_between 0 7 number else None
 client_of [] = None
 
--- `cK NAME n0` and what stands behind it
+-- the demux node of a word `n0` to `n31`; the letter is byte 110
+unfoldable pub demux_of : List ℕ → Option ℕ
+demux_of (letter ∷ number) = if letter == 110 then number_between 0 31 number else None
+demux_of [] = None
+
+-- the node of a word: these, or `dvr`
+unfoldable pub target_of : List ℕ → Option Target
+target_of word = if is_word word (codes "dvr") then Some Dvr else option_map Node (demux_of word)
+
+-- `cK NAME NODE` and what stands behind it
 unfoldable pub command_of : (client name node : List ℕ) → (arguments : List (List ℕ)) → Option Line
 command_of client name node arguments =
-    if is_word node (codes "n0")
-    then given (client_of client) (λ k. option_map (Command k) (verb_of name arguments))
-    else None
+    given (client_of client) (λ k.
+    given (target_of node) (λ target.
+    option_map (Command k target) (verb_of name arguments)))
 
 -- what the words of a line ask for; None where the line isn't built
 unfoldable pub line_of_words : List (List ℕ) → Option Line
@@ -147,13 +158,17 @@ script_in s = option_map (λ lines. record { lines = lines; stream = s.stream })
 abbrev pub script_of : List ℕ → Option Script
 script_of input = option_and_then script_in (session_of input)
 
--- no read is larger than a node allows, and no filter is for the dvr node
+-- no read is larger than a node allows
 abbrev pub IsVerbInRange : Verb → Type 0
 IsVerbInRange (Read count) = count ≤ LARGEST_READ
-IsVerbInRange (Pes params) = is_ts_tap params.output ≡ false
 IsVerbInRange _ = Unit {0}
+
+-- there are 32 demux nodes
+abbrev pub IsTargetInRange : Target → Type 0
+IsTargetInRange (Node node) = node ≤ 31
+IsTargetInRange Dvr = Unit {0}
 
 -- there are 8 clients
 abbrev pub IsInRange : Line → Type 0
-IsInRange (Command client verb) = (client ≤ 7) × IsVerbInRange verb
+IsInRange (Command client target verb) = (client ≤ 7) × IsTargetInRange target × IsVerbInRange verb
 IsInRange _ = Unit {0}

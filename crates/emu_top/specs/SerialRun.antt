@@ -1,44 +1,59 @@
--- The serial run of a script: its lines done in their order, by one thread, each call answered by its history. No node runs here, only definitions.
-use Rattle.std.specs.Prelude.{ℕ, ◌+◌, ◌/◌, ◌%◌, ◌==◌, List, [], ◌∷◌, ◌++◌, length, take, drop, replicate, fold, nat_lt, if◌then◌else◌}
+-- The serial run of a script: its lines done in their order, by one thread, on 32 demux nodes and the dvr node.
+use Rattle.std.specs.Prelude.{ℕ, ◌+◌, ◌/◌, ◌%◌, ◌==◌, Bool, true, false, List, [], ◌∷◌, ◌++◌, length, map, take, drop, replicate, fold, nat_lt, slice_index, slice_index_or, slice_set, if◌then◌else◌}
+use Rattle.std.specs.List.{range_with_len}
 use Rattle.dmx_calls.specs.declared.params.Input.TheVariants.{Frontend}
+use Rattle.dmx_calls.specs.declared.limits.TheConstants.{DEMUX_NODES}
 use Rattle.dmx_calls.specs.Invocation as call
 use Rattle.dmx_calls.specs.Invocation.{Invocation}
-use Rattle.dmx_calls.specs.History.{History, entry_of}
-use Rattle.dmx_calls.specs.Tenure.{has_ended}
-use Rattle.dmx_calls.specs.Rules.{demux}
-use Rattle.dmx_calls.specs.Answer.{answer}
+use Rattle.dmx_calls.specs.Response.{TapChange, KeepTap, AttachTap, DetachTap}
+use Rattle.dmx_calls.specs.Rules as rules
 use Rattle.emu_top.specs.declared.script.Verb.{Verb}
 use Rattle.emu_top.specs.declared.script.Verb.TheVariants.{Open, Close, Section, Pes, Add, Remove, Start, Stop, Size, Read, Poll}
+use Rattle.emu_top.specs.declared.script.Target.{Target}
+use Rattle.emu_top.specs.declared.script.Target.TheVariants.{Node as OnNode, Dvr}
 use Rattle.emu_top.specs.declared.script.Line.{Line}
 use Rattle.emu_top.specs.declared.script.Line.TheVariants.{Feed, Tick, Command}
+use Rattle.emu_top.specs.Nodes.{Node, uncalled, answered, tap_by}
 
--- A run so far: the history of node 0, the packets that haven't passed it yet, the number of the first of them in the stream, and the moment in milliseconds.
+-- A run so far: the demux nodes 0 to 31 and the dvr node, how many calls each caller has made (caller 0 is the feeder, whose call on all nodes is one, and caller c + 1 is client c), the packets that haven't passed yet, the number of the first of them in the stream, the moment in milliseconds, and whether the end of the stream has passed.
 pub record Run : Type 0 where
-  pub history : History
+  pub demux : List Node
+  pub dvr : Node
+  pub calls : List ℕ
   pub left : List (List ℕ)
   pub first : ℕ
   pub moment : ℕ
+  pub has_ended : Bool
 
--- before the first line
+-- before the first line; the callers are the feeder and eight clients
 abbrev pub begun : List (List ℕ) → Run
-begun packets = record { history = []; left = packets; first = 0; moment = 0 }
-
--- the history with this call and its answer
-abbrev pub answered : (who : ℕ) → Invocation → History → History
-answered who invocation h = entry_of who invocation (answer demux h who invocation) ∷ h
-
--- a caller makes a call on the node: caller 0 is the feeder, and caller c + 1 is client c
-abbrev pub called : (who : ℕ) → Invocation → Run → Run
-called who invocation r = record { history = answered who invocation r.history; left = r.left; first = r.first; moment = r.moment }
-
--- the next packets pass in one batch of this size
-abbrev pub passed : Run → (size : ℕ) → Run
-passed r size = record {
-  history = answered 0 (call.Pass Frontend r.first (take size r.left) r.moment) r.history;
-  left = drop size r.left;
-  first = r.first + size;
-  moment = r.moment;
+begun packets = record {
+  demux = map uncalled (range_with_len 0 DEMUX_NODES);
+  dvr = uncalled DEMUX_NODES;
+  calls = replicate 9 0;
+  left = packets;
+  first = 0;
+  moment = 0;
+  has_ended = false;
 }
+
+-- ------ the feeder
+
+-- one call more of this caller
+abbrev pub one_more : (who : ℕ) → List ℕ → List ℕ
+one_more who calls = slice_set calls who (slice_index calls who + 1)
+
+-- the feeder makes a call on each of the 33 nodes
+abbrev pub fed_to_all : Invocation → Run → Run
+fed_to_all c r = record r {
+  demux = map (answered rules.demux 0 (slice_index r.calls 0) c) r.demux;
+  dvr = answered rules.dvr 0 (slice_index r.calls 0) c r.dvr;
+  calls = one_more 0 r.calls;
+}
+
+-- the next packets pass all nodes in one batch of this size
+abbrev pub passed : Run → (size : ℕ) → Run
+passed r size = record (fed_to_all (call.Pass Frontend r.first (take size r.left) r.moment) r) { left = drop size r.left; first = r.first + size }
 
 -- So many packets in batches of this size: whole ones, and one of what is over.
 abbrev pub batch_sizes : (batch count : ℕ) → List ℕ
@@ -48,9 +63,9 @@ batch_sizes batch count = replicate (count / batch) batch ++ (if count % batch =
 abbrev pub all_passed : (batch count : ℕ) → Run → Run
 all_passed batch count r = fold passed r (batch_sizes batch count)
 
--- no packet is left: End passes, once
+-- no packet is left: End passes all nodes, once
 abbrev pub ended : Run → Run
-ended r = if has_ended r.history then r else called 0 call.End r
+ended r = if r.has_ended then r else record (fed_to_all call.End r) { has_ended = true }
 
 -- so many packets pass; where fewer are left, these pass and then End
 abbrev pub fed : (batch count : ℕ) → Run → Run
@@ -59,9 +74,41 @@ fed batch count r =
 
 -- so many milliseconds go by
 abbrev pub ticked : (time : ℕ) → Run → Run
-ticked time r = record { history = r.history; left = r.left; first = r.first; moment = r.moment + time }
+ticked time r = record r { moment = r.moment + time }
 
--- what a command asks of the node at this moment
+-- ------ the clients
+
+-- a caller makes a call on the dvr node
+abbrev pub called_dvr : (who : ℕ) → Invocation → Run → Run
+called_dvr who c r = record r { dvr = answered rules.dvr who (slice_index r.calls who) c r.dvr; calls = one_more who r.calls }
+
+-- the demux node of this number
+abbrev pub demux_node : (node : ℕ) → Run → Node
+demux_node node r = slice_index_or r.demux node (uncalled node)
+
+-- a caller makes a call on this demux node
+abbrev pub called_demux : (node who : ℕ) → Invocation → Run → Run
+called_demux node who c r = record r {
+  demux = slice_set r.demux node (answered rules.demux who (slice_index r.calls who) c (demux_node node r));
+  calls = one_more who r.calls;
+}
+
+-- what the answer to that call tells of the node's tap
+abbrev pub told_tap : (node who : ℕ) → Invocation → Run → TapChange
+told_tap node who c r = tap_by rules.demux who c (demux_node node r)
+
+-- a caller tells the dvr node of the change of a demux node's tap
+abbrev pub tapped : TapChange → (node who : ℕ) → Run → Run
+tapped KeepTap node who r = r
+tapped (AttachTap pids) node who r = called_dvr who (call.Attach node pids) r
+tapped DetachTap node who r = called_dvr who (call.Detach node) r
+
+-- a caller makes a call; where it is on a demux node and the answer asks for a change of the tap, the same caller makes it right after
+abbrev pub called : Target → (who : ℕ) → Invocation → Run → Run
+called Dvr who c r = called_dvr who c r
+called (OnNode node) who c r = tapped (told_tap node who c r) node who (called_demux node who c r)
+
+-- what a command asks of a node at this moment
 abbrev pub asked : Verb → (now : ℕ) → Invocation
 asked Open now = call.Open
 asked Close now = call.Close
@@ -75,16 +122,22 @@ asked (Size size) now = call.SetSize size
 asked (Read count) now = call.Read now count
 asked Poll now = call.Poll now
 
+-- ------ lines
+
 -- a line is done
 abbrev pub done : (batch : ℕ) → Run → Line → Run
 done batch r (Feed count) = fed batch count r
 done batch r (Tick time) = ticked time r
-done batch r (Command client verb) = called (client + 1) (asked verb r.moment) r
+done batch r (Command client target verb) = called target (client + 1) (asked verb r.moment) r
 
 -- the rest of the stream passes, and then End
 abbrev pub finished : (batch : ℕ) → Run → Run
 finished batch r = ended (all_passed batch (length r.left) r)
 
--- the history of node 0 after all lines and the rest of the stream
-unfoldable pub serial_run : (batch : ℕ) → List Line → (packets : List (List ℕ)) → History
-serial_run batch lines packets = (finished batch (fold (done batch) (begun packets) lines)).history
+-- the run of all lines and the rest of the stream
+unfoldable pub serial_run : (batch : ℕ) → List Line → (packets : List (List ℕ)) → Run
+serial_run batch lines packets = finished batch (fold (done batch) (begun packets) lines)
+
+-- its 33 nodes, the dvr node last
+abbrev pub nodes_of : Run → List Node
+nodes_of r = r.demux ++ r.dvr ∷ []

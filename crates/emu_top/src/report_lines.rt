@@ -3,12 +3,13 @@ ghost use Rattle.std.specs.Prelude.{◌≡◌, ◌++◌, ◌<◌, OnOk, string_b
 ghost use Rattle.std.specs.List.{flat_map};
 ghost use Rattle.dmx_calls.specs.Calls.{told_act, told_entry, response_of, tap_change_of};
 ghost use Rattle.filter_match.specs.Match.{below};
-ghost use Rattle.emu_top.specs.Report.{act_text, byte_text, caller_text, data_text, entry_text, errno_text, filter_byte_text, flag_text, hex_digit, input_text, output_text, pending_text, pes_text, response_text, section_text, tap_text, who_text};
+ghost use Rattle.emu_top.specs.Report.{act_text, byte_text, caller_text, data_text, entry_text, errno_text, filter_byte_text, flag_text, hex_digit, input_text, output_text, pending_text, pes_text, pids_text, response_text, section_text, tap_text, who_text};
 
 use dmx_calls::{
     Act, Entry, Errno, Input, Output, PesParams, PollError, Reply, SectionParams, Tap,
 };
 use filter_match::SectionFilter;
+use pid_set::Pids;
 use std::alloc::AllocError as NoMemory;
 
 #[tactic(auto, unfolding(crate::specs::Report::input_text))]
@@ -61,12 +62,33 @@ fn flag_name(flag: bool) -> &'static str
     if flag { "1" } else { "0" }
 }
 
+// The PIDs of a tap with commas between them, or `-` where there are none.
+fn add_pids(text: &mut String, pids: &Pids) -> Result<(), NoMemory>
+    ensures { OnOk result (string_bytes text.new ≡ string_bytes text.old ++ pids_text pids.now) }
+{
+    let Some(first) = pids.get(0) else {
+        return text.push_str("-");
+    };
+    write!(text, "{first}")?;
+    'pids: for place in 1..pids.len() {
+        if let Some(pid) = pids.get(place) {
+            write!(text, ",{pid}")?;
+        }
+    }
+    Ok(())
+}
+
 #[tactic(auto, unfolding(crate::specs::Report::tap_text))]
-fn tap_name(tap: Tap) -> &'static str
-    ensures { result.now ≡ tap_text (tap_change_of tap) }
+fn add_tap(text: &mut String, tap: &Tap) -> Result<(), NoMemory>
+    ensures { OnOk result (string_bytes text.new ≡ string_bytes text.old ++ tap_text (tap_change_of tap.now)) }
 {
     match tap {
-        Tap::Keep => "keep",
+        Tap::Keep => text.push_str("keep"),
+        Tap::Attach(pids) => {
+            text.push_str("attach:")?;
+            add_pids(text, pids)
+        }
+        Tap::Detach => text.push_str("detach"),
     }
 }
 
@@ -197,6 +219,11 @@ fn add_act(text: &mut String, act: &Act) -> Result<(), NoMemory>
             )
         }
         Act::End => text.push_str("end"),
+        Act::Attach { node, pids } => {
+            write!(text, "attach node={node} pids=")?;
+            add_pids(text, pids)
+        }
+        Act::Detach { node } => write!(text, "detach node={node}"),
     }
 }
 
@@ -219,8 +246,8 @@ fn add_reply(text: &mut String, reply: &Reply) -> Result<(), NoMemory>
         Reply::Done { dropped, tap } => {
             let from = dropped.from;
             let to = dropped.to;
-            let tap = tap_name(*tap);
-            write!(text, "done drop={from}..{to} tap={tap}")
+            write!(text, "done drop={from}..{to} tap=")?;
+            add_tap(text, tap)
         }
         Reply::Busy { owner } => {
             text.push_str("busy owner=")?;

@@ -1,16 +1,13 @@
 // The report's lines, and the report of a node.
-ghost use Rattle.std.specs.Prelude.{◌≡◌, ℕ, List, [], ◌∷◌, true, false, codes};
-ghost use Rattle.dmx_calls.specs.Log.{AttachAct, DetachAct};
-ghost use Rattle.dmx_calls.specs.Response.{AttachTap, DetachTap, Done};
-ghost use Rattle.emu_top.specs.Report.{act_text, response_text};
-
-use crate::report::{add_node, report};
+use crate::log::Log;
+use crate::report::report;
 use crate::report_lines::add_entry;
 use dmx_calls::{
     Act, ByteBuf, Entry, Errno, Input, Output, PesParams, PollError, Reply, SectionParams, Span,
     Tap,
 };
 use filter_match::SectionFilter;
+use pid_set::Pids;
 use std::alloc::Global;
 use std::test::Fail;
 use ts_packet::Tally;
@@ -69,64 +66,67 @@ fn data(alloc: Global, bytes: [u8; 4]) -> Result<Reply, Fail> {
     Ok(Reply::Data(buf))
 }
 
-static CALLS: [(Act, &str); 16] = [
-    (Act::Open, "open"),
-    (Act::Close, "close"),
-    (
-        pes!(256, Frontend, TsdemuxTap, 20, 0),
-        "pes pid=256 input=frontend output=tsdemux_tap type=20 flags=0 at=3",
-    ),
-    (
-        pes!(0, Dvr, Tap, 1, 4),
-        "pes pid=0 input=dvr output=tap type=1 flags=4 at=3",
-    ),
-    (
-        pes!(65535, Frontend, TsTap, 0, 4294967295),
-        "pes pid=65535 input=frontend output=ts_tap type=0 flags=4294967295 at=3",
-    ),
-    (
-        pes!(8192, Frontend, Decoder, 21, 1),
-        "pes pid=8192 input=frontend output=decoder type=21 flags=1 at=3",
-    ),
-    (
-        Act::Start {
-            now: 18446744073709551615,
-        },
-        "start at=18446744073709551615",
-    ),
-    (Act::AddPid(257), "add 257"),
-    (Act::RemovePid(65535), "remove 65535"),
-    (Act::Stop, "stop"),
-    (Act::SetSize(16777216), "size 16777216"),
-    (Act::Read { now: 70, count: 4 }, "read 4 at=70"),
-    (Act::Poll { now: 12 }, "poll at=12"),
-    (
-        Act::Pass {
-            input: Input::Frontend,
-            first: 128,
-            count: 64,
-            now: 5,
-        },
-        "pass input=frontend first=128 count=64 at=5",
-    ),
-    (
-        Act::Pass {
-            input: Input::Dvr,
-            first: 0,
-            count: 1,
-            now: 0,
-        },
-        "pass input=dvr first=0 count=1 at=0",
-    ),
-    (Act::End, "end"),
-];
+// Calls, and their texts.
+fn calls() -> [(Act, &'static str); 16] {
+    [
+        (Act::Open, "open"),
+        (Act::Close, "close"),
+        (
+            pes!(256, Frontend, TsdemuxTap, 20, 0),
+            "pes pid=256 input=frontend output=tsdemux_tap type=20 flags=0 at=3",
+        ),
+        (
+            pes!(0, Dvr, Tap, 1, 4),
+            "pes pid=0 input=dvr output=tap type=1 flags=4 at=3",
+        ),
+        (
+            pes!(65535, Frontend, TsTap, 0, 4294967295),
+            "pes pid=65535 input=frontend output=ts_tap type=0 flags=4294967295 at=3",
+        ),
+        (
+            pes!(8192, Frontend, Decoder, 21, 1),
+            "pes pid=8192 input=frontend output=decoder type=21 flags=1 at=3",
+        ),
+        (
+            Act::Start {
+                now: 18446744073709551615,
+            },
+            "start at=18446744073709551615",
+        ),
+        (Act::AddPid(257), "add 257"),
+        (Act::RemovePid(65535), "remove 65535"),
+        (Act::Stop, "stop"),
+        (Act::SetSize(16777216), "size 16777216"),
+        (Act::Read { now: 70, count: 4 }, "read 4 at=70"),
+        (Act::Poll { now: 12 }, "poll at=12"),
+        (
+            Act::Pass {
+                input: Input::Frontend,
+                first: 128,
+                count: 64,
+                now: 5,
+            },
+            "pass input=frontend first=128 count=64 at=5",
+        ),
+        (
+            Act::Pass {
+                input: Input::Dvr,
+                first: 0,
+                count: 1,
+                now: 0,
+            },
+            "pass input=dvr first=0 count=1 at=0",
+        ),
+        (Act::End, "end"),
+    ]
+}
 
 #[test]
 fn each_call_has_its_text(rt: HostRuntime) -> Result<(), Fail> {
     let alloc = rt.alloc();
-    for (act, want) in CALLS.iter() {
+    for (act, want) in calls() {
         let mut text = String::new(alloc);
-        add_entry(&mut text, &told(2, 3, 1, *act, Reply::Passed))?;
+        add_entry(&mut text, &told(2, 3, 1, act, Reply::Passed))?;
         assert_eq!(rt; text, format!(in alloc; "2 c2 1 {want} = passed\n")?);
     }
     Ok(())
@@ -297,6 +297,22 @@ fn each_reply_has_its_text(rt: HostRuntime) -> Result<(), Fail> {
     Ok(())
 }
 
+// The log of a node that a client has opened between a batch and the end of the stream.
+fn called(alloc: Global, node: u32) -> Result<Log, Fail> {
+    let pass = Act::Pass {
+        input: Input::Frontend,
+        first: 0,
+        count: 2,
+        now: 0,
+    };
+    let entries = vec![in alloc;
+        told(0, 0, 0, pass, Reply::Passed),
+        told(1, 1, 0, Act::Open, done(0, 0)),
+        told(2, 0, 1, Act::End, Reply::Passed),
+    ]?;
+    Ok(Log { node, entries })
+}
+
 const TALLY: Tally = Tally {
     packets: 2,
     skipped: 1,
@@ -312,61 +328,82 @@ fn a_node_without_clients_is_not_printed(rt: HostRuntime) -> Result<(), Fail> {
         count: 2,
         now: 0,
     };
-    let entries = [
+    let entries = vec![in alloc;
         told(0, 0, 0, pass, Reply::Passed),
         told(1, 0, 1, Act::End, Reply::Passed),
-    ];
+    ]?;
+    let untouched = [Log { node: 0, entries }];
     let want = "dvbemu 1\npackets=2 skipped=1 rest=100\nend\n";
-    assert_eq!(rt; report(alloc, &TALLY, &entries)?.as_str(), want);
+    assert_eq!(rt; report(alloc, &TALLY, &untouched)?.as_str(), want);
     assert_eq!(rt; report(alloc, &TALLY, &[])?.as_str(), want);
     Ok(())
 }
 
 #[test]
-fn a_node_has_its_entries_in_their_order(rt: HostRuntime) -> Result<(), Fail> {
+fn nodes_have_their_entries_in_their_order(rt: HostRuntime) -> Result<(), Fail> {
     let alloc = rt.alloc();
-    let pass = Act::Pass {
-        input: Input::Frontend,
-        first: 0,
-        count: 2,
-        now: 0,
-    };
-    let entries = [
-        told(0, 0, 0, pass, Reply::Passed),
-        told(1, 1, 0, Act::Open, done(0, 0)),
-        told(2, 0, 1, Act::End, Reply::Passed),
+    let logs = [
+        called(alloc, 0)?,
+        called(alloc, 31)?,
+        Log {
+            node: 7,
+            entries: vec![in alloc; told(0, 0, 0, Act::End, Reply::Passed)]?,
+        },
+        called(alloc, 32)?,
     ];
     let lines =
         "0 feed 0 pass input=frontend first=0 count=2 at=0 = passed\n1 c0 0 open = done drop=0..0 tap=keep\n2 feed 1 end = passed\n";
-    assert_eq!(rt;
-        report(alloc, &TALLY, &entries)?,
-        format!(in alloc; "dvbemu 1\npackets=2 skipped=1 rest=100\nnode 0\n{lines}end\n")?
-    );
-    for (node, name) in [(31, "31"), (32, "dvr")] {
-        let mut text = String::new(alloc);
-        add_node(&mut text, node, &entries)?;
-        assert_eq!(rt; text, format!(in alloc; "node {name}\n{lines}")?);
-    }
+    let want = format!(in alloc;
+        "dvbemu 1\npackets=2 skipped=1 rest=100\nnode 0\n{lines}node 31\n{lines}node dvr\n{lines}end\n"
+    )?;
+    assert_eq!(rt; report(alloc, &TALLY, &logs)?, want);
     Ok(())
 }
 
-// What the definitions say of calls and replies that no code makes yet, at single values.
-fn calls_to_come()
-    ensures attach_none { act_text (AttachAct 4 []) ≡ codes "attach node=4 pids=-" }
-    ensures attach { act_text (AttachAct 31 (0 ∷ 256 ∷ 8191 ∷ [])) ≡ codes "attach node=31 pids=0,256,8191" }
-    ensures detach { act_text (DetachAct 4) ≡ codes "detach node=4" }
-{}
+// The PIDs of a tap, and their text.
+static TAPS: [(&[u16], &str); 4] = [
+    (&[], "-"),
+    (&[256], "256"),
+    (&[1, 2, 3], "1,2,3"),
+    (&[0, 256, 8191, 8192], "0,256,8191,8192"),
+];
 
-fn replies_to_come()
-    ensures attach { response_text (Done 0 188 (AttachTap (256 ∷ []))) ≡ codes "done drop=0..188 tap=attach:256" }
-    ensures attach_none { response_text (Done 0 0 (AttachTap [])) ≡ codes "done drop=0..0 tap=attach:-" }
-    ensures attach_more { response_text (Done 0 0 (AttachTap (1 ∷ 2 ∷ 3 ∷ []))) ≡ codes "done drop=0..0 tap=attach:1,2,3" }
-    ensures detach { response_text (Done 5 6 DetachTap) ≡ codes "done drop=5..6 tap=detach" }
-{}
+fn set_of(pids: &[u16]) -> Pids {
+    let mut set = Pids::new();
+    for pid in pids {
+        let _ = set.add(*pid);
+    }
+    set
+}
 
 #[test]
-fn calls_and_replies_to_come_have_their_texts(_rt: HostRuntime) -> Result<(), Fail> {
-    calls_to_come();
-    replies_to_come();
+fn taps_have_their_texts(rt: HostRuntime) -> Result<(), Fail> {
+    let alloc = rt.alloc();
+    for (pids, want) in TAPS.iter() {
+        let act = Act::Attach {
+            node: 31,
+            pids: set_of(pids),
+        };
+        let reply = Reply::Done {
+            dropped: Span { from: 0, to: 188 },
+            tap: Tap::Attach(set_of(pids)),
+        };
+        let mut text = String::new(alloc);
+        add_entry(&mut text, &told(2, 1, 4, act, reply))?;
+        let line = format!(in alloc;
+            "2 c0 4 attach node=31 pids={want} = done drop=0..188 tap=attach:{want}\n"
+        )?;
+        assert_eq!(rt; text, line);
+    }
+    let reply = Reply::Done {
+        dropped: Span { from: 5, to: 6 },
+        tap: Tap::Detach,
+    };
+    let mut text = String::new(alloc);
+    add_entry(&mut text, &told(3, 8, 5, Act::Detach { node: 4 }, reply))?;
+    assert_eq!(rt;
+        text.as_str(),
+        "3 c7 5 detach node=4 = done drop=5..6 tap=detach\n"
+    );
     Ok(())
 }

@@ -1,16 +1,16 @@
 // A script, run on one thread.
-ghost use Rattle.std.specs.Prelude.{◌≡◌, ℕ, ◌+◌, ◌<◌, ◌≤◌, ◌^◌, List, [], ◌∷◌, ◌++◌, length, take, drop, map, slice_index, slice_set, All, IfOk, OnOk};
-ghost use Rattle.dmx_calls.specs.History.{History};
-ghost use Rattle.dmx_calls.specs.Calls.{invocation_of, response_of, told_entry};
-ghost use Rattle.dmx_calls.specs.Log.{log_of, calls_of};
-ghost use Rattle.node_core.specs.Stands.{StandsFor, IsBuilt};
-ghost use Rattle.emu_top.specs.Script.{IsVerbInRange, IsInRange};
-ghost use Rattle.emu_top.specs.SerialRun.{Run, answered, called, passed, all_passed, ended, fed, ticked, asked, done, finished, serial_run};
-ghost use Rattle.emu_top.specs.Runner.{IsAt, Counts};
+ghost use Rattle.std.specs.Prelude.{◌≡◌, ℕ, ◌+◌, ◌*◌, ◌-◌, ◌<◌, ◌≤◌, ◌^◌, List, [], ◌∷◌, ◌++◌, length, drop, map, slice_index, All, IfOk, OnOk};
+ghost use Rattle.dmx_calls.specs.declared.limits.TheConstants.{DEMUX_NODES as nodes};
+ghost use Rattle.dmx_calls.specs.Calls.{invocation_of, tap_change_of};
+ghost use Rattle.emu_top.specs.Script.{IsVerbInRange, IsTargetInRange, IsInRange};
+ghost use Rattle.emu_top.specs.Nodes.{log_of};
+ghost use Rattle.emu_top.specs.SerialRun.{Run, passed, all_passed, ended, fed, ticked, called_dvr, called_demux, told_tap, tapped, called, asked, done, finished, serial_run, nodes_of};
+ghost use Rattle.emu_top.specs.Runner.{told_log, IsAt, Counts, turns};
 
-use crate::script::{Line, Verb};
-use dmx_calls::{Act, ByteBuf, Call, Entry, Input, Reply};
-use node_core::NodeCore;
+use crate::log::Log;
+use crate::script::{Line, Target, Verb};
+use crate::seats::{DemuxSeat, DvrSeat, demux_seats, end_demux, pass_demux};
+use dmx_calls::{ByteBuf, Call, Input, Tap};
 use std::alloc::{AllocError as NoMemory, Global};
 use std::marker::Brand;
 use std::sync::Arc;
@@ -19,12 +19,12 @@ use steps::Steps;
 use ts_batch::Batch;
 use ts_packet::{Packet, PacketBuf};
 
-// A run so far: node 0, its log, and the packets that haven't passed it yet.
+// A run so far: the nodes with their logs, and the packets that haven't passed them yet.
 #[derive(Drop)]
 pub struct Runner<'a> {
     pub alloc: Global,
-    pub node: NodeCore,
-    pub entries: Vec<Entry>,
+    pub demux: Vec<DemuxSeat>,
+    pub dvr: DvrSeat,
     pub packets: &'a [Packet],
     // The number of the first of these packets in the stream.
     pub first: u64,
@@ -49,58 +49,10 @@ fn batch_of(alloc: Global, first: u64, packets: &[Packet]) -> Result<Arc<Batch>,
     Batch::of(alloc, first, &buffer)
 }
 
-// The reply with no more room than its bytes take.
-fn fitted(alloc: Global, reply: Reply) -> Result<Reply, NoMemory>
-    ensures { IfOk result (λ kept. response_of kept ≡ response_of reply) }
-{
-    match reply {
-        Reply::Data(buf) => Ok(Reply::Data(buf.fitted(alloc)?)),
-        other => Ok(other),
-    }
-}
-
 impl<'a> Runner<'a> {
-    // A caller makes a call on the node, and its entry joins the log.
-    fn call<L: Ledger>(
-        &mut self,
-        who: u32,
-        call: Call,
-        steps: &mut Steps<L>,
-    ) -> Result<(), NoMemory>
-        requires few { self.old.node.entries < 2 ^ 50 }
-        requires counts { Counts self.old }
-        requires caller { who < 9 }
-        requires built { IsBuilt (invocation_of call) }
-        ensures stands { OnOk result ((h : History) → StandsFor self.old.node h → map told_entry self.old.entries.items ≡ log_of 0 h → slice_index self.old.calls who ≡ calls_of who h
-            → StandsFor self.new.node (answered who (invocation_of call) h) × (map told_entry self.new.entries.items ≡ log_of 0 (answered who (invocation_of call) h))) }
-        ensures counts { OnOk result (Counts self.new) }
-        ensures one_more { OnOk result (self.new.calls ≡ slice_set self.old.calls who (slice_index self.old.calls who + 1)) }
-        ensures rises { OnOk result (self.new.node.entries ≡ self.old.node.entries + 1) }
-        ensures keeps { OnOk result ((self.new.packets ≡ self.old.packets) × (self.new.first ≡ self.old.first) × (self.new.moment ≡ self.old.moment) × (self.new.has_ended ≡ self.old.has_ended)) }
-    {
-        let place = self.node.entries();
-        let act = Act::of(&call);
-        let answer = self.node.apply(who, call, steps);
-        if matches!(answer.reply, Reply::NoMemory) {
-            return Err(NoMemory);
-        }
-        let reply = fitted(self.alloc, answer.reply)?;
-        let step = self.calls[who as usize];
-        self.entries.push(Entry {
-            node: 0,
-            place,
-            step,
-            who,
-            act,
-            reply,
-        })?;
-        self.calls[who as usize] += 1;
-        Ok(())
-    }
-
-    // The next packets pass in one batch.
+    // The next packets pass all nodes in one batch.
     fn pass<L: Ledger>(&mut self, size: usize, steps: &mut Steps<L>) -> Result<(), NoMemory>
-        requires few { self.old.node.entries < 2 ^ 50 }
+        requires few { turns self.old.calls < 2 ^ 50 - 1 }
         requires counts { Counts self.old }
         requires numbered { self.old.first + 64 < 2 ^ 64 }
         requires some { 0 < size }
@@ -108,19 +60,22 @@ impl<'a> Runner<'a> {
         requires there { size ≤ length self.old.packets.now }
         ensures at { OnOk result ((r : Run) → IsAt self.old r → IsAt self.new (passed r size)) }
         ensures counts { OnOk result (Counts self.new) }
-        ensures rises { OnOk result (self.new.node.entries ≡ self.old.node.entries + 1) }
+        ensures rises { OnOk result (turns self.new.calls ≡ turns self.old.calls + 1) }
         ensures left { OnOk result (self.new.packets.now ≡ drop size self.old.packets.now) }
         ensures first { OnOk result (self.new.first ≡ self.old.first + size) }
         ensures moment { OnOk result (self.new.moment ≡ self.old.moment) }
     {
         let (now, later) = self.packets.split_at(size);
+        let step = self.calls[0];
         let batch = batch_of(self.alloc, self.first, now)?;
+        let back = pass_demux(&mut self.demux, self.alloc, step, batch, self.moment, steps)?;
         let call = Call::Pass {
             input: Input::Frontend,
-            batch,
+            batch: back,
             now: self.moment,
         };
-        self.call(0, call, steps)?;
+        self.dvr.call(self.alloc, 0, step, call, steps)?;
+        self.calls[0] += 1;
         self.first += size as u64;
         self.packets = later;
         Ok(())
@@ -133,7 +88,7 @@ impl<'a> Runner<'a> {
         count: usize,
         steps: &mut Steps<L>,
     ) -> Result<(), NoMemory>
-        requires few { self.old.node.entries + count < 2 ^ 50 }
+        requires few { turns self.old.calls + count < 2 ^ 50 - 1 }
         requires counts { Counts self.old }
         requires numbered { self.old.first + count + 64 < 2 ^ 64 }
         requires some { 0 < batch }
@@ -141,7 +96,7 @@ impl<'a> Runner<'a> {
         requires there { count ≤ length self.old.packets.now }
         ensures at { OnOk result ((r : Run) → IsAt self.old r → IsAt self.new (all_passed batch count r)) }
         ensures counts { OnOk result (Counts self.new) }
-        ensures rises { OnOk result (self.new.node.entries ≤ self.old.node.entries + count) }
+        ensures rises { OnOk result (turns self.new.calls ≤ turns self.old.calls + count) }
         ensures left { OnOk result (self.new.packets.now ≡ drop count self.old.packets.now) }
         ensures first { OnOk result (self.new.first ≡ self.old.first + count) }
         ensures moment { OnOk result (self.new.moment ≡ self.old.moment) }
@@ -155,13 +110,13 @@ impl<'a> Runner<'a> {
         Ok(())
     }
 
-    // End passes, once.
+    // End passes all nodes, once.
     fn end<L: Ledger>(&mut self, steps: &mut Steps<L>) -> Result<(), NoMemory>
-        requires few { self.old.node.entries < 2 ^ 50 }
+        requires few { turns self.old.calls < 2 ^ 50 - 1 }
         requires counts { Counts self.old }
         ensures at { OnOk result ((r : Run) → IsAt self.old r → IsAt self.new (ended r)) }
         ensures counts { OnOk result (Counts self.new) }
-        ensures rises { OnOk result (self.new.node.entries ≤ self.old.node.entries + 1) }
+        ensures rises { OnOk result (turns self.new.calls ≤ turns self.old.calls + 1) }
         ensures left { OnOk result (self.new.packets.now ≡ self.old.packets.now) }
         ensures first { OnOk result (self.new.first ≡ self.old.first) }
         ensures moment { OnOk result (self.new.moment ≡ self.old.moment) }
@@ -169,7 +124,10 @@ impl<'a> Runner<'a> {
         if self.has_ended {
             return Ok(());
         }
-        self.call(0, Call::End, steps)?;
+        let step = self.calls[0];
+        end_demux(&mut self.demux, self.alloc, step, steps)?;
+        self.dvr.call(self.alloc, 0, step, Call::End, steps)?;
+        self.calls[0] += 1;
         self.has_ended = true;
         Ok(())
     }
@@ -181,14 +139,14 @@ impl<'a> Runner<'a> {
         count: usize,
         steps: &mut Steps<L>,
     ) -> Result<(), NoMemory>
-        requires few { self.old.node.entries + length self.old.packets.now + 1 < 2 ^ 50 }
+        requires few { turns self.old.calls + length self.old.packets.now + 1 < 2 ^ 50 - 1 }
         requires counts { Counts self.old }
         requires numbered { self.old.first + length self.old.packets.now + 64 < 2 ^ 64 }
         requires some { 0 < batch }
         requires most { batch ≤ 64 }
         ensures at { OnOk result ((r : Run) → IsAt self.old r → IsAt self.new (fed batch count r)) }
         ensures counts { OnOk result (Counts self.new) }
-        ensures rises { OnOk result (self.new.node.entries + self.old.first ≤ self.old.node.entries + self.new.first + 1) }
+        ensures rises { OnOk result (turns self.new.calls + self.old.first ≤ turns self.old.calls + self.new.first + 1) }
         ensures whole { OnOk result (self.new.first + length self.new.packets.now ≡ self.old.first + length self.old.packets.now) }
         ensures moment { OnOk result (self.new.moment ≡ self.old.moment) }
     {
@@ -201,14 +159,14 @@ impl<'a> Runner<'a> {
 
     // The rest of the packets passes, and then End.
     fn finish<L: Ledger>(&mut self, batch: usize, steps: &mut Steps<L>) -> Result<(), NoMemory>
-        requires few { self.old.node.entries + length self.old.packets.now + 1 < 2 ^ 50 }
+        requires few { turns self.old.calls + length self.old.packets.now + 1 < 2 ^ 50 - 1 }
         requires counts { Counts self.old }
         requires numbered { self.old.first + length self.old.packets.now + 64 < 2 ^ 64 }
         requires some { 0 < batch }
         requires most { batch ≤ 64 }
         ensures at { OnOk result ((r : Run) → IsAt self.old r → IsAt self.new (finished batch r)) }
         ensures counts { OnOk result (Counts self.new) }
-        ensures rises { OnOk result (self.new.node.entries + self.old.first ≤ self.old.node.entries + self.new.first + 1) }
+        ensures rises { OnOk result (turns self.new.calls + self.old.first ≤ turns self.old.calls + self.new.first + 1) }
         ensures whole { OnOk result (self.new.first + length self.new.packets.now ≡ self.old.first + length self.old.packets.now) }
         ensures moment { OnOk result (self.new.moment ≡ self.old.moment) }
     {
@@ -216,26 +174,108 @@ impl<'a> Runner<'a> {
         self.end(steps)
     }
 
-    // A client makes the call of a command.
+    // A client makes a call on the dvr node.
+    fn call_dvr<L: Ledger>(
+        &mut self,
+        who: u32,
+        call: Call,
+        steps: &mut Steps<L>,
+    ) -> Result<(), NoMemory>
+        requires few { turns self.old.calls < 2 ^ 50 - 1 }
+        requires counts { Counts self.old }
+        requires caller { who < 9 }
+        ensures at { OnOk result ((r : Run) → IsAt self.old r → IsAt self.new (called_dvr who (invocation_of call) r)) }
+        ensures counts { OnOk result (Counts self.new) }
+        ensures rises { OnOk result (turns self.new.calls ≡ turns self.old.calls + 1) }
+        ensures left { OnOk result (self.new.packets.now ≡ self.old.packets.now) }
+        ensures first { OnOk result (self.new.first ≡ self.old.first) }
+        ensures moment { OnOk result (self.new.moment ≡ self.old.moment) }
+    {
+        let step = self.calls[who as usize];
+        self.dvr.call(self.alloc, who, step, call, steps)?;
+        self.calls[who as usize] += 1;
+        Ok(())
+    }
+
+    // A client makes a call on a demux node; answers what the dvr node is to be told.
+    fn call_demux<L: Ledger>(
+        &mut self,
+        node: u32,
+        who: u32,
+        call: Call,
+        steps: &mut Steps<L>,
+    ) -> Result<Tap, NoMemory>
+        requires few { turns self.old.calls < 2 ^ 50 - 1 }
+        requires counts { Counts self.old }
+        requires there { node < nodes }
+        requires caller { who < 9 }
+        ensures at { OnOk result ((r : Run) → IsAt self.old r → IsAt self.new (called_demux node who (invocation_of call) r)) }
+        ensures tap { IfOk result (λ tap. (r : Run) → IsAt self.old r → tap_change_of tap ≡ told_tap node who (invocation_of call) r) }
+        ensures counts { OnOk result (Counts self.new) }
+        ensures rises { OnOk result (turns self.new.calls ≡ turns self.old.calls + 1) }
+        ensures left { OnOk result (self.new.packets.now ≡ self.old.packets.now) }
+        ensures first { OnOk result (self.new.first ≡ self.old.first) }
+        ensures moment { OnOk result (self.new.moment ≡ self.old.moment) }
+    {
+        let step = self.calls[who as usize];
+        let heard = self.demux[node as usize].call(self.alloc, who, step, call, steps)?;
+        self.calls[who as usize] += 1;
+        Ok(heard.tap)
+    }
+
+    // A client tells the dvr node of the change of a demux node's tap.
+    fn tell_dvr<L: Ledger>(
+        &mut self,
+        tap: Tap,
+        node: u32,
+        who: u32,
+        steps: &mut Steps<L>,
+    ) -> Result<(), NoMemory>
+        requires few { turns self.old.calls < 2 ^ 50 - 1 }
+        requires counts { Counts self.old }
+        requires caller { who < 9 }
+        ensures at { OnOk result ((r : Run) → IsAt self.old r → IsAt self.new (tapped (tap_change_of tap) node who r)) }
+        ensures counts { OnOk result (Counts self.new) }
+        ensures rises { OnOk result (turns self.new.calls ≤ turns self.old.calls + 1) }
+        ensures left { OnOk result (self.new.packets.now ≡ self.old.packets.now) }
+        ensures first { OnOk result (self.new.first ≡ self.old.first) }
+        ensures moment { OnOk result (self.new.moment ≡ self.old.moment) }
+    {
+        match tap {
+            Tap::Keep => Ok(()),
+            Tap::Attach(pids) => self.call_dvr(who, Call::Attach { node, pids }, steps),
+            Tap::Detach => self.call_dvr(who, Call::Detach { node }, steps),
+        }
+    }
+
+    // A client makes the call of a command, and then what its reply asks for.
     fn command<L: Ledger>(
         &mut self,
         client: u32,
+        target: Target,
         verb: Verb,
         steps: &mut Steps<L>,
     ) -> Result<(), NoMemory>
-        requires few { self.old.node.entries < 2 ^ 50 }
+        requires few { turns self.old.calls + 1 < 2 ^ 50 - 1 }
         requires counts { Counts self.old }
         requires client { client ≤ 7 }
+        requires target { IsTargetInRange target }
         requires range { IsVerbInRange verb }
-        ensures at { OnOk result ((r : Run) → IsAt self.old r → IsAt self.new (called (client + 1) (asked verb r.moment) r)) }
+        ensures at { OnOk result ((r : Run) → IsAt self.old r → IsAt self.new (called target (client + 1) (asked verb r.moment) r)) }
         ensures counts { OnOk result (Counts self.new) }
-        ensures rises { OnOk result (self.new.node.entries ≡ self.old.node.entries + 1) }
+        ensures rises { OnOk result (turns self.new.calls ≤ turns self.old.calls + 2) }
         ensures left { OnOk result (self.new.packets.now ≡ self.old.packets.now) }
         ensures first { OnOk result (self.new.first ≡ self.old.first) }
         ensures moment { OnOk result (self.new.moment ≡ self.old.moment) }
     {
         let call = call_of(self.alloc, verb, self.moment)?;
-        self.call(client + 1, call, steps)
+        match target {
+            Target::Dvr => self.call_dvr(client + 1, call, steps),
+            Target::Node(node) => {
+                let tap = self.call_demux(node, client + 1, call, steps)?;
+                self.tell_dvr(tap, node, client + 1, steps)
+            }
+        }
     }
 
     // So many milliseconds go by.
@@ -243,7 +283,7 @@ impl<'a> Runner<'a> {
         requires late { self.old.moment + 2 ^ 32 ≤ 2 ^ 64 }
         ensures at { (r : Run) → IsAt self.old r → IsAt self.new (ticked time r) }
         ensures counts { Counts self.old → Counts self.new }
-        ensures rises { self.new.node.entries ≡ self.old.node.entries }
+        ensures rises { turns self.new.calls ≡ turns self.old.calls }
         ensures left { self.new.packets.now ≡ self.old.packets.now }
         ensures first { self.new.first ≡ self.old.first }
         ensures moment { self.new.moment ≡ self.old.moment + time }
@@ -258,7 +298,7 @@ impl<'a> Runner<'a> {
         line: Line,
         steps: &mut Steps<L>,
     ) -> Result<(), NoMemory>
-        requires few { self.old.node.entries + length self.old.packets.now + 1 < 2 ^ 50 }
+        requires few { turns self.old.calls + length self.old.packets.now + 1 < 2 ^ 50 - 1 }
         requires counts { Counts self.old }
         requires numbered { self.old.first + length self.old.packets.now + 64 < 2 ^ 64 }
         requires late { self.old.moment + 2 ^ 32 ≤ 2 ^ 64 }
@@ -267,7 +307,7 @@ impl<'a> Runner<'a> {
         requires range { IsInRange line }
         ensures at { OnOk result ((r : Run) → IsAt self.old r → IsAt self.new (done batch r line)) }
         ensures counts { OnOk result (Counts self.new) }
-        ensures rises { OnOk result (self.new.node.entries + self.old.first ≤ self.old.node.entries + self.new.first + 1) }
+        ensures rises { OnOk result (turns self.new.calls + self.old.first ≤ turns self.old.calls + self.new.first + 2) }
         ensures whole { OnOk result (self.new.first + length self.new.packets.now ≡ self.old.first + length self.old.packets.now) }
         ensures moment { OnOk result (self.new.moment < self.old.moment + 2 ^ 32) }
     {
@@ -277,16 +317,37 @@ impl<'a> Runner<'a> {
                 self.tick(time);
                 Ok(())
             }
-            Line::Command { client, verb } => self.command(client, verb, steps),
+            Line::Command {
+                client,
+                target,
+                verb,
+            } => self.command(client, target, verb, steps),
         }
+    }
+
+    // The logs of the nodes, the dvr node's last.
+    fn into_logs(self) -> Result<Vec<Log>, NoMemory>
+        ensures { IfOk result (λ logs. map told_log logs.items ≡ map (λ seat. told_log seat.log) self.entry.demux.items ++ told_log self.entry.dvr.log ∷ []) }
+    {
+        let Runner {
+            alloc,
+            demux,
+            dvr,
+            ..
+        } = self;
+        let mut logs = Vec::new(alloc);
+        'seats: for seat in demux {
+            logs.push(seat.log)?;
+        }
+        logs.push(dvr.log)?;
+        Ok(logs)
     }
 }
 
 // The call of a command at this moment.
 fn call_of(alloc: Global, verb: Verb, now: u64) -> Result<Call, NoMemory>
     requires { IsVerbInRange verb }
-    ensures asked { IfOk result (λ call. invocation_of call ≡ asked verb now) }
-    ensures built { IfOk result (λ call. IsBuilt (invocation_of call)) }
+    ensures { IfOk result (λ call. invocation_of call ≡ asked verb now) }
 {
     Ok(match verb {
         Verb::Open => Call::Open,
@@ -306,14 +367,14 @@ fn call_of(alloc: Global, verb: Verb, now: u64) -> Result<Call, NoMemory>
     })
 }
 
-// The log of a script's run, with a counter of steps of its own.
+// The logs of a script's run, with a counter of steps of its own.
 fn run_counted<L: Ledger>(
     alloc: Global,
     batch: usize,
     lines: &[Line],
     packets: &[Packet],
     blank: Blank,
-) -> Result<Vec<Entry>, NoMemory>
+) -> Result<Vec<Log>, NoMemory>
     requires name { blank.name ≡ L.name }
     requires parts { blank.parts ≡ L.parts }
     requires counter { 0 < blank.parts }
@@ -322,13 +383,14 @@ fn run_counted<L: Ledger>(
     requires lines { length lines.now < 2 ^ 32 }
     requires packets { length packets.now < 2 ^ 32 }
     requires range { All IsInRange lines.now }
-    ensures { IfOk result (λ entries. map told_entry entries.items ≡ log_of 0 (serial_run batch lines.now packets.now)) }
+    ensures { IfOk result (λ logs. map told_log logs.items ≡ map log_of (nodes_of (serial_run batch lines.now packets.now))) }
 {
     let mut steps = Steps::<L>::new(blank);
+    let demux = demux_seats(alloc)?;
     let mut runner = Runner {
         alloc,
-        node: NodeCore::new(alloc, 0),
-        entries: Vec::new(alloc),
+        demux,
+        dvr: DvrSeat::new(alloc),
         packets,
         first: 0,
         moment: 0,
@@ -339,22 +401,22 @@ fn run_counted<L: Ledger>(
         runner.line(batch, *line, &mut steps)?;
     }
     runner.finish(batch, &mut steps)?;
-    Ok(runner.entries)
+    runner.into_logs()
 }
 
-// The log of a script's run over these packets, in batches of 1 to 64.
+// The logs of the 33 nodes, the dvr node's last, after a script's run over these packets, in batches of 1 to 64.
 pub fn run_script(
     alloc: Global,
     batch: usize,
     lines: &[Line],
     packets: &[Packet],
-) -> Result<Vec<Entry>, NoMemory>
+) -> Result<Vec<Log>, NoMemory>
     requires some { 0 < batch }
     requires most { batch ≤ 64 }
     requires lines { length lines.now < 2 ^ 32 }
     requires packets { length packets.now < 2 ^ 32 }
     requires range { All IsInRange lines.now }
-    ensures { IfOk result (λ entries. map told_entry entries.items ≡ log_of 0 (serial_run batch lines.now packets.now)) }
+    ensures { IfOk result (λ logs. map told_log logs.items ≡ map log_of (nodes_of (serial_run batch lines.now packets.now))) }
 {
     run_counted::<Brand>(alloc, batch, lines, packets, Blank::new(1))
 }

@@ -1,5 +1,5 @@
 // Lines and scripts and what they ask for, and words and the batch that they mean, worked out by hand from the rules.
-use crate::script::{Line, Verb, read_line};
+use crate::script::{Line, Target, Verb, read_line};
 use crate::session::read_session;
 use crate::words::batch_of_words;
 use dmx_calls::{Input, Output, PesParams, SectionParams};
@@ -19,6 +19,7 @@ const SHORT: [(&[u8], Line); 23] = [
         b"c0 open n0",
         Line::Command {
             client: 0,
+            target: Target::Node(0),
             verb: Verb::Open,
         },
     ),
@@ -26,6 +27,7 @@ const SHORT: [(&[u8], Line); 23] = [
         b"c1 close n0",
         Line::Command {
             client: 1,
+            target: Target::Node(0),
             verb: Verb::Close,
         },
     ),
@@ -33,6 +35,7 @@ const SHORT: [(&[u8], Line); 23] = [
         b"c2 start n0",
         Line::Command {
             client: 2,
+            target: Target::Node(0),
             verb: Verb::Start,
         },
     ),
@@ -40,6 +43,7 @@ const SHORT: [(&[u8], Line); 23] = [
         b"c3 stop n0",
         Line::Command {
             client: 3,
+            target: Target::Node(0),
             verb: Verb::Stop,
         },
     ),
@@ -47,6 +51,7 @@ const SHORT: [(&[u8], Line); 23] = [
         b"c7 poll n0",
         Line::Command {
             client: 7,
+            target: Target::Node(0),
             verb: Verb::Poll,
         },
     ),
@@ -54,6 +59,7 @@ const SHORT: [(&[u8], Line); 23] = [
         b"c4 add n0 0",
         Line::Command {
             client: 4,
+            target: Target::Node(0),
             verb: Verb::Add(0),
         },
     ),
@@ -61,6 +67,7 @@ const SHORT: [(&[u8], Line); 23] = [
         b"c4 add n0 8192",
         Line::Command {
             client: 4,
+            target: Target::Node(0),
             verb: Verb::Add(8192),
         },
     ),
@@ -68,6 +75,7 @@ const SHORT: [(&[u8], Line); 23] = [
         b"c4 add n0 65535",
         Line::Command {
             client: 4,
+            target: Target::Node(0),
             verb: Verb::Add(65535),
         },
     ),
@@ -75,6 +83,7 @@ const SHORT: [(&[u8], Line); 23] = [
         b"c5 remove n0 0",
         Line::Command {
             client: 5,
+            target: Target::Node(0),
             verb: Verb::Remove(0),
         },
     ),
@@ -82,6 +91,7 @@ const SHORT: [(&[u8], Line); 23] = [
         b"c5 remove n0 65535",
         Line::Command {
             client: 5,
+            target: Target::Node(0),
             verb: Verb::Remove(65535),
         },
     ),
@@ -89,6 +99,7 @@ const SHORT: [(&[u8], Line); 23] = [
         b"c6 size n0 0",
         Line::Command {
             client: 6,
+            target: Target::Node(0),
             verb: Verb::Size(0),
         },
     ),
@@ -96,6 +107,7 @@ const SHORT: [(&[u8], Line); 23] = [
         b"c6 size n0 8192",
         Line::Command {
             client: 6,
+            target: Target::Node(0),
             verb: Verb::Size(8192),
         },
     ),
@@ -103,6 +115,7 @@ const SHORT: [(&[u8], Line); 23] = [
         b"c6 size n0 4294967295",
         Line::Command {
             client: 6,
+            target: Target::Node(0),
             verb: Verb::Size(4294967295),
         },
     ),
@@ -110,6 +123,7 @@ const SHORT: [(&[u8], Line); 23] = [
         b"c0 read n0 0",
         Line::Command {
             client: 0,
+            target: Target::Node(0),
             verb: Verb::Read(0),
         },
     ),
@@ -117,6 +131,7 @@ const SHORT: [(&[u8], Line); 23] = [
         b"c0 read n0 9",
         Line::Command {
             client: 0,
+            target: Target::Node(0),
             verb: Verb::Read(9),
         },
     ),
@@ -124,6 +139,7 @@ const SHORT: [(&[u8], Line); 23] = [
         b"c0 read n0 10",
         Line::Command {
             client: 0,
+            target: Target::Node(0),
             verb: Verb::Read(10),
         },
     ),
@@ -131,6 +147,7 @@ const SHORT: [(&[u8], Line); 23] = [
         b"c0 read n0 188",
         Line::Command {
             client: 0,
+            target: Target::Node(0),
             verb: Verb::Read(188),
         },
     ),
@@ -138,6 +155,7 @@ const SHORT: [(&[u8], Line); 23] = [
         b"c7 read n0 65536",
         Line::Command {
             client: 7,
+            target: Target::Node(0),
             verb: Verb::Read(65536),
         },
     ),
@@ -176,11 +194,11 @@ const PES: [(&[u8], PesParams); 4] = [
         },
     ),
     (
-        b"c2 pes n0 65535 dvr tap 4294967295 4294967294",
+        b"c2 pes n0 65535 dvr ts_tap 4294967295 4294967294",
         PesParams {
             pid: 65535,
             input: Input::Dvr,
-            output: Output::Tap,
+            output: Output::TsTap,
             pes_type: 4294967295,
             flags: 4294967294,
         },
@@ -261,7 +279,7 @@ const SECTION: [(&[u8], SectionParams); 5] = [
 ];
 
 // Lines that are none.
-const NONE: [&[u8]; 135] = [
+const NONE: [&[u8]; 142] = [
     b"",
     b" ",
     b"feed",
@@ -304,11 +322,18 @@ const NONE: [&[u8]; 135] = [
     b"cc open n0",
     b"c0",
     b"c0 open",
-    b"c0 open n1",
+    b"c0 open n32",
     b"c0 open n00",
+    b"c0 open n01",
+    b"c0 open n",
+    b"c0 open n-1",
+    b"c0 open 0",
     b"c0 open N0",
     b"c0 open h0",
-    b"c0 open dvr",
+    b"c0 open m0",
+    b"c0 open dvr0",
+    b"c0 open Dvr",
+    b"c0 open dv",
     b"c0  open n0",
     b"c0 open  n0",
     b"c0 open n0 ",
@@ -349,7 +374,7 @@ const NONE: [&[u8]; 135] = [
     b"c0 pes n0 1 Frontend tap 20 0",
     b"c0 pes n0 1 tap frontend 20 0",
     b"c0 pes n0 1 dvr1 tap 20 0",
-    b"c0 pes n0 1 frontend ts_tap 20 0",
+    b"c0 pes n0 1 frontend TS_TAP 20 0",
     b"c0 pes n0 1 frontend tsdemux 20 0",
     b"c0 pes n0 1 frontend tap 4294967296 0",
     b"c0 pes n0 1 frontend tap 20 4294967296",
@@ -412,6 +437,7 @@ fn filters_have_the_parameters_of_their_lines(rt: HostRuntime) -> Result<(), Fai
     for (case, (line, params)) in PES.into_iter().enumerate() {
         let want = Line::Command {
             client: 2,
+            target: Target::Node(0),
             verb: Verb::Pes(params),
         };
         assert!(rt; read_line(rt.alloc(), line)? == Some(want), "pes {case}");
@@ -419,6 +445,7 @@ fn filters_have_the_parameters_of_their_lines(rt: HostRuntime) -> Result<(), Fai
     for (case, (line, params)) in SECTION.into_iter().enumerate() {
         let want = Line::Command {
             client: 1,
+            target: Target::Node(0),
             verb: Verb::Section(params),
         };
         assert!(rt;
@@ -451,14 +478,17 @@ const SCRIPTS: [(&[u8], &[Line], &[u8]); 4] = [
         &[
             Line::Command {
                 client: 0,
+                target: Target::Node(0),
                 verb: Verb::Open,
             },
             Line::Command {
                 client: 1,
+                target: Target::Node(0),
                 verb: Verb::Poll,
             },
             Line::Command {
                 client: 0,
+                target: Target::Node(0),
                 verb: Verb::Close,
             },
         ],

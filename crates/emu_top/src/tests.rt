@@ -94,7 +94,7 @@ fn an_input_that_is_not_built_writes_nothing(rt: HostRuntime) -> Result<(), Fail
         &[(b"stream\n", 65530, 0)],
         &[(b"stream", 0, 0)],
         &[(b"# stream\n", 0, 0)],
-        &[(b"c0 poll n1\nstream\n", 0, 0)],
+        &[(b"c0 poll h1\nstream\n", 0, 0)],
         &[(b" \nstream\n", 0, 0)],
         &[(b"Stream\nstream\n", 0, 0)],
         &[(b"stream \nstream\n", 0, 0)],

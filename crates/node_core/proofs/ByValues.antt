@@ -3,27 +3,25 @@ use Rattle.std.proofs.Common.{ℕ, ◌≡◌, refl, ◌∙◌, ap, Bool, true, f
 use Rattle.std.specs.Prelude.{option_map, if◌then◌else◌, not, is_some, ◌||◌}
 use Rattle.dmx_calls.specs.declared.node.State.TheVariants.{Go}
 use Rattle.dmx_calls.specs.Invocation.{Read}
-use Rattle.dmx_calls.specs.Response.{Response, Data, Overflow, TimedOut, Passed, is_accepted}
+use Rattle.dmx_calls.specs.Response.{Response, Passed, is_accepted}
 use Rattle.dmx_calls.specs.Tenure.{Params, Empty, Section, Pes}
 use Rattle.dmx_calls.specs.Items.{timeout_of}
 use Rattle.dmx_calls.specs.Facts.{Ledger, state_of_filter, state_of_ledger}
-use Rattle.dmx_calls.specs.Answer.{expired_of}
-use Rattle.node_core.specs.Step.{Knows, is_section, read_by, is_due, expiring, with_response, next, moved}
-use Rattle.node_core.specs.Sound.{total_of}
+use Rattle.dmx_calls.specs.Answer.{expired_of, response_to}
+use Rattle.node_buffer.specs.Capturing.{is_section, read_by, is_due, expiring, with_response}
+use Rattle.node_buffer.proofs.Accepted.{read_accepted}
+use Rattle.node_buffer.proofs.Answering.{read_is}
+use Rattle.node_buffer.proofs.Readings.{expired_at, then_answered}
+use Rattle.node_core.specs.Step.{Knows, next, moved}
 use Rattle.node_core.specs.KeptView.{reply_to}
-use Rattle.node_core.proofs.Accepted.{read_accepted}
-use Rattle.node_core.proofs.Answering.{reads_as}
-
--- the ledger with this expiry
-abbrev pub expired_at : Ledger → Option ℕ → Ledger
-expired_at l expired = record l { expired = expired }
 
 -- ------ a Read
 
-then_answered : (by_section : Bool) (r : Response) (timeout now : ℕ) (o : Option Ledger)
-    → option_map (with_response by_section r) (option_map (expiring timeout now) o) ≡ option_map (λ l. with_response by_section r (expiring timeout now l)) o
-then_answered by_section r timeout now None = refl
-then_answered by_section r timeout now (Some l) = refl
+-- what it gives is the response to a Read that isn't refused
+reads_as : (k : Knows) (who now count : ℕ)
+    → read_by k.facts.has_ended k.facts.params (option_map (expiring (timeout_of k.facts.params) now) k.facts.ledger) count
+    ≡ response_to k.facts (moved k who (Read now count) Passed).facts (Read now count)
+reads_as k who now count = read_is k.facts k.facts.ledger now count
 
 -- with the ledger between the expiry and the reply
 pub read-said : (k : Knows) (now count : ℕ) (mid : Option Ledger) (r : Response) → mid ≡ option_map (expiring (timeout_of k.facts.params) now) k.facts.ledger
@@ -37,26 +35,6 @@ read-after k now count mid left r is said after =
     let ok : is_accepted r ≡ true =
     ap is_accepted (read-said k now count mid r is said) ∙ read_accepted k.facts k.facts.ledger (expired_of (moved k 0 (Read now count) Passed).facts.ledger) count in
     rw (ok, after, is, then_answered (is_section k.facts.params) r (timeout_of k.facts.params) now k.facts.ledger) refl
-
-total-by : (l : Ledger) (now : ℕ) (b : Bool) → (if b then l else expired_at l (Some now)).total ≡ l.total
-total-by l now true = refl
-total-by l now false = refl
-
-total-expired : (timeout now : ℕ) (o : Option Ledger) → total_of (option_map (expiring timeout now) o) ≡ total_of o
-total-expired timeout now None = refl
-total-expired timeout now (Some l) = total-by l now (l.is_stopped || (is_some l.expired || not (is_due timeout now l)))
-
-total-answered : (by_section : Bool) (r : Response) (o : Option Ledger) → total_of (option_map (with_response by_section r) o) ≡ total_of o
-total-answered by_section r None = refl
-total-answered by_section (Data bytes) (Some l) = refl
-total-answered by_section (Overflow from to item need room) (Some l) = refl
-total-answered by_section (TimedOut started now timeout) (Some l) = refl
-total-answered by_section _ (Some l) = refl
-
--- no byte arrives by it
-pub total-read : (by_section : Bool) (r : Response) (timeout now : ℕ) (o mid left : Option Ledger) → mid ≡ option_map (expiring timeout now) o
-    → left ≡ option_map (with_response by_section r) mid → total_of left ≡ total_of o
-total-read by_section r timeout now o mid left is after = ap total_of after ∙ (total-answered by_section r mid ∙ (ap total_of is ∙ total-expired timeout now o))
 
 -- ------ a Pass
 

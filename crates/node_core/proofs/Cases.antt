@@ -25,7 +25,6 @@ use Rattle.node_core.specs.Step.{moved, next}
 use Rattle.node_core.specs.Offers.{HasSelected}
 use Rattle.node_core.specs.Sound.{IsSound}
 use Rattle.node_core.specs.Gives.{settled}
-use Rattle.node_core.specs.Stands.{IsBuilt}
 use Rattle.node_core.proofs.Moves.{known, Moves, Silent, as_done, as_ready, as_passed, accepted_of, stop_moves, poll_moves, same_size_moves, add_moves, remove_moves, end_moves}
 use Rattle.node_core.proofs.Begins.{open_moves, close_moves, start_moves, set_filter_moves, set_pes_moves, resized_moves}
 use Rattle.node_core.proofs.Passes.{pass_moves}
@@ -122,6 +121,11 @@ removed_pes f who pid is =
 pes_set : (h : History) → is_pes (facts demux h).params ≡ true → (s : Since) × (setting h ≡ Some s)
 unfolding facts
 pes_set h is = setting_some h (λ empty. let nay : false ≡ true = rw empty at is in cc)
+
+-- a call that the table refuses in every state
+always_refused : (own : Bool) → (if not own then Some Ebadf else Some Einval) ≡ None → ⊥
+always_refused true is = cc
+always_refused false is = cc
 
 -- ------ calls that answer no bytes
 
@@ -233,21 +237,29 @@ module _ (h : History) (k : Selecting) (who : ℕ) (sound : IsSound (known h k))
         moves = read_moves h k t.0 who now count t.1 sound has _ fine.0 fine.1;
       })
 
+  -- ------ taps are attached to the dvr node alone
+
+  case_attach : (node : ℕ) (names : List ℕ) → Agrees h k who (Attach node names) (settled (known h k) who (Attach node names))
+  case_attach node names = decided h k who (Attach node names) has (λ is. absurd (always_refused (is_owned_by who (facts demux h).owner) is))
+
+  case_detach : (node : ℕ) → Agrees h k who (Detach node) (settled (known h k) who (Detach node))
+  case_detach node = decided h k who (Detach node) has (λ is. absurd (always_refused (is_owned_by who (facts demux h).owner) is))
+
   -- ------ all of them
 
-  pub agrees : (call : Invocation) → IsBuilt call → Agrees h k who call (settled (known h k) who call)
-  agrees Open built = case_open
-  agrees Close built = case_close
-  agrees (SetFilter p now) built = case_set_filter p now
-  agrees (SetPes p now) built = case_set_pes p now
-  agrees (AddPid pid) built = case_add pid
-  agrees (RemovePid pid) built = case_remove pid
-  agrees (Start now) built = case_start now
-  agrees Stop built = case_stop
-  agrees (SetSize n) built = case_set_size n
-  agrees (Read now count) built = case_read now count
-  agrees (Poll now) built = case_poll now
-  agrees (Pass input first packets now) built = case_pass input first packets now
-  agrees End built = case_end
-  agrees (Attach node names) built = absurd built
-  agrees (Detach node) built = absurd built
+  pub agrees : (call : Invocation) → Agrees h k who call (settled (known h k) who call)
+  agrees Open = case_open
+  agrees Close = case_close
+  agrees (SetFilter p now) = case_set_filter p now
+  agrees (SetPes p now) = case_set_pes p now
+  agrees (AddPid pid) = case_add pid
+  agrees (RemovePid pid) = case_remove pid
+  agrees (Start now) = case_start now
+  agrees Stop = case_stop
+  agrees (SetSize n) = case_set_size n
+  agrees (Read now count) = case_read now count
+  agrees (Poll now) = case_poll now
+  agrees (Pass input first packets now) = case_pass input first packets now
+  agrees End = case_end
+  agrees (Attach node names) = case_attach node names
+  agrees (Detach node) = case_detach node

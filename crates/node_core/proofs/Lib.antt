@@ -1,6 +1,4 @@
-pub mod Bytes
-pub mod Rests
-pub mod Arrivals
+pub mod WholeSections
 pub mod Offered
 pub mod Expiries
 pub mod Offerings
@@ -11,8 +9,5 @@ pub mod Passes
 pub mod Reading
 pub mod Cases
 pub mod Standing
-pub mod Accepted
-pub mod ReadCausing
 pub mod Causing
-pub mod Answering
 pub mod ByValues

@@ -16,9 +16,11 @@ use Rattle.dmx_calls.specs.Facts.{Ledger, ledger_at, ledger_of, facts}
 use Rattle.dmx_calls.proofs.Going.{Stays, tenure_stays, pids_changed}
 use Rattle.dmx_calls.proofs.After.{expired_then, facts_free, facts_goes, ledger_still, stays_poll, stays_end, stays_stop, stays_add, stays_remove, stays_same_size, pids_stay}
 use Rattle.item_select.specs.Selecting.{Selecting}
-use Rattle.node_core.specs.Step.{with_stop, expiring, Knows, moved}
+use Rattle.node_buffer.specs.Capturing.{with_stop, expiring}
+use Rattle.node_core.specs.Step.{Knows, moved}
 use Rattle.node_core.specs.Offers.{HasSelected, names_of}
-use Rattle.node_core.specs.Sound.{Coherent, IsSoundFor, IsSound}
+use Rattle.node_buffer.specs.Coherent.{Coherent}
+use Rattle.node_core.specs.Sound.{IsSoundFor, IsSound}
 use Rattle.node_core.proofs.Expiries.{never, expiring_is, unclocked}
 use Rattle.node_core.proofs.Takings.{selected_goes, selected_none, selected_quiet, selected_renamed}
 
@@ -37,7 +39,7 @@ pub coherent_by : (o : Option ℕ) (set : Params) (l : Ledger) → IsSoundFor o 
 coherent_by None set l k = absurd (let n : Some l ≡ None = k.1 in cc)
 coherent_by (Some who) Empty l k = absurd (let n : Some l ≡ None = k in cc)
 coherent_by (Some who) (Section p) l k = k
-coherent_by (Some who) (Pes p) l k = k.1
+coherent_by (Some who) (Pes p) l k = k
 
 pub coherent : (h : History) (k : Selecting) (s : Since) → IsSound (known h k) → capture h ≡ Some s → Coherent (ledger_at demux h)
 unfolding facts

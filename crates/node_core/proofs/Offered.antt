@@ -1,19 +1,10 @@
 -- Packets that are offered one by one, and the same packets at once.
-use Rattle.std.proofs.Common.{ℕ, zero, suc, ◌+◌, ◌≡◌, refl, ap, Bool, List, [], ◌∷◌, ◌++◌, Option, Some, None, drop, add-one}
+use Rattle.std.proofs.Common.{ℕ, ◌+◌, ◌≡◌, refl, Bool, List, [], Option, Some, None, drop}
 use Rattle.std.specs.Prelude.{slice_get, option_map}
 use Rattle.dmx_calls.specs.Facts.{Ledger}
 use Rattle.item_select.specs.Selecting.{Selecting, after_offer, all_given, items_found, kept_after}
-use Rattle.node_core.specs.Step.{with_item, with_items}
-
-pub with_items-append : (by_section : Bool) (capacity : ℕ) (xs ys : List (List ℕ)) (l : Ledger)
-    → with_items by_section capacity l (xs ++ ys) ≡ with_items by_section capacity (with_items by_section capacity l xs) ys
-with_items-append by_section capacity [] ys l = refl
-with_items-append by_section capacity (x ∷ xs) ys l = with_items-append by_section capacity xs ys (with_item by_section capacity l x)
-
-drop-one : {X : Type 0} (xs : List X) (i : ℕ) (x : X) → slice_get xs i ≡ Some x → drop i xs ≡ x ∷ drop (i + 1) xs
-drop-one [] i x is = absurd (cc)
-drop-one (y ∷ ys) zero x is = let e : y ≡ x = cc in ap (λ z. z ∷ ys) e
-drop-one (y ∷ ys) (suc i) x is = rw (add-one) (let e = drop-one ys i x is in rw (add-one) at e)
+use Rattle.node_buffer.specs.Capturing.{with_items}
+use Rattle.node_buffer.proofs.Arrivals.{with_items-append, drop-one}
 
 -- the packet in place i, and then those behind it
 pub kept-next : (s : Selecting) (packets : List (List ℕ)) (i : ℕ) (p : List ℕ) → slice_get packets i ≡ Some p

@@ -1,10 +1,10 @@
 -- What a reply must be, by what the node knows.
-use Rattle.std.specs.Prelude.{ℕ, ◌≡◌, true, ◌⊎◌}
+use Rattle.std.specs.Prelude.{ℕ}
 use Rattle.dmx_calls.specs.declared.node.NodeKind.TheVariants.{Demux}
 use Rattle.dmx_calls.specs.Invocation.{Invocation}
-use Rattle.dmx_calls.specs.Response.{Response, NoMemory, Passed}
+use Rattle.dmx_calls.specs.Response.{Response, Passed}
 use Rattle.dmx_calls.specs.Answer.{answer_by}
-use Rattle.dmx_calls.specs.Legal.{is_done, takes_memory}
+use Rattle.node_buffer.specs.Gives.{GivesBy}
 use Rattle.node_core.specs.Step.{Knows, moved}
 
 -- the answer looks at what is known before the call, and at what is known with it, whatever its reply
@@ -13,4 +13,4 @@ settled k who call = answer_by Demux k.facts (moved k who call Passed).facts who
 
 -- the answer, or want of memory
 abbrev pub Gives : Knows → (who : ℕ) → Invocation → Response → Type 0
-Gives k who call r = (r ≡ settled k who call) ⊎ (r ≡ NoMemory) × (is_done (settled k who call) ≡ true) × (takes_memory k.facts call ≡ true)
+Gives k who call r = GivesBy Demux k.facts (moved k who call Passed).facts who call r

@@ -1,20 +1,18 @@
 -- What a node knows, from what it keeps.
-use Rattle.std.specs.Prelude.{ℕ, ◌≡◌, ◌+◌, ◌⊎◌, Bool, true, [], Option, Some, None, if◌then◌else◌}
+use Rattle.std.specs.Prelude.{ℕ, ◌≡◌, ◌+◌, ◌⊎◌, Bool, true, false, [], Option, Some, None, if◌then◌else◌}
 use Rattle.dmx_calls.specs.declared.node.NodeKind.TheVariants.{Demux}
 use Rattle.dmx_calls.specs.declared.limits.TheConstants.{DEMUX_SIZE}
 use Rattle.dmx_calls.specs.Invocation.{Invocation}
 use Rattle.dmx_calls.specs.Tenure.{Empty}
 use Rattle.dmx_calls.specs.Calls.{params_of, pids_of}
-use Rattle.dmx_calls.specs.Facts.{Facts, state_of}
-use Rattle.dmx_calls.specs.declared.reply.Errno.{Errno}
-use Rattle.dmx_calls.specs.Refusal.{refusal}
-use Rattle.dmx_calls.specs.Response.{Response, NoMemory, Passed}
-use Rattle.dmx_calls.specs.Answer.{is_same_size, response_to}
+use Rattle.dmx_calls.specs.Response.{TapChange, KeepTap, AttachTap, DetachTap, Response, NoMemory, Passed}
+use Rattle.dmx_calls.specs.Answer.{is_recording, response_to}
 use Rattle.dmx_calls.specs.Legal.{is_done, takes_memory}
 use Rattle.item_select.specs.Selecting.{bytes_held}
 use Rattle.node_core.specs.declared.kept.Kept.{Kept}
 use Rattle.node_core.specs.declared.kept.Tenure.{Tenure}
-use Rattle.node_core.specs.Sound.{total_of}
+use Rattle.node_buffer.specs.Coherent.{total_of}
+use Rattle.node_buffer.specs.Gives.{IsTakenBy}
 use Rattle.node_core.specs.Step.{Knows, unset, moved}
 
 -- a free node has the default size, no filter, and nothing to select
@@ -38,21 +36,23 @@ knows_in has_ended (Some tenure) = record {
 abbrev pub knows_of : Kept → Knows
 knows_of kept = knows_in kept.has_ended kept.tenure
 
+-- a node with this owner records: its filter runs, and its packets go to the dvr node
+abbrev pub is_recording_for : Tenure → Bool
+is_recording_for tenure = is_recording (knows_in false (Some tenure)).facts
+
+-- what Done tells of the tap after a call, by whether the node recorded before it and whether the call renews the tap
+abbrev pub tap_told : (recorded renews : Bool) → Tenure → TapChange
+tap_told recorded renews tenure =
+    if is_recording_for tenure then (if renews then AttachTap (pids_of tenure.params) else KeepTap)
+    else (if recorded then DetachTap else KeepTap)
+
 -- the bytes of the capture, and those that may still become bytes of it
 abbrev pub bytes_in : Knows → ℕ
 bytes_in k = total_of k.facts.ledger + bytes_held k.selecting
 
--- why the owner of a node that says this is refused a call, if it is
-abbrev pub owner_refusal : Facts → Invocation → Option Errno
-owner_refusal f call = if is_same_size f call then None else refusal Demux (state_of f) f.params f.pids call
-
 -- the node has an owner, who isn't refused this call
-abbrev pub IsTakenBy : Option ℕ → Facts → Invocation → Type 0
-IsTakenBy None f call = ⊥
-IsTakenBy (Some owner) f call = owner_refusal f call ≡ None
-
 abbrev pub IsTaken : Knows → Invocation → Type 0
-IsTaken k call = IsTakenBy k.facts.owner k.facts call
+IsTaken k call = IsTakenBy Demux k.facts.owner k.facts call
 
 -- what its owner is answered to a call that isn't refused
 abbrev pub reply_to : Knows → Invocation → Response

@@ -1,40 +1,17 @@
--- What holds of what each node knows, as far as the calls are built.
-use Rattle.std.specs.Prelude.{ℕ, ◌≡◌, ◌≤◌, ◌-◌, Bool, true, false, not, List, [], length, Option, Some, None}
-use Rattle.dmx_calls.specs.declared.params.Output.{Output}
-use Rattle.dmx_calls.specs.declared.params.Output.TheVariants.{TsTap}
+-- What holds of what each node knows.
+use Rattle.std.specs.Prelude.{ℕ, ◌≡◌, [], Option, Some, None}
 use Rattle.dmx_calls.specs.Tenure.{Params, Empty, Section, Pes}
-use Rattle.dmx_calls.specs.Ledger.{Misfit}
 use Rattle.dmx_calls.specs.Facts.{Ledger, Facts}
 use Rattle.item_select.specs.Selecting.{Selecting}
+use Rattle.node_buffer.specs.Coherent.{CoherentIn}
 use Rattle.node_core.specs.Offers.{choice_of, names_of}
 use Rattle.node_core.specs.Step.{Knows}
 
--- DMX_OUT_TS_TAP
-abbrev pub is_ts_tap : Output → Bool
-is_ts_tap TsTap = true
-is_ts_tap _ = false
-
--- while an overflow is pending nothing may be read; else all that isn't answered
-abbrev pub UnreadFits : Option Misfit → List ℕ → ℕ → Type 0
-UnreadFits (Some misfit) unread left = unread ≡ []
-UnreadFits None unread left = length unread ≡ left
-
--- A capture's ledger: no more was answered than arrived, an item has at least one byte, and what may be read is what isn't answered.
-pub record Coherent (l : Ledger) : Type 0 where
-  pub answered : l.answered ≤ l.total
-  pub unread : UnreadFits l.over l.unread (l.total - l.answered)
-  pub count : l.count ≤ l.total
-
--- of the capture, if there is one
-abbrev pub CoherentIn : Option Ledger → Type 0
-CoherentIn None = Unit {0}
-CoherentIn (Some l) = Coherent l
-
--- a capture has a filter, which isn't for the dvr node
+-- a capture has a filter
 abbrev pub IsSoundBy : Params → Option Ledger → Type 0
 IsSoundBy Empty ledger = ledger ≡ None
 IsSoundBy (Section p) ledger = CoherentIn ledger
-IsSoundBy (Pes p) ledger = (is_ts_tap p.output ≡ false) × CoherentIn ledger
+IsSoundBy (Pes p) ledger = CoherentIn ledger
 
 -- a node without an owner has no filter and no capture
 abbrev pub IsSoundFor : Option ℕ → Params → Option Ledger → Type 0
@@ -50,18 +27,3 @@ pub record IsReady (f : Facts) (s : Selecting) : Type 0 where
 pub record IsSound (k : Knows) : Type 0 where
   pub facts : IsSoundFor k.facts.owner k.facts.params k.facts.ledger
   pub selecting : IsReady k.facts k.selecting
-
--- the bytes of the capture
-abbrev pub total_of : Option Ledger → ℕ
-total_of None = 0
-total_of (Some l) = l.total
-
--- how many of them were answered
-abbrev pub place_of : Option Ledger → ℕ
-place_of None = 0
-place_of (Some l) = l.answered
-
--- a capture is there and wasn't stopped
-abbrev pub is_live : Option Ledger → Bool
-is_live None = false
-is_live (Some l) = not l.is_stopped

@@ -1,13 +1,11 @@
 -- What it means that a node stands for a history.
-use Rattle.std.specs.Prelude.{ℕ, ◌≡◌, false, length}
-use Rattle.dmx_calls.specs.Invocation.{Invocation, SetPes, Pass, Attach, Detach}
+use Rattle.std.specs.Prelude.{ℕ, ◌≡◌, length}
 use Rattle.dmx_calls.specs.History.{History}
 use Rattle.dmx_calls.specs.Rules.{demux}
 use Rattle.dmx_calls.specs.Facts.{Facts, facts}
 use Rattle.dmx_calls.specs.Legal.{IsLegal}
 use Rattle.item_select.specs.Selecting.{Selecting}
 use Rattle.node_core.specs.Offers.{HasSelected}
-use Rattle.node_core.specs.Sound.{is_ts_tap}
 
 -- what a contract sees of a demux node: its number, how many calls were made on it, what its history says to the next one, and what its selector keeps
 pub record CoreValue : Type 0 where
@@ -22,15 +20,3 @@ pub record StandsFor (node : CoreValue) (h : History) : Type 0 where
   pub count : node.entries ≡ length h
   pub known : node.facts ≡ facts demux h
   pub selected : HasSelected h node.selecting
-
--- The calls that are built: all of the demux node, but no SetPes for the dvr node.
-abbrev pub IsBuilt : Invocation → Type 0
-IsBuilt (SetPes p now) = is_ts_tap p.output ≡ false
-IsBuilt (Attach node pids) = ⊥
-IsBuilt (Detach node) = ⊥
-IsBuilt _ = Unit {0}
-
--- how many packets a call brings
-abbrev pub packets_of_call : Invocation → ℕ
-packets_of_call (Pass input first packets now) = length packets
-packets_of_call _ = 0

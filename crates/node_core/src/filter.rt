@@ -1,35 +1,17 @@
-// A node's filter: what it says of sections, timeouts and packets, and what its selector is to select.
+// A node's filter: which packets it takes, and what its selector is to select.
 
 ghost use Rattle.std.specs.Prelude.{ℕ, ◌≡◌, List};
 ghost use Rattle.dmx_calls.specs.Calls.{params_of, pids_of};
 ghost use Rattle.dmx_calls.specs.Capture.{has_flag};
-ghost use Rattle.dmx_calls.specs.Items.{is_oneshot as once_by, is_same_input, timeout_of as timeout_by};
-ghost use Rattle.dmx_calls.specs.Facts.{has_had_its_section as is_done_by};
+ghost use Rattle.dmx_calls.specs.Items.{is_same_input};
 ghost use Rattle.item_select.specs.Selecting.{begun, with_pids};
 ghost use Rattle.node_core.specs.Offers.{choice_by, choice_of, names_of, input_of};
-ghost use Rattle.node_core.specs.Step.{is_section as section_set};
 
-use dmx_calls::limits::{CHECK_CRC, IMMEDIATE_START, ONESHOT};
+use dmx_calls::limits::{CHECK_CRC, IMMEDIATE_START};
 use dmx_calls::{Input, Output, Params, PesParams, SectionParams};
 use item_select::Selector;
+use node_buffer::is_oneshot;
 use pid_set::Pids;
-
-/// It is a section filter.
-pub fn is_section(params: &Params) -> bool
-    ensures { result ≡ section_set (params_of params.now) }
-{
-    matches!(params, Params::Section(_))
-}
-
-/// The timeout in milliseconds. Only a section filter has one; 0 is none.
-pub fn timeout_of(params: &Params) -> u32
-    ensures { result ≡ timeout_by (params_of params.now) }
-{
-    match params {
-        Params::Section(wanted) => wanted.timeout,
-        Params::Empty | Params::Pes { .. } => 0,
-    }
-}
 
 /// Its packets come from this input. Those of a section filter come from the frontend.
 pub fn takes_from(params: &Params, input: Input) -> bool
@@ -53,23 +35,6 @@ fn checks_crc(params: &SectionParams) -> bool
     ensures { result ≡ has_flag CHECK_CRC params.now.flags }
 {
     params.flags & CHECK_CRC != 0
-}
-
-/// DMX_ONESHOT is among its flags.
-fn is_oneshot(params: &SectionParams) -> bool
-    ensures { result ≡ once_by params.now }
-{
-    params.flags & ONESHOT != 0
-}
-
-/// With so many items it has had all: it is a section filter with DMX_ONESHOT, and has one.
-pub fn has_had_its_section(params: &Params, items: u64) -> bool
-    ensures { result ≡ is_done_by (params_of params.now) items }
-{
-    match params {
-        Params::Section(wanted) => is_oneshot(wanted) && items > 0,
-        Params::Empty | Params::Pes { .. } => false,
-    }
 }
 
 /// The selector begins anew with this filter. Only the outputs to the demux node select anything for its reader.

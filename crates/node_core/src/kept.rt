@@ -16,20 +16,22 @@ ghost use Rattle.dmx_calls.specs.Calls.{invocation_of, response_of, params_of, p
 ghost use Rattle.dmx_calls.specs.Back.{BackOfRead};
 ghost use Rattle.item_select.specs.Selecting.{begun as begun_selecting};
 ghost use Rattle.node_core.specs.Offers.{choice_of, names_of};
-ghost use Rattle.node_core.specs.Sound.{is_ts_tap, IsSound};
+ghost use Rattle.node_core.specs.Sound.{IsSound};
 ghost use Rattle.node_core.specs.Gives.{Gives};
-ghost use Rattle.node_core.specs.Step.{unset, begun, next};
-ghost use Rattle.node_core.specs.KeptView.{knows_of, bytes_in, IsTaken, reply_to, Replies};
+ghost use Rattle.node_buffer.specs.Capturing.{begun};
+ghost use Rattle.node_core.specs.Step.{unset, next};
+ghost use Rattle.node_core.specs.KeptView.{knows_of, is_recording_for, tap_told, bytes_in, IsTaken, reply_to, Replies};
 
-use crate::buffer::Buffer;
-use crate::filter::{is_section, rename, select, starts_at_once, takes_from, timeout_of};
+use crate::filter::{rename, select, starts_at_once, takes_from};
 use crate::offer::offer_all;
+use crate::tap::tap_of_idle;
 use dmx_calls::limits::DEMUX_SIZE;
 use dmx_calls::{
     ByteBuf, Call, Errno, Input, NodeKind, Params, PesParams, Reply, SectionParams, Span, State,
     Tap, refusal,
 };
 use item_select::Selector;
+use node_buffer::{Buffer, is_section, timeout_of};
 use pid_set::Pids;
 use std::alloc::{AllocError as NoMemory, Global};
 use std::sync::ledger::Ledger;
@@ -60,14 +62,11 @@ pub struct Tenure {
 
 const NOTHING: Span = Span { from: 0, to: 0 };
 
-/// The call was done. No filter's packets go to the dvr node yet, so its tap is kept.
-fn done(dropped: Span) -> Reply
-    ensures { result ≡ Reply.Done dropped Tap.Keep }
+/// The call was done, and what the dvr node is to be told.
+fn done(dropped: Span, tap: Tap) -> Reply
+    ensures { result ≡ Reply.Done dropped tap }
 {
-    Reply::Done {
-        dropped,
-        tap: Tap::Keep,
-    }
+    Reply::Done { dropped, tap }
 }
 
 /// The set of this PID alone.
@@ -97,7 +96,7 @@ impl Tenure {
 
     /// A filter is set. It starts at once where DMX_IMMEDIATE_START is among its flags.
     fn set(&mut self, params: Params, flags: u32, now: u64) -> Reply
-        ensures said { response_of result ≡ done_dropping self.old.buffer.ledger KeepTap }
+        ensures said { response_of result ≡ done_dropping self.old.buffer.ledger (tap_told (is_recording_for self.old) true self.new) }
         ensures after { self.new ≡ record {
           owner = self.old.owner;
           params = params;
@@ -105,11 +104,12 @@ impl Tenure {
           buffer = record { size = self.old.buffer.size; ledger = if has_flag IMMEDIATE_START flags then Some (begun now) else None };
         } }
     {
+        let recorded = self.is_recording();
         let dropped = self.buffer.unread();
         self.buffer.renew(starts_at_once(flags), now);
         select(&mut self.selector, &params);
         self.params = params;
-        done(dropped)
+        done(dropped, self.tap(recorded, true))
     }
 }
 
@@ -152,7 +152,7 @@ impl Kept {
         match Tenure::new(alloc, who) {
             Ok(tenure) => {
                 self.tenure = Some(tenure);
-                done(NOTHING)
+                done(NOTHING, Tap::Keep)
             }
             Err(_) => Reply::NoMemory,
         }
@@ -170,9 +170,10 @@ impl Kept {
         match &self.tenure {
             None => unreachable!(),
             Some(tenure) => {
+                let recorded = tenure.is_recording();
                 let dropped = tenure.buffer.unread();
                 self.tenure = None;
-                done(dropped)
+                done(dropped, tap_of_idle(recorded))
             }
         }
     }
@@ -196,7 +197,6 @@ impl Kept {
     pub fn set_pes(&mut self, params: PesParams, now: u64) -> Reply
         requires sound { IsSound (knows_of self.old) }
         requires taken { IsTaken (knows_of self.old) (SetPes params now) }
-        requires built { is_ts_tap params.output ≡ false }
         ensures said { response_of result ≡ reply_to (knows_of self.old) (SetPes params now) }
         ensures after { knows_of self.new ≡ next (knows_of self.old) 0 (SetPes params now) (response_of result) }
         ensures sound { IsSound (knows_of self.new) }
@@ -222,15 +222,18 @@ impl Kept {
     {
         match &mut self.tenure {
             None => unreachable!(),
-            Some(tenure) => match &mut tenure.params {
-                Params::Pes { params, pids } => {
-                    // a full set was refused
-                    let _ = pids.add(pid);
-                    rename(&mut tenure.selector, params, pids);
-                    done(NOTHING)
+            Some(tenure) => {
+                let recorded = tenure.is_recording();
+                match &mut tenure.params {
+                    Params::Pes { params, pids } => {
+                        // a full set was refused
+                        let added = matches!(pids.add(pid), Ok(true));
+                        rename(&mut tenure.selector, params, pids);
+                        done(NOTHING, tenure.tap(recorded, added))
+                    }
+                    Params::Empty | Params::Section(_) => unreachable!(),
                 }
-                Params::Empty | Params::Section(_) => unreachable!(),
-            },
+            }
         }
     }
 
@@ -245,14 +248,17 @@ impl Kept {
     {
         match &mut self.tenure {
             None => unreachable!(),
-            Some(tenure) => match &mut tenure.params {
-                Params::Pes { params, pids } => {
-                    pids.remove(pid);
-                    rename(&mut tenure.selector, params, pids);
-                    done(NOTHING)
+            Some(tenure) => {
+                let recorded = tenure.is_recording();
+                match &mut tenure.params {
+                    Params::Pes { params, pids } => {
+                        let removed = pids.remove(pid);
+                        rename(&mut tenure.selector, params, pids);
+                        done(NOTHING, tenure.tap(recorded, removed))
+                    }
+                    Params::Empty | Params::Section(_) => unreachable!(),
                 }
-                Params::Empty | Params::Section(_) => unreachable!(),
-            },
+            }
         }
     }
 
@@ -268,10 +274,11 @@ impl Kept {
         match &mut self.tenure {
             None => unreachable!(),
             Some(tenure) => {
+                let recorded = tenure.is_recording();
                 let dropped = tenure.buffer.unread();
                 tenure.selector.restart();
                 tenure.buffer.begin(now);
-                done(dropped)
+                done(dropped, tenure.tap(recorded, true))
             }
         }
     }
@@ -288,8 +295,9 @@ impl Kept {
         match &mut self.tenure {
             None => unreachable!(),
             Some(tenure) => {
+                let recorded = tenure.is_recording();
                 tenure.buffer.stop();
-                done(NOTHING)
+                done(NOTHING, tap_of_idle(recorded))
             }
         }
     }
@@ -305,11 +313,11 @@ impl Kept {
     {
         match &mut self.tenure {
             None => unreachable!(),
-            Some(tenure) if tenure.buffer.size() == size => done(NOTHING),
+            Some(tenure) if tenure.buffer.size() == size => done(NOTHING, Tap::Keep),
             Some(tenure) => {
                 let dropped = tenure.buffer.unread();
                 match tenure.buffer.resize(alloc, size) {
-                    Ok(()) => done(dropped),
+                    Ok(()) => done(dropped, Tap::Keep),
                     Err(_) => Reply::NoMemory,
                 }
             }

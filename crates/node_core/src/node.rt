@@ -1,22 +1,25 @@
 // A demux node, and its one call.
 
 ghost use Rattle.std.specs.Prelude.{◌≡◌, ◌≢◌, ◌≤◌, ◌<◌, ◌+◌, ◌^◌, ◌∷◌, []};
+ghost use Rattle.dmx_calls.specs.declared.node.NodeKind.TheVariants.{Demux};
 ghost use Rattle.dmx_calls.specs.declared.limits.TheConstants.{DEMUX_NODES};
+ghost use Rattle.dmx_calls.specs.Invocation.{packets_of_call};
 ghost use Rattle.dmx_calls.specs.History.{History, entry_of};
 ghost use Rattle.dmx_calls.specs.Rules.{demux};
 ghost use Rattle.dmx_calls.specs.Facts.{state_of};
 ghost use Rattle.dmx_calls.specs.Legal.{May};
 ghost use Rattle.dmx_calls.specs.Calls.{invocation_of, response_of};
 ghost use Rattle.dmx_calls.specs.Back.{GivesBack};
+ghost use Rattle.node_buffer.specs.Causes.{Causes};
 ghost use Rattle.node_core.specs.Sound.{IsSound};
 ghost use Rattle.node_core.specs.Gives.{Gives};
 ghost use Rattle.node_core.specs.Step.{next};
 ghost use Rattle.node_core.specs.KeptView.{knows_of, bytes_in};
-ghost use Rattle.node_core.specs.Causes.{Causes};
-ghost use Rattle.node_core.specs.Stands.{StandsFor, IsBuilt, packets_of_call};
+ghost use Rattle.node_core.specs.Stands.{StandsFor};
 
 use crate::kept::Kept;
-use dmx_calls::{Answer, Call, Errno, Reply, State};
+use dmx_calls::{Answer, Call, Reply, State};
+use node_buffer::{plain, refused};
 use std::alloc::Global;
 use std::marker::Model;
 use std::sync::ledger::Ledger;
@@ -33,7 +36,6 @@ pub struct NodeCore {
 }
 
 impl Model for NodeCore {
-    ghost use Rattle.node_core.specs.Causes.{Causes};
     ghost use Rattle.node_core.specs.Stands.{CoreValue};
 
     ghost Value = { CoreValue };
@@ -45,37 +47,6 @@ impl Model for NodeCore {
     ghost invariant = { CoreHolds };
 }
 
-fn plain(reply: Reply) -> Answer
-    ensures { result ≡ record { reply = reply; back = None; batch = None } }
-{
-    Answer {
-        reply,
-        back: None,
-        batch: None,
-    }
-}
-
-/// The call is refused: what it brought is handed back.
-fn refused(errno: Errno, call: Call) -> Answer
-    ensures reply { result.reply ≡ Reply.Refused errno }
-    ensures back { GivesBack call result }
-{
-    let reply = Reply::Refused(errno);
-    match call {
-        Call::Read { buf, .. } => Answer {
-            reply,
-            back: Some(buf),
-            batch: None,
-        },
-        Call::Pass { batch, .. } => Answer {
-            reply,
-            back: None,
-            batch: Some(batch),
-        },
-        _ => plain(reply),
-    }
-}
-
 /// Makes a call on what the node keeps.
 fn act<L: Ledger>(
     kept: &mut Kept,
@@ -85,7 +56,6 @@ fn act<L: Ledger>(
     steps: &mut Steps<L>,
 ) -> Answer
     requires sound { IsSound (knows_of kept.old) }
-    requires built { IsBuilt (invocation_of call) }
     requires bytes { bytes_in (knows_of kept.old) + 12032 < 2 ^ 64 }
     ensures said { Gives (knows_of kept.old) who (invocation_of call) (response_of result.reply) }
     ensures after { knows_of kept.new ≡ next (knows_of kept.old) who (invocation_of call) (response_of result.reply) }
@@ -129,6 +99,7 @@ fn act<L: Ledger>(
             kept.end();
             plain(Reply::Passed)
         }
+        Call::Attach { .. } | Call::Detach { .. } => unreachable!(),
     }
 }
 
@@ -168,11 +139,10 @@ impl NodeCore {
     /// whoever makes them.
     pub fn apply<L: Ledger>(&mut self, who: u32, call: Call, steps: &mut Steps<L>) -> Answer
         requires few { self.old.entries < 2 ^ 50 }
-        requires built { IsBuilt (invocation_of call) }
         ensures stands { (h : History) → StandsFor self.old h
             → May demux h who (invocation_of call) (response_of result.reply)
             × StandsFor self.new (entry_of who (invocation_of call) (response_of result.reply) ∷ h) }
-        ensures causes { (h : History) → StandsFor self.old h → Causes self.old.facts self.new.facts who (invocation_of call) (response_of result.reply) }
+        ensures causes { (h : History) → StandsFor self.old h → Causes Demux self.old.facts self.new.facts who (invocation_of call) (response_of result.reply) }
         ensures back { GivesBack call result }
         ensures rises { self.new.entries ≡ self.old.entries + 1 }
         ensures number { self.new.number ≡ self.old.number }

@@ -3,11 +3,11 @@
 ghost use Rattle.std.specs.Prelude.{[], ◌≡◌, ◌≤◌, ◌<◌, ◌+◌, ◌-◌, ◌^◌, length, option_map};
 ghost use Rattle.ts_packet.specs.Fields.{IsPacket};
 ghost use Rattle.item_select.specs.Selecting.{after_offer, all_given, bytes_held, items_found, kept_after};
-ghost use Rattle.node_core.specs.Sound.{CoherentIn, total_of};
-ghost use Rattle.node_core.specs.Step.{with_items};
+ghost use Rattle.node_buffer.specs.Coherent.{CoherentIn, total_of};
+ghost use Rattle.node_buffer.specs.Capturing.{with_items};
 
-use crate::buffer::Buffer;
 use item_select::Selector;
+use node_buffer::Buffer;
 use std::sync::ledger::Ledger;
 use steps::Steps;
 use ts_batch::Batch;

@@ -2,13 +2,15 @@
 
 ghost use Rattle.std.specs.Prelude.{◌≡◌, ◌<◌, ◌≤◌, ◌+◌, ◌^◌, length, IfOk};
 ghost use Rattle.dmx_calls.specs.Calls.{invocation_of};
-ghost use Rattle.node_core.specs.Stands.{IsBuilt};
 
 mod of_packets;
+mod of_recordings;
 mod of_sections;
 
 use crate::NodeCore;
-use dmx_calls::{ByteBuf, Call, Errno, Input, Output, PesParams, PollError, Reply, SectionParams};
+use dmx_calls::{
+    ByteBuf, Call, Errno, Input, Output, PesParams, PollError, Reply, SectionParams, Tap,
+};
 use filter_match::SectionFilter;
 use std::alloc::{AllocError as NoMemory, Global};
 use std::marker::Brand;
@@ -50,6 +52,8 @@ enum Step {
     Whole(u16, u32),
     /// DMX_OUT_TAP, the PID, the flags.
     Payloads(u16, u32),
+    /// DMX_OUT_TS_TAP, the PID, the flags.
+    Record(u16, u32),
     /// DMX_OUT_DECODER.
     Decoder,
     /// A PES type.
@@ -81,7 +85,12 @@ enum Step {
 /// A reply. Bytes are told as parts of packets: the packet, the first place, the place after the last.
 #[derive(Clone, Copy, Drop)]
 enum Want {
+    /// Done, which keeps the tap.
     Done(u64, u64),
+    /// Done, which attaches these PIDs.
+    Attach(u64, u64, &'static [u16]),
+    /// Done, which detaches.
+    Detach(u64, u64),
     Busy(u32),
     Refused(Errno),
     Data(&'static [(Cell, usize, usize)]),
@@ -160,9 +169,7 @@ fn batch_of(alloc: Global, cells: &[Cell]) -> Result<Option<Arc<Batch>>, NoMemor
     Ok(Some(Batch::of(alloc, 0, &packets)?))
 }
 
-fn pes(pid: u16, input: Input, output: Output, pes_type: u32, flags: u32) -> PesParams
-    ensures { result.output ≡ output }
-{
+fn pes(pid: u16, input: Input, output: Output, pes_type: u32, flags: u32) -> PesParams {
     PesParams {
         pid,
         input,
@@ -236,6 +243,10 @@ fn ask<L: Ledger>(
             let params = pes(pid, Input::Frontend, Output::Tap, 20, flags);
             node.apply(who, Call::SetPes { params, now }, steps)
         }
+        Step::Record(pid, flags) => {
+            let params = pes(pid, Input::Frontend, Output::TsTap, 20, flags);
+            node.apply(who, Call::SetPes { params, now }, steps)
+        }
         Step::Decoder => {
             let params = pes(256, Input::Frontend, Output::Decoder, 20, 0);
             node.apply(who, Call::SetPes { params, now }, steps)
@@ -274,11 +285,30 @@ fn ask<L: Ledger>(
     Ok(answer.reply)
 }
 
+/// The tap attaches just these PIDs, which ascend.
+fn attaches(tap: &Tap, wanted: &[u16]) -> bool {
+    let Tap::Attach(pids) = tap else {
+        return false;
+    };
+    pids.len() == wanted.len()
+        && wanted
+            .iter()
+            .enumerate()
+            .all(|(i, pid)| pids.get(i) == Some(*pid))
+}
+
 /// The reply is the wanted one.
 fn is_wanted(alloc: Global, reply: &Reply, want: Want) -> Result<bool, NoMemory> {
     Ok(match (want, reply) {
-        (Want::Done(from, to), Reply::Done { dropped, .. }) => dropped.from == from
-            && dropped.to == to,
+        (Want::Done(from, to), Reply::Done { dropped, tap }) => {
+            (dropped.from, dropped.to) == (from, to) && matches!(tap, Tap::Keep)
+        }
+        (Want::Attach(from, to, wanted), Reply::Done { dropped, tap }) => {
+            (dropped.from, dropped.to) == (from, to) && attaches(tap, wanted)
+        }
+        (Want::Detach(from, to), Reply::Done { dropped, tap }) => {
+            (dropped.from, dropped.to) == (from, to) && matches!(tap, Tap::Detach)
+        }
         (Want::Busy(who), Reply::Busy { owner }) => *owner == who,
         (Want::Refused(errno), Reply::Refused(found)) => *found == errno,
         (Want::Data(parts), Reply::Data(buf)) => {

@@ -2,14 +2,14 @@ use Rattle.std.proofs.Common.{◌≡◌, ℕ, ◌+◌, ◌*◌, ◌^◌, ◌≤�
 use Rattle.emu_top.specs.declared.runner.Runner.{Runner}
 use Rattle.emu_top.specs.declared.script.Line.{Line}
 use Rattle.emu_top.specs.SerialRun.{begun, done}
-use Rattle.emu_top.specs.Runner.{IsAt, Counts}
+use Rattle.emu_top.specs.Runner.{IsAt, Counts, turns}
 use Rattle.emu_top.proofs.runner.run_counted.Given as goal
 
--- the runner is behind the first i lines, each of which made at most one entry beside those of its packets
+-- the runner is behind the first i lines, each of which made at most two calls beside those for its packets
 pub record Running (batch : ℕ) (lines : List Line) (packets : List (List ℕ)) (i : ℕ) (now : Runner) : Type 0 where
   pub at : IsAt now (fold (done batch) (begun packets) (take i lines))
   pub counts : Counts now
-  pub few : now.node.entries ≤ i + now.first
+  pub few : turns now.calls ≤ 2 * i + now.first
   pub moment : now.moment ≤ i * 2 ^ 32
   pub whole : now.first + length now.packets.now ≡ length packets
 

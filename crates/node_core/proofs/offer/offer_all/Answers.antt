@@ -1,4 +1,4 @@
-use Rattle.std.proofs.Common.{◌≡◌, ◌-◌, [], drop, arith, refl, ◌∙◌, ap}
+use Rattle.std.proofs.Common.{◌≡◌, ◌-◌, [], drop, arith, refl, ◌∙◌}
 use Rattle.std.proofs.lemmas.List.{drop_all}
 use Rattle.item_select.specs.Selecting.{kept_after}
 use Rattle.node_core.proofs.Offered.{kept-next, items-next, none-left}
@@ -13,7 +13,7 @@ loop-i-preserved g c =
       choice = o.choice ∙ i.choice;
       pids = o.pids ∙ i.pids;
       given = rw o.selector refl;
-      size = ap (λ b. b.size) o.buffer ∙ i.size;
+      size = rw o.buffer i.size;
       ledger = rw (o.selector, o.buffer, i.size, items-next c.args.by_section (c.args.buffer.now.size - 1) c.loop-i.selector c.args.batch.now.packets c.loop-i.i c.packet.result.now c.loop-i.buffer.ledger c.packet.ensures.at) i.ledger;
       sound = o.sound;
       bytes = omega arith;

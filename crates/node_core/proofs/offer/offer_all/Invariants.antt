@@ -1,8 +1,8 @@
 use Rattle.std.proofs.Common.{◌≡◌, ◌≤◌, ◌+◌, ◌-◌, ◌*◌, [], drop}
 use Rattle.std.specs.Prelude.{option_map}
 use Rattle.item_select.specs.Selecting.{bytes_held, items_found, kept_after}
-use Rattle.node_core.specs.Sound.{CoherentIn, total_of}
-use Rattle.node_core.specs.Step.{with_items}
+use Rattle.node_buffer.specs.Coherent.{CoherentIn, total_of}
+use Rattle.node_buffer.specs.Capturing.{with_items}
 use Rattle.node_core.proofs.offer.offer_all.Given as goal
 
 -- what the packets left will bring and what came so far are together what all packets bring

@@ -3,9 +3,11 @@ use Rattle.std.specs.Prelude.{option_map}
 use Rattle.dmx_calls.specs.Invocation.{Read}
 use Rattle.dmx_calls.specs.Calls.{params_of, response_of}
 use Rattle.dmx_calls.specs.Items.{timeout_of}
-use Rattle.node_core.specs.Step.{Knows, is_section, expiring, next}
+use Rattle.node_buffer.specs.Capturing.{is_section, expiring}
+use Rattle.node_core.specs.Step.{Knows, next}
 use Rattle.node_core.specs.KeptView.{knows_in, knows_of, bytes_in, reply_to}
-use Rattle.node_core.proofs.ByValues.{read-said, read-after, total-read}
+use Rattle.node_buffer.proofs.Readings.{total-read}
+use Rattle.node_core.proofs.ByValues.{read-said, read-after}
 use Rattle.node_core.proofs.kept.Kept.read.Goals as goal
 
 pub returns-clause-said : goal.returns-clause-said

@@ -13,7 +13,7 @@ returns-clause-stands g c =
     let before : CoreValue = record { number = c.self.inside.number; entries = c.self.inside.entries; facts = k.facts; selecting = k.selecting } in
     let after : CoreValue = record { number = c.self.inside.number; entries = c.self.inside.entries + 1; facts = k'.facts; selecting = k'.selecting } in
     rw (← c.self.view_is) (stands_on before after c.args.who (invocation_of c.args.call) (response_of c.act-answer.result.reply)
-    c.requires.built c.self.invariant.sound c.act-answer.ensures.said c.act-answer.ensures.after refl)
+    c.self.invariant.sound c.act-answer.ensures.said c.act-answer.ensures.after refl)
 
 pub returns-clause-causes : goal.returns-clause-causes
 returns-clause-causes g c =

@@ -1,0 +1,28 @@
+-- A Read, by what is known before it.
+use Rattle.std.proofs.Common.{ℕ, ◌≡◌, refl, sym, ◌∙◌, ap, true, false, Option, Some, None}
+use Rattle.std.specs.Prelude.{option_map}
+use Rattle.dmx_calls.specs.Invocation.{Read}
+use Rattle.dmx_calls.specs.Response.{Response, Passed, is_accepted}
+use Rattle.dmx_calls.specs.Facts.{Ledger}
+use Rattle.dmx_calls.specs.Answer.{read_response, expired_of}
+use Rattle.node_buffer.specs.Capturing.{read_by, with_response}
+use Rattle.node_buffer.proofs.Accepted.{read_accepted}
+use Rattle.node_buffer.proofs.Answering.{read_now}
+use Rattle.dvr_core.specs.Step.{Knows, next}
+use Rattle.dvr_core.specs.KeptView.{reply_to}
+
+as_before : (o : Option Ledger) → option_map (with_response false Passed) o ≡ o
+as_before None = refl
+as_before (Some l) = refl
+
+module _ (k : Knows) (count : ℕ) (r : Response) (said : r ≡ read_by k.facts.has_ended k.facts.params k.facts.ledger count) where
+  by_facts : r ≡ read_response k.facts k.facts.ledger (expired_of k.facts.ledger) count
+  by_facts = said ∙ read_now k.facts k.facts.ledger count
+
+  pub read-said : r ≡ reply_to k (Read 0 count)
+  read-said = by_facts ∙ ap (λ o. read_response k.facts k.facts.ledger (expired_of o) count) (sym (as_before k.facts.ledger))
+
+  pub read-after : (left : Option Ledger) → left ≡ option_map (with_response false r) k.facts.ledger → record k { facts = record k.facts { ledger = left } } ≡ next k 0 (Read 0 count) r
+  read-after left after =
+      let ok : is_accepted r ≡ true = ap is_accepted by_facts ∙ read_accepted k.facts k.facts.ledger (expired_of k.facts.ledger) count in
+      rw (ok, after) refl

@@ -1,0 +1,161 @@
+-- Each call: its answer by what is known before it, and what is known after it.
+use Rattle.std.proofs.Common.{ℕ, ◌≡◌, refl, sym, ap, Bool, true, false, ◌||◌, List, ◌∷◌, Option, Some, None}
+use Rattle.std.specs.Prelude.{if◌then◌else◌, not, nat_eq}
+use Rattle.dmx_calls.specs.declared.node.NodeKind.TheVariants.{Dvr}
+use Rattle.dmx_calls.specs.declared.params.Input.{Input}
+use Rattle.dmx_calls.specs.declared.reply.Errno.{Errno}
+use Rattle.dmx_calls.specs.declared.reply.Errno.TheVariants.{Ebadf, Einval}
+use Rattle.dmx_calls.specs.Invocation.{Invocation, Open, Close, SetFilter, SetPes, AddPid, RemovePid, Start, Stop, SetSize, Read, Poll, Pass, End, Attach, Detach}
+use Rattle.dmx_calls.specs.Response.{TapChange, KeepTap, Response, Done, Busy, Refused, Passed, is_accepted}
+use Rattle.dmx_calls.specs.History.{History, entry_of, Since}
+use Rattle.dmx_calls.specs.Tenure.{tenure, owner}
+use Rattle.dmx_calls.specs.Rules.{dvr}
+use Rattle.dmx_calls.specs.Facts.{Ledger, Facts, facts}
+use Rattle.dmx_calls.specs.Refusal.{is_bad_argument, is_for_filters}
+use Rattle.dmx_calls.specs.Answer.{is_for_anybody, is_owned_by, is_same_size, refusal_to, done_dropping, response_to, answer}
+use Rattle.node_buffer.specs.Coherent.{CoherentIn}
+use Rattle.dvr_core.specs.Step.{moved, next}
+use Rattle.dvr_core.specs.Gives.{settled}
+use Rattle.dvr_core.proofs.Moves.{known, Moves, known_refused, open_moves, close_moves, Silent, attach_moves, detach_moves, poll_moves, size_moves, end_moves, pass_moves}
+use Rattle.dvr_core.proofs.Reading.{read_moves, answer_fine, gives_nothing}
+
+-- the reply is the answer, and the node goes on by the step
+pub record Agrees (h : History) (who : ℕ) (call : Invocation) (r : Response) : Type 0 where
+  pub reply : r ≡ answer dvr h who call
+  pub after : known (entry_of who call r ∷ h) ≡ next (known h) who call r
+
+-- ------ by whether it is refused
+
+module _ (h : History) (who : ℕ) (call : Invocation) where
+  -- the response to it, where it isn't refused
+  abbrev response : Response
+  response = response_to (facts dvr h) (moved (known h) who call Passed).facts call
+
+  -- what is left to show of a call that isn't refused; Passed stands for any response
+  record Granted : Type 0 where
+    told : Moves h who call Passed
+    ok : is_accepted response ≡ true
+    moves : Moves h who call response
+
+  refused_case : (x : Errno) → refusal_to Dvr (facts dvr h) who call ≡ Some x → Agrees h who call (settled (known h) who call)
+  unfolding answer
+  refused_case x is = rw is (record { reply = rw is refl; after = known_refused (entry_of who call (Refused x)) h refl })
+
+  granted_case : Granted → refusal_to Dvr (facts dvr h) who call ≡ None → Agrees h who call (settled (known h) who call)
+  unfolding answer
+  granted_case g is = rw is (record {
+    reply = rw is (ap (λ k. response_to (facts dvr h) k.facts call) (sym g.told));
+    after = rw g.ok g.moves;
+  })
+
+  decided : (refusal_to Dvr (facts dvr h) who call ≡ None → Granted) → Agrees h who call (settled (known h) who call)
+  decided granted = by_refusal (refusal_to Dvr (facts dvr h) who call) refl where
+    by_refusal : (o : Option Errno) → refusal_to Dvr (facts dvr h) who call ≡ o → Agrees h who call (settled (known h) who call)
+    by_refusal (Some x) is = refused_case x is
+    by_refusal None is = granted_case (granted is) is
+
+-- who isn't refused owns the node, but for the calls that anybody makes
+owned : (f : Facts) (who : ℕ) (call : Invocation) → is_for_anybody Dvr call ≡ false → refusal_to Dvr f who call ≡ None → is_owned_by who f.owner ≡ true
+owned f who call not_all is = by_test (is_owned_by who f.owner) refl where
+  by_test : (b : Bool) → is_owned_by who f.owner ≡ b → is_owned_by who f.owner ≡ true
+  by_test true y = y
+  by_test false n = absurd (let none : Some Ebadf ≡ None = rw (not_all, n) at is in cc)
+
+holds : (h : History) (who : ℕ) (call : Invocation) → is_for_anybody Dvr call ≡ false → refusal_to Dvr (facts dvr h) who call ≡ None → (t : Since) × (tenure h ≡ Some t)
+unfolding facts owner
+holds h who call not_all is = by_tenure (tenure h) refl (owned (facts dvr h) who call not_all is) where
+  by_tenure : (o : Option Since) → tenure h ≡ o → is_owned_by who (facts dvr h).owner ≡ true → (t : Since) × (tenure h ≡ Some t)
+  by_tenure None none own = absurd (let nay : false ≡ true = rw none at own in cc)
+  by_tenure (Some t) held own = (t, held)
+
+-- calls for filters are always refused
+refused_always : (f : Facts) (who : ℕ) (call : Invocation) → is_for_anybody Dvr call ≡ false → is_same_size f call ≡ false → is_for_filters call ≡ true
+    → refusal_to Dvr f who call ≡ None → ⊥
+refused_always f who call not_all other filter is = by_test (is_owned_by who f.owner) (is_bad_argument call) (rw (not_all, other, filter) at is) where
+  by_test : (own bad : Bool) → (if not own then Some Ebadf else (if bad || true then Some Einval else None)) ≡ None → ⊥
+  by_test false bad is = cc
+  by_test true true is = cc
+  by_test true false is = cc
+
+-- ------ the calls
+
+silent_done : (h : History) (who from to : ℕ) (tap : TapChange) → Silent h who (Done from to tap)
+silent_done h who from to tap = record { ok = refl; quiet = λ call. refl; nothing = λ call. refl }
+
+silent_passed : (h : History) (who : ℕ) → Silent h who Passed
+silent_passed h who = record { ok = refl; quiet = λ call. refl; nothing = λ call. refl }
+
+dropping : (h : History) (who : ℕ) (o : Option Ledger) (tap : TapChange) → Silent h who (done_dropping o tap)
+dropping h who None tap = silent_done h who 0 0 tap
+dropping h who (Some l) tap = silent_done h who l.answered l.total tap
+
+dropping_unless : (h : History) (who : ℕ) (b : Bool) (o : Option Ledger) (tap : TapChange) → Silent h who (if b then Done 0 0 KeepTap else done_dropping o tap)
+dropping_unless h who true o tap = silent_done h who 0 0 KeepTap
+dropping_unless h who false o tap = dropping h who o tap
+
+module _ (h : History) (who : ℕ) (sound : CoherentIn (facts dvr h).ledger) where
+  case_open : Agrees h who Open (settled (known h) who Open)
+  unfolding answer
+  case_open = by_owner (facts dvr h).owner refl where
+    by_owner : (o : Option ℕ) → (facts dvr h).owner ≡ o → Agrees h who Open (settled (known h) who Open)
+    by_owner None is = rw is (record { reply = rw is refl; after = open_moves h who (Done 0 0 KeepTap) refl })
+    by_owner (Some w) is = rw is (record { reply = rw is refl; after = known_refused (entry_of who Open (Busy w)) h refl })
+
+  case_close : Agrees h who Close (settled (known h) who Close)
+  case_close = decided h who Close (λ is.
+      let silent = dropping h who (facts dvr h).ledger _ in
+      record { told = close_moves h who Passed refl; ok = silent.ok; moves = close_moves h who _ silent.ok })
+
+  case_set_size : (n : ℕ) → Agrees h who (SetSize n) (settled (known h) who (SetSize n))
+  case_set_size n = decided h who (SetSize n) (λ is.
+      let t = holds h who (SetSize n) refl is in
+      let silent = dropping_unless h who (nat_eq n (facts dvr h).size) (facts dvr h).ledger _ in
+      record { told = size_moves h sound who Passed (silent_passed h who) t.0 t.1 n; ok = silent.ok; moves = size_moves h sound who _ silent t.0 t.1 n })
+
+  case_read : (now count : ℕ) → Agrees h who (Read now count) (settled (known h) who (Read now count))
+  case_read now count = decided h who (Read now count) (λ is.
+      let fine = answer_fine h count in
+      record { told = read_moves h sound who now count Passed (refl, λ s runs. gives_nothing); ok = fine.0; moves = read_moves h sound who now count _ fine })
+
+  case_poll : (now : ℕ) → Agrees h who (Poll now) (settled (known h) who (Poll now))
+  case_poll now = decided h who (Poll now) (λ is. record {
+    told = poll_moves h sound who Passed (silent_passed h who) now;
+    ok = refl;
+    moves = poll_moves h sound who _ (record { ok = refl; quiet = λ call. refl; nothing = λ call. refl }) now;
+  })
+
+  case_filter : (call : Invocation) → is_for_anybody Dvr call ≡ false → ((f : Facts) → is_same_size f call ≡ false) → is_for_filters call ≡ true → Agrees h who call (settled (known h) who call)
+  case_filter call not_all other filter = decided h who call (λ is. absurd (refused_always (facts dvr h) who call not_all (other (facts dvr h)) filter is))
+
+  case_attach : (node : ℕ) (pids : List ℕ) → Agrees h who (Attach node pids) (settled (known h) who (Attach node pids))
+  unfolding answer
+  case_attach node pids = record { reply = refl; after = attach_moves h sound who (Done 0 0 KeepTap) (silent_done h who 0 0 KeepTap) node pids }
+
+  case_detach : (node : ℕ) → Agrees h who (Detach node) (settled (known h) who (Detach node))
+  unfolding answer
+  case_detach node = record { reply = refl; after = detach_moves h sound who (Done 0 0 KeepTap) (silent_done h who 0 0 KeepTap) node }
+
+  case_pass : (input : Input) (first : ℕ) (packets : List (List ℕ)) (now : ℕ) → Agrees h who (Pass input first packets now) (settled (known h) who (Pass input first packets now))
+  unfolding answer
+  case_pass input first packets now = record { reply = refl; after = pass_moves h sound who input first packets now }
+
+  case_end : Agrees h who End (settled (known h) who End)
+  unfolding answer
+  case_end = record { reply = refl; after = end_moves h sound who }
+
+  pub agrees : (call : Invocation) → Agrees h who call (settled (known h) who call)
+  agrees Open = case_open
+  agrees Close = case_close
+  agrees (SetFilter p now) = case_filter (SetFilter p now) refl (λ f. refl) refl
+  agrees (SetPes p now) = case_filter (SetPes p now) refl (λ f. refl) refl
+  agrees (AddPid pid) = case_filter (AddPid pid) refl (λ f. refl) refl
+  agrees (RemovePid pid) = case_filter (RemovePid pid) refl (λ f. refl) refl
+  agrees (Start now) = case_filter (Start now) refl (λ f. refl) refl
+  agrees Stop = case_filter Stop refl (λ f. refl) refl
+  agrees (SetSize n) = case_set_size n
+  agrees (Read now count) = case_read now count
+  agrees (Poll now) = case_poll now
+  agrees (Pass input first packets now) = case_pass input first packets now
+  agrees End = case_end
+  agrees (Attach node pids) = case_attach node pids
+  agrees (Detach node) = case_detach node

@@ -1,0 +1,125 @@
+-- What is known of the history with one entry more, as the step of what was known before.
+use Rattle.std.proofs.Common.{ℕ, ◌≡◌, refl, ◌∙◌, ap, Bool, true, false, ◌||◌, List, [], ◌∷◌, Option, Some, None, map}
+use Rattle.std.specs.Prelude.{nat_eq, option_map}
+use Rattle.std.specs.List.{range_with_len}
+use Rattle.std.proofs.lemmas.Bool.{eqb-true}
+use Rattle.dmx_calls.specs.declared.params.Input.{Input}
+use Rattle.dmx_calls.specs.declared.params.Input.TheVariants.{Frontend}
+use Rattle.dmx_calls.specs.declared.limits.TheConstants.{DEMUX_NODES}
+use Rattle.dmx_calls.specs.Invocation.{Invocation, Open, Close, SetSize, Poll, Pass, End, Attach, Detach}
+use Rattle.dmx_calls.specs.Response.{Response, Passed, is_accepted}
+use Rattle.dmx_calls.specs.History.{Entry, History, entry_of, event, accepted, Since}
+use Rattle.dmx_calls.specs.Tenure.{tenure, dvr_size, is_end, has_ended}
+use Rattle.dmx_calls.specs.Capture.{dvr_capture}
+use Rattle.dmx_calls.specs.Items.{packets_in}
+use Rattle.dmx_calls.specs.Taps.{Tap, tap_after, tap_of}
+use Rattle.dmx_calls.specs.Rules.{dvr}
+use Rattle.dmx_calls.specs.Ledger.{answered_in, is_overflow}
+use Rattle.dmx_calls.specs.Facts.{Ledger, Facts, ledger_at, facts}
+use Rattle.dmx_calls.proofs.LawsHold.{dvr_facts_refused}
+use Rattle.node_buffer.specs.Coherent.{Coherent, CoherentIn}
+use Rattle.dvr_core.specs.Tapped.{taps_of}
+use Rattle.dvr_core.specs.Step.{Knows, moved}
+use Rattle.dvr_core.proofs.Tapping.{taps_refused, taps_attached, taps_detached}
+use Rattle.dvr_core.proofs.Going.{facts_opened, facts_closed, facts_resized, Stays, facts_goes}
+use Rattle.dvr_core.proofs.Ledgers.{ledger_recorded}
+
+-- what a node knows that stands for this history
+abbrev pub known : History → Knows
+known h = record { facts = facts dvr h; taps = taps_of h }
+
+-- By the step of an accepted call a node knows what the history with its entry says.
+abbrev pub Moves : History → (who : ℕ) → Invocation → Response → Type 0
+Moves h who call r = known (entry_of who call r ∷ h) ≡ moved (known h) who call r
+
+pub known_by : (h : History) (f : Facts) (taps : List (Option Tap)) → facts dvr h ≡ f → taps_of h ≡ taps → known h ≡ record { facts = f; taps = taps }
+known_by h f taps e1 e2 = rw (e1, e2) refl
+
+pub known_refused : (e : Entry) (h : History) → is_accepted e.response ≡ false → known (e ∷ h) ≡ known h
+known_refused e h nay = known_by (e ∷ h) (facts dvr h) (taps_of h) (dvr_facts_refused e h nay) (taps_refused e h nay)
+
+-- an accepted call that is neither Attach nor Detach
+pub taps_stay : (e : Entry) (h : History) → is_accepted e.response ≡ true → ((node : ℕ) → tap_after node (event e h ∷ accepted h) ≡ tap_after node (accepted h)) → taps_of (e ∷ h) ≡ taps_of h
+unfolding taps_of tap_of
+taps_stay e h ok same = by_node (range_with_len 0 DEMUX_NODES) where
+  by_node : (nodes : List ℕ) → map (λ node. tap_of node (e ∷ h)) nodes ≡ map (λ node. tap_of node h) nodes
+  by_node [] = refl
+  by_node (node ∷ nodes) = rw (ok, same node) (ap (λ taps. tap_of node h ∷ taps) (by_node nodes))
+
+-- ------ Open and Close
+
+module _ (h : History) (who : ℕ) (r : Response) (ok : is_accepted r ≡ true) where
+  pub open_moves : Moves h who Open r
+  open_moves = known_by _ _ _ (facts_opened h who r ok) (taps_stay (entry_of who Open r) h ok (λ node. refl))
+
+  pub close_moves : Moves h who Close r
+  close_moves = known_by _ _ _ (facts_closed h who r ok) (taps_stay (entry_of who Close r) h ok (λ node. refl))
+
+-- ------ calls by which a capture goes on
+
+-- a response that answers no bytes, to whatever call
+pub record Silent (h : History) (who : ℕ) (r : Response) : Type 0 where
+  pub ok : is_accepted r ≡ true
+  pub quiet : (call : Invocation) → is_overflow (event (entry_of who call r) h) ≡ false
+  pub nothing : (call : Invocation) → answered_in (event (entry_of who call r) h) ≡ 0
+
+pub coherent : (h : History) → CoherentIn (facts dvr h).ledger → (s : Since) → dvr_capture h ≡ Some s → Coherent (ledger_at dvr h)
+unfolding facts
+coherent h sound s runs = rw runs at sound
+
+same_ledger : (o : Option Ledger) → option_map (λ (l : Ledger). l) o ≡ o
+same_ledger None = refl
+same_ledger (Some l) = refl
+
+module _ (h : History) (sound : CoherentIn (facts dvr h).ledger) where
+  -- an entry that answers no bytes, and with which no packet passes
+  module _ (e : Entry) (stays : Stays e h) (quiet : is_overflow (event e h) ≡ false) (nothing : answered_in (event e h) ≡ 0) (none : packets_in Frontend (event e h) ≡ []) where
+    facts_same : facts dvr (e ∷ h) ≡ record (facts dvr h) { has_ended = is_end (event e h) || has_ended h }
+    facts_same =
+        facts_goes e h stays (λ l. l) (λ s runs. ledger_recorded e h s stays runs (coherent h sound s runs) quiet nothing ∙ rw none refl)
+        ∙ ap (λ l. record (facts dvr h) { has_ended = is_end (event e h) || has_ended h; ledger = l }) (same_ledger (facts dvr h).ledger)
+
+  module _ (who : ℕ) (r : Response) (silent : Silent h who r) where
+    pub attach_moves : (node : ℕ) (pids : List ℕ) → Moves h who (Attach node pids) r
+    unfolding facts
+    attach_moves node pids =
+        let call : Invocation = Attach node pids in
+        let stays : Stays (entry_of who call r) h = record { ok = silent.ok; no_open = refl; no_close = refl; no_begin = refl; same_size = refl } in
+        known_by _ _ _ (facts_same (entry_of who call r) stays (silent.quiet call) (silent.nothing call) refl) (taps_attached h who r silent.ok node pids)
+
+    pub detach_moves : (node : ℕ) → Moves h who (Detach node) r
+    unfolding facts
+    detach_moves node =
+        let call : Invocation = Detach node in
+        let stays : Stays (entry_of who call r) h = record { ok = silent.ok; no_open = refl; no_close = refl; no_begin = refl; same_size = refl } in
+        known_by _ _ _ (facts_same (entry_of who call r) stays (silent.quiet call) (silent.nothing call) refl) (taps_detached h who r silent.ok node)
+
+    pub poll_moves : (now : ℕ) → Moves h who (Poll now) r
+    unfolding facts
+    poll_moves now =
+        let call : Invocation = Poll now in
+        let stays : Stays (entry_of who call r) h = record { ok = silent.ok; no_open = refl; no_close = refl; no_begin = refl; same_size = refl } in
+        known_by _ _ _ (facts_same (entry_of who call r) stays (silent.quiet call) (silent.nothing call) refl) (taps_stay (entry_of who call r) h silent.ok (λ node. refl))
+
+    pub size_moves : (t : Since) → tenure h ≡ Some t → (n : ℕ) → Moves h who (SetSize n) r
+    unfolding facts
+    size_moves t held n = by_size (nat_eq n (dvr_size h)) refl where
+      by_size : (b : Bool) → nat_eq n (dvr_size h) ≡ b → Moves h who (SetSize n) r
+      by_size true same =
+          let call : Invocation = SetSize n in
+          let stays : Stays (entry_of who call r) h = record { ok = silent.ok; no_open = refl; no_close = refl; no_begin = rw same refl; same_size = eqb-true n (dvr_size h) same } in
+          rw same (known_by _ _ _ (facts_same (entry_of who call r) stays (silent.quiet call) (silent.nothing call) refl) (taps_stay (entry_of who call r) h silent.ok (λ node. refl)))
+      by_size false other = rw other (known_by _ _ _ (facts_resized h t who r held silent.ok n other) (taps_stay (entry_of who (SetSize n) r) h silent.ok (λ node. refl)))
+
+  pub end_moves : (who : ℕ) → Moves h who End Passed
+  unfolding facts
+  end_moves who =
+      let stays : Stays (entry_of who End Passed) h = record { ok = refl; no_open = refl; no_close = refl; no_begin = refl; same_size = refl } in
+      known_by _ _ _ (facts_same (entry_of who End Passed) stays refl refl refl) (taps_stay (entry_of who End Passed) h refl (λ node. refl))
+
+  pub pass_moves : (who : ℕ) (input : Input) (first : ℕ) (packets : List (List ℕ)) (now : ℕ) → Moves h who (Pass input first packets now) Passed
+  unfolding facts
+  pass_moves who input first packets now =
+      let e : Entry = entry_of who (Pass input first packets now) Passed in
+      let stays : Stays e h = record { ok = refl; no_open = refl; no_close = refl; no_begin = refl; same_size = refl } in
+      known_by _ _ _ (facts_goes e h stays _ (λ s runs. ledger_recorded e h s stays runs (coherent h sound s runs) refl refl)) (taps_stay e h refl (λ node. refl))

@@ -1,0 +1,64 @@
+-- The taps that a history says, one entry later, and the packets that they name.
+use Rattle.std.proofs.Common.{ℕ, zero, suc, ◌+◌, ◌<◌, ◌≡◌, refl, ap, Bool, true, false, List, [], ◌∷◌, Some, map, arith, zero-add}
+use Rattle.std.specs.Prelude.{if◌then◌else◌, ◌||◌, filter, nat_eq}
+use Rattle.std.specs.List.{list_any, range_with_len}
+use Rattle.std.proofs.lemmas.Bool.Decides.{nat_tests}
+use Rattle.dmx_calls.specs.declared.limits.TheConstants.{DEMUX_NODES}
+use Rattle.dmx_calls.specs.Invocation.{Attach, Detach}
+use Rattle.dmx_calls.specs.Response.{Response, is_accepted}
+use Rattle.dmx_calls.specs.History.{Entry, History, entry_of}
+use Rattle.dmx_calls.specs.Taps.{detached_by, tap_of, tap_names, is_tapped}
+use Rattle.dmx_calls.proofs.Nodes.{tap_refused}
+use Rattle.dvr_core.specs.Tapped.{taps_of, changed_at, attached, detached, some_names}
+
+-- ------ a function's values at the places of a list, with another value at one place
+
+module _ {X : Type 0} (change : X → X) (value : ℕ → X) where
+  abbrev changed : (place i : ℕ) → X
+  changed place i = if nat_eq place i then change (value i) else value i
+
+  -- the place lies before the list
+  before : (place from n : ℕ) → place < from → map (changed place) (range_with_len from n) ≡ map value (range_with_len from n)
+  before place from zero lt = refl
+  before place from (suc n) lt = let other : nat_eq place from ≡ false = grind (arith, nat_tests) in rw (other, before place (from + 1) n (omega (arith, lt))) refl
+
+  change_places : (k place from n : ℕ) → from + k ≡ place → map (changed place) (range_with_len from n) ≡ changed_at k change (map value (range_with_len from n))
+  change_places k place from zero is = refl
+  change_places zero place from (suc n) is =
+      let here : nat_eq place from ≡ true = grind (arith, nat_tests) in
+      rw (here, before place (from + 1) n (omega (arith, is))) refl
+  change_places (suc k) place from (suc n) is =
+      let there : nat_eq place from ≡ false = grind (arith, nat_tests) in
+      rw (there, change_places k place (from + 1) n (omega (arith, is))) refl
+
+-- ------ one entry later
+
+pub taps_refused : (e : Entry) (h : History) → is_accepted e.response ≡ false → taps_of (e ∷ h) ≡ taps_of h
+unfolding taps_of
+taps_refused e h nay = same (range_with_len 0 DEMUX_NODES) where
+  same : (nodes : List ℕ) → map (λ node. tap_of node (e ∷ h)) nodes ≡ map (λ node. tap_of node h) nodes
+  same [] = refl
+  same (node ∷ nodes) = rw (tap_refused e h nay node, same nodes) refl
+
+module _ (h : History) (who : ℕ) (r : Response) (ok : is_accepted r ≡ true) where
+  pub taps_attached : (node : ℕ) (pids : List ℕ) → taps_of (entry_of who (Attach node pids) r ∷ h) ≡ attached who node pids (taps_of h)
+  unfolding taps_of tap_of
+  taps_attached node pids = rw ok (change_places (λ tap. Some (record { by = who; pids = pids })) (λ n. tap_of n h) node node 0 DEMUX_NODES (zero-add node))
+
+  pub taps_detached : (node : ℕ) → taps_of (entry_of who (Detach node) r ∷ h) ≡ detached who node (taps_of h)
+  unfolding taps_of tap_of
+  taps_detached node = rw ok (change_places (detached_by who) (λ n. tap_of n h) node node 0 DEMUX_NODES (zero-add node))
+
+-- ------ the packets that they name
+
+any_of_map : {X Y : Type 0} (test : Y → Bool) (value : X → Y) (xs : List X) → list_any (λ x. test (value x)) xs ≡ list_any test (map value xs)
+any_of_map test value [] = refl
+any_of_map test value (x ∷ xs) = ap (λ b. test (value x) || b) (any_of_map test value xs)
+
+names_is : (h : History) (packet : List ℕ) → is_tapped h packet ≡ some_names (taps_of h) packet
+unfolding is_tapped taps_of
+names_is h packet = any_of_map (tap_names packet) (λ node. tap_of node h) (range_with_len 0 DEMUX_NODES)
+
+pub tapped_are : (h : History) (packets : List (List ℕ)) → filter (is_tapped h) packets ≡ filter (some_names (taps_of h)) packets
+tapped_are h [] = refl
+tapped_are h (packet ∷ packets) = rw (names_is h packet, tapped_are h packets) refl

@@ -1,0 +1,145 @@
+// The dvr node, and its one call.
+
+ghost use Rattle.std.specs.Prelude.{◌≡◌, ◌≤◌, ◌<◌, ◌+◌, ◌^◌, ◌∷◌, [], None};
+ghost use Rattle.dmx_calls.specs.declared.node.NodeKind.TheVariants.{Dvr};
+ghost use Rattle.dmx_calls.specs.Invocation.{packets_of_call};
+ghost use Rattle.dmx_calls.specs.History.{History, entry_of};
+ghost use Rattle.dmx_calls.specs.Rules.{dvr};
+ghost use Rattle.dmx_calls.specs.Legal.{May};
+ghost use Rattle.dmx_calls.specs.Calls.{invocation_of, response_of};
+ghost use Rattle.dmx_calls.specs.Back.{GivesBack};
+ghost use Rattle.node_buffer.specs.Coherent.{CoherentIn};
+ghost use Rattle.node_buffer.specs.Causes.{Causes};
+ghost use Rattle.dvr_core.specs.Gives.{Gives};
+ghost use Rattle.dvr_core.specs.Step.{next};
+ghost use Rattle.dvr_core.specs.KeptView.{knows_of, bytes_in};
+ghost use Rattle.dvr_core.specs.Stands.{StandsFor};
+
+use crate::kept::Kept;
+use crate::taps::Taps;
+use dmx_calls::{Answer, Call, Reply};
+use node_buffer::{plain, refused};
+use std::alloc::Global;
+use std::marker::Model;
+use std::sync::ledger::Ledger;
+use steps::Steps;
+
+/// The dvr node. Fewer than 2^50 calls may be made on it.
+#[derive(Drop)]
+pub struct DvrCore {
+    alloc: Global,
+    /// How many calls were made.
+    entries: u64,
+    kept: Kept,
+}
+
+impl Model for DvrCore {
+    ghost use Rattle.dvr_core.specs.Stands.{CoreValue};
+
+    ghost Value = { CoreValue };
+
+    ghost use Rattle.dvr_core.specs.CoreView.{core_view, CoreHolds};
+
+    ghost view = { core_view };
+
+    ghost invariant = { CoreHolds };
+}
+
+/// Makes a call on what the node keeps.
+fn act<L: Ledger>(
+    kept: &mut Kept,
+    alloc: Global,
+    who: u32,
+    call: Call,
+    steps: &mut Steps<L>,
+) -> Answer
+    requires sound { CoherentIn (knows_of kept.old).facts.ledger }
+    requires bytes { bytes_in (knows_of kept.old) + 12032 < 2 ^ 64 }
+    ensures said { Gives (knows_of kept.old) who (invocation_of call) (response_of result.reply) }
+    ensures after { knows_of kept.new ≡ next (knows_of kept.old) who (invocation_of call) (response_of result.reply) }
+    ensures back { GivesBack call result }
+    ensures sound { CoherentIn (knows_of kept.new).facts.ledger }
+    ensures bytes { bytes_in (knows_of kept.new) ≤ bytes_in (knows_of kept.old) + 12032 }
+    ensures cost { steps.new ≤ steps.old + packets_of_call (invocation_of call) }
+    ensures idle { (knows_of kept.old).facts.owner ≡ None → steps.new ≡ steps.old }
+{
+    if let Some(errno) = kept.refusal(who, &call) {
+        return refused(errno, call);
+    }
+    match call {
+        Call::Open => plain(kept.open(alloc, who)),
+        Call::Close => plain(kept.close()),
+        Call::SetSize(size) => plain(kept.set_size(alloc, size)),
+        Call::Read { buf, .. } => {
+            let (reply, back) = kept.read(buf);
+            Answer {
+                reply,
+                back,
+                batch: None,
+            }
+        }
+        Call::Poll { .. } => plain(kept.poll()),
+        Call::Pass { input, batch, .. } => {
+            kept.pass(input, &batch, steps);
+            Answer {
+                reply: Reply::Passed,
+                back: None,
+                batch: Some(batch),
+            }
+        }
+        Call::End => {
+            kept.end();
+            plain(Reply::Passed)
+        }
+        Call::Attach { node, pids } => plain(kept.attach(who, node, pids)),
+        Call::Detach { node } => plain(kept.detach(who, node)),
+        Call::SetFilter { .. }
+        | Call::SetPes { .. }
+        | Call::AddPid(_)
+        | Call::RemovePid(_)
+        | Call::Start { .. }
+        | Call::Stop => unreachable!(),
+    }
+}
+
+impl DvrCore {
+    /// The dvr node. It is free and has no taps, takes no memory, and keeps the allocator for its calls.
+    pub fn new(alloc: Global) -> DvrCore
+        ensures { StandsFor result [] }
+    {
+        DvrCore {
+            alloc,
+            entries: 0,
+            kept: Kept {
+                has_ended: false,
+                tenure: None,
+                taps: Taps::new(),
+            },
+        }
+    }
+
+    /// How many calls were made on it.
+    pub fn entries(&self) -> u64
+        ensures { result ≡ self.now.entries }
+    {
+        self.entries
+    }
+
+    /// Makes a call for the caller `who`, and answers what the node's history says to it. Pass, End, Attach and Detach are
+    /// taken from whoever makes them. Only Open and SetSize to another size can answer that memory was wanting.
+    pub fn apply<L: Ledger>(&mut self, who: u32, call: Call, steps: &mut Steps<L>) -> Answer
+        requires few { self.old.entries < 2 ^ 50 }
+        ensures stands { (h : History) → StandsFor self.old h
+            → May dvr h who (invocation_of call) (response_of result.reply)
+            × StandsFor self.new (entry_of who (invocation_of call) (response_of result.reply) ∷ h) }
+        ensures causes { (h : History) → StandsFor self.old h → Causes Dvr self.old.facts self.new.facts who (invocation_of call) (response_of result.reply) }
+        ensures back { GivesBack call result }
+        ensures rises { self.new.entries ≡ self.old.entries + 1 }
+        ensures cost { steps.new ≤ steps.old + packets_of_call (invocation_of call) }
+        ensures idle { self.old.facts.owner ≡ None → steps.new ≡ steps.old }
+    {
+        let answer = act(&mut self.kept, self.alloc, who, call, steps);
+        self.entries += 1;
+        answer
+    }
+}

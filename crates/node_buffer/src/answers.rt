@@ -1,0 +1,38 @@
+// Answers that hand back what the call brought.
+
+ghost use Rattle.std.specs.Prelude.{◌≡◌, Option, Some, None};
+ghost use Rattle.dmx_calls.specs.Back.{GivesBack};
+
+use dmx_calls::{Answer, Call, Errno, Reply};
+
+/// The answer to a call that brought neither a buffer nor a batch.
+pub fn plain(reply: Reply) -> Answer
+    ensures { result ≡ record { reply = reply; back = None; batch = None } }
+{
+    Answer {
+        reply,
+        back: None,
+        batch: None,
+    }
+}
+
+/// The call is refused: what it brought is handed back.
+pub fn refused(errno: Errno, call: Call) -> Answer
+    ensures reply { result.reply ≡ Reply.Refused errno }
+    ensures back { GivesBack call result }
+{
+    let reply = Reply::Refused(errno);
+    match call {
+        Call::Read { buf, .. } => Answer {
+            reply,
+            back: Some(buf),
+            batch: None,
+        },
+        Call::Pass { batch, .. } => Answer {
+            reply,
+            back: None,
+            batch: Some(batch),
+        },
+        _ => plain(reply),
+    }
+}
