@@ -1,0 +1,10 @@
+//! A transport stream from a source, pulled as batches of packets.
+#![tactic(auto)]
+
+mod fault;
+mod hand;
+mod piece;
+mod puller;
+
+pub use fault::PullFault;
+pub use puller::Puller;
