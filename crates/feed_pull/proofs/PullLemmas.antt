@@ -1,5 +1,5 @@
 -- Laws of the steps of a pull, and of what a puller stands for.
-use Rattle.std.proofs.Common.{◌≡◌, ◌≢◌, ◌⊎◌, ℕ, ◌+◌, ◌*◌, ◌<◌, ◌≤◌, List, [], ◌∷◌, ◌++◌, length, take, drop, refl, sym, ap, subst, inl, inr, ◌∙◌, arith, length-append, append_assoc}
+use Rattle.std.proofs.Common.{◌≡◌, ◌≢◌, ◌⊎◌, ℕ, ◌+◌, ◌*◌, ◌<◌, ◌≤◌, List, [], ◌∷◌, ◌++◌, length, take, drop, refl, sym, ap, subst, inl, inr, ◌∙◌, arith, length-append, append_assoc, Result, Ok, Err, None, Some, IfOk, IfSome}
 use Rattle.std.proofs.lemmas.List.{append-nil, take-append-le, take-append-drop, length-drop}
 use Rattle.std.proofs.Math.Seq.{take-append_seam}
 use Rattle.std.proofs.lemmas.Bool.{cases_lt}
@@ -107,6 +107,7 @@ IsPulling-cut a k w u bytes n i same cuts grown rest within taken fits =
       few = fits;
       rest = Cuts-is_rest a.cutting k (take n bytes) (drop (length a.waiting) w) cuts;
       found = omega (arith, cuts.counted, i.found, length-grown a.waiting w grown);
+      earlier = omega (arith, i.earlier, length-grown a.waiting w grown);
       bytes = omega (arith, i.bytes, taken);
       piece = omega (arith, i.piece);
       taken = i.taken;
@@ -165,6 +166,12 @@ Gathers-then a b c x y z g h = record {
   goes = Goes-then a b c g.more h.more g.goes h.goes;
 }
 
+-- where enough packets wait, no step is made
+pub most-waits : (most : ℕ) (a b : Pulling) → b ≡ a → most ≤ length a.waiting → length b.waiting < most → ⊥
+most-waits most a b e h lt =
+    let n : length b.waiting ≡ length a.waiting = ap (λ (p : Pulling). length p.waiting) e in
+    omega arith
+
 pub going-cases : (r : Reading) → (r ≡ Going) ⊎ (r ≢ Going)
 going-cases Going = inl refl
 going-cases Ended = inr (λ e. absurd cc)
@@ -182,6 +189,7 @@ Follows-none r x n = record {
   later = omega arith;
   fails = λ g e. absurd cc;
   rose = λ h. absurd (omega arith);
+  went = λ e. (e, refl);
 }
 
 Follows-ends : (a b c : Reading) (x y z : Option (List ℕ)) (l m n : ℕ) → Follows a b x y l m → Follows b c y z m n → a ≡ Going → c ≡ Ended → IsAtEnd z
@@ -215,6 +223,7 @@ Follows-then a b c x y z l m n f g =
       later = omega (arith, f.later, g.later);
       fails = Follows-fails a b c x y z l m n f g;
       rose = Follows-rose a b c x y z l m n f g;
+      went = λ e. ((f.went (g.went e).0).0, (g.went e).1 ∙ (f.went (g.went e).0).1);
     }
 
 -- ---- what a puller stands for
@@ -341,3 +350,8 @@ Pulls-near ahead taken given p h lt earlier later e long =
 
 pub Pulls-tally : (p : Pulling) (tally : Tally) → ((bytes : List ℕ) (found : List (List ℕ)) → Cuts fresh bytes found p.cutting → IsTally (cut bytes) tally) → IsDone p → (ahead taken : List ℕ) (given : List (List ℕ)) → Pulls ahead taken given p → IsTally (cut (ahead ++ taken)) tally
 Pulls-tally p tally h d ahead taken given k = h (ahead ++ taken) given (Pulls-done ahead taken given p k d)
+
+pub near-from : {T E : Type 0} (r : Result (Option T) E) (size : T → ℕ) (most : ℕ) (p : Pulling) → IfOk r (λ answer. IfSome answer (λ batch. size batch ≡ most → p.earlier < p.given)) → IfOk r (λ answer. IfSome answer (λ batch. size batch ≡ most → (ahead taken : List ℕ) (given : List (List ℕ)) → Pulls ahead taken given p → IsNear ahead taken given))
+near-from (Ok None) size most p h = tt
+near-from (Ok (Some batch)) size most p h = λ e ahead taken given k. Pulls-near ahead taken given p k (h e)
+near-from (Err e) size most p h = tt

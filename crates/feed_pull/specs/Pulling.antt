@@ -28,6 +28,7 @@ pub record IsPulling (p : Pulling) : Type 0 where
   pub few : length p.waiting ≤ 64
   pub rest : IsRest p.cutting.rest
   pub found : p.cutting.packets ≡ p.given + length p.waiting
+  pub earlier : p.earlier ≤ p.given + length p.waiting
   pub bytes : bytes_taken p.cutting + length p.unread ≤ 65536 + p.taken
   pub piece : length p.unread ≤ 65536
   pub taken : p.taken ≤ 65536 * p.reads

@@ -41,6 +41,7 @@ pub record Gathers (before after : Option (List ℕ)) (old new : Pulling) : Type
 
 -- How reading goes before and after, and a source's content and its count of faults before and after. Once stopped it
 -- stays so, and the source is left alone. It ends where nothing is left. It fails where the count rose, and only there.
+-- While it goes on the count stands.
 pub record Follows (old new : Reading) (content left : Option (List ℕ)) (before after : ℕ) : Type 0 where
   pub stays : old ≢ Going → new ≡ old
   pub still : old ≢ Going → (left ≡ content) × (after ≡ before)
@@ -48,6 +49,7 @@ pub record Follows (old new : Reading) (content left : Option (List ℕ)) (befor
   pub later : before ≤ after
   pub fails : old ≡ Going → new ≡ Failed → before < after
   pub rose : before < after → new ≡ Failed
+  pub went : new ≡ Going → (old ≡ Going) × (after ≡ before)
 
 -- a measure of the reading that may still come
 abbrev pub to_read : Reading → ℕ → ℕ

@@ -5,6 +5,8 @@ mod fault;
 mod hand;
 mod piece;
 mod puller;
+#[cfg(test)]
+mod tests;
 
 pub use fault::PullFault;
 pub use puller::Puller;

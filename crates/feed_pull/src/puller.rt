@@ -4,7 +4,7 @@ ghost use Rattle.std.specs.Io.KnownBytes.{Consumes, IsAtEnd};
 ghost use Rattle.ts_packet.specs.Cut.{cut};
 ghost use Rattle.ts_packet.specs.Cutting.{IsTally};
 ghost use Rattle.feed_pull.specs.Pulling.{Pulling, IsPulling, Pulls, IsDone, IsNear, fault_of, given_by};
-ghost use Rattle.feed_pull.specs.Steps.{Goes, Gathers, Follows, work, HasGiven};
+ghost use Rattle.feed_pull.specs.Steps.{Goes, Gathers, Follows, work, HasGiven, Carries};
 
 use crate::fault::{PullFault, Reading};
 use crate::hand::Hand;
@@ -154,11 +154,11 @@ impl Puller {
     // Reads and cuts until as many packets wait as are asked for, or nothing is left.
     fn gather<S: Source>(&mut self, source: &mut S, most: u32)
         requires most { most ≤ 64 }
-        requires faults { S.faults source.old < 2 ^ 64 - 1 }
+        requires faults { self.old.reading ≡ Reading.Going → S.faults source.old < 2 ^ 64 - 1 }
         ensures gathers { Gathers (S.left source.old) (S.left source.new) self.old self.new }
         ensures follows { Follows self.old.reading self.new.reading (S.left source.old) (S.left source.new) (S.faults source.old) (S.faults source.new) }
         ensures fewer { length self.new.waiting < most → (self.new.unread ≡ []) × (self.new.reading ≢ Reading.Going) }
-        ensures late { self.old.earlier < self.old.given + most → self.new.earlier < self.old.given + most }
+        ensures late { self.old.earlier < self.old.given + most → self.new.earlier < self.new.given + most }
         ensures full { most ≤ length self.old.waiting → (S.left source.new ≡ S.left source.old) × (self.new ≡ self.old) }
     {
         let _ = &self.hand;
@@ -173,7 +173,10 @@ impl Puller {
         ensures gives { HasGiven (given_by result (λ batch. batch.value.packets)) self.old self.new }
         ensures first { IfOk result (λ answer. IfSome answer (λ batch. batch.value.first ≡ self.old.given)) }
         ensures count { IfOk result (λ answer. IfSome answer (λ batch. length batch.value.packets ≡ min most (length self.old.waiting))) }
+        ensures some { IfOk result (λ answer. IfSome answer (λ batch. 1 ≤ length batch.value.packets)) }
         ensures none { IfOk result (λ answer. IfNone answer (self.old.waiting ≡ [])) }
+        ensures late { self.old.earlier < self.old.given + most → IfOk result (λ _. self.new.earlier ≤ self.new.given) }
+        ensures whole { self.old.earlier < self.old.given + most → IfOk result (λ answer. IfSome answer (λ batch. length batch.value.packets ≡ most → self.new.earlier < self.new.given)) }
         ensures sound { IsPulling self.new }
     {
         let count = most.min(self.hand.len());
@@ -184,5 +187,66 @@ impl Puller {
         self.hand.pass(count);
         self.given += count as u64;
         Ok(Some(batch))
+    }
+
+    /// The next packets, as many as are asked for or as are left, 1 to 64. None exactly where reading has stopped and no
+    /// packet is left. Where memory is refused, all that was read and found stays for the next pull.
+    pub fn pull<S: Source>(
+        &mut self,
+        source: &mut S,
+        most: u32,
+    ) -> Result<Option<Arc<Batch>>, NoMemory>
+        requires some { 1 ≤ most }
+        requires few { most ≤ 64 }
+        // While reading goes on, the source's count of faults isn't at the end of its type.
+        requires faults { self.old.reading ≡ Reading.Going → S.faults source.old < 2 ^ 64 - 1 }
+        // The stream grows by just the bytes that the source gave, and what was given by the packets of this batch. After
+        // want of memory too nothing that was taken is lost.
+        ensures stream { Carries (S.left source.old) (S.left source.new) self.old (given_by result (λ batch. batch.value.packets)) self.new }
+        // What was given so far is the front of the stream's packets.
+        ensures front { (ahead taken : List ℕ) (given : List (List ℕ)) → Pulls ahead taken given self.new → (later : List (List ℕ)) × ((cut (ahead ++ taken)).packets ≡ given ++ later) }
+        // A batch's first number is the number of packets given before.
+        ensures first { IfOk result (λ answer. IfSome answer (λ batch. batch.value.first ≡ self.old.given)) }
+        ensures some { IfOk result (λ answer. IfSome answer (λ batch. 1 ≤ length batch.value.packets)) }
+        ensures most { IfOk result (λ answer. IfSome answer (λ batch. length batch.value.packets ≤ most)) }
+        // A batch has fewer packets than were asked for only where reading has stopped and nothing is left.
+        ensures fewer { IfOk result (λ answer. IfSome answer (λ batch. length batch.value.packets < most → IsDone self.new)) }
+        ensures none { IfOk result (λ answer. IfNone answer (IsDone self.new)) }
+        // At None all packets of the stream were given.
+        ensures all { IfOk result (λ answer. IfNone answer ((ahead taken : List ℕ) (given : List (List ℕ)) → Pulls ahead taken given self.new → (cut (ahead ++ taken)).packets ≡ given)) }
+        // Once reading has stopped it stays so. It ends where the source has nothing left, and fails where its count rose.
+        ensures follows { Follows self.old.reading self.new.reading (S.left source.old) (S.left source.new) (S.faults source.old) (S.faults source.new) }
+        ensures too_many { self.new.reading ≡ Reading.TooMany → 4294967296 ≤ self.new.start + self.new.taken }
+        ensures start { self.new.start ≡ self.old.start }
+        // Where enough packets wait, nothing is read.
+        ensures full { most ≤ length self.old.waiting → (S.left source.new ≡ S.left source.old) × (self.new.reads ≡ self.old.reads) }
+        ensures bytes { self.new.taken ≤ 281474976710656 }
+        ensures packets { (ahead taken : List ℕ) (given : List (List ℕ)) → Pulls ahead taken given self.new → 188 * length given ≤ length ahead + length taken }
+        // As long as no pull was refused memory, no packet waits that was found before the last read; so behind a whole
+        // batch stand at most 65,535 of the bytes taken.
+        ensures late { self.old.earlier ≤ self.old.given → IfOk result (λ _. self.new.earlier ≤ self.new.given) }
+        ensures near { self.old.earlier ≤ self.old.given → IfOk result (λ answer. IfSome answer (λ batch. length batch.value.packets ≡ most → (ahead taken : List ℕ) (given : List (List ℕ)) → Pulls ahead taken given self.new → IsNear ahead taken given)) }
+    {
+        self.gather(source, most);
+        self.give(most)
+    }
+
+    /// The fault that stopped reading, if one did.
+    pub fn fault(&self) -> Option<PullFault>
+        ensures { result ≡ fault_of self.now.reading }
+    {
+        match self.reading {
+            Reading::Going | Reading::Ended => None,
+            Reading::Failed => Some(PullFault::ReadFault),
+            Reading::TooMany => Some(PullFault::TooLong { turns: MOST_READS }),
+        }
+    }
+
+    /// The tally of the whole stream. A pull has answered None.
+    pub fn tally(&self) -> Tally
+        requires { IsDone self.now }
+        ensures { (ahead taken : List ℕ) (given : List (List ℕ)) → Pulls ahead taken given self.now → IsTally (cut (ahead ++ taken)) result }
+    {
+        self.cutter.finish()
     }
 }
