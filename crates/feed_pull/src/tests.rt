@@ -1,5 +1,5 @@
 // Streams in memory, pulled to their end.
-ghost use Rattle.std.specs.Prelude.{◌≡◌, ◌≤◌, ◌<◌, ◌-◌, ◌^◌};
+ghost use Rattle.std.specs.Prelude.{◌≡◌, ◌≤◌, ◌<◌, ◌-◌, ◌^◌, IfOk, vec_len};
 
 use crate::fault::Reading;
 use crate::{PullFault, Puller};
@@ -9,9 +9,11 @@ use std::test::Fail;
 use ts_packet::Tally;
 
 // So many bytes 00, but for 0x47 at each multiple of 188.
-fn bytes_of(alloc: Global, count: usize) -> Result<Vec<u8>, Fail> {
+fn bytes_of(alloc: Global, count: usize) -> Result<Vec<u8>, Fail>
+    ensures { IfOk result (λ bytes. vec_len bytes ≡ count) }
+{
     let mut bytes = Vec::new(alloc);
-    for at in 0..count {
+    'bytes: for at in 0..count {
         bytes.push(if at % 188 == 0 { 0x47 } else { 0 })?;
     }
     Ok(bytes)
@@ -91,7 +93,11 @@ fn batches_of_any_size_make_up_the_stream(rt: HostRuntime) -> Result<(), Fail> {
         let at = ahead.min(65_536).min(bytes.len());
         let mut source = MemSource::new(bytes[at..].to_vec(alloc)?, piece, Vec::new(alloc));
         let mut puller = Puller::new(alloc, bytes[..at].to_vec(alloc)?, 0)?;
-        assert_eq!(rt; pulled(&mut puller, &mut source)?, (1063, Some(end)), "{ahead} ahead");
+        assert_eq!(rt;
+            pulled(&mut puller, &mut source)?,
+            (1063, Some(end)),
+            "{ahead} ahead"
+        );
         assert_eq!(rt; puller.fault(), None);
     }
     Ok(())
