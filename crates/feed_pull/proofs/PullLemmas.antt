@@ -5,8 +5,8 @@ use Rattle.std.proofs.Math.Seq.{take-append_seam}
 use Rattle.std.proofs.lemmas.Bool.{cases_lt}
 use Rattle.std.proofs.KnownBytes.{Consumes-trans, Consumes-nil}
 use Rattle.std.specs.declared.option.Option.{Option}
-use Rattle.std.specs.Io.KnownBytes.{Consumes, IsAtEnd}
-use Rattle.ts_packet.specs.Cut.{Cut, cut, cut_after, join}
+use Rattle.std.specs.Io.KnownBytes.{IsAtEnd}
+use Rattle.ts_packet.specs.Cut.{cut}
 use Rattle.ts_packet.specs.Cutting.{Cutting, fresh, bytes_taken, IsRest, Cuts, IsTally}
 use Rattle.ts_packet.specs.declared.cutter.Tally.{Tally}
 use Rattle.ts_packet.proofs.CutLemmas.{cut-append, cut-rest, cut_after-is_rest, cut_after-size, Cuts-none, Cuts-then, length-grown, packets-then}

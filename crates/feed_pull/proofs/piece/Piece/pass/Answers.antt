@@ -1,5 +1,5 @@
-use Rattle.std.proofs.Common.{arith, ◌≡◌, ◌≤◌, ◌+◌, ◌-◌, drop, take, length, refl}
-use Rattle.std.proofs.lemmas.List.{drop-take, drop-drop, length-take, length-drop}
+use Rattle.std.proofs.Common.{arith, ◌≡◌, ◌≤◌, ◌+◌, ◌-◌, drop, refl}
+use Rattle.std.proofs.lemmas.List.{drop-take, drop-drop, length-take}
 use Rattle.feed_pull.proofs.piece.Piece.pass.Goals as goal
 
 pub returns : goal.returns

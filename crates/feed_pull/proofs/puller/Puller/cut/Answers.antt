@@ -1,4 +1,4 @@
-use Rattle.std.proofs.Common.{arith, rules, ◌≡◌, ◌≤◌, length, ap, ◌∙◌}
+use Rattle.std.proofs.Common.{◌≤◌, length}
 use Rattle.feed_pull.proofs.PullLemmas.{Goes-cut, IsPulling-cut}
 use Rattle.feed_pull.proofs.puller.Puller.cut.Goals as goal
 

@@ -1,6 +1,5 @@
-use Rattle.std.proofs.Common.{arith, rules, ◌≡◌, ◌+◌, ◌<◌, ◌≤◌, length, refl}
+use Rattle.std.proofs.Common.{arith, rules, ◌≡◌, ◌<◌, length, refl}
 use Rattle.feed_pull.proofs.PullLemmas.{Gathers-none, Gathers-then, Follows-none, Follows-then, most-waits}
-use Rattle.feed_pull.specs.Steps.{Gathers}
 use Rattle.feed_pull.proofs.puller.Puller.gather.Goals as goal
 
 pub gathering-init : goal.gathering-init

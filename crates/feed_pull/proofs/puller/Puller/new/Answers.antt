@@ -1,4 +1,4 @@
-use Rattle.std.proofs.Common.{◌≡◌, refl, ap, ◌∙◌, rules}
+use Rattle.std.proofs.Common.{refl, ◌∙◌}
 use Rattle.feed_pull.proofs.PullLemmas.{Pulls-new}
 use Rattle.feed_pull.proofs.puller.Puller.new.Goals as goal
 

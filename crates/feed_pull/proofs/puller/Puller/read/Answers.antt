@@ -1,5 +1,4 @@
-use Rattle.std.proofs.Common.{arith, rules, ◌≡◌, ◌+◌, [], length, refl, sym, ◌∙◌}
-use Rattle.std.specs.Io.KnownBytes.{Consumes}
+use Rattle.std.proofs.Common.{arith, ◌≡◌, [], refl, sym, ◌∙◌}
 use Rattle.std.proofs.KnownBytes.{Consumes-nil}
 use Rattle.feed_pull.proofs.PullLemmas.{Goes-same, Goes-read, empty-list}
 use Rattle.feed_pull.proofs.puller.Puller.read.Goals as goal
