@@ -13,7 +13,7 @@ use Rattle.ts_packet.proofs.CutLemmas.{cut-append, cut-rest, cut_after-is_rest, 
 use Rattle.feed_pull.specs.declared.fault.Reading.{Reading}
 use Rattle.feed_pull.specs.declared.fault.Reading.TheVariants.{Going, Ended, Failed, TooMany}
 use Rattle.feed_pull.specs.Pulling.{Pulling, IsPulling, Pulls, IsDone, IsNear}
-use Rattle.feed_pull.specs.Steps.{found_with, Reads, Goes, Gathers, Follows, HasGiven, Carries}
+use Rattle.feed_pull.specs.Steps.{found_with, Reads, Goes, Gathers, Follows, HasGiven, ReadsNothing, Carries}
 
 pub cut-is_rest : (xs : List ℕ) → IsRest (cut xs).rest
 unfolding cut
@@ -171,6 +171,9 @@ pub most-waits : (most : ℕ) (a b : Pulling) → b ≡ a → most ≤ length a.
 most-waits most a b e h lt =
     let n : length b.waiting ≡ length a.waiting = ap (λ (p : Pulling). length p.waiting) e in
     omega arith
+
+pub ReadsNothing-then : (a b c : Pulling) → ReadsNothing a b → ReadsNothing b c → ReadsNothing a c
+ReadsNothing-then a b c g h = record { taken = h.taken ∙ g.taken; reads = h.reads ∙ g.reads }
 
 pub going-cases : (r : Reading) → (r ≡ Going) ⊎ (r ≢ Going)
 going-cases Going = inl refl

@@ -33,6 +33,11 @@ pub record Goes (old : Pulling) (more : List ℕ) (new : Pulling) : Type 0 where
   pub taken : new.taken ≡ old.taken + length more
   pub last : ((more ≡ []) × (new.earlier ≡ old.earlier)) ⊎ Reads old more new.earlier
 
+-- no read was made
+pub record ReadsNothing (old new : Pulling) : Type 0 where
+  pub taken : new.taken ≡ old.taken
+  pub reads : new.reads ≡ old.reads
+
 -- the bytes that came were taken from a source that had this content before and after
 pub record Gathers (before after : Option (List ℕ)) (old new : Pulling) : Type 0 where
   pub more : List ℕ

@@ -4,7 +4,7 @@ ghost use Rattle.std.specs.Io.KnownBytes.{Consumes, IsAtEnd};
 ghost use Rattle.ts_packet.specs.Cut.{cut};
 ghost use Rattle.ts_packet.specs.Cutting.{IsTally};
 ghost use Rattle.feed_pull.specs.Pulling.{Pulling, IsPulling, Pulls, IsDone, IsNear, fault_of, given_by};
-ghost use Rattle.feed_pull.specs.Steps.{Goes, Gathers, Follows, work, HasGiven, Carries};
+ghost use Rattle.feed_pull.specs.Steps.{Goes, Gathers, Follows, work, HasGiven, ReadsNothing, Carries};
 
 use crate::fault::{PullFault, Reading};
 use crate::hand::Hand;
@@ -143,6 +143,7 @@ impl Puller {
         ensures follows { Follows self.old.reading self.new.reading (S.left source.old) (S.left source.new) (S.faults source.old) (S.faults source.new) }
         ensures less { work self.new < work self.old }
         ensures late { self.new.earlier ≤ max self.old.earlier (self.old.given + length self.old.waiting) }
+        ensures stopped { self.old.reading ≢ Reading.Going → ReadsNothing self.old self.new }
     {
         if self.is_cut() {
             self.read(source);
@@ -160,6 +161,7 @@ impl Puller {
         ensures fewer { length self.new.waiting < most → (self.new.unread ≡ []) × (self.new.reading ≢ Reading.Going) }
         ensures late { self.old.earlier < self.old.given + most → self.new.earlier < self.new.given + most }
         ensures full { most ≤ length self.old.waiting → (S.left source.new ≡ S.left source.old) × (self.new ≡ self.old) }
+        ensures stopped { self.old.reading ≢ Reading.Going → ReadsNothing self.old self.new }
     {
         let _ = &self.hand;
         'gathering: while self.waiting() < most && self.has_more() {
@@ -218,8 +220,9 @@ impl Puller {
         ensures follows { Follows self.old.reading self.new.reading (S.left source.old) (S.left source.new) (S.faults source.old) (S.faults source.new) }
         ensures too_many { self.new.reading ≡ Reading.TooMany → 4294967296 ≤ self.new.start + self.new.taken }
         ensures start { self.new.start ≡ self.old.start }
-        // Where enough packets wait, nothing is read.
-        ensures full { most ≤ length self.old.waiting → (S.left source.new ≡ S.left source.old) × (self.new.reads ≡ self.old.reads) }
+        // Where enough packets wait, or reading has stopped, nothing is read.
+        ensures full { most ≤ length self.old.waiting → (S.left source.new ≡ S.left source.old) × ReadsNothing self.old self.new }
+        ensures stopped { self.old.reading ≢ Reading.Going → ReadsNothing self.old self.new }
         ensures bytes { self.new.taken ≤ 281474976710656 }
         ensures packets { (ahead taken : List ℕ) (given : List (List ℕ)) → Pulls ahead taken given self.new → 188 * length given ≤ length ahead + length taken }
         // As long as no pull was refused memory, no packet waits that was found before the last read; so behind a whole

@@ -1,5 +1,5 @@
-use Rattle.std.proofs.Common.{arith, rules, ◌≡◌, ◌<◌, length, refl}
-use Rattle.feed_pull.proofs.PullLemmas.{Gathers-none, Gathers-then, Follows-none, Follows-then, most-waits}
+use Rattle.std.proofs.Common.{arith, rules, ◌≡◌, ◌<◌, length, refl, sym, ◌∙◌}
+use Rattle.feed_pull.proofs.PullLemmas.{Gathers-none, Gathers-then, Follows-none, Follows-then, ReadsNothing-then, most-waits}
 use Rattle.feed_pull.proofs.puller.Puller.gather.Goals as goal
 
 pub gathering-init : goal.gathering-init
@@ -8,6 +8,7 @@ gathering-init g c = record {
   follows = Follows-none c.args.self.now.reading _ _;
   late = λ h. h;
   full = λ _. (refl, refl);
+  stopped = λ _. record { taken = refl; reads = refl };
 }
 
 pub gathering-preserved : goal.gathering-preserved
@@ -21,4 +22,5 @@ gathering-preserved g c =
       follows = Follows-then c.args.self.now.reading c.gathering.self.reading c.step.new.self.reading _ _ _ _ _ _ i.follows s.follows;
       late = λ h. (let k = i.late h in omega (arith, s.late));
       full = λ h. absurd (most-waits c.args.most c.args.self.now c.gathering.self (i.full h).1 h room);
+      stopped = λ h. ReadsNothing-then c.args.self.now c.gathering.self c.step.new.self (i.stopped h) (s.stopped (λ e. h (sym (i.follows.stays h) ∙ e)));
     }
