@@ -17,7 +17,7 @@
 //! reads were made, as the bytes taken show. Once reading has stopped no source is read. The pulls take at most 2^48 bytes,
 //! and the packets given have no more bytes than the stream, also where the source doesn't tell its content.
 //! Behind the last packet of a batch that is as large as was asked for stand at most 65,535 of the bytes taken. This holds
-//! while no pull was refused memory: a pull that was has read for more packets than the next one may ask for.
+//! but for one case: a pull that was refused memory had asked for more packets, and so had read further.
 //!
 //! What is only tested: that memory isn't refused where there is enough of it.
 //!

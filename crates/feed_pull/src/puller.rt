@@ -225,10 +225,11 @@ impl Puller {
         ensures stopped { self.old.reading ≢ Reading.Going → ReadsNothing self.old self.new }
         ensures bytes { self.new.taken ≤ 281474976710656 }
         ensures packets { (ahead taken : List ℕ) (given : List (List ℕ)) → Pulls ahead taken given self.new → 188 * length given ≤ length ahead + length taken }
-        // As long as no pull was refused memory, no packet waits that was found before the last read; so behind a whole
-        // batch stand at most 65,535 of the bytes taken.
-        ensures late { self.old.earlier ≤ self.old.given → IfOk result (λ _. self.new.earlier ≤ self.new.given) }
-        ensures near { self.old.earlier ≤ self.old.given → IfOk result (λ answer. IfSome answer (λ batch. length batch.value.packets ≡ most → (ahead taken : List ℕ) (given : List (List ℕ)) → Pulls ahead taken given self.new → IsNear ahead taken given)) }
+        // Before the last read fewer than `most` packets were in hand, unless a pull that asked for more was refused memory
+        // since; so at most 65,535 of the bytes taken stand behind a batch of `most`. An answer begins this anew.
+        ensures late { self.old.earlier < self.old.given + most → IfOk result (λ _. self.new.earlier ≤ self.new.given) }
+        ensures asked { self.old.earlier < self.old.given + most → self.new.earlier < self.new.given + most }
+        ensures near { self.old.earlier < self.old.given + most → IfOk result (λ answer. IfSome answer (λ batch. length batch.value.packets ≡ most → (ahead taken : List ℕ) (given : List (List ℕ)) → Pulls ahead taken given self.new → IsNear ahead taken given)) }
     {
         self.gather(source, most);
         self.give(most)

@@ -12,7 +12,10 @@ pub returns-clause-packets : goal.returns-clause-packets
 returns-clause-packets g c = λ ahead taken given h. Pulls-size ahead taken given c.give.new.self h
 
 pub returns-clause-late : goal.returns-clause-late
-returns-clause-late g c = λ h. c.give.ensures.late (c.gather.ensures.late (omega (arith, c.requires.some)))
+returns-clause-late g c = λ h. c.give.ensures.late (c.gather.ensures.late h)
 
 pub returns-clause-near : goal.returns-clause-near
-returns-clause-near g c = λ h. near-from c.give.result (λ batch. length batch.value.packets) c.args.most c.give.new.self (c.give.ensures.whole (c.gather.ensures.late (omega (arith, c.requires.some))))
+returns-clause-near g c = λ h. near-from c.give.result (λ batch. length batch.value.packets) c.args.most c.give.new.self (c.give.ensures.whole (c.gather.ensures.late h))
+
+pub returns-clause-asked : goal.returns-clause-asked
+returns-clause-asked g c = λ h. (let k = c.gather.ensures.late h in omega (arith, c.give.ensures.gives.earlier, c.give.ensures.gives.given))
