@@ -209,6 +209,7 @@ impl Puller {
         ensures front { (ahead taken : List ℕ) (given : List (List ℕ)) → Pulls ahead taken given self.new → (later : List (List ℕ)) × ((cut (ahead ++ taken)).packets ≡ given ++ later) }
         // A batch's first number is the number of packets given before.
         ensures first { IfOk result (λ answer. IfSome answer (λ batch. batch.value.first ≡ self.old.given)) }
+        ensures given { self.new.given ≡ self.old.given + length (given_by result (λ batch. batch.value.packets)) }
         ensures some { IfOk result (λ answer. IfSome answer (λ batch. 1 ≤ length batch.value.packets)) }
         ensures most { IfOk result (λ answer. IfSome answer (λ batch. length batch.value.packets ≤ most)) }
         // A batch has fewer packets than were asked for only where reading has stopped and nothing is left.
@@ -224,6 +225,7 @@ impl Puller {
         ensures full { most ≤ length self.old.waiting → (S.left source.new ≡ S.left source.old) × ReadsNothing self.old self.new }
         ensures stopped { self.old.reading ≢ Reading.Going → ReadsNothing self.old self.new }
         ensures bytes { self.new.taken ≤ 281474976710656 }
+        ensures numbers { 188 * self.new.given ≤ 65536 + self.new.taken }
         ensures packets { (ahead taken : List ℕ) (given : List (List ℕ)) → Pulls ahead taken given self.new → 188 * length given ≤ length ahead + length taken }
         // Before the last read fewer than `most` packets were in hand, unless a pull that asked for more was refused memory
         // since; so at most 65,535 of the bytes taken stand behind a batch of `most`. An answer begins this anew.
