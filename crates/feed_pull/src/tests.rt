@@ -1,10 +1,12 @@
 // Streams in memory, pulled to their end.
-ghost use Rattle.std.specs.Prelude.{◌≡◌, ◌≤◌, ◌<◌, ◌-◌, ◌^◌, IfOk, vec_len};
+ghost use Rattle.std.specs.Prelude.{◌≡◌, ◌≤◌, ◌<◌, ◌-◌, ◌^◌, [], length, IfOk, IfSome, vec_len};
+ghost use Rattle.ts_packet.specs.Cut.{cut};
+ghost use Rattle.feed_pull.specs.Pulling.{Pulls, fault_of};
 
 use crate::fault::Reading;
 use crate::{PullFault, Puller};
 use emu_io::{MemSource, Source};
-use std::alloc::Global;
+use std::alloc::{AllocError as NoMemory, Global};
 use std::test::Fail;
 use ts_packet::Tally;
 
@@ -64,6 +66,21 @@ fn pulled(puller: &mut Puller, source: &mut MemSource) -> Result<(u32, Option<Ta
         }
     }
     Ok((packets, None))
+}
+
+// How many packets the stream of a puller has that has begun with no bytes ahead: where no fault stopped reading, those of
+// all that the source had.
+fn count_all<S: Source>(puller: &mut Puller, source: &mut S) -> Result<u64, NoMemory>
+    requires begins { Pulls [] [] [] puller.old }
+    requires going { puller.old.reading ≡ Reading.Going }
+    requires faults { S.faults source.old < 2 ^ 64 - 1 }
+    ensures { IfOk result (λ count. fault_of puller.new.reading ≡ None → IfSome (S.left source.old) (λ input. count ≡ length (cut input).packets)) }
+{
+    let mut count = 0u64;
+    'all: while let Some(batch) = puller.pull(source, 64)? {
+        count += batch.count() as u64;
+    }
+    Ok(count)
 }
 
 #[test]
@@ -140,5 +157,15 @@ fn no_read_is_made_behind_the_last(rt: HostRuntime) -> Result<(), Fail> {
     assert_eq!(rt; pulled(&mut puller, &mut source)?, (2, Some(end)));
     assert_eq!(rt; puller.fault(), Some(fault));
     assert_eq!(rt; left_of(&mut source), 1000);
+    Ok(())
+}
+
+#[test]
+fn all_packets_of_a_source_are_counted(rt: HostRuntime) -> Result<(), Fail> {
+    let alloc = rt.alloc();
+    let mut source = MemSource::new(bytes_of(alloc, 1000)?, 300, Vec::new(alloc));
+    let mut puller = Puller::new(alloc, Vec::new(alloc), 0)?;
+    // Five packets are 940 bytes.
+    assert_eq!(rt; count_all(&mut puller, &mut source)?, 5);
     Ok(())
 }
