@@ -1,0 +1,194 @@
+-- What the lines of a script ask for, word by word (this project's own).
+use Rattle.std.specs.Prelude.{ℕ, ◌≤◌, ◌==◌, Bool, true, List, [], ◌∷◌, Option, Some, None, Result, Ok, Err, if◌then◌else◌, codes}
+use Rattle.std.specs.Option.{option_map}
+use Rattle.dmx_calls.specs.declared.limits.TheConstants.{LARGEST_READ}
+use Rattle.dmx_calls.specs.declared.params.Input.{Input}
+use Rattle.dmx_calls.specs.declared.params.Input.TheVariants.{Frontend, Dvr as DvrInput}
+use Rattle.dmx_calls.specs.declared.params.Output.{Output}
+use Rattle.dmx_calls.specs.declared.params.Output.TheVariants.{Decoder, Tap, TsTap, TsdemuxTap}
+use Rattle.client_script.specs.Numbers.{number_between}
+use Rattle.client_script.specs.Words.{Reading, and_then, made, said, asked, word_in, is_word, words_of}
+use Rattle.client_script.specs.Places.{filter_in}
+use Rattle.client_script.specs.declared.fault.FaultKind.{FaultKind}
+use Rattle.client_script.specs.declared.fault.FaultKind.TheVariants.{Client, Command as NoCommand, Target as NoTarget, Number, Name, Count}
+use Rattle.client_script.specs.declared.names.CommandName.{CommandName}
+use Rattle.client_script.specs.declared.names.CommandName.TheVariants.{Open as OpenName, Close as CloseName, Section as SectionName, Pes as PesName, Add as AddName, Remove as RemoveName, Start as StartName, Stop as StopName, Size as SizeName, Read as ReadName, ReadWait as ReadWaitName, Drain as DrainName, Poll as PollName}
+use Rattle.client_script.specs.declared.line.Verb.{Verb}
+use Rattle.client_script.specs.declared.line.Verb.TheVariants.{Open, Close, Section, Pes, Add, Remove, Start, Stop, Size, Read, ReadWait, Drain, Poll}
+use Rattle.client_script.specs.declared.line.Target.{Target}
+use Rattle.client_script.specs.declared.line.Target.TheVariants.{Node, Slot, Dvr}
+use Rattle.client_script.specs.declared.line.Line.{Line}
+use Rattle.client_script.specs.declared.line.Line.TheVariants.{Feed, Tick, Command}
+
+-- ------ one word
+
+-- N: a number in a range
+unfoldable pub number_in : (least most : ℕ) → List (List ℕ) → Reading ℕ
+number_in least most words = asked Number (number_between least most) words
+
+-- PID: a number of 16 bits
+abbrev pub pid_in : List (List ℕ) → Reading ℕ
+pid_in words = number_in 0 65535 words
+
+-- TIMEOUT, TYPE, FLAGS and most N: a number of 32 bits
+abbrev pub count_in : List (List ℕ) → Reading ℕ
+count_in words = number_in 0 4294967295 words
+
+-- INPUT: where a filter's packets come from
+unfoldable pub input_named : List ℕ → Option Input
+input_named word =
+    if is_word word (codes "frontend") then Some Frontend
+    else (if is_word word (codes "dvr") then Some DvrInput else None)
+
+-- OUTPUT: where its items go
+unfoldable pub output_named : List ℕ → Option Output
+output_named word =
+    if is_word word (codes "decoder") then Some Decoder
+    else (if is_word word (codes "tap") then Some Tap
+    else (if is_word word (codes "ts_tap") then Some TsTap
+    else (if is_word word (codes "tsdemux_tap") then Some TsdemuxTap else None)))
+
+-- the client of a word `c0` to `c7`; the letter is byte 99
+unfoldable pub client_of : List ℕ → Option ℕ
+client_of (letter ∷ number) = if letter == 99 then number_between 0 7 number else None
+client_of [] = None
+
+-- the node of a word `n0` to `n31`, or the slot of a word `h0` to `h31`; the letters are the bytes 110 and 104
+unfoldable pub numbered_target : List ℕ → Option Target
+numbered_target (letter ∷ number) =
+    if letter == 110 then option_map Node (number_between 0 31 number)
+    else (if letter == 104 then option_map Slot (number_between 0 31 number) else None)
+numbered_target [] = None
+
+-- a target: one of these, or `dvr`
+unfoldable pub target_of : List ℕ → Option Target
+target_of word = if is_word word (codes "dvr") then Some Dvr else numbered_target word
+
+-- the command of this name
+unfoldable pub name_of : List ℕ → Option CommandName
+name_of word =
+    if is_word word (codes "open") then Some OpenName
+    else (if is_word word (codes "close") then Some CloseName
+    else (if is_word word (codes "section") then Some SectionName
+    else (if is_word word (codes "pes") then Some PesName
+    else (if is_word word (codes "add") then Some AddName
+    else (if is_word word (codes "remove") then Some RemoveName
+    else (if is_word word (codes "start") then Some StartName
+    else (if is_word word (codes "stop") then Some StopName
+    else (if is_word word (codes "size") then Some SizeName
+    else (if is_word word (codes "read") then Some ReadName
+    else (if is_word word (codes "readw") then Some ReadWaitName
+    else (if is_word word (codes "drain") then Some DrainName
+    else (if is_word word (codes "poll") then Some PollName else None))))))))))))
+
+-- ------ what stands behind a command's target
+
+-- `PID TIMEOUT FLAGS BYTE*`
+unfoldable pub section_in : List (List ℕ) → Reading Verb
+section_in words =
+    and_then (pid_in words) (λ pid words.
+    and_then (count_in words) (λ timeout words.
+    and_then (count_in words) (λ flags words.
+    and_then (filter_in words) (λ filter words.
+    Ok (Section (record { pid = pid; filter = filter; timeout = timeout; flags = flags }), words)))))
+
+-- `PID INPUT OUTPUT TYPE FLAGS`
+unfoldable pub pes_in : List (List ℕ) → Reading Verb
+pes_in words =
+    and_then (pid_in words) (λ pid words.
+    and_then (asked Name input_named words) (λ input words.
+    and_then (asked Name output_named words) (λ output words.
+    and_then (count_in words) (λ pes_type words.
+    and_then (count_in words) (λ flags words.
+    Ok (Pes (record { pid = pid; input = input; output = output; pes_type = pes_type; flags = flags }), words))))))
+
+-- what each command wants behind its target
+unfoldable pub verb_in : CommandName → List (List ℕ) → Reading Verb
+verb_in OpenName words = Ok (Open, words)
+verb_in CloseName words = Ok (Close, words)
+verb_in SectionName words = section_in words
+verb_in PesName words = pes_in words
+verb_in AddName words = made Add (pid_in words)
+verb_in RemoveName words = made Remove (pid_in words)
+verb_in StartName words = Ok (Start, words)
+verb_in StopName words = Ok (Stop, words)
+verb_in SizeName words = made Size (count_in words)
+verb_in ReadName words = made Read (number_in 0 LARGEST_READ words)
+verb_in ReadWaitName words = made ReadWait (number_in 0 LARGEST_READ words)
+verb_in DrainName words = made Drain (number_in 0 LARGEST_READ words)
+verb_in PollName words = Ok (Poll, words)
+
+-- ------ lines
+
+-- what stands behind the client: the command, its target, and what the command wants
+unfoldable pub command_in : (line client : ℕ) → List (List ℕ) → Reading Line
+command_in line client words =
+    and_then (asked NoCommand name_of words) (λ name words.
+    and_then (asked NoTarget target_of words) (λ target words.
+    and_then (verb_in name words) (λ verb words.
+    Ok (Command line client target verb, words))))
+
+-- `feed N`, `tick N`, or a client's command
+unfoldable pub line_in : (line : ℕ) → List (List ℕ) → Reading Line
+line_in line words =
+    and_then (word_in words) (λ first words.
+    if is_word first (codes "feed") then made Feed (number_in 1 4294967295 words)
+    else (if is_word first (codes "tick") then made Tick (count_in words)
+    else and_then (said Client (client_of first) words) (λ client words. command_in line client words)))
+
+-- a value behind which no word is left; a word too many is a fault of the count
+abbrev pub alone : {A : Type 0} → A → List (List ℕ) → Result A FaultKind
+alone value [] = Ok value
+alone value (word ∷ words) = Err Count
+
+abbrev pub whole : {A : Type 0} → Reading A → Result A FaultKind
+whole (Ok read) = alone read.0 read.1
+whole (Err kind) = Err kind
+
+-- what a whole line asks for: no word is left behind it
+unfoldable pub line_of : (line : ℕ) → List ℕ → Result Line FaultKind
+line_of line bytes = whole (line_in line (words_of bytes))
+
+-- a line that is passed over: it is empty or a comment, whose first byte is `#`
+abbrev pub is_passed_over : List ℕ → Bool
+is_passed_over [] = true
+is_passed_over (byte ∷ bytes) = byte == 35
+
+-- what a line asks for, if anything
+abbrev pub some_asked : Result Line FaultKind → Result (Option Line) FaultKind
+some_asked (Ok asked) = Ok (Some asked)
+some_asked (Err kind) = Err kind
+
+-- What the line of this number means: nothing, what it asks for, or the kind of its fault.
+unfoldable pub meaning : (line : ℕ) → List ℕ → Result (Option Line) FaultKind
+meaning line bytes = if is_passed_over bytes then Ok None else some_asked (line_of line bytes)
+
+-- ------ ranges
+
+-- the ranges of a verb's numbers
+abbrev pub IsVerbInRange : Verb → Type 0
+IsVerbInRange (Section p) = (p.pid ≤ 65535) × (p.timeout ≤ 4294967295) × (p.flags ≤ 4294967295)
+IsVerbInRange (Pes p) = (p.pid ≤ 65535) × (p.pes_type ≤ 4294967295) × (p.flags ≤ 4294967295)
+IsVerbInRange (Add pid) = pid ≤ 65535
+IsVerbInRange (Remove pid) = pid ≤ 65535
+IsVerbInRange (Size n) = n ≤ 4294967295
+IsVerbInRange (Read n) = n ≤ LARGEST_READ
+IsVerbInRange (ReadWait n) = n ≤ LARGEST_READ
+IsVerbInRange (Drain n) = n ≤ LARGEST_READ
+IsVerbInRange Open = Unit {0}
+IsVerbInRange Close = Unit {0}
+IsVerbInRange Start = Unit {0}
+IsVerbInRange Stop = Unit {0}
+IsVerbInRange Poll = Unit {0}
+
+-- there are 32 nodes and 32 slots
+abbrev pub IsTargetInRange : Target → Type 0
+IsTargetInRange (Node n) = n ≤ 31
+IsTargetInRange (Slot n) = n ≤ 31
+IsTargetInRange Dvr = Unit {0}
+
+-- The ranges of a line: there are 8 clients, and 1,048,576 bytes have no more lines.
+abbrev pub IsInRange : Line → Type 0
+IsInRange (Feed n) = (1 ≤ n) × (n ≤ 4294967295)
+IsInRange (Tick n) = n ≤ 4294967295
+IsInRange (Command line client target verb) = (1 ≤ line) × (line ≤ 1048576) × (client ≤ 7) × IsTargetInRange target × IsVerbInRange verb

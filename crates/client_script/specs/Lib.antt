@@ -1,0 +1,7 @@
+pub mod Examples
+pub mod Grammar
+pub mod Numbers
+pub mod Places
+pub mod Script
+pub mod Spelling
+pub mod Words

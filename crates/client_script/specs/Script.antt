@@ -1,0 +1,111 @@
+-- The lines of a script, and how a session's input falls into a script and a stream (this project's own).
+use Rattle.std.specs.Prelude.{◌≡◌, ℕ, ◌+◌, ◌≤◌, ◌==◌, Bool, List, [], ◌∷◌, ◌++◌, length, take, drop, max, fold, Option, Some, None, Result, Ok, Err, if◌then◌else◌, codes}
+use Rattle.std.specs.List.{All, slice_split, count_by}
+use Rattle.std.specs.Option.{option_map}
+use Rattle.client_script.specs.Words.{is_word}
+use Rattle.client_script.specs.Grammar.{meaning, IsInRange}
+use Rattle.client_script.specs.declared.fault.FaultKind.{FaultKind}
+use Rattle.client_script.specs.declared.fault.FaultKind.TheVariants.{NoStream}
+use Rattle.client_script.specs.declared.fault.ScriptFault.{ScriptFault}
+use Rattle.client_script.specs.declared.fault.ScriptError.{ScriptError}
+use Rattle.client_script.specs.declared.fault.ScriptError.TheVariants.{Fault, NoMemory}
+use Rattle.client_script.specs.declared.line.Line.{Line}
+use Rattle.client_script.specs.declared.line.Line.TheVariants.{Feed, Tick, Command}
+
+-- ------ lines
+
+-- the pieces without the last one
+abbrev pub without_last : List (List ℕ) → List (List ℕ)
+without_last [] = []
+without_last (piece ∷ []) = []
+without_last (piece ∷ next ∷ more) = piece ∷ without_last (next ∷ more)
+
+-- The whole lines of these bytes, each without the line feed that ends it, byte 10. What stands behind the last line feed
+-- is no whole line.
+abbrev pub whole_lines : List ℕ → List (List ℕ)
+whole_lines bytes = without_last (slice_split (λ byte. byte == 10) bytes)
+
+-- the line that ends a script
+abbrev pub is_stream : List ℕ → Bool
+is_stream line = is_word line (codes "stream")
+
+-- ------ the grammar
+
+-- the lines of a script, or its first fault
+abbrev pub Parsed : Type 0
+Parsed = Result (List Line) ScriptFault
+
+-- what a line asks for, if anything
+abbrev pub lines_of : Option Line → List Line
+lines_of None = []
+lines_of (Some asked) = asked ∷ []
+
+-- what a line means, in front of what the lines behind it mean; its fault goes before theirs
+abbrev pub before : (line : ℕ) → Result (Option Line) FaultKind → Parsed → Parsed
+before line (Err kind) behind = Err (record { line = line; kind = kind })
+before line (Ok asked) (Ok lines) = Ok (lines_of asked ++ lines)
+before line (Ok asked) (Err fault) = Err fault
+
+-- What whole lines mean, up to the line `stream`, where the first of them has this number; and `missing` where none of
+-- them is the line `stream` and none has a fault.
+unfoldable pub lines_from : (missing : ScriptFault) → (line : ℕ) → List (List ℕ) → Parsed
+lines_from missing line [] = Err missing
+lines_from missing line (bytes ∷ more) =
+    if is_stream bytes then Ok [] else before line (meaning line bytes) (lines_from missing (line + 1) more)
+
+-- The lines of a script, in their order, or its first fault. Lines are numbered from 1. Where none is the line `stream`,
+-- and none has a fault, the fault is in the line 1 plus the number of line feeds.
+unfoldable pub grammar : List ℕ → Parsed
+grammar bytes =
+    let missing : ScriptFault = record { line = 1 + count_by (λ byte. byte == 10) bytes; kind = NoStream } in
+    lines_from missing 1 (whole_lines bytes)
+
+-- ------ what is known of a script
+
+-- how many bytes of an input are searched for its script
+abbrev pub most_bytes : ℕ
+most_bytes = 1048576
+
+-- no more lines than bytes are searched, each in the ranges of the grammar
+pub record IsScript (lines : List Line) : Type 0 where
+  pub few : length lines ≤ most_bytes
+  pub ranges : All IsInRange lines
+
+-- how many clients there are up to the one that a line names, if it names one
+abbrev pub clients_of : Line → ℕ
+clients_of (Feed n) = 0
+clients_of (Tick n) = 0
+clients_of (Command line client target verb) = client + 1
+
+-- how many clients a script has: 1 plus the highest that it names, or 0
+abbrev pub clients_in : List Line → ℕ
+clients_in lines = fold (λ most line. max most (clients_of line)) 0 lines
+
+-- a script was read as the grammar says, unless memory was refused
+abbrev pub IsRead : Result (List Line) ScriptError → Parsed → Type 0
+IsRead (Ok lines) parsed = parsed ≡ Ok lines
+IsRead (Err (Fault fault)) parsed = parsed ≡ Err fault
+IsRead (Err NoMemory) parsed = Unit {0}
+
+-- ------ the input of a session
+
+-- a script part, and the stream behind its line `stream`, if it has that line
+pub record Parts : Type 0 where
+  pub script : List ℕ
+  pub stream : Option (List ℕ)
+
+-- how many bytes there are up to and with the first line `stream` of these whole lines
+abbrev pub script_len : List (List ℕ) → Option ℕ
+script_len [] = None
+script_len (line ∷ lines) =
+    if is_stream line then Some (length line + 1) else option_map (λ n. length line + 1 + n) (script_len lines)
+
+-- an input whose script has so many bytes; without a line `stream` all that was searched is the script part
+abbrev pub parted : List ℕ → Option ℕ → Parts
+parted input (Some n) = record { script = take n input; stream = Some (drop n input) }
+parted input None = record { script = take most_bytes input; stream = None }
+
+-- A session's input: its script part, up to and with the first whole line `stream` among the bytes that are searched, and
+-- the stream behind that.
+unfoldable pub split : List ℕ → Parts
+split input = parted input (script_len (whole_lines (take most_bytes input)))

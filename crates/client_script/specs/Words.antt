@@ -1,0 +1,46 @@
+-- The words of a line, and what words in their places spell (this project's own).
+use Rattle.std.specs.Prelude.{◌≡◌, ℕ, ◌==◌, Bool, List, [], ◌∷◌, Option, Some, None, Result, Ok, Err, nat_eq}
+use Rattle.std.specs.List.{slice_split}
+use Rattle.std.specs.Cmp.Lexicographic.{pointwise}
+use Rattle.client_script.specs.declared.fault.FaultKind.{FaultKind}
+use Rattle.client_script.specs.declared.fault.FaultKind.TheVariants.{Count}
+
+-- the words of a line: it is split at each single space, byte 32
+abbrev pub words_of : List ℕ → List (List ℕ)
+words_of line = slice_split (λ byte. byte == 32) line
+
+-- whether a word is this text
+abbrev pub is_word : (word text : List ℕ) → Bool
+is_word word text = pointwise nat_eq word text
+
+-- what the words at the front spell, with the words behind them; or the kind of the first fault
+abbrev pub Reading : Type 0 → Type 0
+Reading A = Result (A × List (List ℕ)) FaultKind
+
+-- what follows from the value that was spelled and from the words behind it; a fault stays the first
+abbrev pub and_then : {A B : Type 0} → Reading A → (A → List (List ℕ) → Reading B) → Reading B
+and_then (Ok read) next = next read.0 read.1
+and_then (Err kind) next = Err kind
+
+-- the same value under a name
+abbrev pub made : {A B : Type 0} → (A → B) → Reading A → Reading B
+made name reading = and_then reading (λ value words. Ok (name value, words))
+
+-- the value that a word spells; where it spells none, the fault is of this kind
+abbrev pub said : {A : Type 0} → FaultKind → Option A → (behind : List (List ℕ)) → Reading A
+said kind (Some value) behind = Ok (value, behind)
+said kind None behind = Err kind
+
+-- the word in the next place; a missing word is a fault of the count
+unfoldable pub word_in : List (List ℕ) → Reading (List ℕ)
+word_in [] = Err Count
+word_in (word ∷ words) = Ok (word, words)
+
+-- what the word in the next place spells, as that place asks; where it spells nothing of the sort, the fault is of this kind
+abbrev pub asked : {A : Type 0} → FaultKind → (spelled : List ℕ → Option A) → List (List ℕ) → Reading A
+asked kind spelled words = and_then (word_in words) (λ word words. said kind (spelled word) words)
+
+-- a reader has answered as the definition says, and has left the words behind what it read
+abbrev pub Reads : {A : Type 0} → Result A FaultKind → (left : List (List ℕ)) → Reading A → Type 0
+Reads (Ok value) left reading = reading ≡ Ok (value, left)
+Reads (Err kind) left reading = reading ≡ Err kind

@@ -1,0 +1,46 @@
+// Worked examples: what the grammar gives for lines and scripts that were worked out by hand from the rules. Each is a
+// clause of a function that does nothing, so the check computes it.
+
+ghost use Rattle.client_script.specs.Examples.{PassedOver, FeedsAndTicks, Commands, PesFilter, SectionFilter, ClientFaults, CommandFaults, TargetFaults, NumberFaults, NameFaults, BytesFaults, CountFaults, ThirdLine, LinesBehindTheStream, NoBytes, LineWithoutItsEnd, FaultBeforeTheEnd, InputWithAStream, InputWithoutAStream, Spellings, SectionSpelling, PesSpelling};
+
+/// What lines ask for.
+pub fn lines()
+    ensures passed_over { PassedOver }
+    ensures feeds_and_ticks { FeedsAndTicks }
+    ensures commands { Commands }
+    ensures pes_filter { PesFilter }
+    ensures section_filter { SectionFilter }
+{}
+
+/// The kinds of faults.
+pub fn kinds()
+    ensures client { ClientFaults }
+    ensures command { CommandFaults }
+    ensures target { TargetFaults }
+    ensures number { NumberFaults }
+    ensures name { NameFaults }
+    ensures bytes { BytesFaults }
+    ensures count { CountFaults }
+{}
+
+/// Whole scripts.
+pub fn scripts()
+    ensures third_line { ThirdLine }
+    ensures lines_behind_the_stream { LinesBehindTheStream }
+    ensures no_bytes { NoBytes }
+    ensures line_without_its_end { LineWithoutItsEnd }
+    ensures fault_before_the_end { FaultBeforeTheEnd }
+{}
+
+/// Whole inputs.
+pub fn inputs()
+    ensures with_a_stream { InputWithAStream }
+    ensures without_a_stream { InputWithoutAStream }
+{}
+
+/// Spellings.
+pub fn spellings()
+    ensures lines { Spellings }
+    ensures section { SectionSpelling }
+    ensures pes { PesSpelling }
+{}

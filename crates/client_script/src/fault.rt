@@ -1,0 +1,52 @@
+// Why a script isn't read.
+ghost use Rattle.std.specs.Prelude.{◌≡◌};
+ghost use Rattle.client_script.specs.declared.fault.ScriptError.TheVariants.{NoMemory as WantOfMemory};
+
+use std::alloc::AllocFailed;
+
+/// What a script's first fault is.
+#[derive(Clone, Copy, Debug, PartialEq, Eq, Drop)]
+pub enum FaultKind {
+    /// The first word is none of `feed`, `tick` and `c0` to `c7`.
+    Client,
+    /// The second word is no command.
+    Command,
+    /// A word in the place of a target is none.
+    Target,
+    /// A word in the place of a number is none, or one out of range.
+    Number,
+    /// A word in the place of an input or an output is no name of one.
+    Name,
+    /// A word in the place of a filter's bytes spells none, or names a place that isn't above the one before.
+    Bytes,
+    /// A word is missing, or there is one too many.
+    Count,
+    /// No line is `stream`.
+    NoStream,
+}
+
+/// A script's first fault, and the number of its line.
+#[derive(Clone, Copy, Debug, PartialEq, Eq, Drop)]
+pub struct ScriptFault {
+    /// The line, from 1 on; for `NoStream` the line behind the last whole one.
+    pub line: u32,
+    /// What is wrong.
+    pub kind: FaultKind,
+}
+
+/// Why a script isn't read.
+#[derive(Clone, Copy, Debug, PartialEq, Eq, Drop)]
+pub enum ScriptError {
+    /// The script has a fault.
+    Fault(ScriptFault),
+    /// Memory was refused.
+    NoMemory,
+}
+
+impl<T: Drop> From<AllocFailed<T>> for ScriptError {
+    ghost from_gives = { λ _ e. e ≡ WantOfMemory };
+
+    fn from(_e: AllocFailed<T>) -> ScriptError {
+        ScriptError::NoMemory
+    }
+}

@@ -1,0 +1,49 @@
+//! The script language of sessions: its grammar, and a reader of whole scripts.
+//!
+//! A script is lines of words, up to the line `stream`; behind that line the stream of the session begins. Lines say how
+//! many packets pass (`feed`), how much time goes by (`tick`), and what the clients `c0` to `c7` ask of the demux nodes
+//! `n0` to `n31`, of their slots `h0` to `h31` and of the dvr node. Empty lines and comments (`#`) are passed over.
+//!
+//! What a contract sees: a `Script` as the list of its lines, each a `Line` of the code, and a fault as its line and kind.
+//! The grammar is `grammar` of `specs/Script.antt`: from bytes to the lines or to the first fault. It stands on `meaning`
+//! of one line (`specs/Grammar.antt`), where each word is asked for by its place (`specs/Words.antt`, `specs/Places.antt`).
+//! The first word that isn't what its place asks names the kind of the fault; a missing word and a word too many are
+//! `Count`. A line has one `spelling` (`specs/Spelling.antt`). `split` says how a session's input falls into its script
+//! part and its stream.
+//!
+//! What is proved: `Script::read` answers just the lines or the fault that `grammar` gives, unless memory is refused. A
+//! script has at most 1,048,576 lines, each with its client, its target and its numbers in the ranges of the grammar
+//! (`IsScript`, which `Script::lines` tells). `Script::clients` is 1 plus the highest client that a line names, or 0.
+//! `print` appends the spelling of a line, and where memory is refused the bytes are as they were. What the grammar gives
+//! for lines and scripts worked out by hand are the clauses of `examples`, computed by the check. The law
+//! `nothing_behind_the_stream_is_examined` is about the definitions alone: the script part has the lines, or the fault, of
+//! all bytes that are searched for it.
+//!
+//! What is only tested: that reading a spelling gives its line again; that memory isn't refused where there is enough.
+//!
+//! Limits: at most 1,048,576 bytes are read, each a few times. Memory is taken for the lines alone; words are read where
+//! they stand. `print` takes memory for its text.
+//!
+//! The language is this project's own. What the commands ask of a node are the calls of `dmx_calls`.
+#![tactic(auto)]
+
+pub mod examples;
+mod fault;
+mod laws;
+mod line;
+mod names;
+mod number;
+mod pieces;
+mod places;
+mod script;
+mod spelling;
+#[cfg(test)]
+mod tests;
+mod verbs;
+mod words;
+
+pub use fault::{FaultKind, ScriptError, ScriptFault};
+pub use laws::nothing_behind_the_stream_is_examined;
+pub use line::{Line, Target, Verb};
+pub use script::Script;
+pub use spelling::print;

@@ -1,0 +1,65 @@
+// The lines of a script.
+
+use dmx_calls::{PesParams, SectionParams};
+
+/// What a command is for.
+#[derive(Clone, Copy, Debug, PartialEq, Eq, Drop)]
+pub enum Target {
+    /// A demux node, 0 to 31.
+    Node(u32),
+    /// The demux node that a slot of the client is bound to; the slots are 0 to 31.
+    Slot(u32),
+    /// The dvr node.
+    Dvr,
+}
+
+/// What a client asks of a node.
+#[derive(Clone, Copy, Debug, PartialEq, Eq, Drop)]
+pub enum Verb {
+    /// Takes the node, or for a slot the first one that is free.
+    Open,
+    /// Gives the node back.
+    Close,
+    /// Sets a section filter.
+    Section(SectionParams),
+    /// Sets a PES filter.
+    Pes(PesParams),
+    /// Adds a PID to a PES filter.
+    Add(u16),
+    /// Removes a PID from a PES filter.
+    Remove(u16),
+    /// Starts the filter.
+    Start,
+    /// Stops the filter.
+    Stop,
+    /// Sets the size of the buffer, in bytes.
+    Size(u32),
+    /// Reads at most so many bytes.
+    Read(u32),
+    /// Reads at most so many bytes, and waits until there are some.
+    ReadWait(u32),
+    /// Reads at most so many bytes at a time, until there are no more.
+    Drain(u32),
+    /// Asks whether there is something to read.
+    Poll,
+}
+
+/// What a line of a script asks for.
+#[derive(Clone, Copy, Debug, PartialEq, Eq, Drop)]
+pub enum Line {
+    /// So many packets pass.
+    Feed(u32),
+    /// So many milliseconds go by.
+    Tick(u32),
+    /// A client makes a command.
+    Command {
+        /// The number of the line, from 1 on.
+        line: u32,
+        /// The client, 0 to 7.
+        client: u32,
+        /// What the command is for.
+        target: Target,
+        /// What is asked of it.
+        verb: Verb,
+    },
+}

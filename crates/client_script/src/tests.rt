@@ -1,0 +1,646 @@
+// Lines and what they ask for, scripts and what they give, and faults, worked out by hand from the rules.
+use crate::{FaultKind, Line, Script, ScriptError, ScriptFault, Target, Verb, print};
+use dmx_calls::{Input, Output, PesParams, SectionParams};
+use filter_match::SectionFilter;
+use std::alloc::Global;
+use std::process::Abort;
+use std::test::Fail;
+
+// How many bytes a script has at most.
+const MOST_BYTES: usize = 1_048_576;
+
+// What the first line of a script asks for, where a client makes it.
+const fn command(client: u32, target: Target, verb: Verb) -> Line {
+    Line::Command {
+        line: 1,
+        client,
+        target,
+        verb,
+    }
+}
+
+// Lines of the feeder and the clock, and commands with one argument or none.
+const SHORT: [(&[u8], Line); 20] = [
+    (b"feed 1", Line::Feed(1)),
+    (b"feed 4294967295", Line::Feed(4294967295)),
+    (b"tick 0", Line::Tick(0)),
+    (b"tick 4294967295", Line::Tick(4294967295)),
+    (
+        b"c0 open n0",
+        Line::Command {
+            line: 1,
+            client: 0,
+            target: Target::Node(0),
+            verb: Verb::Open,
+        },
+    ),
+    (
+        b"c1 open n31",
+        Line::Command {
+            line: 1,
+            client: 1,
+            target: Target::Node(31),
+            verb: Verb::Open,
+        },
+    ),
+    (
+        b"c2 open h0",
+        Line::Command {
+            line: 1,
+            client: 2,
+            target: Target::Slot(0),
+            verb: Verb::Open,
+        },
+    ),
+    (
+        b"c3 close h31",
+        Line::Command {
+            line: 1,
+            client: 3,
+            target: Target::Slot(31),
+            verb: Verb::Close,
+        },
+    ),
+    (
+        b"c4 close dvr",
+        Line::Command {
+            line: 1,
+            client: 4,
+            target: Target::Dvr,
+            verb: Verb::Close,
+        },
+    ),
+    (
+        b"c5 start n9",
+        Line::Command {
+            line: 1,
+            client: 5,
+            target: Target::Node(9),
+            verb: Verb::Start,
+        },
+    ),
+    (
+        b"c6 stop h10",
+        Line::Command {
+            line: 1,
+            client: 6,
+            target: Target::Slot(10),
+            verb: Verb::Stop,
+        },
+    ),
+    (
+        b"c7 poll dvr",
+        Line::Command {
+            line: 1,
+            client: 7,
+            target: Target::Dvr,
+            verb: Verb::Poll,
+        },
+    ),
+    (
+        b"c0 add n0 0",
+        Line::Command {
+            line: 1,
+            client: 0,
+            target: Target::Node(0),
+            verb: Verb::Add(0),
+        },
+    ),
+    (
+        b"c0 add n0 65535",
+        Line::Command {
+            line: 1,
+            client: 0,
+            target: Target::Node(0),
+            verb: Verb::Add(65535),
+        },
+    ),
+    (
+        b"c0 remove n0 8192",
+        Line::Command {
+            line: 1,
+            client: 0,
+            target: Target::Node(0),
+            verb: Verb::Remove(8192),
+        },
+    ),
+    (
+        b"c0 size n0 4294967295",
+        Line::Command {
+            line: 1,
+            client: 0,
+            target: Target::Node(0),
+            verb: Verb::Size(4294967295),
+        },
+    ),
+    (
+        b"c0 read n0 0",
+        Line::Command {
+            line: 1,
+            client: 0,
+            target: Target::Node(0),
+            verb: Verb::Read(0),
+        },
+    ),
+    (
+        b"c0 read n0 65536",
+        Line::Command {
+            line: 1,
+            client: 0,
+            target: Target::Node(0),
+            verb: Verb::Read(65536),
+        },
+    ),
+    (
+        b"c0 readw h1 65536",
+        Line::Command {
+            line: 1,
+            client: 0,
+            target: Target::Slot(1),
+            verb: Verb::ReadWait(65536),
+        },
+    ),
+    (
+        b"c0 drain dvr 4096",
+        Line::Command {
+            line: 1,
+            client: 0,
+            target: Target::Dvr,
+            verb: Verb::Drain(4096),
+        },
+    ),
+];
+
+const CLIENT_FAULTS: [&[u8]; 12] = [
+    b" ",
+    b"c8 open n0",
+    b"c open n0",
+    b"c00 open n0",
+    b"C0 open n0",
+    b"d0 open n0",
+    b"feeds 1",
+    b" feed 1",
+    b" # feed 1",
+    b"stream ",
+    b"streams",
+    b"c8 strat n32",
+];
+
+const COMMAND_FAULTS: [&[u8]; 7] = [
+    b"c0  open n0",
+    b"c0 strat n0",
+    b"c0 Open n0",
+    b"c0 ",
+    b"c0 feed 1",
+    b"c0 strat",
+    b"c0 strat n32 x",
+];
+
+const TARGET_FAULTS: [&[u8]; 9] = [
+    b"c0 open n32",
+    b"c0 open h32",
+    b"c0 open n",
+    b"c0 open n00",
+    b"c0 open N0",
+    b"c0 open dvr0",
+    b"c0 open  n0",
+    b"c0 read m0 65537",
+    b"c0 open n32 x",
+];
+
+const NUMBER_FAULTS: [&[u8]; 21] = [
+    b"feed 0",
+    b"feed 4294967296",
+    b"feed 01",
+    b"feed +1",
+    b"feed ",
+    b"feed 0 1",
+    b"tick 4294967296",
+    b"tick 0x1",
+    b"c0 read n0 65537",
+    b"c0 readw n0 65537",
+    b"c0 drain n0 65537",
+    b"c0 add n0 65536",
+    b"c0 remove n0 65536",
+    b"c0 size n0 4294967296",
+    b"c0 section n0 65536 0 0",
+    b"c0 section n0 0 4294967296 0",
+    b"c0 section n0 0 0 00",
+    b"c0 pes n0 65536 front tap 0 0",
+    b"c0 pes n0 0 dvr tap 4294967296 0",
+    b"c0 pes n0 0 dvr tap 0 -1",
+    b"c0 read n0 18446744073709551616",
+];
+
+const NAME_FAULTS: [&[u8]; 5] = [
+    b"c0 pes n0 1 front tap 0 0",
+    b"c0 pes n0 1 dvr taps 0 0",
+    b"c0 pes n0 1 tap dvr 0 0",
+    b"c0 pes n0 1 frontend  0 0",
+    b"c0 pes n0 1 Dvr tap x",
+];
+
+const BYTES_FAULTS: [&[u8]; 13] = [
+    b"c0 section n0 1 0 0 3=00/ff/00 3=00/ff/00",
+    b"c0 section n0 1 0 0 4=00/ff/00 3=00/ff/00",
+    b"c0 section n0 1 0 0 16=00/ff/00",
+    b"c0 section n0 1 0 0 03=00/ff/00",
+    b"c0 section n0 1 0 0 3=0/ff/00",
+    b"c0 section n0 1 0 0 3=00/FF/00",
+    b"c0 section n0 1 0 0 3=00/ff/0g",
+    b"c0 section n0 1 0 0 3-00/ff/00",
+    b"c0 section n0 1 0 0 =00/ff/00",
+    b"c0 section n0 1 0 0 3=00/ff/000",
+    b"c0 section n0 1 0 0 ",
+    b"c0 section n0 1 0 0 3=00/ff/00 ",
+    b"c0 section n0 1 0 0 15=00/ff/00 x",
+];
+
+const COUNT_FAULTS: [&[u8]; 23] = [
+    b"feed",
+    b"tick",
+    b"feed 1 1",
+    b"feed 1 ",
+    b"tick 0 x",
+    b"c0",
+    b"c0 open",
+    b"c0 start",
+    b"c0 open n0 n0",
+    b"c0 open n0 ",
+    b"c0 close dvr x",
+    b"c0 read n0",
+    b"c0 read n0 1 1",
+    b"c0 add n0",
+    b"c0 section n0",
+    b"c0 section n0 1",
+    b"c0 section n0 1 0",
+    b"c0 pes n0",
+    b"c0 pes n0 1",
+    b"c0 pes n0 1 frontend",
+    b"c0 pes n0 1 frontend tap",
+    b"c0 pes n0 1 frontend tap 1",
+    b"c0 pes n0 1 frontend tap 1 0 0",
+];
+
+const ZEROS: [u8; 16] = [0; 16];
+
+// Section filters: the words behind the target, and what they set.
+const SECTIONS: [(&[u8], SectionParams); 3] = [
+    (
+        b"c0 section n0 0 0 0",
+        SectionParams {
+            pid: 0,
+            filter: SectionFilter {
+                filter: ZEROS,
+                mask: ZEROS,
+                mode: ZEROS,
+            },
+            timeout: 0,
+            flags: 0,
+        },
+    ),
+    (
+        b"c0 section n0 65535 4294967295 7 0=42/ff/00 15=0a/f0/9e",
+        SectionParams {
+            pid: 65535,
+            filter: SectionFilter {
+                filter: [0x42, 0, 0, 0, 0, 0, 0, 0, 0, 0, 0, 0, 0, 0, 0, 0x0a],
+                mask: [0xff, 0, 0, 0, 0, 0, 0, 0, 0, 0, 0, 0, 0, 0, 0, 0xf0],
+                mode: [0, 0, 0, 0, 0, 0, 0, 0, 0, 0, 0, 0, 0, 0, 0, 0x9e],
+            },
+            timeout: 4294967295,
+            flags: 7,
+        },
+    ),
+    (
+        b"c0 section n0 1 2 3 0=00/01/00 1=01/01/00 2=02/01/00 3=03/01/00 4=04/01/00 5=05/01/00 6=06/01/00 7=07/01/00 8=08/01/00 9=09/01/00 10=0a/01/00 11=0b/01/00 12=0c/01/00 13=0d/01/00 14=0e/01/00 15=0f/01/00",
+        SectionParams {
+            pid: 1,
+            filter: SectionFilter {
+                filter: [0, 1, 2, 3, 4, 5, 6, 7, 8, 9, 10, 11, 12, 13, 14, 15],
+                mask: [1; 16],
+                mode: ZEROS,
+            },
+            timeout: 2,
+            flags: 3,
+        },
+    ),
+];
+
+// PES filters: the words behind the target, and what they set.
+const PES: [(&[u8], PesParams); 4] = [
+    (
+        b"c0 pes n0 256 frontend tap 1 4",
+        PesParams {
+            pid: 256,
+            input: Input::Frontend,
+            output: Output::Tap,
+            pes_type: 1,
+            flags: 4,
+        },
+    ),
+    (
+        b"c0 pes n0 8192 dvr ts_tap 20 0",
+        PesParams {
+            pid: 8192,
+            input: Input::Dvr,
+            output: Output::TsTap,
+            pes_type: 20,
+            flags: 0,
+        },
+    ),
+    (
+        b"c0 pes n0 0 frontend tsdemux_tap 4294967295 4294967295",
+        PesParams {
+            pid: 0,
+            input: Input::Frontend,
+            output: Output::TsdemuxTap,
+            pes_type: 4294967295,
+            flags: 4294967295,
+        },
+    ),
+    (
+        b"c0 pes n0 65535 frontend decoder 0 0",
+        PesParams {
+            pid: 65535,
+            input: Input::Frontend,
+            output: Output::Decoder,
+            pes_type: 0,
+            flags: 0,
+        },
+    ),
+];
+
+// Sixteen words for the places of a filter.
+const SIXTEEN: &[u8] =
+    b"c0 section n0 1 2 3 0=00/01/00 1=01/01/00 2=02/01/00 3=03/01/00 4=04/01/00 5=05/01/00 6=06/01/00 7=07/01/00 8=08/01/00 9=09/01/00 10=0a/01/00 11=0b/01/00 12=0c/01/00 13=0d/01/00 14=0e/01/00 15=0f/01/00";
+
+// What a script gives.
+fn read(rt: &impl Abort, alloc: Global, bytes: &[u8]) -> Result<Result<Script, ScriptFault>, Fail> {
+    assert!(rt; bytes.len() <= MOST_BYTES);
+    match Script::read(alloc, bytes) {
+        Ok(script) => Ok(Ok(script)),
+        Err(ScriptError::Fault(fault)) => Ok(Err(fault)),
+        Err(ScriptError::NoMemory) => Err(Fail::from("no memory")),
+    }
+}
+
+// A script of these parts, one behind the other.
+fn joined(alloc: Global, parts: &[&[u8]]) -> Result<Vec<u8>, Fail> {
+    let mut bytes = Vec::new(alloc);
+    for part in parts {
+        bytes.extend_from_slice(part)?;
+    }
+    Ok(bytes)
+}
+
+// Whether a line alone, in front of the line `stream`, asks for this.
+fn asks(rt: &impl Abort, alloc: Global, line: &[u8], want: Line) -> Result<bool, Fail> {
+    let bytes = joined(alloc, &[line, b"\nstream\n"])?;
+    match read(rt, alloc, &bytes)? {
+        Ok(script) => Ok(script.lines() == [want].as_slice()),
+        Err(_) => Ok(false),
+    }
+}
+
+// Whether a script has this fault in this line.
+fn has_fault(
+    rt: &impl Abort,
+    alloc: Global,
+    bytes: &[u8],
+    line: u32,
+    kind: FaultKind,
+) -> Result<bool, Fail> {
+    match read(rt, alloc, bytes)? {
+        Ok(_) => Ok(false),
+        Err(fault) => Ok(fault == ScriptFault { line, kind }),
+    }
+}
+
+// Whether these bytes and a line `stream` have this fault in line 1.
+fn line_has_fault(
+    rt: &impl Abort,
+    alloc: Global,
+    line: &[&[u8]],
+    kind: FaultKind,
+) -> Result<bool, Fail> {
+    let line = joined(alloc, line)?;
+    let bytes = joined(alloc, &[&line, b"\nstream\n"])?;
+    has_fault(rt, alloc, &bytes, 1, kind)
+}
+
+#[test]
+fn a_line_asks_for_what_its_words_spell(rt: HostRuntime) -> Result<(), Fail> {
+    for (line, want) in SHORT {
+        assert!(rt; asks(&rt, rt.alloc(), line, want)?, "{line:?}");
+    }
+    Ok(())
+}
+
+#[test]
+fn a_filter_is_what_its_words_spell(rt: HostRuntime) -> Result<(), Fail> {
+    for (line, params) in SECTIONS {
+        let want = command(0, Target::Node(0), Verb::Section(params));
+        assert!(rt; asks(&rt, rt.alloc(), line, want)?, "{line:?}");
+    }
+    for (line, params) in PES {
+        let want = command(0, Target::Node(0), Verb::Pes(params));
+        assert!(rt; asks(&rt, rt.alloc(), line, want)?, "{line:?}");
+    }
+    Ok(())
+}
+
+#[test]
+fn the_first_word_out_of_place_names_the_fault(rt: HostRuntime) -> Result<(), Fail> {
+    let tables: [(&[&[u8]], FaultKind); 7] = [
+        (&CLIENT_FAULTS, FaultKind::Client),
+        (&COMMAND_FAULTS, FaultKind::Command),
+        (&TARGET_FAULTS, FaultKind::Target),
+        (&NUMBER_FAULTS, FaultKind::Number),
+        (&NAME_FAULTS, FaultKind::Name),
+        (&BYTES_FAULTS, FaultKind::Bytes),
+        (&COUNT_FAULTS, FaultKind::Count),
+    ];
+    for (lines, kind) in tables {
+        for line in lines {
+            assert!(rt; line_has_fault(&rt, rt.alloc(), &[line], kind)?, "{line:?}");
+        }
+    }
+    Ok(())
+}
+
+#[test]
+fn a_seventeenth_word_for_a_place_is_one_too_many(rt: HostRuntime) -> Result<(), Fail> {
+    let more: [&[u8]; 4] = [b" 15=00/ff/00", b" 16=00/ff/00", b" x", b" "];
+    for word in more {
+        assert!(rt;
+            line_has_fault(&rt, rt.alloc(), &[SIXTEEN, word], FaultKind::Count)?,
+            "{word:?}"
+        );
+    }
+    Ok(())
+}
+
+// Whole scripts with a fault, its line and its kind.
+const FAULTS: [(&[u8], u32, FaultKind); 15] = [
+    (b"c0  open n0\nstream\n", 1, FaultKind::Command),
+    (
+        b"c0 open n0\nc0 close n0\nc0 strat n0\nstream\n",
+        3,
+        FaultKind::Command,
+    ),
+    (b"feed 0\nc9 open n0\nstream\n", 1, FaultKind::Number),
+    (b"feed 1\n#\n\nfeed\nstream\n", 4, FaultKind::Count),
+    (b"feed 1\nfeed 0\n", 2, FaultKind::Number),
+    (b"stream \nstream\n", 1, FaultKind::Client),
+    (b"\n #\nstream\n", 2, FaultKind::Client),
+    (b"feed 1\r\nstream\n", 1, FaultKind::Number),
+    (b"", 1, FaultKind::NoStream),
+    (b"stream", 1, FaultKind::NoStream),
+    (b"c9", 1, FaultKind::NoStream),
+    (b"# stream\n", 2, FaultKind::NoStream),
+    (b"feed 1\nstream", 2, FaultKind::NoStream),
+    (b"feed 1\n\n#\nc9 open n0", 4, FaultKind::NoStream),
+    (b"\n\n\n", 4, FaultKind::NoStream),
+];
+
+#[test]
+fn the_first_fault_is_named_with_its_line(rt: HostRuntime) -> Result<(), Fail> {
+    for (bytes, line, kind) in FAULTS {
+        assert!(rt; has_fault(&rt, rt.alloc(), bytes, line, kind)?, "{bytes:?}");
+    }
+    Ok(())
+}
+
+// Whole scripts, with their lines and how many clients they have.
+const SCRIPTS: [(&[u8], &[Line], u32); 5] = [
+    (b"stream\n", &[], 0),
+    (b"stream\nfeed 0\n", &[], 0),
+    (
+        b"\n# c0 open n0\n#\nfeed 1\ntick 2\nstream\nG",
+        &[Line::Feed(1), Line::Tick(2)],
+        0,
+    ),
+    (
+        b"c7 open dvr\nc0 open n0\nstream\n",
+        &[
+            Line::Command {
+                line: 1,
+                client: 7,
+                target: Target::Dvr,
+                verb: Verb::Open,
+            },
+            Line::Command {
+                line: 2,
+                client: 0,
+                target: Target::Node(0),
+                verb: Verb::Open,
+            },
+        ],
+        8,
+    ),
+    (
+        b"\n# slots\nc1 open h31\n\nfeed 3\nc0 readw h31 0\nstream\nstream\n",
+        &[
+            Line::Command {
+                line: 3,
+                client: 1,
+                target: Target::Slot(31),
+                verb: Verb::Open,
+            },
+            Line::Feed(3),
+            Line::Command {
+                line: 6,
+                client: 0,
+                target: Target::Slot(31),
+                verb: Verb::ReadWait(0),
+            },
+        ],
+        2,
+    ),
+];
+
+#[test]
+fn a_script_gives_its_lines_in_their_order(rt: HostRuntime) -> Result<(), Fail> {
+    for (bytes, lines, clients) in SCRIPTS {
+        match read(&rt, rt.alloc(), bytes)? {
+            Ok(script) => {
+                assert!(rt; script.lines() == lines, "{bytes:?}");
+                assert_eq!(rt; script.clients(), clients, "{bytes:?}");
+            }
+            Err(fault) => assert!(rt; false, "{bytes:?} has {fault:?}"),
+        }
+    }
+    Ok(())
+}
+
+// So many bytes of one kind.
+fn repeated(alloc: Global, byte: u8, count: usize) -> Result<Vec<u8>, Fail> {
+    let mut bytes = Vec::new(alloc);
+    for _ in 0..count {
+        bytes.push(byte)?;
+    }
+    Ok(bytes)
+}
+
+#[test]
+fn the_most_bytes_without_a_script(rt: HostRuntime) -> Result<(), Fail> {
+    for (byte, line) in [(b'#', 1), (b'\n', 1_048_577)] {
+        let bytes = repeated(rt.alloc(), byte, MOST_BYTES)?;
+        assert!(rt; has_fault(&rt, rt.alloc(), &bytes, line, FaultKind::NoStream)?);
+    }
+    Ok(())
+}
+
+// The bytes that `print` appends for the lines of a script.
+fn printed(rt: &impl Abort, alloc: Global, bytes: &[u8]) -> Result<Vec<u8>, Fail> {
+    let mut out = Vec::new(alloc);
+    if let Ok(script) = read(rt, alloc, bytes)? {
+        for line in script.lines() {
+            print(alloc, line, &mut out)?;
+        }
+    }
+    Ok(out)
+}
+
+// Whether `print` of the line read from these bytes gives these bytes, with a line feed.
+fn is_its_spelling(rt: &impl Abort, alloc: Global, line: &[u8]) -> Result<bool, Fail> {
+    let bytes = joined(alloc, &[line, b"\nstream\n"])?;
+    let want = joined(alloc, &[line, b"\n"])?;
+    let out = printed(rt, alloc, &bytes)?;
+    Ok(out == want)
+}
+
+#[test]
+fn a_line_is_printed_as_it_was_spelled(rt: HostRuntime) -> Result<(), Fail> {
+    for (line, _) in SHORT {
+        assert!(rt; is_its_spelling(&rt, rt.alloc(), line)?, "{line:?}");
+    }
+    for (line, _) in SECTIONS {
+        assert!(rt; is_its_spelling(&rt, rt.alloc(), line)?, "{line:?}");
+    }
+    for (line, _) in PES {
+        assert!(rt; is_its_spelling(&rt, rt.alloc(), line)?, "{line:?}");
+    }
+    assert!(rt; is_its_spelling(&rt, rt.alloc(), b"c0 section n0 1 0 0 3=0a/ff/00")?);
+    Ok(())
+}
+
+#[test]
+fn places_of_zeros_are_not_printed(rt: HostRuntime) -> Result<(), Fail> {
+    let script = b"# a comment\nc0 section n0 1 0 0 2=00/00/00 3=0a/ff/00\n\nfeed 1\nstream\n";
+    let out = printed(&rt, rt.alloc(), script)?;
+    assert_eq!(rt;
+        out.as_slice(),
+        b"c0 section n0 1 0 0 3=0a/ff/00\nfeed 1\n".as_slice()
+    );
+    Ok(())
+}
+
+#[test]
+fn a_line_is_printed_behind_what_is_there(rt: HostRuntime) -> Result<(), Fail> {
+    let mut out = joined(rt.alloc(), &[b"feed 1\n"])?;
+    print(rt.alloc(), &Line::Tick(20), &mut out)?;
+    assert_eq!(rt; out.as_slice(), b"feed 1\ntick 20\n".as_slice());
+    Ok(())
+}

@@ -1,0 +1,174 @@
+// What a line asks for, word by word.
+ghost use Rattle.std.specs.Prelude.{◌≡◌, ◌≤◌, IfOk};
+ghost use Rattle.client_script.specs.Words.{Reads, asked};
+ghost use Rattle.client_script.specs.Grammar.{number_in, pid_in, count_in, input_named as input_of_name, output_named as output_of_name, target_of, name_of, section_in, pes_in, verb_in, command_in, line_in, IsVerbInRange, IsTargetInRange, IsInRange};
+ghost use Rattle.client_script.specs.declared.fault.FaultKind.TheVariants.{Name as NoName, Target as NoTarget, Command as NoCommand};
+
+use crate::fault::FaultKind;
+use crate::line::{Line, Target, Verb};
+use crate::names::{
+    CommandName, client_named, command_named, input_named, output_named, target_named,
+};
+use crate::number::number_between;
+use crate::places::read_filter;
+use crate::words::{Words, is_word};
+use dmx_calls::limits::LARGEST_READ;
+use dmx_calls::{Input, Output, PesParams, SectionParams};
+
+// A number from `least` to `most`.
+#[tactic(auto, unfolding(crate::specs::Grammar::number_in))]
+fn read_number(least: u32, most: u32, words: &mut Words<'_>) -> Result<u32, FaultKind>
+    ensures value { Reads result words.new (number_in least most words.old) }
+    ensures bound { IfOk result (λ n. (least ≤ n) × (n ≤ most)) }
+{
+    let word = words.word()?;
+    number_between(least, most, word).ok_or(FaultKind::Number)
+}
+
+// A PID.
+fn read_pid(words: &mut Words<'_>) -> Result<u16, FaultKind>
+    ensures value { Reads result words.new (pid_in words.old) }
+    ensures bound { IfOk result (λ pid. pid ≤ 65535) }
+{
+    let pid = read_number(0, u16::MAX as u32, words)?;
+    Ok(pid as u16)
+}
+
+// A number of 32 bits.
+fn read_count(words: &mut Words<'_>) -> Result<u32, FaultKind>
+    ensures value { Reads result words.new (count_in words.old) }
+    ensures bound { IfOk result (λ n. n ≤ 4294967295) }
+{
+    read_number(0, u32::MAX, words)
+}
+
+// Where a filter's packets come from.
+fn read_input(words: &mut Words<'_>) -> Result<Input, FaultKind>
+    ensures { Reads result words.new (asked NoName input_of_name words.old) }
+{
+    let word = words.word()?;
+    input_named(word).ok_or(FaultKind::Name)
+}
+
+// Where a filter's items go.
+fn read_output(words: &mut Words<'_>) -> Result<Output, FaultKind>
+    ensures { Reads result words.new (asked NoName output_of_name words.old) }
+{
+    let word = words.word()?;
+    output_named(word).ok_or(FaultKind::Name)
+}
+
+// The target of a command.
+fn read_target(words: &mut Words<'_>) -> Result<Target, FaultKind>
+    ensures value { Reads result words.new (asked NoTarget target_of words.old) }
+    ensures range { IfOk result IsTargetInRange }
+{
+    let word = words.word()?;
+    target_named(word).ok_or(FaultKind::Target)
+}
+
+// The name of a command.
+fn read_name(words: &mut Words<'_>) -> Result<CommandName, FaultKind>
+    ensures { Reads result words.new (asked NoCommand name_of words.old) }
+{
+    let word = words.word()?;
+    command_named(word).ok_or(FaultKind::Command)
+}
+
+// The call that sets a section filter.
+#[tactic(auto, unfolding(crate::specs::Grammar::section_in))]
+fn read_section(words: &mut Words<'_>) -> Result<Verb, FaultKind>
+    ensures value { Reads result words.new (section_in words.old) }
+    ensures range { IfOk result IsVerbInRange }
+{
+    let pid = read_pid(words)?;
+    let timeout = read_count(words)?;
+    let flags = read_count(words)?;
+    let filter = read_filter(words)?;
+    Ok(Verb::Section(SectionParams {
+        pid,
+        filter,
+        timeout,
+        flags,
+    }))
+}
+
+// The call that sets a PES filter.
+#[tactic(auto, unfolding(crate::specs::Grammar::pes_in))]
+fn read_pes(words: &mut Words<'_>) -> Result<Verb, FaultKind>
+    ensures value { Reads result words.new (pes_in words.old) }
+    ensures range { IfOk result IsVerbInRange }
+{
+    let pid = read_pid(words)?;
+    let input = read_input(words)?;
+    let output = read_output(words)?;
+    let pes_type = read_count(words)?;
+    let flags = read_count(words)?;
+    Ok(Verb::Pes(PesParams {
+        pid,
+        input,
+        output,
+        pes_type,
+        flags,
+    }))
+}
+
+// What a command of this name asks for.
+#[tactic(auto, unfolding(crate::specs::Grammar::verb_in))]
+fn read_verb(name: CommandName, words: &mut Words<'_>) -> Result<Verb, FaultKind>
+    ensures value { Reads result words.new (verb_in name words.old) }
+    ensures range { IfOk result IsVerbInRange }
+{
+    match name {
+        CommandName::Open => Ok(Verb::Open),
+        CommandName::Close => Ok(Verb::Close),
+        CommandName::Section => read_section(words),
+        CommandName::Pes => read_pes(words),
+        CommandName::Add => Ok(Verb::Add(read_pid(words)?)),
+        CommandName::Remove => Ok(Verb::Remove(read_pid(words)?)),
+        CommandName::Start => Ok(Verb::Start),
+        CommandName::Stop => Ok(Verb::Stop),
+        CommandName::Size => Ok(Verb::Size(read_count(words)?)),
+        CommandName::Read => Ok(Verb::Read(read_number(0, LARGEST_READ, words)?)),
+        CommandName::ReadWait => Ok(Verb::ReadWait(read_number(0, LARGEST_READ, words)?)),
+        CommandName::Drain => Ok(Verb::Drain(read_number(0, LARGEST_READ, words)?)),
+        CommandName::Poll => Ok(Verb::Poll),
+    }
+}
+
+// A client's command.
+#[tactic(auto, unfolding(crate::specs::Grammar::command_in))]
+fn read_command(line: u32, client: u32, words: &mut Words<'_>) -> Result<Line, FaultKind>
+    requires number { (1 ≤ line) × (line ≤ 1048576) }
+    requires client { client ≤ 7 }
+    ensures value { Reads result words.new (command_in line client words.old) }
+    ensures range { IfOk result IsInRange }
+{
+    let name = read_name(words)?;
+    let target = read_target(words)?;
+    let verb = read_verb(name, words)?;
+    Ok(Line::Command {
+        line,
+        client,
+        target,
+        verb,
+    })
+}
+
+// What the words at the front ask for.
+#[tactic(auto, unfolding(crate::specs::Grammar::line_in))]
+pub fn read_words(line: u32, words: &mut Words<'_>) -> Result<Line, FaultKind>
+    requires { (1 ≤ line) × (line ≤ 1048576) }
+    ensures value { Reads result words.new (line_in line words.old) }
+    ensures range { IfOk result IsInRange }
+{
+    let first = words.word()?;
+    if is_word(first, "feed") {
+        return Ok(Line::Feed(read_number(1, u32::MAX, words)?));
+    }
+    if is_word(first, "tick") {
+        return Ok(Line::Tick(read_count(words)?));
+    }
+    let client = client_named(first).ok_or(FaultKind::Client)?;
+    read_command(line, client, words)
+}

@@ -1,0 +1,57 @@
+// The words of a line, one after another.
+ghost use Rattle.std.specs.Prelude.{◌≡◌, [], ◌∷◌, MatchOption, MatchResult};
+ghost use Rattle.client_script.specs.Words.{is_word as is_this_word, words_of, word_in};
+
+use crate::fault::FaultKind;
+use crate::pieces::cut_at;
+use std::marker::Model;
+
+// Whether a word is this text.
+pub fn is_word(word: &[u8], text: &str) -> bool
+    ensures { result ≡ is_this_word word.now text.now }
+{
+    word == text.as_bytes()
+}
+
+// The words of a line that are still to be read.
+#[derive(Drop)]
+pub struct Words<'a> {
+    // The bytes from the next word on; None where no word is left.
+    rest: Option<&'a [u8]>,
+}
+
+impl<'a> Model for Words<'a> {
+    ghost use Rattle.std.specs.Prelude.{List, ℕ, []};
+    ghost use Rattle.std.specs.Option.{option_map_or};
+    ghost use Rattle.client_script.specs.Words.{words_of};
+
+    ghost Value = { List (List ℕ) };
+
+    ghost view = { λ w. option_map_or (λ rest. words_of rest.now) w.rest [] };
+}
+
+impl<'a> Words<'a> {
+    // All words of a line.
+    pub fn of(line: &'a [u8]) -> Words<'a>
+        ensures { result ≡ words_of line.now }
+    {
+        Words { rest: Some(line) }
+    }
+
+    // The next word; None where no word is left.
+    pub fn next(&mut self) -> Option<&'a [u8]>
+        ensures { MatchOption result ((self.old ≡ []) × (self.new ≡ [])) (λ word. self.old ≡ word.now ∷ self.new) }
+    {
+        let (word, behind) = cut_at(b' ', self.rest?);
+        self.rest = behind;
+        Some(word)
+    }
+
+    // The word in the next place.
+    #[tactic(auto, unfolding(crate::specs::Words::word_in))]
+    pub fn word(&mut self) -> Result<&'a [u8], FaultKind>
+        ensures { MatchResult result (λ word. word_in self.old ≡ Ok (word.now, self.new)) (λ kind. word_in self.old ≡ Err kind) }
+    {
+        self.next().ok_or(FaultKind::Count)
+    }
+}

@@ -1,0 +1,360 @@
+-- Laws of the steps of a pull, and of what a puller stands for.
+use Rattle.std.proofs.Common.{◌≡◌, ◌≢◌, ◌⊎◌, ℕ, ◌+◌, ◌*◌, ◌<◌, ◌≤◌, List, [], ◌∷◌, ◌++◌, length, take, drop, refl, sym, ap, subst, inl, inr, ◌∙◌, arith, length-append, append_assoc, Result, Ok, Err, None, Some, IfOk, IfSome}
+use Rattle.std.proofs.lemmas.List.{append-nil, take-append-le, take-append-drop, length-drop}
+use Rattle.std.proofs.Math.Seq.{take-append_seam}
+use Rattle.std.proofs.lemmas.Bool.{cases_lt}
+use Rattle.std.proofs.KnownBytes.{Consumes-trans, Consumes-nil}
+use Rattle.std.specs.declared.option.Option.{Option}
+use Rattle.std.specs.Io.KnownBytes.{IsAtEnd}
+use Rattle.ts_packet.specs.Cut.{cut}
+use Rattle.ts_packet.specs.Cutting.{Cutting, fresh, bytes_taken, IsRest, Cuts, IsTally}
+use Rattle.ts_packet.specs.declared.cutter.Tally.{Tally}
+use Rattle.ts_packet.proofs.CutLemmas.{cut-append, cut-rest, cut_after-is_rest, cut_after-size, Cuts-none, Cuts-then, length-grown, packets-then}
+use Rattle.feed_pull.specs.declared.fault.Reading.{Reading}
+use Rattle.feed_pull.specs.declared.fault.Reading.TheVariants.{Going, Ended, Failed, TooMany}
+use Rattle.feed_pull.specs.Pulling.{Pulling, IsPulling, Pulls, IsDone, IsNear}
+use Rattle.feed_pull.specs.Steps.{found_with, Reads, Goes, Gathers, Follows, HasGiven, ReadsNothing, Carries}
+
+pub cut-is_rest : (xs : List ℕ) → IsRest (cut xs).rest
+unfolding cut
+cut-is_rest xs = cut_after-is_rest 0 xs
+
+pub cut-size : (xs : List ℕ) → 188 * length (cut xs).packets + (cut xs).skipped + length (cut xs).rest ≡ length xs
+unfolding cut
+cut-size xs = omega (arith, cut_after-size 0 xs (omega arith))
+
+pub Cuts-is_rest : (a b : Cutting) (xs : List ℕ) (f : List (List ℕ)) → Cuts a xs f b → IsRest b.rest
+Cuts-is_rest a b xs f h = rw h.rest (cut-is_rest (a.rest ++ xs))
+
+-- a longer stream has the packets of its front first
+pub packets-front : (xs ys : List ℕ) → (cut (xs ++ ys)).packets ≡ (cut xs).packets ++ (cut ((cut xs).rest ++ ys)).packets
+packets-front xs ys = rw (cut-append xs ys) refl
+
+pub packets-fewer : (xs ys : List ℕ) → length (cut xs).packets ≤ length (cut (xs ++ ys)).packets
+packets-fewer xs ys = rw (packets-front xs ys) (omega (arith, length-append (cut xs).packets (cut ((cut xs).rest ++ ys)).packets))
+
+-- ---- the steps
+
+pub Goes-none : (p : Pulling) → IsRest p.cutting.rest → Goes p [] p
+Goes-none p h = record {
+  passed = [];
+  found = [];
+  bytes = sym (append-nil p.unread);
+  cuts = Cuts-none p.cutting h;
+  waiting = sym (append-nil p.waiting);
+  given = refl;
+  start = refl;
+  taken = omega arith;
+  last = inl (refl, refl);
+}
+
+pub empty-list : (xs : List ℕ) → length xs ≡ 0 → xs ≡ []
+empty-list [] h = refl
+empty-list (x ∷ xs) h = absurd (omega arith)
+
+-- where nothing is cut and nothing read
+pub Goes-same : (a b : Pulling) → IsRest a.cutting.rest → b.cutting ≡ a.cutting → b.waiting ≡ a.waiting → b.unread ≡ a.unread → b.given ≡ a.given → b.start ≡ a.start → b.taken ≡ a.taken → b.earlier ≡ a.earlier → Goes a [] b
+Goes-same a b rest cutting waiting unread given start taken earlier = record {
+  passed = [];
+  found = [];
+  bytes = unread ∙ sym (append-nil a.unread);
+  cuts = rw cutting (Cuts-none a.cutting rest);
+  waiting = waiting ∙ sym (append-nil a.waiting);
+  given = given;
+  start = start;
+  taken = omega (arith, taken);
+  last = inl (refl, earlier);
+}
+
+-- where a piece is read and nothing cut
+pub Goes-read : (a b : Pulling) → IsRest a.cutting.rest → a.unread ≡ [] → a.cutting.packets ≡ a.given + length a.waiting → b.cutting ≡ a.cutting → b.waiting ≡ a.waiting → length b.unread ≤ 65536 → b.given ≡ a.given → b.start ≡ a.start → b.taken ≡ a.taken + length b.unread → b.earlier ≡ a.given + length a.waiting → Goes a b.unread b
+Goes-read a b rest none found cutting waiting fits given start taken earlier =
+    let e : a.cutting.rest ++ (a.unread ++ []) ≡ a.cutting.rest = rw none (append-nil a.cutting.rest) in
+    let k : length (cut (a.cutting.rest ++ (a.unread ++ []))).packets ≡ 0 = rw (e, cut-rest a.cutting.rest rest) refl in
+    record {
+      passed = [];
+      found = [];
+      bytes = rw none refl;
+      cuts = rw cutting (Cuts-none a.cutting rest);
+      waiting = waiting ∙ sym (append-nil a.waiting);
+      given = given;
+      start = start;
+      taken = taken;
+      last = inr (record { front = []; latest = b.unread; whole = refl; piece = fits; count = omega (arith, k, earlier, found) });
+    }
+
+-- what is left after bytes from the front were cut
+abbrev pub cut_to : Pulling → Cutting → List (List ℕ) → List ℕ → Pulling
+cut_to a cutting waiting unread = record { cutting = cutting; waiting = waiting; unread = unread; given = a.given; earlier = a.earlier; start = a.start; taken = a.taken; reads = a.reads; reading = a.reading }
+
+pub Goes-cut : (a : Pulling) (k : Cutting) (w : List (List ℕ)) (u bytes : List ℕ) (n : ℕ) → bytes ≡ a.unread → Cuts a.cutting (take n bytes) (drop (length a.waiting) w) k → w ≡ a.waiting ++ drop (length a.waiting) w → u ≡ drop n a.unread → Goes a [] (cut_to a k w u)
+Goes-cut a k w u bytes n same cuts grown rest = record {
+  passed = take n a.unread;
+  found = drop (length a.waiting) w;
+  bytes = rw rest (take-append-drop n a.unread ∙ sym (append-nil a.unread));
+  cuts = rw same at cuts;
+  waiting = grown;
+  given = refl;
+  start = refl;
+  taken = omega arith;
+  last = inl (refl, refl);
+}
+
+pub IsPulling-cut : (a : Pulling) (k : Cutting) (w : List (List ℕ)) (u bytes : List ℕ) (n : ℕ) → IsPulling a → bytes ≡ a.unread → Cuts a.cutting (take n bytes) (drop (length a.waiting) w) k → w ≡ a.waiting ++ drop (length a.waiting) w → u ≡ drop n a.unread → n ≤ length a.unread → bytes_taken k ≡ bytes_taken a.cutting + n → length w ≤ 64 → IsPulling (cut_to a k w u)
+IsPulling-cut a k w u bytes n i same cuts grown rest within taken fits =
+    let size : length u + n ≡ length a.unread = rw rest (omega (arith, length-drop n a.unread)) in
+    record {
+      few = fits;
+      rest = Cuts-is_rest a.cutting k (take n bytes) (drop (length a.waiting) w) cuts;
+      found = omega (arith, cuts.counted, i.found, length-grown a.waiting w grown);
+      earlier = omega (arith, i.earlier, length-grown a.waiting w grown);
+      bytes = omega (arith, i.bytes, taken);
+      piece = omega (arith, i.piece);
+      taken = i.taken;
+      reads = i.reads;
+      going = i.going;
+      too_many = i.too_many;
+    }
+
+-- ---- packets are given
+
+pub HasGiven-none : (p : Pulling) → HasGiven [] p p
+HasGiven-none p = record { waiting = refl; given = omega arith; cutting = refl; unread = refl; earlier = refl; start = refl; taken = refl; reads = refl; reading = refl }
+
+pub found-then : (a b : Pulling) (m n : List ℕ) → Goes a m b → found_with b n ≡ found_with a (m ++ n)
+found-then a b m n g =
+    let e : a.unread ++ (m ++ n) ≡ g.passed ++ (b.unread ++ n) = sym (append_assoc a.unread m n) ∙ ap (λ (l : List ℕ). l ++ n) (sym g.bytes) ∙ append_assoc g.passed b.unread n in
+    rw (e, packets-then a.cutting b.cutting g.passed (b.unread ++ n) g.found g.cuts, g.cuts.counted) (omega (arith, length-append g.found (cut (b.cutting.rest ++ (b.unread ++ n))).packets))
+
+Last-then : (a b c : Pulling) (m n : List ℕ) → Goes a m b → ((n ≡ []) × (c.earlier ≡ b.earlier)) ⊎ Reads b n c.earlier → ((m ≡ []) × (b.earlier ≡ a.earlier)) ⊎ Reads a m b.earlier → ((m ++ n ≡ []) × (c.earlier ≡ a.earlier)) ⊎ Reads a (m ++ n) c.earlier
+Last-then a b c m n g (inr r) first = inr (record {
+  front = m ++ r.front;
+  latest = r.latest;
+  whole = ap (λ (l : List ℕ). m ++ l) r.whole ∙ sym (append_assoc m r.front r.latest);
+  piece = r.piece;
+  count = r.count ∙ found-then a b m r.front g;
+})
+Last-then a b c m n g (inl h) (inr r) = inr (record {
+  front = r.front;
+  latest = r.latest;
+  whole = ap (λ (l : List ℕ). m ++ l) h.0 ∙ append-nil m ∙ r.whole;
+  piece = r.piece;
+  count = h.1 ∙ r.count;
+})
+Last-then a b c m n g (inl h) (inl k) = inl (rw (k.0, h.0) refl, h.1 ∙ k.1)
+
+pub Goes-then : (a b c : Pulling) (m n : List ℕ) → Goes a m b → Goes b n c → Goes a (m ++ n) c
+Goes-then a b c m n g h = record {
+  passed = g.passed ++ h.passed;
+  found = g.found ++ h.found;
+  bytes = append_assoc g.passed h.passed c.unread ∙ ap (λ (l : List ℕ). g.passed ++ l) h.bytes ∙ sym (append_assoc g.passed b.unread n) ∙ ap (λ (l : List ℕ). l ++ n) g.bytes ∙ append_assoc a.unread m n;
+  cuts = Cuts-then a.cutting b.cutting c.cutting g.passed h.passed g.found h.found g.cuts h.cuts;
+  waiting = h.waiting ∙ ap (λ (l : List (List ℕ)). l ++ h.found) g.waiting ∙ append_assoc a.waiting g.found h.found;
+  given = h.given ∙ g.given;
+  start = h.start ∙ g.start;
+  taken = omega (arith, g.taken, h.taken, length-append m n);
+  last = Last-then a b c m n g h.last g.last;
+}
+
+pub Gathers-none : (p : Pulling) (left : Option (List ℕ)) → IsRest p.cutting.rest → Gathers left left p p
+Gathers-none p left h = record { more = []; consumes = Consumes-nil left; goes = Goes-none p h }
+
+pub Gathers-then : (a b c : Pulling) (x y z : Option (List ℕ)) → Gathers x y a b → Gathers y z b c → Gathers x z a c
+Gathers-then a b c x y z g h = record {
+  more = g.more ++ h.more;
+  consumes = Consumes-trans x y z g.more h.more g.consumes h.consumes;
+  goes = Goes-then a b c g.more h.more g.goes h.goes;
+}
+
+-- where enough packets wait, no step is made
+pub most-waits : (most : ℕ) (a b : Pulling) → b ≡ a → most ≤ length a.waiting → length b.waiting < most → ⊥
+most-waits most a b e h lt =
+    let n : length b.waiting ≡ length a.waiting = ap (λ (p : Pulling). length p.waiting) e in
+    omega arith
+
+pub ReadsNothing-then : (a b c : Pulling) → ReadsNothing a b → ReadsNothing b c → ReadsNothing a c
+ReadsNothing-then a b c g h = record { taken = h.taken ∙ g.taken; reads = h.reads ∙ g.reads }
+
+pub going-cases : (r : Reading) → (r ≡ Going) ⊎ (r ≢ Going)
+going-cases Going = inl refl
+going-cases Ended = inr (λ e. absurd cc)
+going-cases Failed = inr (λ e. absurd cc)
+going-cases TooMany = inr (λ e. absurd cc)
+
+ended-stops : (r : Reading) → r ≡ Failed → r ≢ Going
+ended-stops r e g = absurd cc
+
+pub Follows-none : (r : Reading) (x : Option (List ℕ)) (n : ℕ) → Follows r r x x n n
+Follows-none r x n = record {
+  stays = λ _. refl;
+  still = λ _. (refl, refl);
+  ends = λ g e. absurd cc;
+  later = omega arith;
+  fails = λ g e. absurd cc;
+  rose = λ h. absurd (omega arith);
+  went = λ e. (e, refl);
+}
+
+Follows-ends : (a b c : Reading) (x y z : Option (List ℕ)) (l m n : ℕ) → Follows a b x y l m → Follows b c y z m n → a ≡ Going → c ≡ Ended → IsAtEnd z
+Follows-ends a b c x y z l m n f g is e =
+    elim (going-cases b) [
+      | inl goes ↦ g.ends goes e
+      | inr stopped ↦ subst IsAtEnd (sym (g.still stopped).0) (f.ends is (sym (g.stays stopped) ∙ e))
+    ]
+
+Follows-fails : (a b c : Reading) (x y z : Option (List ℕ)) (l m n : ℕ) → Follows a b x y l m → Follows b c y z m n → a ≡ Going → c ≡ Failed → l < n
+Follows-fails a b c x y z l m n f g is e =
+    elim (going-cases b) [
+      | inl goes ↦ omega (arith, f.later, g.fails goes e)
+      | inr stopped ↦ omega (arith, g.later, f.fails is (sym (g.stays stopped) ∙ e))
+    ]
+
+Follows-rose : (a b c : Reading) (x y z : Option (List ℕ)) (l m n : ℕ) → Follows a b x y l m → Follows b c y z m n → l < n → c ≡ Failed
+Follows-rose a b c x y z l m n f g lt =
+    elim (cases_lt l m) [
+      | inl rose ↦ g.stays (ended-stops b (f.rose rose)) ∙ f.rose rose
+      | inr not ↦ g.rose (omega arith)
+    ]
+
+pub Follows-then : (a b c : Reading) (x y z : Option (List ℕ)) (l m n : ℕ) → Follows a b x y l m → Follows b c y z m n → Follows a c x z l n
+Follows-then a b c x y z l m n f g =
+    let stopped : a ≢ Going → b ≢ Going = λ s e. s (sym (f.stays s) ∙ e) in
+    record {
+      stays = λ s. g.stays (stopped s) ∙ f.stays s;
+      still = λ s. ((g.still (stopped s)).0 ∙ (f.still s).0, (g.still (stopped s)).1 ∙ (f.still s).1);
+      ends = Follows-ends a b c x y z l m n f g;
+      later = omega (arith, f.later, g.later);
+      fails = Follows-fails a b c x y z l m n f g;
+      rose = Follows-rose a b c x y z l m n f g;
+      went = λ e. ((f.went (g.went e).0).0, (g.went e).1 ∙ (f.went (g.went e).0).1);
+    }
+
+-- ---- what a puller stands for
+
+pub Pulls-new : (ahead : List ℕ) (p : Pulling) → p.waiting ≡ [] → p.unread ≡ ahead → p.given ≡ 0 → p.taken ≡ 0 → Cuts fresh [] [] p.cutting → Pulls ahead [] [] p
+Pulls-new ahead p w u g t k = record {
+  passed = [];
+  before = [];
+  latest = [];
+  count = g;
+  size = t;
+  cuts = rw w k;
+  stream = u ∙ sym (append-nil ahead);
+  last = refl;
+  piece = omega arith;
+  earlier = λ h. absurd (omega arith);
+}
+
+Pulls-stream : (ahead taken more : List ℕ) (given : List (List ℕ)) (a b : Pulling) (p : Pulls ahead taken given a) (g : Goes a more b) → (p.passed ++ g.passed) ++ b.unread ≡ ahead ++ (taken ++ more)
+Pulls-stream ahead taken more given a b p g = append_assoc p.passed g.passed b.unread ∙ ap (λ (l : List ℕ). p.passed ++ l) g.bytes ∙ sym (append_assoc p.passed a.unread more) ∙ ap (λ (l : List ℕ). l ++ more) p.stream ∙ append_assoc ahead taken more
+
+Pulls-cuts : (ahead taken more : List ℕ) (given : List (List ℕ)) (a b : Pulling) (p : Pulls ahead taken given a) (g : Goes a more b) → Cuts fresh (p.passed ++ g.passed) (given ++ b.waiting) b.cutting
+Pulls-cuts ahead taken more given a b p g =
+    let e : given ++ b.waiting ≡ (given ++ a.waiting) ++ g.found = ap (λ (l : List (List ℕ)). given ++ l) g.waiting ∙ sym (append_assoc given a.waiting g.found) in
+    rw e (Cuts-then fresh a.cutting b.cutting p.passed g.passed (given ++ a.waiting) g.found p.cuts g.cuts)
+
+-- how many packets are found once these bytes are cut is how many the stream with them has
+Pulls-found : (ahead taken more : List ℕ) (given : List (List ℕ)) (a : Pulling) → Pulls ahead taken given a → found_with a more ≡ length (cut (ahead ++ (taken ++ more))).packets
+Pulls-found ahead taken more given a p =
+    let e : ahead ++ (taken ++ more) ≡ p.passed ++ (a.unread ++ more) = sym (append_assoc ahead taken more) ∙ ap (λ (l : List ℕ). l ++ more) (sym p.stream) ∙ append_assoc p.passed a.unread more in
+    let f : (cut (p.passed ++ (a.unread ++ more))).packets ≡ (given ++ a.waiting) ++ (cut (a.cutting.rest ++ (a.unread ++ more))).packets = packets-then fresh a.cutting p.passed (a.unread ++ more) (given ++ a.waiting) p.cuts in
+    rw (e, f) (omega (arith, p.cuts.counted, length-append (given ++ a.waiting) (cut (a.cutting.rest ++ (a.unread ++ more))).packets))
+
+Pulls-goes-by : (ahead taken more : List ℕ) (given : List (List ℕ)) (a b : Pulling) → Pulls ahead taken given a → Goes a more b → ((more ≡ []) × (b.earlier ≡ a.earlier)) ⊎ Reads a more b.earlier → Pulls ahead (taken ++ more) given b
+Pulls-goes-by ahead taken more given a b p g (inl h) = record {
+  passed = p.passed ++ g.passed;
+  before = p.before;
+  latest = p.latest;
+  count = g.given ∙ p.count;
+  size = omega (arith, g.taken, p.size, length-append taken more);
+  cuts = Pulls-cuts ahead taken more given a b p g;
+  stream = Pulls-stream ahead taken more given a b p g;
+  last = ap (λ (l : List ℕ). taken ++ l) h.0 ∙ append-nil taken ∙ p.last;
+  piece = p.piece;
+  earlier = λ long. h.1 ∙ p.earlier (rw (h.0, append-nil taken) at long);
+}
+Pulls-goes-by ahead taken more given a b p g (inr r) = record {
+  passed = p.passed ++ g.passed;
+  before = taken ++ r.front;
+  latest = r.latest;
+  count = g.given ∙ p.count;
+  size = omega (arith, g.taken, p.size, length-append taken more);
+  cuts = Pulls-cuts ahead taken more given a b p g;
+  stream = Pulls-stream ahead taken more given a b p g;
+  last = ap (λ (l : List ℕ). taken ++ l) r.whole ∙ sym (append_assoc taken r.front r.latest);
+  piece = r.piece;
+  earlier = λ _. r.count ∙ Pulls-found ahead taken r.front given a p;
+}
+
+pub Pulls-goes : (ahead taken more : List ℕ) (given : List (List ℕ)) (a b : Pulling) → Pulls ahead taken given a → Goes a more b → Pulls ahead (taken ++ more) given b
+Pulls-goes ahead taken more given a b p g = Pulls-goes-by ahead taken more given a b p g g.last
+
+pub Pulls-given : (ahead taken : List ℕ) (given packets : List (List ℕ)) (a b : Pulling) → Pulls ahead taken given a → HasGiven packets a b → Pulls ahead taken (given ++ packets) b
+Pulls-given ahead taken given packets a b p h =
+    let e : (given ++ packets) ++ b.waiting ≡ given ++ a.waiting = append_assoc given packets b.waiting ∙ ap (λ (l : List (List ℕ)). given ++ l) (sym h.waiting) in
+    record {
+      passed = p.passed;
+      before = p.before;
+      latest = p.latest;
+      count = omega (arith, h.given, p.count, length-append given packets);
+      size = h.taken ∙ p.size;
+      cuts = rw (e, h.cutting) p.cuts;
+      stream = ap (λ (l : List ℕ). p.passed ++ l) h.unread ∙ p.stream;
+      last = p.last;
+      piece = p.piece;
+      earlier = λ long. h.earlier ∙ p.earlier long;
+    }
+
+pub Carries-by : (a b c : Pulling) (x y : Option (List ℕ)) (packets : List (List ℕ)) → Gathers x y a b → HasGiven packets b c → Carries x y a packets c
+Carries-by a b c x y packets g h = record {
+  more = g.more;
+  consumes = g.consumes;
+  pulls = λ ahead taken given p. Pulls-given ahead (taken ++ g.more) given packets b c (Pulls-goes ahead taken g.more given a b p g.goes) h;
+}
+
+-- what was given is the front of the stream's packets
+pub Pulls-front : (ahead taken : List ℕ) (given : List (List ℕ)) (p : Pulling) → Pulls ahead taken given p → (later : List (List ℕ)) × ((cut (ahead ++ taken)).packets ≡ given ++ later)
+Pulls-front ahead taken given p h =
+    let f : (cut (h.passed ++ p.unread)).packets ≡ (given ++ p.waiting) ++ (cut (p.cutting.rest ++ p.unread)).packets = packets-then fresh p.cutting h.passed p.unread (given ++ p.waiting) h.cuts in
+    (p.waiting ++ (cut (p.cutting.rest ++ p.unread)).packets, ap (λ (l : List ℕ). (cut l).packets) (sym h.stream) ∙ f ∙ append_assoc given p.waiting (cut (p.cutting.rest ++ p.unread)).packets)
+
+-- where nothing is left, the whole stream was cut
+pub Pulls-done : (ahead taken : List ℕ) (given : List (List ℕ)) (p : Pulling) → Pulls ahead taken given p → IsDone p → Cuts fresh (ahead ++ taken) given p.cutting
+Pulls-done ahead taken given p h d =
+    let e : h.passed ≡ ahead ++ taken = sym (append-nil h.passed) ∙ ap (λ (l : List ℕ). h.passed ++ l) (sym d.unread) ∙ h.stream in
+    let f : given ++ p.waiting ≡ given = ap (λ (l : List (List ℕ)). given ++ l) d.waiting ∙ append-nil given in
+    rw (← e) (rw f at h.cuts)
+
+pub Pulls-all : (ahead taken : List ℕ) (given : List (List ℕ)) (p : Pulling) → Pulls ahead taken given p → IsDone p → (cut (ahead ++ taken)).packets ≡ given
+Pulls-all ahead taken given p h d = (Pulls-done ahead taken given p h d).packets
+
+-- the packets given have no more bytes than the stream
+pub Pulls-size : (ahead taken : List ℕ) (given : List (List ℕ)) (p : Pulling) → Pulls ahead taken given p → 188 * length given ≤ length ahead + length taken
+Pulls-size ahead taken given p h =
+    let f = Pulls-front ahead taken given p h in
+    let n : length (cut (ahead ++ taken)).packets ≡ length given + length f.0 = ap length f.1 ∙ length-append given f.0 in
+    omega (arith, cut-size (ahead ++ taken), length-append ahead taken)
+
+-- a front of the stream without more bytes than the last read has no more packets than there were before it
+front-of : (xs ys earlier later : List ℕ) → xs ++ ys ≡ earlier ++ later → length earlier ≤ length xs → xs ≡ earlier ++ drop (length earlier) xs
+front-of xs ys earlier later e h =
+    let t : take (length earlier) xs ≡ earlier = sym (take-append-le (length earlier) xs ys h) ∙ ap (take (length earlier)) e ∙ take-append_seam earlier later in
+    sym (take-append-drop (length earlier) xs) ∙ ap (λ (l : List ℕ). l ++ drop (length earlier) xs) t
+
+pub Pulls-near : (ahead taken : List ℕ) (given : List (List ℕ)) (p : Pulling) → Pulls ahead taken given p → p.earlier < p.given → IsNear ahead taken given
+Pulls-near ahead taken given p h lt earlier later e long =
+    let s : h.before ++ h.latest ≡ earlier ++ later = sym h.last ∙ e in
+    let n : length h.before + length h.latest ≡ length earlier + length later = sym (length-append h.before h.latest) ∙ ap length s ∙ length-append earlier later in
+    let f : h.before ≡ earlier ++ drop (length earlier) h.before = front-of h.before h.latest earlier later s (omega (arith, h.piece)) in
+    let w : ahead ++ h.before ≡ (ahead ++ earlier) ++ drop (length earlier) h.before = ap (λ (l : List ℕ). ahead ++ l) f ∙ sym (append_assoc ahead earlier (drop (length earlier) h.before)) in
+    let k : length (cut (ahead ++ h.before)).packets ≡ length (cut ((ahead ++ earlier) ++ drop (length earlier) h.before)).packets = ap (λ (l : List ℕ). length (cut l).packets) w in
+    let t : 65535 < length taken = omega (arith, ap length e, length-append earlier later) in
+    omega (arith, k, packets-fewer (ahead ++ earlier) (drop (length earlier) h.before), h.earlier t, h.count)
+
+pub Pulls-tally : (p : Pulling) (tally : Tally) → ((bytes : List ℕ) (found : List (List ℕ)) → Cuts fresh bytes found p.cutting → IsTally (cut bytes) tally) → IsDone p → (ahead taken : List ℕ) (given : List (List ℕ)) → Pulls ahead taken given p → IsTally (cut (ahead ++ taken)) tally
+Pulls-tally p tally h d ahead taken given k = h (ahead ++ taken) given (Pulls-done ahead taken given p k d)
+
+pub near-from : {T E : Type 0} (r : Result (Option T) E) (size : T → ℕ) (most : ℕ) (p : Pulling) → IfOk r (λ answer. IfSome answer (λ batch. size batch ≡ most → p.earlier < p.given)) → IfOk r (λ answer. IfSome answer (λ batch. size batch ≡ most → (ahead taken : List ℕ) (given : List (List ℕ)) → Pulls ahead taken given p → IsNear ahead taken given))
+near-from (Ok None) size most p h = tt
+near-from (Ok (Some batch)) size most p h = λ e ahead taken given k. Pulls-near ahead taken given p k (h e)
+near-from (Err e) size most p h = tt

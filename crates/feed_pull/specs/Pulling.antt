@@ -1,0 +1,77 @@
+-- What a contract sees of a puller, and what it stands for.
+use Rattle.std.specs.Prelude.{◌≡◌, ◌≢◌, ℕ, ◌+◌, ◌*◌, ◌<◌, ◌≤◌, List, [], ◌++◌, length, Result, None, Some, Ok, Err}
+use Rattle.std.specs.declared.option.Option.{Option}
+use Rattle.ts_packet.specs.Cut.{cut}
+use Rattle.ts_packet.specs.Cutting.{Cutting, fresh, bytes_taken, IsRest, Cuts}
+use Rattle.feed_pull.specs.declared.fault.Reading.{Reading}
+use Rattle.feed_pull.specs.declared.fault.Reading.TheVariants.{Going, Ended, Failed, TooMany}
+use Rattle.feed_pull.specs.declared.fault.PullFault.{PullFault}
+use Rattle.feed_pull.specs.declared.fault.PullFault.TheVariants.{ReadFault, TooLong}
+
+-- What a puller has: where the cutting stands, the packets that wait to be given, the bytes that were read and are not
+-- cut yet, how many packets were given, how many had been found when the last bytes were read, how many reads were made
+-- before the puller was, how many bytes its reads took, how many reads were made in all, and how reading goes.
+pub record Pulling : Type 0 where
+  pub cutting : Cutting
+  pub waiting : List (List ℕ)
+  pub unread : List ℕ
+  pub given : ℕ
+  pub earlier : ℕ
+  pub start : ℕ
+  pub taken : ℕ
+  pub reads : ℕ
+  pub reading : Reading
+
+-- What is true of each puller. The numbers of bytes and of reads are bounded, a read took at most 65,536 bytes, and each
+-- read but the last took at least one.
+pub record IsPulling (p : Pulling) : Type 0 where
+  pub few : length p.waiting ≤ 64
+  pub rest : IsRest p.cutting.rest
+  pub found : p.cutting.packets ≡ p.given + length p.waiting
+  pub earlier : p.earlier ≤ p.given + length p.waiting
+  pub bytes : bytes_taken p.cutting + length p.unread ≤ 65536 + p.taken
+  pub piece : length p.unread ≤ 65536
+  pub taken : p.taken ≤ 65536 * p.reads
+  pub reads : p.reads ≤ 4294967296
+  pub going : p.reading ≡ Going → p.reads ≤ p.start + p.taken
+  pub too_many : p.reading ≡ TooMany → 4294967296 ≤ p.start + p.taken
+
+-- The puller stands behind a stream: these bytes ahead, and behind them these that its pulls took. It has given these
+-- packets. What was cut so far has these packets and those that wait; the unread bytes are the rest of the stream. `latest`
+-- are the bytes of the last read, and `before` those of the reads before it; once more bytes were taken than one read
+-- may leave behind a packet, the puller knows how many packets there are in front of the last read.
+pub record Pulls (ahead taken : List ℕ) (given : List (List ℕ)) (p : Pulling) : Type 0 where
+  pub passed : List ℕ
+  pub before : List ℕ
+  pub latest : List ℕ
+  pub count : p.given ≡ length given
+  pub size : p.taken ≡ length taken
+  pub cuts : Cuts fresh passed (given ++ p.waiting) p.cutting
+  pub stream : passed ++ p.unread ≡ ahead ++ taken
+  pub last : taken ≡ before ++ latest
+  pub piece : length latest ≤ 65536
+  pub earlier : 65535 < length taken → p.earlier ≡ length (cut (ahead ++ before)).packets
+
+-- reading has stopped, and nothing is left to be given
+pub record IsDone (p : Pulling) : Type 0 where
+  pub stopped : p.reading ≢ Going
+  pub waiting : p.waiting ≡ []
+  pub unread : p.unread ≡ []
+
+-- the fault that stopped reading, if one did
+abbrev pub fault_of : Reading → Option PullFault
+fault_of Going = None
+fault_of Ended = None
+fault_of Failed = Some ReadFault
+fault_of TooMany = Some (TooLong 4294967296)
+
+-- the packets of the batch that a pull gave: none where it gave no batch
+abbrev pub given_by : {T E : Type 0} → Result (Option T) E → (T → List (List ℕ)) → List (List ℕ)
+given_by (Ok None) packets = []
+given_by (Ok (Some batch)) packets = packets batch
+given_by (Err e) packets = []
+
+-- At most 65,535 of the bytes taken stand behind the last of these packets: a stream that lacks more of them at its end
+-- has fewer packets.
+abbrev pub IsNear : List ℕ → List ℕ → List (List ℕ) → Type 0
+IsNear ahead taken given = (earlier later : List ℕ) → taken ≡ earlier ++ later → 65535 < length later → length (cut (ahead ++ earlier)).packets < length given

@@ -1,0 +1,87 @@
+-- The steps of a pull.
+use Rattle.std.specs.Prelude.{◌≡◌, ◌≢◌, ◌⊎◌, ℕ, ◌+◌, ◌-◌, ◌*◌, ◌<◌, ◌≤◌, List, [], ◌++◌, length}
+use Rattle.std.specs.declared.option.Option.{Option}
+use Rattle.std.specs.Io.KnownBytes.{Consumes, IsAtEnd}
+use Rattle.ts_packet.specs.Cut.{cut}
+use Rattle.ts_packet.specs.Cutting.{Cuts}
+use Rattle.feed_pull.specs.declared.fault.Reading.{Reading}
+use Rattle.feed_pull.specs.declared.fault.Reading.TheVariants.{Going, Ended, Failed, TooMany}
+use Rattle.feed_pull.specs.Pulling.{Pulling, Pulls}
+
+-- how many packets are found in all once the unread bytes and these behind them are cut
+abbrev pub found_with : Pulling → List ℕ → ℕ
+found_with p bytes = p.cutting.packets + length (cut (p.cutting.rest ++ (p.unread ++ bytes))).packets
+
+-- `more` ends with the bytes of the last read, and this many packets had been found before it
+pub record Reads (old : Pulling) (more : List ℕ) (earlier : ℕ) : Type 0 where
+  pub front : List ℕ
+  pub latest : List ℕ
+  pub whole : more ≡ front ++ latest
+  pub piece : length latest ≤ 65536
+  pub count : earlier ≡ found_with old front
+
+-- The bytes `more` came behind the unread ones, and bytes were cut from their front. The packets found wait behind those
+-- that waited. Either nothing was read, or `more` ends with the bytes of the last read.
+pub record Goes (old : Pulling) (more : List ℕ) (new : Pulling) : Type 0 where
+  pub passed : List ℕ
+  pub found : List (List ℕ)
+  pub bytes : passed ++ new.unread ≡ old.unread ++ more
+  pub cuts : Cuts old.cutting passed found new.cutting
+  pub waiting : new.waiting ≡ old.waiting ++ found
+  pub given : new.given ≡ old.given
+  pub start : new.start ≡ old.start
+  pub taken : new.taken ≡ old.taken + length more
+  pub last : ((more ≡ []) × (new.earlier ≡ old.earlier)) ⊎ Reads old more new.earlier
+
+-- no read was made
+pub record ReadsNothing (old new : Pulling) : Type 0 where
+  pub taken : new.taken ≡ old.taken
+  pub reads : new.reads ≡ old.reads
+
+-- the bytes that came were taken from a source that had this content before and after
+pub record Gathers (before after : Option (List ℕ)) (old new : Pulling) : Type 0 where
+  pub more : List ℕ
+  pub consumes : Consumes before after more
+  pub goes : Goes old more new
+
+-- How reading goes before and after, and a source's content and its count of faults before and after. Once stopped it
+-- stays so, and the source is left alone. It ends where nothing is left. It fails where the count rose, and only there.
+-- While it goes on the count stands.
+pub record Follows (old new : Reading) (content left : Option (List ℕ)) (before after : ℕ) : Type 0 where
+  pub stays : old ≢ Going → new ≡ old
+  pub still : old ≢ Going → (left ≡ content) × (after ≡ before)
+  pub ends : old ≡ Going → new ≡ Ended → IsAtEnd left
+  pub later : before ≤ after
+  pub fails : old ≡ Going → new ≡ Failed → before < after
+  pub rose : before < after → new ≡ Failed
+  pub went : new ≡ Going → (old ≡ Going) × (after ≡ before)
+
+-- a measure of the reading that may still come
+abbrev pub to_read : Reading → ℕ → ℕ
+to_read Going reads = 65537 * (4294967297 - reads)
+to_read Ended reads = 0
+to_read Failed reads = 0
+to_read TooMany reads = 0
+
+-- how much may still be done before nothing is left
+abbrev pub work : Pulling → ℕ
+work p = to_read p.reading p.reads + length p.unread
+
+-- the puller's state after these packets were given from the front of those that wait
+pub record HasGiven (packets : List (List ℕ)) (old new : Pulling) : Type 0 where
+  pub waiting : old.waiting ≡ packets ++ new.waiting
+  pub given : new.given ≡ old.given + length packets
+  pub cutting : new.cutting ≡ old.cutting
+  pub unread : new.unread ≡ old.unread
+  pub earlier : new.earlier ≡ old.earlier
+  pub start : new.start ≡ old.start
+  pub taken : new.taken ≡ old.taken
+  pub reads : new.reads ≡ old.reads
+  pub reading : new.reading ≡ old.reading
+
+-- Whatever stream the puller stood behind and whatever it had given, it now stands behind that stream with more bytes
+-- taken, which are those that the source gave, and has given these packets too.
+pub record Carries (content left : Option (List ℕ)) (old : Pulling) (packets : List (List ℕ)) (new : Pulling) : Type 0 where
+  pub more : List ℕ
+  pub consumes : Consumes content left more
+  pub pulls : (ahead taken : List ℕ) (given : List (List ℕ)) → Pulls ahead taken given old → Pulls ahead (taken ++ more) (given ++ packets) new

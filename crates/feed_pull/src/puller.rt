@@ -1,0 +1,258 @@
+// Pulls batches of packets from a source.
+ghost use Rattle.std.specs.Prelude.{◌≡◌, ◌≢◌, ◌⊎◌, ℕ, ◌+◌, ◌-◌, ◌*◌, ◌^◌, ◌<◌, ◌≤◌, ◌↔◌, List, [], ◌++◌, length, take, drop, min, max, OnOk, IfOk, IfSome, IfNone, IsTrue, IsFalse, MatchOption, vec_len};
+ghost use Rattle.std.specs.Io.KnownBytes.{Consumes, IsAtEnd};
+ghost use Rattle.ts_packet.specs.Cut.{cut};
+ghost use Rattle.ts_packet.specs.Cutting.{IsTally};
+ghost use Rattle.feed_pull.specs.Pulling.{Pulling, IsPulling, Pulls, IsDone, IsNear, fault_of, given_by};
+ghost use Rattle.feed_pull.specs.Steps.{Goes, Gathers, Follows, work, HasGiven, ReadsNothing, Carries};
+
+use crate::fault::{PullFault, Reading};
+use crate::hand::Hand;
+use crate::piece::Piece;
+use emu_io::Source;
+use std::alloc::{AllocError as NoMemory, Global};
+use std::marker::Model;
+use std::sync::Arc;
+use ts_batch::Batch;
+use ts_packet::{Cutter, Tally};
+
+// The most reads of one stream.
+const MOST_READS: u64 = 4_294_967_296;
+
+/// A transport stream that is read in pieces and given in batches of packets.
+#[derive(Drop)]
+pub struct Puller {
+    alloc: Global,
+    cutter: Cutter,
+    hand: Hand,
+    piece: Piece,
+    // How many packets were given, and how many had been found when the last bytes were read.
+    given: u64,
+    earlier: u64,
+    // How many reads were made before, how many bytes were taken, and how many reads were made in all.
+    start: u64,
+    taken: u64,
+    reads: u64,
+    reading: Reading,
+}
+
+impl Model for Puller {
+    ghost use Rattle.feed_pull.specs.Pulling.{Pulling, IsPulling};
+
+    ghost Value = { Pulling };
+
+    ghost view = { λ p. record { cutting = p.cutter; waiting = p.hand; unread = p.piece; given = p.given; earlier = p.earlier; start = p.start; taken = p.taken; reads = p.reads; reading = p.reading } };
+
+    ghost invariant = { λ p. IsPulling (record { cutting = p.cutter; waiting = p.hand; unread = p.piece; given = p.given; earlier = p.earlier; start = p.start; taken = p.taken; reads = p.reads; reading = p.reading }) };
+}
+
+impl Puller {
+    /// A puller of the stream that begins with the bytes `ahead`, at most 65,536, and goes on with what its pulls read.
+    /// So many reads were made of the source before, each of which took a byte; at most 4,294,967,296 are made in all.
+    pub fn new(alloc: Global, ahead: Vec<u8>, turns: u64) -> Result<Puller, NoMemory>
+        requires turns { turns ≤ 4294967296 }
+        requires short { vec_len ahead ≤ 65536 }
+        ensures stream { IfOk result (λ puller. Pulls ahead.items [] [] puller) }
+        ensures numbers { IfOk result (λ puller. (puller.start ≡ turns) × (puller.reads ≡ turns) × (puller.taken ≡ 0) × (puller.given ≡ 0)) }
+        ensures going { IfOk result (λ puller. puller.reading ≡ Reading.Going) }
+        ensures late { IfOk result (λ puller. puller.earlier ≤ puller.given) }
+    {
+        let piece = Piece::of(alloc, &ahead)?;
+        Ok(Puller {
+            alloc,
+            cutter: Cutter::new(),
+            hand: Hand::new(),
+            piece,
+            given: 0,
+            earlier: 0,
+            start: turns,
+            taken: 0,
+            reads: turns,
+            reading: Reading::Going,
+        })
+    }
+
+    // Reads a piece, where none of the last is left and reading goes on.
+    fn read<S: Source>(&mut self, source: &mut S)
+        requires empty { self.old.unread ≡ [] }
+        requires going { self.old.reading ≡ Reading.Going }
+        requires faults { S.faults source.old < 2 ^ 64 - 1 }
+        ensures gathers { Gathers (S.left source.old) (S.left source.new) self.old self.new }
+        ensures follows { Follows self.old.reading self.new.reading (S.left source.old) (S.left source.new) (S.faults source.old) (S.faults source.new) }
+        ensures less { work self.new < work self.old }
+        ensures late { self.new.earlier ≤ max self.old.earlier (self.old.given + length self.old.waiting) }
+    {
+        if self.reads == MOST_READS {
+            self.reading = Reading::TooMany;
+            return;
+        }
+        self.reads += 1;
+        match self.piece.read(source) {
+            Err(_) => self.reading = Reading::Failed,
+            Ok(0) => self.reading = Reading::Ended,
+            Ok(count) => {
+                self.earlier = self.given + self.hand.len() as u64;
+                self.taken += count as u64;
+            }
+        }
+    }
+
+    // Cuts bytes of the piece, up to its end or the packet that fills the hand.
+    fn cut(&mut self)
+        requires some { 0 < length self.old.unread }
+        requires room { length self.old.waiting < 64 }
+        ensures goes { Goes self.old [] self.new }
+        ensures reading { self.new.reading ≡ self.old.reading }
+        ensures reads { self.new.reads ≡ self.old.reads }
+        ensures earlier { self.new.earlier ≡ self.old.earlier }
+        ensures less { length self.new.unread < length self.old.unread }
+    {
+        let count = self.hand.fill(&mut self.cutter, self.piece.rest());
+        self.piece.pass(count);
+    }
+
+    // Whether something is left to cut or may be read.
+    fn has_more(&self) -> bool
+        ensures more { IsTrue result → self.now.unread ≡ [] → self.now.reading ≡ Reading.Going }
+        ensures none { IsFalse result → (self.now.unread ≡ []) × (self.now.reading ≢ Reading.Going) }
+    {
+        !self.piece.rest().is_empty() || self.reading == Reading::Going
+    }
+
+    // Whether the piece is cut to its end.
+    fn is_cut(&self) -> bool
+        ensures { IsTrue result ↔ (self.now.unread ≡ []) }
+    {
+        self.piece.rest().is_empty()
+    }
+
+    // How many packets wait.
+    fn waiting(&self) -> u32
+        ensures value { result ≡ length self.now.waiting }
+        ensures fits { result ≤ 64 }
+    {
+        self.hand.len()
+    }
+
+    // Cuts what is left of the piece, or reads the next.
+    fn step<S: Source>(&mut self, source: &mut S)
+        requires more { self.old.unread ≡ [] → self.old.reading ≡ Reading.Going }
+        requires room { length self.old.waiting < 64 }
+        requires faults { self.old.reading ≡ Reading.Going → S.faults source.old < 2 ^ 64 - 1 }
+        ensures gathers { Gathers (S.left source.old) (S.left source.new) self.old self.new }
+        ensures follows { Follows self.old.reading self.new.reading (S.left source.old) (S.left source.new) (S.faults source.old) (S.faults source.new) }
+        ensures less { work self.new < work self.old }
+        ensures late { self.new.earlier ≤ max self.old.earlier (self.old.given + length self.old.waiting) }
+        ensures stopped { self.old.reading ≢ Reading.Going → ReadsNothing self.old self.new }
+    {
+        if self.is_cut() {
+            self.read(source);
+        } else {
+            self.cut();
+        }
+    }
+
+    // Reads and cuts until as many packets wait as are asked for, or nothing is left.
+    fn gather<S: Source>(&mut self, source: &mut S, most: u32)
+        requires most { most ≤ 64 }
+        requires faults { self.old.reading ≡ Reading.Going → S.faults source.old < 2 ^ 64 - 1 }
+        ensures gathers { Gathers (S.left source.old) (S.left source.new) self.old self.new }
+        ensures follows { Follows self.old.reading self.new.reading (S.left source.old) (S.left source.new) (S.faults source.old) (S.faults source.new) }
+        ensures fewer { length self.new.waiting < most → (self.new.unread ≡ []) × (self.new.reading ≢ Reading.Going) }
+        ensures late { self.old.earlier < self.old.given + most → self.new.earlier < self.new.given + most }
+        ensures full { most ≤ length self.old.waiting → (S.left source.new ≡ S.left source.old) × (self.new ≡ self.old) }
+        ensures stopped { self.old.reading ≢ Reading.Going → ReadsNothing self.old self.new }
+    {
+        let _ = &self.hand;
+        'gathering: while self.waiting() < most && self.has_more() {
+            self.step(source);
+        }
+    }
+
+    // Gives the packets in front, as many as are asked for or wait.
+    fn give(&mut self, most: u32) -> Result<Option<Arc<Batch>>, NoMemory>
+        requires { 1 ≤ most }
+        ensures gives { HasGiven (given_by result (λ batch. batch.value.packets)) self.old self.new }
+        ensures first { IfOk result (λ answer. IfSome answer (λ batch. batch.value.first ≡ self.old.given)) }
+        ensures count { IfOk result (λ answer. IfSome answer (λ batch. length batch.value.packets ≡ min most (length self.old.waiting))) }
+        ensures some { IfOk result (λ answer. IfSome answer (λ batch. 1 ≤ length batch.value.packets)) }
+        ensures none { IfOk result (λ answer. IfNone answer (self.old.waiting ≡ [])) }
+        ensures late { self.old.earlier < self.old.given + most → IfOk result (λ _. self.new.earlier ≤ self.new.given) }
+        ensures whole { self.old.earlier < self.old.given + most → IfOk result (λ answer. IfSome answer (λ batch. length batch.value.packets ≡ most → self.new.earlier < self.new.given)) }
+        ensures sound { IsPulling self.new }
+    {
+        let count = most.min(self.hand.len());
+        if count == 0 {
+            return Ok(None);
+        }
+        let batch = Batch::of(self.alloc, self.given, &self.hand.front(count))?;
+        self.hand.pass(count);
+        self.given += count as u64;
+        Ok(Some(batch))
+    }
+
+    /// The next packets, as many as are asked for or as are left, 1 to 64. None exactly where reading has stopped and no
+    /// packet is left. Where memory is refused, all that was read and found stays for the next pull.
+    pub fn pull<S: Source>(
+        &mut self,
+        source: &mut S,
+        most: u32,
+    ) -> Result<Option<Arc<Batch>>, NoMemory>
+        requires some { 1 ≤ most }
+        requires few { most ≤ 64 }
+        // While reading goes on, the source's count of faults isn't at the end of its type.
+        requires faults { self.old.reading ≡ Reading.Going → S.faults source.old < 2 ^ 64 - 1 }
+        // The stream grows by just the bytes that the source gave, and what was given by the packets of this batch. After
+        // want of memory too nothing that was taken is lost.
+        ensures stream { Carries (S.left source.old) (S.left source.new) self.old (given_by result (λ batch. batch.value.packets)) self.new }
+        // What was given so far is the front of the stream's packets.
+        ensures front { (ahead taken : List ℕ) (given : List (List ℕ)) → Pulls ahead taken given self.new → (later : List (List ℕ)) × ((cut (ahead ++ taken)).packets ≡ given ++ later) }
+        // A batch's first number is the number of packets given before.
+        ensures first { IfOk result (λ answer. IfSome answer (λ batch. batch.value.first ≡ self.old.given)) }
+        ensures given { self.new.given ≡ self.old.given + length (given_by result (λ batch. batch.value.packets)) }
+        ensures some { IfOk result (λ answer. IfSome answer (λ batch. 1 ≤ length batch.value.packets)) }
+        ensures most { IfOk result (λ answer. IfSome answer (λ batch. length batch.value.packets ≤ most)) }
+        // A batch has fewer packets than were asked for only where reading has stopped and nothing is left.
+        ensures fewer { IfOk result (λ answer. IfSome answer (λ batch. length batch.value.packets < most → IsDone self.new)) }
+        ensures none { IfOk result (λ answer. IfNone answer (IsDone self.new)) }
+        // At None all packets of the stream were given.
+        ensures all { IfOk result (λ answer. IfNone answer ((ahead taken : List ℕ) (given : List (List ℕ)) → Pulls ahead taken given self.new → (cut (ahead ++ taken)).packets ≡ given)) }
+        // Once reading has stopped it stays so. It ends where the source has nothing left, and fails where its count rose.
+        ensures follows { Follows self.old.reading self.new.reading (S.left source.old) (S.left source.new) (S.faults source.old) (S.faults source.new) }
+        ensures too_many { self.new.reading ≡ Reading.TooMany → 4294967296 ≤ self.new.start + self.new.taken }
+        ensures start { self.new.start ≡ self.old.start }
+        // Where enough packets wait, or reading has stopped, nothing is read.
+        ensures full { most ≤ length self.old.waiting → (S.left source.new ≡ S.left source.old) × ReadsNothing self.old self.new }
+        ensures stopped { self.old.reading ≢ Reading.Going → ReadsNothing self.old self.new }
+        ensures bytes { self.new.taken ≤ 281474976710656 }
+        ensures numbers { 188 * self.new.given ≤ 65536 + self.new.taken }
+        ensures packets { (ahead taken : List ℕ) (given : List (List ℕ)) → Pulls ahead taken given self.new → 188 * length given ≤ length ahead + length taken }
+        // Before the last read fewer than `most` packets were in hand, unless a pull that asked for more was refused memory
+        // since; so at most 65,535 of the bytes taken stand behind a batch of `most`. An answer begins this anew.
+        ensures late { self.old.earlier < self.old.given + most → IfOk result (λ _. self.new.earlier ≤ self.new.given) }
+        ensures asked { self.old.earlier < self.old.given + most → self.new.earlier < self.new.given + most }
+        ensures near { self.old.earlier < self.old.given + most → IfOk result (λ answer. IfSome answer (λ batch. length batch.value.packets ≡ most → (ahead taken : List ℕ) (given : List (List ℕ)) → Pulls ahead taken given self.new → IsNear ahead taken given)) }
+    {
+        self.gather(source, most);
+        self.give(most)
+    }
+
+    /// The fault that stopped reading, if one did.
+    pub fn fault(&self) -> Option<PullFault>
+        ensures { result ≡ fault_of self.now.reading }
+    {
+        match self.reading {
+            Reading::Going | Reading::Ended => None,
+            Reading::Failed => Some(PullFault::ReadFault),
+            Reading::TooMany => Some(PullFault::TooLong { turns: MOST_READS }),
+        }
+    }
+
+    /// The tally of the whole stream. A pull has answered None.
+    pub fn tally(&self) -> Tally
+        requires { IsDone self.now }
+        ensures { (ahead taken : List ℕ) (given : List (List ℕ)) → Pulls ahead taken given self.now → IsTally (cut (ahead ++ taken)) result }
+    {
+        self.cutter.finish()
+    }
+}
