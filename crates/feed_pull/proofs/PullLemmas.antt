@@ -118,9 +118,6 @@ IsPulling-cut a k w u bytes n i same cuts grown rest within taken fits =
 
 -- ---- packets are given
 
-pub HasGiven-none : (p : Pulling) → HasGiven [] p p
-HasGiven-none p = record { waiting = refl; given = omega arith; cutting = refl; unread = refl; earlier = refl; start = refl; taken = refl; reads = refl; reading = refl }
-
 pub found-then : (a b : Pulling) (m n : List ℕ) → Goes a m b → found_with b n ≡ found_with a (m ++ n)
 found-then a b m n g =
     let e : a.unread ++ (m ++ n) ≡ g.passed ++ (b.unread ++ n) = sym (append_assoc a.unread m n) ∙ ap (λ (l : List ℕ). l ++ n) (sym g.bytes) ∙ append_assoc g.passed b.unread n in
@@ -324,9 +321,6 @@ Pulls-done ahead taken given p h d =
     let e : h.passed ≡ ahead ++ taken = sym (append-nil h.passed) ∙ ap (λ (l : List ℕ). h.passed ++ l) (sym d.unread) ∙ h.stream in
     let f : given ++ p.waiting ≡ given = ap (λ (l : List (List ℕ)). given ++ l) d.waiting ∙ append-nil given in
     rw (← e) (rw f at h.cuts)
-
-pub Pulls-all : (ahead taken : List ℕ) (given : List (List ℕ)) (p : Pulling) → Pulls ahead taken given p → IsDone p → (cut (ahead ++ taken)).packets ≡ given
-Pulls-all ahead taken given p h d = (Pulls-done ahead taken given p h d).packets
 
 -- the packets given have no more bytes than the stream
 pub Pulls-size : (ahead taken : List ℕ) (given : List (List ℕ)) (p : Pulling) → Pulls ahead taken given p → 188 * length given ≤ length ahead + length taken
