@@ -25,6 +25,8 @@
 mod byte_buf;
 mod call;
 pub mod examples;
+mod head;
+mod histories;
 pub mod laws;
 pub mod limits;
 mod log;
@@ -39,6 +41,8 @@ mod tests;
 
 pub use byte_buf::ByteBuf;
 pub use call::Call;
+pub use head::{Head, PidRow};
+pub use histories::{Fed, Histories};
 pub use log::{Act, Entry};
 pub use node::{NodeKind, State};
 pub use params::{Input, Output, Params, PesParams, SectionParams};
