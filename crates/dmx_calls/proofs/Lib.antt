@@ -11,3 +11,4 @@ pub mod Owning
 pub mod Pending
 pub mod Numbered
 pub mod Telling
+pub mod Weaving

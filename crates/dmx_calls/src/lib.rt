@@ -28,6 +28,8 @@
 mod byte_buf;
 mod call;
 pub mod examples;
+mod head;
+mod histories;
 pub mod laws;
 pub mod limits;
 mod log;
@@ -43,6 +45,8 @@ mod tests;
 
 pub use byte_buf::ByteBuf;
 pub use call::Call;
+pub use head::{Head, PidRow};
+pub use histories::{Fed, Histories};
 pub use log::{Act, Entry};
 pub use node::{NodeKind, State};
 pub use outcome::{Outcome, OutcomeKind};
