@@ -6,3 +6,4 @@ pub mod Nodes
 pub mod Accounting
 pub mod LawsHold
 pub mod Pieces
+pub mod Lasts

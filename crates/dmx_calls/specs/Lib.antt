@@ -16,5 +16,6 @@ pub mod Accounted
 pub mod Calls
 pub mod Log
 pub mod Back
+pub mod Entries
 pub mod Laws
 pub mod Examples

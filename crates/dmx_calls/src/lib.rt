@@ -36,6 +36,7 @@ mod refusals;
 mod reply;
 #[cfg(test)]
 mod tests;
+mod told;
 
 pub use byte_buf::ByteBuf;
 pub use call::Call;
@@ -44,3 +45,4 @@ pub use node::{NodeKind, State};
 pub use params::{Input, Output, Params, PesParams, SectionParams};
 pub use refusals::refusal;
 pub use reply::{Answer, Errno, PollError, Reply, Span, Tap};
+pub use told::Told;
