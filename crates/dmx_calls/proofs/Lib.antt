@@ -12,3 +12,4 @@ pub mod Pending
 pub mod Numbered
 pub mod Telling
 pub mod Weaving
+pub mod Lasts
