@@ -7,3 +7,8 @@ pub mod Accounting
 pub mod LawsHold
 pub mod Pieces
 pub mod Weaving
+pub mod Bytes
+pub mod Owning
+pub mod Pending
+pub mod Numbered
+pub mod Telling

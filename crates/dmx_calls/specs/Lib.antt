@@ -19,3 +19,5 @@ pub mod Histories
 pub mod Back
 pub mod Laws
 pub mod Examples
+pub mod Bytes
+pub mod Owning
