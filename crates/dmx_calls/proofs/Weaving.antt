@@ -1,5 +1,5 @@
 -- The histories that are woven of the feeder's calls and the clients' entries: how long they are, how they grow by one call, and what stands where.
-use Rattle.std.proofs.Common.{ℕ, zero, suc, ◌+◌, ◌<◌, ◌≤◌, ◌≡◌, refl, sym, ◌∙◌, ap, Bool, true, false, List, [], ◌∷◌, ◌++◌, length, map, Option, Some, None, slice_get, arith, length-append, nat_lt, if◌then◌else◌}
+use Rattle.std.proofs.Common.{ℕ, zero, suc, ◌+◌, ◌<◌, ◌≤◌, ◌≡◌, refl, sym, ◌∙◌, ap, Bool, true, false, List, [], ◌∷◌, ◌++◌, length, Some, slice_get, arith, nat_lt, if◌then◌else◌}
 use Rattle.std.proofs.lemmas.Bool.Decides.{nat_tests}
 use Rattle.dmx_calls.specs.Log.{Act, LogEntry}
 use Rattle.dmx_calls.specs.Histories.{feeder_entry, feeder_entries, before_entry, woven_from, woven, woven_nodes, AreInPlace}

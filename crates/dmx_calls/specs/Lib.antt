@@ -17,6 +17,7 @@ pub mod Calls
 pub mod Log
 pub mod Histories
 pub mod Back
+pub mod Entries
 pub mod Laws
 pub mod Examples
 pub mod Bytes
