@@ -20,4 +20,4 @@ mod task;
 
 pub use client::ClientCore;
 pub use event::{Event, Want};
-pub use laws::{calls_are_few, repeats_grow_by_replies};
+pub use laws::{calls_are_few, one_reply_repeats_once};
