@@ -15,7 +15,10 @@ pub mod Legal
 pub mod Accounted
 pub mod Calls
 pub mod Log
+pub mod Histories
 pub mod Back
 pub mod Entries
 pub mod Laws
 pub mod Examples
+pub mod Bytes
+pub mod Owning
