@@ -6,3 +6,8 @@ pub mod Nodes
 pub mod Accounting
 pub mod LawsHold
 pub mod Pieces
+pub mod Bytes
+pub mod Owning
+pub mod Pending
+pub mod Numbered
+pub mod Telling

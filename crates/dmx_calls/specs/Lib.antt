@@ -18,3 +18,5 @@ pub mod Log
 pub mod Back
 pub mod Laws
 pub mod Examples
+pub mod Bytes
+pub mod Owning
