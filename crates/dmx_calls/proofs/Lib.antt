@@ -6,6 +6,7 @@ pub mod Nodes
 pub mod Accounting
 pub mod LawsHold
 pub mod Pieces
+pub mod Weaving
 pub mod Bytes
 pub mod Owning
 pub mod Pending

@@ -15,6 +15,8 @@ pub mod Legal
 pub mod Accounted
 pub mod Calls
 pub mod Log
+pub mod Histories
+pub mod Head
 pub mod Back
 pub mod Laws
 pub mod Examples

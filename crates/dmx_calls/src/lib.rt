@@ -8,10 +8,11 @@
 //! a state that is kept.
 //!
 //! What a contract sees: `invocation_of` a `Call` and `response_of` a `Reply`; `params_of` and `pids_of` the `Params`; a
-//! `ByteBuf` as its count and its bytes. `Act`, `Entry` and `Outcome` are what a report tells of a call, of its reply and
-//! of a script's command.
+//! `ByteBuf` as its count and its bytes; `Histories` as 33 lists of entries, each whole: on each node the clients' entries
+//! stand at their places, and the feeder's calls, which are kept once, at all others (`woven`). `Act`, `Entry` and `Outcome`
+//! are what a report tells of a call, of its reply and of a script's command.
 //!
-//! What is proved: each call of `ByteBuf`. `refusal`, whose body is the table of calls and states, is the refusal that
+//! What is proved: each call of `ByteBuf` and of `Histories`. `refusal`, whose body is the table of calls and states, is the refusal that
 //! the answer of a history names. The laws of `laws`: every legal history is accounted, so each byte is given,
 //! named as lost or named as dropped, in its place; an entry that isn't accepted changes nothing; the items of a capture
 //! only grow; an overflow's item needs more than the room that it found; a node answers no more bytes than its passes bring,
@@ -28,6 +29,8 @@
 mod byte_buf;
 mod call;
 pub mod examples;
+mod head;
+mod histories;
 pub mod laws;
 pub mod limits;
 mod log;
@@ -43,6 +46,8 @@ mod tests;
 
 pub use byte_buf::ByteBuf;
 pub use call::Call;
+pub use head::{Head, PidRow};
+pub use histories::{Fed, Histories};
 pub use log::{Act, Entry};
 pub use node::{NodeKind, State};
 pub use outcome::{Outcome, OutcomeKind};
