@@ -12,3 +12,4 @@ pub mod Owning
 pub mod Pending
 pub mod Numbered
 pub mod Telling
+pub mod Lasts

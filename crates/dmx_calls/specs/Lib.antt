@@ -18,6 +18,7 @@ pub mod Log
 pub mod Histories
 pub mod Head
 pub mod Back
+pub mod Entries
 pub mod Laws
 pub mod Examples
 pub mod Bytes

@@ -43,6 +43,7 @@ mod refusals;
 mod reply;
 #[cfg(test)]
 mod tests;
+mod told;
 
 pub use byte_buf::ByteBuf;
 pub use call::Call;
@@ -54,3 +55,4 @@ pub use outcome::{Outcome, OutcomeKind};
 pub use params::{Input, Output, Params, PesParams, SectionParams};
 pub use refusals::refusal;
 pub use reply::{Answer, Errno, PollError, Reply, Span, Tap};
+pub use told::Told;
