@@ -17,7 +17,7 @@ use Rattle.client_core.specs.declared.machine.Current.{Current}
 use Rattle.client_core.specs.declared.task.Task.TheVariants.{On, OpenFrom, Attach, Detach}
 use Rattle.client_script.specs.declared.line.Verb.{Verb}
 use Rattle.client_script.specs.declared.line.Verb.TheVariants as verb
-use Rattle.client_core.specs.Core.{ahead, behind, coming_from, coming, Core, IsAfter, waits_with}
+use Rattle.client_core.specs.Core.{ahead, behind, coming_from, coming, Core, IsAfter, HasTaken, waits_with}
 
 pub first_ahead : (slots : Slots) (step : ℕ) (c : Command) (cs : List Command) (more : List Response)
     → progress_from slots step (c ∷ cs) more ≡ ahead c.line step slots cs (done slots c.target c.verb step more)
@@ -61,18 +61,16 @@ pub last_counts : (s : Option Standing) (replies : List Response) (r : Response)
 last_counts None replies r = refl
 last_counts (Some s) replies r = last_alone s replies r
 
-pub taken : (client : ℕ) (lines : List Line) (replies : List Response) (r : Response) (c d : Core) → IsAfter client lines replies c
-    → ((more : List Response) → coming c (r ∷ more) ≡ coming d more) → d.step ≡ c.step + 1 → d.waits ≡ waits_after (coming d []).standing (r ∷ [])
-    → IsAfter client lines (replies ++ r ∷ []) d
-taken client lines replies r c d after goes steps waits = record {
+pub taken : (client : ℕ) (lines : List Line) (replies : List Response) (r : Response) (c d : Core) → IsAfter client lines replies c → HasTaken r c d → d.step ≡ c.step + 1 → IsAfter client lines (replies ++ r ∷ []) d
+taken client lines replies r c d after takes step = record {
   goes_on = on;
-  steps = steps ∙ ap (λ n. n + 1) after.steps ∙ sym (length-append replies (r ∷ []));
-  waits = waits
+  steps = step ∙ ap (λ n. n + 1) after.steps ∙ sym (length-append replies (r ∷ []));
+  waits = takes.waits
       ∙ ap (λ p. waits_after p.standing (r ∷ [])) (sym (on []) ∙ ap (λ rs. progress client lines rs) (append-nil (replies ++ r ∷ [])))
       ∙ sym (last_counts (progress client lines (replies ++ r ∷ [])).standing replies r);
 } where
   on : (more : List Response) → progress client lines ((replies ++ r ∷ []) ++ more) ≡ coming d more
-  on more = ap (λ rs. progress client lines rs) (append_assoc replies (r ∷ []) more) ∙ after.goes_on (r ∷ more) ∙ goes more
+  on more = ap (λ rs. progress client lines rs) (append_assoc replies (r ∷ []) more) ∙ after.goes_on (r ∷ more) ∙ takes.goes_on more
 
 -- what stands there has this step
 abbrev pub StandsAt : (step : ℕ) → Doing → Type 0

@@ -1,5 +1,5 @@
 -- What a client core keeps, and the replies after which it stands.
-use Rattle.std.specs.Prelude.{ℕ, false, ◌≡◌, ◌≤◌, List, [], ◌++◌, length, Option, Some, None, option_map, All, IfSome, IfNone}
+use Rattle.std.specs.Prelude.{ℕ, false, ◌≡◌, ◌≤◌, List, [], ◌∷◌, ◌++◌, length, Option, Some, None, option_map, All, IfSome, IfNone}
 use Rattle.dmx_calls.specs.Response.{Response, Again}
 use Rattle.client_script.specs.Grammar.{IsVerbInRange, IsTargetInRange}
 use Rattle.client_script.specs.declared.line.Line.{Line}
@@ -8,7 +8,7 @@ use Rattle.dmx_calls.specs.declared.outcome.Outcome.{Outcome}
 use Rattle.client_core.specs.declared.event.Event.{Event}
 use Rattle.client_core.specs.declared.machine.Current.{Current}
 use Rattle.client_core.specs.Commands.{Doing, stands, through, Slots}
-use Rattle.client_core.specs.Events.{Progress, with_outcome, kind_of, slots_after, progress_from, waits_on, progress}
+use Rattle.client_core.specs.Events.{Progress, with_outcome, kind_of, slots_after, progress_from, waits_after, waits_on, progress}
 use Rattle.client_core.specs.Tasks.{resumed, IsTaskInRange, AreSlots}
 
 -- a command that is begun, and the commands behind it
@@ -66,3 +66,8 @@ next_of c = option_map (λ s. s.event) (coming c []).standing
 abbrev pub waits_with : Response → (node : ℕ) → Option ℕ
 waits_with (Again false) node = Some node
 waits_with _ node = None
+
+-- One reply is taken: whatever replies come, the new core goes on as the old one does where this reply comes first.
+pub record HasTaken (reply : Response) (old new : Core) : Type 0 where
+  pub goes_on : (more : List Response) → coming old (reply ∷ more) ≡ coming new more
+  pub waits : new.waits ≡ waits_after (coming new []).standing (reply ∷ [])

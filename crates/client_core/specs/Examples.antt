@@ -16,9 +16,6 @@ use Rattle.dmx_calls.specs.declared.outcome.Outcome.{Outcome}
 use Rattle.dmx_calls.specs.declared.outcome.OutcomeKind.TheVariants.{Done as WasDone, Emfile, Unbound}
 use Rattle.client_core.specs.Events.{next_event, outcomes, waits_on}
 
-abbrev pub pes : Line → Line
-pes line = line
-
 abbrev pub recording : PesParams
 recording = record { pid = 256; input = Frontend; output = TsdemuxTap; pes_type = 20; flags = 0 }
 
@@ -118,3 +115,14 @@ UnboundSlot = outcomes 0 (Command 1 0 (Slot 5) Stop ∷ []) [] ≡ record { line
 abbrev pub BoundSlot : Type 0
 BoundSlot = next_event 0 (Command 1 0 (Slot 5) Open ∷ Command 2 0 (Slot 5) Close ∷ Command 3 0 (Slot 5) Start ∷ []) (Busy 2 ∷ keep ∷ keep ∷ [])
     ≡ Some (record { step = 3; node = 1; want = AskStart })
+
+-- a slot whose open finds all nodes busy is bound as before
+abbrev pub reopened : List Line
+reopened = Command 1 0 (Slot 5) Open ∷ Command 2 0 (Slot 5) Open ∷ Command 3 0 (Slot 5) Start ∷ []
+
+abbrev pub SlotStaysBound : Type 0
+SlotStaysBound = next_event 0 reopened (Busy 2 ∷ keep ∷ replicate 32 (Busy 1)) ≡ Some (record { step = 34; node = 1; want = AskStart })
+
+-- a slot that is opened again is bound to the node that was found
+abbrev pub SlotIsBoundAnew : Type 0
+SlotIsBoundAnew = next_event 0 reopened (keep ∷ Busy 1 ∷ Busy 1 ∷ keep ∷ []) ≡ Some (record { step = 4; node = 2; want = AskStart })

@@ -51,23 +51,30 @@ abbrev pub IsEvent : Option Event → LogEntry → Type 0
 IsEvent None e = ⊥
 IsEvent (Some event) e = (e.node ≡ event.node) × ((moment : ℕ) × (e.act ≡ act_of (call_of event.want moment)))
 
+-- the replies to these calls
 abbrev pub replies : List LogEntry → List Response
-replies log = map (λ e. e.response) log
+replies made = map (λ e. e.response) made
 
--- A client did just what its commands ask, by the replies that it got, to their end; on each node its calls stand in the order in which it made them.
+-- A client did just what its commands ask, by the replies that it got, to their end: `made` is its calls in their order.
 pub record HasDone (lines : List Line) (client : ℕ) (hs : List (List LogEntry)) : Type 0 where
-  pub log : List LogEntry
-  pub steps : (i : ℕ) (e : LogEntry) → slice_get log i ≡ Some e → (e.step ≡ i) × (e.who ≡ client + 1) × StandsIn hs e × IsEvent (next_event client lines (replies (take i log))) e
-  pub ends : next_event client lines (replies log) ≡ None
-  pub only : (node place : ℕ) (h : List LogEntry) (e : LogEntry) → slice_get hs node ≡ Some h → slice_get h place ≡ Some e → e.who ≡ client + 1 → slice_get log e.step ≡ Some e
-  pub in_order : (i j : ℕ) (e f : LogEntry) → i < j → slice_get log i ≡ Some e → slice_get log j ≡ Some f → e.node ≡ f.node → e.place < f.place
+  pub made : List LogEntry
+  -- its steps are 0, 1, .., and each is the call that its commands ask for after the replies before it
+  pub steps : (i : ℕ) (e : LogEntry) → slice_get made i ≡ Some e → (e.step ≡ i) × (e.who ≡ client + 1) × StandsIn hs e × IsEvent (next_event client lines (replies (take i made))) e
+  -- after all of them the commands are through
+  pub ends : next_event client lines (replies made) ≡ None
+  -- the histories have no other call of this client
+  pub only : (node place : ℕ) (h : List LogEntry) (e : LogEntry) → slice_get hs node ≡ Some h → slice_get h place ≡ Some e → e.who ≡ client + 1 → slice_get made e.step ≡ Some e
+  -- on each node its calls stand in the order in which it made them
+  pub in_order : (i j : ℕ) (e f : LogEntry) → i < j → slice_get made i ≡ Some e → slice_get made j ≡ Some f → e.node ≡ f.node → e.place < f.place
 
 -- ------ the run
 
--- `most` is the greatest number of packets of a batch, and `stream` is the packets of the stream
+-- These histories are those of a run of the script: `most` is the greatest number of packets of a batch, and `stream` is the packets of the stream.
 pub record IsRun (lines : List Line) (most : ℕ) (stream : List (List ℕ)) (hs : List (List LogEntry)) : Type 0 where
   pub nodes : length hs ≡ DEMUX_NODES + 1
+  -- each entry stands on its node and at its place, its caller is the feeder or a client, and memory was found
   pub places : (node place : ℕ) (h : List LogEntry) (e : LogEntry) → slice_get hs node ≡ Some h → slice_get h place ≡ Some e → (e.node ≡ node) × (e.place ≡ place) × (e.who ≤ clients_in lines) × (e.response ≢ NoMemory)
+  -- each response is the one that the entries before it give
   pub legal : (node : ℕ) (h : List LogEntry) → slice_get hs node ≡ Some h → IsLegalFor (rules_at node) (filled stream h)
   pub fed : IsFed most (length stream) hs
   pub clients_done : (c : ℕ) → c < clients_in lines → HasDone lines c hs

@@ -5,10 +5,10 @@ ghost use Rattle.dmx_calls.specs.Calls.{response_of};
 ghost use Rattle.dmx_calls.specs.Response.{Response};
 ghost use Rattle.client_script.specs.declared.line.Line.{Line as ScriptLine};
 ghost use Rattle.client_script.specs.Script.{IsScript};
-ghost use Rattle.client_core.specs.Commands.{commands_of};
-ghost use Rattle.client_core.specs.Events.{next_event, outcomes as outcomes_of, waits_on, next_of_line};
+ghost use Rattle.client_core.specs.Commands.{commands_of, IsWantInRange};
+ghost use Rattle.client_core.specs.Events.{next_event, outcomes as outcomes_of, waits_on, next_of_line, current_line};
 ghost use Rattle.client_core.specs.Tasks.{resumed, node_in};
-ghost use Rattle.client_core.specs.Core.{coming, one_if_some, IsCommandInRange, IsSound, IsAfter, next_of, waits_with};
+ghost use Rattle.client_core.specs.Core.{coming, one_if_some, IsCommandInRange, IsSound, IsAfter, HasTaken, next_of, waits_with};
 
 use crate::command::{Command, Commands};
 use crate::event::Event;
@@ -100,6 +100,7 @@ impl ClientCore {
         ensures next { result ≡ next_of self.now }
         ensures tied { (client : ℕ) (lines : List ScriptLine) (replies : List Response) → IsAfter client lines replies self.now → result ≡ next_event client lines replies }
         ensures node { IfSome result (λ e. (e.step ≡ self.now.step) × (e.node ≤ nodes)) }
+        ensures range { IfSome result (λ e. IsWantInRange e.want) }
         ensures some { IsSome result ↔ IsSome self.now.current }
     {
         match &self.current {
@@ -112,6 +113,7 @@ impl ClientCore {
     pub fn next_at(&self, line: u32) -> Option<Event>
         ensures tied { (client : ℕ) (lines : List ScriptLine) (replies : List Response) → IsAfter client lines replies self.now → result ≡ next_of_line client lines line replies }
         ensures node { IfSome result (λ e. (e.step ≡ self.now.step) × (e.node ≤ nodes)) }
+        ensures range { IfSome result (λ e. IsWantInRange e.want) }
         ensures some { IsSome result → IsSome self.now.current }
     {
         match &self.current {
@@ -123,6 +125,18 @@ impl ClientCore {
                     None
                 }
             }
+        }
+    }
+
+    /// The line of the command that isn't through.
+    pub fn line(&self) -> u32
+        requires some { IsSome self.now.current }
+        ensures value { IfSome self.now.current (λ c. result ≡ c.line) }
+        ensures tied { (client : ℕ) (lines : List ScriptLine) (replies : List Response) → IsAfter client lines replies self.now → current_line client lines replies ≡ Some result }
+    {
+        match &self.current {
+            None => unreachable!(),
+            Some(current) => current.line,
         }
     }
 
@@ -138,6 +152,7 @@ impl ClientCore {
         requires some { IsSome self.old.current }
         requires few { self.old.step < 2 ^ 46 }
         ensures after { (client : ℕ) (lines : List ScriptLine) (replies : List Response) → IsAfter client lines replies self.old → IsAfter client lines (replies ++ response_of reply.now ∷ []) self.new }
+        ensures taken { HasTaken (response_of reply.now) self.old self.new }
         ensures step { self.new.step ≡ self.old.step + 1 }
     {
         let step = self.step + 1;

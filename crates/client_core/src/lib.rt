@@ -10,14 +10,18 @@
 //! A draft: no tests, no must-fail edits. `ClientCore::new` takes all memory.
 #![tactic(auto)]
 
+mod call;
 mod client;
 mod command;
 mod event;
 pub mod examples;
 mod laws;
 mod machine;
+mod stop;
 mod task;
 
+pub use call::call_of;
 pub use client::ClientCore;
 pub use event::{Event, Want};
-pub use laws::{calls_are_few, repeats_grow_by_replies};
+pub use laws::{calls_are_few, one_reply_repeats_once};
+pub use stop::Stop;

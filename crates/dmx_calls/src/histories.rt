@@ -54,7 +54,8 @@ impl Histories {
     /// The batches that passed every node, and the clients' entries on this node, 0 to 32, in order of place.
     pub fn node(&self, node: u32) -> (&[Fed], &[Entry])
         requires { node ≤ DEMUX_NODES }
-        ensures { slice_get self.now node ≡ Some (woven node (feeder_acts result.0.now) (map told_entry result.1.now)) }
+        ensures history { slice_get self.now node ≡ Some (woven node (feeder_acts result.0.now) (map told_entry result.1.now)) }
+        ensures nodes { length self.now ≡ DEMUX_NODES + 1 }
     {
         (&self.feeding, &self.nodes[node as usize])
     }
