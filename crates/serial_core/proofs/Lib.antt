@@ -3,3 +3,4 @@ pub mod Pairs
 pub mod Seats
 pub mod FedOn
 pub mod Going
+pub mod Drawing

@@ -5,6 +5,7 @@ mod laws;
 mod examples;
 mod node;
 mod nodes;
+mod runner;
 mod seat;
 
 pub use laws::{the_serial_run_is_one, what_is_tried_is_the_run};

@@ -1,0 +1,58 @@
+// A run on its way: the nodes, the stream, and the moment.
+ghost use Rattle.std.specs.Prelude.{◌≡◌, ℕ, ◌+◌, ◌-◌, ◌<◌, ◌≤◌, ◌^◌, ◌×◌, List, [], length, min, IfOk, OnOk, OnErr};
+ghost use Rattle.serial_core.specs.SerialRun.{Run, ended, fed, finished, turned};
+ghost use Rattle.serial_core.specs.Moving.{Draws, HasMade, IsSmall, Moves, turns_of};
+ghost use Rattle.feed_pull.specs.declared.fault.Reading.TheVariants.{Going};
+
+use crate::nodes::Nodes;
+use emu_io::Source;
+use feed_pull::Puller;
+use std::alloc::AllocError as NoMemory;
+use std::sync::ledger::Ledger;
+use steps::Steps;
+
+// The nodes, the packets that haven't passed them yet, and the moment in milliseconds.
+#[derive(Drop)]
+pub struct Runner {
+    pub nodes: Nodes,
+    pub puller: Puller,
+    pub moment: u64,
+}
+
+impl Runner {
+    // The feeder's next turn: a batch of at most so many packets passes, or End where none is left. It answers how many
+    // packets passed.
+    pub fn turn<S: Source, L: Ledger>(
+        &mut self,
+        source: &mut S,
+        most: u32,
+        steps: &mut Steps<L>,
+    ) -> Result<u32, NoMemory>
+        requires some { 1 ≤ most }
+        requires few { most ≤ 64 }
+        requires faults { self.old.puller.reading ≡ Going → S.faults source.old < 2 ^ 64 - 1 }
+        requires small { IsSmall self.old }
+        requires made { HasMade self.old 8796093022208 }
+        ensures moves { IfOk result (λ n. Moves (S.left source.old) (S.left source.new) (S.faults source.old) (S.faults source.new) self.old self.new
+            (λ r s. (s ≡ turned most r) × (n ≡ min most (length r.left)))) }
+        ensures draws { OnErr result ((packets : List (List ℕ)) × Draws (S.left source.old) (S.left source.new) (S.faults source.old) (S.faults source.new) self.old.puller self.new.puller packets) }
+        ensures small { OnOk result (IsSmall self.new) }
+        ensures made { OnOk result ((calls : ℕ) → HasMade self.old calls → HasMade self.new calls) }
+        ensures most { IfOk result (λ n. n ≤ most) }
+    {
+        if self.nodes.has_ended {
+            return Ok(0);
+        }
+        match self.puller.pull(source, most)? {
+            Some(batch) => {
+                let count = batch.count();
+                self.nodes.pass(batch, self.moment, steps)?;
+                Ok(count)
+            }
+            None => {
+                self.nodes.end(steps)?;
+                Ok(0)
+            }
+        }
+    }
+}
