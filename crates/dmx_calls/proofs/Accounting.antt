@@ -97,7 +97,7 @@ module _ (node : Rules) where
   open_fits bytes h None = tt
   open_fits bytes h (Some who) = tt
 
-  response_fits : (h : History) (g : Facts) (call : Invocation) → Fits node (joined node h) h (response_to (facts node h) g call)
+  pub response_fits : (h : History) (g : Facts) (call : Invocation) → Fits node (joined node h) h (response_to (facts node h) g call)
   unfolding facts
   response_fits h g Open = open_fits (joined node h) h (facts node h).owner
   response_fits h g Close = dropping_fits (joined node h) h (facts node h).ledger _

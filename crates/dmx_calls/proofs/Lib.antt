@@ -6,3 +6,10 @@ pub mod Nodes
 pub mod Accounting
 pub mod LawsHold
 pub mod Pieces
+pub mod Weaving
+pub mod Bytes
+pub mod Owning
+pub mod Pending
+pub mod Numbered
+pub mod Telling
+pub mod Lasts

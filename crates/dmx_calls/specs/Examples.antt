@@ -7,3 +7,4 @@ pub mod Timeouts
 pub mod Taps
 pub mod Dvr
 pub mod Refusals
+pub mod Histories

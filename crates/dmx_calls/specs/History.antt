@@ -1,7 +1,7 @@
 -- Histories of one node (this project's own).
 use Rattle.std.specs.Prelude.{ℕ, Bool, List, [], ◌∷◌, ◌++◌, filter, Option, Some, None, if◌then◌else◌}
 use Rattle.std.specs.Option.{option_or}
-use Rattle.dmx_calls.specs.Invocation.{Invocation}
+use Rattle.dmx_calls.specs.Invocation.{Invocation, brought}
 use Rattle.dmx_calls.specs.Response.{Response, is_accepted}
 
 -- one call: its caller's number, the call, its response
@@ -29,6 +29,11 @@ event e h = record { entry = e; before = h }
 abbrev pub events : History → List Event
 events [] = []
 events (e ∷ h) = event e h ∷ events h
+
+-- the packets of all passes, in the order of the passes
+abbrev pub brought_by : History → List (List ℕ)
+brought_by [] = []
+brought_by (e ∷ h) = brought_by h ++ brought e.invocation
 
 -- the events of accepted entries
 abbrev pub accepted : History → List Event

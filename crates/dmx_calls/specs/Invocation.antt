@@ -1,5 +1,5 @@
 -- Invocations: the calls of a history, as plain data.
-use Rattle.std.specs.Prelude.{ℕ, List, length}
+use Rattle.std.specs.Prelude.{ℕ, List, [], length}
 use Rattle.dmx_calls.specs.declared.params.Input.{Input}
 use Rattle.dmx_calls.specs.declared.params.SectionParams.{SectionParams}
 use Rattle.dmx_calls.specs.declared.params.PesParams.{PesParams}
@@ -22,7 +22,11 @@ pub data Invocation : Type 0 where
   Attach : (node : ℕ) → (pids : List ℕ) → Invocation
   Detach : (node : ℕ) → Invocation
 
--- how many packets a call brings
+-- the packets that a call brings
+abbrev pub brought : Invocation → List (List ℕ)
+brought (Pass input first packets now) = packets
+brought _ = []
+
+-- how many there are
 abbrev pub packets_of_call : Invocation → ℕ
-packets_of_call (Pass input first packets now) = length packets
-packets_of_call _ = 0
+packets_of_call call = length (brought call)

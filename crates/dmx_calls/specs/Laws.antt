@@ -1,6 +1,8 @@
 -- Laws of histories.
 use Rattle.std.specs.Prelude.{ℕ, ◌<◌, ◌≡◌, false, List, ◌∷◌, ◌++◌, reverse, Some}
-use Rattle.dmx_calls.specs.Response.{is_accepted}
+use Rattle.dmx_calls.specs.declared.params.Input.{Input}
+use Rattle.dmx_calls.specs.Invocation.{Pass, End}
+use Rattle.dmx_calls.specs.Response.{Response, Passed, is_accepted}
 use Rattle.dmx_calls.specs.History.{Entry, History, Since}
 use Rattle.dmx_calls.specs.Tenure.{tenure, owner, has_ended}
 use Rattle.dmx_calls.specs.Capture.{live}
@@ -9,7 +11,7 @@ use Rattle.dmx_calls.specs.Taps.{tap_of}
 use Rattle.dmx_calls.specs.Rules.{Rules}
 use Rattle.dmx_calls.specs.Ledger.{Misfit, joined, answered, over}
 use Rattle.dmx_calls.specs.Facts.{facts}
-use Rattle.dmx_calls.specs.Legal.{IsLegalFor}
+use Rattle.dmx_calls.specs.Legal.{May, IsLegalFor}
 use Rattle.dmx_calls.specs.Accounted.{IsAccounted}
 use Rattle.dmx_calls.specs.Examples.Words.{Plays}
 
@@ -52,3 +54,8 @@ ItemsOnlyGrow node =
 -- The item of a pending overflow needs more than the room that it found.
 abbrev pub OverflowNeedsMore : Rules → Type 0
 OverflowNeedsMore node = (h : History) (x : Misfit) → over node h ≡ Some x → x.room < x.need
+
+-- A Pass and an End go by: they are answered Passed, whoever calls them and whatever came before.
+pub record PassesGoBy (node : Rules) : Type 0 where
+  pub passes : (h : History) (who : ℕ) (input : Input) (first : ℕ) (packets : List (List ℕ)) (now : ℕ) (r : Response) → May node h who (Pass input first packets now) r → r ≡ Passed
+  pub ends : (h : History) (who : ℕ) (r : Response) → May node h who End r → r ≡ Passed

@@ -15,6 +15,11 @@ pub mod Legal
 pub mod Accounted
 pub mod Calls
 pub mod Log
+pub mod Histories
+pub mod Head
 pub mod Back
+pub mod Entries
 pub mod Laws
 pub mod Examples
+pub mod Bytes
+pub mod Owning

@@ -1,6 +1,5 @@
 -- The entries of a report, and the history that they tell.
-use Rattle.std.specs.Prelude.{ℕ, List, [], ◌∷◌, ◌++◌, length, map, reverse, take, drop, nat_eq}
-use Rattle.std.specs.List.{count_by}
+use Rattle.std.specs.Prelude.{ℕ, ◌≡◌, List, length, map, reverse, take, drop}
 use Rattle.dmx_calls.specs.declared.params.Input.{Input}
 use Rattle.dmx_calls.specs.declared.params.SectionParams.{SectionParams}
 use Rattle.dmx_calls.specs.declared.params.PesParams.{PesParams}
@@ -60,8 +59,6 @@ filled_entry packets e = record { who = e.who; invocation = filled_act packets e
 abbrev pub filled : List (List ℕ) → List LogEntry → History
 filled packets entries = reverse (map (filled_entry packets) entries)
 
--- ------ the log of a history, where one node is all that its callers call
-
 -- a call as a report tells it
 abbrev pub act_of : Invocation → Act
 act_of Open = OpenAct
@@ -80,15 +77,11 @@ act_of End = EndAct
 act_of (Attach node pids) = AttachAct node pids
 act_of (Detach node) = DetachAct node
 
--- how many calls of this caller are in the history
-abbrev pub calls_of : (who : ℕ) → History → ℕ
-calls_of who h = count_by (λ e. nat_eq e.who who) h
+-- the packets that the call brings are those of the stream, from its first on
+abbrev pub IsOfStream : (stream : List (List ℕ)) → Invocation → Type 0
+IsOfStream stream (Pass input first packets now) = packets ≡ take (length packets) (drop first stream)
+IsOfStream stream _ = Unit {0}
 
--- an entry behind this history: its place is the history's length, its step the number of its caller's calls there
-abbrev pub log_entry : (node : ℕ) → Entry → History → LogEntry
-log_entry node e h = record { node = node; place = length h; step = calls_of e.who h; who = e.who; act = act_of e.invocation; response = e.response }
-
--- the entries of a node's history, the oldest first
-abbrev pub log_of : (node : ℕ) → History → List LogEntry
-log_of node [] = []
-log_of node (e ∷ h) = log_of node h ++ log_entry node e h ∷ []
+-- A call as a report tells it, filled with the stream's packets, is the call: nothing of it is lost.
+abbrev pub FilledIsTheCall : Type 0
+FilledIsTheCall = (stream : List (List ℕ)) (call : Invocation) → IsOfStream stream call → filled_act stream (act_of call) ≡ call

@@ -1,6 +1,7 @@
 -- In what the two kinds of node differ. Ledger, responses and legal histories are the same for both, over these rules.
-use Rattle.std.specs.Prelude.{ℕ, Bool, true, false, ◌||◌, List, [], Option, None, option_map}
+use Rattle.std.specs.Prelude.{ℕ, Bool, true, false, ◌||◌, List, [], Option, None, option_map, nat_lt, if◌then◌else◌}
 use Rattle.std.specs.List.{list_any}
+use Rattle.dmx_calls.specs.declared.limits.TheConstants.{DEMUX_NODES}
 use Rattle.dmx_calls.specs.declared.node.NodeKind.{NodeKind}
 use Rattle.dmx_calls.specs.declared.node.NodeKind.TheVariants.{Demux, Dvr}
 use Rattle.dmx_calls.specs.Response.{TimedOut}
@@ -65,3 +66,7 @@ dvr = record {
   expired = λ h. None;
   is_told = λ h. false;
 }
+
+-- the rules of the node of this number: 0 to 31 are demux nodes, and 32 is the dvr node
+unfoldable pub rules_at : (node : ℕ) → Rules
+rules_at node = if nat_lt node DEMUX_NODES then demux else dvr

@@ -8,6 +8,7 @@ ghost use Rattle.dmx_calls.specs.Examples.Timeouts.{NoSectionInTime, SectionInTi
 ghost use Rattle.dmx_calls.specs.Examples.Taps.{TapOfAStart, PidsOfATap, TapOfASetCall};
 ghost use Rattle.dmx_calls.specs.Examples.Dvr.{RecordingWithOneDelivery, RecordingByTheOtherTap, TwoOwnersInTurn, TapsOutlastTheTenure, RecordingThatOverflows, RecordingResized, TapOfNoNode};
 ghost use Rattle.dmx_calls.specs.Examples.Refusals.{OpenInEachState, CloseInEachState, SetFilterInEachState, SetPesInEachState, AddAndRemovePidInEachState, StartInEachState, StopInEachState, SameSizeInEachState, OtherSizeInEachState, ReadInEachState, PollInEachState, PassInEachState, EndInEachState, AttachAndDetachInEachState, FreeNode, AnotherCaller, OwnerTestComesFirst, ArgumentsThatAreTaken, ArgumentsThatAreRefused, PidsOfAPayloadTap, ThirtyTwoPids, RefusedSetCall, FreeDvr, DvrByAnotherCaller, DvrByItsOwner, DvrSizes};
+ghost use Rattle.dmx_calls.specs.Examples.Histories.{CallsBetweenBatches, FeederAlone, EndAlone};
 
 /// Reads of PES filters.
 pub fn reads()
@@ -114,4 +115,11 @@ pub fn refusals()
     ensures dvr_by_another_caller { DvrByAnotherCaller }
     ensures dvr_by_its_owner { DvrByItsOwner }
     ensures dvr_sizes { DvrSizes }
+{}
+
+/// The feeder's calls and the clients' entries of a node.
+pub fn woven_histories()
+    ensures calls_between_batches { CallsBetweenBatches }
+    ensures feeder_alone { FeederAlone }
+    ensures end_alone { EndAlone }
 {}

@@ -1,7 +1,10 @@
 // Laws of histories: each is the contract of a function that does nothing.
 
 ghost use Rattle.dmx_calls.specs.Rules.{Rules, demux, dvr};
-ghost use Rattle.dmx_calls.specs.Laws.{LegalIsAccounted, PlayedIsLegal, UnacceptedChangesNothing, ItemsOnlyGrow, OverflowNeedsMore};
+ghost use Rattle.dmx_calls.specs.Owning.{OthersLeaveTheOwner, OthersDoNotRead, ReadersCallBetween};
+ghost use Rattle.dmx_calls.specs.Bytes.{AnswersFitThePackets, OverflowNamesAByte};
+ghost use Rattle.dmx_calls.specs.Log.{FilledIsTheCall};
+ghost use Rattle.dmx_calls.specs.Laws.{LegalIsAccounted, PlayedIsLegal, UnacceptedChangesNothing, ItemsOnlyGrow, OverflowNeedsMore, PassesGoBy};
 
 /// Each byte of each capture of a legal history is given, named as lost or named as dropped, in its place.
 pub fn legal_histories_are_accounted()
@@ -29,4 +32,35 @@ pub fn items_only_grow()
 /// The item of a pending overflow needs more than the room that it found.
 pub fn overflows_need_more_than_their_room()
     ensures { (node : Rules) → OverflowNeedsMore node }
+{}
+
+/// A node answers, as given or as lost, no more bytes than its passes bring.
+pub fn answers_fit_the_packets()
+    ensures demux_nodes { AnswersFitThePackets demux }
+    ensures dvr_node { AnswersFitThePackets dvr }
+{}
+
+/// Nobody but its owner reads a node, and it stays its owner's whatever others call.
+pub fn a_node_is_its_owners()
+    ensures stays { (node : Rules) → OthersLeaveTheOwner node }
+    ensures reads { (node : Rules) → OthersDoNotRead node }
+    ensures between { (node : Rules) → ReadersCallBetween node }
+{}
+
+/// An Overflow names at least one byte.
+pub fn an_overflow_names_a_byte()
+    ensures demux_nodes { OverflowNamesAByte demux }
+    ensures dvr_node { OverflowNamesAByte dvr }
+{}
+
+/// A Pass and an End are answered Passed.
+#[tactic(auto, using(crate::proofs::Telling::go_by))]
+pub fn passes_go_by()
+    ensures { (node : Rules) → PassesGoBy node }
+{}
+
+/// A report loses nothing of a call: filled with the packets of the stream, it is the call.
+#[tactic(auto, using(crate::proofs::Telling::fills))]
+pub fn filled_calls_are_the_calls()
+    ensures { FilledIsTheCall }
 {}

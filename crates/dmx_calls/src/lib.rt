@@ -8,12 +8,16 @@
 //! a state that is kept.
 //!
 //! What a contract sees: `invocation_of` a `Call` and `response_of` a `Reply`; `params_of` and `pids_of` the `Params`; a
-//! `ByteBuf` as its count and its bytes.
+//! `ByteBuf` as its count and its bytes; `Histories` as 33 lists of entries, each whole: on each node the clients' entries
+//! stand at their places, and the feeder's calls, which are kept once, at all others (`woven`). `Act`, `Entry` and `Outcome`
+//! are what a report tells of a call, of its reply and of a script's command.
 //!
-//! What is proved: each call of `ByteBuf`. `refusal`, whose body is the table of calls and states, is the refusal that
+//! What is proved: each call of `ByteBuf` and of `Histories`. `refusal`, whose body is the table of calls and states, is the refusal that
 //! the answer of a history names. The laws of `laws`: every legal history is accounted, so each byte is given,
 //! named as lost or named as dropped, in its place; an entry that isn't accepted changes nothing; the items of a capture
-//! only grow; an overflow's item needs more than the room that it found. The worked examples of `examples`, worked out by
+//! only grow; an overflow's item needs more than the room that it found; a node answers no more bytes than its passes bring,
+//! and an Overflow at least one; nobody but its owner reads a node, and it stays the owner's whatever others call; a Pass
+//! and an End are answered Passed; a report loses nothing of a call. The worked examples of `examples`, worked out by
 //! hand from the rules, are what the definitions give: every call in every state, reads, overflows, sections, timeouts,
 //! taps and recordings. Both have empty bodies; the check computes or proves their contracts.
 //!
@@ -25,10 +29,13 @@
 mod byte_buf;
 mod call;
 pub mod examples;
+mod head;
+mod histories;
 pub mod laws;
 pub mod limits;
 mod log;
 mod node;
+mod outcome;
 mod params;
 #[cfg(test)]
 mod refusal_tests;
@@ -36,11 +43,16 @@ mod refusals;
 mod reply;
 #[cfg(test)]
 mod tests;
+mod told;
 
 pub use byte_buf::ByteBuf;
 pub use call::Call;
+pub use head::{Head, PidRow};
+pub use histories::{Fed, Histories};
 pub use log::{Act, Entry};
 pub use node::{NodeKind, State};
+pub use outcome::{Outcome, OutcomeKind};
 pub use params::{Input, Output, Params, PesParams, SectionParams};
 pub use refusals::refusal;
 pub use reply::{Answer, Errno, PollError, Reply, Span, Tap};
+pub use told::Told;

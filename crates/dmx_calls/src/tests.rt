@@ -1,6 +1,6 @@
 //! Buffers of reads, filled and emptied.
 
-use crate::ByteBuf;
+use crate::{Act, ByteBuf, Entry, Fed, Histories, Reply};
 use std::alloc::AllocError as NoMemory;
 
 #[test]
@@ -42,5 +42,37 @@ fn a_fitted_copy_has_the_bytes_and_room_for_no_more(rt: HostRuntime) -> Result<(
     assert_eq!(rt; copy.count(), 3);
     assert_eq!(rt; buf.bytes(), [7, 8, 9].as_slice());
     assert_eq!(rt; buf.count(), 1000);
+    Ok(())
+}
+
+#[test]
+fn histories_give_the_batches_and_the_entries_of_each_node(
+    rt: HostRuntime,
+) -> Result<(), NoMemory> {
+    let fed = Fed {
+        first: 0,
+        count: 64,
+        now: 5,
+    };
+    let mut nodes: Vec<Vec<Entry>> = Vec::with_capacity(rt.alloc(), 33)?;
+    for node in 0..33u32 {
+        let mut calls = Vec::new(rt.alloc());
+        calls.push(Entry {
+            node,
+            place: 1,
+            step: 0,
+            who: 1,
+            act: Act::SetSize(node),
+            reply: Reply::Passed,
+        })?;
+        nodes.push(calls)?;
+    }
+    let histories = Histories::new(vec![in rt.alloc(); fed]?, nodes);
+    for node in [0u32, 7, 32] {
+        let (feeding, calls) = histories.node(node);
+        assert_eq!(rt; feeding, [fed].as_slice());
+        assert_eq!(rt; calls.len(), 1);
+        assert_eq!(rt; calls[0].act, Act::SetSize(node));
+    }
     Ok(())
 }

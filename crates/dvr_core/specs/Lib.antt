@@ -4,3 +4,4 @@ pub mod Gives
 pub mod Stands
 pub mod KeptView
 pub mod CoreView
+pub mod Counts

@@ -5,3 +5,4 @@ pub mod Gives
 pub mod KeptView
 pub mod Stands
 pub mod CoreView
+pub mod Counts

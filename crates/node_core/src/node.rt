@@ -18,7 +18,8 @@ ghost use Rattle.node_core.specs.KeptView.{knows_of, bytes_in};
 ghost use Rattle.node_core.specs.Stands.{StandsFor};
 
 use crate::kept::Kept;
-use dmx_calls::{Answer, Call, Reply, State};
+use dmx_calls::{Answer, Call, Reply, State, Told};
+use machine::Machine;
 use node_buffer::{plain, refused};
 use std::alloc::Global;
 use std::marker::Model;
@@ -153,4 +154,39 @@ impl NodeCore {
         self.entries += 1;
         answer
     }
+}
+
+/// A history of the machine has its oldest entry first, and one of the node its newest.
+impl Machine for NodeCore {
+    ghost use Rattle.std.specs.Prelude.{refl, reverse};
+    ghost use Rattle.dmx_calls.specs.Back.{GivesBack};
+    ghost use Rattle.dmx_calls.specs.Entries.{told, caller_of, packets_of};
+    ghost use Rattle.node_core.specs.Stands.{StandsFor};
+    ghost use Rattle.node_core.specs.Counts.{counted};
+
+    type Call = Call;
+
+    type Answer = Answer;
+
+    type Entry = Told;
+
+    ghost entry_of = { told };
+
+    ghost who_of = { caller_of };
+
+    ghost hands_back = { GivesBack };
+
+    ghost stands_for = { λ m h. StandsFor m (reverse h) };
+
+    ghost entries = { λ m. m.entries };
+
+    ghost most = { λ h call. packets_of call };
+
+    fn apply<L: Ledger>(&mut self, who: u32, call: Call, steps: &mut Steps<L>) -> Answer {
+        NodeCore::apply(self, who, call, steps)
+    }
+
+    ghost names = { λ who call answer. refl };
+
+    ghost counts = { counted };
 }

@@ -4,10 +4,10 @@ ghost use Rattle.node_lock.specs.Seats.{dealt};
 
 use crate::kinds::Deal;
 use crate::lock::NodeLock;
-use crate::machine::Machine;
 use crate::pass::Pass;
 use crate::view::View;
 use atomic_table::Seat;
+use machine::Machine;
 
 /// How many calls may be made with a pass, and so how many entries a caller may have.
 pub(crate) const CALLS: u64 = 1 << 44;

@@ -1,9 +1,9 @@
 //! The kinds of step that a seat may make, each with what it tells its caller, and the rule that every step keeps.
 ghost use Rattle.std.specs.Prelude.{◌≡◌};
 
-use crate::machine::Machine;
 use crate::view::View;
 use atomic_table::{Join, Play, Split, TableRule};
+use machine::Machine;
 use std::marker::{Brand, PhantomData};
 
 /// The rule of the lock over machines `M`. Its key is the number of callers.

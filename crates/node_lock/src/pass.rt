@@ -2,9 +2,9 @@
 ghost use Rattle.std.specs.Prelude.{◌≡◌, [], ◌<◌, ◌≤◌, ◌^◌};
 ghost use Rattle.node_lock.specs.declared.view.Stage.TheVariants.{Free};
 
-use crate::machine::Machine;
 use crate::view::View;
 use atomic_table::Seat;
+use machine::Machine;
 use std::marker::Model;
 
 /// The right of one caller to call a lock. A pass isn't copied, so one call at a time is made with it.

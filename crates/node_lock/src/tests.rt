@@ -3,8 +3,8 @@ ghost use Rattle.std.specs.Prelude.{◌≡◌, ℕ, ◌+◌, ◌*◌, ◌<◌, �
 ghost use Rattle.node_lock.specs.Passes.{IsFresh, AreFresh};
 
 use crate::lock::{Held, NodeLock};
-use crate::machine::Machine;
 use crate::pass::Pass;
+use machine::Machine;
 use std::alloc::{AllocError as NoMemory, Global};
 use std::marker::Brand;
 use std::sync::Wait;

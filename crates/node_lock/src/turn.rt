@@ -8,9 +8,9 @@ ghost use Rattle.node_lock.specs.Passes.{KnowsItsCalls};
 
 use crate::kinds::{Done, Look, Recall, Says, Take, Try};
 use crate::lock::{MACHINE, NodeLock, SERVED, TICKETS};
-use crate::machine::Machine;
 use crate::view::View;
 use atomic_table::Seat;
+use machine::Machine;
 use std::marker::Brand;
 use std::snapshot::Snapshot;
 use std::sync::Wait;

@@ -50,7 +50,7 @@ fn packets_fit_up_to_one_byte_less_than_the_size(rt: HostRuntime) -> Result<(), 
     Ok(())
 }
 
-// A ring of size 6 holds five bytes. Its bytes are moved to the front where more than ten would stand in its store.
+// A ring of size 6 holds five bytes, in a block of five that is used round and round.
 #[test]
 fn bytes_come_in_the_order_in_which_they_were_put(rt: HostRuntime) -> Result<(), NoMemory> {
     let mut ring = Ring::new(rt.alloc(), 6)?;

@@ -1,0 +1,3 @@
+pub mod GoesOn
+pub mod Few
+pub mod More

@@ -1,0 +1,326 @@
+-- One reply more repeats at most one read more.
+use Rattle.std.proofs.Common.{◌≡◌, refl, sym, ap, subst, ◌∙◌, ℕ, ◌+◌, ◌<◌, ◌≤◌, Bool, true, false, List, [], ◌∷◌, ◌++◌, Option, Some, None, arith}
+use Rattle.std.specs.Prelude.{nat_lt, if◌then◌else◌, slice_index_or, option_map}
+use Rattle.std.specs.Option.{MatchOption}
+use Rattle.dmx_calls.specs.declared.limits.TheConstants.{DEMUX_NODES}
+use Rattle.dmx_calls.specs.Response.{TapChange, KeepTap, AttachTap, DetachTap, Response, Done, Busy, Refused, NoMemory, Data, Again, Overflow, TimedOut, Ready, Passed}
+use Rattle.client_script.specs.declared.line.Line.{Line}
+use Rattle.client_script.specs.declared.line.Target.{Target}
+use Rattle.client_script.specs.declared.line.Target.TheVariants.{Node, Slot, Dvr}
+use Rattle.client_script.specs.declared.line.Verb.{Verb}
+use Rattle.client_script.specs.declared.line.Verb.TheVariants as verb
+use Rattle.client_core.specs.declared.command.Command.{Command}
+use Rattle.client_core.specs.declared.event.Event.{Event}
+use Rattle.client_core.specs.declared.event.Want.{Want}
+use Rattle.client_core.specs.declared.event.Want.TheVariants.{Open}
+use Rattle.client_core.specs.declared.task.Ending.{Ending}
+use Rattle.client_core.specs.declared.task.Ending.TheVariants.{Made, Bound, AllBusy}
+use Rattle.client_core.specs.Commands.{Slots, Doing, stands, through, once, told, called, opened, read_until, done_on, done_at, done_by_slot, done, ends_wait, ends_drain, commands_of}
+use Rattle.client_core.specs.Events.{Standing, Progress, with_outcome, kind_of, slots_after, progress_from, progress, no_slots, waits_after}
+use Rattle.client_core.specs.Budget.{repeated, repeats_on, repeats_at, repeats_in, repeats_from, repeats}
+use Rattle.client_core.specs.Core.{waits_with}
+use Rattle.client_core.specs.More.{added_by, OneReplyMore}
+use Rattle.client_core.proofs.GoesOn.{last_counts, waits_still}
+
+-- A command with one reply more: where it was through, it leaves this reply too. Where it stood, it stands at a later step, or is through, and then no read is repeated. So many reads are repeated before and after.
+abbrev pub Onward : (step : ℕ) → Response → (before after : ℕ) → Doing → Doing → Type 0
+Onward step r m n (through ending next left) d = (d ≡ through ending next (left ++ r ∷ [])) × (n ≡ m)
+Onward step r m n (stands e) (stands f) = (step < f.step) × (n ≤ m + added_by e.want r)
+Onward step r m n (stands e) (through ending next left) = (left ≡ []) × (n ≤ m)
+
+-- from an earlier step
+earlier : (step later : ℕ) (r : Response) (m n : ℕ) (d f : Doing) → step ≤ later → Onward later r m n d f → Onward step r m n d f
+earlier step later r m n (through ending next left) f le on = on
+earlier step later r m n (stands e) (stands f) le on = (omega (arith, le, on.0), on.1)
+earlier step later r m n (stands e) (through ending next left) le on = on
+
+-- one more before
+both_more : (step : ℕ) (r : Response) (m n : ℕ) (d f : Doing) → Onward step r m n d f → Onward step r (1 + m) (1 + n) d f
+both_more step r m n (through ending next left) f on = (on.0, ap (λ k. 1 + k) on.1)
+both_more step r m n (stands e) (stands f) on = (on.0, omega (arith, on.1))
+both_more step r m n (stands e) (through ending next left) on = (on.0, omega (arith, on.1))
+
+if_on : (b : Bool) (step : ℕ) (r : Response) (m n : ℕ) (c d f g : Doing) → Onward step r m n c f → Onward step r m n d g → Onward step r m n (if b then c else d) (if b then f else g)
+if_on true step r m n c d f g x y = x
+if_on false step r m n c d f g x y = y
+
+if_after : (b : Bool) (step : ℕ) (r : Response) (m n : ℕ) (c f g : Doing) → Onward step r m n c f → Onward step r m n c g → Onward step r m n c (if b then f else g)
+if_after true step r m n c f g x y = x
+if_after false step r m n c f g x y = y
+
+-- ------ one call
+
+once_on : (ending : Ending) (node : ℕ) (w : Want) (step : ℕ) (rs : List Response) (r : Response) → Onward step r 0 0 (once ending node w step rs) (once ending node w step (rs ++ r ∷ []))
+once_on ending node w step [] r = (refl, omega arith)
+once_on ending node w step (q ∷ rs) r = (refl, refl)
+
+told_on : (ending : Ending) (node : ℕ) (tap : TapChange) (step : ℕ) (rs : List Response) (r : Response) → Onward step r 0 0 (told ending node tap step rs) (told ending node tap step (rs ++ r ∷ []))
+told_on ending node KeepTap step rs r = (refl, refl)
+told_on ending node (AttachTap pids) step rs r = once_on ending DEMUX_NODES _ step rs r
+told_on ending node DetachTap step rs r = once_on ending DEMUX_NODES _ step rs r
+
+-- after the call that stood there
+told_after : (e : Event) (ending : Ending) (node : ℕ) (tap : TapChange) (step : ℕ) (r : Response) → Onward step r 0 0 (stands e) (told ending node tap (step + 1) [])
+told_after e ending node KeepTap step r = (refl, omega arith)
+told_after e ending node (AttachTap pids) step r = (omega arith, omega arith)
+told_after e ending node DetachTap step r = (omega arith, omega arith)
+
+called_on : (node : ℕ) (w : Want) (step : ℕ) (rs : List Response) (r : Response) → Onward step r 0 0 (called node w step rs) (called node w step (rs ++ r ∷ []))
+called_on node w step [] (Done from to tap) =
+    if_after (nat_lt node DEMUX_NODES) step (Done from to tap) 0 0 (stands (record { step = step; node = node; want = w })) (told Made node tap (step + 1) []) (through Made (step + 1) []) (told_after (record { step = step; node = node; want = w }) Made node tap step (Done from to tap)) (refl, omega arith)
+called_on node w step [] (Busy x) = (refl, omega arith)
+called_on node w step [] (Refused x) = (refl, omega arith)
+called_on node w step [] NoMemory = (refl, omega arith)
+called_on node w step [] (Data x) = (refl, omega arith)
+called_on node w step [] (Again x) = (refl, omega arith)
+called_on node w step [] (Overflow a b c d e) = (refl, omega arith)
+called_on node w step [] (TimedOut a b c) = (refl, omega arith)
+called_on node w step [] (Ready a b c d) = (refl, omega arith)
+called_on node w step [] Passed = (refl, omega arith)
+called_on node w step (Done from to tap ∷ rs) r =
+    if_on (nat_lt node DEMUX_NODES) step r 0 0 (told Made node tap (step + 1) rs) (through Made (step + 1) rs) (told Made node tap (step + 1) (rs ++ r ∷ [])) (through Made (step + 1) (rs ++ r ∷ []))
+    (earlier step (step + 1) r 0 0 (told Made node tap (step + 1) rs) (told Made node tap (step + 1) (rs ++ r ∷ [])) (omega arith) (told_on Made node tap (step + 1) rs r)) (refl, refl)
+called_on node w step (Busy x ∷ rs) r = (refl, refl)
+called_on node w step (Refused x ∷ rs) r = (refl, refl)
+called_on node w step (NoMemory ∷ rs) r = (refl, refl)
+called_on node w step (Data x ∷ rs) r = (refl, refl)
+called_on node w step (Again x ∷ rs) r = (refl, refl)
+called_on node w step (Overflow a b c d e ∷ rs) r = (refl, refl)
+called_on node w step (TimedOut a b c ∷ rs) r = (refl, refl)
+called_on node w step (Ready a b c d ∷ rs) r = (refl, refl)
+called_on node w step (Passed ∷ rs) r = (refl, refl)
+
+-- ------ an open of a slot
+
+opened_on : (slot node step : ℕ) (rs : List Response) (r : Response) → Onward step r 0 0 (opened slot node step rs) (opened slot node step (rs ++ r ∷ []))
+opened_on slot node step [] (Busy x) =
+    if_after (nat_lt (node + 1) DEMUX_NODES) step (Busy x) 0 0 (opened slot node step []) (opened slot (node + 1) (step + 1) []) (through AllBusy (step + 1) []) (omega arith, omega arith) (refl, omega arith)
+opened_on slot node step [] (Done from to tap) = told_after (record { step = step; node = node; want = Open }) (Bound slot node) node tap step (Done from to tap)
+opened_on slot node step [] (Refused x) = (refl, omega arith)
+opened_on slot node step [] NoMemory = (refl, omega arith)
+opened_on slot node step [] (Data x) = (refl, omega arith)
+opened_on slot node step [] (Again x) = (refl, omega arith)
+opened_on slot node step [] (Overflow a b c d e) = (refl, omega arith)
+opened_on slot node step [] (TimedOut a b c) = (refl, omega arith)
+opened_on slot node step [] (Ready a b c d) = (refl, omega arith)
+opened_on slot node step [] Passed = (refl, omega arith)
+opened_on slot node step (Busy x ∷ rs) r =
+    if_on (nat_lt (node + 1) DEMUX_NODES) step r 0 0 (opened slot (node + 1) (step + 1) rs) (through AllBusy (step + 1) rs) (opened slot (node + 1) (step + 1) (rs ++ r ∷ [])) (through AllBusy (step + 1) (rs ++ r ∷ []))
+    (earlier step (step + 1) r 0 0 (opened slot (node + 1) (step + 1) rs) (opened slot (node + 1) (step + 1) (rs ++ r ∷ [])) (omega arith) (opened_on slot (node + 1) (step + 1) rs r)) (refl, refl)
+opened_on slot node step (Done from to tap ∷ rs) r =
+    earlier step (step + 1) r 0 0 (told (Bound slot node) node tap (step + 1) rs) (told (Bound slot node) node tap (step + 1) (rs ++ r ∷ [])) (omega arith) (told_on (Bound slot node) node tap (step + 1) rs r)
+opened_on slot node step (Refused x ∷ rs) r = (refl, refl)
+opened_on slot node step (NoMemory ∷ rs) r = (refl, refl)
+opened_on slot node step (Data x ∷ rs) r = (refl, refl)
+opened_on slot node step (Again x ∷ rs) r = (refl, refl)
+opened_on slot node step (Overflow a b c d e ∷ rs) r = (refl, refl)
+opened_on slot node step (TimedOut a b c ∷ rs) r = (refl, refl)
+opened_on slot node step (Ready a b c d ∷ rs) r = (refl, refl)
+opened_on slot node step (Passed ∷ rs) r = (refl, refl)
+
+-- ------ a read that is repeated
+
+read_on : (ends : Response → Bool) → ((q : Response) → ends q ≡ false → ends_drain q ≡ false) → (node count step : ℕ) (rs : List Response) (r : Response)
+    → Onward step r (repeated ends rs) (repeated ends (rs ++ r ∷ [])) (read_until ends node count step rs) (read_until ends node count step (rs ++ r ∷ []))
+read_on ends sooner node count step [] r = go (ends r) refl where
+  go : (b : Bool) → ends r ≡ b → Onward step r 0 (if b then 0 else 1 + 0) (read_until ends node count step []) (if b then through Made (step + 1) [] else read_until ends node count (step + 1) [])
+  go true yea = (refl, omega arith)
+  go false nay = (omega arith, rw (sooner r nay) (omega arith))
+read_on ends sooner node count step (q ∷ rs) r = go (ends q) (read_on ends sooner node count (step + 1) rs r) where
+  go : (b : Bool) → Onward (step + 1) r (repeated ends rs) (repeated ends (rs ++ r ∷ [])) (read_until ends node count (step + 1) rs) (read_until ends node count (step + 1) (rs ++ r ∷ []))
+      → Onward step r (if b then 0 else 1 + repeated ends rs) (if b then 0 else 1 + repeated ends (rs ++ r ∷ [])) (if b then through Made (step + 1) rs else read_until ends node count (step + 1) rs)
+      (if b then through Made (step + 1) (rs ++ r ∷ []) else read_until ends node count (step + 1) (rs ++ r ∷ []))
+  go true on = (refl, refl)
+  go false on =
+      earlier step (step + 1) r (1 + repeated ends rs) (1 + repeated ends (rs ++ r ∷ [])) (read_until ends node count (step + 1) rs) (read_until ends node count (step + 1) (rs ++ r ∷ [])) (omega arith)
+      (both_more (step + 1) r (repeated ends rs) (repeated ends (rs ++ r ∷ [])) (read_until ends node count (step + 1) rs) (read_until ends node count (step + 1) (rs ++ r ∷ [])) on)
+
+wait_sooner : (q : Response) → ends_wait q ≡ false → ends_drain q ≡ false
+wait_sooner (Again false) is = refl
+wait_sooner (Again true) is = absurd (cc)
+wait_sooner (Done a b c) is = absurd (cc)
+wait_sooner (Busy a) is = absurd (cc)
+wait_sooner (Refused a) is = absurd (cc)
+wait_sooner NoMemory is = absurd (cc)
+wait_sooner (Data a) is = absurd (cc)
+wait_sooner (Overflow a b c d e) is = absurd (cc)
+wait_sooner (TimedOut a b c) is = absurd (cc)
+wait_sooner (Ready a b c d) is = absurd (cc)
+wait_sooner Passed is = absurd (cc)
+
+-- ------ a command
+
+on_on : (node : ℕ) (v : Verb) (step : ℕ) (rs : List Response) (r : Response) → Onward step r (repeats_on v rs) (repeats_on v (rs ++ r ∷ [])) (done_on node v step rs) (done_on node v step (rs ++ r ∷ []))
+on_on node (verb.ReadWait count) step rs r = read_on ends_wait wait_sooner node count step rs r
+on_on node (verb.Drain count) step rs r = read_on ends_drain (λ q is. is) node count step rs r
+on_on node verb.Open step rs r = called_on node _ step rs r
+on_on node verb.Close step rs r = called_on node _ step rs r
+on_on node (verb.Section p) step rs r = called_on node _ step rs r
+on_on node (verb.Pes p) step rs r = called_on node _ step rs r
+on_on node (verb.Add p) step rs r = called_on node _ step rs r
+on_on node (verb.Remove p) step rs r = called_on node _ step rs r
+on_on node verb.Start step rs r = called_on node _ step rs r
+on_on node verb.Stop step rs r = called_on node _ step rs r
+on_on node (verb.Size p) step rs r = called_on node _ step rs r
+on_on node (verb.Read p) step rs r = called_on node _ step rs r
+on_on node verb.Poll step rs r = called_on node _ step rs r
+
+at_on : (o : Option ℕ) (v : Verb) (step : ℕ) (rs : List Response) (r : Response) → Onward step r (repeats_at o v rs) (repeats_at o v (rs ++ r ∷ [])) (done_at o v step rs) (done_at o v step (rs ++ r ∷ []))
+at_on None v step rs r = (refl, refl)
+at_on (Some node) v step rs r = on_on node v step rs r
+
+open_slot_on : (o : Option ℕ) (slot step : ℕ) (rs : List Response) (r : Response) → Onward step r (repeats_at o verb.Open rs) (repeats_at o verb.Open (rs ++ r ∷ [])) (opened slot 0 step rs) (opened slot 0 step (rs ++ r ∷ []))
+open_slot_on None slot step rs r = opened_on slot 0 step rs r
+open_slot_on (Some node) slot step rs r = opened_on slot 0 step rs r
+
+slot_on : (slot : ℕ) (slots : Slots) (v : Verb) (step : ℕ) (rs : List Response) (r : Response)
+    → Onward step r (repeats_at (slice_index_or slots slot None) v rs) (repeats_at (slice_index_or slots slot None) v (rs ++ r ∷ [])) (done_by_slot slot slots v step rs) (done_by_slot slot slots v step (rs ++ r ∷ []))
+slot_on slot slots verb.Open step rs r = open_slot_on (slice_index_or slots slot None) slot step rs r
+slot_on slot slots (verb.ReadWait n) step rs r = at_on (slice_index_or slots slot None) (verb.ReadWait n) step rs r
+slot_on slot slots (verb.Drain n) step rs r = at_on (slice_index_or slots slot None) (verb.Drain n) step rs r
+slot_on slot slots verb.Close step rs r = at_on (slice_index_or slots slot None) verb.Close step rs r
+slot_on slot slots (verb.Section p) step rs r = at_on (slice_index_or slots slot None) (verb.Section p) step rs r
+slot_on slot slots (verb.Pes p) step rs r = at_on (slice_index_or slots slot None) (verb.Pes p) step rs r
+slot_on slot slots (verb.Add p) step rs r = at_on (slice_index_or slots slot None) (verb.Add p) step rs r
+slot_on slot slots (verb.Remove p) step rs r = at_on (slice_index_or slots slot None) (verb.Remove p) step rs r
+slot_on slot slots verb.Start step rs r = at_on (slice_index_or slots slot None) verb.Start step rs r
+slot_on slot slots verb.Stop step rs r = at_on (slice_index_or slots slot None) verb.Stop step rs r
+slot_on slot slots (verb.Size p) step rs r = at_on (slice_index_or slots slot None) (verb.Size p) step rs r
+slot_on slot slots (verb.Read p) step rs r = at_on (slice_index_or slots slot None) (verb.Read p) step rs r
+slot_on slot slots verb.Poll step rs r = at_on (slice_index_or slots slot None) verb.Poll step rs r
+
+done_on_more : (slots : Slots) (t : Target) (v : Verb) (step : ℕ) (rs : List Response) (r : Response)
+    → Onward step r (repeats_in slots t v rs) (repeats_in slots t v (rs ++ r ∷ [])) (done slots t v step rs) (done slots t v step (rs ++ r ∷ []))
+done_on_more slots (Node node) v step rs r = on_on node v step rs r
+done_on_more slots (Slot slot) v step rs r = slot_on slot slots v step rs r
+done_on_more slots Dvr v step rs r = on_on DEMUX_NODES v step rs r
+
+-- ------ without replies nothing is repeated
+
+abbrev pub LeavesNone : Doing → Type 0
+LeavesNone (stands e) = Unit {0}
+LeavesNone (through ending next left) = left ≡ []
+
+on_none : (node : ℕ) (v : Verb) (step : ℕ) → LeavesNone (done_on node v step []) × (repeats_on v [] ≡ 0)
+on_none node (verb.ReadWait count) step = (tt, refl)
+on_none node (verb.Drain count) step = (tt, refl)
+on_none node verb.Open step = (tt, refl)
+on_none node verb.Close step = (tt, refl)
+on_none node (verb.Section p) step = (tt, refl)
+on_none node (verb.Pes p) step = (tt, refl)
+on_none node (verb.Add p) step = (tt, refl)
+on_none node (verb.Remove p) step = (tt, refl)
+on_none node verb.Start step = (tt, refl)
+on_none node verb.Stop step = (tt, refl)
+on_none node (verb.Size p) step = (tt, refl)
+on_none node (verb.Read p) step = (tt, refl)
+on_none node verb.Poll step = (tt, refl)
+
+at_none : (o : Option ℕ) (v : Verb) (step : ℕ) → LeavesNone (done_at o v step []) × (repeats_at o v [] ≡ 0)
+at_none None v step = (refl, refl)
+at_none (Some node) v step = on_none node v step
+
+open_none : (o : Option ℕ) → repeats_at o verb.Open [] ≡ 0
+open_none None = refl
+open_none (Some node) = refl
+
+slot_none : (slot : ℕ) (slots : Slots) (v : Verb) (step : ℕ) → LeavesNone (done_by_slot slot slots v step []) × (repeats_at (slice_index_or slots slot None) v [] ≡ 0)
+slot_none slot slots verb.Open step = (tt, open_none (slice_index_or slots slot None))
+slot_none slot slots (verb.ReadWait n) step = at_none (slice_index_or slots slot None) (verb.ReadWait n) step
+slot_none slot slots (verb.Drain n) step = at_none (slice_index_or slots slot None) (verb.Drain n) step
+slot_none slot slots verb.Close step = at_none (slice_index_or slots slot None) verb.Close step
+slot_none slot slots (verb.Section p) step = at_none (slice_index_or slots slot None) (verb.Section p) step
+slot_none slot slots (verb.Pes p) step = at_none (slice_index_or slots slot None) (verb.Pes p) step
+slot_none slot slots (verb.Add p) step = at_none (slice_index_or slots slot None) (verb.Add p) step
+slot_none slot slots (verb.Remove p) step = at_none (slice_index_or slots slot None) (verb.Remove p) step
+slot_none slot slots verb.Start step = at_none (slice_index_or slots slot None) verb.Start step
+slot_none slot slots verb.Stop step = at_none (slice_index_or slots slot None) verb.Stop step
+slot_none slot slots (verb.Size p) step = at_none (slice_index_or slots slot None) (verb.Size p) step
+slot_none slot slots (verb.Read p) step = at_none (slice_index_or slots slot None) (verb.Read p) step
+slot_none slot slots verb.Poll step = at_none (slice_index_or slots slot None) verb.Poll step
+
+done_none : (slots : Slots) (t : Target) (v : Verb) (step : ℕ) → LeavesNone (done slots t v step []) × (repeats_in slots t v [] ≡ 0)
+done_none slots (Node node) v step = on_none node v step
+done_none slots (Slot slot) v step = slot_none slot slots v step
+done_none slots Dvr v step = on_none DEMUX_NODES v step
+
+pub repeats_none : (slots : Slots) (step : ℕ) (cs : List Command) → repeats_from slots step cs [] ≡ 0
+repeats_none slots step [] = refl
+repeats_none slots step (c ∷ cs) = go (λ ending next. repeats_none (slots_after ending slots) next cs) (done slots c.target c.verb step []) (done_none slots c.target c.verb step) where
+  go : ((ending : Ending) (next : ℕ) → repeats_from (slots_after ending slots) next cs [] ≡ 0)
+      → (d : Doing) → LeavesNone d × (repeats_in slots c.target c.verb [] ≡ 0)
+      → repeats_in slots c.target c.verb [] + (elim d [ stands event ↦ 0 | through ending next left ↦ repeats_from (slots_after ending slots) next cs left ]) ≡ 0
+  go later (stands e) none = omega (arith, none.1)
+  go later (through ending next left) none =
+      let nil : repeats_from (slots_after ending slots) next cs left ≡ 0 = ap (λ l. repeats_from (slots_after ending slots) next cs l) none.0 ∙ later ending next in
+      omega (arith, none.1, nil)
+
+-- ------ all commands
+
+-- so many repeats before and after this reply to this call; after it the client stands there
+record IsMore (w : Want) (r : Response) (m n : ℕ) (now : Option Standing) : Type 0 where
+  le : n ≤ m + added_by w r
+  waits : r ≡ Again false → waits_after now (r ∷ []) ≡ None → n ≤ m
+
+none_stands : (s : Standing) → ◌≡◌ {A = Option Standing} None (Some s) → ⊥
+none_stands s is = subst (λ o. MatchOption o (Unit {0}) (λ x. ⊥)) is tt
+
+none_some : (node : ℕ) (o : Option ℕ) → o ≡ Some node → o ≡ None → ⊥
+none_some node o some none = subst (λ o. MatchOption o (Unit {0}) (λ x. ⊥)) (sym none ∙ some) tt
+
+same_some : (s t : Standing) → ◌≡◌ {A = Option Standing} (Some s) (Some t) → s ≡ t
+same_some s t is = cc
+
+more_more : (w : Want) (r : Response) (k m n : ℕ) (now : Option Standing) → IsMore w r m n now → IsMore w r (k + m) (k + n) now
+more_more w r k m n now is = record { le = omega (arith, is.le); waits = λ again none. omega (arith, is.waits again none) }
+
+abbrev rest_of : (slots : Slots) (cs : List Command) → Doing → ℕ
+rest_of slots cs d = elim d [ stands event ↦ 0 | through ending next left ↦ repeats_from (slots_after ending slots) next cs left ]
+
+abbrev progress_of : (slots : Slots) (step : ℕ) (c : Command) (cs : List Command) → Doing → Progress
+progress_of slots step c cs d = elim d [
+  | stands event ↦ record { outcomes = []; standing = Some (record { line = c.line; from = step; event = event }) }
+  | through ending next left ↦ with_outcome (record { line = c.line; from = step; to = next; kind = kind_of ending }) (progress_from (slots_after ending slots) next cs left)
+]
+
+waits_there : (s : Standing) (r : Response) → s.from < s.event.step → r ≡ Again false → waits_after (Some s) (r ∷ []) ≡ None → ⊥
+waits_there s r lt again none = none_some s.event.node (waits_after (Some s) (r ∷ [])) (waits_still s r lt ∙ ap (λ q. waits_with q s.event.node) again) none
+
+all_more : (slots : Slots) (step : ℕ) (cs : List Command) (rs : List Response) (r : Response) (s : Standing) → (progress_from slots step cs rs).standing ≡ Some s
+    → IsMore s.event.want r (repeats_from slots step cs rs) (repeats_from slots step cs (rs ++ r ∷ [])) (progress_from slots step cs (rs ++ r ∷ [])).standing
+all_more slots step [] rs r s is = absurd (none_stands s is)
+all_more slots step (c ∷ cs) rs r s is =
+    go (λ ending next left there. all_more (slots_after ending slots) next cs left r s there) (done slots c.target c.verb step rs) (done slots c.target c.verb step (rs ++ r ∷ [])) (repeats_in slots c.target c.verb rs) (repeats_in slots c.target c.verb (rs ++ r ∷ []))
+    (done_on_more slots c.target c.verb step rs r) is where
+      go : ((ending : Ending) (next : ℕ) (left : List Response) → (progress_from (slots_after ending slots) next cs left).standing ≡ Some s
+          → IsMore s.event.want r (repeats_from (slots_after ending slots) next cs left) (repeats_from (slots_after ending slots) next cs (left ++ r ∷ [])) (progress_from (slots_after ending slots) next cs (left ++ r ∷ [])).standing)
+          → (d f : Doing) (m n : ℕ) → Onward step r m n d f → (progress_of slots step c cs d).standing ≡ Some s
+          → IsMore s.event.want r (m + rest_of slots cs d) (n + rest_of slots cs f) (progress_of slots step c cs f).standing
+      go deeper (stands e) (stands f) m n on there =
+          let same : e ≡ s.event = ap (λ t. t.event) (same_some (record { line = c.line; from = step; event = e }) s there) in
+          record {
+            le = subst (λ x. n + 0 ≤ m + 0 + added_by x.want r) same (omega (arith, on.1));
+            waits = λ again none. absurd (waits_there (record { line = c.line; from = step; event = f }) r on.0 again none);
+          }
+      go deeper (stands e) (through ending next left) m n on there =
+          let nil : repeats_from (slots_after ending slots) next cs left ≡ 0 = ap (λ l. repeats_from (slots_after ending slots) next cs l) on.0 ∙ repeats_none (slots_after ending slots) next cs in
+          record { le = omega (arith, on.1, nil); waits = λ again none. omega (arith, on.1, nil) }
+      go deeper (through ending next left) f m n on there =
+          let behind : IsMore s.event.want r (m + rest_of slots cs (through ending next left)) (m + rest_of slots cs (through ending next (left ++ r ∷ []))) (progress_of slots step c cs (through ending next (left ++ r ∷ []))).standing =
+          more_more s.event.want r m (repeats_from (slots_after ending slots) next cs left) (repeats_from (slots_after ending slots) next cs (left ++ r ∷ [])) (progress_from (slots_after ending slots) next cs (left ++ r ∷ [])).standing (deeper ending next left there) in
+          subst (λ k. IsMore s.event.want r (m + rest_of slots cs (through ending next left)) (k + rest_of slots cs f) (progress_of slots step c cs f).standing) (sym on.1)
+          (subst (λ x. IsMore s.event.want r (m + rest_of slots cs (through ending next left)) (m + rest_of slots cs x) (progress_of slots step c cs x).standing) (sym on.0) behind)
+
+some_of : (o : Option Standing) (e : Event) → option_map (λ s. s.event) o ≡ Some e → (s : Standing) × (o ≡ Some s) × (s.event ≡ e)
+some_of None e is = absurd (subst (λ o. MatchOption o (Unit {0}) (λ x. ⊥)) is tt)
+some_of (Some s) e is = (s, refl, cc)
+
+pub one_reply_more : OneReplyMore
+unfolding progress repeats
+one_reply_more client lines replies r e is =
+    let there = some_of (progress client lines replies).standing e is in
+    let more : IsMore there.0.event.want r (repeats client lines replies) (repeats client lines (replies ++ r ∷ [])) (progress client lines (replies ++ r ∷ [])).standing =
+    all_more no_slots 0 (commands_of client lines) replies r there.0 there.1 in (
+      subst (λ x. repeats client lines (replies ++ r ∷ []) ≤ repeats client lines replies + added_by x.want r) there.2 more.le,
+      λ again none. more.waits again (sym (last_counts (progress client lines (replies ++ r ∷ [])).standing replies r) ∙ none),
+    )

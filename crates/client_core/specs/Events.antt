@@ -1,0 +1,85 @@
+-- The events of one client: its calls, one after another, by the replies that it gets (this project's own).
+use Rattle.std.specs.Prelude.{ℕ, false, List, [], ◌∷◌, Option, Some, None, option_map, nat_lt, nat_eq, replicate, slice_set, if◌then◌else◌}
+use Rattle.dmx_calls.specs.declared.limits.TheConstants.{DEMUX_NODES}
+use Rattle.dmx_calls.specs.Response.{Response, Again}
+use Rattle.client_script.specs.declared.line.Line.{Line}
+use Rattle.client_core.specs.declared.command.Command.{Command}
+use Rattle.client_core.specs.declared.event.Event.{Event}
+use Rattle.dmx_calls.specs.declared.outcome.OutcomeKind.{OutcomeKind}
+use Rattle.dmx_calls.specs.declared.outcome.OutcomeKind.TheVariants.{Done, Emfile, Unbound}
+use Rattle.dmx_calls.specs.declared.outcome.Outcome.{Outcome}
+use Rattle.client_core.specs.declared.task.Ending.{Ending}
+use Rattle.client_core.specs.declared.task.Ending.TheVariants.{Bound, AllBusy, NoNode}
+use Rattle.client_core.specs.Commands.{commands_of, stands, through, Slots, done}
+
+abbrev pub kind_of : Ending → OutcomeKind
+kind_of AllBusy = Emfile
+kind_of NoNode = Unbound
+kind_of _ = Done
+
+-- an open of a slot that succeeds binds it
+abbrev pub slots_after : Ending → Slots → Slots
+slots_after (Bound slot node) slots = slice_set slots slot (Some node)
+slots_after _ slots = slots
+
+-- a command that stands before a call: its line, the step of its first call, and the call
+pub record Standing : Type 0 where
+  pub line : ℕ
+  pub from : ℕ
+  pub event : Event
+
+-- how far a client is: the outcomes of the commands that are through, in the order of their lines, and the command that isn't, if there is one
+pub record Progress : Type 0 where
+  pub outcomes : List Outcome
+  pub standing : Option Standing
+
+abbrev pub with_outcome : Outcome → Progress → Progress
+with_outcome outcome p = record { outcomes = outcome ∷ p.outcomes; standing = p.standing }
+
+-- These commands are done one after another from this step on. Each uses up its own of the replies and leaves the rest to the next.
+abbrev pub progress_from : Slots → (step : ℕ) → List Command → List Response → Progress
+progress_from slots step [] replies = record { outcomes = []; standing = None }
+progress_from slots step (c ∷ cs) replies = elim (done slots c.target c.verb step replies) [
+  | stands event ↦ record { outcomes = []; standing = Some (record { line = c.line; from = step; event = event }) }
+  | through ending next left ↦
+      with_outcome (record { line = c.line; from = step; to = next; kind = kind_of ending }) (progress_from (slots_after ending slots) next cs left)
+]
+
+-- at first no slot is bound
+abbrev pub no_slots : Slots
+no_slots = replicate DEMUX_NODES None
+
+-- How far a client of a script is after these replies.
+unfoldable pub progress : (client : ℕ) → List Line → List Response → Progress
+progress client lines replies = progress_from no_slots 0 (commands_of client lines) replies
+
+-- the call that it makes next
+abbrev pub next_event : (client : ℕ) → List Line → List Response → Option Event
+next_event client lines replies = option_map (λ s. s.event) (progress client lines replies).standing
+
+-- what became of the commands that are through
+abbrev pub outcomes : (client : ℕ) → List Line → List Response → List Outcome
+outcomes client lines replies = (progress client lines replies).outcomes
+
+-- the node on which it waits: the last reply was Again, and what stands there repeats the read
+abbrev pub waits_after : Option Standing → List Response → Option ℕ
+waits_after None replies = None
+waits_after (Some s) [] = None
+waits_after (Some s) (Again false ∷ []) = if nat_lt s.from s.event.step then Some s.event.node else None
+waits_after (Some s) (reply ∷ []) = None
+waits_after (Some s) (reply ∷ next ∷ more) = waits_after (Some s) (next ∷ more)
+
+abbrev pub waits_on : (client : ℕ) → List Line → List Response → Option ℕ
+waits_on client lines replies = waits_after (progress client lines replies).standing replies
+
+-- the line of the command that isn't through, if there is one
+abbrev pub current_line : (client : ℕ) → List Line → List Response → Option ℕ
+current_line client lines replies = option_map (λ s. s.line) (progress client lines replies).standing
+
+-- the call before which the command of a line stands; None where the command is through
+abbrev pub standing_at : (line : ℕ) → Option Standing → Option Event
+standing_at line None = None
+standing_at line (Some s) = if nat_eq s.line line then Some s.event else None
+
+abbrev pub next_of_line : (client : ℕ) → List Line → (line : ℕ) → List Response → Option Event
+next_of_line client lines line replies = standing_at line (progress client lines replies).standing

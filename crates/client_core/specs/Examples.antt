@@ -1,0 +1,128 @@
+-- Worked examples: what clients ask for by replies that were worked out by hand.
+use Rattle.std.specs.Prelude.{◌≡◌, ℕ, ◌+◌, List, [], ◌∷◌, ◌++◌, map, replicate, Option, Some, None, true, false}
+use Rattle.std.specs.List.{range_with_len, flat_map}
+use Rattle.dmx_calls.specs.declared.params.PesParams.{PesParams}
+use Rattle.dmx_calls.specs.declared.params.Input.TheVariants.{Frontend}
+use Rattle.dmx_calls.specs.declared.params.Output.TheVariants.{TsTap, TsdemuxTap}
+use Rattle.dmx_calls.specs.declared.reply.Errno.TheVariants.{Ebadf}
+use Rattle.dmx_calls.specs.declared.reply.PollError.TheVariants.{Quiet}
+use Rattle.dmx_calls.specs.Response.{Response, Done, Busy, Refused, Data, Again, Overflow, TimedOut, Ready, KeepTap, AttachTap, DetachTap}
+use Rattle.client_script.specs.declared.line.Line.{Line}
+use Rattle.client_script.specs.declared.line.Line.TheVariants.{Feed, Command}
+use Rattle.client_script.specs.declared.line.Target.TheVariants.{Node, Slot, Dvr}
+use Rattle.client_script.specs.declared.line.Verb.TheVariants.{Open, Close, Pes, Start, Stop, Read, ReadWait, Drain, Poll}
+use Rattle.client_core.specs.declared.event.Want.TheVariants.{Open as AskOpen, Start as AskStart, Stop as AskStop, Read as AskRead, Attach as AskAttach, Detach as AskDetach}
+use Rattle.dmx_calls.specs.declared.outcome.Outcome.{Outcome}
+use Rattle.dmx_calls.specs.declared.outcome.OutcomeKind.TheVariants.{Done as WasDone, Emfile, Unbound}
+use Rattle.client_core.specs.Events.{next_event, outcomes, waits_on}
+
+abbrev pub recording : PesParams
+recording = record { pid = 256; input = Frontend; output = TsdemuxTap; pes_type = 20; flags = 0 }
+
+abbrev pub tapped : PesParams
+tapped = record { pid = 256; input = Frontend; output = TsTap; pes_type = 20; flags = 0 }
+
+abbrev pub keep : Response
+keep = Done 0 0 KeepTap
+
+-- a node is opened, set and started, read once and polled
+abbrev pub one_read : List Line
+one_read =
+    Command 1 0 (Node 0) Open ∷ Command 2 0 (Node 0) (Pes recording) ∷ Command 3 0 (Node 0) Start ∷ Feed 3
+    ∷ Command 5 0 (Node 0) (Read 4) ∷ Command 6 0 (Node 0) Poll ∷ []
+
+abbrev pub read_bytes : Response
+read_bytes = Data (0x47 ∷ 0x01 ∷ 0x00 ∷ 0x10 ∷ [])
+
+abbrev pub done_line : (line from to : ℕ) → Outcome
+done_line line from to = record { line = line; from = from; to = to; kind = WasDone }
+
+abbrev pub OneRead : Type 0
+OneRead = outcomes 0 one_read (keep ∷ keep ∷ keep ∷ read_bytes ∷ Ready true Quiet 4 false ∷ [])
+    ≡ done_line 1 0 1 ∷ done_line 2 1 2 ∷ done_line 3 2 3 ∷ done_line 5 3 4 ∷ done_line 6 4 5 ∷ []
+
+abbrev pub OneReadIsNext : Type 0
+OneReadIsNext = next_event 0 one_read (keep ∷ keep ∷ keep ∷ []) ≡ Some (record { step = 3; node = 0; want = AskRead 4 })
+
+abbrev pub FirstEvent : Type 0
+FirstEvent = next_event 0 one_read [] ≡ Some (record { step = 0; node = 0; want = AskOpen })
+
+abbrev pub OneReadIsThrough : Type 0
+OneReadIsThrough = next_event 0 one_read (keep ∷ keep ∷ keep ∷ read_bytes ∷ Ready true Quiet 4 false ∷ []) ≡ None
+
+-- another client has no commands
+abbrev pub NoCommands : Type 0
+NoCommands = (next_event 1 one_read [] ≡ None) × (outcomes 1 one_read [] ≡ [])
+
+-- a read that waits for bytes
+abbrev pub waiting : List Line
+waiting = Command 1 0 (Node 0) Open ∷ Command 2 0 (Node 0) (Pes recording) ∷ Command 3 0 (Node 0) Start ∷ Command 4 0 (Node 0) (ReadWait 2) ∷ []
+
+abbrev pub WaitedRead : Type 0
+WaitedRead = outcomes 0 waiting (keep ∷ keep ∷ keep ∷ Again false ∷ Again false ∷ Data (0x47 ∷ 0x01 ∷ []) ∷ [])
+    ≡ done_line 1 0 1 ∷ done_line 2 1 2 ∷ done_line 3 2 3 ∷ done_line 4 3 6 ∷ []
+
+abbrev pub WaitsOnItsNode : Type 0
+WaitsOnItsNode = (waits_on 0 waiting (keep ∷ keep ∷ keep ∷ Again false ∷ []) ≡ Some 0) × (waits_on 0 waiting (keep ∷ keep ∷ keep ∷ []) ≡ None)
+    × (waits_on 0 waiting (keep ∷ keep ∷ keep ∷ Again true ∷ []) ≡ None)
+
+abbrev pub WaitEndsWithTheStream : Type 0
+WaitEndsWithTheStream = next_event 0 waiting (keep ∷ keep ∷ keep ∷ Again false ∷ Again true ∷ []) ≡ None
+
+-- a drain goes on over bytes and overflows
+abbrev pub draining : List Line
+draining = Command 1 2 (Node 3) (Drain 9) ∷ []
+
+abbrev pub DrainGoesOn : Type 0
+DrainGoesOn = next_event 2 draining (Again false ∷ Data (1 ∷ []) ∷ Overflow 1 9 2 3 0 ∷ []) ≡ Some (record { step = 3; node = 3; want = AskRead 9 })
+
+abbrev pub DrainEnds : Type 0
+DrainEnds = (outcomes 2 draining (Data (1 ∷ []) ∷ Again true ∷ []) ≡ done_line 1 0 2 ∷ [])
+    × (outcomes 2 draining (Data [] ∷ []) ≡ done_line 1 0 1 ∷ [])
+    × (outcomes 2 draining (Refused Ebadf ∷ []) ≡ done_line 1 0 1 ∷ [])
+    × (outcomes 2 draining (TimedOut 0 5 5 ∷ []) ≡ done_line 1 0 1 ∷ [])
+
+-- the dvr node is told of a tap
+abbrev pub taps : List Line
+taps = Command 1 0 (Node 3) Start ∷ Command 2 0 (Node 3) Stop ∷ Command 3 0 Dvr Open ∷ []
+
+abbrev pub TapIsTold : Type 0
+TapIsTold =
+    (next_event 0 taps (Done 0 0 (AttachTap (256 ∷ [])) ∷ []) ≡ Some (record { step = 1; node = 32; want = AskAttach 3 (256 ∷ []) }))
+    × (next_event 0 taps (Done 0 0 (AttachTap (256 ∷ [])) ∷ keep ∷ []) ≡ Some (record { step = 2; node = 3; want = AskStop }))
+    × (next_event 0 taps (Done 0 0 (AttachTap (256 ∷ [])) ∷ keep ∷ Done 0 0 DetachTap ∷ []) ≡ Some (record { step = 3; node = 32; want = AskDetach 3 }))
+    × (outcomes 0 taps (Done 0 0 (AttachTap (256 ∷ [])) ∷ keep ∷ Done 0 0 DetachTap ∷ keep ∷ keep ∷ []) ≡ done_line 1 0 2 ∷ done_line 2 2 4 ∷ done_line 3 4 5 ∷ [])
+
+-- 33 slots are opened, where there are 32 nodes: the open of slot k finds k nodes busy
+abbrev pub slots_opened : List Line
+slots_opened = map (λ k. Command (k + 1) 0 (Slot k) Open) (range_with_len 0 32) ++ Command 33 0 (Slot 0) Open ∷ []
+
+abbrev pub slot_replies : List Response
+slot_replies = flat_map (λ k. replicate k (Busy 1) ++ keep ∷ []) (range_with_len 0 32) ++ replicate 32 (Busy 1)
+
+abbrev pub last_of : {A : Type 0} → List A → Option A
+last_of [] = None
+last_of (x ∷ []) = Some x
+last_of (x ∷ y ∷ ys) = last_of (y ∷ ys)
+
+abbrev pub AllNodesAreBusy : Type 0
+AllNodesAreBusy = last_of (outcomes 0 slots_opened slot_replies) ≡ Some (record { line = 33; from = 528; to = 560; kind = Emfile })
+
+abbrev pub UnboundSlot : Type 0
+UnboundSlot = outcomes 0 (Command 1 0 (Slot 5) Stop ∷ []) [] ≡ record { line = 1; from = 0; to = 0; kind = Unbound } ∷ []
+
+-- a slot is bound to the first node that isn't busy, and stays bound
+abbrev pub BoundSlot : Type 0
+BoundSlot = next_event 0 (Command 1 0 (Slot 5) Open ∷ Command 2 0 (Slot 5) Close ∷ Command 3 0 (Slot 5) Start ∷ []) (Busy 2 ∷ keep ∷ keep ∷ [])
+    ≡ Some (record { step = 3; node = 1; want = AskStart })
+
+-- a slot whose open finds all nodes busy is bound as before
+abbrev pub reopened : List Line
+reopened = Command 1 0 (Slot 5) Open ∷ Command 2 0 (Slot 5) Open ∷ Command 3 0 (Slot 5) Start ∷ []
+
+abbrev pub SlotStaysBound : Type 0
+SlotStaysBound = next_event 0 reopened (Busy 2 ∷ keep ∷ replicate 32 (Busy 1)) ≡ Some (record { step = 34; node = 1; want = AskStart })
+
+-- a slot that is opened again is bound to the node that was found
+abbrev pub SlotIsBoundAnew : Type 0
+SlotIsBoundAnew = next_event 0 reopened (keep ∷ Busy 1 ∷ Busy 1 ∷ keep ∷ []) ≡ Some (record { step = 4; node = 2; want = AskStart })

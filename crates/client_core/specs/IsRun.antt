@@ -1,0 +1,80 @@
+-- What it means that 33 histories are those of a run of a script over the packets of a stream.
+use Rattle.std.specs.Prelude.{◌≡◌, ◌≢◌, ◌<◌, ◌≤◌, ◌+◌, ℕ, suc, List, [], ◌∷◌, length, map, filter, sum, take, nat_eq, slice_get, Some, None, Option, All}
+use Rattle.dmx_calls.specs.declared.params.Input.TheVariants.{Frontend}
+use Rattle.dmx_calls.specs.declared.limits.TheConstants.{DEMUX_NODES}
+use Rattle.dmx_calls.specs.Response.{Response, NoMemory}
+use Rattle.dmx_calls.specs.Legal.{IsLegalFor}
+use Rattle.dmx_calls.specs.Log.{Act, PassAct, EndAct, LogEntry, act_of, filled}
+use Rattle.dmx_calls.specs.Rules.{rules_at}
+use Rattle.client_script.specs.declared.line.Line.{Line}
+use Rattle.client_script.specs.Script.{clients_in}
+use Rattle.client_core.specs.declared.event.Event.{Event}
+use Rattle.client_core.specs.Commands.{call_of}
+use Rattle.client_core.specs.Events.{next_event}
+
+-- ------ the feeder
+
+-- a batch: how many packets it has, and the moment at which it passes
+pub record Batch : Type 0 where
+  pub size : ℕ
+  pub moment : ℕ
+
+-- a call with the number that it has among its caller's
+pub record Step : Type 0 where
+  pub step : ℕ
+  pub act : Act
+
+-- what the feeder does on each node: the batches pass, one after another, and then End
+abbrev pub feeding : (first step : ℕ) → List Batch → List Step
+feeding first step [] = record { step = step; act = EndAct } ∷ []
+feeding first step (b ∷ bs) = record { step = step; act = PassAct Frontend first b.size b.moment } ∷ feeding (first + b.size) (suc step) bs
+
+-- the calls of a caller on a node, in the order of the node's history
+abbrev pub steps_of : (who : ℕ) → List LogEntry → List Step
+steps_of who h = map (λ e. record { step = e.step; act = e.act }) (filter (λ e. nat_eq e.who who) h)
+
+-- All packets pass every node in the same batches, each of 1 to `most` packets, and then End.
+pub record IsFed (most packets : ℕ) (hs : List (List LogEntry)) : Type 0 where
+  pub batches : List Batch
+  pub each_size : All (λ b. (1 ≤ b.size) × (b.size ≤ most)) batches
+  pub whole : sum (map (λ b. b.size) batches) ≡ packets
+  pub on_each : (node : ℕ) (h : List LogEntry) → slice_get hs node ≡ Some h → steps_of 0 h ≡ feeding 0 0 batches
+
+-- ------ a client
+
+-- the entry stands in the histories, on its node and at its place
+abbrev pub StandsIn : List (List LogEntry) → LogEntry → Type 0
+StandsIn hs e = (h : List LogEntry) × (slice_get hs e.node ≡ Some h) × (slice_get h e.place ≡ Some e)
+
+-- the entry is that event, at some moment
+abbrev pub IsEvent : Option Event → LogEntry → Type 0
+IsEvent None e = ⊥
+IsEvent (Some event) e = (e.node ≡ event.node) × ((moment : ℕ) × (e.act ≡ act_of (call_of event.want moment)))
+
+-- the replies to these calls
+abbrev pub replies : List LogEntry → List Response
+replies made = map (λ e. e.response) made
+
+-- A client did just what its commands ask, by the replies that it got, to their end: `made` is its calls in their order.
+pub record HasDone (lines : List Line) (client : ℕ) (hs : List (List LogEntry)) : Type 0 where
+  pub made : List LogEntry
+  -- its steps are 0, 1, .., and each is the call that its commands ask for after the replies before it
+  pub steps : (i : ℕ) (e : LogEntry) → slice_get made i ≡ Some e → (e.step ≡ i) × (e.who ≡ client + 1) × StandsIn hs e × IsEvent (next_event client lines (replies (take i made))) e
+  -- after all of them the commands are through
+  pub ends : next_event client lines (replies made) ≡ None
+  -- the histories have no other call of this client
+  pub only : (node place : ℕ) (h : List LogEntry) (e : LogEntry) → slice_get hs node ≡ Some h → slice_get h place ≡ Some e → e.who ≡ client + 1 → slice_get made e.step ≡ Some e
+  -- on each node its calls stand in the order in which it made them
+  pub in_order : (i j : ℕ) (e f : LogEntry) → i < j → slice_get made i ≡ Some e → slice_get made j ≡ Some f → e.node ≡ f.node → e.place < f.place
+
+-- ------ the run
+
+-- These histories are those of a run of the script: `most` is the greatest number of packets of a batch, and `stream` is the packets of the stream.
+pub record IsRun (lines : List Line) (most : ℕ) (stream : List (List ℕ)) (hs : List (List LogEntry)) : Type 0 where
+  pub nodes : length hs ≡ DEMUX_NODES + 1
+  -- each entry stands on its node and at its place, its caller is the feeder or a client, and memory was found
+  pub places : (node place : ℕ) (h : List LogEntry) (e : LogEntry) → slice_get hs node ≡ Some h → slice_get h place ≡ Some e → (e.node ≡ node) × (e.place ≡ place) × (e.who ≤ clients_in lines) × (e.response ≢ NoMemory)
+  -- each response is the one that the entries before it give
+  pub legal : (node : ℕ) (h : List LogEntry) → slice_get hs node ≡ Some h → IsLegalFor (rules_at node) (filled stream h)
+  pub fed : IsFed most (length stream) hs
+  pub clients_done : (c : ℕ) → c < clients_in lines → HasDone lines c hs

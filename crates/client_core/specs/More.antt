@@ -1,0 +1,21 @@
+-- What one reply more adds to the reads that a client repeats (this project's own).
+use Rattle.std.specs.Prelude.{ℕ, ◌≡◌, ◌≤◌, ◌+◌, List, [], ◌∷◌, ◌++◌, Some, None, false, if◌then◌else◌}
+use Rattle.dmx_calls.specs.Response.{Response, Again}
+use Rattle.client_script.specs.declared.line.Line.{Line}
+use Rattle.client_core.specs.declared.event.Event.{Event}
+use Rattle.client_core.specs.declared.event.Want.{Want}
+use Rattle.client_core.specs.declared.event.Want.TheVariants.{Read}
+use Rattle.client_core.specs.Commands.{ends_drain}
+use Rattle.client_core.specs.Events.{next_event, waits_on}
+use Rattle.client_core.specs.Budget.{repeats}
+
+-- the reads that this reply may add: one, where it is to a read and ends no drain
+abbrev pub added_by : Want → Response → ℕ
+added_by (Read count) reply = if ends_drain reply then 0 else 1
+added_by _ reply = 0
+
+-- One reply more adds at most one repeat; and none after Again, unless the client waits.
+abbrev pub OneReplyMore : Type 0
+OneReplyMore = (client : ℕ) (lines : List Line) (replies : List Response) (reply : Response) (e : Event) → next_event client lines replies ≡ Some e
+    → (repeats client lines (replies ++ reply ∷ []) ≤ repeats client lines replies + added_by e.want reply)
+    × (reply ≡ Again false → waits_on client lines (replies ++ reply ∷ []) ≡ None → repeats client lines (replies ++ reply ∷ []) ≤ repeats client lines replies)

@@ -1,0 +1,204 @@
+// The client machine.
+ghost use Rattle.std.specs.Prelude.{◌≡◌, ℕ, ◌+◌, ◌<◌, ◌≤◌, ◌^◌, List, [], ◌∷◌, ◌++◌, length, Some, None, IsSome, IsNone, IfSome, IfOk, All, ◌↔◌, MatchOption, vec_capacity};
+ghost use Rattle.dmx_calls.specs.declared.limits.TheConstants.{DEMUX_NODES as nodes};
+ghost use Rattle.dmx_calls.specs.Calls.{response_of};
+ghost use Rattle.dmx_calls.specs.Response.{Response};
+ghost use Rattle.client_script.specs.declared.line.Line.{Line as ScriptLine};
+ghost use Rattle.client_script.specs.Script.{IsScript};
+ghost use Rattle.client_core.specs.Commands.{commands_of, IsWantInRange};
+ghost use Rattle.client_core.specs.Events.{next_event, outcomes as outcomes_of, waits_on, next_of_line, current_line};
+ghost use Rattle.client_core.specs.Tasks.{resumed, node_in};
+ghost use Rattle.client_core.specs.Core.{coming, one_if_some, IsCommandInRange, IsSound, IsAfter, HasTaken, next_of, waits_with};
+
+use crate::command::{Command, Commands};
+use crate::event::Event;
+use crate::machine::{Current, add, begin, bind, kind_of};
+use crate::task::{Next, Task, after, event_of, node_of};
+use client_script::{Line, Script};
+use dmx_calls::{Outcome, Reply};
+use std::alloc::{AllocError as NoMemory, Global};
+use std::marker::Model;
+
+/// A client of a script on its way: what it calls next, by the replies that it has taken.
+#[derive(Drop)]
+pub struct ClientCore {
+    left: Commands,
+    current: Option<Current>,
+    slots: [Option<u32>; 32],
+    step: u64,
+    waits: Option<u32>,
+    outcomes: Vec<Outcome>,
+}
+
+impl Model for ClientCore {
+    ghost use Rattle.std.specs.Prelude.{◌≤◌, ◌+◌, length, vec_capacity};
+    ghost use Rattle.client_core.specs.Core.{Core, IsSound, one_if_some};
+
+    ghost Value = { Core };
+
+    ghost view = { λ c. record { left = c.left; current = c.current; slots = c.slots; step = c.step; waits = c.waits; outcomes = c.outcomes.items } };
+
+    ghost invariant = { λ c. IsSound (record { left = c.left; current = c.current; slots = c.slots; step = c.step; waits = c.waits; outcomes = c.outcomes.items })
+        × (length c.outcomes.items + one_if_some c.current + length c.left ≤ vec_capacity c.outcomes) };
+}
+
+// The client's commands, in the order of their lines.
+fn commands(alloc: Global, lines: &[Line], client: u32) -> Result<Vec<Command>, NoMemory>
+    requires { IsScript lines.now }
+    ensures value { IfOk result (λ commands. commands.items ≡ commands_of client lines.now) }
+    ensures range { IfOk result (λ commands. All IsCommandInRange commands.items) }
+{
+    let mut commands = Vec::new(alloc);
+    'lines: for line in lines {
+        if let Line::Command {
+            line,
+            client: who,
+            target,
+            verb,
+        } = *line
+        {
+            if who == client {
+                commands.push(Command { line, target, verb })?;
+            }
+        }
+    }
+    Ok(commands)
+}
+
+// The node on which a client waits that goes on with this task after this reply.
+fn waits_after(task: &Task, reply: &Reply) -> Option<u32>
+    ensures { (step : ℕ) → result ≡ waits_with (response_of reply.now) (node_in (resumed task.now step [])) }
+{
+    match reply {
+        Reply::Again { ended } => { if *ended { None } else { Some(node_of(task)) } }
+        _ => None,
+    }
+}
+
+impl ClientCore {
+    /// The client before its first call. All memory is taken here.
+    pub fn new(alloc: Global, script: &Script, client: u32) -> Result<ClientCore, NoMemory>
+        ensures { IfOk result (λ core. IsAfter client script.now [] core) }
+    {
+        let commands = commands(alloc, script.lines(), client)?;
+        let mut outcomes = Vec::with_capacity(alloc, commands.len())?;
+        let mut left = Commands::of(commands);
+        let mut slots = [None; 32];
+        let current = begin(&mut left, &mut slots, 0, &mut outcomes);
+        Ok(ClientCore {
+            left,
+            current,
+            slots,
+            step: 0,
+            waits: None,
+            outcomes,
+        })
+    }
+
+    /// The client's next call; None where its commands are through.
+    pub fn next(&self) -> Option<Event>
+        ensures next { result ≡ next_of self.now }
+        ensures tied { (client : ℕ) (lines : List ScriptLine) (replies : List Response) → IsAfter client lines replies self.now → result ≡ next_event client lines replies }
+        ensures node { IfSome result (λ e. (e.step ≡ self.now.step) × (e.node ≤ nodes)) }
+        ensures range { IfSome result (λ e. IsWantInRange e.want) }
+        ensures some { IsSome result ↔ IsSome self.now.current }
+    {
+        match &self.current {
+            None => None,
+            Some(current) => Some(event_of(&current.task, self.step)),
+        }
+    }
+
+    /// The call before which the command of this line stands; None where that command is through.
+    pub fn next_at(&self, line: u32) -> Option<Event>
+        ensures tied { (client : ℕ) (lines : List ScriptLine) (replies : List Response) → IsAfter client lines replies self.now → result ≡ next_of_line client lines line replies }
+        ensures node { IfSome result (λ e. (e.step ≡ self.now.step) × (e.node ≤ nodes)) }
+        ensures range { IfSome result (λ e. IsWantInRange e.want) }
+        ensures some { IsSome result → IsSome self.now.current }
+    {
+        match &self.current {
+            None => None,
+            Some(current) => {
+                if current.line == line {
+                    Some(event_of(&current.task, self.step))
+                } else {
+                    None
+                }
+            }
+        }
+    }
+
+    /// The line of the command that isn't through.
+    pub fn line(&self) -> u32
+        requires some { IsSome self.now.current }
+        ensures value { IfSome self.now.current (λ c. result ≡ c.line) }
+        ensures tied { (client : ℕ) (lines : List ScriptLine) (replies : List Response) → IsAfter client lines replies self.now → current_line client lines replies ≡ Some result }
+    {
+        match &self.current {
+            None => unreachable!(),
+            Some(current) => current.line,
+        }
+    }
+
+    /// How many replies were taken.
+    pub fn steps(&self) -> u64
+        ensures { result ≡ self.now.step }
+    {
+        self.step
+    }
+
+    /// Takes the reply to that call.
+    pub fn take(&mut self, reply: &Reply)
+        requires some { IsSome self.old.current }
+        requires few { self.old.step < 2 ^ 46 }
+        ensures after { (client : ℕ) (lines : List ScriptLine) (replies : List Response) → IsAfter client lines replies self.old → IsAfter client lines (replies ++ response_of reply.now ∷ []) self.new }
+        ensures taken { HasTaken (response_of reply.now) self.old self.new }
+        ensures step { self.new.step ≡ self.old.step + 1 }
+    {
+        let step = self.step + 1;
+        self.step = step;
+        self.waits = None;
+        match self.current.take() {
+            None => unreachable!(),
+            Some(current) => match after(current.task, reply) {
+                Next::Still(task) => {
+                    self.waits = waits_after(&task, reply);
+                    self.current = Some(Current {
+                        line: current.line,
+                        from: current.from,
+                        task,
+                    });
+                }
+                Next::Through(ending) => {
+                    bind(&mut self.slots, ending);
+                    add(
+                        &mut self.outcomes,
+                        Outcome {
+                            line: current.line,
+                            from: current.from,
+                            to: step,
+                            kind: kind_of(ending),
+                        },
+                    );
+                    self.current = begin(&mut self.left, &mut self.slots, step, &mut self.outcomes);
+                }
+            },
+        }
+    }
+
+    /// The node on which the client waits: the last reply was Again, the stream hasn't ended, and the read is repeated.
+    pub fn waits(&self) -> Option<u32>
+        ensures value { result ≡ self.now.waits }
+        ensures tied { (client : ℕ) (lines : List ScriptLine) (replies : List Response) → IsAfter client lines replies self.now → result ≡ waits_on client lines replies }
+    {
+        self.waits
+    }
+
+    /// The outcomes of the commands that are through.
+    pub fn outcomes(&self) -> &[Outcome]
+        ensures value { result.now ≡ self.now.outcomes }
+        ensures tied { (client : ℕ) (lines : List ScriptLine) (replies : List Response) → IsAfter client lines replies self.now → result.now ≡ outcomes_of client lines replies }
+    {
+        &self.outcomes
+    }
+}

@@ -1,0 +1,13 @@
+// Laws of the definitions.
+ghost use Rattle.client_core.specs.Budget.{CallsAreFew};
+ghost use Rattle.client_core.specs.More.{OneReplyMore};
+
+/// A client makes at most 33 calls a command, beside the reads that it repeats.
+pub fn calls_are_few()
+    ensures { CallsAreFew }
+{}
+
+/// One reply more adds at most one repeat of a read, and none after Again unless the client then waits.
+pub fn one_reply_repeats_once()
+    ensures { OneReplyMore }
+{}

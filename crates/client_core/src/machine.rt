@@ -1,0 +1,96 @@
+// A client's commands, done by the replies that come.
+ghost use Rattle.std.specs.Prelude.{◌≡◌, ◌≢◌, ℕ, ◌+◌, ◌<◌, ◌≤◌, ◌^◌, List, [], ◌∷◌, ◌++◌, drop, length, Some, None, IsSome, IfSome, IfNone, All, vec_capacity};
+ghost use Rattle.dmx_calls.specs.Calls.{response_of};
+ghost use Rattle.dmx_calls.specs.Response.{Response};
+ghost use Rattle.client_core.specs.Events.{kind_of as kind_by, slots_after, progress_from};
+ghost use Rattle.client_core.specs.Tasks.{IsEndingInRange, IsTaskInRange, AreSlots};
+ghost use Rattle.client_core.specs.Core.{coming_from, behind, one_if_some, IsCommandInRange};
+
+use crate::command::Commands;
+use crate::task::{Ending, Next, Task, after, event_of, first};
+use dmx_calls::{Outcome, OutcomeKind, Reply};
+
+// The command that is begun: its line, the step of its first call, and what is left of it.
+#[derive(Drop)]
+pub struct Current {
+    pub line: u32,
+    pub from: u64,
+    pub task: Task,
+}
+
+pub fn kind_of(ending: Ending) -> OutcomeKind
+    ensures { result ≡ kind_by ending }
+{
+    match ending {
+        Ending::AllBusy => OutcomeKind::Emfile,
+        Ending::NoNode => OutcomeKind::Unbound,
+        _ => OutcomeKind::Done,
+    }
+}
+
+// An open of a slot that succeeds binds it.
+pub fn bind(slots: &mut [Option<u32>; 32], ending: Ending)
+    requires range { IsEndingInRange ending }
+    requires bound { AreSlots slots.old }
+    ensures slots { slots.new ≡ slots_after ending slots.old }
+    ensures bound { AreSlots slots.new }
+{
+    if let Ending::Bound { slot, node } = ending {
+        slots[slot as usize] = Some(node);
+    }
+}
+
+// An outcome joins the others, for which there is room.
+pub fn add(outcomes: &mut Vec<Outcome>, outcome: Outcome)
+    requires room { length outcomes.old.items < vec_capacity outcomes.old }
+    ensures added { outcomes.new.items ≡ outcomes.old.items ++ outcome ∷ [] }
+    ensures room { vec_capacity outcomes.old ≤ vec_capacity outcomes.new }
+{
+    match outcomes.push(outcome) {
+        Ok(()) => {}
+        Err(_) => unreachable!(),
+    }
+}
+
+// Begins the next command that makes a call; those before it are through.
+pub fn begin(
+    left: &mut Commands,
+    slots: &mut [Option<u32>; 32],
+    step: u64,
+    outcomes: &mut Vec<Outcome>,
+) -> Option<Current>
+    requires ranges { All IsCommandInRange left.old }
+    requires bound { AreSlots slots.old }
+    requires room { length outcomes.old.items + length left.old ≤ vec_capacity outcomes.old }
+    ensures same { (more : List Response) → behind outcomes.new.items (coming_from result step slots.new left.new more) ≡ behind outcomes.old.items (progress_from slots.old step left.old more) }
+    ensures ranges { All IsCommandInRange left.new }
+    ensures bound { AreSlots slots.new }
+    ensures current { IfSome result (λ c. IsTaskInRange c.task × (c.from ≡ step)) }
+    ensures room { length outcomes.new.items + one_if_some result + length left.new ≤ vec_capacity outcomes.new }
+    ensures ended { IfNone result (left.new ≡ []) }
+{
+    'commands: while let Some(command) = left.take() {
+        match first(slots, command.target, command.verb) {
+            Next::Still(task) => {
+                return Some(Current {
+                    line: command.line,
+                    from: step,
+                    task,
+                });
+            }
+            Next::Through(ending) => {
+                bind(slots, ending);
+                add(
+                    outcomes,
+                    Outcome {
+                        line: command.line,
+                        from: step,
+                        to: step,
+                        kind: kind_of(ending),
+                    },
+                );
+            }
+        }
+    }
+    None
+}

@@ -1,0 +1,176 @@
+// The text of a reply.
+ghost use Rattle.std.specs.Prelude.{◌≡◌, ◌++◌, OnOk, codes};
+ghost use Rattle.std.specs.Fmt.{decimal};
+ghost use Rattle.dmx_calls.specs.Calls.{response_of, tap_change_of};
+ghost use Rattle.text_forms.specs.Names.{who_text};
+ghost use Rattle.report_text.specs.Replies.{data_text, errno_text, flag_text, pending_text, response_text, tap_text};
+
+use crate::acts::{add_field, add_pids};
+use dmx_calls::{Errno, PollError, Reply, Span, Tap};
+use std::alloc::AllocError as NoMemory;
+use text_forms::{write_hex, write_who};
+
+#[tactic(auto, unfolding(crate::specs::Replies::errno_text))]
+fn errno_name(errno: Errno) -> &'static str
+    ensures { result.now ≡ errno_text errno }
+{
+    match errno {
+        Errno::Ebadf => "EBADF",
+        Errno::Ebusy => "EBUSY",
+        Errno::Einval => "EINVAL",
+        Errno::Enospc => "ENOSPC",
+    }
+}
+
+#[tactic(auto, unfolding(crate::specs::Replies::pending_text))]
+fn pending_name(error: PollError) -> &'static str
+    ensures { result.now ≡ pending_text error }
+{
+    match error {
+        PollError::Quiet => "none",
+        PollError::Overflow => "overflow",
+        PollError::TimedOut => "timedout",
+    }
+}
+
+#[tactic(auto, unfolding(crate::specs::Replies::flag_text))]
+fn flag_name(flag: bool) -> &'static str
+    ensures { result.now ≡ flag_text flag }
+{
+    if flag { "1" } else { "0" }
+}
+
+// A name and a word.
+pub fn add_word(out: &mut Vec<u8>, name: &[u8], word: &str) -> Result<(), NoMemory>
+    ensures { OnOk result (out.new.items ≡ out.old.items ++ (name.now ++ word.now)) }
+{
+    out.extend_from_slice(name)?;
+    out.extend_from_slice(word.as_bytes())
+}
+
+// A name and a caller.
+fn add_who(out: &mut Vec<u8>, name: &[u8], who: u32) -> Result<(), NoMemory>
+    ensures { OnOk result (out.new.items ≡ out.old.items ++ (name.now ++ who_text who)) }
+{
+    out.extend_from_slice(name)?;
+    write_who(out, who)
+}
+
+// The bytes of a read in hexadecimal digits, or `-` where there are none.
+#[tactic(auto, unfolding(crate::specs::Replies::data_text))]
+fn add_data(out: &mut Vec<u8>, bytes: &[u8]) -> Result<(), NoMemory>
+    ensures { OnOk result (out.new.items ≡ out.old.items ++ (codes "data " ++ data_text bytes.now)) }
+{
+    out.extend_from_slice(b"data ")?;
+    match bytes {
+        [] => out.extend_from_slice(b"-"),
+        _ => write_hex(out, bytes),
+    }
+}
+
+#[tactic(auto, unfolding(crate::specs::Replies::tap_text))]
+fn add_tap(out: &mut Vec<u8>, tap: &Tap) -> Result<(), NoMemory>
+    ensures { OnOk result (out.new.items ≡ out.old.items ++ tap_text (tap_change_of tap.now)) }
+{
+    match tap {
+        Tap::Keep => out.extend_from_slice(b"keep"),
+        Tap::Attach(pids) => add_pids(out, b"attach:", pids),
+        Tap::Detach => out.extend_from_slice(b"detach"),
+    }
+}
+
+fn add_done(out: &mut Vec<u8>, dropped: &Span, tap: &Tap) -> Result<(), NoMemory>
+    ensures { OnOk result (out.new.items ≡ out.old.items ++ (codes "done drop=" ++ (decimal dropped.now.from ++ (codes ".." ++ (decimal dropped.now.to ++ (codes " tap=" ++ tap_text (tap_change_of tap.now))))))) }
+{
+    add_field(out, b"done drop=", dropped.from)?;
+    add_field(out, b"..", dropped.to)?;
+    out.extend_from_slice(b" tap=")?;
+    add_tap(out, tap)
+}
+
+// The bytes that were lost, and the first item that didn't fit.
+fn add_overflow(
+    out: &mut Vec<u8>,
+    lost: Span,
+    item: u64,
+    need: u64,
+    room: u64,
+) -> Result<(), NoMemory>
+    ensures { OnOk result (out.new.items ≡ out.old.items ++ (codes "overflow " ++ (decimal lost.from ++ (codes ".." ++ (decimal lost.to ++ (codes " item=" ++ (decimal item
+        ++ (codes " need=" ++ (decimal need ++ (codes " room=" ++ decimal room)))))))))) }
+{
+    add_field(out, b"overflow ", lost.from)?;
+    add_field(out, b"..", lost.to)?;
+    add_field(out, b" item=", item)?;
+    add_field(out, b" need=", need)?;
+    add_field(out, b" room=", room)
+}
+
+fn add_timed_out(
+    out: &mut Vec<u8>,
+    started: u64,
+    now: u64,
+    timeout: u32,
+) -> Result<(), NoMemory>
+    ensures { OnOk result (out.new.items ≡ out.old.items ++ (codes "timedout started=" ++ (decimal started ++ (codes " now=" ++ (decimal now ++ (codes " timeout=" ++ decimal timeout)))))) }
+{
+    add_field(out, b"timedout started=", started)?;
+    add_field(out, b" now=", now)?;
+    add_field(out, b" timeout=", timeout as u64)
+}
+
+fn add_ready(
+    out: &mut Vec<u8>,
+    readable: bool,
+    error: PollError,
+    at: u64,
+    ended: bool,
+) -> Result<(), NoMemory>
+    ensures { OnOk result (out.new.items ≡ out.old.items ++ (codes "ready readable=" ++ (flag_text readable ++ (codes " error=" ++ (pending_text error
+        ++ (codes " at=" ++ (decimal at ++ (codes " ended=" ++ flag_text ended)))))))) }
+{
+    add_word(out, b"ready readable=", flag_name(readable))?;
+    add_word(out, b" error=", pending_name(error))?;
+    add_field(out, b" at=", at)?;
+    add_word(out, b" ended=", flag_name(ended))
+}
+
+// A reply.
+#[tactic(auto, unfolding(crate::specs::Replies::response_text))]
+pub fn add_reply(out: &mut Vec<u8>, reply: &Reply) -> Result<(), NoMemory>
+    ensures { OnOk result (out.new.items ≡ out.old.items ++ response_text (response_of reply.now)) }
+{
+    match reply {
+        Reply::Done { dropped, tap } => add_done(out, dropped, tap),
+        Reply::Busy { owner } => add_who(out, b"busy owner=", *owner),
+        Reply::Refused(errno) => out.extend_from_slice(errno_name(*errno).as_bytes()),
+        Reply::NoMemory => out.extend_from_slice(b"ENOMEM"),
+        Reply::Data(buf) => add_data(out, buf.bytes()),
+        Reply::Again { ended } => add_word(out, b"again ended=", flag_name(*ended)),
+        Reply::Overflow {
+            from,
+            to,
+            item,
+            need,
+            room,
+        } => {
+            let lost = Span {
+                from: *from,
+                to: *to,
+            };
+            add_overflow(out, lost, *item, *need, *room)
+        }
+        Reply::TimedOut {
+            started,
+            now,
+            timeout,
+        } => add_timed_out(out, *started, *now, *timeout),
+        Reply::Ready {
+            readable,
+            error,
+            at,
+            ended,
+        } => add_ready(out, *readable, *error, *at, *ended),
+        Reply::Passed => out.extend_from_slice(b"passed"),
+    }
+}

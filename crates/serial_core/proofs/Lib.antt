@@ -1,0 +1,5 @@
+pub mod One
+pub mod Pairs
+pub mod Seats
+pub mod FedOn
+pub mod Going

@@ -1,0 +1,102 @@
+-- What one call does to a node with its entries.
+use Rattle.std.proofs.Common.{◌≡◌, refl, sym, ap, subst, ◌∙◌, ℕ, suc, ◌+◌, List, [], ◌∷◌, ◌++◌, length, map, length-append, add-one, arith}
+use Rattle.std.proofs.lemmas.List.{map-append}
+use Rattle.dmx_calls.specs.declared.node.NodeKind.{NodeKind}
+use Rattle.dmx_calls.specs.declared.node.NodeKind.TheVariants.{Demux, Dvr}
+use Rattle.dmx_calls.specs.Invocation.{Invocation, Open, Close, SetFilter, SetPes, AddPid, RemovePid, Start, Stop, SetSize, Read, Poll, Pass, End, Attach, Detach}
+use Rattle.dmx_calls.specs.Response.{Response, Passed}
+use Rattle.dmx_calls.specs.History.{History, entry_of}
+use Rattle.dmx_calls.specs.Rules.{Rules}
+use Rattle.dmx_calls.specs.Facts.{Facts, facts}
+use Rattle.dmx_calls.specs.Answer.{answer, answer_by, with_call}
+use Rattle.dmx_calls.specs.Log.{Act, LogEntry, act_of}
+use Rattle.dmx_calls.specs.declared.log.Entry.{Entry as CodeEntry}
+use Rattle.dmx_calls.specs.Calls.{told_entry}
+use Rattle.serial_core.specs.declared.seat.Seat.{Seat}
+use Rattle.serial_core.specs.Nodes.{Node, Told, Log, history_in, history_of, uncalled, answered, logged, log_in, log_of}
+use Rattle.serial_core.specs.Standing.{IsFeeding, IsWoven, none, fed, called, fed_entry, IsSeat}
+
+-- ------ the feeder's calls are answered Passed
+
+passed_by : (kind : NodeKind) (f g : Facts) (who : ℕ) (c : Invocation) → IsFeeding c → answer_by kind f g who c ≡ Passed
+passed_by Demux f g who (Pass input first packets now) is = refl
+passed_by Dvr f g who (Pass input first packets now) is = refl
+passed_by Demux f g who End is = refl
+passed_by Dvr f g who End is = refl
+passed_by kind f g who Open is = absurd is
+passed_by kind f g who Close is = absurd is
+passed_by kind f g who (SetFilter params now) is = absurd is
+passed_by kind f g who (SetPes params now) is = absurd is
+passed_by kind f g who (AddPid pid) is = absurd is
+passed_by kind f g who (RemovePid pid) is = absurd is
+passed_by kind f g who (Start now) is = absurd is
+passed_by kind f g who Stop is = absurd is
+passed_by kind f g who (SetSize size) is = absurd is
+passed_by kind f g who (Read now count) is = absurd is
+passed_by kind f g who (Poll now) is = absurd is
+passed_by kind f g who (Attach node pids) is = absurd is
+passed_by kind f g who (Detach node) is = absurd is
+
+pub is_passed : (node : Rules) (h : History) (who : ℕ) (c : Invocation) → IsFeeding c → answer node h who c ≡ Passed
+unfolding answer
+is_passed node h who c is = passed_by node.kind (facts node h) (facts node (with_call h who c)) who c is
+
+-- ------ the log of a node
+
+log_node : (number : ℕ) (calls : List Told) → (log_in number calls).node ≡ number
+log_node number [] = refl
+log_node number (told ∷ calls) = log_node number calls
+
+log_length : (number : ℕ) (calls : List Told) → length (log_in number calls).entries ≡ length (history_in calls)
+log_length number [] = refl
+log_length number (told ∷ calls) =
+    length-append (log_in number calls).entries _ ∙ (ap (λ n. n + 1) (log_length number calls) ∙ add-one (length (history_in calls)))
+
+same_entry : (a b : LogEntry) → a.node ≡ b.node → a.place ≡ b.place → a.step ≡ b.step → a.who ≡ b.who → a.act ≡ b.act → a.response ≡ b.response → a ≡ b
+same_entry a b node place step who act response =
+    let moved : a ≡ record { node = b.node; place = b.place; step = b.step; who = b.who; act = b.act; response = b.response } = rw (sym node, sym place, sym step, sym who, sym act, sym response) refl in
+    moved
+
+module _ {Core : Type 0} (stands : Core → History → Type 0) (rules : Rules) where
+  -- a node before the first call
+  pub seat_fresh : (seat : Seat Core) (number : ℕ) → stands seat.core [] → seat.node ≡ number → seat.entries.items ≡ [] → IsSeat stands [] seat (uncalled number)
+  seat_fresh seat number core node entries = record {
+    core = core;
+    number = node;
+    woven = subst (λ es. IsWoven number [] (map told_entry es) []) (sym entries) none;
+  }
+
+  -- a call of the feeder
+  pub seat_fed : (acts : List Act) (old new : Seat Core) (n : Node) (c : Invocation) → IsFeeding c → new.node ≡ old.node → new.entries ≡ old.entries
+      → stands new.core (entry_of 0 c (answer rules (history_of n) 0 c) ∷ history_of n) → IsSeat stands acts old n
+      → IsSeat stands (acts ++ act_of c ∷ []) new (answered rules 0 (length acts) c n)
+  seat_fed acts old new n c feeding node entries core at =
+      let next = fed acts (map told_entry old.entries.items) (log_of n).entries (act_of c) at.woven in
+      let said : fed_entry n.number (length (log_of n).entries) (length acts) (act_of c)
+          ≡ record { node = (log_of n).node; place = length (log_of n).entries; step = length acts; who = 0; act = act_of c; response = answer rules (history_of n) 0 c } =
+      same_entry _ _ (sym (log_node n.number n.calls)) refl refl refl refl (sym (is_passed rules (history_of n) 0 c feeding)) in
+      record {
+        core = core;
+        number = node ∙ at.number;
+        woven = subst (λ es. IsWoven n.number (acts ++ act_of c ∷ []) (map told_entry es.items) (log_of (answered rules 0 (length acts) c n)).entries) (sym entries)
+            (subst (λ e. IsWoven n.number (acts ++ act_of c ∷ []) (map told_entry old.entries.items) ((log_of n).entries ++ e ∷ [])) said next);
+      }
+
+  -- a call of a client
+  pub seat_called : (acts : List Act) (old new : Seat Core) (n : Node) (who step : ℕ) (c : Invocation) (e : CodeEntry)
+      → new.node ≡ old.node → new.entries.items ≡ old.entries.items ++ e ∷ []
+      → e.node ≡ old.node → e.place ≡ length (history_of n) → e.step ≡ step → e.who ≡ who → (told_entry e).act ≡ act_of c → (told_entry e).response ≡ answer rules (history_of n) who c
+      → stands new.core (entry_of who c (answer rules (history_of n) who c) ∷ history_of n) → IsSeat stands acts old n
+      → IsSeat stands acts new (answered rules who step c n)
+  seat_called acts old new n who step c e node entries on place steps by act response core at =
+      let here : (told_entry e).place ≡ length (log_of n).entries = place ∙ sym (log_length n.number n.calls) in
+      let next = called acts (map told_entry old.entries.items) (log_of n).entries (told_entry e) here at.woven in
+      let said : told_entry e ≡ record { node = (log_of n).node; place = length (log_of n).entries; step = step; who = who; act = act_of c; response = answer rules (history_of n) who c } =
+      same_entry _ _ (on ∙ (at.number ∙ sym (log_node n.number n.calls))) here steps by act response in
+      let own : map told_entry new.entries.items ≡ map told_entry old.entries.items ++ told_entry e ∷ [] = ap (map told_entry) entries ∙ map-append told_entry old.entries.items (e ∷ []) in
+      record {
+        core = core;
+        number = node ∙ at.number;
+        woven = subst (λ es. IsWoven n.number acts es (log_of (answered rules who step c n)).entries) (sym own)
+            (subst (λ x. IsWoven n.number acts (map told_entry old.entries.items ++ told_entry e ∷ []) ((log_of n).entries ++ x ∷ [])) said next);
+      }

@@ -1,0 +1,6 @@
+pub mod Nodes
+pub mod SerialRun
+pub mod Legal
+pub mod Laws
+pub mod Examples
+pub mod Standing

@@ -1,0 +1,10 @@
+//! The serial run.
+#![tactic(auto)]
+
+mod laws;
+mod examples;
+mod node;
+mod nodes;
+mod seat;
+
+pub use laws::{the_serial_run_is_one, what_is_tried_is_the_run};

@@ -1,0 +1,271 @@
+// The 33 nodes of a run, and the calls of its feeder.
+ghost use Rattle.std.specs.Prelude.{◌≡◌, true, false, slice_set, ℕ, ◌+◌, ◌-◌, ◌<◌, ◌≤◌, ◌^◌, List, [], ◌∷◌, ◌++◌, length, map, IfOk, OnOk, IsSome};
+ghost use Rattle.std.specs.List.{range_with_len};
+ghost use Rattle.dmx_calls.specs.declared.limits.TheConstants.{DEMUX_NODES as nodes};
+ghost use Rattle.dmx_calls.specs.declared.params.Input.TheVariants.{Frontend};
+ghost use Rattle.dmx_calls.specs.Answer.{answer};
+ghost use Rattle.dmx_calls.specs.Calls.{invocation_of};
+ghost use Rattle.dmx_calls.specs.Invocation as asks;
+ghost use Rattle.dmx_calls.specs.Log.{Act as ToldAct, EndAct, PassAct};
+ghost use Rattle.dmx_calls.specs.Rules as rules;
+ghost use Rattle.client_script.specs.declared.line.Line.{Line as ScriptLine};
+ghost use Rattle.client_core.specs.Commands.{call_of as call_by};
+ghost use Rattle.client_core.specs.Core.{IsAfter};
+ghost use Rattle.dmx_calls.specs.Response.{Response};
+ghost use Rattle.serial_core.specs.Nodes.{Node as RunNode, answered, history_of, uncalled};
+ghost use Rattle.serial_core.specs.SerialRun.{Run, begun, demux_node, ended, fed_to_all, made, reply_to};
+ghost use Rattle.serial_core.specs.Standing.{AreCounted, AreUnder, IsDemux, IsNodes, IsWantInRange, Pairs};
+
+use crate::seat::Seat;
+use client_core::{ClientCore, Event, Want};
+use dmx_calls::limits::DEMUX_NODES;
+use dmx_calls::{ByteBuf, Call};
+use dvr_core::DvrCore;
+use node_core::NodeCore;
+use std::alloc::{AllocError as NoMemory, Global};
+use std::sync::Arc;
+use std::sync::ledger::Ledger;
+use steps::Steps;
+use ts_batch::Batch;
+
+// A batch that passed all nodes: the number of its first packet, how many it has, and the moment in milliseconds.
+#[derive(Clone, Copy, Drop)]
+pub struct Fed {
+    pub first: u64,
+    pub count: u32,
+    pub now: u64,
+}
+
+// The demux nodes 0 to 31 and the dvr node, the batches that passed them, whether End has passed, and how many calls were
+// made, where a call of the feeder on all nodes is one.
+#[derive(Drop)]
+pub struct Nodes {
+    pub alloc: Global,
+    pub demux: Vec<Seat<NodeCore>>,
+    pub dvr: Seat<DvrCore>,
+    pub feeding: Vec<Fed>,
+    pub has_ended: bool,
+    pub made: u64,
+}
+
+// The demux nodes 0 to 31 before the first call.
+fn demux_seats(alloc: Global) -> Result<Vec<Seat<NodeCore>>, NoMemory>
+    ensures at { IfOk result (λ seats. Pairs (IsDemux []) seats.items (map uncalled (range_with_len 0 nodes))) }
+    ensures none { IfOk result (λ seats. AreUnder seats.items 0) }
+{
+    let mut seats = Vec::new(alloc);
+    'nodes: for node in 0..DEMUX_NODES {
+        seats.push(Seat::new(alloc, node, NodeCore::new(alloc, node)))?;
+    }
+    Ok(seats)
+}
+
+// A batch passes each of these nodes, and is handed on from one to the next.
+fn pass_demux<L: Ledger>(
+    seats: &mut [Seat<NodeCore>],
+    batch: Arc<Batch>,
+    now: u64,
+    steps: &mut Steps<L>,
+) -> Result<Arc<Batch>, NoMemory>
+    requires few { AreUnder seats.old (2 ^ 50 - 1) }
+    ensures at { OnOk result ((acts : List ToldAct) (ns : List RunNode) → Pairs (IsDemux acts) seats.old ns
+        → Pairs (IsDemux (acts ++ PassAct Frontend batch.value.first (length batch.value.packets) now ∷ [])) seats.new
+            (map (answered rules.demux 0 (length acts) (asks.Pass Frontend batch.value.first batch.value.packets now)) ns)) }
+    ensures rises { OnOk result ((most : ℕ) → AreUnder seats.old most → AreUnder seats.new (most + 1)) }
+    ensures back { IfOk result (λ back. back.value ≡ batch.value) }
+{
+    let mut batch = batch;
+    'seats: for seat in seats.iter_mut() {
+        batch = seat.pass(batch, now, steps)?;
+    }
+    Ok(batch)
+}
+
+// End passes each of these nodes.
+fn end_demux<L: Ledger>(seats: &mut [Seat<NodeCore>], steps: &mut Steps<L>) -> Result<(), NoMemory>
+    requires few { AreUnder seats.old (2 ^ 50 - 1) }
+    ensures at { OnOk result ((acts : List ToldAct) (ns : List RunNode) → Pairs (IsDemux acts) seats.old ns
+        → Pairs (IsDemux (acts ++ EndAct ∷ [])) seats.new (map (answered rules.demux 0 (length acts) asks.End) ns)) }
+    ensures rises { OnOk result ((most : ℕ) → AreUnder seats.old most → AreUnder seats.new (most + 1)) }
+{
+    'seats: for seat in seats.iter_mut() {
+        seat.feed(Call::End, steps)?;
+    }
+    Ok(())
+}
+
+// The call that a client asks for at this moment.
+fn call_of(alloc: Global, want: Want, now: u64) -> Result<Call, NoMemory>
+    requires { IsWantInRange want }
+    ensures { IfOk result (λ call. invocation_of call ≡ call_by want now) }
+{
+    Ok(match want {
+        Want::Open => Call::Open,
+        Want::Close => Call::Close,
+        Want::Section(params) => Call::SetFilter { params, now },
+        Want::Pes(params) => Call::SetPes { params, now },
+        Want::Add(pid) => Call::AddPid(pid),
+        Want::Remove(pid) => Call::RemovePid(pid),
+        Want::Start => Call::Start { now },
+        Want::Stop => Call::Stop,
+        Want::Size(size) => Call::SetSize(size),
+        Want::Read(count) => Call::Read {
+            now,
+            buf: ByteBuf::new(alloc, count)?,
+        },
+        Want::Poll => Call::Poll { now },
+        Want::Attach { node, pids } => Call::Attach { node, pids },
+        Want::Detach { node } => Call::Detach { node },
+    })
+}
+
+impl Nodes {
+    // The nodes before the first call.
+    pub fn new(alloc: Global) -> Result<Nodes, NoMemory>
+        ensures at { IfOk result (λ v. (packets : List (List ℕ)) → IsNodes v (begun packets)) }
+        ensures counted { IfOk result AreCounted }
+        ensures none { IfOk result (λ v. v.made ≡ 0) }
+    {
+        Ok(Nodes {
+            alloc,
+            demux: demux_seats(alloc)?,
+            dvr: Seat::new(alloc, DEMUX_NODES, DvrCore::new(alloc)),
+            feeding: Vec::new(alloc),
+            has_ended: false,
+            made: 0,
+        })
+    }
+
+    // A batch passes all nodes, at this moment.
+    pub fn pass<L: Ledger>(
+        &mut self,
+        batch: Arc<Batch>,
+        now: u64,
+        steps: &mut Steps<L>,
+    ) -> Result<(), NoMemory>
+        requires few { self.old.made < 2 ^ 50 - 1 }
+        requires counted { AreCounted self.old }
+        requires open { self.old.has_ended ≡ false }
+        ensures at { OnOk result ((r : Run) → IsNodes self.old r → IsNodes self.new (fed_to_all (asks.Pass Frontend batch.value.first batch.value.packets now) r)) }
+        ensures counted { OnOk result (AreCounted self.new) }
+        ensures made { OnOk result (self.new.made ≡ self.old.made + 1) }
+        ensures open { OnOk result (self.new.has_ended ≡ false) }
+    {
+        let fed = Fed {
+            first: batch.first(),
+            count: batch.count(),
+            now,
+        };
+        let batch = pass_demux(&mut self.demux, batch, now, steps)?;
+        self.dvr.pass(batch, now, steps)?;
+        self.feeding.push(fed)?;
+        self.made += 1;
+        Ok(())
+    }
+
+    // End passes all nodes.
+    pub fn end<L: Ledger>(&mut self, steps: &mut Steps<L>) -> Result<(), NoMemory>
+        requires few { self.old.made < 2 ^ 50 - 1 }
+        requires counted { AreCounted self.old }
+        requires open { self.old.has_ended ≡ false }
+        ensures at { OnOk result ((r : Run) → IsNodes self.old r → IsNodes self.new (ended r)) }
+        ensures counted { OnOk result (AreCounted self.new) }
+        ensures made { OnOk result (self.new.made ≡ self.old.made + 1) }
+        ensures ended { OnOk result (self.new.has_ended ≡ true) }
+    {
+        end_demux(&mut self.demux, steps)?;
+        self.dvr.feed(Call::End, steps)?;
+        self.has_ended = true;
+        self.made += 1;
+        Ok(())
+    }
+
+    // A client makes a call on a demux node, and takes the reply.
+    fn call_demux<L: Ledger>(
+        &mut self,
+        core: &mut ClientCore,
+        who: u32,
+        node: u32,
+        step: u64,
+        call: Call,
+        steps: &mut Steps<L>,
+    ) -> Result<(), NoMemory>
+        requires few { self.old.made < 2 ^ 50 - 1 }
+        requires counted { AreCounted self.old }
+        requires node { node < nodes }
+        requires some { IsSome core.old.current }
+        requires taken { core.old.step < 2 ^ 46 }
+        ensures at { OnOk result ((r : Run) → IsNodes self.old r
+            → IsNodes self.new (record r { demux = slice_set r.demux node (answered rules.demux who step (invocation_of call) (demux_node node r)) })) }
+        ensures core { OnOk result ((r : Run) (client : ℕ) (lines : List ScriptLine) (replies : List Response) → IsNodes self.old r
+            → IsAfter client lines replies core.old → IsAfter client lines (replies ++ answer rules.demux (history_of (demux_node node r)) who (invocation_of call) ∷ []) core.new) }
+        ensures step { OnOk result (core.new.step ≡ core.old.step + 1) }
+        ensures counted { OnOk result (AreCounted self.new) }
+        ensures made { OnOk result (self.new.made ≡ self.old.made + 1) }
+        ensures same { OnOk result (self.new.has_ended ≡ self.old.has_ended) }
+    {
+        let alloc = self.alloc;
+        self.demux[node as usize].call(alloc, core, who, step, call, steps)?;
+        self.made += 1;
+        Ok(())
+    }
+
+    // A client makes a call on the dvr node, and takes the reply.
+    fn call_dvr<L: Ledger>(
+        &mut self,
+        core: &mut ClientCore,
+        who: u32,
+        step: u64,
+        call: Call,
+        steps: &mut Steps<L>,
+    ) -> Result<(), NoMemory>
+        requires few { self.old.made < 2 ^ 50 - 1 }
+        requires counted { AreCounted self.old }
+        requires some { IsSome core.old.current }
+        requires taken { core.old.step < 2 ^ 46 }
+        ensures at { OnOk result ((r : Run) → IsNodes self.old r → IsNodes self.new (record r { dvr = answered rules.dvr who step (invocation_of call) r.dvr })) }
+        ensures core { OnOk result ((r : Run) (client : ℕ) (lines : List ScriptLine) (replies : List Response) → IsNodes self.old r
+            → IsAfter client lines replies core.old → IsAfter client lines (replies ++ answer rules.dvr (history_of r.dvr) who (invocation_of call) ∷ []) core.new) }
+        ensures step { OnOk result (core.new.step ≡ core.old.step + 1) }
+        ensures counted { OnOk result (AreCounted self.new) }
+        ensures made { OnOk result (self.new.made ≡ self.old.made + 1) }
+        ensures same { OnOk result (self.new.has_ended ≡ self.old.has_ended) }
+    {
+        self.dvr.call(self.alloc, core, who, step, call, steps)?;
+        self.made += 1;
+        Ok(())
+    }
+
+    // A client makes its next call, at this moment, and takes the reply.
+    pub fn call<L: Ledger>(
+        &mut self,
+        core: &mut ClientCore,
+        client: u32,
+        event: Event,
+        now: u64,
+        steps: &mut Steps<L>,
+    ) -> Result<(), NoMemory>
+        requires few { self.old.made < 2 ^ 50 - 1 }
+        requires counted { AreCounted self.old }
+        requires client { client < 8 }
+        requires node { event.node ≤ nodes }
+        requires range { IsWantInRange event.want }
+        requires some { IsSome core.old.current }
+        requires taken { core.old.step < 2 ^ 46 }
+        ensures at { OnOk result ((r : Run) → now ≡ r.moment → IsNodes self.old r → IsNodes self.new (made client event r)) }
+        ensures core { OnOk result ((r : Run) (lines : List ScriptLine) (replies : List Response) → now ≡ r.moment → IsNodes self.old r
+            → IsAfter client lines replies core.old → IsAfter client lines (replies ++ reply_to client event r ∷ []) core.new) }
+        ensures step { OnOk result (core.new.step ≡ core.old.step + 1) }
+        ensures counted { OnOk result (AreCounted self.new) }
+        ensures made { OnOk result (self.new.made ≡ self.old.made + 1) }
+        ensures same { OnOk result (self.new.has_ended ≡ self.old.has_ended) }
+    {
+        let Event { step, node, want } = event;
+        let call = call_of(self.alloc, want, now)?;
+        if node < DEMUX_NODES {
+            self.call_demux(core, client + 1, node, step, call, steps)
+        } else {
+            self.call_dvr(core, client + 1, step, call, steps)
+        }
+    }
+}

@@ -1,0 +1,5 @@
+pub mod Hex
+pub mod Names
+pub mod Numbers
+pub mod Places
+pub mod Words

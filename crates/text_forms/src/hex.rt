@@ -1,0 +1,77 @@
+// Bytes in lower-case hexadecimal digits.
+ghost use Rattle.std.specs.Prelude.{◌≡◌, ◌+◌, ◌<◌, ◌≤◌, ◌++◌, length, IfSome, OnOk, OnErr, vec_len, vec_capacity};
+ghost use Rattle.text_forms.specs.Hex.{hex_digit as digit_of_byte, hex_byte as byte_of_digits, digit_text, byte_text, hex_text};
+
+use crate::room::put;
+use std::alloc::AllocError as NoMemory;
+
+// What a lower-case hexadecimal digit stands for.
+#[tactic(auto, unfolding(crate::specs::Hex::hex_digit))]
+fn hex_digit(byte: u8) -> Option<u8>
+    ensures value { result ≡ digit_of_byte byte }
+    ensures bound { IfSome result (λ digit. digit < 16) }
+{
+    match byte {
+        b'0'..=b'9' => Some(byte - b'0'),
+        b'a'..=b'f' => Some(byte - b'a' + 10),
+        _ => None,
+    }
+}
+
+/// The byte that two lower-case hexadecimal digits spell.
+#[tactic(auto, unfolding(crate::specs::Hex::hex_byte))]
+pub fn hex_byte(high: u8, low: u8) -> Option<u8>
+    ensures { result ≡ byte_of_digits high low }
+{
+    let high = hex_digit(high)?;
+    let low = hex_digit(low)?;
+    Some(high * 16 + low)
+}
+
+// The digit of a value.
+fn digit_of(value: u8) -> u8
+    requires { value < 16 }
+    ensures { result ≡ digit_text value }
+{
+    if value < 10 {
+        b'0' + value
+    } else {
+        b'a' - 10 + value
+    }
+}
+
+// The two digits of a byte.
+#[inline]
+pub fn digits_of(byte: u8) -> [u8; 2]
+    ensures { result ≡ byte_text byte }
+{
+    [digit_of(byte / 16), digit_of(byte % 16)]
+}
+
+/// Appends a byte as two lower-case hexadecimal digits.
+///
+/// # Errors
+///
+/// `NoMemory`; `out` is then as it was.
+pub fn write_hex_byte(out: &mut Vec<u8>, byte: u8) -> Result<(), NoMemory>
+    ensures appended { OnOk result (out.new.items ≡ out.old.items ++ byte_text byte) }
+    ensures unchanged { OnErr result (out.new.items ≡ out.old.items) }
+{
+    out.extend_from_slice(&digits_of(byte))
+}
+
+/// Appends bytes, each as two lower-case hexadecimal digits. Room is asked for once.
+///
+/// # Errors
+///
+/// `NoMemory`; `out` is then as it was.
+pub fn write_hex(out: &mut Vec<u8>, bytes: &[u8]) -> Result<(), NoMemory>
+    ensures appended { OnOk result (out.new.items ≡ out.old.items ++ hex_text bytes.now) }
+    ensures unchanged { OnErr result (out.new.items ≡ out.old.items) }
+{
+    out.reserve(2 * bytes.len())?;
+    'bytes: for byte in bytes {
+        put(out, &digits_of(*byte));
+    }
+    Ok(())
+}

@@ -1,0 +1,144 @@
+// The words that name the bytes of a section filter.
+ghost use Rattle.std.specs.Prelude.{◌≡◌, ◌+◌, ◌≤◌, ◌<◌, ◌++◌, length, IfSome, OnOk, OnErr, vec_len, vec_capacity};
+ghost use Rattle.std.specs.Fmt.{decimal};
+ghost use Rattle.filter_match.specs.Match.{below};
+ghost use Rattle.text_forms.specs.Places.{place_text, place_at as place_of_filter, filter_place_text, filter_text, place_with as place_spelled, place_named as place_of_word, with_place};
+
+use crate::hex::{digits_of, hex_byte};
+use crate::number::number_between;
+use crate::room::put;
+use filter_match::SectionFilter;
+use itoa::Buffer;
+use std::alloc::AllocError as NoMemory;
+
+// The number of a filter's last place.
+const LAST_PLACE: u64 = 15;
+
+// How many bytes of a word stand behind the number of its place.
+const BEHIND_NUMBER: usize = 9;
+
+// How many places a filter has.
+const PLACES: usize = 16;
+
+// The most bytes of a place, with the space before it.
+const MOST_BYTES: usize = 12;
+
+/// A place of a section filter, with its filter, mask and mode byte.
+#[derive(Clone, Copy, Debug, PartialEq, Eq, Drop)]
+pub struct Place {
+    /// The number of the place, 0 to 15.
+    pub number: u32,
+    /// The filter byte.
+    pub filter: u8,
+    /// The mask byte.
+    pub mask: u8,
+    /// The mode byte.
+    pub mode: u8,
+}
+
+// A place of a filter.
+fn place_at(filter: &SectionFilter, i: usize) -> Place
+    requires { i < 16 }
+    ensures { result ≡ place_of_filter filter.now i }
+{
+    Place {
+        number: i as u32,
+        filter: filter.filter[i],
+        mask: filter.mask[i],
+        mode: filter.mode[i],
+    }
+}
+
+// Appends a place, for which there is room.
+fn put_place(out: &mut Vec<u8>, place: Place)
+    requires number { place.number ≤ 15 }
+    requires room { vec_len out.old + 11 ≤ vec_capacity out.old }
+    ensures appended { out.new.items ≡ out.old.items ++ place_text place }
+    ensures len { vec_len out.new ≤ vec_len out.old + 11 }
+    ensures capacity { vec_capacity out.old ≤ vec_capacity out.new }
+{
+    let mut number = Buffer::new();
+    let [f, f_low] = digits_of(place.filter);
+    let [m, m_low] = digits_of(place.mask);
+    let [d, d_low] = digits_of(place.mode);
+    put(out, number.format(place.number).as_bytes());
+    put(out, &[b'=', f, f_low, b'/', m, m_low, b'/', d, d_low]);
+}
+
+// Appends a place of a filter behind a space, for which there is room; nothing where its three bytes are 0.
+fn put_filter_place(out: &mut Vec<u8>, filter: &SectionFilter, i: usize)
+    requires place { i < 16 }
+    requires room { vec_len out.old + 12 ≤ vec_capacity out.old }
+    ensures appended { out.new.items ≡ out.old.items ++ filter_place_text filter.now i }
+    ensures len { vec_len out.new ≤ vec_len out.old + 12 }
+    ensures capacity { vec_capacity out.old ≤ vec_capacity out.new }
+{
+    let place = place_at(filter, i);
+    if place.filter == 0 && place.mask == 0 && place.mode == 0 {
+        return;
+    }
+    put(out, b" ");
+    put_place(out, place);
+}
+
+/// Appends ` I=FF/MM/DD` for each place I of a filter whose filter, mask and mode byte aren't all 0, in ascending order.
+/// Room is asked for once.
+///
+/// # Errors
+///
+/// `NoMemory`; `out` is then as it was.
+pub fn write_filter(out: &mut Vec<u8>, filter: &SectionFilter) -> Result<(), NoMemory>
+    ensures appended { OnOk result (out.new.items ≡ out.old.items ++ filter_text filter.now) }
+    ensures unchanged { OnErr result (out.new.items ≡ out.old.items) }
+{
+    out.reserve(PLACES * MOST_BYTES)?;
+    'places: for i in 0..PLACES {
+        put_filter_place(out, filter, i);
+    }
+    Ok(())
+}
+
+// The place of this number with the bytes that `=FF/MM/DD` spells.
+#[tactic(auto, unfolding(crate::specs::Places::place_with))]
+fn place_with(number: u32, bytes: &[u8]) -> Option<Place>
+    ensures value { result ≡ place_spelled number bytes.now }
+    ensures number { IfSome result (λ place. place.number ≡ number) }
+{
+    match bytes {
+        [b'=', f, f_low, b'/', m, m_low, b'/', d, d_low] => {
+            let filter = hex_byte(*f, *f_low)?;
+            let mask = hex_byte(*m, *m_low)?;
+            let mode = hex_byte(*d, *d_low)?;
+            Some(Place {
+                number,
+                filter,
+                mask,
+                mode,
+            })
+        }
+        _ => None,
+    }
+}
+
+/// The place that a word `I=FF/MM/DD` spells, with I from `least` to 15.
+#[tactic(auto, unfolding(crate::specs::Places::place_named))]
+pub fn place_named(least: u32, word: &[u8]) -> Option<Place>
+    ensures value { result ≡ place_of_word least word.now }
+    ensures bound { IfSome result (λ place. (least ≤ place.number) × (place.number ≤ 15)) }
+{
+    let (number, bytes) = word.split_at(word.len().saturating_sub(BEHIND_NUMBER));
+    let number = number_between(least as u64, LAST_PLACE, number)?;
+    place_with(number as u32, bytes)
+}
+
+/// Puts the bytes of a place into the filter.
+#[tactic(auto, unfolding(crate::specs::Places::with_place))]
+pub fn set_place(filter: &mut SectionFilter, place: Place)
+    requires { place.number ≤ 15 }
+    ensures { filter.new ≡ with_place filter.old place }
+{
+    let i = place.number as usize;
+    filter.filter[i] = place.filter;
+    filter.mask[i] = place.mask;
+    filter.mode[i] = place.mode;
+}
