@@ -3,3 +3,9 @@ pub mod Pairs
 pub mod Seats
 pub mod FedOn
 pub mod Going
+pub mod Replies
+pub mod Sizes
+pub mod Answering
+pub mod Paid
+pub mod Calling
+pub mod Within

@@ -4,3 +4,4 @@ pub mod Legal
 pub mod Laws
 pub mod Examples
 pub mod Standing
+pub mod Budget
