@@ -4,3 +4,9 @@ pub mod Seats
 pub mod FedOn
 pub mod Going
 pub mod Drawing
+pub mod Replies
+pub mod Sizes
+pub mod Answering
+pub mod Paid
+pub mod Calling
+pub mod Within
