@@ -32,7 +32,7 @@ abbrev pub IsTelling : List Fed → (told place step next : ℕ) → (before aft
 IsTelling feeding told place step next before after =
     (node : ℕ) (e : LogEntry) (later : (place step : ℕ) → List Act → List LogEntry) → e.place ≡ place
     → after ++ flat_map entry_text (before_entry node e later (told + next) next (drop next (feeder_acts feeding)))
-        ≡ before ++ flat_map entry_text (before_entry node e later (told + step) step (drop step (feeder_acts feeding)))
+    ≡ before ++ flat_map entry_text (before_entry node e later (told + step) step (drop step (feeder_acts feeding)))
 
 module _ (node : ℕ) (e : LogEntry) (later : (place step : ℕ) → List Act → List LogEntry) where
   before-stops : (p s : ℕ) (acts : List Act) → e.place ≤ p → before_entry node e later p s acts ≡ e ∷ later (suc p) s acts
@@ -59,7 +59,7 @@ telling-more feeding told place step next before text longer there low so_far ad
     let p : told + (next + 1) ≡ suc (told + next) = omega arith in
     let s : next + 1 ≡ suc next = omega arith in
     let goes : before_entry node e later (told + next) next (drop next (feeder_acts feeding)) ≡ feeder_entry node (told + next) next (turn feeding next) ∷ before_entry node e later (suc (told + next)) (suc next) acts =
-        ap (before_entry node e later (told + next) next) (turns-more feeding next there) ∙ before-goes node e later (told + next) next (turn feeding next) acts (omega (arith, low, at)) in
+    ap (before_entry node e later (told + next) next) (turns-more feeding next there) ∙ before-goes node e later (told + next) next (turn feeding next) acts (omega (arith, low, at)) in
     let line = entry_text (feeder_entry 0 (told + next) next (turn feeding next)) in
     let rest = flat_map entry_text (before_entry node e later (suc (told + next)) (suc next) acts) in
     ap (λ p. longer ++ flat_map entry_text (before_entry node e later p (next + 1) (drop (next + 1) (feeder_acts feeding)))) p
@@ -81,7 +81,7 @@ telling-done feeding told place step next before text (inr low) so_far node e la
 abbrev pub IsEnding : List Fed → (told step next : ℕ) → (before after : List ℕ) → Type 0
 IsEnding feeding told step next before after =
     (node : ℕ) → after ++ flat_map entry_text (feeder_entries node (told + next) next (drop next (feeder_acts feeding)))
-        ≡ before ++ flat_map entry_text (feeder_entries node (told + step) step (drop step (feeder_acts feeding)))
+    ≡ before ++ flat_map entry_text (feeder_entries node (told + step) step (drop step (feeder_acts feeding)))
 
 pub ending-more : (feeding : List Fed) (told step next : ℕ) (before text longer : List ℕ) → next ≤ length feeding
     → IsEnding feeding told step next before text → longer ≡ text ++ entry_text (feeder_entry 0 (told + next) next (turn feeding next))
@@ -107,7 +107,7 @@ ending-done feeding told step next before text past so_far node =
 abbrev pub IsWeaving : List Fed → List ToldEntry → (told step : ℕ) → (before after : List ℕ) → Type 0
 IsWeaving feeding calls told step before after =
     (node : ℕ) → after ++ flat_map entry_text (woven_from node (drop told (map told_entry calls)) (told + step) step (drop step (feeder_acts feeding)))
-        ≡ before ++ flat_map entry_text (woven node (feeder_acts feeding) (map told_entry calls))
+    ≡ before ++ flat_map entry_text (woven node (feeder_acts feeding) (map told_entry calls))
 
 calls-more : (calls : List ToldEntry) (told : ℕ) (call : ToldEntry) → told < length calls → call ≡ get_or calls told call → drop told (map told_entry calls) ≡ told_entry call ∷ drop (suc told) (map told_entry calls)
 calls-more [] told call there is = absurd (omega (arith, there))

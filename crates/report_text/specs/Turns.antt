@@ -19,4 +19,4 @@ abbrev pub Told : List Fed → (told place step next : ℕ) → (before after : 
 Told feeding told place step next before after =
     (node : ℕ) (e : LogEntry) (later : (place step : ℕ) → List Act → List LogEntry) → e.place ≡ place
     → after ++ flat_map entry_text (e ∷ later (suc (told + next)) next (drop next (feeder_acts feeding)))
-        ≡ before ++ flat_map entry_text (before_entry node e later (told + step) step (drop step (feeder_acts feeding)))
+    ≡ before ++ flat_map entry_text (before_entry node e later (told + step) step (drop step (feeder_acts feeding)))

@@ -4,6 +4,6 @@
 mod acts;
 mod entries;
 mod replies;
-mod report;
-mod summary;
+mod whole;
 
+pub use whole::report;

@@ -12,5 +12,5 @@ pub returns : goal.returns
 returns c =
     on_ok_weaker c.add_lines.result
     (λ last. told_whole c.args.node c.args.feeding.now c.args.calls.now c.args.out.now.items c.add_lines.new.out.items (sym c.is_called.ensures ∙ c.if-not-is_called.false)
-        (behind c.args.out.now.items (codes "node " ++ node_text c.args.node) _ c.in_ok-add_node.ensures (last c.args.node)))
+    (behind c.args.out.now.items (codes "node " ++ node_text c.args.node) _ c.in_ok-add_node.ensures (last c.args.node)))
     c.add_lines.ensures
