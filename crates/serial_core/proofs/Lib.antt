@@ -4,3 +4,5 @@ pub mod Seats
 pub mod FedOn
 pub mod Going
 pub mod Drawing
+pub mod Batches
+pub mod Turning
