@@ -6,3 +6,9 @@ pub mod Going
 pub mod Drawing
 pub mod Batches
 pub mod Turning
+pub mod Replies
+pub mod Sizes
+pub mod Answering
+pub mod Paid
+pub mod Calling
+pub mod Within

@@ -1,5 +1,6 @@
 // Laws of the definitions.
 ghost use Rattle.serial_core.specs.Laws.{IsOne, TriedIsRun};
+ghost use Rattle.serial_core.specs.Budget.{IsWithinBudget};
 
 /// A script and a stream have one serial run at most.
 pub fn the_serial_run_is_one()
@@ -9,4 +10,9 @@ pub fn the_serial_run_is_one()
 /// What is computed is the serial run.
 pub fn what_is_tried_is_the_run()
     ensures { TriedIsRun }
+{}
+
+/// Each client of a serial run makes at most `most_calls` calls, for its own commands and the bytes of the stream's packets.
+pub fn clients_are_within_budget()
+    ensures { IsWithinBudget }
 {}
