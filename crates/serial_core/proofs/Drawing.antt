@@ -1,5 +1,6 @@
 -- Pulls one after another, and moves one after another.
-use Rattle.std.proofs.Common.{◌≡◌, ◌≢◌, refl, sym, ap, subst, ◌∙◌, ℕ, ◌+◌, ◌*◌, ◌≤◌, Bool, true, false, List, [], ◌∷◌, ◌++◌, length, length-append, append_assoc, append-nil, arith, Some, None}
+use Rattle.std.proofs.Common.{◌≡◌, ◌≢◌, refl, sym, ap, subst, ◌∙◌, ℕ, ◌+◌, ◌*◌, ◌≤◌, Bool, true, false, List, [], ◌∷◌, ◌++◌, length, length-append, append_assoc, append-nil, arith, Some, None, Result, Ok, Err, OnErr, ◌<◌, ◌-◌, ◌^◌}
+use Rattle.feed_pull.specs.declared.fault.Reading.{Reading}
 use Rattle.std.proofs.KnownBytes.{Consumes-trans, Consumes-nil}
 use Rattle.std.specs.declared.option.Option.{Option}
 use Rattle.ts_packet.specs.Cut.{cut}
@@ -63,6 +64,23 @@ moves_then x y z l m n a b c G H K both g h = record {
       (e.0, rw (k.1, e.1) refl);
   moment = h.moment ∙ g.moment;
 }
+
+pub moves_by : (x y : Option (List ℕ)) (l m : ℕ) (a b : Runner) (G K : Run → Run → Type 0) → ((r s : Run) → G r s → K r s) → Moves x y l m a b G → Moves x y l m a b K
+moves_by x y l m a b G K so g = record {
+  packets = g.packets;
+  draws = g.draws;
+  at = λ ahead taken given later r pulls stops at left. let k = g.at ahead taken given later r pulls stops at left in (k.0, so r k.0 k.1, k.2, k.3);
+  done = g.done;
+  moment = g.moment;
+}
+
+-- the source's count may rise once more while reading goes on
+pub still_counts : (old new : Reading) (x y : Option (List ℕ)) (l m : ℕ) → Follows old new x y l m → (old ≡ Going → l < 2 ^ 64 - 1) → new ≡ Going → m < 2 ^ 64 - 1
+still_counts old new x y l m f below going = let k = f.went going in let b = below k.0 in omega (arith, k.1, b)
+
+pub on_err : {T E : Type 0} (r : Result T E) (P : Type 0) → P → OnErr r P
+on_err (Ok x) P p = tt
+on_err (Err e) P p = p
 
 -- ------ a puller that is done gives nothing
 

@@ -4,6 +4,8 @@ pub mod Seats
 pub mod FedOn
 pub mod Going
 pub mod Drawing
+pub mod Batches
+pub mod Turning
 pub mod Replies
 pub mod Sizes
 pub mod Answering

@@ -1,7 +1,8 @@
 // A run on its way: the nodes, the stream, and the moment.
-ghost use Rattle.std.specs.Prelude.{◌≡◌, ℕ, ◌+◌, ◌-◌, ◌<◌, ◌≤◌, ◌^◌, ◌×◌, List, [], length, min, IfOk, OnOk, OnErr};
-ghost use Rattle.serial_core.specs.SerialRun.{Run, ended, fed, finished, turned};
-ghost use Rattle.serial_core.specs.Moving.{Draws, HasMade, IsSmall, Moves, turns_of};
+ghost use Rattle.std.specs.Prelude.{◌≡◌, true, ℕ, ◌+◌, ◌-◌, ◌<◌, ◌≤◌, ◌^◌, ◌≢◌, List, [], length, min, IfOk, OnOk, OnErr};
+ghost use Rattle.client_script.specs.declared.line.Line.{Line as ScriptLine};
+ghost use Rattle.serial_core.specs.SerialRun.{Run, fed, finished, ticked, turned};
+ghost use Rattle.serial_core.specs.Moving.{Draws, HasMade, IsAt, IsSmall, Moves};
 ghost use Rattle.feed_pull.specs.declared.fault.Reading.TheVariants.{Going};
 
 use crate::nodes::Nodes;
@@ -38,7 +39,8 @@ impl Runner {
         ensures draws { OnErr result ((packets : List (List ℕ)) × Draws (S.left source.old) (S.left source.new) (S.faults source.old) (S.faults source.new) self.old.puller self.new.puller packets) }
         ensures small { OnOk result (IsSmall self.new) }
         ensures made { OnOk result ((calls : ℕ) → HasMade self.old calls → HasMade self.new calls) }
-        ensures most { IfOk result (λ n. n ≤ most) }
+        ensures over { IfOk result (λ n. n ≡ 0 → self.new.nodes.has_ended ≡ true) }
+        ensures given { IfOk result (λ n. (n ≤ most) × (self.new.puller.given ≡ self.old.puller.given + n)) }
     {
         if self.nodes.has_ended {
             return Ok(0);
@@ -54,5 +56,66 @@ impl Runner {
                 Ok(0)
             }
         }
+    }
+
+    // So many packets pass, in batches of at most `batch`; where fewer are left, these pass and then End.
+    pub fn feed<S: Source, L: Ledger>(
+        &mut self,
+        source: &mut S,
+        batch: u32,
+        count: u32,
+        steps: &mut Steps<L>,
+    ) -> Result<(), NoMemory>
+        requires some { 1 ≤ batch }
+        requires few { batch ≤ 64 }
+        requires faults { self.old.puller.reading ≡ Going → S.faults source.old < 2 ^ 64 - 1 }
+        requires small { IsSmall self.old }
+        requires made { HasMade self.old 8796093022208 }
+        ensures moves { OnOk result (Moves (S.left source.old) (S.left source.new) (S.faults source.old) (S.faults source.new) self.old self.new (λ r s. s ≡ fed batch count r)) }
+        ensures draws { OnErr result ((packets : List (List ℕ)) × Draws (S.left source.old) (S.left source.new) (S.faults source.old) (S.faults source.new) self.old.puller self.new.puller packets) }
+        ensures small { OnOk result (IsSmall self.new) }
+        ensures made { OnOk result ((calls : ℕ) → HasMade self.old calls → HasMade self.new calls) }
+    {
+        let mut left = count;
+        'turns: while left > 0 {
+            let passed = self.turn(source, left.min(batch), steps)?;
+            if passed == 0 {
+                return Ok(());
+            }
+            left -= passed;
+        }
+        Ok(())
+    }
+
+    // The rest of the stream passes, in batches of at most `batch`, and then End.
+    pub fn finish<S: Source, L: Ledger>(
+        &mut self,
+        source: &mut S,
+        batch: u32,
+        steps: &mut Steps<L>,
+    ) -> Result<(), NoMemory>
+        requires some { 1 ≤ batch }
+        requires few { batch ≤ 64 }
+        requires faults { self.old.puller.reading ≡ Going → S.faults source.old < 2 ^ 64 - 1 }
+        requires small { IsSmall self.old }
+        requires made { HasMade self.old 8796093022208 }
+        ensures moves { OnOk result (Moves (S.left source.old) (S.left source.new) (S.faults source.old) (S.faults source.new) self.old self.new (λ r s. (lines : List ScriptLine) → s ≡ finished lines batch r)) }
+        ensures draws { OnErr result ((packets : List (List ℕ)) × Draws (S.left source.old) (S.left source.new) (S.faults source.old) (S.faults source.new) self.old.puller self.new.puller packets) }
+        ensures ended { OnOk result (self.new.nodes.has_ended ≡ true) }
+    {
+        'turns: while self.turn(source, batch, steps)? > 0 {}
+        Ok(())
+    }
+
+    // So many milliseconds go by.
+    pub fn tick(&mut self, time: u32)
+        requires late { self.old.moment + 2 ^ 32 ≤ 2 ^ 64 }
+        ensures at { (r : Run) → IsAt self.old r → IsAt self.new (ticked time r) }
+        ensures puller { self.new.puller ≡ self.old.puller }
+        ensures small { IsSmall self.old → IsSmall self.new }
+        ensures made { (calls : ℕ) → HasMade self.old calls → HasMade self.new calls }
+        ensures moment { self.new.moment ≡ self.old.moment + time }
+    {
+        self.moment += time as u64;
     }
 }
