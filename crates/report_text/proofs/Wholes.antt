@@ -6,7 +6,7 @@ use Rattle.std.proofs.Math.Seq.{drop-nil}
 abbrev pub IsNumbered : {A : Type 0} → (ℕ → A → List ℕ) → (ℕ → List A → List ℕ) → Type 0
 IsNumbered {A} one all = ((n : ℕ) → all n [] ≡ []) × ((n : ℕ) (x : A) (xs : List A) → all n (x ∷ xs) ≡ one n x ++ all (suc n) xs)
 
-drop-more : {A : Type 0} (xs : List A) (i : ℕ) (x : A) → slice_get xs i ≡ Some x → drop i xs ≡ x ∷ drop (suc i) xs
+pub drop-more : {A : Type 0} (xs : List A) (i : ℕ) (x : A) → slice_get xs i ≡ Some x → drop i xs ≡ x ∷ drop (suc i) xs
 drop-more [] i x at = absurd (cc at)
 drop-more (y ∷ xs) zero x at = let same : y ≡ x = cc at in ap (λ y. y ∷ xs) same
 drop-more (y ∷ xs) (suc i) x at = drop-more xs i x at

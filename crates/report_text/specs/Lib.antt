@@ -4,3 +4,4 @@ pub mod Entries
 pub mod Turns
 pub mod Report
 pub mod Summary
+pub mod Sums

@@ -4,6 +4,7 @@
 mod acts;
 mod entries;
 mod replies;
+mod sums;
 mod whole;
 
 pub use whole::report;
