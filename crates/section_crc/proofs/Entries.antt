@@ -1,5 +1,5 @@
 -- Each entry of the eight tables is as its rule says: the checker works them all out.
-use Rattle.std.proofs.Common.{◌≡◌, ℕ, zero, suc, ◌+◌, ◌*◌, ◌^◌, ◌<◌, List, [], ◌∷◌, map, fold, length, refl, ap, sym, ◌∙◌, arith, slice_index, slice_index_or, zero-add}
+use Rattle.std.proofs.Common.{◌≡◌, ℕ, zero, suc, ◌+◌, ◌<◌, List, [], ◌∷◌, fold, length, refl, ap, ◌∙◌, arith, slice_index, zero-add}
 use Rattle.section_crc.specs.Crc.{after_bit, bits_of}
 use Rattle.section_crc.specs.Tables.{entry_of, IsRow, AreRows}
 use Rattle.section_crc.proofs.Zeros.{entry-more}

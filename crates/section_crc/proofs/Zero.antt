@@ -1,5 +1,5 @@
 -- A CRC behind its own bytes leaves a register of 0.
-use Rattle.std.proofs.Common.{◌≡◌, ℕ, ◌*◌, ◌/◌, ◌%◌, ◌^◌, ◌<◌, List, [], ◌∷◌, fold, refl, sym, ap, ◌∙◌, arith, bit_xor}
+use Rattle.std.proofs.Common.{◌≡◌, ℕ, ◌*◌, ◌/◌, ◌%◌, ◌^◌, ◌<◌, List, fold, refl, sym, ap, ◌∙◌, arith, bit_xor}
 use Rattle.std.specs.Int.Bits.{xor_zero_l, xor_self}
 use Rattle.std.specs.List.{flat_map}
 use Rattle.std.proofs.lemmas.Grind.{flat_map-append, fold-append}

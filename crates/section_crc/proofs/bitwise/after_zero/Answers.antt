@@ -1,4 +1,4 @@
-use Rattle.std.proofs.Common.{◌≡◌, ◌^◌, ◌≤◌, sym, arith}
+use Rattle.std.proofs.Common.{sym, arith}
 use Rattle.section_crc.proofs.Linear.{shift_low, shift_high}
 use Rattle.section_crc.proofs.bitwise.after_zero.Goals as goal
 

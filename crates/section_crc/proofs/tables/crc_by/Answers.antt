@@ -1,4 +1,4 @@
-use Rattle.std.proofs.Common.{rules, ◌≡◌, ◌∙◌, ◌+◌, ℕ, List, ap, ap₂, fold, slice_index, arith, sym, refl, take, drop}
+use Rattle.std.proofs.Common.{◌∙◌, ℕ, List, ap, ap₂, fold, slice_index, refl}
 use Rattle.std.specs.List.{flat_map}
 use Rattle.std.proofs.lemmas.List.{take_all}
 use Rattle.section_crc.specs.Crc.{crc, after_bit, bits_of}
