@@ -43,7 +43,6 @@ moves_none x n v goes same = record {
   draws = draws_none x n v.puller;
   at = λ ahead taken given later r pulls stops at left. (r, same r, at, left);
   done = λ ahead taken given pulls done. (done, refl);
-  moment = refl;
 }
 
 pub moves_then : (x y z : Option (List ℕ)) (l m n : ℕ) (a b c : Runner) (G H K : Run → Run → Type 0) → ((r s t : Run) → G r s → H s t → K r t)
@@ -62,7 +61,6 @@ moves_then x y z l m n a b c G H K both g h = record {
       let k = g.done ahead taken given pulls done in
       let e = h.done ahead (taken ++ g.draws.carries.more) (given ++ g.packets) (g.draws.carries.pulls ahead taken given pulls) k.0 in
       (e.0, rw (k.1, e.1) refl);
-  moment = h.moment ∙ g.moment;
 }
 
 pub moves_by : (x y : Option (List ℕ)) (l m : ℕ) (a b : Runner) (G K : Run → Run → Type 0) → ((r s : Run) → G r s → K r s) → Moves x y l m a b G → Moves x y l m a b K
@@ -71,7 +69,6 @@ moves_by x y l m a b G K so g = record {
   draws = g.draws;
   at = λ ahead taken given later r pulls stops at left. let k = g.at ahead taken given later r pulls stops at left in (k.0, so r k.0 k.1, k.2, k.3);
   done = g.done;
-  moment = g.moment;
 }
 
 -- the source's count may rise once more while reading goes on

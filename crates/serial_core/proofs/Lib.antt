@@ -12,3 +12,6 @@ pub mod Answering
 pub mod Paid
 pub mod Calling
 pub mod Within
+pub mod Commanding
+pub mod Lawful
+pub mod Passing

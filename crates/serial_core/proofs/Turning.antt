@@ -20,11 +20,11 @@ batch_size most ps later all le short whole = elim (cases_lt (length ps) most) [
 
 -- a batch passes
 pub turn_passed : (old new : Runner) (most n : ℕ) (ps later : List (List ℕ)) (r : Run) → n ≡ length ps → 1 ≤ length ps → length ps ≤ most → (length ps < most → IsDone new.puller)
-    → ((r : Run) → IsNodes old.nodes r → IsNodes new.nodes (fed_to_all (Pass Frontend old.puller.given ps old.moment) r)) → new.nodes.has_ended ≡ false
+    → ((r : Run) → IsNodes old.nodes r → IsNodes new.nodes (fed_to_all (Pass Frontend old.puller.given ps old.moment) r))
     → new.puller.given ≡ old.puller.given + length ps → new.moment ≡ old.moment
     → (IsDone new.puller → later ≡ []) → IsAt old r → r.left ≡ ps ++ later
     → (s : Run) × ((s ≡ turned most r) × (n ≡ min most (length r.left))) × IsAt new s × (s.left ≡ later)
-turn_passed old new most n ps later r count some few short goes unended given moment stops at left =
+turn_passed old new most n ps later r count some few short goes given moment stops at left =
     let whole : length r.left ≡ length ps + length later = ap length left ∙ length-append ps later in
     let size : length ps ≡ min most (length r.left) = batch_size most ps later (length r.left) few (λ less. stops (short less)) whole in
     let front : take (length ps) r.left ≡ ps = ap (take (length ps)) left ∙ take-append_seam ps later in
@@ -40,7 +40,6 @@ turn_passed old new most n ps later r count some few short goes unended given mo
         nodes = record { demux = k.demux; dvr = k.dvr; turns = k.turns; has_ended = k.has_ended };
         first = given ∙ ap (λ f. f + length ps) at.first;
         moment = moment ∙ at.moment;
-        ended = λ is. absurd (let e : true ≡ false = sym is ∙ unended in cc);
       },
       back,
     )
@@ -60,7 +59,6 @@ turn_ended old new most later r done goes given moment stops at left =
         nodes = k;
         first = given ∙ (omega (arith, at.first) ∙ sym (ended_first r));
         moment = moment ∙ (at.moment ∙ sym (ended_moment r));
-        ended = λ is. done;
       },
       ended_left r ∙ left,
     ) where
@@ -81,10 +79,10 @@ turn_ended old new most later r done goes given moment stops at left =
         go false = refl
 
 -- nothing passes any more
-pub turn_over : (v : Runner) (most : ℕ) (later : List (List ℕ)) (r : Run) → v.nodes.has_ended ≡ true → (IsDone v.puller → later ≡ []) → IsAt v r → r.left ≡ [] ++ later
+pub turn_over : (v : Runner) (most : ℕ) (later : List (List ℕ)) (r : Run) → v.nodes.has_ended ≡ true → IsDone v.puller → (IsDone v.puller → later ≡ []) → IsAt v r → r.left ≡ [] ++ later
     → (s : Run) × ((s ≡ turned most r) × (0 ≡ min most (length r.left))) × IsAt v s × (s.left ≡ later)
-turn_over v most later r over stops at left =
-    let none : length r.left ≡ 0 = ap length left ∙ ap length (stops (at.ended over)) in
+turn_over v most later r over done stops at left =
+    let none : length r.left ≡ 0 = ap length left ∙ ap length (stops done) in
     let is : r.has_ended ≡ true = sym at.nodes.has_ended ∙ over in
     let same : ended r ≡ r = rw is refl in
     (r, (sym same ∙ sym (turned_none most r none), omega arith), at, left)

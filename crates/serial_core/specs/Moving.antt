@@ -1,20 +1,21 @@
 -- How the code goes on with the run, while the stream is pulled as it is wanted.
-use Rattle.std.specs.Prelude.{◌≡◌, ◌≢◌, ℕ, ◌+◌, ◌≤◌, Bool, true, false, List, [], ◌++◌, length}
+use Rattle.std.specs.Prelude.{◌≡◌, ◌≢◌, ℕ, ◌+◌, ◌≤◌, true, List, [], ◌++◌, length, None}
 use Rattle.std.specs.declared.option.Option.{Option}
 use Rattle.client_script.specs.declared.line.Line.{Line}
 use Rattle.client_core.specs.Core.{Core, IsAfter}
+use Rattle.client_core.specs.Events.{next_of_line}
 use Rattle.feed_pull.specs.Pulling.{Pulling, Pulls, IsDone}
 use Rattle.feed_pull.specs.Steps.{Carries, Follows}
 use Rattle.serial_core.specs.declared.runner.Runner.{Runner}
 use Rattle.serial_core.specs.SerialRun.{Run, replies_of, IsWorked}
+use Rattle.serial_core.specs.Budget.{one_if, IsPaid}
 use Rattle.serial_core.specs.Standing.{IsNodes, AreCounted}
 
--- The code is where the run is, whatever is left of the stream. End passes only where the puller has nothing more.
+-- The code is where the run is, whatever is left of the stream.
 pub record IsAt (v : Runner) (r : Run) : Type 0 where
   pub nodes : IsNodes v.nodes r
   pub first : v.puller.given ≡ r.first
   pub moment : v.moment ≡ r.moment
-  pub ended : v.nodes.has_ended ≡ true → IsDone v.puller
 
 -- What pulls do to a source and a puller: these packets were given, with the bytes that the source gave for them.
 pub record Draws (content left : Option (List ℕ)) (before after : ℕ) (old new : Pulling) (packets : List (List ℕ)) : Type 0 where
@@ -29,20 +30,16 @@ pub record Moves (content left : Option (List ℕ)) (before after : ℕ) (old ne
   pub at : (ahead taken : List ℕ) (given later : List (List ℕ)) (r : Run) → Pulls ahead taken given old.puller → (IsDone new.puller → later ≡ [])
       → IsAt old r → r.left ≡ packets ++ later → (s : Run) × goes r s × IsAt new s × (s.left ≡ later)
   pub done : (ahead taken : List ℕ) (given : List (List ℕ)) → Pulls ahead taken given old.puller → IsDone old.puller → IsDone new.puller × (packets ≡ [])
-  pub moment : new.moment ≡ old.moment
 
 -- ------ numbers
-
-abbrev pub one_if : Bool → ℕ
-one_if true = 1
-one_if false = 0
 
 -- the feeder has a turn for each packet at most, and one for End
 abbrev pub turns_of : Runner → ℕ
 turns_of v = v.puller.given + one_if v.nodes.has_ended
 
--- no node has more entries than calls were made, and so many packets aren't given
-pub record IsSmall (v : Runner) : Type 0 where
+-- No node has more entries than calls were made, so many packets aren't given, and End has passed only where the puller has nothing more.
+pub record IsSound (v : Runner) : Type 0 where
+  pub ended : v.nodes.has_ended ≡ true → IsDone v.puller
   pub counted : AreCounted v.nodes
   pub given : v.puller.given ≤ 2199023255552
 
@@ -58,3 +55,15 @@ pub record Comes (lines : List Line) (batch client line : ℕ) (first now : Run)
   pub clients : length now.replies ≡ 8
   pub others : (other : ℕ) → other ≢ client → replies_of other now ≡ replies_of other first
   pub worked : (s : Run) → IsWorked lines batch client line now s → IsWorked lines batch client line first s
+  pub paid : (packets : List (List ℕ)) → IsPaid lines packets first → IsPaid lines packets now
+
+-- so it comes from each run after which the old core stood
+abbrev pub ComesBy : (batch client line : ℕ) → (old new : Core) → Run → Run → Type 0
+ComesBy batch client line old new r s =
+    (lines : List Line) → length r.replies ≡ 8 → IsAfter client lines (replies_of client r) old → Comes lines batch client line r s new
+
+-- and the command is through
+abbrev pub IsDoneBy : (batch client line : ℕ) → (old new : Core) → Run → Run → Type 0
+IsDoneBy batch client line old new r s =
+    (lines : List Line) → length r.replies ≡ 8 → IsAfter client lines (replies_of client r) old
+    → Comes lines batch client line r s new × (next_of_line client lines line (replies_of client s) ≡ None)

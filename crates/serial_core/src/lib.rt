@@ -2,6 +2,7 @@
 #![tactic(auto)]
 
 mod laws;
+mod command;
 mod examples;
 mod node;
 mod nodes;

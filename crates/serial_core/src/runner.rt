@@ -2,7 +2,7 @@
 ghost use Rattle.std.specs.Prelude.{◌≡◌, true, ℕ, ◌+◌, ◌-◌, ◌<◌, ◌≤◌, ◌^◌, ◌≢◌, List, [], length, min, IfOk, OnOk, OnErr};
 ghost use Rattle.client_script.specs.declared.line.Line.{Line as ScriptLine};
 ghost use Rattle.serial_core.specs.SerialRun.{Run, fed, finished, ticked, turned};
-ghost use Rattle.serial_core.specs.Moving.{Draws, HasMade, IsAt, IsSmall, Moves};
+ghost use Rattle.serial_core.specs.Moving.{Draws, HasMade, IsAt, IsSound, Moves};
 ghost use Rattle.feed_pull.specs.declared.fault.Reading.TheVariants.{Going};
 
 use crate::nodes::Nodes;
@@ -32,13 +32,14 @@ impl Runner {
         requires some { 1 ≤ most }
         requires few { most ≤ 64 }
         requires faults { self.old.puller.reading ≡ Going → S.faults source.old < 2 ^ 64 - 1 }
-        requires small { IsSmall self.old }
+        requires sound { IsSound self.old }
         requires made { HasMade self.old 8796093022208 }
         ensures moves { IfOk result (λ n. Moves (S.left source.old) (S.left source.new) (S.faults source.old) (S.faults source.new) self.old self.new
             (λ r s. (s ≡ turned most r) × (n ≡ min most (length r.left)))) }
         ensures draws { OnErr result ((packets : List (List ℕ)) × Draws (S.left source.old) (S.left source.new) (S.faults source.old) (S.faults source.new) self.old.puller self.new.puller packets) }
-        ensures small { OnOk result (IsSmall self.new) }
+        ensures sound { OnOk result (IsSound self.new) }
         ensures made { OnOk result ((calls : ℕ) → HasMade self.old calls → HasMade self.new calls) }
+        ensures moment { OnOk result (self.new.moment ≡ self.old.moment) }
         ensures over { IfOk result (λ n. n ≡ 0 → self.new.nodes.has_ended ≡ true) }
         ensures given { IfOk result (λ n. (n ≤ most) × (self.new.puller.given ≡ self.old.puller.given + n)) }
     {
@@ -69,12 +70,13 @@ impl Runner {
         requires some { 1 ≤ batch }
         requires few { batch ≤ 64 }
         requires faults { self.old.puller.reading ≡ Going → S.faults source.old < 2 ^ 64 - 1 }
-        requires small { IsSmall self.old }
+        requires sound { IsSound self.old }
         requires made { HasMade self.old 8796093022208 }
         ensures moves { OnOk result (Moves (S.left source.old) (S.left source.new) (S.faults source.old) (S.faults source.new) self.old self.new (λ r s. s ≡ fed batch count r)) }
         ensures draws { OnErr result ((packets : List (List ℕ)) × Draws (S.left source.old) (S.left source.new) (S.faults source.old) (S.faults source.new) self.old.puller self.new.puller packets) }
-        ensures small { OnOk result (IsSmall self.new) }
+        ensures sound { OnOk result (IsSound self.new) }
         ensures made { OnOk result ((calls : ℕ) → HasMade self.old calls → HasMade self.new calls) }
+        ensures moment { OnOk result (self.new.moment ≡ self.old.moment) }
     {
         let mut left = count;
         'turns: while left > 0 {
@@ -97,7 +99,7 @@ impl Runner {
         requires some { 1 ≤ batch }
         requires few { batch ≤ 64 }
         requires faults { self.old.puller.reading ≡ Going → S.faults source.old < 2 ^ 64 - 1 }
-        requires small { IsSmall self.old }
+        requires sound { IsSound self.old }
         requires made { HasMade self.old 8796093022208 }
         ensures moves { OnOk result (Moves (S.left source.old) (S.left source.new) (S.faults source.old) (S.faults source.new) self.old self.new (λ r s. (lines : List ScriptLine) → s ≡ finished lines batch r)) }
         ensures draws { OnErr result ((packets : List (List ℕ)) × Draws (S.left source.old) (S.left source.new) (S.faults source.old) (S.faults source.new) self.old.puller self.new.puller packets) }
@@ -112,7 +114,7 @@ impl Runner {
         requires late { self.old.moment + 2 ^ 32 ≤ 2 ^ 64 }
         ensures at { (r : Run) → IsAt self.old r → IsAt self.new (ticked time r) }
         ensures puller { self.new.puller ≡ self.old.puller }
-        ensures small { IsSmall self.old → IsSmall self.new }
+        ensures sound { IsSound self.old → IsSound self.new }
         ensures made { (calls : ℕ) → HasMade self.old calls → HasMade self.new calls }
         ensures moment { self.new.moment ≡ self.old.moment + time }
     {

@@ -5,7 +5,7 @@ use Rattle.serial_core.proofs.Batches.{fed_none, fed_end, fed_step}
 use Rattle.serial_core.proofs.runner.Runner.feed.Goals as goal
 
 pub turns-init : goal.turns-init
-turns-init g c = record { moves = moves_none _ _ c.args.self.now _ (λ r. refl); small = c.requires.small; made = λ calls made. made }
+turns-init g c = record { moves = moves_none _ _ c.args.self.now _ (λ r. refl); sound = c.requires.sound; moment = refl; made = λ calls made. made }
 
 pub turn-requires-clause-made : goal.turn-requires-clause-made
 turn-requires-clause-made g c = c.turns.invariant.made 8796093022208 c.requires.made
@@ -49,7 +49,8 @@ turns-preserved g c =
               a ∙ (fed_step batch left n s (omega (arith, c.requires.some)) more (b.1 ∙ ap (λ m. min m (length s.left)) q) (omega arith)
               ∙ ap (fed batch (left - n)) (ap (λ m. turned m s) (sym q) ∙ sym b.0)))
           c.turns.invariant.moves c.in_ok-passed.ensures.moves;
-      small = c.in_ok-passed.ensures.small;
+      sound = c.in_ok-passed.ensures.sound;
+      moment = c.in_ok-passed.ensures.moment ∙ c.turns.invariant.moment;
       made = λ calls made. c.in_ok-passed.ensures.made calls (c.turns.invariant.made calls made);
     }
 

@@ -6,7 +6,7 @@ use Rattle.serial_core.proofs.Batches.{finished_end, finished_step}
 use Rattle.serial_core.proofs.runner.Runner.finish.Goals as goal
 
 pub turns-init : goal.turns-init
-turns-init g c = record { moves = moves_none _ _ c.args.self.now _ (λ r lines. refl); small = c.requires.small; made = λ calls made. made }
+turns-init g c = record { moves = moves_none _ _ c.args.self.now _ (λ r lines. refl); sound = c.requires.sound; made = λ calls made. made }
 
 pub turn-requires-clause-made : goal.turn-requires-clause-made
 turn-requires-clause-made g c = c.turns.invariant.made 8796093022208 c.requires.made
@@ -30,7 +30,7 @@ turns-preserved g c =
           (λ (r s t : Run) (a : (lines : List Line) → finished lines batch r ≡ finished lines batch s) (b : (t ≡ turned batch s) × (n ≡ min batch (length s.left))) (lines : List Line).
               a lines ∙ (finished_step lines batch n s (omega (arith, c.requires.some)) b.1 here ∙ ap (finished lines batch) (sym b.0)))
           c.turns.invariant.moves c.in_ok-turn.ensures.moves;
-      small = c.in_ok-turn.ensures.small;
+      sound = c.in_ok-turn.ensures.sound;
       made = λ calls made. c.in_ok-turn.ensures.made calls (c.turns.invariant.made calls made);
     }
 

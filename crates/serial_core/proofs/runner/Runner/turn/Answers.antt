@@ -13,9 +13,8 @@ pub returns-then-self-clause-moves : goal.returns-then-self-clause-moves
 returns-then-self-clause-moves g c = record {
   packets = [];
   draws = draws_none _ _ c.args.self.now.puller;
-  at = λ ahead taken given later r pulls stops at left. turn_over c.args.self.now c.args.most later r c.if-self.true stops at left;
+  at = λ ahead taken given later r pulls stops at left. turn_over c.args.self.now c.args.most later r c.if-self.true (c.requires.sound.ended c.if-self.true) stops at left;
   done = λ ahead taken given pulls done. (done, refl);
-  moment = refl;
 }
 
 pub returns-in_ok-pass-in-Some-clause-moves : goal.returns-in_ok-pass-in-Some-clause-moves
@@ -33,9 +32,8 @@ returns-in_ok-pass-in-Some-clause-moves g c =
       packets = ps;
       draws = record { carries = stream; follows = c.in_ok-batch.ensures.follows; start = c.in_ok-batch.ensures.start };
       at = λ ahead taken before later r pulls stops at left.
-          turn_passed old _ c.args.most c.count-count.result ps later r (c.count-count.ensures.value ∙ ap (λ (b : Packets). length b.packets) c.deref.ensures) some most fewer goes c.in_ok-pass-in-Some.ensures.open given refl stops at left;
+          turn_passed old _ c.args.most c.count-count.result ps later r (c.count-count.ensures.value ∙ ap (λ (b : Packets). length b.packets) c.deref.ensures) some most fewer goes given refl stops at left;
       done = λ ahead taken before pulls done.
           let none = none_given _ _ old.puller c.pull.new.self ps stream c.in_ok-batch.ensures.stopped done ahead taken before pulls in
           absurd (let long : length ps ≡ 0 = ap length none in omega (arith, some, long));
-      moment = refl;
-    }
+        }
