@@ -1,1 +1,4 @@
 pub mod Batch
+pub mod Places
+pub mod IsIndex
+pub mod BatchHolds
