@@ -1,5 +1,6 @@
 pub mod Cuts
 pub mod Filters
+pub mod Lengthening
 pub mod LineWords
 pub mod Parting
 pub mod ReadAgain

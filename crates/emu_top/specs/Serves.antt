@@ -1,5 +1,5 @@
 -- What a call of the program does: by its words, by what source and sink tell before and after, and by its status.
-use Rattle.std.specs.Prelude.{◌≡◌, ◌↔◌, ◌⊎◌, ¬◌, ℕ, ◌<◌, ◌≤◌, Bool, true, false, List, length, take, Option, Some, Result, Ok, Err, MatchOption, IfSome}
+use Rattle.std.specs.Prelude.{◌≡◌, ◌↔◌, ◌⊎◌, ¬◌, ⊥, ℕ, ◌<◌, ◌≤◌, Bool, true, false, List, length, take, Option, Some, None, Result, Ok, Err, MatchOption, IfSome}
 use Rattle.std.specs.Io.KnownBytes.{Appends, Consumes, Keeps, IsAtEnd}
 use Rattle.emu_io.specs.Causes.{Rose}
 use Rattle.ts_packet.specs.Cut.{cut}
@@ -7,7 +7,7 @@ use Rattle.dmx_calls.specs.Head.{head_of}
 use Rattle.client_script.specs.declared.line.Line.{Line}
 use Rattle.client_script.specs.declared.fault.ScriptFault.{ScriptFault}
 use Rattle.client_script.specs.Script.{split, grammar}
-use Rattle.client_core.specs.Budget.{most_calls, commands_in_all}
+use Rattle.client_core.specs.Budget.{most_calls}
 use Rattle.serial_core.specs.SerialRun.{Run, IsSerialRun, histories_of, outcomes_of}
 use Rattle.report_text.specs.Report.{report_of}
 use Rattle.emu_top.specs.Words.{meant}
@@ -24,8 +24,8 @@ pub record Outside : Type 0 where
 
 -- ------ a session
 
--- The bytes of a session have a whole script without a fault, and the text is the report of the serial run of its lines
--- over the packets of the stream behind it, in batches of this size. `failed`: a read failed behind the last byte.
+-- These bytes of a session have a whole script without a fault, and the text is the report of the serial run of its lines
+-- over the packets of the stream behind it, in batches of this size. `failed`: reading failed behind the last byte.
 pub record IsOutput (batch : ℕ) (bytes : List ℕ) (failed : Bool) (text : List ℕ) : Type 0 where
   pub lines : List Line
   pub stream : List ℕ
@@ -35,72 +35,87 @@ pub record IsOutput (batch : ℕ) (bytes : List ℕ) (failed : Bool) (text : Lis
   pub serial : IsSerialRun lines batch (cut stream).packets run
   pub report : text ≡ report_of (head_of stream failed) (outcomes_of lines run) (histories_of run)
 
--- why a run was given up: so many reads, each of which took a byte, or so many calls of one client as its budget allows
+-- a run of these bytes has made so many reads, each of which took a byte, or may make so many calls of one client
 abbrev pub IsTooLong : (bytes : List ℕ) → (turns : ℕ) → Type 0
-IsTooLong bytes turns =
-    (turns ≡ 4294967296) × (turns ≤ length bytes)
-    ⊎ (turns ≡ 549755813888) × ((lines : List Line) × (stream : List ℕ) × (grammar (split bytes).script ≡ Ok lines)
-        × ((split bytes).stream ≡ Some stream) × (turns ≤ most_calls (commands_in_all lines) (length stream)))
+IsTooLong bytes turns = (turns ≡ 4294967296) × (turns ≤ length bytes) ⊎ (turns ≡ 549755813888) × MayCall bytes turns
 
 -- ------ what is read and written
+
+abbrev pub NoReadFails : Outside → Outside → Type 0
+NoReadFails before after = after.read_faults ≡ before.read_faults
+
+abbrev pub NoWriteFails : Outside → Outside → Type 0
+NoWriteFails before after = after.write_faults ≡ before.write_faults
 
 -- these bytes were taken from the source
 abbrev pub Takes : Outside → Outside → List ℕ → Type 0
 Takes before after bytes = Consumes before.left after.left bytes
 
-abbrev pub ReadsSteady : Outside → Outside → Type 0
-ReadsSteady before after = after.read_faults ≡ before.read_faults
+-- these bytes came behind those that were written
+abbrev pub Writes : Outside → Outside → List ℕ → Type 0
+Writes before after text = Appends before.written after.written text
 
-abbrev pub WritesSteady : Outside → Outside → Type 0
-WritesSteady before after = after.write_faults ≡ before.write_faults
-
--- nothing was written, and no write failed
 abbrev pub WritesNothing : Outside → Outside → Type 0
-WritesNothing before after = Keeps before.written after.written × WritesSteady before after
+WritesNothing before after = Keeps before.written after.written × NoWriteFails before after
 
--- nothing was read, and no read failed
-abbrev pub ReadsNothing : Outside → Outside → Type 0
-ReadsNothing before after = Keeps before.left after.left × ReadsSteady before after
-
--- ------ one status after another
+-- ------ what each status says
 
 -- The input was read to its end, and the whole output for it was written.
-abbrev pub IsDone : (batch : ℕ) → Outside → Outside → Type 0
-IsDone batch before after =
-    ReadsSteady before after × WritesSteady before after × IsAtEnd after.left
-    × ((bytes text : List ℕ) × Takes before after bytes × IsOutput batch bytes false text × Appends before.written after.written text)
+pub record IsDone (batch : ℕ) (before after : Outside) : Type 0 where
+  pub bytes : List ℕ
+  pub text : List ℕ
+  pub reads : NoReadFails before after
+  pub writes : NoWriteFails before after
+  pub taken : Takes before after bytes
+  pub whole : IsAtEnd after.left
+  pub output : IsOutput batch bytes false text
+  pub written : Writes before after text
 
--- The script of the input has this fault; what is behind its line is not asked for.
-abbrev pub IsFaulty : ScriptFault → Outside → Outside → Type 0
-IsFaulty fault before after =
-    ReadsSteady before after × WritesNothing before after × IfSome before.left (λ input. grammar (split input).script ≡ Err fault)
+-- The script of the input has this fault. Nothing was written.
+pub record IsFaulty (fault : ScriptFault) (before after : Outside) : Type 0 where
+  pub reads : NoReadFails before after
+  pub fault : IfSome before.left (λ input. grammar (split input).script ≡ Err fault)
+  pub nothing : WritesNothing before after
 
--- A read failed. Where that was behind a whole script, the report over the bytes taken was written; else nothing.
-abbrev pub IsReadFault : (batch : ℕ) → Outside → Outside → Type 0
-IsReadFault batch before after =
-    Rose before.read_faults after.read_faults × WritesSteady before after
-    × ((bytes : List ℕ) × Takes before after bytes
-        × MatchOption (split bytes).stream (Keeps before.written after.written)
-            (λ stream. (text : List ℕ) × IsOutput batch bytes true text × Appends before.written after.written text))
+-- The run was given up. Nothing was written.
+pub record IsGivenUp (turns : ℕ) (before after : Outside) : Type 0 where
+  pub bytes : List ℕ
+  pub taken : Takes before after bytes
+  pub cause : IsTooLong bytes turns
+  pub nothing : WritesNothing before after
 
--- A write failed. A front of the output was written, but not all of it.
-abbrev pub IsWriteFault : (batch : ℕ) → Outside → Outside → Type 0
-IsWriteFault batch before after =
-    Rose before.write_faults after.write_faults
-    × ((bytes text : List ℕ) × (failed : Bool) × (n : ℕ) × Takes before after bytes × IsOutput batch bytes failed text
-        × (failed ≡ true → Rose before.read_faults after.read_faults) × (failed ≡ false → ReadsSteady before after × IsAtEnd after.left)
-        × (n < length text) × Appends before.written after.written (take n text))
+-- A read failed. Where a whole script was read before, the report over the bytes that were taken was written; else nothing.
+pub record HasReadFault (batch : ℕ) (before after : Outside) : Type 0 where
+  pub bytes : List ℕ
+  pub rose : Rose before.read_faults after.read_faults
+  pub writes : NoWriteFails before after
+  pub taken : Takes before after bytes
+  pub written : MatchOption (split bytes).stream (Keeps before.written after.written) (λ stream. (text : List ℕ) × IsOutput batch bytes true text × Writes before after text)
+
+-- whether reading failed, or the source has nothing left
+abbrev pub ReadsTo : (failed : Bool) → Outside → Outside → Type 0
+ReadsTo true before after = Rose before.read_faults after.read_faults
+ReadsTo false before after = NoReadFails before after × IsAtEnd after.left
+
+-- A write failed. A part of the output was written, from its front on.
+pub record HasWriteFault (batch : ℕ) (before after : Outside) : Type 0 where
+  pub bytes : List ℕ
+  pub text : List ℕ
+  pub failed : Bool
+  pub count : ℕ
+  pub rose : Rose before.write_faults after.write_faults
+  pub reads : ReadsTo failed before after
+  pub taken : Takes before after bytes
+  pub output : IsOutput batch bytes failed text
+  pub part : count < length text
+  pub written : Writes before after (take count text)
 
 -- what a status says of a session in batches of this size
 abbrev pub Says : (batch : ℕ) → Outside → Outside → Status → Type 0
 Says batch before after Usage = ⊥
-Says batch before after (Script fault) = IsFaulty fault before after
-Says batch before after (TooLong turns) = WritesNothing before after × ((bytes : List ℕ) × Takes before after bytes × IsTooLong bytes turns)
-Says batch before after ReadFault = IsReadFault batch before after
-Says batch before after WriteFault = IsWriteFault batch before after
-Says batch before after NoMemory = ReadsLater before after × WritesNothing before after
+Says batch before after (Script line kind) = IsFaulty (record { line = line; kind = kind }) before after
+Says batch before after (TooLong turns) = IsGivenUp turns before after
+Says batch before after ReadFault = HasReadFault batch before after
+Says batch before after WriteFault = HasWriteFault batch before after
+Says batch before after NoMemory = WritesNothing before after
 Says batch before after Done = IsDone batch before after
-
--- Where no read and no write fails, the answer is the one that the input determines, or want of memory: the script's
--- fault, or for fewer than 4,294,967,296 bytes the whole output.
-abbrev pub Answers : Outside → Outside → Status → Type 0
