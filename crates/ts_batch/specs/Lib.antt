@@ -2,3 +2,4 @@ pub mod Batch
 pub mod Places
 pub mod IsIndex
 pub mod BatchHolds
+pub mod SetHolds

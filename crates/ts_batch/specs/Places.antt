@@ -1,5 +1,5 @@
 -- Which packets a PID names, and where they stand.
-use Rattle.std.specs.Prelude.{ℕ, ◌+◌, Bool, ◌||◌, nat_eq, List, [], ◌∷◌, if◌then◌else◌}
+use Rattle.std.specs.Prelude.{ℕ, ◌+◌, Bool, false, ◌||◌, nat_eq, List, [], ◌∷◌, slice_index_or, if◌then◌else◌}
 use Rattle.ts_packet.specs.Fields.{pid_of}
 
 -- A PID names the packets that have it; PID 0x2000 names every packet (Linux media API, Digital TV demux, struct dmx_pes_filter_params).
@@ -14,3 +14,7 @@ places_from k test (packet ∷ packets) = if test packet then k ∷ places_from 
 -- the places of the packets that a PID names
 abbrev pub places_of : (pid : ℕ) → List (List ℕ) → List ℕ
 places_of pid packets = places_from 0 (names pid) packets
+
+-- the place is in the set of these marks, one for each place
+abbrev pub is_in : ℕ → List Bool → Bool
+is_in i marks = slice_index_or marks i false

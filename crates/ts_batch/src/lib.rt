@@ -17,6 +17,7 @@
 #![tactic(auto)]
 
 mod index;
+mod place_set;
 #[cfg(test)]
 mod tests;
 
@@ -26,6 +27,7 @@ ghost use Rattle.ts_batch.specs.Batch.{IsBatch};
 ghost use Rattle.ts_batch.specs.Places.{places_of};
 
 use index::Index;
+pub use place_set::PlaceSet;
 use std::alloc::{AllocError as NoMemory, Global};
 use std::marker::Model;
 use std::sync::Arc;
@@ -103,7 +105,8 @@ impl Batch {
 
     /// The places of the packets of a PID, ascending, each counted from 0; of all packets for PID 0x2000. It takes no step.
     pub fn places(&self, pid: u16) -> &[u8]
-        ensures { result.now ≡ places_of pid self.now.packets }
+        ensures value { result.now ≡ places_of pid self.now.packets }
+        ensures batch { IsBatch self.now }
     {
         'runs: for run in &self.index.runs {
             if run.pid == pid {

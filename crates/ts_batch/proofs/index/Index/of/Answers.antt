@@ -14,7 +14,7 @@ packets-preserved c =
     let packet = c.packet-item.result in
     let packets = c.args.packets.now in
     let i = c.packets.packet-index in
-    let is : pid_of (get_or packets i packet) ≡ c.pid-pid.result = ap pid_of (sym c.packet-item.is) ∙ sym c.pid-pid.ensures in
+    let is : pid_of (get_or packets i packet) ≡ c.pid-pid.result = ap pid_of (sym c.packet-item.is) ∙ sym c.pid-pid.ensures.value in
     elim c.if-not-has.branch [
       | then-not-has+in_ok-list-2 w ↦
           let e = w.in_ok-list-2.ensures in
