@@ -50,7 +50,7 @@ packets_of number pid (suc n) = if pid_of (kind_of (word number n)) == pid then 
 
 -- a packet's first four bytes: no error, no priority, no scrambling, and a payload without an adaptation field
 abbrev pub header : Bool → ℕ → ℕ → List ℕ
-header unit_start pid counter = 0x47 ∷ (if unit_start then 0x40 else 0) + pid / 256 ∷ pid % 256 ∷ 0x10 + counter ∷ []
+header unit_start pid counter = 0x47 ∷ ((if unit_start then 0x40 else 0) + pid / 256) ∷ (pid % 256) ∷ (0x10 + counter) ∷ []
 
 -- the first n bytes of a plain payload: byte j, from 0, is the packet's place plus j, modulo 256
 unfoldable pub payload : ℕ → ℕ → List ℕ

@@ -1,5 +1,5 @@
 // What a packet carries.
-ghost use Rattle.std.specs.Prelude.{◌≡◌};
+ghost use Rattle.std.specs.Prelude.{◌≡◌, ◌<◌};
 ghost use Rattle.ts_make.specs.Made.{kind_of, pid_of, table_of};
 
 /// What a packet of the stream carries: a program association section, video, audio, a service description section, or
@@ -29,7 +29,8 @@ impl Kind {
 
     // Its PID.
     pub fn pid(self) -> u16
-        ensures { result ≡ pid_of self }
+        ensures value { result ≡ pid_of self }
+        ensures fits { result < 8192 }
     {
         match self {
             Kind::Association => 0,

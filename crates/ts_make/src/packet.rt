@@ -1,11 +1,19 @@
 // The bytes of a packet.
-ghost use Rattle.std.specs.Prelude.{◌≡◌, ◌<◌, ◌++◌, OnOk};
-ghost use Rattle.ts_make.specs.Made.{header, payload, section, packet};
+ghost use Rattle.std.specs.Prelude.{◌≡◌, ◌<◌, ◌≤◌, ◌++◌, ◌∷◌, true, replicate, OnOk, if◌then◌else◌};
+ghost use Rattle.ts_make.specs.Made.{header, payload, section_front, section, packet};
 
 use crate::kind::Kind;
 use section_crc::crc;
 use std::alloc::AllocError as NoMemory;
 use ts_packet::SYNC_BYTE;
+
+// The bit of a unit start in byte 1.
+fn start_bit(unit_start: bool) -> u8
+    ensures value { result ≡ (if unit_start then 0x40 else 0) }
+    ensures fits { result ≤ 0x40 }
+{
+    if unit_start { 0x40 } else { 0 }
+}
 
 // Appends the first four bytes.
 fn put_header(out: &mut Vec<u8>, unit_start: bool, pid: u16, counter: u8) -> Result<(), NoMemory>
@@ -13,9 +21,8 @@ fn put_header(out: &mut Vec<u8>, unit_start: bool, pid: u16, counter: u8) -> Res
     requires counter { counter < 16 }
     ensures { OnOk result (out.new.items ≡ out.old.items ++ header unit_start pid counter) }
 {
-    let [high, low] = pid.to_be_bytes();
-    let start = if unit_start { 0x40 } else { 0 };
-    out.extend_from_slice(&[SYNC_BYTE, start + high, low, 0x10 + counter])
+    let high = start_bit(unit_start) + (pid / 256) as u8;
+    out.extend_from_slice(&[SYNC_BYTE, high, (pid % 256) as u8, 0x10 + counter])
 }
 
 // Appends the payload of the packet in this place: each byte is one more than the one before it, modulo 256.
@@ -28,17 +35,62 @@ fn put_payload(out: &mut Vec<u8>, place: u16) -> Result<(), NoMemory>
     Ok(())
 }
 
-// Appends a section of 20 bytes that carries the packet's place, with its CRC.
+// A section of 20 bytes without its CRC: its place stands in the table_id_extension, and again in eight bytes.
+fn front_of_section(table_id: u8, place: u16) -> [u8; 16]
+    ensures { result ≡ section_front table_id place }
+{
+    let [high, low] = place.to_be_bytes();
+    let [a, b, c, d, e, f, g, h] = u64::from(place).to_be_bytes();
+    [
+        table_id, 0xb0, 0x11, high, low, 0xc1, 0, 0, a, b, c, d, e, f, g, h,
+    ]
+}
+
+// Appends a section with its CRC.
 fn put_section(out: &mut Vec<u8>, table_id: u8, place: u16) -> Result<(), NoMemory>
     ensures { OnOk result (out.new.items ≡ out.old.items ++ section table_id place) }
 {
-    let start = out.len();
-    out.extend_from_slice(&[table_id, 0xb0, 0x11])?;
-    out.extend_from_slice(&place.to_be_bytes())?;
-    out.extend_from_slice(&[0xc1, 0x00, 0x00])?;
-    out.extend_from_slice(&u64::from(place).to_be_bytes())?;
-    let check = crc(&out[start..]);
-    out.extend_from_slice(&check.to_be_bytes())
+    let front = front_of_section(table_id, place);
+    let check = crc(&front);
+    out.extend_from_slice(&front)?;
+    out.extend_from_slice(&check.to_be_bytes())?;
+    Ok(())
+}
+
+// Appends a packet with a section, which begins behind a pointer_field 0 and has stuffing behind it.
+fn put_section_packet(
+    out: &mut Vec<u8>,
+    pid: u16,
+    table_id: u8,
+    place: u16,
+    counter: u8,
+) -> Result<(), NoMemory>
+    requires pid { pid < 8192 }
+    requires counter { counter < 16 }
+    ensures { OnOk result (out.new.items ≡ out.old.items ++ (header true pid counter ++ (0x00 ∷ (section table_id place ++ replicate 163 0xff)))) }
+{
+    put_header(out, true, pid, counter)?;
+    out.push(0)?;
+    put_section(out, table_id, place)?;
+    out.extend_from_slice(&[0xff; 163])?;
+    Ok(())
+}
+
+// Appends a plain packet.
+fn put_plain_packet(
+    out: &mut Vec<u8>,
+    unit_start: bool,
+    pid: u16,
+    place: u16,
+    counter: u8,
+) -> Result<(), NoMemory>
+    requires pid { pid < 8192 }
+    requires counter { counter < 16 }
+    ensures { OnOk result (out.new.items ≡ out.old.items ++ (header unit_start pid counter ++ payload place 184)) }
+{
+    put_header(out, unit_start, pid, counter)?;
+    put_payload(out, place)?;
+    Ok(())
 }
 
 // Appends a packet of this kind in this place.
@@ -53,15 +105,7 @@ pub fn put_packet(
     ensures { OnOk result (out.new.items ≡ out.old.items ++ packet kind place word counter) }
 {
     match kind.table_id() {
-        Some(table_id) => {
-            put_header(out, true, kind.pid(), counter)?;
-            out.push(0)?;
-            put_section(out, table_id, place)?;
-            out.extend_from_slice(&[0xff; 163])
-        }
-        None => {
-            put_header(out, word / 65536 % 8 == 0, kind.pid(), counter)?;
-            put_payload(out, place)
-        }
+        Some(table_id) => put_section_packet(out, kind.pid(), table_id, place, counter),
+        None => put_plain_packet(out, word / 65536 % 8 == 0, kind.pid(), place, counter),
     }
 }
