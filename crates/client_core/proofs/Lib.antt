@@ -1,3 +1,4 @@
 pub mod GoesOn
 pub mod Few
 pub mod More
+pub mod Numbering

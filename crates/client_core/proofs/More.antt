@@ -189,7 +189,7 @@ slot_on slot slots (verb.Size p) step rs r = at_on (slice_index_or slots slot No
 slot_on slot slots (verb.Read p) step rs r = at_on (slice_index_or slots slot None) (verb.Read p) step rs r
 slot_on slot slots verb.Poll step rs r = at_on (slice_index_or slots slot None) verb.Poll step rs r
 
-done_on_more : (slots : Slots) (t : Target) (v : Verb) (step : ℕ) (rs : List Response) (r : Response)
+pub done_on_more : (slots : Slots) (t : Target) (v : Verb) (step : ℕ) (rs : List Response) (r : Response)
     → Onward step r (repeats_in slots t v rs) (repeats_in slots t v (rs ++ r ∷ [])) (done slots t v step rs) (done slots t v step (rs ++ r ∷ []))
 done_on_more slots (Node node) v step rs r = on_on node v step rs r
 done_on_more slots (Slot slot) v step rs r = slot_on slot slots v step rs r
@@ -311,7 +311,7 @@ all_more slots step (c ∷ cs) rs r s is =
           subst (λ k. IsMore s.event.want r (m + rest_of slots cs (through ending next left)) (k + rest_of slots cs f) (progress_of slots step c cs f).standing) (sym on.1)
           (subst (λ x. IsMore s.event.want r (m + rest_of slots cs (through ending next left)) (m + rest_of slots cs x) (progress_of slots step c cs x).standing) (sym on.0) behind)
 
-some_of : (o : Option Standing) (e : Event) → option_map (λ s. s.event) o ≡ Some e → (s : Standing) × (o ≡ Some s) × (s.event ≡ e)
+pub some_of : (o : Option Standing) (e : Event) → option_map (λ s. s.event) o ≡ Some e → (s : Standing) × (o ≡ Some s) × (s.event ≡ e)
 some_of None e is = absurd (subst (λ o. MatchOption o (Unit {0}) (λ x. ⊥)) is tt)
 some_of (Some s) e is = (s, refl, cc)
 

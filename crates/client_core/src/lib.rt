@@ -19,6 +19,8 @@ mod laws;
 mod machine;
 mod stop;
 mod task;
+#[cfg(test)]
+mod tests;
 
 pub use call::call_of;
 pub use client::ClientCore;

@@ -1,9 +1,10 @@
 -- The first piece of a list, and the pieces behind it.
 use Rattle.std.proofs.Common.{◌≡◌, ◌<◌, ◌≤◌, ◌+◌, refl, ap, ◌∙◌, ℕ, Bool, true, false, cond, List, [], ◌∷◌, length, take, drop, Some, None, arith}
 use Rattle.std.proofs.lemmas.Bool.Decides.{nat_tests}
+use Rattle.std.proofs.lemmas.List.Elements.{All-nil, All-cons}
 use Rattle.std.proofs.lemmas.List.Splits.{slice_split_first, slice_split-cons_no, length-slice_split}
 use Rattle.std.specs.Prelude.{nat_lt, ◌==◌}
-use Rattle.std.specs.List.{slice_split, onto_first, position, position_or_len, count_by}
+use Rattle.std.specs.List.{All, slice_split, onto_first, position, position_or_len, count_by}
 use Rattle.client_script.specs.Script.{without_last, whole_lines}
 
 cut_below : (p : ℕ → Bool) (xs : List ℕ) (i : ℕ) (b : Bool) → nat_lt (position_or_len p xs) (length xs) ≡ b → cond b (Some (position_or_len p xs)) None ≡ Some i
@@ -42,6 +43,27 @@ cut_nowhere p xs false e h =
 -- the one piece, where no place passes
 pub cut-none : (p : ℕ → Bool) (xs : List ℕ) → position p xs ≡ None → slice_split p xs ≡ xs ∷ []
 cut-none p xs h = cut_nowhere p xs (nat_lt (position_or_len p xs) (length xs)) refl h
+
+free_more : (p : ℕ → Bool) (x : ℕ) (xs : List ℕ) → (length xs ≡ position_or_len p xs → All (λ y. p y ≡ false) xs) → length (x ∷ xs) ≡ position_or_len p (x ∷ xs)
+    → (b : Bool) → p x ≡ b → All (λ y. p y ≡ false) (x ∷ xs)
+free_more p x xs more h true e = absurd (grind arith)
+free_more p x xs more h false e =
+    let shorter : length xs ≡ position_or_len p xs = grind arith in
+    All-cons (λ y. p y ≡ false) x xs e (more shorter)
+
+free : (p : ℕ → Bool) (xs : List ℕ) → length xs ≡ position_or_len p xs → All (λ y. p y ≡ false) xs
+free p [] h = All-nil (λ y. p y ≡ false)
+free p (x ∷ xs) h = free_more p x xs (free p xs) h (p x) refl
+
+free_nowhere : (p : ℕ → Bool) (xs : List ℕ) (b : Bool) → nat_lt (position_or_len p xs) (length xs) ≡ b → cond b (Some (position_or_len p xs)) None ≡ None → All (λ y. p y ≡ false) xs
+free_nowhere p xs true e h = absurd (cc)
+free_nowhere p xs false e h =
+    let all : length xs ≤ position_or_len p xs = grind (arith, nat_tests) in
+    free p xs (omega (arith, within p xs))
+
+-- where no place passes, no element does
+pub position-None : (p : ℕ → Bool) (xs : List ℕ) → position p xs ≡ None → All (λ y. p y ≡ false) xs
+position-None p xs h = free_nowhere p xs (nat_lt (position_or_len p xs) (length xs)) refl h
 
 behind_first : (line : List ℕ) (pieces : List (List ℕ)) → 0 < length pieces → without_last (line ∷ pieces) ≡ line ∷ without_last pieces
 behind_first line [] some = absurd (omega arith)

@@ -1,11 +1,14 @@
 -- What the words that are still to come make of a filter.
-use Rattle.std.proofs.Common.{◌≡◌, refl, ℕ, suc, ◌+◌, List, [], ◌∷◌, fold}
+use Rattle.std.proofs.Common.{◌≡◌, refl, ℕ, suc, ◌+◌, ◌<◌, List, [], ◌∷◌, fold, replicate, arith}
+use Rattle.std.proofs.lemmas.List.Elements.{All-replicate}
+use Rattle.std.specs.List.{All}
 use Rattle.std.specs.Prelude.{Some, None, Ok, Err}
 use Rattle.filter_match.specs.declared.filter.SectionFilter.{SectionFilter}
 use Rattle.client_script.specs.Words.{Reading, and_then, made}
-use Rattle.client_script.specs.Places.{place_of, places_in, with_place}
+use Rattle.text_forms.specs.Places.{IsFilter, place_named, with_place}
+use Rattle.text_forms.specs.declared.places.Place.{Place}
+use Rattle.client_script.specs.Places.{places_in}
 use Rattle.client_script.specs.declared.fault.FaultKind.TheVariants.{Bytes}
-use Rattle.client_script.specs.declared.places.Place.{Place}
 
 -- the filter with the places that at most `left` words at the front spell, with numbers from `least` on
 unfoldable pub filter_by : SectionFilter → (left least : ℕ) → List (List ℕ) → Reading SectionFilter
@@ -19,12 +22,12 @@ pub filter_by-end : (f : SectionFilter) (left more least : ℕ) (words : List (L
 unfolding filter_by places_in
 filter_by-end f left more least words some none = rw (some, none) refl
 
-pub filter_by-fault : (f : SectionFilter) (left more least : ℕ) (all : List (List ℕ)) (word : List ℕ) (words : List (List ℕ)) → left ≡ suc more → all ≡ word ∷ words → place_of least word ≡ None
+pub filter_by-fault : (f : SectionFilter) (left more least : ℕ) (all : List (List ℕ)) (word : List ℕ) (words : List (List ℕ)) → left ≡ suc more → all ≡ word ∷ words → place_named least word ≡ None
     → filter_by f left least all ≡ Err Bytes
 unfolding filter_by places_in
 filter_by-fault f left more least all word words some split none = rw (some, split, none) refl
 
-pub filter_by-place : (f : SectionFilter) (left more least : ℕ) (all : List (List ℕ)) (word : List ℕ) (words : List (List ℕ)) (place : Place) → left ≡ suc more → all ≡ word ∷ words → place_of least word ≡ Some place
+pub filter_by-place : (f : SectionFilter) (left more least : ℕ) (all : List (List ℕ)) (word : List ℕ) (words : List (List ℕ)) (place : Place) → left ≡ suc more → all ≡ word ∷ words → place_named least word ≡ Some place
     → filter_by f left least all ≡ filter_by (with_place f place) more (place.number + 1) words
 unfolding filter_by places_in
 filter_by-place f left more least all word words place some split found = rw (some, split, found) (go (places_in more (place.number + 1) words))
@@ -32,3 +35,9 @@ filter_by-place f left more least all word words place some split found = rw (so
     go : (later : Reading (List Place)) → made (fold with_place f) (and_then later (λ places words. Ok (place ∷ places, words))) ≡ made (fold with_place (with_place f place)) later
     go (Ok read) = refl
     go (Err kind) = refl
+
+-- zeros are a filter
+pub zeros-IsFilter : IsFilter (record { filter = replicate 16 0; mask = replicate 16 0; mode = replicate 16 0 })
+zeros-IsFilter =
+    let bytes : All (λ byte. byte < 256) (replicate 16 0) = All-replicate (λ byte. byte < 256) 16 0 (omega arith) in
+    ((refl, bytes), (refl, bytes), (refl, bytes))

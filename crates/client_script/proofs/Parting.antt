@@ -15,19 +15,21 @@ use Rattle.client_script.specs.declared.fault.ScriptFault.{ScriptFault}
 use Rattle.client_script.proofs.Cuts.{cut-some, cut-none, first-line}
 
 -- bytes with a first whole line: that line, its line feed, and the bytes behind it
-record First (xs line : List ℕ) (more : List (List ℕ)) : Type 0 where
-  behind : List ℕ
-  split_so : xs ≡ line ++ 10 ∷ behind
-  stays : (zs : List ℕ) → whole_lines (line ++ 10 ∷ zs) ≡ line ∷ whole_lines zs
-  others : more ≡ whole_lines behind
+pub record First (xs line : List ℕ) (more : List (List ℕ)) : Type 0 where
+  pub behind : List ℕ
+  pub split_so : xs ≡ line ++ 10 ∷ behind
+  pub stays : (zs : List ℕ) → whole_lines (line ++ 10 ∷ zs) ≡ line ∷ whole_lines zs
+  pub others : more ≡ whole_lines behind
 
-lacks : (xs : List ℕ) (i : ℕ) → i ≤ length xs → ((k : ℕ) → k < i → (get_or xs k 0 == 10) ≡ false) → All (λ x. (x == 10) ≡ false) (take i xs)
+-- bytes up to the first line feed have none
+pub lacks : (xs : List ℕ) (i : ℕ) → i ≤ length xs → ((k : ℕ) → k < i → (get_or xs k 0 == 10) ≡ false) → All (λ x. (x == 10) ≡ false) (take i xs)
 lacks xs i within none =
     All-from_get_or (λ x. (x == 10) ≡ false) (take i xs) 0 (λ k b.
     let below : k < i = omega (arith, length-take-le i xs within) in
     rw (get_or-take i xs k 0 below) (none k below))
 
-parts : (xs : List ℕ) (i : ℕ) → i < length xs → (get_or xs i 0 == 10) ≡ true → xs ≡ take i xs ++ 10 ∷ drop (i + 1) xs
+-- and it parts them from those behind
+pub parts : (xs : List ℕ) (i : ℕ) → i < length xs → (get_or xs i 0 == 10) ≡ true → xs ≡ take i xs ++ 10 ∷ drop (i + 1) xs
 parts xs i below feed =
     let ten : get_or xs i 0 ≡ 10 = grind (arith, nat_tests) in
     let cut : drop i xs ≡ 10 ∷ drop (i + 1) xs = rw (add-one i, ← ten) (drop-cons xs i 0 below) in
@@ -52,7 +54,7 @@ first_at xs line more w (Some i) e =
       others = others;
     }
 
-first : (xs line : List ℕ) (more : List (List ℕ)) → whole_lines xs ≡ line ∷ more → First xs line more
+pub first : (xs line : List ℕ) (more : List (List ℕ)) → whole_lines xs ≡ line ∷ more → First xs line more
 first xs line more w = first_at xs line more w (position (λ byte. byte == 10) xs) refl
 
 -- ------ as many bytes as the script has
@@ -105,7 +107,8 @@ enough (line ∷ more) xs n w s =
     let f = first xs line more w in
     by_line xs line more n f (λ n' e. enough more f.behind n' (sym f.others) e) (is_stream line) refl s
 
-front_of : (front : List ℕ) (n : ℕ) → script_len (whole_lines front) ≡ Some n → (n ≤ length front) × (grammar (take n front) ≡ grammar front)
+-- where the script of these bytes ends, they have enough bytes for it
+pub front_of : (front : List ℕ) (n : ℕ) → script_len (whole_lines front) ≡ Some n → (n ≤ length front) × (grammar (take n front) ≡ grammar front)
 unfolding grammar
 front_of front n e =
     let h = enough (whole_lines front) front n refl e in

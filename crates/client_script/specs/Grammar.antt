@@ -1,13 +1,12 @@
 -- What the lines of a script ask for, word by word (this project's own).
 use Rattle.std.specs.Prelude.{ℕ, ◌≤◌, ◌==◌, Bool, true, List, [], ◌∷◌, Option, Some, None, Result, Ok, Err, if◌then◌else◌, codes}
-use Rattle.std.specs.Option.{option_map}
+use Rattle.std.specs.Option.{option_map, option_or}
 use Rattle.dmx_calls.specs.declared.limits.TheConstants.{LARGEST_READ}
-use Rattle.dmx_calls.specs.declared.params.Input.{Input}
-use Rattle.dmx_calls.specs.declared.params.Input.TheVariants.{Frontend, Dvr as DvrInput}
-use Rattle.dmx_calls.specs.declared.params.Output.{Output}
-use Rattle.dmx_calls.specs.declared.params.Output.TheVariants.{Decoder, Tap, TsTap, TsdemuxTap}
-use Rattle.client_script.specs.Numbers.{number_between}
-use Rattle.client_script.specs.Words.{Reading, and_then, made, said, asked, word_in, is_word, words_of}
+use Rattle.text_forms.specs.Numbers.{number_between}
+use Rattle.text_forms.specs.Words.{is_word, input_named, output_named}
+use Rattle.text_forms.specs.Names.{client_named, demux_named, slot_named}
+use Rattle.text_forms.specs.Places.{IsFilter}
+use Rattle.client_script.specs.Words.{Reading, and_then, made, said, asked, word_in, words_of}
 use Rattle.client_script.specs.Places.{filter_in}
 use Rattle.client_script.specs.declared.fault.FaultKind.{FaultKind}
 use Rattle.client_script.specs.declared.fault.FaultKind.TheVariants.{Client, Command as NoCommand, Target as NoTarget, Number, Name, Count}
@@ -34,31 +33,9 @@ pid_in words = number_in 0 65535 words
 abbrev pub count_in : List (List ℕ) → Reading ℕ
 count_in words = number_in 0 4294967295 words
 
--- INPUT: where a filter's packets come from
-unfoldable pub input_named : List ℕ → Option Input
-input_named word =
-    if is_word word (codes "frontend") then Some Frontend
-    else (if is_word word (codes "dvr") then Some DvrInput else None)
-
--- OUTPUT: where its items go
-unfoldable pub output_named : List ℕ → Option Output
-output_named word =
-    if is_word word (codes "decoder") then Some Decoder
-    else (if is_word word (codes "tap") then Some Tap
-    else (if is_word word (codes "ts_tap") then Some TsTap
-    else (if is_word word (codes "tsdemux_tap") then Some TsdemuxTap else None)))
-
--- the client of a word `c0` to `c7`; the letter is byte 99
-unfoldable pub client_of : List ℕ → Option ℕ
-client_of (letter ∷ number) = if letter == 99 then number_between 0 7 number else None
-client_of [] = None
-
--- the node of a word `n0` to `n31`, or the slot of a word `h0` to `h31`; the letters are the bytes 110 and 104
+-- the node of a word `n0` to `n31`, or else the slot of a word `h0` to `h31`
 unfoldable pub numbered_target : List ℕ → Option Target
-numbered_target (letter ∷ number) =
-    if letter == 110 then option_map Node (number_between 0 31 number)
-    else (if letter == 104 then option_map Slot (number_between 0 31 number) else None)
-numbered_target [] = None
+numbered_target word = option_or (option_map Node (demux_named word)) (option_map Slot (slot_named word))
 
 -- a target: one of these, or `dvr`
 unfoldable pub target_of : List ℕ → Option Target
@@ -134,7 +111,7 @@ line_in line words =
     and_then (word_in words) (λ first words.
     if is_word first (codes "feed") then made Feed (number_in 1 4294967295 words)
     else (if is_word first (codes "tick") then made Tick (count_in words)
-    else and_then (said Client (client_of first) words) (λ client words. command_in line client words)))
+    else and_then (said Client (client_named first) words) (λ client words. command_in line client words)))
 
 -- a value behind which no word is left; a word too many is a fault of the count
 abbrev pub alone : {A : Type 0} → A → List (List ℕ) → Result A FaultKind
@@ -165,9 +142,9 @@ meaning line bytes = if is_passed_over bytes then Ok None else some_asked (line_
 
 -- ------ ranges
 
--- the ranges of a verb's numbers
+-- the ranges of a verb's numbers; a filter has sixteen bytes of each kind
 abbrev pub IsVerbInRange : Verb → Type 0
-IsVerbInRange (Section p) = (p.pid ≤ 65535) × (p.timeout ≤ 4294967295) × (p.flags ≤ 4294967295)
+IsVerbInRange (Section p) = (p.pid ≤ 65535) × (p.timeout ≤ 4294967295) × (p.flags ≤ 4294967295) × IsFilter p.filter
 IsVerbInRange (Pes p) = (p.pid ≤ 65535) × (p.pes_type ≤ 4294967295) × (p.flags ≤ 4294967295)
 IsVerbInRange (Add pid) = pid ≤ 65535
 IsVerbInRange (Remove pid) = pid ≤ 65535

@@ -1,6 +1,6 @@
 pub mod Examples
 pub mod Grammar
-pub mod Numbers
+pub mod Part
 pub mod Places
 pub mod Script
 pub mod Spelling

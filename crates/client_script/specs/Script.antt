@@ -2,7 +2,7 @@
 use Rattle.std.specs.Prelude.{◌≡◌, ℕ, ◌+◌, ◌≤◌, ◌==◌, Bool, List, [], ◌∷◌, ◌++◌, length, take, drop, max, fold, Option, Some, None, Result, Ok, Err, if◌then◌else◌, codes}
 use Rattle.std.specs.List.{All, slice_split, count_by}
 use Rattle.std.specs.Option.{option_map}
-use Rattle.client_script.specs.Words.{is_word}
+use Rattle.text_forms.specs.Words.{is_word}
 use Rattle.client_script.specs.Grammar.{meaning, IsInRange}
 use Rattle.client_script.specs.declared.fault.FaultKind.{FaultKind}
 use Rattle.client_script.specs.declared.fault.FaultKind.TheVariants.{NoStream}

@@ -1,13 +1,9 @@
 -- The one spelling of a line (this project's own). Numbers are decimal.
-use Rattle.std.specs.Prelude.{ℕ, ◌+◌, ◌/◌, ◌%◌, List, [], ◌∷◌, ◌++◌, codes, nat_eq, nat_lt, if◌then◌else◌, slice_index}
-use Rattle.std.specs.List.{flat_map, list_all}
+use Rattle.std.specs.Prelude.{ℕ, ◌+◌, List, [], ◌∷◌, ◌++◌, codes}
 use Rattle.std.specs.Fmt.{decimal}
-use Rattle.filter_match.specs.declared.filter.SectionFilter.{SectionFilter}
-use Rattle.filter_match.specs.Match.{below}
-use Rattle.dmx_calls.specs.declared.params.Input.{Input}
-use Rattle.dmx_calls.specs.declared.params.Input.TheVariants as input
-use Rattle.dmx_calls.specs.declared.params.Output.{Output}
-use Rattle.dmx_calls.specs.declared.params.Output.TheVariants as output
+use Rattle.text_forms.specs.Words.{input_text, output_text}
+use Rattle.text_forms.specs.Names.{client_text, demux_text, slot_text}
+use Rattle.text_forms.specs.Places.{filter_text}
 use Rattle.dmx_calls.specs.declared.params.SectionParams.{SectionParams}
 use Rattle.dmx_calls.specs.declared.params.PesParams.{PesParams}
 use Rattle.client_script.specs.declared.line.Verb.{Verb}
@@ -17,19 +13,7 @@ use Rattle.client_script.specs.declared.line.Target.TheVariants.{Node, Slot, Dvr
 use Rattle.client_script.specs.declared.line.Line.{Line}
 use Rattle.client_script.specs.declared.line.Line.TheVariants.{Feed, Tick, Command}
 
--- ------ names and bytes
-
--- INPUT
-unfoldable pub input_text : Input → List ℕ
-input_text input.Frontend = codes "frontend"
-input_text input.Dvr = codes "dvr"
-
--- OUTPUT
-unfoldable pub output_text : Output → List ℕ
-output_text output.Decoder = codes "decoder"
-output_text output.Tap = codes "tap"
-output_text output.TsTap = codes "ts_tap"
-output_text output.TsdemuxTap = codes "tsdemux_tap"
+-- ------ names
 
 -- a command's name
 unfoldable pub name_text : Verb → List ℕ
@@ -49,42 +33,25 @@ name_text Poll = codes "poll"
 
 -- a target
 unfoldable pub target_text : Target → List ℕ
-target_text (Node n) = codes "n" ++ decimal n
-target_text (Slot n) = codes "h" ++ decimal n
+target_text (Node n) = demux_text n
+target_text (Slot n) = slot_text n
 target_text Dvr = codes "dvr"
 
--- a digit below 16: `0` to `9`, which begin at code 48, or `a` to `f`, which begin at code 97
-abbrev pub digit_text : ℕ → ℕ
-digit_text digit = if nat_lt digit 10 then 48 + digit else 87 + digit
-
--- a byte by its two digits, the greater first
-abbrev pub byte_text : ℕ → List ℕ
-byte_text byte = digit_text (byte / 16) ∷ digit_text (byte % 16) ∷ []
-
--- Place i of a section filter, as ` I=FF/MM/DD` by its filter, mask and mode byte. Nothing where all three are 0.
-abbrev pub place_text : SectionFilter → ℕ → List ℕ
-place_text f i =
-    if list_all (nat_eq 0) (slice_index f.filter i ∷ slice_index f.mask i ∷ slice_index f.mode i ∷ []) then []
-    else codes " " ++ (decimal i ++ (codes "=" ++ (byte_text (slice_index f.filter i)
-    ++ (codes "/" ++ (byte_text (slice_index f.mask i) ++ (codes "/" ++ byte_text (slice_index f.mode i)))))))
-
 -- ------ what stands behind a target
-
--- ` PID TIMEOUT FLAGS`, and each place that isn't 0
-unfoldable pub section_text : SectionParams → List ℕ
-section_text p =
-    codes " " ++ (decimal p.pid ++ (codes " " ++ (decimal p.timeout ++ (codes " " ++ (decimal p.flags
-    ++ flat_map (place_text p.filter) (below 16))))))
-
--- ` PID INPUT OUTPUT TYPE FLAGS`
-unfoldable pub pes_text : PesParams → List ℕ
-pes_text p =
-    codes " " ++ (decimal p.pid ++ (codes " " ++ (input_text p.input ++ (codes " " ++ (output_text p.output
-    ++ (codes " " ++ (decimal p.pes_type ++ (codes " " ++ decimal p.flags))))))))
 
 -- a number behind a space
 abbrev pub number_text : ℕ → List ℕ
 number_text n = codes " " ++ decimal n
+
+-- ` PID TIMEOUT FLAGS`, and each place whose bytes aren't all 0
+unfoldable pub section_text : SectionParams → List ℕ
+section_text p = number_text p.pid ++ (number_text p.timeout ++ (number_text p.flags ++ filter_text p.filter))
+
+-- ` PID INPUT OUTPUT TYPE FLAGS`
+unfoldable pub pes_text : PesParams → List ℕ
+pes_text p =
+    number_text p.pid ++ (codes " " ++ (input_text p.input ++ (codes " " ++ (output_text p.output
+    ++ (number_text p.pes_type ++ number_text p.flags)))))
 
 -- what a command wants behind its target
 unfoldable pub arguments_text : Verb → List ℕ
@@ -107,14 +74,27 @@ arguments_text Poll = []
 -- a client's command
 unfoldable pub command_text : (client : ℕ) → Target → Verb → List ℕ
 command_text client target verb =
-    codes "c" ++ (decimal client ++ (codes " " ++ (name_text verb ++ (codes " " ++ (target_text target ++ arguments_text verb)))))
+    client_text client ++ (codes " " ++ (name_text verb ++ (codes " " ++ (target_text target ++ arguments_text verb))))
 
 -- a line, without its line feed
 unfoldable pub line_text : Line → List ℕ
-line_text (Feed n) = codes "feed " ++ decimal n
-line_text (Tick n) = codes "tick " ++ decimal n
+line_text (Feed n) = codes "feed" ++ number_text n
+line_text (Tick n) = codes "tick" ++ number_text n
 line_text (Command line client target verb) = command_text client target verb
 
 -- The one spelling of a line, with its line feed.
 abbrev pub spelling : Line → List ℕ
 spelling line = line_text line ++ 10 ∷ []
+
+-- ------ lines and their numbers
+
+-- a line as the one of this number; those of the feeder and the clock have none
+abbrev pub with_number : ℕ → Line → Line
+with_number number (Feed n) = Feed n
+with_number number (Tick n) = Tick n
+with_number number (Command line client target verb) = Command number client target verb
+
+-- lines with their numbers, of which the first is this one
+abbrev pub numbered_from : ℕ → List Line → List Line
+numbered_from number [] = []
+numbered_from number (line ∷ lines) = with_number number line ∷ numbered_from (number + 1) lines

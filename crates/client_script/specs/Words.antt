@@ -1,17 +1,12 @@
 -- The words of a line, and what words in their places spell (this project's own).
-use Rattle.std.specs.Prelude.{◌≡◌, ℕ, ◌==◌, Bool, List, [], ◌∷◌, Option, Some, None, Result, Ok, Err, nat_eq}
+use Rattle.std.specs.Prelude.{◌≡◌, ℕ, ◌==◌, List, [], ◌∷◌, Option, Some, None, Result, Ok, Err}
 use Rattle.std.specs.List.{slice_split}
-use Rattle.std.specs.Cmp.Lexicographic.{pointwise}
 use Rattle.client_script.specs.declared.fault.FaultKind.{FaultKind}
 use Rattle.client_script.specs.declared.fault.FaultKind.TheVariants.{Count}
 
 -- the words of a line: it is split at each single space, byte 32
 abbrev pub words_of : List ℕ → List (List ℕ)
 words_of line = slice_split (λ byte. byte == 32) line
-
--- whether a word is this text
-abbrev pub is_word : (word text : List ℕ) → Bool
-is_word word text = pointwise nat_eq word text
 
 -- what the words at the front spell, with the words behind them; or the kind of the first fault
 abbrev pub Reading : Type 0 → Type 0

@@ -1,9 +1,33 @@
 // Laws of the definitions.
-ghost use Rattle.std.specs.Prelude.{◌≡◌, ℕ, List, take};
-ghost use Rattle.client_script.specs.Script.{grammar, split, most_bytes};
+ghost use Rattle.std.specs.Prelude.{◌≡◌, ◌≤◌, ◌⊎◌, ◌++◌, ◌∷◌, [], ℕ, List, length, take, drop, codes, Some, None};
+ghost use Rattle.std.specs.List.{All, flat_map};
+ghost use Rattle.client_script.specs.Grammar.{IsInRange};
+ghost use Rattle.client_script.specs.Script.{grammar, split, most_bytes, script_len, whole_lines};
+ghost use Rattle.client_script.specs.Spelling.{numbered_from, spelling, with_number};
+ghost use Rattle.client_script.specs.declared.line.Line.{Line};
 
 /// The script part of an input has the lines, or the fault, of all bytes that are searched for it: what stands behind the
 /// line `stream` is never examined.
 pub fn nothing_behind_the_stream_is_examined()
     ensures { (input : List ℕ) → grammar (split input).script ≡ grammar (take most_bytes input) }
+{}
+
+/// Reading the spellings of lines, and the line `stream` behind them, gives these lines again, each with its number in the
+/// script; and so it is for a single line.
+pub fn printed_lines_are_read_again()
+    ensures line { (line : Line) → IsInRange line → grammar (spelling line ++ codes "stream\n") ≡ Ok (with_number 1 line ∷ []) }
+    ensures script { (lines : List Line) → All IsInRange lines → grammar (flat_map spelling lines ++ codes "stream\n") ≡ Ok (numbered_from 1 lines) }
+{}
+
+/// Where the first bytes of an input hold the whole line `stream`, they have its script part, and the others are its stream.
+pub fn the_script_part_ends_with_its_line_stream()
+    ensures { (first others : List ℕ) (n : ℕ) → length first ≤ most_bytes → script_len (whole_lines first) ≡ Some n
+        → split (first ++ others) ≡ record { script = take n first; stream = Some (drop n first ++ others) } }
+{}
+
+/// Where all bytes that are searched, or all bytes of the input, don't hold the whole line `stream`, they are the script
+/// part, and there is no stream.
+pub fn without_a_line_stream_all_bytes_are_the_script_part()
+    ensures { (first others : List ℕ) → length first ≤ most_bytes → script_len (whole_lines first) ≡ None
+        → (length first ≡ most_bytes) ⊎ (others ≡ []) → split (first ++ others) ≡ record { script = first; stream = None } }
 {}

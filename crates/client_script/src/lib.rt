@@ -32,7 +32,7 @@ mod fault;
 mod laws;
 mod line;
 mod names;
-mod number;
+mod part;
 mod pieces;
 mod places;
 mod script;
@@ -43,7 +43,11 @@ mod verbs;
 mod words;
 
 pub use fault::{FaultKind, ScriptError, ScriptFault};
-pub use laws::nothing_behind_the_stream_is_examined;
+pub use laws::{
+    nothing_behind_the_stream_is_examined, printed_lines_are_read_again,
+    the_script_part_ends_with_its_line_stream, without_a_line_stream_all_bytes_are_the_script_part,
+};
 pub use line::{Line, Target, Verb};
-pub use script::Script;
+pub use part::ScriptPart;
+pub use script::{MOST_BYTES, Script};
 pub use spelling::print;

@@ -4,7 +4,7 @@ ghost use Rattle.std.specs.List.{slice_split, position};
 ghost use Rattle.std.specs.Option.{option_map_or};
 
 // Where the first `mark` stands.
-fn place_of(mark: u8, bytes: &[u8]) -> Option<usize>
+pub fn place_of(mark: u8, bytes: &[u8]) -> Option<usize>
     ensures place { result ≡ position (λ byte. byte == mark) bytes.now }
     ensures within { IfSome result (λ place. place < length bytes.now) }
 {

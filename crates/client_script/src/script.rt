@@ -8,9 +8,13 @@ use crate::fault::{FaultKind, ScriptError, ScriptFault};
 use crate::line::Line;
 use crate::pieces::cut_at;
 use crate::verbs::read_words;
-use crate::words::{Words, is_word};
+use crate::words::Words;
 use std::alloc::{AllocFailed, Global};
 use std::marker::Model;
+use text_forms::is_word;
+
+/// How many bytes of an input are searched for the line `stream`.
+pub const MOST_BYTES: usize = 1_048_576;
 
 /// The lines of a script, up to its line `stream`. A contract sees it as the list of its lines.
 #[derive(Debug, Drop)]

@@ -1,19 +1,18 @@
 // What a line asks for, word by word.
 ghost use Rattle.std.specs.Prelude.{◌≡◌, ◌≤◌, IfOk};
+ghost use Rattle.text_forms.specs.Words.{input_named as input_of_word, output_named as output_of_word};
 ghost use Rattle.client_script.specs.Words.{Reads, asked};
-ghost use Rattle.client_script.specs.Grammar.{number_in, pid_in, count_in, input_named as input_of_name, output_named as output_of_name, target_of, name_of, section_in, pes_in, verb_in, command_in, line_in, IsVerbInRange, IsTargetInRange, IsInRange};
+ghost use Rattle.client_script.specs.Grammar.{number_in, pid_in, count_in, target_of, name_of, section_in, pes_in, verb_in, command_in, line_in, IsVerbInRange, IsTargetInRange, IsInRange};
 ghost use Rattle.client_script.specs.declared.fault.FaultKind.TheVariants.{Name as NoName, Target as NoTarget, Command as NoCommand};
 
 use crate::fault::FaultKind;
 use crate::line::{Line, Target, Verb};
-use crate::names::{
-    CommandName, client_named, command_named, input_named, output_named, target_named,
-};
-use crate::number::number_between;
+use crate::names::{CommandName, command_named, target_named};
 use crate::places::read_filter;
-use crate::words::{Words, is_word};
+use crate::words::Words;
 use dmx_calls::limits::LARGEST_READ;
 use dmx_calls::{Input, Output, PesParams, SectionParams};
+use text_forms::{client_named, input_named, is_word, number_between, output_named};
 
 // A number from `least` to `most`.
 #[tactic(auto, unfolding(crate::specs::Grammar::number_in))]
@@ -22,7 +21,8 @@ fn read_number(least: u32, most: u32, words: &mut Words<'_>) -> Result<u32, Faul
     ensures bound { IfOk result (λ n. (least ≤ n) × (n ≤ most)) }
 {
     let word = words.word()?;
-    number_between(least, most, word).ok_or(FaultKind::Number)
+    let n = number_between(least as u64, most as u64, word).ok_or(FaultKind::Number)?;
+    Ok(n as u32)
 }
 
 // A PID.
@@ -44,7 +44,7 @@ fn read_count(words: &mut Words<'_>) -> Result<u32, FaultKind>
 
 // Where a filter's packets come from.
 fn read_input(words: &mut Words<'_>) -> Result<Input, FaultKind>
-    ensures { Reads result words.new (asked NoName input_of_name words.old) }
+    ensures { Reads result words.new (asked NoName input_of_word words.old) }
 {
     let word = words.word()?;
     input_named(word).ok_or(FaultKind::Name)
@@ -52,7 +52,7 @@ fn read_input(words: &mut Words<'_>) -> Result<Input, FaultKind>
 
 // Where a filter's items go.
 fn read_output(words: &mut Words<'_>) -> Result<Output, FaultKind>
-    ensures { Reads result words.new (asked NoName output_of_name words.old) }
+    ensures { Reads result words.new (asked NoName output_of_word words.old) }
 {
     let word = words.word()?;
     output_named(word).ok_or(FaultKind::Name)

@@ -1,17 +1,10 @@
 // The words of a line, one after another.
 ghost use Rattle.std.specs.Prelude.{◌≡◌, [], ◌∷◌, MatchOption, MatchResult};
-ghost use Rattle.client_script.specs.Words.{is_word as is_this_word, words_of, word_in};
+ghost use Rattle.client_script.specs.Words.{words_of, word_in};
 
 use crate::fault::FaultKind;
 use crate::pieces::cut_at;
 use std::marker::Model;
-
-// Whether a word is this text.
-pub fn is_word(word: &[u8], text: &str) -> bool
-    ensures { result ≡ is_this_word word.now text.now }
-{
-    word == text.as_bytes()
-}
 
 // The words of a line that are still to be read.
 #[derive(Drop)]

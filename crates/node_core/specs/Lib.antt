@@ -3,6 +3,7 @@ pub mod Step
 pub mod Sound
 pub mod Gives
 pub mod KeptView
+pub mod Looks
 pub mod Stands
 pub mod CoreView
 pub mod Counts

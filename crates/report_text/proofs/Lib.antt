@@ -1,1 +1,4 @@
 pub mod Texts
+pub mod Turning
+pub mod Wholes
+pub mod Adding

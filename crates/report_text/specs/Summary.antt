@@ -23,9 +23,13 @@ bytes_read entries = sum_by (λ e. data_bytes e.response) entries
 abbrev pub overflows : List LogEntry → ℕ
 overflows entries = count_by (λ e. is_overflow e.response) entries
 
+-- the line of these sums
+abbrev pub sums_text : (packets entries demux dvr overflows : ℕ) → List ℕ
+sums_text packets entries demux dvr overflows =
+    codes "packets=" ++ (decimal packets ++ (codes " entries=" ++ (decimal entries ++ (codes " demux=" ++ (decimal demux
+    ++ (codes " dvr=" ++ (decimal dvr ++ (codes " overflows=" ++ (decimal overflows ++ codes "\n")))))))))
+
 -- the packets; the entries of all nodes; the bytes that are read on the demux nodes and on the dvr node; the overflows on all nodes
 abbrev pub summary_of : StreamHead → (histories : List (List LogEntry)) → List ℕ
 summary_of head histories =
-    codes "packets=" ++ (decimal head.tally.packets ++ (codes " entries=" ++ (decimal (sum_by length histories)
-    ++ (codes " demux=" ++ (decimal (sum_by bytes_read (take DEMUX_NODES histories)) ++ (codes " dvr=" ++ (decimal (sum_by bytes_read (drop DEMUX_NODES histories))
-    ++ (codes " overflows=" ++ (decimal (sum_by overflows histories) ++ codes "\n")))))))))
+    sums_text head.tally.packets (sum_by length histories) (sum_by bytes_read (take DEMUX_NODES histories)) (sum_by bytes_read (drop DEMUX_NODES histories)) (sum_by overflows histories)

@@ -4,6 +4,7 @@
 mod acts;
 mod entries;
 mod replies;
-mod report;
-mod summary;
+mod sums;
+mod whole;
 
+pub use whole::report;

@@ -106,12 +106,7 @@ fn add_overflow(
     add_field(out, b" room=", room)
 }
 
-fn add_timed_out(
-    out: &mut Vec<u8>,
-    started: u64,
-    now: u64,
-    timeout: u32,
-) -> Result<(), NoMemory>
+fn add_timed_out(out: &mut Vec<u8>, started: u64, now: u64, timeout: u32) -> Result<(), NoMemory>
     ensures { OnOk result (out.new.items ≡ out.old.items ++ (codes "timedout started=" ++ (decimal started ++ (codes " now=" ++ (decimal now ++ (codes " timeout=" ++ decimal timeout)))))) }
 {
     add_field(out, b"timedout started=", started)?;

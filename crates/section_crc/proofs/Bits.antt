@@ -39,14 +39,14 @@ shifted_by-low a h =
     rw (e1, e2, e3, e4, e5, e6, e7, e8) (omega arith)
 
 -- the register as its top byte and the rest
-split-sum : (h l : ℕ) → l < 2 ^ 24 → h * 2 ^ 24 + l ≡ bit_xor (h * 2 ^ 24) l
+pub split-sum : (h l : ℕ) → l < 2 ^ 24 → h * 2 ^ 24 + l ≡ bit_xor (h * 2 ^ 24) l
 split-sum h l k =
     let x : bit_xor (h * 2 ^ 24 + 0) (0 * 2 ^ 24 + l) ≡ bit_xor h 0 * 2 ^ 24 + bit_xor 0 l = xor_block 24 h 0 0 l (omega arith) k in
     let a : h * 2 ^ 24 + 0 ≡ h * 2 ^ 24 = omega arith in
     let b : 0 * 2 ^ 24 + l ≡ l = omega arith in
     sym (rw (a, b, xor_zero_r h, xor_zero_l l) at x)
 
-top-xor : (r byte : ℕ) → bit_xor r (byte * 2 ^ 24) ≡ bit_xor (r / 2 ^ 24) byte * 2 ^ 24 + r % 2 ^ 24
+pub top-xor : (r byte : ℕ) → bit_xor r (byte * 2 ^ 24) ≡ bit_xor (r / 2 ^ 24) byte * 2 ^ 24 + r % 2 ^ 24
 top-xor r byte =
     let x : bit_xor (r / 2 ^ 24 * 2 ^ 24 + r % 2 ^ 24) (byte * 2 ^ 24 + 0) ≡ bit_xor (r / 2 ^ 24) byte * 2 ^ 24 + bit_xor (r % 2 ^ 24) 0 = xor_block 24 (r / 2 ^ 24) byte (r % 2 ^ 24) 0 (omega arith) (omega arith) in
     let a : byte * 2 ^ 24 + 0 ≡ byte * 2 ^ 24 = omega arith in

@@ -1,10 +1,10 @@
 -- A CRC behind its own bytes leaves a register of 0.
-use Rattle.std.proofs.Common.{◌≡◌, ℕ, ◌*◌, ◌/◌, ◌%◌, ◌^◌, ◌<◌, List, [], ◌∷◌, fold, refl, sym, ap, ◌∙◌, arith, bit_xor}
+use Rattle.std.proofs.Common.{◌≡◌, ℕ, ◌*◌, ◌/◌, ◌%◌, ◌^◌, ◌<◌, List, fold, refl, sym, ap, ◌∙◌, arith, bit_xor}
 use Rattle.std.specs.Int.Bits.{xor_zero_l, xor_self}
 use Rattle.std.specs.List.{flat_map}
 use Rattle.std.proofs.lemmas.Grind.{flat_map-append, fold-append}
 use Rattle.section_crc.specs.Crc.{crc, after_bit, bits_of, carried, WithItsCrcIsZero}
-use Rattle.section_crc.proofs.Linear.{after_bit-lt}
+use Rattle.section_crc.proofs.Linear.{fold-lt}
 use Rattle.section_crc.proofs.Bits.{entry, byte-by-entry}
 
 entry-zero : entry 0 ≡ 0
@@ -32,10 +32,6 @@ own-bytes r h =
     ∙ ap (λ (n : ℕ). fold after_bit (fold after_bit n (bits_of (r / 2 ^ 8 % 256))) (bits_of (r % 256))) e2
     ∙ ap (λ (n : ℕ). fold after_bit n (bits_of (r % 256))) e3
     ∙ e4
-
-fold-lt : (r : ℕ) (bits : List ℕ) → r < 2 ^ 32 → fold after_bit r bits < 2 ^ 32
-fold-lt r [] h = h
-fold-lt r (b ∷ bits) h = fold-lt (after_bit r b) bits (after_bit-lt r b)
 
 pub with-its-crc : (bytes : List ℕ) → WithItsCrcIsZero bytes
 unfolding crc

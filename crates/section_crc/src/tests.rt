@@ -1,6 +1,7 @@
 //! The CRC against values that were made elsewhere.
 
-use crate::crc;
+use crate::bitwise::after_byte;
+use crate::{Tables, crc};
 
 // The first sections of the PIDs 0, 4096 and 17 that ffmpeg 5.1.9 of Debian 12 writes, with their CRC_32:
 //   ffmpeg -f lavfi -i testsrc=size=64x48:rate=5 -f lavfi -i sine=frequency=440 -t 1 \
@@ -24,6 +25,40 @@ const SDT: [u8; 40] = [
 #[test]
 fn the_nine_digits_give_the_check_value(rt: HostRuntime) {
     assert_eq!(rt; crc(b"123456789"), 0x0376_e6e7);
+}
+
+#[test]
+fn the_nine_digits_give_it_by_other_tables(rt: HostRuntime) {
+    assert_eq!(rt; Tables::<1>::new().crc(b"123456789"), 0x0376_e6e7);
+    assert_eq!(rt; Tables::<4>::new().crc(b"123456789"), 0x0376_e6e7);
+    assert_eq!(rt; Tables::<8>::new().crc(b"123456789"), 0x0376_e6e7);
+}
+
+// The CRC one bit after the other.
+fn crc_by_bits(bytes: &[u8]) -> u32 {
+    let mut register = u32::MAX;
+    for byte in bytes {
+        register = after_byte(register, *byte);
+    }
+    register
+}
+
+// Whole pieces of each size, and each number of bytes behind them.
+#[test]
+fn all_tables_give_what_the_bits_give(rt: HostRuntime) {
+    let mut bytes = [0u8; 40];
+    for i in 0..40usize {
+        bytes[i] = i as u8;
+    }
+    let (one, four, eight) = (Tables::<1>::new(), Tables::<4>::new(), Tables::<8>::new());
+    for length in 0..=40usize {
+        let list = &bytes[..length];
+        let by_bits = crc_by_bits(list);
+        assert_eq!(rt; one.crc(list), by_bits, "{length} bytes");
+        assert_eq!(rt; four.crc(list), by_bits, "{length} bytes");
+        assert_eq!(rt; eight.crc(list), by_bits, "{length} bytes");
+        assert_eq!(rt; crc(list), by_bits, "{length} bytes");
+    }
 }
 
 // Nothing moves the register away from its ones.

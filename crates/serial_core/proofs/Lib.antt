@@ -3,3 +3,15 @@ pub mod Pairs
 pub mod Seats
 pub mod FedOn
 pub mod Going
+pub mod Drawing
+pub mod Batches
+pub mod Turning
+pub mod Replies
+pub mod Sizes
+pub mod Answering
+pub mod Paid
+pub mod Calling
+pub mod Within
+pub mod Commanding
+pub mod Lawful
+pub mod Passing

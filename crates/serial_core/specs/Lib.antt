@@ -4,3 +4,5 @@ pub mod Legal
 pub mod Laws
 pub mod Examples
 pub mod Standing
+pub mod Moving
+pub mod Budget

@@ -1,5 +1,6 @@
 // Laws of the definitions.
-ghost use Rattle.serial_core.specs.Laws.{IsOne, TriedIsRun};
+ghost use Rattle.serial_core.specs.Laws.{HistoriesAreLegal, IsOne, PacketsPass, TriedIsRun};
+ghost use Rattle.serial_core.specs.Budget.{IsWithinBudget};
 
 /// A script and a stream have one serial run at most.
 pub fn the_serial_run_is_one()
@@ -9,4 +10,21 @@ pub fn the_serial_run_is_one()
 /// What is computed is the serial run.
 pub fn what_is_tried_is_the_run()
     ensures { TriedIsRun }
+{}
+
+/// Each client of a serial run makes at most `most_calls` calls, for its own commands and the bytes of the stream's packets.
+pub fn clients_are_within_budget()
+    ensures { IsWithinBudget }
+{}
+
+/// The serial run of a script has the demux nodes 0 to 31 and the dvr node, and each of their 33 histories is legal for its
+/// kind of node.
+pub fn serial_histories_are_legal()
+    ensures { HistoriesAreLegal }
+{}
+
+/// Every packet passes each of the 33 nodes of a serial run once, in the order of the stream: the packets that the passes of
+/// a node bring are the stream's.
+pub fn every_packet_passes_each_node_once()
+    ensures { PacketsPass }
 {}

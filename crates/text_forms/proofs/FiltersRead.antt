@@ -3,10 +3,11 @@ use Rattle.std.proofs.Common.{◌≡◌, ◌<◌, ◌≤◌, ◌+◌, refl, ap, 
 use Rattle.std.proofs.Math.ListN.{set}
 use Rattle.std.proofs.Math.Seq.{set-append_seam}
 use Rattle.std.proofs.lemmas.Bool.Decides.{nat_tests}
-use Rattle.std.proofs.lemmas.List.{take_all, take_more, length-take-le}
-use Rattle.std.proofs.lemmas.List.Elements.{All-get_or}
+use Rattle.std.proofs.lemmas.List.{length-map, take_all, take_more, length-take-le}
+use Rattle.std.proofs.lemmas.List.Elements.{All-get_or, All-nil, All-push, All-map, All-filter}
+use Rattle.std.proofs.lemmas.List.Filters.{length-filter_both}
 use Rattle.std.specs.Prelude.{not}
-use Rattle.std.specs.List.{filter, flat_map}
+use Rattle.std.specs.List.{All, filter, flat_map}
 use Rattle.filter_match.specs.declared.filter.SectionFilter.{SectionFilter}
 use Rattle.filter_match.specs.Match.{below}
 use Rattle.text_forms.specs.Places.{HasBytes, is_zero, place_text, place_at, place_named, places_named, with_place, filter_with, filter_place_text, filter_text, filter_places, filter_words, IsFilter}
@@ -21,6 +22,10 @@ upto (suc left) i = i ∷ upto left (i + 1)
 below-upto : below 16 ≡ upto 16 0
 unfolding below upto
 below-upto = refl
+
+sixteen : length (upto 16 0) ≡ 16
+unfolding upto
+sixteen = refl
 
 -- the places that aren't 0, of so many from i on
 abbrev kept : SectionFilter → List ℕ → List Place
@@ -120,3 +125,26 @@ words_of f (i ∷ later) = words_on f i later (words_of f later) (is_zero (place
 
 pub filter_text-words : (f : SectionFilter) → filter_text f ≡ flat_map (λ word. codes " " ++ word) (filter_words f)
 filter_text-words f = words_of f (below 16)
+
+-- ------ the words of a filter
+
+below_each : (P : ℕ → Type 0) (n : ℕ) → ((i : ℕ) → i < n → P i) → All P (below n)
+unfolding below
+below_each P zero each = All-nil P
+below_each P (suc n) each = All-push P (below n) n (below_each P n (λ i small. each i (omega arith))) (each n (omega arith))
+
+-- what holds of each place's text holds of each word of a filter
+pub filter_words-each : (P : List ℕ → Type 0) (f : SectionFilter) → ((i : ℕ) → i < 16 → P (place_text (place_at f i))) → All P (filter_words f)
+filter_words-each P f each =
+    All-map P place_text (filter_places f)
+    (All-filter (λ p. not (is_zero p)) (λ p. P (place_text p)) (map (place_at f) (below 16))
+    (All-map (λ p. P (place_text p)) (place_at f) (below 16) (below_each (λ i. P (place_text (place_at f i))) 16 each)))
+
+-- a filter has no more words than places
+pub length-filter_words : (f : SectionFilter) → length (filter_words f) ≤ 16
+length-filter_words f =
+    let all : length (map (place_at f) (below 16)) ≡ length (below 16) = length-map (below 16) (place_at f) in
+    let words : length (filter_words f) ≡ length (filter_places f) = length-map (filter_places f) place_text in
+    let split : length (filter (λ p. not (is_zero p)) (map (place_at f) (below 16))) + length (filter (λ p. not (not (is_zero p))) (map (place_at f) (below 16))) ≡ length (map (place_at f) (below 16)) = length-filter_both (λ (p : Place). not (is_zero p)) (λ p. not (not (is_zero p))) (λ p. refl) (map (place_at f) (below 16)) in
+    let numbers : length (below 16) ≡ 16 = ap length below-upto ∙ sixteen in
+    omega arith

@@ -4,6 +4,6 @@ pub mod FiltersRead
 pub mod HexPairs
 pub mod NamesRead
 pub mod PlacesRead
-pub mod Spaces
 pub mod Values
+pub mod Visible
 pub mod WordsRead

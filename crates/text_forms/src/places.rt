@@ -2,7 +2,7 @@
 ghost use Rattle.std.specs.Prelude.{◌≡◌, ◌+◌, ◌≤◌, ◌<◌, ◌++◌, length, IfSome, OnOk, OnErr, vec_len, vec_capacity};
 ghost use Rattle.std.specs.Fmt.{decimal};
 ghost use Rattle.filter_match.specs.Match.{below};
-ghost use Rattle.text_forms.specs.Places.{place_text, place_at as place_of_filter, filter_place_text, filter_text, place_with as place_spelled, place_named as place_of_word, with_place};
+ghost use Rattle.text_forms.specs.Places.{HasBytes, IsFilter, place_text, place_at as place_of_filter, filter_place_text, filter_text, place_with as place_spelled, place_named as place_of_word, with_place};
 
 use crate::hex::{digits_of, hex_byte};
 use crate::number::number_between;
@@ -103,6 +103,7 @@ pub fn write_filter(out: &mut Vec<u8>, filter: &SectionFilter) -> Result<(), NoM
 fn place_with(number: u32, bytes: &[u8]) -> Option<Place>
     ensures value { result ≡ place_spelled number bytes.now }
     ensures number { IfSome result (λ place. place.number ≡ number) }
+    ensures bytes { IfSome result HasBytes }
 {
     match bytes {
         [b'=', f, f_low, b'/', m, m_low, b'/', d, d_low] => {
@@ -125,6 +126,7 @@ fn place_with(number: u32, bytes: &[u8]) -> Option<Place>
 pub fn place_named(least: u32, word: &[u8]) -> Option<Place>
     ensures value { result ≡ place_of_word least word.now }
     ensures bound { IfSome result (λ place. (least ≤ place.number) × (place.number ≤ 15)) }
+    ensures bytes { IfSome result HasBytes }
 {
     let (number, bytes) = word.split_at(word.len().saturating_sub(BEHIND_NUMBER));
     let number = number_between(least as u64, LAST_PLACE, number)?;
@@ -135,7 +137,8 @@ pub fn place_named(least: u32, word: &[u8]) -> Option<Place>
 #[tactic(auto, unfolding(crate::specs::Places::with_place))]
 pub fn set_place(filter: &mut SectionFilter, place: Place)
     requires { place.number ≤ 15 }
-    ensures { filter.new ≡ with_place filter.old place }
+    ensures set { filter.new ≡ with_place filter.old place }
+    ensures bytes { IsFilter filter.old → HasBytes place → IsFilter filter.new }
 {
     let i = place.number as usize;
     filter.filter[i] = place.filter;

@@ -1,26 +1,33 @@
 //! Batches: stretches of a stream's packets that pass the nodes together.
 //!
 //! A batch has 1 to 64 packets and the number of its first packet in the stream. It is made once, shared behind an
-//! `Arc`, and never changed or copied; it holds the memory of its packets and no more.
+//! `Arc`, and never changed or copied; it holds the memory of its packets, each copied once, and of an index of at most
+//! 128 places by PID.
 //!
 //! What a contract sees: the record of `first` and the list of `packets`, each packet as the list of its bytes.
 //!
 //! What is proved: `Batch::of` gives the batch of these packets, or answers want of memory. `first` and `count` are the
 //! first packet's number and the number of packets. `packet` gives the packet in a place and raises the counter of
-//! steps by one. Every batch has 1 to 64 packets, each of 188 bytes with the sync byte in front.
+//! steps by one. `places` gives the places of the packets that a PID names, ascending: those that have it, and all for PID
+//! 0x2000. It takes no memory and no step. Every batch has 1 to 64 packets, each of 188 bytes with the sync byte in front.
 //!
-//! There is no other way to a batch's packets than `packet`, so the counter of steps bounds how many were looked at.
+//! There is no other way to the bytes of a packet than `packet`, so the counter of steps bounds how many were looked at.
 //!
 //! The number of packets in a batch and the counting of steps are this project's rules.
 #![tactic(auto)]
 
+mod index;
+mod place_set;
 #[cfg(test)]
 mod tests;
 
 ghost use Rattle.std.specs.Prelude.{◌≡◌, ◌<◌, ◌≤◌, ◌+◌, ◌^◌, length, IfOk, slice_get};
 ghost use Rattle.ts_packet.specs.Fields.{IsPacket};
 ghost use Rattle.ts_batch.specs.Batch.{IsBatch};
+ghost use Rattle.ts_batch.specs.Places.{places_of};
 
+use index::Index;
+pub use place_set::PlaceSet;
 use std::alloc::{AllocError as NoMemory, Global};
 use std::marker::Model;
 use std::sync::Arc;
@@ -33,16 +40,19 @@ use ts_packet::{Packet, PacketBuf};
 pub struct Batch {
     first: u64,
     packets: Vec<Packet>,
+    index: Index,
 }
 
 impl Model for Batch {
-    ghost use Rattle.ts_batch.specs.Batch.{Packets, IsBatch};
+    ghost use Rattle.ts_batch.specs.Batch.{Packets};
 
     ghost Value = { Packets };
 
     ghost view = { λ b. record { first = b.first; packets = b.packets.items } };
 
-    ghost invariant = { λ b. IsBatch (record { first = b.first; packets = b.packets.items }) };
+    ghost use Rattle.ts_batch.specs.BatchHolds.{BatchHolds};
+
+    ghost invariant = { BatchHolds };
 }
 
 impl Batch {
@@ -59,6 +69,7 @@ impl Batch {
         let batch = Batch {
             first,
             packets: copied,
+            index: Index::of(alloc, from)?,
         };
         Ok(Arc::new(alloc, batch)?)
     }
@@ -90,5 +101,18 @@ impl Batch {
     {
         steps.tick();
         &self.packets[i as usize]
+    }
+
+    /// The places of the packets of a PID, ascending, each counted from 0; of all packets for PID 0x2000. It takes no step.
+    pub fn places(&self, pid: u16) -> &[u8]
+        ensures value { result.now ≡ places_of pid self.now.packets }
+        ensures batch { IsBatch self.now }
+    {
+        'runs: for run in &self.index.runs {
+            if run.pid == pid {
+                return &self.index.places[run.from..run.to];
+            }
+        }
+        &[]
     }
 }

@@ -41,3 +41,30 @@ fn a_batch_has_the_packets_of_the_buffer(rt: HostRuntime) -> Result<(), Fail> {
     assert!(rt; has_packets::<Brand>(&batch, &packets, Blank::new(1)));
     Ok(())
 }
+
+// A batch of 64 packets, of which those in the places 0, 31 and 63 have PID 256 and the others PID 17.
+#[test]
+fn a_pid_has_the_places_of_its_packets(rt: HostRuntime) -> Result<(), Fail> {
+    let mut packets = PacketBuf::new();
+    for place in 0..64u32 {
+        let mut bytes = [0u8; 188];
+        bytes[0] = 0x47;
+        match place {
+            0 | 31 | 63 => bytes[1] = 0x01,
+            _ => bytes[2] = 0x11,
+        }
+        assert!(rt; packets.len() < 64);
+        packets.push(Packet::of(bytes).ok_or("a sync byte")?);
+    }
+    assert_eq!(rt; packets.len(), 64);
+    let batch = Batch::of(rt.alloc(), 0, &packets)?;
+    assert_eq!(rt; batch.places(256), [0u8, 31, 63].as_slice());
+    assert_eq!(rt; batch.places(257), [0u8; 0].as_slice());
+    assert_eq!(rt; batch.places(17).len(), 61);
+    let all = batch.places(8192);
+    assert_eq!(rt; all.len(), 64);
+    for place in 0..64usize {
+        assert_eq!(rt; all[place] as usize, place);
+    }
+    Ok(())
+}

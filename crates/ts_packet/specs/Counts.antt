@@ -40,4 +40,5 @@ counts packets pid = record {
   packets = length (filter (is_of pid) packets);
   breaks = if pid == 0x1fff then 0 else breaks packets pid;
   duplicates = if pid == 0x1fff then 0 else duplicates packets pid;
-  errors = length (filter (is_error_of pid) packets) }
+  errors = length (filter (is_error_of pid) packets);
+}

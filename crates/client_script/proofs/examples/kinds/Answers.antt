@@ -1,35 +1,39 @@
 use Rattle.std.proofs.Common.{refl}
-use Rattle.client_script.specs.Numbers.{value_after, hex_digit, hex_byte}
+use Rattle.text_forms.specs.Numbers.{value_after}
+use Rattle.text_forms.specs.Hex.{hex_digit, hex_byte}
+use Rattle.text_forms.specs.Words.{input_named, output_named}
+use Rattle.text_forms.specs.Names.{numbered}
+use Rattle.text_forms.specs.Places.{place_with, place_named, with_place}
 use Rattle.client_script.specs.Words.{word_in}
-use Rattle.client_script.specs.Places.{place_with, place_of, places_in, with_place, filter_in}
-use Rattle.client_script.specs.Grammar.{number_in, input_named, output_named, client_of, numbered_target, target_of, name_of, section_in, pes_in, verb_in, command_in, line_in, line_of, meaning}
+use Rattle.client_script.specs.Places.{places_in, filter_in}
+use Rattle.client_script.specs.Grammar.{number_in, numbered_target, target_of, name_of, section_in, pes_in, verb_in, command_in, line_in, line_of, meaning}
 use Rattle.client_script.specs.Script.{lines_from, grammar, split}
 use Rattle.client_script.proofs.examples.kinds.Goals as goal
 
 pub returns-clause-client : goal.returns-clause-client
-unfolding value_after hex_digit hex_byte word_in place_with place_of places_in with_place filter_in number_in input_named output_named client_of numbered_target target_of name_of section_in pes_in verb_in command_in line_in line_of meaning lines_from grammar split
+unfolding value_after hex_digit hex_byte word_in place_with place_named places_in with_place filter_in number_in input_named output_named numbered numbered_target target_of name_of section_in pes_in verb_in command_in line_in line_of meaning lines_from grammar split
 returns-clause-client c = refl
 
 pub returns-clause-command : goal.returns-clause-command
-unfolding value_after hex_digit hex_byte word_in place_with place_of places_in with_place filter_in number_in input_named output_named client_of numbered_target target_of name_of section_in pes_in verb_in command_in line_in line_of meaning lines_from grammar split
+unfolding value_after hex_digit hex_byte word_in place_with place_named places_in with_place filter_in number_in input_named output_named numbered numbered_target target_of name_of section_in pes_in verb_in command_in line_in line_of meaning lines_from grammar split
 returns-clause-command c = refl
 
 pub returns-clause-target : goal.returns-clause-target
-unfolding value_after hex_digit hex_byte word_in place_with place_of places_in with_place filter_in number_in input_named output_named client_of numbered_target target_of name_of section_in pes_in verb_in command_in line_in line_of meaning lines_from grammar split
+unfolding value_after hex_digit hex_byte word_in place_with place_named places_in with_place filter_in number_in input_named output_named numbered numbered_target target_of name_of section_in pes_in verb_in command_in line_in line_of meaning lines_from grammar split
 returns-clause-target c = refl
 
 pub returns-clause-number : goal.returns-clause-number
-unfolding value_after hex_digit hex_byte word_in place_with place_of places_in with_place filter_in number_in input_named output_named client_of numbered_target target_of name_of section_in pes_in verb_in command_in line_in line_of meaning lines_from grammar split
+unfolding value_after hex_digit hex_byte word_in place_with place_named places_in with_place filter_in number_in input_named output_named numbered numbered_target target_of name_of section_in pes_in verb_in command_in line_in line_of meaning lines_from grammar split
 returns-clause-number c = refl
 
 pub returns-clause-name : goal.returns-clause-name
-unfolding value_after hex_digit hex_byte word_in place_with place_of places_in with_place filter_in number_in input_named output_named client_of numbered_target target_of name_of section_in pes_in verb_in command_in line_in line_of meaning lines_from grammar split
+unfolding value_after hex_digit hex_byte word_in place_with place_named places_in with_place filter_in number_in input_named output_named numbered numbered_target target_of name_of section_in pes_in verb_in command_in line_in line_of meaning lines_from grammar split
 returns-clause-name c = refl
 
 pub returns-clause-bytes : goal.returns-clause-bytes
-unfolding value_after hex_digit hex_byte word_in place_with place_of places_in with_place filter_in number_in input_named output_named client_of numbered_target target_of name_of section_in pes_in verb_in command_in line_in line_of meaning lines_from grammar split
+unfolding value_after hex_digit hex_byte word_in place_with place_named places_in with_place filter_in number_in input_named output_named numbered numbered_target target_of name_of section_in pes_in verb_in command_in line_in line_of meaning lines_from grammar split
 returns-clause-bytes c = refl
 
 pub returns-clause-count : goal.returns-clause-count
-unfolding value_after hex_digit hex_byte word_in place_with place_of places_in with_place filter_in number_in input_named output_named client_of numbered_target target_of name_of section_in pes_in verb_in command_in line_in line_of meaning lines_from grammar split
+unfolding value_after hex_digit hex_byte word_in place_with place_named places_in with_place filter_in number_in input_named output_named numbered numbered_target target_of name_of section_in pes_in verb_in command_in line_in line_of meaning lines_from grammar split
 returns-clause-count c = refl

@@ -1,26 +1,29 @@
 use Rattle.std.proofs.Common.{◌≡◌, ◌+◌, ◌-◌, [], refl, ◌∙◌, rules, arith}
 use Rattle.client_script.specs.Places.{filter_in}
-use Rattle.client_script.proofs.Filters.{filter_by, filter_by-full, filter_by-end, filter_by-fault, filter_by-place}
+use Rattle.client_script.proofs.Filters.{filter_by, filter_by-full, filter_by-end, filter_by-fault, filter_by-place, zeros-IsFilter}
 use Rattle.client_script.proofs.places.read_filter.Goals as goal
 
 pub places-init : goal.places-init
 unfolding filter_by filter_in
-places-init c = refl
+places-init c = record { read = refl; range = zeros-IsFilter }
 
-pub returns-in_default : goal.returns-in_default
-returns-in_default c =
+pub returns-in_default-clause-value : goal.returns-in_default-clause-value
+returns-in_default-clause-value c =
     let end : (c.places.words ≡ []) × (c.next.new.self ≡ []) = search rules in
-    rw end.1 (c.places.invariant ∙ filter_by-end c.places.filter _ (16 - (c.places._place + 1)) c.places.least c.places.words (omega arith) end.0)
+    rw end.1 (c.places.invariant.read ∙ filter_by-end c.places.filter _ (16 - (c.places._place + 1)) c.places.least c.places.words (omega arith) end.0)
 
-pub returns-in_default-place_by_word : goal.returns-in_default-place_by_word
-returns-in_default-place_by_word c =
-    c.places.invariant
+pub returns-in_default-place_named-clause-value : goal.returns-in_default-place_named-clause-value
+returns-in_default-place_named-clause-value c =
+    c.places.invariant.read
     ∙ filter_by-fault c.places.filter _ (16 - (c.places._place + 1)) c.places.least c.places.words c.in-Some.word.now c.next.new.self (omega arith) (search rules) (search rules)
 
 pub places-preserved : goal.places-preserved
 places-preserved c =
-    rw c.set_place.ensures (c.places.invariant
-    ∙ filter_by-place c.places.filter _ (16 - (c.places._place + 1)) c.places.least c.places.words c.in-Some.word.now c.next.new.self c.in-Some-place_by_word.place (omega arith) (search rules) (search rules))
+    record {
+      read = rw c.set_place.ensures.set (c.places.invariant.read
+      ∙ filter_by-place c.places.filter _ (16 - (c.places._place + 1)) c.places.least c.places.words c.in-Some.word.now c.next.new.self c.in-Some-place_named.place (omega arith) (search rules) (search rules));
+      range = search rules;
+    }
 
-pub returns : goal.returns
-returns c = c.places.invariant ∙ filter_by-full c.places.filter _ c.places.least c.places.words (omega arith)
+pub returns-clause-value : goal.returns-clause-value
+returns-clause-value c = c.places.invariant.read ∙ filter_by-full c.places.filter _ c.places.least c.places.words (omega arith)

@@ -1,7 +1,11 @@
 use Rattle.std.proofs.Common.{◌≡◌, ◌-◌}
+use Rattle.text_forms.specs.Places.{IsFilter}
 use Rattle.client_script.specs.Places.{filter_in}
 use Rattle.client_script.proofs.Filters.{filter_by}
 use Rattle.client_script.proofs.places.read_filter.Given as goal
 
 abbrev pub invariant-places : goal.invariant-places
-invariant-places l = filter_in l.initial.words ≡ filter_by l.filter (16 - l._place) l.least l.words
+invariant-places l = record {
+  read : filter_in l.initial.words ≡ filter_by l.filter (16 - l._place) l.least l.words;
+  range : IsFilter l.filter;
+}

@@ -1,8 +1,7 @@
-use Rattle.std.proofs.Common.{◌≡◌, ◌==◌, ℕ, Bool, true, false, not, length, take, slice_index, nat_eq, ◌∙◌, ap, sym, refl, arith, w8}
+use Rattle.std.proofs.Common.{◌≡◌, Bool, true, false, not, slice_index, nat_eq, ◌∙◌, ap, sym, refl, arith, w8}
 use Rattle.std.specs.List.{list_all}
 use Rattle.std.proofs.lemmas.List.{take_all}
 use Rattle.std.proofs.lemmas.Simd.{bitmask_splat}
-use Rattle.filter_match.specs.Match.{below}
 use Rattle.filter_match.proofs.Lanes.{mask-none, all-places, all-same}
 use Rattle.filter_match.proofs.compared.all_zero.Goals as goal
 

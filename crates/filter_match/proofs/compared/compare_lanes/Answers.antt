@@ -1,4 +1,4 @@
-use Rattle.std.proofs.Common.{rules, ◌≡◌, ◌∙◌, ap, not}
+use Rattle.std.proofs.Common.{rules, ◌∙◌, ap, not}
 use Rattle.filter_match.proofs.Lanes.{all-same, any-not, lane-equals, lane-differs}
 use Rattle.filter_match.proofs.compared.compare_lanes.Goals as goal
 

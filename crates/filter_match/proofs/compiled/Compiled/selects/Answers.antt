@@ -1,4 +1,4 @@
-use Rattle.std.proofs.Common.{◌≡◌, ◌∙◌, true, false, Bool, not, ◌&&◌, ◌||◌, sym, ap, refl}
+use Rattle.std.proofs.Common.{◌≡◌, true, false, Bool, not, ◌||◌, sym, refl}
 use Rattle.filter_match.proofs.Bytes.{not-reached, matches-is}
 use Rattle.filter_match.proofs.compiled.Compiled.selects.Goals as goal
 

@@ -1,0 +1,52 @@
+-- All callers' passes, from what is said of the callers.
+use Rattle.std.proofs.Common.{◌≡◌, ◌⊎◌, ⊎_elim, ℕ, zero, suc, ◌+◌, ◌<◌, ◌≤◌, List, [], ◌∷◌, ◌++◌, length, slice_get, Option, Some, None, inl, inr, refl, ap, sym, ◌∙◌, subst, arith, map}
+use Rattle.std.proofs.lemmas.List.{map-append}
+use Rattle.std.specs.Option.{option_to_list}
+use Rattle.atomic_table.specs.Seated.{TableId}
+use Rattle.node_lock.specs.declared.view.View.{View}
+use Rattle.node_lock.specs.Lists.{Has}
+use Rattle.dmx_calls.specs.History.{Entry}
+use Rattle.adapter.specs.Rows.{Fits, SomeHas, AreAll, AreAllRows, column}
+use Rattle.adapter.specs.Callers.{Caller, SomeIs, AreAllCallers}
+use Rattle.adapter.specs.Ends.{rows_of}
+use Rattle.adapter.proofs.Lists.{at_place, place_below}
+
+caller_at : (cs : List Caller) (k : ℕ) (row : List (TableId × View Entry)) → slice_get (rows_of cs) k ≡ Some row → (c : Caller) × (slice_get cs k ≡ Some c) × (c.passes ≡ row)
+caller_at [] k row e = absurd (cc e)
+caller_at (c ∷ cs) zero row e = (c, refl, cc e)
+caller_at (c ∷ cs) (suc k) row e = caller_at cs k row e
+
+-- what stands in a column is the pass of some caller
+in_column : (i : ℕ) (cs : List Caller) (j : ℕ) (p : TableId × View Entry) → slice_get (column i (rows_of cs)) j ≡ Some p → (k : ℕ) × (c : Caller) × (slice_get cs k ≡ Some c) × (slice_get c.passes i ≡ Some p)
+in_column i [] j p e = absurd (cc e)
+in_column i (c ∷ cs) j p e = from (λ n d. in_column i cs n p d) (slice_get c.passes i) refl j e where
+  from : ((n : ℕ) → slice_get (column i (rows_of cs)) n ≡ Some p → (k : ℕ) × (d : Caller) × (slice_get cs k ≡ Some d) × (slice_get d.passes i ≡ Some p))
+      → (o : Option (TableId × View Entry)) → slice_get c.passes i ≡ o → (j : ℕ) → slice_get (option_to_list o ++ column i (rows_of cs)) j ≡ Some p → (k : ℕ) × (d : Caller) × (slice_get (c ∷ cs) k ≡ Some d) × (slice_get d.passes i ≡ Some p)
+  from rest None is j e = let r = rest j e in (suc r.0, r.1, r.2, r.3)
+  from rest (Some q) is zero e = (0, c, refl, is ∙ e)
+  from rest (Some q) is (suc j) e = let r = rest j e in (suc r.0, r.1, r.2, r.3)
+
+-- and each caller's pass stands there
+of_column : (i : ℕ) (cs : List Caller) (k : ℕ) (c : Caller) (p : TableId × View Entry) → slice_get cs k ≡ Some c → slice_get c.passes i ≡ Some p → (j : ℕ) × (slice_get (column i (rows_of cs)) j ≡ Some p)
+of_column i [] k c p at is = absurd (cc at)
+of_column i (d ∷ cs) zero c p at is = let same : d ≡ c = cc at in (0, ap (λ o. slice_get (option_to_list o ++ column i (rows_of cs)) 0) (subst (λ (z : Caller). slice_get z.passes i ≡ Some p) (sym same) is))
+of_column i (d ∷ cs) (suc k) c p at is = behind (slice_get d.passes i) (of_column i cs k c p at is) where
+  behind : (o : Option (TableId × View Entry)) → (j : ℕ) × (slice_get (column i (rows_of cs)) j ≡ Some p) → (j : ℕ) × (slice_get (option_to_list o ++ column i (rows_of cs)) j ≡ Some p)
+  behind None r = r
+  behind (Some q) r = (suc r.0, r.1)
+
+module _ (locks : List TableId) (cs : List Caller) (a : AreAllCallers locks cs) where
+  some_has : (i w : ℕ) (l : TableId) → slice_get locks i ≡ Some l → SomeIs cs w → SomeHas (column i (rows_of cs)) w
+  some_has i w l at s =
+      let f = a.fits s.0 s.1 s.2 in let low = place_below locks i l at in let long = f.0 in let p = at_place s.1.passes i (omega arith) in
+      let j = of_column i cs s.0 s.1 p.0 s.2 p.1 in
+      (j.0, p.0, j.1, subst (λ (ns : List ℕ). Has ns w) (sym (a.own s.0 s.1 s.2 i p.0 p.1)) (inl s.3))
+
+  all_there : (i : ℕ) (l : TableId) → slice_get locks i ≡ Some l → AreAll l (column i (rows_of cs))
+  all_there i l at j p e = let s = in_column i cs j p e in ((a.fits s.0 s.1 s.2).1 i l p at s.3, λ w below. some_has i w l at (a.all s.0 s.1 s.2 i p s.3 w below))
+
+  pub all_rows : AreAllRows locks (rows_of cs)
+  all_rows = record { fit = λ k row e. let c = caller_at cs k row e in subst (Fits locks) c.2 (a.fits k c.0 c.1); all = all_there }
+
+pub rows_end : (cs : List Caller) (c : Caller) (row : List (TableId × View Entry)) → row ≡ c.passes → rows_of (cs ++ c ∷ []) ≡ rows_of cs ++ row ∷ []
+rows_end cs c row e = map-append (λ (x : Caller). x.passes) cs (c ∷ []) ∙ ap (λ (z : List (TableId × View Entry)). rows_of cs ++ z ∷ []) (sym e)

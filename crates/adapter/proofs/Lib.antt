@@ -1,0 +1,14 @@
+pub mod Lists
+pub mod Fitting
+pub mod Joins
+pub mod Pieces
+pub mod ByNumber
+pub mod Mine
+pub mod RowJoins
+pub mod Gathers
+pub mod Looking
+pub mod Passing
+pub mod Deals
+pub mod Tries
+pub mod Growing
+pub mod Everybody

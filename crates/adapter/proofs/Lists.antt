@@ -1,0 +1,52 @@
+-- Members of lists of which one is changed, or to which one is added.
+use Rattle.std.proofs.Common.{◌≡◌, ◌≢◌, ◌⊎◌, ℕ, zero, suc, ◌<◌, List, [], ◌∷◌, ◌++◌, length, slice_get, set, Some, inl, inr, ⊎_elim, refl, ap, sym, ◌∙◌, arith}
+
+-- what stands at a place
+pub at_place : {A : Type 0} (l : List A) (i : ℕ) → i < length l → (a : A) × (slice_get l i ≡ Some a)
+at_place [] i h = absurd (omega arith)
+at_place (x ∷ xs) zero h = (x, refl)
+at_place (x ∷ xs) (suc i) h = at_place xs i (omega arith)
+
+pub place_below : {A : Type 0} (l : List A) (i : ℕ) (a : A) → slice_get l i ≡ Some a → i < length l
+place_below [] i a e = absurd (cc e)
+place_below (x ∷ xs) zero a e = omega arith
+place_below (x ∷ xs) (suc i) a e = let more = place_below xs i a e in omega arith
+
+pub set_there : {A : Type 0} (l : List A) (i : ℕ) (a : A) → i < length l → slice_get (set l i a) i ≡ Some a
+set_there [] i a h = absurd (omega arith)
+set_there (x ∷ xs) zero a h = refl
+set_there (x ∷ xs) (suc i) a h = set_there xs i a (omega arith)
+
+pub set_elsewhere : {A : Type 0} (l : List A) (i j : ℕ) (a : A) → j ≢ i → slice_get (set l i a) j ≡ slice_get l j
+set_elsewhere [] i j a n = refl
+set_elsewhere (x ∷ xs) zero zero a n = absurd (n refl)
+set_elsewhere (x ∷ xs) zero (suc j) a n = refl
+set_elsewhere (x ∷ xs) (suc i) zero a n = refl
+set_elsewhere (x ∷ xs) (suc i) (suc j) a n = set_elsewhere xs i j a (λ e. n (ap suc e))
+
+-- a member of a list with one more is a member of the list, or that one
+pub at_either : {A : Type 0} (l : List A) (a b : A) (i : ℕ) → slice_get (l ++ a ∷ []) i ≡ Some b → (slice_get l i ≡ Some b) ⊎ (a ≡ b)
+at_either [] a b zero e = inr (cc e)
+at_either [] a b (suc i) e = absurd (cc e)
+at_either (x ∷ xs) a b zero e = inl e
+at_either (x ∷ xs) a b (suc i) e = at_either xs a b i e
+
+pub at_last : {A : Type 0} (l : List A) (a : A) → slice_get (l ++ a ∷ []) (length l) ≡ Some a
+at_last [] a = refl
+at_last (x ∷ xs) a = at_last xs a
+
+pub at_before : {A : Type 0} (l m : List A) (i : ℕ) (a : A) → slice_get l i ≡ Some a → slice_get (l ++ m) i ≡ Some a
+at_before [] m i a e = absurd (cc e)
+at_before (x ∷ xs) m zero a e = e
+at_before (x ∷ xs) m (suc i) a e = at_before xs m i a e
+
+-- two members at one place are one
+pub one_value : {A : Type 0} (l : List A) (i : ℕ) (a b : A) → slice_get l i ≡ Some a → slice_get l i ≡ Some b → a ≡ b
+one_value l i a b d e = let same : Some a ≡ Some b = sym d ∙ e in cc same
+
+-- a member of a list with one more is a member of the list, or that one, which stands at the list's length
+pub at_end : {A : Type 0} (l : List A) (a b : A) (i : ℕ) → slice_get (l ++ a ∷ []) i ≡ Some b → (slice_get l i ≡ Some b) ⊎ ((i ≡ length l) × (a ≡ b))
+at_end [] a b zero e = inr (refl, cc e)
+at_end [] a b (suc i) e = absurd (cc e)
+at_end (x ∷ xs) a b zero e = inl e
+at_end (x ∷ xs) a b (suc i) e = ⊎_elim (λ h. inl h) (λ h. inr (ap suc h.0, h.1)) (at_end xs a b i e)

@@ -1,0 +1,52 @@
+-- The nodes are looked at one after another.
+use Rattle.std.proofs.Common.{◌≡◌, ℕ, ◌+◌, ◌<◌, ◌≤◌, List, [], ◌∷◌, ◌++◌, length, slice_get, slice_index, set, Some, refl, ap, sym, ◌∙◌, subst, arith, length-set}
+use Rattle.std.proofs.lemmas.List.{get_or-set_same, get_or-set_other}
+use mathlib.Core.Logic.{dite}
+use native.Mathlib.Decide.{ℕ_discrete}
+use Rattle.atomic_table.specs.Seated.{TableId}
+use Rattle.node_lock.specs.declared.view.View.{View}
+use Rattle.node_lock.specs.Passes.{HasJust}
+use Rattle.node_lock.specs.Lists.{Has}
+use Rattle.node_lock.proofs.Views.{prefix_trans}
+use Rattle.dmx_calls.specs.declared.limits.TheConstants.{DEMUX_NODES}
+use Rattle.dmx_calls.specs.History.{Entry}
+use Rattle.adapter.specs.Rows.{Fits, all_calls, EachBegins}
+use Rattle.adapter.proofs.Lists.{place_below, set_there, set_elsewhere}
+use Rattle.adapter.proofs.Fitting.{fits_set}
+use Rattle.adapter.specs.Rows.{OneLook, OneLooks, column, IsGathered, AreGathered}
+use Rattle.adapter.specs.Nodes.{IsLegalAt}
+use Rattle.dmx_calls.specs.Entries.{caller_of}
+use Rattle.adapter.specs.Ends.{IsHistory, AreHistories}
+
+module _ (locks : List TableId) (rows : List (List (TableId × View Entry))) where
+  pub record Looked (node : ℕ) (lengths : List ℕ) (now : List (TableId × View Entry)) : Type 0 where
+    pub own : Fits locks now
+    pub long : length lengths ≡ DEMUX_NODES + 1
+    pub later : (i : ℕ) (p : TableId × View Entry) → node ≤ i → slice_get now i ≡ Some p → IsGathered (column i rows) p
+    pub done : (i : ℕ) → i < node → (h : List Entry) × (length h ≡ slice_index lengths i) × IsHistory i (column i rows) h
+
+  pub first_looked : (lengths : List ℕ) (now : List (TableId × View Entry)) → length lengths ≡ DEMUX_NODES + 1 → AreGathered locks rows now → Looked 0 lengths now
+  first_looked lengths now long g = record { own = g.0; long = long; later = λ i p b e. g.1 i p e; done = λ i b. absurd (omega arith) }
+
+  history_of : (i r : ℕ) (p q : TableId × View Entry) → IsGathered (column i rows) p → OneLook caller_of (IsLegalAt i) r p q → IsHistory i (column i rows) q.1.seen
+  history_of i r p q g o = record {
+    legal = o.meant;
+    just = subst (λ l. HasJust caller_of l q.1.seen) (o.own ∙ g.calls) (o.whole (λ w below. subst (λ (l : List ℕ). Has l w) (sym o.same.2) (g.whole w (subst (λ (n : ℕ). w < n) o.same.3 below))));
+    begins = λ j x e. prefix_trans x.1.seen p.1.seen q.1.seen (g.begins j x e) o.seen;
+  }
+
+  pub next_looked : (node r : ℕ) (lengths : List ℕ) (now new : List (TableId × View Entry)) → node ≤ DEMUX_NODES → Looked node lengths now → OneLooks caller_of (IsLegalAt node) node r now new → Looked (node + 1) (set lengths node r) new
+  next_looked node r lengths now new below k o =
+      let few = k.long in let inside : node < length lengths = omega arith in record {
+        own = subst (Fits locks) (sym o.is) (fits_set locks now node o.first o.then k.own o.was o.looked.same.0);
+        long = length-set lengths node r ∙ k.long;
+        later = λ i p from e. k.later i p (omega arith) (sym (set_elsewhere now node i o.then (λ here. omega arith)) ∙ ap (λ (l : List (TableId × View Entry)). slice_get l i) (sym o.is) ∙ e);
+        done = λ i under. dite (ℕ_discrete i node)
+            (λ here. let d = subst (λ (j : ℕ). (length o.then.1.seen ≡ slice_index (set lengths node r) j) × IsHistory j (column j rows) o.then.1.seen) (sym here)
+              (o.looked.long ∙ sym (get_or-set_same lengths node r 0 inside),
+                history_of node r o.first o.then (k.later node o.first (omega arith) o.was) o.looked) in (o.then.1.seen, d.0, d.1))
+            (λ more. let d = k.done i (omega arith) in (d.0, d.1 ∙ sym (get_or-set_other lengths node i r 0 more), d.2));
+      }
+
+  pub all_looked : (node : ℕ) (lengths : List ℕ) (now : List (TableId × View Entry)) → node ≡ DEMUX_NODES + 1 → Looked node lengths now → AreHistories rows lengths
+  all_looked node lengths now end k i below = k.done i (omega arith)

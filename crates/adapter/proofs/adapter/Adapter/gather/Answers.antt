@@ -1,0 +1,4 @@
+use Rattle.adapter.proofs.adapter.Adapter.gather.Goals as goal
+
+pub returns : goal.returns
+returns c = λ node below. let h = c.lengths-lengths.ensures node below in (h.0, h.2)

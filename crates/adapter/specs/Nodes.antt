@@ -1,0 +1,41 @@
+-- The nodes 0 to 32: the demux nodes, and the dvr node last. A history has the oldest entry first here, as that of a lock.
+use Rattle.std.specs.Prelude.{ℕ, List, [], reverse}
+use Rattle.ts_batch.specs.Batch.{Packets}
+use Rattle.atomic_table.specs.Seated.{TableId}
+use Rattle.node_lock.specs.declared.lock.Held.{Held}
+use Rattle.node_lock.specs.declared.view.View.{View}
+use Rattle.dmx_calls.specs.declared.params.Input.TheVariants.{Frontend}
+use Rattle.dmx_calls.specs.Invocation.{Pass, End}
+use Rattle.dmx_calls.specs.Response.{Passed}
+use Rattle.dmx_calls.specs.History.{Entry, entry_of}
+use Rattle.dmx_calls.specs.Entries.{caller_of}
+use Rattle.dmx_calls.specs.Rules.{rules_at}
+use Rattle.dmx_calls.specs.Legal.{IsLegalFor}
+use Rattle.adapter.specs.Rows.{OneCalls, OneMisses, OneLooks, AllCall}
+
+-- a legal history of the node of this number
+abbrev pub IsLegalAt : (node : ℕ) → List Entry → Type 0
+IsLegalAt node h = IsLegalFor (rules_at node) (reverse h)
+
+-- the pass of a node has made this entry at this place of the node's history, which is legal with it, and no other pass is changed
+abbrev pub MakesEntry : (node : ℕ) → Entry → (place : ℕ) → List (TableId × View Entry) → List (TableId × View Entry) → Type 0
+MakesEntry node e place old new = OneCalls caller_of (IsLegalAt node) node (λ who. e) place old new
+
+-- the pass of a node has tried in vain
+abbrev pub MakesNoEntry : (node : ℕ) → Held → List (TableId × View Entry) → List (TableId × View Entry) → Type 0
+MakesNoEntry node held old new = OneMisses caller_of (IsLegalAt node) node held old new
+
+-- the pass of a node has looked, and seen so many entries
+abbrev pub Looks : (node len : ℕ) → List (TableId × View Entry) → List (TableId × View Entry) → Type 0
+Looks node len old new = OneLooks caller_of (IsLegalAt node) node len old new
+
+-- the pass of each node has made this entry, at the place with its number
+abbrev pub MakesEachEntry : Entry → (places : List ℕ) → List (TableId × View Entry) → List (TableId × View Entry) → Type 0
+MakesEachEntry e places old new = AllCall caller_of IsLegalAt (λ who. e) places old new
+
+-- the entry that the feeder, caller 0, makes of a batch, and that of the stream's end
+abbrev pub fed : Packets → (now : ℕ) → Entry
+fed batch now = entry_of 0 (Pass Frontend batch.first batch.packets now) Passed
+
+abbrev pub ended : Entry
+ended = entry_of 0 End Passed

@@ -1,0 +1,174 @@
+-- The words of a line's spelling.
+use Rattle.std.proofs.Common.{◌≡◌, ◌<◌, ◌≤◌, ◌^◌, ◌+◌, refl, ap, ◌∙◌, ℕ, List, [], ◌∷◌, ◌++◌, Bool, false, codes, arith, append-nil}
+use Rattle.std.proofs.lemmas.Bool.Decides.{nat_tests}
+use Rattle.std.proofs.lemmas.List.Elements.{All-nil, All-cons, All-head, All-tail, All-append, All-weaker}
+use Rattle.std.proofs.lemmas.List.Splits.{slice_split_none, slice_split_at}
+use Rattle.std.specs.Prelude.{◌==◌}
+use Rattle.std.specs.List.{All, flat_map}
+use Rattle.std.specs.Fmt.{decimal}
+use Rattle.text_forms.specs.Words.{input_text, output_text}
+use Rattle.text_forms.specs.Names.{client_text, demux_text, slot_text}
+use Rattle.text_forms.specs.Places.{place_text, place_at, filter_text, filter_words}
+use Rattle.text_forms.proofs.FiltersRead.{filter_text-words, filter_words-each}
+use Rattle.text_forms.proofs.Visible.{IsVisible, AreVisible, decimal-visible, behind-visible, place_text-visible, visible_by_test, input_text-visible, output_text-visible}
+use Rattle.client_script.specs.Words.{words_of}
+use Rattle.client_script.specs.Grammar.{IsTargetInRange, IsVerbInRange, IsInRange}
+use Rattle.client_script.specs.Spelling.{name_text, target_text, number_text, section_text, pes_text, arguments_text, command_text, line_text}
+use Rattle.client_script.specs.declared.line.Verb.{Verb}
+use Rattle.client_script.specs.declared.line.Verb.TheVariants.{Open, Close, Section, Pes, Add, Remove, Start, Stop, Size, Read, ReadWait, Drain, Poll}
+use Rattle.client_script.specs.declared.line.Target.{Target}
+use Rattle.client_script.specs.declared.line.Target.TheVariants.{Node, Slot, Dvr}
+use Rattle.client_script.specs.declared.line.Line.{Line}
+use Rattle.client_script.specs.declared.line.Line.TheVariants.{Feed, Tick, Command}
+
+-- words behind a first one, each behind a space
+abbrev pub behind : List (List ℕ) → List ℕ
+behind words = flat_map (λ word. codes " " ++ word) words
+
+no_space : (byte : ℕ) → IsVisible byte → (byte == 32) ≡ false
+no_space byte visible = grind (arith, nat_tests)
+
+spaceless : (word : List ℕ) → AreVisible word → All (λ byte. (byte == 32) ≡ false) word
+spaceless word visible = All-weaker IsVisible (λ byte. (byte == 32) ≡ false) no_space word visible
+
+-- words with single spaces between them are those words
+pub words_of-behind : (word : List ℕ) (more : List (List ℕ)) → AreVisible word → All AreVisible more → words_of (word ++ behind more) ≡ word ∷ more
+words_of-behind word [] first rest = rw (append-nil word) (slice_split_none (λ (byte : ℕ). byte == 32) word (spaceless word first))
+words_of-behind word (next ∷ later) first rest =
+    slice_split_at (λ (byte : ℕ). byte == 32) word 32 (next ++ behind later) (spaceless word first) refl
+    ∙ ap (λ (words : List (List ℕ)). word ∷ words) (words_of-behind next later (All-head AreVisible next later rest) (All-tail AreVisible next later rest))
+
+-- ------ no byte of them is a line feed
+
+line_feed_apart : (byte : ℕ) → 31 < byte → (byte == 10) ≡ false
+line_feed_apart byte above = grind (arith, nat_tests)
+
+above_31 : (word : List ℕ) → AreVisible word → All (λ byte. 31 < byte) word
+above_31 word visible = All-weaker IsVisible (λ byte. 31 < byte) (λ byte above. omega arith) word visible
+
+behind-above : (more : List (List ℕ)) → All AreVisible more → All (λ byte. 31 < byte) (behind more)
+behind-above [] rest = All-nil (λ (byte : ℕ). 31 < byte)
+behind-above (next ∷ later) rest =
+    All-append (λ (byte : ℕ). 31 < byte) (codes " " ++ next) (behind later)
+    (All-cons (λ (byte : ℕ). 31 < byte) 32 next (omega arith) (above_31 next (All-head AreVisible next later rest)))
+    (behind-above later (All-tail AreVisible next later rest))
+
+pub line_feed_nowhere : (word : List ℕ) (more : List (List ℕ)) → AreVisible word → All AreVisible more → All (λ byte. (byte == 10) ≡ false) (word ++ behind more)
+line_feed_nowhere word more first rest =
+    All-weaker (λ byte. 31 < byte) (λ byte. (byte == 10) ≡ false) line_feed_apart (word ++ behind more)
+    (All-append (λ (byte : ℕ). 31 < byte) word (behind more) (above_31 word first) (behind-above more rest))
+
+-- ------ the words of a line
+
+abbrev pub argument_words : Verb → List (List ℕ)
+argument_words Open = []
+argument_words Close = []
+argument_words (Section p) = decimal p.pid ∷ decimal p.timeout ∷ decimal p.flags ∷ filter_words p.filter
+argument_words (Pes p) = decimal p.pid ∷ input_text p.input ∷ output_text p.output ∷ decimal p.pes_type ∷ decimal p.flags ∷ []
+argument_words (Add pid) = decimal pid ∷ []
+argument_words (Remove pid) = decimal pid ∷ []
+argument_words Start = []
+argument_words Stop = []
+argument_words (Size n) = decimal n ∷ []
+argument_words (Read n) = decimal n ∷ []
+argument_words (ReadWait n) = decimal n ∷ []
+argument_words (Drain n) = decimal n ∷ []
+argument_words Poll = []
+
+one_number : (n : ℕ) → number_text n ≡ behind (decimal n ∷ [])
+one_number n = rw (append-nil (decimal n)) refl
+
+arguments_text-behind : (verb : Verb) → arguments_text verb ≡ behind (argument_words verb)
+unfolding arguments_text section_text pes_text
+arguments_text-behind Open = refl
+arguments_text-behind Close = refl
+arguments_text-behind (Section p) = rw (filter_text-words p.filter) refl
+arguments_text-behind (Pes p) = rw (append-nil (decimal p.flags)) refl
+arguments_text-behind (Add pid) = one_number pid
+arguments_text-behind (Remove pid) = one_number pid
+arguments_text-behind Start = refl
+arguments_text-behind Stop = refl
+arguments_text-behind (Size n) = one_number n
+arguments_text-behind (Read n) = one_number n
+arguments_text-behind (ReadWait n) = one_number n
+arguments_text-behind (Drain n) = one_number n
+arguments_text-behind Poll = refl
+
+abbrev pub first_word : Line → List ℕ
+first_word (Feed n) = codes "feed"
+first_word (Tick n) = codes "tick"
+first_word (Command line client target verb) = client_text client
+
+abbrev pub more_words : Line → List (List ℕ)
+more_words (Feed n) = decimal n ∷ []
+more_words (Tick n) = decimal n ∷ []
+more_words (Command line client target verb) = name_text verb ∷ target_text target ∷ argument_words verb
+
+pub line_text-words : (line : Line) → line_text line ≡ first_word line ++ behind (more_words line)
+unfolding line_text command_text
+line_text-words (Feed n) = ap (λ (text : List ℕ). codes "feed" ++ text) (one_number n)
+line_text-words (Tick n) = ap (λ (text : List ℕ). codes "tick" ++ text) (one_number n)
+line_text-words (Command line client target verb) = rw (arguments_text-behind verb) refl
+
+-- ------ each is a word
+
+name-visible : (verb : Verb) → AreVisible (name_text verb)
+unfolding name_text
+name-visible Open = visible_by_test (codes "open") refl
+name-visible Close = visible_by_test (codes "close") refl
+name-visible (Section p) = visible_by_test (codes "section") refl
+name-visible (Pes p) = visible_by_test (codes "pes") refl
+name-visible (Add pid) = visible_by_test (codes "add") refl
+name-visible (Remove pid) = visible_by_test (codes "remove") refl
+name-visible Start = visible_by_test (codes "start") refl
+name-visible Stop = visible_by_test (codes "stop") refl
+name-visible (Size n) = visible_by_test (codes "size") refl
+name-visible (Read n) = visible_by_test (codes "read") refl
+name-visible (ReadWait n) = visible_by_test (codes "readw") refl
+name-visible (Drain n) = visible_by_test (codes "drain") refl
+name-visible Poll = visible_by_test (codes "poll") refl
+
+target-visible : (target : Target) → IsTargetInRange target → AreVisible (target_text target)
+unfolding target_text
+target-visible (Node n) few = behind-visible 110 (decimal n) (omega arith) (decimal-visible n (omega arith))
+target-visible (Slot n) few = behind-visible 104 (decimal n) (omega arith) (decimal-visible n (omega arith))
+target-visible Dvr few = visible_by_test (codes "dvr") refl
+
+number-visible : (n : ℕ) → n ≤ 4294967295 → All AreVisible (decimal n ∷ [])
+number-visible n few = All-cons AreVisible (decimal n) [] (decimal-visible n (omega arith)) (All-nil AreVisible)
+
+arguments-visible : (verb : Verb) → IsVerbInRange verb → All AreVisible (argument_words verb)
+arguments-visible Open few = All-nil AreVisible
+arguments-visible Close few = All-nil AreVisible
+arguments-visible (Section p) few =
+    All-cons AreVisible (decimal p.pid) (decimal p.timeout ∷ decimal p.flags ∷ filter_words p.filter) (decimal-visible p.pid (omega arith))
+    (All-cons AreVisible (decimal p.timeout) (decimal p.flags ∷ filter_words p.filter) (decimal-visible p.timeout (omega arith))
+    (All-cons AreVisible (decimal p.flags) (filter_words p.filter) (decimal-visible p.flags (omega arith))
+    (filter_words-each AreVisible p.filter (λ i small. place_text-visible (place_at p.filter i) (omega arith)))))
+arguments-visible (Pes p) few =
+    All-cons AreVisible (decimal p.pid) (input_text p.input ∷ output_text p.output ∷ decimal p.pes_type ∷ decimal p.flags ∷ []) (decimal-visible p.pid (omega arith))
+    (All-cons AreVisible (input_text p.input) (output_text p.output ∷ decimal p.pes_type ∷ decimal p.flags ∷ []) (input_text-visible p.input)
+    (All-cons AreVisible (output_text p.output) (decimal p.pes_type ∷ decimal p.flags ∷ []) (output_text-visible p.output)
+    (All-cons AreVisible (decimal p.pes_type) (decimal p.flags ∷ []) (decimal-visible p.pes_type (omega arith))
+    (number-visible p.flags few.2))))
+arguments-visible (Add pid) few = number-visible pid (omega arith)
+arguments-visible (Remove pid) few = number-visible pid (omega arith)
+arguments-visible Start few = All-nil AreVisible
+arguments-visible Stop few = All-nil AreVisible
+arguments-visible (Size n) few = number-visible n few
+arguments-visible (Read n) few = number-visible n (omega arith)
+arguments-visible (ReadWait n) few = number-visible n (omega arith)
+arguments-visible (Drain n) few = number-visible n (omega arith)
+arguments-visible Poll few = All-nil AreVisible
+
+pub first-visible : (line : Line) → IsInRange line → AreVisible (first_word line)
+first-visible (Feed n) few = visible_by_test (codes "feed") refl
+first-visible (Tick n) few = visible_by_test (codes "tick") refl
+first-visible (Command line client target verb) few = behind-visible 99 (decimal client) (omega arith) (decimal-visible client (omega arith))
+
+pub more-visible : (line : Line) → IsInRange line → All AreVisible (more_words line)
+more-visible (Feed n) few = number-visible n few.1
+more-visible (Tick n) few = number-visible n few
+more-visible (Command line client target verb) few =
+    All-cons AreVisible (name_text verb) (target_text target ∷ argument_words verb) (name-visible verb)
+    (All-cons AreVisible (target_text target) (argument_words verb) (target-visible target few.3) (arguments-visible verb few.4))

@@ -1,0 +1,22 @@
+-- How far the lines of a node are told.
+use Rattle.std.specs.Prelude.{◌≡◌, ◌+◌, ℕ, suc, List, [], ◌∷◌, ◌++◌, drop, Option, Some, None}
+use Rattle.std.specs.List.{flat_map, slice_get}
+use Rattle.dmx_calls.specs.declared.histories.Fed.{Fed}
+use Rattle.dmx_calls.specs.Log.{Act, EndAct, LogEntry}
+use Rattle.dmx_calls.specs.Histories.{pass_act, feeder_acts, before_entry}
+use Rattle.report_text.specs.Entries.{entry_text}
+
+abbrev pub turn_of : Option Fed → Act
+turn_of (Some fed) = pass_act fed
+turn_of None = EndAct
+
+-- the feeder's call of this step: a batch that passes, or behind the last one the end of the stream
+abbrev pub turn : List Fed → (step : ℕ) → Act
+turn feeding step = turn_of (slice_get feeding step)
+
+-- From `step` up to and without `next` the feeder's calls are told that stand before a client's entry at this place, where `told` entries of clients stand before it: with that entry and all that follows, the text is what it was to be.
+abbrev pub Told : List Fed → (told place step next : ℕ) → (before after : List ℕ) → Type 0
+Told feeding told place step next before after =
+    (node : ℕ) (e : LogEntry) (later : (place step : ℕ) → List Act → List LogEntry) → e.place ≡ place
+    → after ++ flat_map entry_text (e ∷ later (suc (told + next)) next (drop next (feeder_acts feeding)))
+    ≡ before ++ flat_map entry_text (before_entry node e later (told + step) step (drop step (feeder_acts feeding)))

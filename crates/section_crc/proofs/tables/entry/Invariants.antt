@@ -1,0 +1,6 @@
+use Rattle.std.proofs.Common.{◌≡◌}
+use Rattle.section_crc.specs.Tables.{entry_of}
+use Rattle.section_crc.proofs.tables.entry.Given as goal
+
+abbrev pub invariant-zeros : goal.invariant-zeros
+invariant-zeros l = l.register ≡ entry_of l._i l.byte

@@ -1,0 +1,131 @@
+-- What a node answers to a read, and which calls leave its packets and its end as they were.
+use Rattle.std.proofs.Common.{◌≡◌, refl, sym, ap, subst, ◌∙◌, ℕ, zero, suc, ◌+◌, ◌-◌, ◌<◌, ◌≤◌, Bool, true, false, List, [], ◌∷◌, Option, Some, None, length, arith}
+use Rattle.std.specs.Prelude.{if◌then◌else◌, nat_eq, ◌||◌}
+use Rattle.std.specs.List.{All}
+use Rattle.std.proofs.lemmas.List.Elements.{All-nil}
+use Rattle.ts_packet.specs.Fields.{IsPacket}
+use Rattle.dmx_calls.specs.declared.reply.Errno.{Errno}
+use Rattle.dmx_calls.specs.declared.params.Input.{Input}
+use Rattle.dmx_calls.specs.Invocation as call
+use Rattle.dmx_calls.specs.Invocation.{Invocation, brought}
+use Rattle.dmx_calls.specs.Response.{Response, Done, Busy, Refused, NoMemory, Data, Again, Overflow, TimedOut, Ready, Passed, is_accepted}
+use Rattle.dmx_calls.specs.History.{History, Since, event, entry_of}
+use Rattle.dmx_calls.specs.Tenure.{is_end, has_ended}
+use Rattle.dmx_calls.specs.Rules.{Rules}
+use Rattle.dmx_calls.specs.Ledger.{Misfit, answered_in, answered, total, over}
+use Rattle.dmx_calls.specs.Facts.{Ledger, Facts, facts, ledger_of, ledger_at}
+use Rattle.dmx_calls.specs.Answer.{answer, with_call, response_unless, refusal_to, read_response, read_over, read_timeout, read_bytes, expired_of, most_bytes}
+use Rattle.dmx_calls.specs.Legal.{IsLegalFor}
+use Rattle.dmx_calls.specs.Bytes.{OverflowNamesAByte}
+use Rattle.dmx_calls.proofs.Going.{has_ended_refused, has_ended_after}
+use Rattle.client_core.specs.declared.event.Want.{Want}
+use Rattle.client_core.specs.declared.event.Want.TheVariants.{Open, Close, Section, Pes, Add, Remove, Start, Stop, Size, Read, Poll, Attach, Detach}
+use Rattle.client_core.specs.Commands.{call_of}
+use Rattle.serial_core.specs.Budget.{bytes_in}
+
+-- ------ reads
+
+-- a reply to a read, where the stream has ended or not
+abbrev pub IsReadReply : (ended : Bool) → Response → Type 0
+IsReadReply ended (Refused errno) = Unit {0}
+IsReadReply ended (Data bytes) = Unit {0}
+IsReadReply ended (Again has) = has ≡ ended
+IsReadReply ended (Overflow from to item need room) = from < to
+IsReadReply ended (TimedOut started now timeout) = Unit {0}
+IsReadReply ended _ = ⊥
+
+unless_reads : (ended : Bool) (o : Option Errno) (r : Response) → IsReadReply ended r → IsReadReply ended (response_unless o r)
+unless_reads ended None r is = is
+unless_reads ended (Some errno) r is = tt
+
+if_reads : (ended b : Bool) (r q : Response) → IsReadReply ended r → IsReadReply ended q → IsReadReply ended (if b then r else q)
+if_reads ended true r q x y = x
+if_reads ended false r q x y = y
+
+bytes_read : (f : Facts) (l : Ledger) (count : ℕ) → IsReadReply f.has_ended (read_bytes f l count)
+bytes_read f l zero = tt
+bytes_read f l (suc n) = if_reads f.has_ended (nat_eq l.answered l.total) (Again f.has_ended) (Data _) refl tt
+
+timeout_read : (f : Facts) (l : Ledger) (expired : Option ℕ) (count : ℕ) → IsReadReply f.has_ended (read_timeout f l expired count)
+timeout_read f l None count = bytes_read f l count
+timeout_read f l (Some moment) count = if_reads f.has_ended l.is_told (read_bytes f l count) (TimedOut l.started moment _) (bytes_read f l count) tt
+
+over_read : (f : Facts) (l : Ledger) (o : Option Misfit) (expired : Option ℕ) (count : ℕ) → ((x : Misfit) → o ≡ Some x → l.answered < l.total) → IsReadReply f.has_ended (read_over f l o expired count)
+over_read f l None expired count less = timeout_read f l expired count
+over_read f l (Some x) expired count less = less x refl
+
+module _ (node : Rules) (names : OverflowNamesAByte node) where
+  ledger_read : (h : History) (f : Facts) (o : Option Since) (expired : Option ℕ) (count : ℕ) → IsLegalFor node h → IsReadReply f.has_ended (read_response f (ledger_of node h o) expired count)
+  ledger_read h f None expired count legal = tt
+  ledger_read h f (Some s) expired count legal = over_read f (ledger_at node h) (over node h) expired count (λ x is. names h x legal is)
+
+  pub reads : (h : History) (who now count : ℕ) → IsLegalFor node h → IsReadReply (has_ended h) (answer node h who (call.Read now count))
+  unfolding answer facts
+  reads h who now count legal =
+      unless_reads (has_ended h) (refusal_to node.kind (facts node h) who (call.Read now count)) _
+          (ledger_read h (facts node h) (node.capture h) (expired_of (facts node (with_call h who (call.Read now count))).ledger) count legal)
+
+-- ------ calls of the feeder and of clients
+
+pub pass_answer : (node : Rules) (h : History) (who : ℕ) (input : Input) (first now : ℕ) (packets : List (List ℕ)) → answer node h who (call.Pass input first packets now) ≡ Passed
+unfolding answer facts
+pass_answer node h who input first now packets = refl
+
+pub end_answer : (node : Rules) (h : History) (who : ℕ) → answer node h who call.End ≡ Passed
+unfolding answer facts
+end_answer node h who = refl
+
+-- a call that isn't End leaves the end of the stream as it was
+pub end_stays : (who : ℕ) (c : Invocation) (r : Response) (h : History) → is_end (event (entry_of who c r) h) ≡ false → has_ended (entry_of who c r ∷ h) ≡ has_ended h
+end_stays who c r h isnt = go (is_accepted r) refl where
+  go : (b : Bool) → is_accepted r ≡ b → has_ended (entry_of who c r ∷ h) ≡ has_ended h
+  go true yea = has_ended_after (entry_of who c r) h yea ∙ ap (λ b. b || has_ended h) isnt
+  go false nay = has_ended_refused (entry_of who c r) h nay
+
+pub ends : (who : ℕ) (r : Response) (h : History) → is_accepted r ≡ true → has_ended (entry_of who call.End r ∷ h) ≡ true
+ends who r h ok = has_ended_after (entry_of who call.End r) h ok
+
+-- a client brings no packets
+pub none_brought : (w : Want) (now : ℕ) → brought (call_of w now) ≡ []
+none_brought Open now = refl
+none_brought Close now = refl
+none_brought (Section p) now = refl
+none_brought (Pes p) now = refl
+none_brought (Add p) now = refl
+none_brought (Remove p) now = refl
+none_brought Start now = refl
+none_brought Stop now = refl
+none_brought (Size n) now = refl
+none_brought (Read n) now = refl
+none_brought Poll now = refl
+none_brought (Attach n ps) now = refl
+none_brought (Detach n) now = refl
+
+-- and doesn't end the stream
+pub no_end : (w : Want) (now who : ℕ) (r : Response) (h : History) → is_end (event (entry_of who (call_of w now) r) h) ≡ false
+no_end Open now who r h = refl
+no_end Close now who r h = refl
+no_end (Section p) now who r h = refl
+no_end (Pes p) now who r h = refl
+no_end (Add p) now who r h = refl
+no_end (Remove p) now who r h = refl
+no_end Start now who r h = refl
+no_end Stop now who r h = refl
+no_end (Size n) now who r h = refl
+no_end (Read n) now who r h = refl
+no_end Poll now who r h = refl
+no_end (Attach n ps) now who r h = refl
+no_end (Detach n) now who r h = refl
+
+-- the bytes of a reply are those that its entry answers
+pub bytes_same : (who : ℕ) (c : Invocation) (r : Response) (h : History) → answered_in (event (entry_of who c r) h) ≡ bytes_in r
+bytes_same who c (Done a b tap) h = refl
+bytes_same who c (Busy o) h = refl
+bytes_same who c (Refused x) h = refl
+bytes_same who c NoMemory h = refl
+bytes_same who c (Data d) h = refl
+bytes_same who c (Again b) h = refl
+bytes_same who c (Overflow from to item need room) h = refl
+bytes_same who c (TimedOut a b d) h = refl
+bytes_same who c (Ready a b d e) h = refl
+bytes_same who c Passed h = refl

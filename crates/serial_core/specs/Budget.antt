@@ -1,0 +1,69 @@
+-- What pays for the calls of clients in the serial run (this project's own).
+use Rattle.std.specs.Prelude.{ℕ, ◌≡◌, ◌≤◌, ◌+◌, ◌*◌, ◌-◌, Bool, true, false, ◌||◌, List, [], ◌∷◌, length, sum_by, is_some, All}
+use Rattle.ts_packet.specs.Fields.{IsPacket}
+use Rattle.dmx_calls.specs.declared.limits.TheConstants.{DEMUX_NODES}
+use Rattle.dmx_calls.specs.Response.{Response, Data, Overflow}
+use Rattle.dmx_calls.specs.History.{History, brought_by}
+use Rattle.dmx_calls.specs.Tenure.{has_ended}
+use Rattle.dmx_calls.specs.Rules.{Rules, demux, dvr}
+use Rattle.dmx_calls.specs.Legal.{IsLegalFor}
+use Rattle.dmx_calls.specs.Bytes.{bytes_answered}
+use Rattle.client_script.specs.declared.line.Line.{Line}
+use Rattle.client_script.specs.declared.line.Line.TheVariants.{Command}
+use Rattle.client_core.specs.Commands.{commands_of}
+use Rattle.client_core.specs.Events.{waits_on}
+use Rattle.client_core.specs.Budget.{most_calls, repeats}
+use Rattle.serial_core.specs.Nodes.{Node, history_of}
+use Rattle.serial_core.specs.SerialRun.{Run, replies_of, IsSerialRun}
+
+-- the bytes that a reply gives, or names as lost
+abbrev pub bytes_in : Response → ℕ
+bytes_in (Data bytes) = length bytes
+bytes_in (Overflow from to item need room) = to - from
+bytes_in _ = 0
+
+-- those that a client was answered
+abbrev pub bytes_to : (client : ℕ) → Run → ℕ
+bytes_to client r = sum_by bytes_in (replies_of client r)
+
+-- those that a node has answered
+abbrev pub bytes_by : Node → ℕ
+bytes_by node = bytes_answered (history_of node)
+
+-- those that the 33 nodes have answered
+abbrev pub bytes_by_all : Run → ℕ
+bytes_by_all r = sum_by bytes_by r.demux + bytes_by r.dvr
+
+abbrev pub one_if : Bool → ℕ
+one_if true = 1
+one_if false = 0
+
+-- A legal history, whose passes have brought so many packets, and which has the end of the stream or not.
+pub record HasBrought (node : Rules) (count : ℕ) (has : Bool) (h : History) : Type 0 where
+  pub legal : IsLegalFor node h
+  pub are_packets : All IsPacket (brought_by h)
+  pub brought : length (brought_by h) ≡ count
+  pub ended : has_ended h ≡ has
+
+-- The calls made so far are paid for. A client makes 33 calls a command, and repeats a read only after a turn of the feeder or after bytes. One repeat is paid for by the turn to come, or by the end of the stream. The feeder has as many turns as packets at most, and End. The nodes answer no more bytes than they are brought.
+pub record IsPaid (lines : List Line) (packets : List (List ℕ)) (r : Run) : Type 0 where
+  pub nodes : length r.demux ≡ DEMUX_NODES
+  pub whole : r.first + length r.left ≡ length packets
+  pub are_packets : All IsPacket r.left
+  pub demux : All (λ node. HasBrought demux r.first r.has_ended (history_of node)) r.demux
+  pub dvr : HasBrought dvr r.first r.has_ended (history_of r.dvr)
+  pub turns : r.turns ≤ r.first + one_if r.has_ended
+  pub bytes : (client : ℕ) → bytes_to client r ≤ bytes_by_all r
+  pub repeats : (client : ℕ) → repeats client lines (replies_of client r) ≤ r.turns + bytes_to client r + one_if (is_some (waits_on client lines (replies_of client r)) || r.has_ended)
+  pub calls : (client : ℕ) → length (replies_of client r) ≤ 33 * length (commands_of client lines) + r.turns + bytes_to client r + 2
+
+-- how many commands a script has
+abbrev pub all_commands : List Line → ℕ
+all_commands [] = 0
+all_commands (Command line client target verb ∷ lines) = 1 + all_commands lines
+all_commands (_ ∷ lines) = all_commands lines
+
+-- Each client of a serial run gets by with the calls that its commands and the bytes of the packets allow, where a batch has at least one packet.
+abbrev pub IsWithinBudget : Type 0
+IsWithinBudget = (lines : List Line) (batch : ℕ) (packets : List (List ℕ)) (r : Run) → 1 ≤ batch → All IsPacket packets → IsSerialRun lines batch packets r
+    → (client : ℕ) → length (replies_of client r) ≤ most_calls (length (commands_of client lines)) (188 * length packets)

@@ -1,0 +1,12 @@
+use Rattle.std.proofs.Common.{◌≡◌, ℕ, ◌<◌, ◌||◌, false, nat_eq, take, length}
+use Rattle.std.specs.List.{list_any}
+use Rattle.ts_batch.specs.Places.{is_in}
+use Rattle.ts_batch.proofs.place_set.PlaceSet.add.Given as goal
+
+-- the marks are those before, and those of the places so far
+abbrev pub invariant-places : goal.invariant-places
+invariant-places l = record {
+  long : length l.self-inside.marks ≡ 64;
+  none : l.self-inside.some ≡ false → (i : ℕ) → is_in i l.self-inside.marks ≡ false;
+  marks : (i : ℕ) → i < 64 → is_in i l.self-inside.marks ≡ (is_in i l.initial.self-inside.marks || list_any (nat_eq i) (take l.place-index l.places));
+}
