@@ -9,3 +9,10 @@ pub mod Answering
 pub mod Paid
 pub mod Calling
 pub mod Within
+pub mod Keeping
+pub mod Throughout
+pub mod Places
+pub mod Sound
+pub mod Making
+pub mod Feeding
+pub mod Whole

@@ -5,3 +5,4 @@ pub mod Laws
 pub mod Examples
 pub mod Standing
 pub mod Budget
+pub mod Whole
