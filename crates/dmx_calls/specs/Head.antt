@@ -1,5 +1,8 @@
 -- What a report says of a stream before it tells any call.
-use Rattle.std.specs.Prelude.{ℕ, Bool, List}
+use Rattle.std.specs.Prelude.{ℕ, Bool, List, [], ◌∷◌, ◌++◌, length, nat_lt, if◌then◌else◌}
+use Rattle.std.proofs.Common.{zero, suc}
+use Rattle.ts_packet.specs.Cut.{Cut, cut}
+use Rattle.ts_packet.specs.Counts.{counts}
 use Rattle.ts_packet.specs.declared.cutter.Tally.{Tally}
 use Rattle.dmx_calls.specs.declared.head.Head.{Head}
 use Rattle.dmx_calls.specs.declared.head.PidRow.{PidRow}
@@ -13,3 +16,20 @@ pub record StreamHead : Type 0 where
 -- the code's head
 abbrev pub told_head : Head → StreamHead
 told_head head = record { tally = head.tally; rows = head.rows.items; read_fault = head.read_fault }
+
+-- the numbers of a cutting: how many packets, skipped bytes and bytes of rest there are
+abbrev pub tally_of : Cut → Tally
+tally_of c = record { packets = length c.packets; skipped = c.skipped; rest = length c.rest }
+
+-- the row of a PID: the counts of its packets among these
+abbrev pub pid_row : List (List ℕ) → ℕ → PidRow
+pid_row packets pid = record { packets = (counts packets pid).packets; breaks = (counts packets pid).breaks; duplicates = (counts packets pid).duplicates; errors = (counts packets pid).errors }
+
+-- the PIDs below this number that have a packet among these, ascending, each with its row
+unfoldable pub rows_below : ℕ → List (List ℕ) → List (ℕ × PidRow)
+rows_below zero packets = []
+rows_below (suc pid) packets = if nat_lt 0 (counts packets pid).packets then rows_below pid packets ++ (pid, pid_row packets pid) ∷ [] else rows_below pid packets
+
+-- the head of a stream of these bytes: the numbers of its cutting, the rows of the PIDs of its packets, and whether the source failed in it
+unfoldable pub head_of : List ℕ → Bool → StreamHead
+head_of bytes failed = record { tally = tally_of (cut bytes); rows = rows_below 8192 (cut bytes).packets; read_fault = failed }

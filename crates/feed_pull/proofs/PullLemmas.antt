@@ -10,6 +10,7 @@ use Rattle.ts_packet.specs.Cut.{cut}
 use Rattle.ts_packet.specs.Cutting.{Cutting, fresh, bytes_taken, IsRest, Cuts, IsTally}
 use Rattle.ts_packet.specs.declared.cutter.Tally.{Tally}
 use Rattle.ts_packet.proofs.CutLemmas.{cut-append, cut-rest, cut_after-is_rest, cut_after-size, Cuts-none, Cuts-then, length-grown, packets-then}
+use Rattle.ts_watch.specs.Watching.{Watched}
 use Rattle.feed_pull.specs.declared.fault.Reading.{Reading}
 use Rattle.feed_pull.specs.declared.fault.Reading.TheVariants.{Going, Ended, Failed, TooMany}
 use Rattle.feed_pull.specs.Pulling.{Pulling, IsPulling, Pulls, IsDone, IsNear}
@@ -45,6 +46,7 @@ Goes-none p h = record {
   given = refl;
   start = refl;
   taken = omega arith;
+  watch = refl;
   last = inl (refl, refl);
 }
 
@@ -53,8 +55,8 @@ empty-list [] h = refl
 empty-list (x ∷ xs) h = absurd (omega arith)
 
 -- where nothing is cut and nothing read
-pub Goes-same : (a b : Pulling) → IsRest a.cutting.rest → b.cutting ≡ a.cutting → b.waiting ≡ a.waiting → b.unread ≡ a.unread → b.given ≡ a.given → b.start ≡ a.start → b.taken ≡ a.taken → b.earlier ≡ a.earlier → Goes a [] b
-Goes-same a b rest cutting waiting unread given start taken earlier = record {
+pub Goes-same : (a b : Pulling) → IsRest a.cutting.rest → b.cutting ≡ a.cutting → b.waiting ≡ a.waiting → b.unread ≡ a.unread → b.given ≡ a.given → b.start ≡ a.start → b.taken ≡ a.taken → b.earlier ≡ a.earlier → b.watch ≡ a.watch → Goes a [] b
+Goes-same a b rest cutting waiting unread given start taken earlier watch = record {
   passed = [];
   found = [];
   bytes = unread ∙ sym (append-nil a.unread);
@@ -63,12 +65,13 @@ Goes-same a b rest cutting waiting unread given start taken earlier = record {
   given = given;
   start = start;
   taken = omega (arith, taken);
+  watch = watch;
   last = inl (refl, earlier);
 }
 
 -- where a piece is read and nothing cut
-pub Goes-read : (a b : Pulling) → IsRest a.cutting.rest → a.unread ≡ [] → a.cutting.packets ≡ a.given + length a.waiting → b.cutting ≡ a.cutting → b.waiting ≡ a.waiting → length b.unread ≤ 65536 → b.given ≡ a.given → b.start ≡ a.start → b.taken ≡ a.taken + length b.unread → b.earlier ≡ a.given + length a.waiting → Goes a b.unread b
-Goes-read a b rest none found cutting waiting fits given start taken earlier =
+pub Goes-read : (a b : Pulling) → IsRest a.cutting.rest → a.unread ≡ [] → a.cutting.packets ≡ a.given + length a.waiting → b.cutting ≡ a.cutting → b.waiting ≡ a.waiting → length b.unread ≤ 65536 → b.given ≡ a.given → b.start ≡ a.start → b.taken ≡ a.taken + length b.unread → b.earlier ≡ a.given + length a.waiting → b.watch ≡ a.watch → Goes a b.unread b
+Goes-read a b rest none found cutting waiting fits given start taken earlier watch =
     let e : a.cutting.rest ++ (a.unread ++ []) ≡ a.cutting.rest = rw none (append-nil a.cutting.rest) in
     let k : length (cut (a.cutting.rest ++ (a.unread ++ []))).packets ≡ 0 = rw (e, cut-rest a.cutting.rest rest) refl in
     record {
@@ -80,12 +83,13 @@ Goes-read a b rest none found cutting waiting fits given start taken earlier =
       given = given;
       start = start;
       taken = taken;
+      watch = watch;
       last = inr (record { front = []; latest = b.unread; whole = refl; piece = fits; count = omega (arith, k, earlier, found) });
     }
 
 -- what is left after bytes from the front were cut
 abbrev pub cut_to : Pulling → Cutting → List (List ℕ) → List ℕ → Pulling
-cut_to a cutting waiting unread = record { cutting = cutting; waiting = waiting; unread = unread; given = a.given; earlier = a.earlier; start = a.start; taken = a.taken; reads = a.reads; reading = a.reading }
+cut_to a cutting waiting unread = record { cutting = cutting; waiting = waiting; unread = unread; given = a.given; earlier = a.earlier; start = a.start; taken = a.taken; reads = a.reads; reading = a.reading; watch = a.watch }
 
 pub Goes-cut : (a : Pulling) (k : Cutting) (w : List (List ℕ)) (u bytes : List ℕ) (n : ℕ) → bytes ≡ a.unread → Cuts a.cutting (take n bytes) (drop (length a.waiting) w) k → w ≡ a.waiting ++ drop (length a.waiting) w → u ≡ drop n a.unread → Goes a [] (cut_to a k w u)
 Goes-cut a k w u bytes n same cuts grown rest = record {
@@ -97,6 +101,7 @@ Goes-cut a k w u bytes n same cuts grown rest = record {
   given = refl;
   start = refl;
   taken = omega arith;
+  watch = refl;
   last = inl (refl, refl);
 }
 
@@ -108,6 +113,7 @@ IsPulling-cut a k w u bytes n i same cuts grown rest within taken fits =
       rest = Cuts-is_rest a.cutting k (take n bytes) (drop (length a.waiting) w) cuts;
       found = omega (arith, cuts.counted, i.found, length-grown a.waiting w grown);
       earlier = omega (arith, i.earlier, length-grown a.waiting w grown);
+      watched = i.watched;
       bytes = omega (arith, i.bytes, taken);
       piece = omega (arith, i.piece);
       taken = i.taken;
@@ -150,6 +156,7 @@ Goes-then a b c m n g h = record {
   given = h.given ∙ g.given;
   start = h.start ∙ g.start;
   taken = omega (arith, g.taken, h.taken, length-append m n);
+  watch = h.watch ∙ g.watch;
   last = Last-then a b c m n g h.last g.last;
 }
 
@@ -228,12 +235,13 @@ Follows-then a b c x y z l m n f g =
 
 -- ---- what a puller stands for
 
-pub Pulls-new : (ahead : List ℕ) (p : Pulling) → p.waiting ≡ [] → p.unread ≡ ahead → p.given ≡ 0 → p.taken ≡ 0 → Cuts fresh [] [] p.cutting → Pulls ahead [] [] p
-Pulls-new ahead p w u g t k = record {
+pub Pulls-new : (ahead : List ℕ) (p : Pulling) → p.waiting ≡ [] → p.unread ≡ ahead → p.given ≡ 0 → p.taken ≡ 0 → Cuts fresh [] [] p.cutting → Watched [] p.watch → Pulls ahead [] [] p
+Pulls-new ahead p w u g t k watch = record {
   passed = [];
   before = [];
   latest = [];
   count = g;
+  watch = watch;
   size = t;
   cuts = rw w k;
   stream = u ∙ sym (append-nil ahead);
@@ -263,6 +271,7 @@ Pulls-goes-by ahead taken more given a b p g (inl h) = record {
   before = p.before;
   latest = p.latest;
   count = g.given ∙ p.count;
+  watch = rw g.watch p.watch;
   size = omega (arith, g.taken, p.size, length-append taken more);
   cuts = Pulls-cuts ahead taken more given a b p g;
   stream = Pulls-stream ahead taken more given a b p g;
@@ -275,6 +284,7 @@ Pulls-goes-by ahead taken more given a b p g (inr r) = record {
   before = taken ++ r.front;
   latest = r.latest;
   count = g.given ∙ p.count;
+  watch = rw g.watch p.watch;
   size = omega (arith, g.taken, p.size, length-append taken more);
   cuts = Pulls-cuts ahead taken more given a b p g;
   stream = Pulls-stream ahead taken more given a b p g;
@@ -294,6 +304,7 @@ Pulls-given ahead taken given packets a b p h =
       before = p.before;
       latest = p.latest;
       count = omega (arith, h.given, p.count, length-append given packets);
+      watch = h.watch given p.watch;
       size = h.taken ∙ p.size;
       cuts = rw (e, h.cutting) p.cuts;
       stream = ap (λ (l : List ℕ). p.passed ++ l) h.unread ∙ p.stream;
@@ -321,6 +332,10 @@ Pulls-done ahead taken given p h d =
     let e : h.passed ≡ ahead ++ taken = sym (append-nil h.passed) ∙ ap (λ (l : List ℕ). h.passed ++ l) (sym d.unread) ∙ h.stream in
     let f : given ++ p.waiting ≡ given = ap (λ (l : List (List ℕ)). given ++ l) d.waiting ∙ append-nil given in
     rw (← e) (rw f at h.cuts)
+
+-- where nothing is left, all packets of the stream were watched
+pub Pulls-watch : (ahead taken : List ℕ) (given : List (List ℕ)) (p : Pulling) → Pulls ahead taken given p → IsDone p → Watched (cut (ahead ++ taken)).packets p.watch
+Pulls-watch ahead taken given p h d = rw (Pulls-done ahead taken given p h d).packets h.watch
 
 -- the packets given have no more bytes than the stream
 pub Pulls-size : (ahead taken : List ℕ) (given : List (List ℕ)) (p : Pulling) → Pulls ahead taken given p → 188 * length given ≤ length ahead + length taken

@@ -1,8 +1,9 @@
 -- What a contract sees of a puller, and what it stands for.
-use Rattle.std.specs.Prelude.{◌≡◌, ◌≢◌, ℕ, ◌+◌, ◌*◌, ◌<◌, ◌≤◌, List, [], ◌++◌, length, Result, None, Some, Ok, Err}
+use Rattle.std.specs.Prelude.{◌≡◌, ◌≢◌, ℕ, ◌+◌, ◌*◌, ◌<◌, ◌≤◌, Bool, true, false, List, [], ◌++◌, length, Result, None, Some, Ok, Err}
 use Rattle.std.specs.declared.option.Option.{Option}
 use Rattle.ts_packet.specs.Cut.{cut}
 use Rattle.ts_packet.specs.Cutting.{Cutting, fresh, bytes_taken, IsRest, Cuts}
+use Rattle.ts_watch.specs.Watching.{Watching, Watched}
 use Rattle.feed_pull.specs.declared.fault.Reading.{Reading}
 use Rattle.feed_pull.specs.declared.fault.Reading.TheVariants.{Going, Ended, Failed, TooMany}
 use Rattle.feed_pull.specs.declared.fault.PullFault.{PullFault}
@@ -10,7 +11,8 @@ use Rattle.feed_pull.specs.declared.fault.PullFault.TheVariants.{ReadFault, TooL
 
 -- What a puller has: where the cutting stands, the packets that wait to be given, the bytes that were read and are not
 -- cut yet, how many packets were given, how many had been found when the last bytes were read, how many reads were made
--- before the puller was, how many bytes its reads took, how many reads were made in all, and how reading goes.
+-- before the puller was, how many bytes its reads took, how many reads were made in all, how reading goes, and what was
+-- counted of the packets that were given.
 pub record Pulling : Type 0 where
   pub cutting : Cutting
   pub waiting : List (List ℕ)
@@ -21,6 +23,7 @@ pub record Pulling : Type 0 where
   pub taken : ℕ
   pub reads : ℕ
   pub reading : Reading
+  pub watch : Watching
 
 -- What is true of each puller. The numbers of bytes and of reads are bounded, a read took at most 65,536 bytes, and each
 -- read but the last took at least one.
@@ -29,6 +32,7 @@ pub record IsPulling (p : Pulling) : Type 0 where
   pub rest : IsRest p.cutting.rest
   pub found : p.cutting.packets ≡ p.given + length p.waiting
   pub earlier : p.earlier ≤ p.given + length p.waiting
+  pub watched : p.watch.watched ≡ p.given
   pub bytes : bytes_taken p.cutting + length p.unread ≤ 65536 + p.taken
   pub piece : length p.unread ≤ 65536
   pub taken : p.taken ≤ 65536 * p.reads
@@ -37,7 +41,7 @@ pub record IsPulling (p : Pulling) : Type 0 where
   pub too_many : p.reading ≡ TooMany → 4294967296 ≤ p.start + p.taken
 
 -- The puller stands behind a stream: these bytes ahead, and behind them these that its pulls took. It has given these
--- packets. What was cut so far has these packets and those that wait; the unread bytes are the rest of the stream. `latest`
+-- packets, and has watched them. What was cut so far has these packets and those that wait; the unread bytes are the rest of the stream. `latest`
 -- are the bytes of the last read, and `before` those of the reads before it; once more bytes were taken than one read
 -- may leave behind a packet, the puller knows how many packets there are in front of the last read.
 pub record Pulls (ahead taken : List ℕ) (given : List (List ℕ)) (p : Pulling) : Type 0 where
@@ -45,6 +49,7 @@ pub record Pulls (ahead taken : List ℕ) (given : List (List ℕ)) (p : Pulling
   pub before : List ℕ
   pub latest : List ℕ
   pub count : p.given ≡ length given
+  pub watch : Watched given p.watch
   pub size : p.taken ≡ length taken
   pub cuts : Cuts fresh passed (given ++ p.waiting) p.cutting
   pub stream : passed ++ p.unread ≡ ahead ++ taken
@@ -57,6 +62,13 @@ pub record IsDone (p : Pulling) : Type 0 where
   pub stopped : p.reading ≢ Going
   pub waiting : p.waiting ≡ []
   pub unread : p.unread ≡ []
+
+-- a read failed
+abbrev pub has_failed : Reading → Bool
+has_failed Going = false
+has_failed Ended = false
+has_failed Failed = true
+has_failed TooMany = false
 
 -- the fault that stopped reading, if one did
 abbrev pub fault_of : Reading → Option PullFault

@@ -4,6 +4,7 @@ use Rattle.std.specs.declared.option.Option.{Option}
 use Rattle.std.specs.Io.KnownBytes.{Consumes, IsAtEnd}
 use Rattle.ts_packet.specs.Cut.{cut}
 use Rattle.ts_packet.specs.Cutting.{Cuts}
+use Rattle.ts_watch.specs.Watching.{Watched}
 use Rattle.feed_pull.specs.declared.fault.Reading.{Reading}
 use Rattle.feed_pull.specs.declared.fault.Reading.TheVariants.{Going, Ended, Failed, TooMany}
 use Rattle.feed_pull.specs.Pulling.{Pulling, Pulls}
@@ -31,6 +32,7 @@ pub record Goes (old : Pulling) (more : List ℕ) (new : Pulling) : Type 0 where
   pub given : new.given ≡ old.given
   pub start : new.start ≡ old.start
   pub taken : new.taken ≡ old.taken + length more
+  pub watch : new.watch ≡ old.watch
   pub last : ((more ≡ []) × (new.earlier ≡ old.earlier)) ⊎ Reads old more new.earlier
 
 -- no read was made
@@ -67,10 +69,11 @@ to_read TooMany reads = 0
 abbrev pub work : Pulling → ℕ
 work p = to_read p.reading p.reads + length p.unread
 
--- the puller's state after these packets were given from the front of those that wait
+-- the puller's state after these packets were given from the front of those that wait, and watched behind those before them
 pub record HasGiven (packets : List (List ℕ)) (old new : Pulling) : Type 0 where
   pub waiting : old.waiting ≡ packets ++ new.waiting
   pub given : new.given ≡ old.given + length packets
+  pub watch : (before : List (List ℕ)) → Watched before old.watch → Watched (before ++ packets) new.watch
   pub cutting : new.cutting ≡ old.cutting
   pub unread : new.unread ≡ old.unread
   pub earlier : new.earlier ≡ old.earlier

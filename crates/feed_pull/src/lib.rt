@@ -7,11 +7,13 @@
 //!
 //! What a contract sees: where the cutting stands, the packets in hand, the unread bytes of the last read, how many packets
 //! were given, how many bytes and reads were taken, and how reading goes. `Pulls` says what that stands for: the bytes ahead,
-//! the bytes that the pulls took, and the packets that they gave. `new` begins it with no bytes and no packets.
+//! the bytes that the pulls took, and the packets that they gave, which its watch was shown too. `new` begins it with no
+//! bytes and no packets.
 //!
 //! What is proved: each pull keeps `Pulls`, where the bytes taken grow by just those that the source gave, and the packets
 //! given by those of the batch. So the batches joined are the front of the packets of the stream's cutting, each batch's first
-//! number is the number of packets before it, and at None they are all of them and the tally is that of the cutting. After
+//! number is the number of packets before it, and at None they are all of them, the tally is that of the cutting, the watch
+//! was shown just these packets, and `head` is the head of the stream. After
 //! want of memory nothing that was taken is lost. None without a fault comes only where the source had nothing left when
 //! reading stopped; `ReadFault` exactly from a pull on in which the source's count rose; `TooLong` only where 4,294,967,296
 //! reads were made, as the bytes taken show. Once reading has stopped no source is read. The pulls take at most 2^48 bytes,
@@ -29,6 +31,7 @@
 
 mod fault;
 mod hand;
+mod head;
 mod piece;
 mod puller;
 #[cfg(test)]

@@ -3,18 +3,23 @@ ghost use Rattle.std.specs.Prelude.{◌≡◌, ◌≢◌, ◌⊎◌, ℕ, ◌+�
 ghost use Rattle.std.specs.Io.KnownBytes.{Consumes, IsAtEnd};
 ghost use Rattle.ts_packet.specs.Cut.{cut};
 ghost use Rattle.ts_packet.specs.Cutting.{IsTally};
-ghost use Rattle.feed_pull.specs.Pulling.{Pulling, IsPulling, Pulls, IsDone, IsNear, fault_of, given_by};
+ghost use Rattle.ts_watch.specs.Watching.{Watched};
+ghost use Rattle.dmx_calls.specs.Head.{told_head, head_of};
+ghost use Rattle.feed_pull.specs.Pulling.{Pulling, IsPulling, Pulls, IsDone, IsNear, fault_of, has_failed, given_by};
 ghost use Rattle.feed_pull.specs.Steps.{Goes, Gathers, Follows, work, HasGiven, ReadsNothing, Carries};
 
 use crate::fault::{PullFault, Reading};
 use crate::hand::Hand;
+use crate::head::rows_of;
 use crate::piece::Piece;
+use dmx_calls::Head;
 use emu_io::Source;
 use std::alloc::{AllocError as NoMemory, Global};
 use std::marker::Model;
 use std::sync::Arc;
 use ts_batch::Batch;
-use ts_packet::{Cutter, Tally};
+use ts_packet::{Cutter, PacketBuf, Tally};
+use ts_watch::Watch;
 
 // The most reads of one stream.
 const MOST_READS: u64 = 4_294_967_296;
@@ -34,16 +39,31 @@ pub struct Puller {
     taken: u64,
     reads: u64,
     reading: Reading,
+    // What was counted of the packets that were given.
+    watch: Watch,
 }
 
 impl Model for Puller {
+    ghost use Rattle.ts_watch.specs.Watching.{Watched};
+    ghost use Rattle.dmx_calls.specs.Head.{told_head, head_of};
     ghost use Rattle.feed_pull.specs.Pulling.{Pulling, IsPulling};
 
     ghost Value = { Pulling };
 
-    ghost view = { λ p. record { cutting = p.cutter; waiting = p.hand; unread = p.piece; given = p.given; earlier = p.earlier; start = p.start; taken = p.taken; reads = p.reads; reading = p.reading } };
+    ghost view = { λ p. record { cutting = p.cutter; waiting = p.hand; unread = p.piece; given = p.given; earlier = p.earlier; start = p.start; taken = p.taken; reads = p.reads; reading = p.reading; watch = p.watch } };
 
-    ghost invariant = { λ p. IsPulling (record { cutting = p.cutter; waiting = p.hand; unread = p.piece; given = p.given; earlier = p.earlier; start = p.start; taken = p.taken; reads = p.reads; reading = p.reading }) };
+    ghost invariant = { λ p. IsPulling (record { cutting = p.cutter; waiting = p.hand; unread = p.piece; given = p.given; earlier = p.earlier; start = p.start; taken = p.taken; reads = p.reads; reading = p.reading; watch = p.watch }) };
+}
+
+// Counts these packets.
+fn watch_all(watch: &mut Watch, packets: &PacketBuf)
+    requires { watch.old.watched + length packets.now < 2 ^ 63 }
+    ensures watched { watch.new.watched ≡ watch.old.watched + length packets.now }
+    ensures stands { (before : List (List ℕ)) → Watched before watch.old → Watched (before ++ packets.now) watch.new }
+{
+    'packets: for packet in packets.as_slice() {
+        watch.watch(packet);
+    }
 }
 
 impl Puller {
@@ -69,6 +89,7 @@ impl Puller {
             taken: 0,
             reads: turns,
             reading: Reading::Going,
+            watch: Watch::new(alloc)?,
         })
     }
 
@@ -185,9 +206,11 @@ impl Puller {
         if count == 0 {
             return Ok(None);
         }
-        let batch = Batch::of(self.alloc, self.given, &self.hand.front(count))?;
+        let front = self.hand.front(count);
+        let batch = Batch::of(self.alloc, self.given, &front)?;
         self.hand.pass(count);
         self.given += count as u64;
+        watch_all(&mut self.watch, &front);
         Ok(Some(batch))
     }
 
@@ -217,6 +240,8 @@ impl Puller {
         ensures none { IfOk result (λ answer. IfNone answer (IsDone self.new)) }
         // At None all packets of the stream were given.
         ensures all { IfOk result (λ answer. IfNone answer ((ahead taken : List ℕ) (given : List (List ℕ)) → Pulls ahead taken given self.new → (cut (ahead ++ taken)).packets ≡ given)) }
+        // .. and the watch was shown just these.
+        ensures watched { IfOk result (λ answer. IfNone answer ((ahead taken : List ℕ) (given : List (List ℕ)) → Pulls ahead taken given self.new → Watched (cut (ahead ++ taken)).packets self.new.watch)) }
         // Once reading has stopped it stays so. It ends where the source has nothing left, and fails where its count rose.
         ensures follows { Follows self.old.reading self.new.reading (S.left source.old) (S.left source.new) (S.faults source.old) (S.faults source.new) }
         ensures too_many { self.new.reading ≡ Reading.TooMany → 4294967296 ≤ self.new.start + self.new.taken }
@@ -248,11 +273,39 @@ impl Puller {
         }
     }
 
+    // Whether a read failed.
+    fn read_failed(&self) -> bool
+        ensures { result ≡ has_failed self.now.reading }
+    {
+        matches!(self.reading, Reading::Failed)
+    }
+
     /// The tally of the whole stream. A pull has answered None.
     pub fn tally(&self) -> Tally
         requires { IsDone self.now }
         ensures { (ahead taken : List ℕ) (given : List (List ℕ)) → Pulls ahead taken given self.now → IsTally (cut (ahead ++ taken)) result }
     {
         self.cutter.finish()
+    }
+
+    /// The counts of the whole stream's packets. A pull has answered None.
+    pub fn watch(&self) -> &Watch
+        requires { IsDone self.now }
+        ensures { (ahead taken : List ℕ) (given : List (List ℕ)) → Pulls ahead taken given self.now → Watched (cut (ahead ++ taken)).packets result.now }
+    {
+        &self.watch
+    }
+
+    /// What a report says of the whole stream before it tells any call. A pull has answered None.
+    pub fn head(&self, alloc: Global) -> Result<Head, NoMemory>
+        requires { IsDone self.now }
+        ensures { (ahead taken : List ℕ) (given : List (List ℕ)) → Pulls ahead taken given self.now
+            → IfOk result (λ head. told_head head ≡ head_of (ahead ++ taken) (has_failed self.now.reading)) }
+    {
+        Ok(Head {
+            tally: self.tally(),
+            rows: rows_of(alloc, self.watch())?,
+            read_fault: self.read_failed(),
+        })
     }
 }

@@ -71,26 +71,13 @@ unfolding differences
 differences-is f s i byte h = ap (λ b. bit_and (bit_xor (slice_index f.filter i) b) (slice_index f.mask i)) h
 
 module _ (f : SectionFilter) (s : List ℕ) (i x : ℕ) (is : x ≡ differences f s i) where
-  pub equals-yes : bit_and x (255 - slice_index f.mode i) ≡ 0 → equals_at f s i ≡ true
+  pub equals-is : nat_eq (bit_and x (255 - slice_index f.mode i)) 0 ≡ equals_at f s i
   unfolding equals_at
-  equals-yes h = let k : bit_and (differences f s i) (255 - slice_index f.mode i) ≡ 0 = ap (λ n. bit_and n (255 - slice_index f.mode i)) (sym is) ∙ h in rw k refl
+  equals-is = ap (λ n. nat_eq (bit_and n (255 - slice_index f.mode i)) 0) is
 
-  pub equals-no : bit_and x (255 - slice_index f.mode i) ≢ 0 → equals_at f s i ≡ false
-  unfolding equals_at
-  equals-no h =
-      let k : bit_and (differences f s i) (255 - slice_index f.mode i) ≢ 0 = λ e. h (ap (λ n. bit_and n (255 - slice_index f.mode i)) is ∙ e) in
-      grind (arith, nat_tests)
-
-  pub differs-yes : bit_and x (slice_index f.mode i) ≢ 0 → differs_at f s i ≡ true
+  pub differs-is : not (nat_eq (bit_and x (slice_index f.mode i)) 0) ≡ differs_at f s i
   unfolding differs_at
-  differs-yes h =
-      let k : bit_and (differences f s i) (slice_index f.mode i) ≢ 0 = λ e. h (ap (λ n. bit_and n (slice_index f.mode i)) is ∙ e) in
-      let t : nat_eq (bit_and (differences f s i) (slice_index f.mode i)) 0 ≡ false = grind (arith, nat_tests) in
-      rw t refl
-
-  pub differs-no : bit_and x (slice_index f.mode i) ≡ 0 → differs_at f s i ≡ false
-  unfolding differs_at
-  differs-no h = let k : bit_and (differences f s i) (slice_index f.mode i) ≡ 0 = ap (λ n. bit_and n (slice_index f.mode i)) (sym is) ∙ h in rw k refl
+  differs-is = ap (λ n. not (nat_eq (bit_and n (slice_index f.mode i)) 0)) is
 
 -- ---- what a compiled filter keeps
 
@@ -138,11 +125,11 @@ pub not-reached : (f : SectionFilter) (s : List ℕ) (needed : ℕ) (negates : B
 unfolding matches
 not-reached f s needed negates h l = let e : nat_le needed (length s) ≡ false = grind (arith, nat_tests) in rw (h.reach s, e) refl
 
-pub not-equal : (f : SectionFilter) (s : List ℕ) → list_all (equals_at f s) (below 16) ≡ false → matches f s ≡ false
+pub matches-is : (f : SectionFilter) (s : List ℕ) (needed : ℕ) (negates equals differs : Bool) → IsCompiled f needed negates → needed ≤ length s
+    → equals ≡ list_all (equals_at f s) (below 16) → differs ≡ list_any (differs_at f s) (below 16) → matches f s ≡ (equals && (not negates || differs))
 unfolding matches
-not-equal f s h = rw (h, and-false (list_all (reaches_at f s) (below 16))) refl
+matches-is f s needed negates equals differs h l e d =
+    let k : nat_le needed (length s) ≡ true = grind (arith, nat_tests) in rw (h.reach s, k, h.negated, e, d) refl
 
-pub matches-where : (f : SectionFilter) (s : List ℕ) (needed : ℕ) (negates differs : Bool) → IsCompiled f needed negates → needed ≤ length s
-    → list_all (equals_at f s) (below 16) ≡ true → list_any (differs_at f s) (below 16) ≡ differs → matches f s ≡ (not negates || differs)
-unfolding matches
-matches-where f s needed negates differs h l e d = let k : nat_le needed (length s) ≡ true = grind (arith, nat_tests) in rw (h.reach s, k, e, h.negated, d) refl
+pub place-more : (i : ℕ) → place_of (suc i) ≡ suc i + 2
+place-more i = let e : nat_eq (suc i) 0 ≡ false = grind (arith, nat_tests) in rw e refl

@@ -1,9 +1,10 @@
 // A filter made ready, and the comparison.
-ghost use Rattle.std.specs.Prelude.{◌≡◌, ◌<◌, ◌↔◌, ℕ, IsTrue, slice_index};
-ghost use Rattle.filter_match.specs.Match.{matches, place_of as place};
+ghost use Rattle.std.specs.Prelude.{◌≡◌, ◌↔◌, IsTrue};
+ghost use Rattle.filter_match.specs.Match.{matches};
 ghost use Rattle.filter_match.specs.Meaning.{IsMatch};
 
 use crate::SectionFilter;
+use crate::compared::{compare, place_of};
 use std::marker::Model;
 
 /// A section filter made ready to be held against sections. A contract sees the filter.
@@ -59,36 +60,9 @@ impl Compiled {
         if section.len() < self.needed {
             return false;
         }
-        let SectionFilter { filter, mask, mode } = self.filter;
-        let mut differs = false;
-        'bytes: for i in 0..16usize {
-            // A byte that the section doesn't have isn't masked here.
-            let byte = byte_at(section, place_of(i));
-            let differences = (filter[i] ^ byte) & mask[i];
-            if differences & !mode[i] != 0 {
-                return false;
-            }
-            if differences & mode[i] != 0 {
-                differs = true;
-            }
-        }
-        differs || !self.negates
+        let compared = compare(&self.filter, section);
+        compared.equals && (compared.differs || !self.negates)
     }
-}
-
-// The section byte against which filter byte i stands.
-fn place_of(i: usize) -> usize
-    requires { i < 16 }
-    ensures { result ≡ place i }
-{
-    if i == 0 { 0 } else { i + 2 }
-}
-
-// The section's byte in a place, or 0 where it has none.
-fn byte_at(section: &[u8], place: usize) -> u8
-    ensures { result ≡ slice_index section.now place }
-{
-    section.get(place).copied().unwrap_or(0)
 }
 
 /// The law of a match, for any filter and any bytes: `matches` says of them what the Linux media API says of the bits.

@@ -15,9 +15,11 @@
 //!
 //! What is only tested: that this is what a user of the API expects, by filters worked out by hand.
 //!
-//! Limits: no memory is taken. A section is held against a filter in sixteen steps, whatever its length.
+//! Limits: no memory is taken. A section of at least 18 bytes is held against a filter in one step, sixteen bytes at a
+//! time; a shorter one in sixteen steps.
 #![tactic(auto)]
 
+mod compared;
 mod compiled;
 mod filter;
 #[cfg(test)]

@@ -1,5 +1,6 @@
 //! Filters and sections worked out by hand.
 
+use crate::compared::{compare_bytes, compare_lanes};
 use crate::{Compiled, SectionFilter};
 
 // A place of a filter with its filter, mask and mode byte.
@@ -161,5 +162,21 @@ fn filters_match_as_worked_out_by_hand(rt: HostRuntime) {
             is_match,
             "{places:?} {section:?}"
         );
+    }
+}
+
+// All bytes at once against one after the other, over filters that ask for one byte.
+#[test]
+fn lanes_compare_as_bytes_do(rt: HostRuntime) {
+    for place in 0..16usize {
+        for byte in 0..20u8 {
+            for mode in [0x00u8, 0x0f, 0xff] {
+                let filter = filter_of(&[(place, byte, 0xff, mode)]);
+                let lanes = compare_lanes(&filter, &COUNTED);
+                let bytes = compare_bytes(&filter, &COUNTED);
+                assert_eq!(rt; lanes.equals, bytes.equals, "{filter:?}");
+                assert_eq!(rt; lanes.differs, bytes.differs, "{filter:?}");
+            }
+        }
     }
 }

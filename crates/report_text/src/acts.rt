@@ -2,9 +2,10 @@
 ghost use Rattle.std.specs.Prelude.{◌≡◌, ◌++◌, OnOk, codes};
 ghost use Rattle.std.specs.Fmt.{decimal};
 ghost use Rattle.dmx_calls.specs.Calls.{told_act};
+ghost use Rattle.text_forms.specs.Words.{input_text, output_text};
 ghost use Rattle.report_text.specs.Acts.{act_text, next_pid_text, pass_text, pes_text, pids_text, section_text};
 
-use dmx_calls::{Act, Input, PesParams, SectionParams};
+use dmx_calls::{Act, Input, Output, PesParams, SectionParams};
 use pid_set::Pids;
 use std::alloc::AllocError as NoMemory;
 use text_forms::{write_decimal, write_filter, write_input, write_output};
@@ -17,9 +18,25 @@ pub fn add_field(out: &mut Vec<u8>, name: &[u8], n: u64) -> Result<(), NoMemory>
     write_decimal(out, n)
 }
 
+// A name and the word of an input.
+fn add_input(out: &mut Vec<u8>, name: &[u8], input: Input) -> Result<(), NoMemory>
+    ensures { OnOk result (out.new.items ≡ out.old.items ++ (name.now ++ input_text input)) }
+{
+    out.extend_from_slice(name)?;
+    write_input(out, input)
+}
+
+// A name and the word of an output.
+fn add_output(out: &mut Vec<u8>, name: &[u8], output: Output) -> Result<(), NoMemory>
+    ensures { OnOk result (out.new.items ≡ out.old.items ++ (name.now ++ output_text output)) }
+{
+    out.extend_from_slice(name)?;
+    write_output(out, output)
+}
+
 // The PIDs of a set with commas between them, or `-` where there are none.
 #[tactic(auto, unfolding(crate::specs::Acts::pids_text))]
-pub fn add_pids(out: &mut Vec<u8>, pids: &Pids) -> Result<(), NoMemory>
+fn add_set(out: &mut Vec<u8>, pids: &Pids) -> Result<(), NoMemory>
     ensures { OnOk result (out.new.items ≡ out.old.items ++ pids_text pids.now) }
 {
     let Some(first) = pids.get(0) else {
@@ -32,6 +49,14 @@ pub fn add_pids(out: &mut Vec<u8>, pids: &Pids) -> Result<(), NoMemory>
         }
     }
     Ok(())
+}
+
+// A name and the PIDs of a set.
+pub fn add_pids(out: &mut Vec<u8>, name: &[u8], pids: &Pids) -> Result<(), NoMemory>
+    ensures { OnOk result (out.new.items ≡ out.old.items ++ (name.now ++ pids_text pids.now)) }
+{
+    out.extend_from_slice(name)?;
+    add_set(out, pids)
 }
 
 // A section filter that is set at this moment.
@@ -50,10 +75,8 @@ fn add_pes(out: &mut Vec<u8>, params: &PesParams, now: u64) -> Result<(), NoMemo
     ensures { OnOk result (out.new.items ≡ out.old.items ++ pes_text params.now now) }
 {
     add_field(out, b"pes pid=", params.pid as u64)?;
-    out.extend_from_slice(b" input=")?;
-    write_input(out, params.input)?;
-    out.extend_from_slice(b" output=")?;
-    write_output(out, params.output)?;
+    add_input(out, b" input=", params.input)?;
+    add_output(out, b" output=", params.output)?;
     add_field(out, b" type=", params.pes_type as u64)?;
     add_field(out, b" flags=", params.flags as u64)?;
     add_field(out, b" at=", now)
@@ -69,8 +92,7 @@ pub fn add_pass(
 ) -> Result<(), NoMemory>
     ensures { OnOk result (out.new.items ≡ out.old.items ++ pass_text input first count now) }
 {
-    out.extend_from_slice(b"pass input=")?;
-    write_input(out, input)?;
+    add_input(out, b"pass input=", input)?;
     add_field(out, b" first=", first)?;
     add_field(out, b" count=", count as u64)?;
     add_field(out, b" at=", now)
@@ -89,8 +111,7 @@ fn add_attach(out: &mut Vec<u8>, node: u32, pids: &Pids) -> Result<(), NoMemory>
     ensures { OnOk result (out.new.items ≡ out.old.items ++ (codes "attach node=" ++ (decimal node ++ (codes " pids=" ++ pids_text pids.now)))) }
 {
     add_field(out, b"attach node=", node as u64)?;
-    out.extend_from_slice(b" pids=")?;
-    add_pids(out, pids)
+    add_pids(out, b" pids=", pids)
 }
 
 // A call.

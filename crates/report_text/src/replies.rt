@@ -40,6 +40,22 @@ fn flag_name(flag: bool) -> &'static str
     if flag { "1" } else { "0" }
 }
 
+// A name and a word.
+pub fn add_word(out: &mut Vec<u8>, name: &[u8], word: &str) -> Result<(), NoMemory>
+    ensures { OnOk result (out.new.items ≡ out.old.items ++ (name.now ++ word.now)) }
+{
+    out.extend_from_slice(name)?;
+    out.extend_from_slice(word.as_bytes())
+}
+
+// A name and a caller.
+fn add_who(out: &mut Vec<u8>, name: &[u8], who: u32) -> Result<(), NoMemory>
+    ensures { OnOk result (out.new.items ≡ out.old.items ++ (name.now ++ who_text who)) }
+{
+    out.extend_from_slice(name)?;
+    write_who(out, who)
+}
+
 // The bytes of a read in hexadecimal digits, or `-` where there are none.
 #[tactic(auto, unfolding(crate::specs::Replies::data_text))]
 fn add_data(out: &mut Vec<u8>, bytes: &[u8]) -> Result<(), NoMemory>
@@ -58,10 +74,7 @@ fn add_tap(out: &mut Vec<u8>, tap: &Tap) -> Result<(), NoMemory>
 {
     match tap {
         Tap::Keep => out.extend_from_slice(b"keep"),
-        Tap::Attach(pids) => {
-            out.extend_from_slice(b"attach:")?;
-            add_pids(out, pids)
-        }
+        Tap::Attach(pids) => add_pids(out, b"attach:", pids),
         Tap::Detach => out.extend_from_slice(b"detach"),
     }
 }
@@ -73,20 +86,6 @@ fn add_done(out: &mut Vec<u8>, dropped: &Span, tap: &Tap) -> Result<(), NoMemory
     add_field(out, b"..", dropped.to)?;
     out.extend_from_slice(b" tap=")?;
     add_tap(out, tap)
-}
-
-fn add_busy(out: &mut Vec<u8>, owner: u32) -> Result<(), NoMemory>
-    ensures { OnOk result (out.new.items ≡ out.old.items ++ (codes "busy owner=" ++ who_text owner)) }
-{
-    out.extend_from_slice(b"busy owner=")?;
-    write_who(out, owner)
-}
-
-fn add_again(out: &mut Vec<u8>, ended: bool) -> Result<(), NoMemory>
-    ensures { OnOk result (out.new.items ≡ out.old.items ++ (codes "again ended=" ++ flag_text ended)) }
-{
-    out.extend_from_slice(b"again ended=")?;
-    out.extend_from_slice(flag_name(ended).as_bytes())
 }
 
 // The bytes that were lost, and the first item that didn't fit.
@@ -130,13 +129,10 @@ fn add_ready(
     ensures { OnOk result (out.new.items ≡ out.old.items ++ (codes "ready readable=" ++ (flag_text readable ++ (codes " error=" ++ (pending_text error
         ++ (codes " at=" ++ (decimal at ++ (codes " ended=" ++ flag_text ended)))))))) }
 {
-    out.extend_from_slice(b"ready readable=")?;
-    out.extend_from_slice(flag_name(readable).as_bytes())?;
-    out.extend_from_slice(b" error=")?;
-    out.extend_from_slice(pending_name(error).as_bytes())?;
+    add_word(out, b"ready readable=", flag_name(readable))?;
+    add_word(out, b" error=", pending_name(error))?;
     add_field(out, b" at=", at)?;
-    out.extend_from_slice(b" ended=")?;
-    out.extend_from_slice(flag_name(ended).as_bytes())
+    add_word(out, b" ended=", flag_name(ended))
 }
 
 // A reply.
@@ -146,11 +142,11 @@ pub fn add_reply(out: &mut Vec<u8>, reply: &Reply) -> Result<(), NoMemory>
 {
     match reply {
         Reply::Done { dropped, tap } => add_done(out, dropped, tap),
-        Reply::Busy { owner } => add_busy(out, *owner),
+        Reply::Busy { owner } => add_who(out, b"busy owner=", *owner),
         Reply::Refused(errno) => out.extend_from_slice(errno_name(*errno).as_bytes()),
         Reply::NoMemory => out.extend_from_slice(b"ENOMEM"),
         Reply::Data(buf) => add_data(out, buf.bytes()),
-        Reply::Again { ended } => add_again(out, *ended),
+        Reply::Again { ended } => add_word(out, b"again ended=", flag_name(*ended)),
         Reply::Overflow {
             from,
             to,

@@ -2,8 +2,8 @@
 use Rattle.std.proofs.Common.{◌≡◌, ℕ, Bool, true, false, List, [], ◌∷◌, ◌++◌, Option, Some, None, refl, sym, ap, ◌∙◌, append_assoc, ◌&&◌}
 use Rattle.std.proofs.lemmas.List.{append-nil}
 use Rattle.ts_packet.specs.Fields.{unit_start}
-use Rattle.ts_packet.specs.Clean.{carried}
-use Rattle.section_parse.specs.Segments.{joins, in_front, pointed, is_pointed, rest_of_segment, segments}
+use Rattle.ts_packet.specs.Clean.{carried, joins}
+use Rattle.section_parse.specs.Segments.{in_front, pointed, is_pointed, rest_of_segment, segments}
 use Rattle.section_parse.specs.Sections.{sections_of_run}
 use Rattle.section_parse.specs.Keeping.{sections_of_open, longer, opened, sections_of_runs, sections_behind}
 

@@ -1,29 +1,15 @@
 -- What a packet does to what is kept, and what giving a section does.
 use Rattle.std.specs.Prelude.{if◌then◌else◌}
-use Rattle.std.proofs.Common.{◌≡◌, ℕ, Bool, true, false, List, [], ◌∷◌, ◌++◌, Option, Some, None, refl, sym, arith, append_assoc, eqb, ◌||◌, not}
+use Rattle.std.proofs.Common.{◌≡◌, ℕ, Bool, true, false, List, [], ◌∷◌, ◌++◌, Option, Some, None, refl, sym, append_assoc, ◌||◌, not}
 use Rattle.std.proofs.lemmas.List.{append-nil}
 use Rattle.std.specs.List.{filter}
-use Rattle.std.specs.Cmp.Lexicographic.{pointwise, bytes_decides}
-use Rattle.std.specs.Cmp.{second_so}
-use Rattle.ts_packet.specs.Fields.{unit_start, counter_of}
-use Rattle.ts_packet.specs.Clean.{carried, is_usable, repeats, without_repeats_after}
-use Rattle.section_parse.specs.Segments.{joins, runs, pointed, rest_of_segment}
+use Rattle.ts_packet.specs.Fields.{unit_start}
+use Rattle.ts_packet.specs.Clean.{carried, is_usable, repeats, without_repeats_after, joins}
+use Rattle.ts_packet.proofs.CleanLemmas.{without-repeat}
+use Rattle.section_parse.specs.Segments.{runs, pointed, rest_of_segment}
 use Rattle.section_parse.specs.Keeping.{Assembly, sections_of_open, left_of_open, longer, opened, repeats_last, joins_last, taken, after_packet, sections_of_runs, sections_behind, sections_to_come}
 use Rattle.section_parse.proofs.Reading.{open-append, open-left}
 use Rattle.section_parse.proofs.Machine.{sections-front, sections-break, sections-unit, sections-more}
-
--- the parts of a repeat
-pub repeats-counter : (p q : List ℕ) → repeats p q ≡ true → counter_of p ≡ counter_of q
-repeats-counter p q h = grind (arith)
-
-pub repeats-carried : (p q : List ℕ) → repeats p q ≡ true → carried p ≡ carried q
-repeats-carried p q h = (bytes_decides (carried p) (carried q)).0 (second_so (eqb (counter_of p) (counter_of q)) (pointwise eqb (carried p) (carried q)) h)
-
--- after a repeat the packet before stays the same
-pub without-repeat : (before p : List ℕ) (ps : List (List ℕ)) → repeats before p ≡ true → without_repeats_after (Some p) ps ≡ without_repeats_after (Some before) ps
-unfolding without_repeats_after
-without-repeat before p [] h = refl
-without-repeat before p (q ∷ qs) h = rw (repeats-counter before p h, repeats-carried before p h) refl
 
 -- the sections of the open segment are read before all else
 pub behind-left : (before : List ℕ) (o : Option (List ℕ)) (rs : List (List (List ℕ))) → sections_behind before o rs ≡ sections_of_open o ++ sections_behind before (left_of_open o) rs

@@ -5,14 +5,14 @@ use Rattle.std.proofs.lemmas.List.{append-nil}
 use Rattle.std.proofs.lemmas.Grind.{flat_map-append}
 use Rattle.std.proofs.lemmas.List.Elements.{All-append, All-nil, filter-append}
 use Rattle.std.specs.List.{All, filter, flat_map, fold, last_or}
-use Rattle.ts_packet.specs.Fields.{IsPacket, counter_of, has_adaptation}
-use Rattle.ts_packet.specs.Clean.{carried, is_usable, repeats, without_repeats_after, clean}
-use Rattle.section_parse.specs.Segments.{joins, in_front, runs, segments}
+use Rattle.ts_packet.specs.Fields.{IsPacket, has_adaptation}
+use Rattle.ts_packet.specs.Clean.{carried, is_usable, without_repeats_after, clean, joins}
+use Rattle.ts_packet.proofs.CleanLemmas.{clean-append, last-clean, clean-apart}
+use Rattle.section_parse.specs.Segments.{in_front, runs, segments}
 use Rattle.section_parse.specs.Sections.{section_length, has_section, read_sections, sections_of_run, sections, IsSection}
 use Rattle.section_parse.specs.Keeping.{sections_to_come, cleared}
 use Rattle.section_parse.specs.Laws.{SectionsLieEndToEnd, SectionsStay, IsApart, SectionsRecover, SectionsAreWhole, SectionsFitThePackets}
 use Rattle.section_parse.proofs.Reading.{read-first, read-none, each-is}
-use Rattle.section_parse.proofs.Steps.{repeats-counter, repeats-carried}
 use Rattle.section_parse.proofs.Assembled.{AreFew, next_kept, keeps-all}
 
 -- reading from the front
@@ -93,51 +93,6 @@ unfolding runs
 runs-apart [] q qs h = refl
 runs-apart (p ∷ []) q qs h = front-apart p q (runs qs) (h p refl)
 runs-apart (p ∷ r ∷ ps) q qs h = rw (runs-apart (r ∷ ps) q qs h) (front-append p r (runs ps) (runs (q ∷ qs)))
-
--- recovery: the clean packets
-clean-by : (before p : List ℕ) (b : Bool) → repeats before p ≡ b → (ps cs more : List (List ℕ)) → without_repeats_after (Some p) ps ≡ cs ++ more
-    → without_repeats_after (Some before) (p ∷ ps) ≡ (if repeats before p then cs else p ∷ cs) ++ more
-unfolding without_repeats_after
-clean-by before p true e ps cs more h = rw e h
-clean-by before p false e ps cs more h = rw e (ap (λ (l : List (List ℕ)). p ∷ l) h)
-
-clean-append : (o : Option (List ℕ)) (ps qs : List (List ℕ)) → without_repeats_after o (ps ++ qs) ≡ without_repeats_after o ps ++ without_repeats_after (last_or o ps) qs
-unfolding without_repeats_after
-clean-append o [] qs = refl
-clean-append None (p ∷ ps) qs = ap (λ (l : List (List ℕ)). p ∷ l) (clean-append (Some p) ps qs)
-clean-append (Some before) (p ∷ ps) qs = clean-by before p (repeats before p) refl (ps ++ qs) (without_repeats_after (Some p) ps) (without_repeats_after (last_or (Some p) ps) qs) (clean-append (Some p) ps qs)
-
--- packets that the same packets repeat
-abbrev AreAlike : Option (List ℕ) → Option (List ℕ) → Type 0
-AreAlike None None = Unit {0}
-AreAlike None (Some q) = ⊥
-AreAlike (Some p) None = ⊥
-AreAlike (Some p) (Some q) = (counter_of p ≡ counter_of q) × (carried p ≡ carried q)
-
-alike-repeat : (o : Option (List ℕ)) (before p : List ℕ) → AreAlike o (Some before) → repeats before p ≡ true → AreAlike o (Some p)
-alike-repeat None before p h r = absurd h
-alike-repeat (Some c) before p h r = (h.0 ∙ repeats-counter before p r, h.1 ∙ repeats-carried before p r)
-
-last-by : (o : Option (List ℕ)) (before p : List ℕ) (ps : List (List ℕ)) (b : Bool) → repeats before p ≡ b → AreAlike o (Some before)
-    → ((o' : Option (List ℕ)) → AreAlike o' (Some p) → AreAlike (last_or o' (without_repeats_after (Some p) ps)) (last_or (Some p) ps))
-    → AreAlike (last_or o (without_repeats_after (Some before) (p ∷ ps))) (last_or (Some p) ps)
-unfolding without_repeats_after
-last-by o before p ps true e h next = rw e (next o (alike-repeat o before p h e))
-last-by o before p ps false e h next = rw e (next (Some p) (refl, refl))
-
-last-clean : (ps : List (List ℕ)) (o u : Option (List ℕ)) → AreAlike o u → AreAlike (last_or o (without_repeats_after u ps)) (last_or u ps)
-unfolding without_repeats_after
-last-clean [] o u h = h
-last-clean (p ∷ ps) o None h = last-clean ps (Some p) (Some p) (refl, refl)
-last-clean (p ∷ ps) o (Some before) h = last-by o before p ps (repeats before p) refl h (λ o' k. last-clean ps o' (Some p) k)
-
-clean-apart : (c u : Option (List ℕ)) (q : List ℕ) (qs : List (List ℕ)) → AreAlike c u → ((before : List ℕ) → c ≡ Some before → repeats before q ≡ false) → without_repeats_after u (q ∷ qs) ≡ without_repeats_after None (q ∷ qs)
-unfolding without_repeats_after
-clean-apart c None q qs h apart = refl
-clean-apart None (Some b) q qs h apart = absurd h
-clean-apart (Some c) (Some b) q qs h apart =
-    let r : repeats b q ≡ false = rw (← h.0, ← h.1) (apart c refl) in
-    rw r refl
 
 sections-of : (ps qs : List (List ℕ)) → runs (ps ++ qs) ≡ runs ps ++ runs qs → flat_map sections_of_run (runs (ps ++ qs)) ≡ flat_map sections_of_run (runs ps) ++ flat_map sections_of_run (runs qs)
 sections-of ps qs e = rw e (flat_map-append sections_of_run (runs ps) (runs qs))

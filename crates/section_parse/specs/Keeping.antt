@@ -4,8 +4,8 @@ use Rattle.std.specs.Prelude.{◌≡◌, ℕ, ◌+◌, MatchOption, Bool, ◌==�
 use Rattle.std.specs.List.{flat_map, fold, sum_by}
 use Rattle.std.proofs.Common.{zero, suc}
 use Rattle.ts_packet.specs.Fields.{unit_start}
-use Rattle.ts_packet.specs.Clean.{carried, is_usable, repeats, without_repeats_after}
-use Rattle.section_parse.specs.Segments.{joins, runs, begun, is_pointed, pointed, rest_of_segment}
+use Rattle.ts_packet.specs.Clean.{carried, is_usable, repeats, without_repeats_after, joins}
+use Rattle.section_parse.specs.Segments.{runs, begun, is_pointed, pointed, rest_of_segment}
 use Rattle.section_parse.specs.Sections.{section_length, has_section, read_sections, sections_of_run, sections}
 
 -- The PID; the last clean packet; the sections that are whole and not given yet; the bytes behind them in the open segment, if one is open.

@@ -2,8 +2,7 @@
 use Rattle.std.specs.Prelude.{◌≡◌, ◌≤◌, ℕ, ◌+◌, ◌*◌, List, [], ◌∷◌, ◌++◌, length, take, drop, slice_get, false, Some, None, if◌then◌else◌}
 use Rattle.std.specs.List.{All, last_or, sum_by}
 use Rattle.ts_packet.specs.Fields.{IsPacket}
-use Rattle.ts_packet.specs.Clean.{clean, repeats}
-use Rattle.section_parse.specs.Segments.{joins}
+use Rattle.ts_packet.specs.Clean.{clean, repeats, joins}
 use Rattle.section_parse.specs.Sections.{section_length, has_section, read_sections, sections, IsSection}
 
 -- Reading a segment: where a whole section stands at the front, it is the first, and reading goes on behind it; else nothing is read.

@@ -1,12 +1,8 @@
 -- Runs of clean packets, and the segments in them: the stretches of payload in which sections lie end to end.
 -- A packet is the list of its 188 bytes.
-use Rattle.std.specs.Prelude.{ℕ, ◌+◌, ◌%◌, ◌==◌, Bool, ◌&&◌, not, List, [], ◌∷◌, ◌++◌, length, take, drop, slice_index, nat_le, if◌then◌else◌}
-use Rattle.ts_packet.specs.Fields.{counter_of, discontinuity, unit_start}
-use Rattle.ts_packet.specs.Clean.{carried}
-
--- p goes on where the clean packet before it ends: its continuity_counter is one more, modulo 16, and its discontinuity_indicator is 0 (2.4.3.3, 2.4.3.5)
-abbrev pub joins : List ℕ → List ℕ → Bool
-joins before p = (counter_of p == (counter_of before + 1) % 16) && not (discontinuity p)
+use Rattle.std.specs.Prelude.{ℕ, ◌+◌, Bool, ◌&&◌, List, [], ◌∷◌, ◌++◌, length, take, drop, slice_index, nat_le, if◌then◌else◌}
+use Rattle.ts_packet.specs.Fields.{unit_start}
+use Rattle.ts_packet.specs.Clean.{carried, joins}
 
 -- p before these runs: in front of the first of them where that one's first packet joins p, else as a run of its own
 abbrev pub in_front : List ℕ → List (List (List ℕ)) → List (List (List ℕ))

@@ -69,9 +69,7 @@ fn repeats_last(last: &Option<Packet>, packet: &Packet) -> bool
     ensures { result ≡ repeated last.now packet.now }
 {
     match last {
-        Some(before) => {
-            before.counter() == packet.counter() && before.payload() == packet.payload()
-        }
+        Some(before) => packet.repeats(before),
         None => false,
     }
 }
@@ -81,7 +79,7 @@ fn joins_last(last: &Option<Packet>, packet: &Packet) -> bool
     ensures { result ≡ joined last.now packet.now }
 {
     match last {
-        Some(before) => packet.counter() == (before.counter() + 1) % 16 && !packet.discontinuity(),
+        Some(before) => packet.joins(before),
         None => false,
     }
 }

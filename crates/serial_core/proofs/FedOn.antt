@@ -7,9 +7,8 @@ use Rattle.dmx_calls.specs.Log.{Act, EndAct, act_of}
 use Rattle.dmx_calls.specs.Rules as rules
 use Rattle.node_core.specs.Stands.{CoreValue as DemuxCore}
 use Rattle.serial_core.specs.declared.seat.Seat.{Seat}
-use Rattle.serial_core.specs.declared.nodes.Fed.{Fed}
 use Rattle.serial_core.specs.Nodes.{Node, answered}
-use Rattle.serial_core.specs.Standing.{Pairs, IsDemux, IsUnder, AreUnder, acts_of, end_of, pass_of}
+use Rattle.serial_core.specs.Standing.{Pairs, IsDemux, IsUnder, AreUnder}
 use Rattle.serial_core.proofs.Pairs.{map_replicate, same_length, pair_at, same_set, same_weaker, equal_by}
 
 -- ------ lists of which a front has come to stand in another relation

@@ -5,14 +5,15 @@ use Rattle.std.proofs.lemmas.List.{map-append, length-replicate, get_or-replicat
 use Rattle.dmx_calls.specs.declared.limits.TheConstants.{DEMUX_NODES}
 use Rattle.dmx_calls.specs.Invocation.{Invocation}
 use Rattle.dmx_calls.specs.Log.{Act, EndAct, act_of}
+use Rattle.dmx_calls.specs.Histories.{pass_act}
 use Rattle.dmx_calls.specs.Rules as rules
 use Rattle.node_core.specs.Stands.{CoreValue as DemuxCore}
 use Rattle.serial_core.specs.declared.seat.Seat.{Seat}
-use Rattle.serial_core.specs.declared.nodes.Fed.{Fed}
+use Rattle.dmx_calls.specs.declared.histories.Fed.{Fed}
 use Rattle.serial_core.specs.declared.nodes.Nodes.{Nodes}
 use Rattle.serial_core.specs.Nodes.{Node, answered}
 use Rattle.serial_core.specs.SerialRun.{Run, begun, fed_to_all}
-use Rattle.serial_core.specs.Standing.{Pairs, IsDemux, IsDvr, IsNodes, IsUnder, AreUnder, AreCounted, acts_of, acts_on, end_of, pass_of}
+use Rattle.serial_core.specs.Standing.{Pairs, IsDemux, IsDvr, IsNodes, IsUnder, AreUnder, AreCounted, acts_of, acts_on}
 use Rattle.serial_core.proofs.Pairs.{pair_at, same_length, same_set, same_weaker}
 
 -- ------ before the first call
@@ -36,12 +37,12 @@ whole_back items lent now len fits is same =
     let count : length now ≡ len = same ∙ (ap length is ∙ sym fits) in
     take-append-le len now (drop (length now) items) (omega (arith, count)) ∙ take_all len now (omega (arith, count))
 
-pub acts_passed : (old new : List Fed) (f : Fed) (a : Act) → new ≡ old ++ f ∷ [] → pass_of f ≡ a → acts_of new false ≡ acts_of old false ++ a ∷ []
+pub acts_passed : (old new : List Fed) (f : Fed) (a : Act) → new ≡ old ++ f ∷ [] → pass_act f ≡ a → acts_of new false ≡ acts_of old false ++ a ∷ []
 acts_passed old new f a more is =
-    append-nil (map pass_of new) ∙ (ap (map pass_of) more ∙ (map-append pass_of old (f ∷ []) ∙ rw (is, append-nil (map pass_of old)) refl))
+    append-nil (map pass_act new) ∙ (ap (map pass_act) more ∙ (map-append pass_act old (f ∷ []) ∙ rw (is, append-nil (map pass_act old)) refl))
 
 pub acts_ended : (feeding : List Fed) → acts_of feeding true ≡ acts_of feeding false ++ EndAct ∷ []
-acts_ended feeding = ap (λ xs. xs ++ EndAct ∷ []) (sym (append-nil (map pass_of feeding)))
+acts_ended feeding = ap (λ xs. xs ++ EndAct ∷ []) (sym (append-nil (map pass_act feeding)))
 
 pub nodes_fed : (old new : Nodes) (r : Run) (c : Invocation) (e : Bool) → acts_on new ≡ acts_on old ++ act_of c ∷ []
     → ((acts : List Act) (ns : List Node) → Pairs (IsDemux acts) old.demux.items ns → Pairs (IsDemux (acts ++ act_of c ∷ [])) new.demux.items (map (answered rules.demux 0 (length acts) c) ns))

@@ -3,6 +3,9 @@ pub mod Pairs
 pub mod Seats
 pub mod FedOn
 pub mod Going
+pub mod Drawing
+pub mod Batches
+pub mod Turning
 pub mod Replies
 pub mod Sizes
 pub mod Answering
@@ -16,3 +19,6 @@ pub mod Sound
 pub mod Making
 pub mod Feeding
 pub mod Whole
+pub mod Commanding
+pub mod Lawful
+pub mod Passing

@@ -10,11 +10,13 @@ use Rattle.dmx_calls.specs.Rules.{Rules}
 use Rattle.dmx_calls.specs.Facts.{Facts, facts}
 use Rattle.dmx_calls.specs.Answer.{answer, answer_by, with_call}
 use Rattle.dmx_calls.specs.Log.{Act, LogEntry, act_of}
+use Rattle.dmx_calls.specs.Histories.{feeder_entry, woven, AreInPlace}
+use Rattle.dmx_calls.proofs.Weaving.{in_place-append, woven-call, woven-fed}
 use Rattle.dmx_calls.specs.declared.log.Entry.{Entry as CodeEntry}
 use Rattle.dmx_calls.specs.Calls.{told_entry}
 use Rattle.serial_core.specs.declared.seat.Seat.{Seat}
 use Rattle.serial_core.specs.Nodes.{Node, Told, Log, history_in, history_of, uncalled, answered, logged, log_in, log_of}
-use Rattle.serial_core.specs.Standing.{IsFeeding, IsWoven, none, fed, called, fed_entry, IsSeat}
+use Rattle.serial_core.specs.Standing.{IsFeeding, IsSeat}
 
 -- ------ the feeder's calls are answered Passed
 
@@ -52,6 +54,11 @@ log_length number [] = refl
 log_length number (told ∷ calls) =
     length-append (log_in number calls).entries _ ∙ (ap (λ n. n + 1) (log_length number calls) ∙ add-one (length (history_in calls)))
 
+log_in_place : (number : ℕ) (calls : List Told) → AreInPlace 0 (log_in number calls).entries
+log_in_place number [] = tt
+log_in_place number (told ∷ calls) =
+    in_place-append 0 (log_in number calls).entries _ (log_in_place number calls) (let e : length (log_in number calls).entries ≡ 0 + length (log_in number calls).entries = omega arith in e, tt)
+
 same_entry : (a b : LogEntry) → a.node ≡ b.node → a.place ≡ b.place → a.step ≡ b.step → a.who ≡ b.who → a.act ≡ b.act → a.response ≡ b.response → a ≡ b
 same_entry a b node place step who act response =
     let moved : a ≡ record { node = b.node; place = b.place; step = b.step; who = b.who; act = b.act; response = b.response } = rw (sym node, sym place, sym step, sym who, sym act, sym response) refl in
@@ -63,7 +70,7 @@ module _ {Core : Type 0} (stands : Core → History → Type 0) (rules : Rules) 
   seat_fresh seat number core node entries = record {
     core = core;
     number = node;
-    woven = subst (λ es. IsWoven number [] (map told_entry es) []) (sym entries) none;
+    log = ap (λ es. woven number [] (map told_entry es)) entries;
   }
 
   -- a call of the feeder
@@ -71,15 +78,17 @@ module _ {Core : Type 0} (stands : Core → History → Type 0) (rules : Rules) 
       → stands new.core (entry_of 0 c (answer rules (history_of n) 0 c) ∷ history_of n) → IsSeat stands acts old n
       → IsSeat stands (acts ++ act_of c ∷ []) new (answered rules 0 (length acts) c n)
   seat_fed acts old new n c feeding node entries core at =
-      let next = fed acts (map told_entry old.entries.items) (log_of n).entries (act_of c) at.woven in
-      let said : fed_entry n.number (length (log_of n).entries) (length acts) (act_of c)
-          ≡ record { node = (log_of n).node; place = length (log_of n).entries; step = length acts; who = 0; act = act_of c; response = answer rules (history_of n) 0 c } =
+      let all : List LogEntry = (log_of n).entries in
+      let next : woven n.number (acts ++ act_of c ∷ []) (map told_entry old.entries.items) ≡ all ++ feeder_entry n.number (length all) (length acts) (act_of c) ∷ [] =
+      woven-fed n.number acts (map told_entry old.entries.items) (act_of c) (subst (λ es. AreInPlace 0 es) (sym at.log) (log_in_place n.number n.calls))
+      ∙ ap (λ es. es ++ feeder_entry n.number (length es) (length acts) (act_of c) ∷ []) at.log in
+      let said : feeder_entry n.number (length all) (length acts) (act_of c)
+          ≡ record { node = (log_of n).node; place = length all; step = length acts; who = 0; act = act_of c; response = answer rules (history_of n) 0 c } =
       same_entry _ _ (sym (log_node n.number n.calls)) refl refl refl refl (sym (is_passed rules (history_of n) 0 c feeding)) in
       record {
         core = core;
         number = node ∙ at.number;
-        woven = subst (λ es. IsWoven n.number (acts ++ act_of c ∷ []) (map told_entry es.items) (log_of (answered rules 0 (length acts) c n)).entries) (sym entries)
-            (subst (λ e. IsWoven n.number (acts ++ act_of c ∷ []) (map told_entry old.entries.items) ((log_of n).entries ++ e ∷ [])) said next);
+        log = ap (λ es. woven n.number (acts ++ act_of c ∷ []) (map told_entry es.items)) entries ∙ (next ∙ ap (λ e. all ++ e ∷ []) said);
       }
 
   -- a call of a client
@@ -89,14 +98,15 @@ module _ {Core : Type 0} (stands : Core → History → Type 0) (rules : Rules) 
       → stands new.core (entry_of who c (answer rules (history_of n) who c) ∷ history_of n) → IsSeat stands acts old n
       → IsSeat stands acts new (answered rules who step c n)
   seat_called acts old new n who step c e node entries on place steps by act response core at =
-      let here : (told_entry e).place ≡ length (log_of n).entries = place ∙ sym (log_length n.number n.calls) in
-      let next = called acts (map told_entry old.entries.items) (log_of n).entries (told_entry e) here at.woven in
-      let said : told_entry e ≡ record { node = (log_of n).node; place = length (log_of n).entries; step = step; who = who; act = act_of c; response = answer rules (history_of n) who c } =
+      let all : List LogEntry = (log_of n).entries in
+      let here : (told_entry e).place ≡ length all = place ∙ sym (log_length n.number n.calls) in
+      let next : woven n.number acts (map told_entry old.entries.items ++ told_entry e ∷ []) ≡ all ++ told_entry e ∷ [] =
+      woven-call n.number acts (map told_entry old.entries.items) (told_entry e) (here ∙ ap length (sym at.log)) ∙ ap (λ es. es ++ told_entry e ∷ []) at.log in
+      let said : told_entry e ≡ record { node = (log_of n).node; place = length all; step = step; who = who; act = act_of c; response = answer rules (history_of n) who c } =
       same_entry _ _ (on ∙ (at.number ∙ sym (log_node n.number n.calls))) here steps by act response in
       let own : map told_entry new.entries.items ≡ map told_entry old.entries.items ++ told_entry e ∷ [] = ap (map told_entry) entries ∙ map-append told_entry old.entries.items (e ∷ []) in
       record {
         core = core;
         number = node ∙ at.number;
-        woven = subst (λ es. IsWoven n.number acts es (log_of (answered rules who step c n)).entries) (sym own)
-            (subst (λ x. IsWoven n.number acts (map told_entry old.entries.items ++ told_entry e ∷ []) ((log_of n).entries ++ x ∷ [])) said next);
+        log = ap (woven n.number acts) own ∙ (next ∙ ap (λ x. all ++ x ∷ []) said);
       }

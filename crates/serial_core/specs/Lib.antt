@@ -4,5 +4,6 @@ pub mod Legal
 pub mod Laws
 pub mod Examples
 pub mod Standing
+pub mod Moving
 pub mod Budget
 pub mod Whole

@@ -1,46 +1,28 @@
 -- What it means that the code has run so far.
 use Rattle.std.specs.Prelude.{ℕ, ◌≡◌, ◌≤◌, Bool, true, false, List, [], ◌∷◌, ◌++◌, length, map, replicate}
-use Rattle.dmx_calls.specs.declared.params.Input.TheVariants.{Frontend}
-use Rattle.dmx_calls.specs.declared.limits.TheConstants.{DEMUX_NODES, LARGEST_READ}
+use Rattle.dmx_calls.specs.declared.limits.TheConstants.{DEMUX_NODES}
 use Rattle.dmx_calls.specs.Invocation.{Invocation, Pass, End}
-use Rattle.dmx_calls.specs.Response.{Passed}
 use Rattle.dmx_calls.specs.History.{History}
-use Rattle.dmx_calls.specs.Log.{Act, PassAct, EndAct, LogEntry}
+use Rattle.dmx_calls.specs.Log.{Act, EndAct, LogEntry}
+use Rattle.dmx_calls.specs.Histories.{pass_act, woven}
 use Rattle.dmx_calls.specs.Calls.{told_entry}
-use Rattle.client_core.specs.declared.event.Want.{Want}
-use Rattle.client_core.specs.declared.event.Want.TheVariants.{Read}
 use Rattle.node_core.specs.Stands.{CoreValue as DemuxCore, StandsFor as DemuxStands}
 use Rattle.dvr_core.specs.Stands.{CoreValue as DvrCore, StandsFor as DvrStands}
 use Rattle.serial_core.specs.declared.seat.Seat.{Seat}
-use Rattle.serial_core.specs.declared.nodes.Fed.{Fed}
+use Rattle.dmx_calls.specs.declared.histories.Fed.{Fed}
 use Rattle.serial_core.specs.declared.nodes.Nodes.{Nodes}
 use Rattle.serial_core.specs.Nodes.{Node, history_of, log_of}
 use Rattle.serial_core.specs.SerialRun.{Run}
 
 -- ------ the feeder's calls
 
--- a batch that passed, as a report tells it
-abbrev pub pass_of : Fed → Act
-pass_of fed = PassAct Frontend fed.first fed.count fed.now
-
 abbrev pub end_of : Bool → List Act
 end_of true = EndAct ∷ []
 end_of false = []
 
--- the feeder's calls on each node
+-- the feeder's calls on each node, of which End may not have come
 abbrev pub acts_of : List Fed → (has_ended : Bool) → List Act
-acts_of feeding has_ended = map pass_of feeding ++ end_of has_ended
-
-abbrev pub fed_entry : (node place step : ℕ) → Act → LogEntry
-fed_entry node place step act = record { node = node; place = place; step = step; who = 0; act = act; response = Passed }
-
--- A node's entries are those of the feeder's calls and those of its clients, each of these at its place.
-pub data IsWoven (node : ℕ) : List Act → List LogEntry → List LogEntry → Type 0 where
-  none : IsWoven node [] [] []
-  fed : (acts : List Act) (own all : List LogEntry) (act : Act) → IsWoven node acts own all
-      → IsWoven node (acts ++ act ∷ []) own (all ++ fed_entry node (length all) (length acts) act ∷ [])
-  called : (acts : List Act) (own all : List LogEntry) (e : LogEntry) → e.place ≡ length all → IsWoven node acts own all
-      → IsWoven node acts (own ++ e ∷ []) (all ++ e ∷ [])
+acts_of feeding has_ended = map pass_act feeding ++ end_of has_ended
 
 -- a call of the feeder
 abbrev pub IsFeeding : Invocation → Type 0
@@ -48,18 +30,13 @@ IsFeeding (Pass input first packets now) = Unit {0}
 IsFeeding End = Unit {0}
 IsFeeding _ = ⊥
 
--- no read is larger than a node allows
-abbrev pub IsWantInRange : Want → Type 0
-IsWantInRange (Read count) = count ≤ LARGEST_READ
-IsWantInRange _ = Unit {0}
-
 -- ------ one node
 
 -- A node of the code is where the run's is, which has these calls of the feeder: its core stands for the history, and its entries are those of the clients.
 pub record IsSeat {Core : Type 0} (stands : Core → History → Type 0) (acts : List Act) (seat : Seat Core) (n : Node) : Type 0 where
   pub core : stands seat.core (history_of n)
   pub number : seat.node ≡ n.number
-  pub woven : IsWoven n.number acts (map told_entry seat.entries.items) (log_of n).entries
+  pub log : woven n.number acts (map told_entry seat.entries.items) ≡ (log_of n).entries
 
 abbrev pub IsDemux : List Act → Seat DemuxCore → Node → Type 0
 IsDemux acts seat n = IsSeat DemuxStands acts seat n

@@ -1,5 +1,5 @@
 // Laws of the definitions.
-ghost use Rattle.serial_core.specs.Laws.{IsOne, TriedIsRun};
+ghost use Rattle.serial_core.specs.Laws.{HistoriesAreLegal, IsOne, PacketsPass, TriedIsRun};
 ghost use Rattle.serial_core.specs.Budget.{IsWithinBudget};
 ghost use Rattle.serial_core.specs.Whole.{SerialRunsAreRuns};
 
@@ -22,4 +22,16 @@ pub fn clients_are_within_budget()
 /// once and in order, and each client did just what its commands ask.
 pub fn the_serial_run_is_a_run()
     ensures { SerialRunsAreRuns }
+{}
+
+/// The serial run of a script has the demux nodes 0 to 31 and the dvr node, and each of their 33 histories is legal for its
+/// kind of node.
+pub fn serial_histories_are_legal()
+    ensures { HistoriesAreLegal }
+{}
+
+/// Every packet passes each of the 33 nodes of a serial run once, in the order of the stream: the packets that the passes of
+/// a node bring are the stream's.
+pub fn every_packet_passes_each_node_once()
+    ensures { PacketsPass }
 {}

@@ -9,17 +9,17 @@ ghost use Rattle.dmx_calls.specs.Invocation as asks;
 ghost use Rattle.dmx_calls.specs.Log.{Act as ToldAct, EndAct, PassAct};
 ghost use Rattle.dmx_calls.specs.Rules as rules;
 ghost use Rattle.client_script.specs.declared.line.Line.{Line as ScriptLine};
-ghost use Rattle.client_core.specs.Commands.{call_of as call_by};
+ghost use Rattle.client_core.specs.Commands.{IsWantInRange};
 ghost use Rattle.client_core.specs.Core.{IsAfter};
 ghost use Rattle.dmx_calls.specs.Response.{Response};
 ghost use Rattle.serial_core.specs.Nodes.{Node as RunNode, answered, history_of, uncalled};
 ghost use Rattle.serial_core.specs.SerialRun.{Run, begun, demux_node, ended, fed_to_all, made, reply_to};
-ghost use Rattle.serial_core.specs.Standing.{AreCounted, AreUnder, IsDemux, IsNodes, IsWantInRange, Pairs};
+ghost use Rattle.serial_core.specs.Standing.{AreCounted, AreUnder, IsDemux, IsNodes, Pairs};
 
 use crate::seat::Seat;
-use client_core::{ClientCore, Event, Want};
+use client_core::{ClientCore, Event, call_of};
 use dmx_calls::limits::DEMUX_NODES;
-use dmx_calls::{ByteBuf, Call};
+use dmx_calls::{Call, Fed};
 use dvr_core::DvrCore;
 use node_core::NodeCore;
 use std::alloc::{AllocError as NoMemory, Global};
@@ -27,14 +27,6 @@ use std::sync::Arc;
 use std::sync::ledger::Ledger;
 use steps::Steps;
 use ts_batch::Batch;
-
-// A batch that passed all nodes: the number of its first packet, how many it has, and the moment in milliseconds.
-#[derive(Clone, Copy, Drop)]
-pub struct Fed {
-    pub first: u64,
-    pub count: u32,
-    pub now: u64,
-}
 
 // The demux nodes 0 to 31 and the dvr node, the batches that passed them, whether End has passed, and how many calls were
 // made, where a call of the feeder on all nodes is one.
@@ -92,31 +84,6 @@ fn end_demux<L: Ledger>(seats: &mut [Seat<NodeCore>], steps: &mut Steps<L>) -> R
         seat.feed(Call::End, steps)?;
     }
     Ok(())
-}
-
-// The call that a client asks for at this moment.
-fn call_of(alloc: Global, want: Want, now: u64) -> Result<Call, NoMemory>
-    requires { IsWantInRange want }
-    ensures { IfOk result (λ call. invocation_of call ≡ call_by want now) }
-{
-    Ok(match want {
-        Want::Open => Call::Open,
-        Want::Close => Call::Close,
-        Want::Section(params) => Call::SetFilter { params, now },
-        Want::Pes(params) => Call::SetPes { params, now },
-        Want::Add(pid) => Call::AddPid(pid),
-        Want::Remove(pid) => Call::RemovePid(pid),
-        Want::Start => Call::Start { now },
-        Want::Stop => Call::Stop,
-        Want::Size(size) => Call::SetSize(size),
-        Want::Read(count) => Call::Read {
-            now,
-            buf: ByteBuf::new(alloc, count)?,
-        },
-        Want::Poll => Call::Poll { now },
-        Want::Attach { node, pids } => Call::Attach { node, pids },
-        Want::Detach { node } => Call::Detach { node },
-    })
 }
 
 impl Nodes {
@@ -261,7 +228,7 @@ impl Nodes {
         ensures same { OnOk result (self.new.has_ended ≡ self.old.has_ended) }
     {
         let Event { step, node, want } = event;
-        let call = call_of(self.alloc, want, now)?;
+        let call = call_of(self.alloc, &want, now)?;
         if node < DEMUX_NODES {
             self.call_demux(core, client + 1, node, step, call, steps)
         } else {

@@ -1,2 +1,9 @@
 pub mod Below
+pub mod Decimals
+pub mod FiltersRead
+pub mod HexPairs
+pub mod NamesRead
+pub mod PlacesRead
+pub mod Spaces
 pub mod Values
+pub mod WordsRead

@@ -1,6 +1,6 @@
 -- The words that name the bytes of a section filter (this project's own).
-use Rattle.std.specs.Prelude.{ℕ, ◌+◌, ◌-◌, ◌==◌, ◌&&◌, List, [], ◌∷◌, ◌++◌, length, take, drop, fold, replicate, slice_index, slice_set, nat_eq, Option, Some, None, if◌then◌else◌, codes}
-use Rattle.std.specs.List.{flat_map, list_all}
+use Rattle.std.specs.Prelude.{◌≡◌, ℕ, ◌<◌, ◌+◌, ◌-◌, ◌==◌, ◌&&◌, Bool, not, List, [], ◌∷◌, ◌++◌, length, take, drop, map, fold, replicate, slice_index, slice_set, nat_eq, Option, Some, None, if◌then◌else◌, codes}
+use Rattle.std.specs.List.{All, filter, flat_map, list_all}
 use Rattle.std.specs.Option.{option_map, option_and_then}
 use Rattle.std.specs.Fmt.{decimal}
 use Rattle.filter_match.specs.declared.filter.SectionFilter.{SectionFilter}
@@ -16,19 +16,32 @@ abbrev pub place_text : Place → List ℕ
 place_text p =
     decimal p.number ++ (codes "=" ++ (byte_text p.filter ++ (codes "/" ++ (byte_text p.mask ++ (codes "/" ++ byte_text p.mode)))))
 
+-- the three bytes of a place are bytes
+abbrev pub HasBytes : Place → Type 0
+HasBytes p = (p.filter < 256) × (p.mask < 256) × (p.mode < 256)
+
 -- place i of a filter
 abbrev pub place_at : SectionFilter → ℕ → Place
 place_at f i = record { number = i; filter = slice_index f.filter i; mask = slice_index f.mask i; mode = slice_index f.mode i }
 
--- place i of a filter behind a space; nothing where all three bytes are 0
-abbrev pub filter_place_text : SectionFilter → ℕ → List ℕ
-filter_place_text f i =
-    if list_all (nat_eq 0) (slice_index f.filter i ∷ slice_index f.mask i ∷ slice_index f.mode i ∷ []) then []
-    else codes " " ++ place_text (place_at f i)
+-- whether the three bytes of a place are all 0
+abbrev pub is_zero : Place → Bool
+is_zero p = list_all (nat_eq 0) (p.filter ∷ p.mask ∷ p.mode ∷ [])
 
--- the places of a filter that aren't 0, each behind a space, in ascending order
+-- place i of a filter behind a space; nothing where its three bytes are all 0
+abbrev pub filter_place_text : SectionFilter → ℕ → List ℕ
+filter_place_text f i = if is_zero (place_at f i) then [] else codes " " ++ place_text (place_at f i)
+
+-- the places of a filter whose three bytes aren't all 0, each behind a space, in ascending order
 abbrev pub filter_text : SectionFilter → List ℕ
 filter_text f = flat_map (filter_place_text f) (below 16)
+
+-- the same places one after another, and their words
+abbrev pub filter_places : SectionFilter → List Place
+filter_places f = filter (λ p. not (is_zero p)) (map (place_at f) (below 16))
+
+abbrev pub filter_words : SectionFilter → List (List ℕ)
+filter_words f = map place_text (filter_places f)
 
 -- ------ read
 
@@ -69,3 +82,11 @@ with_place f place = record {
 -- the filter with these places; in all others the three bytes are 0
 abbrev pub filter_with : List Place → SectionFilter
 filter_with places = fold with_place (record { filter = replicate 16 0; mask = replicate 16 0; mode = replicate 16 0 }) places
+
+-- sixteen bytes
+abbrev pub IsSixteenBytes : List ℕ → Type 0
+IsSixteenBytes bytes = (length bytes ≡ 16) × All (λ byte. byte < 256) bytes
+
+-- a filter has sixteen bytes of each kind
+abbrev pub IsFilter : SectionFilter → Type 0
+IsFilter f = IsSixteenBytes f.filter × IsSixteenBytes f.mask × IsSixteenBytes f.mode

@@ -1,8 +1,8 @@
 -- The clean packets of a PID: those that a section or PES parser reads. ISO/IEC 13818-1 lets a packet be sent twice
 -- (continuity_counter in 2.4.3.3); what counts as such a duplicate here is this project's rule.
-use Rattle.std.specs.Prelude.{ℕ, ◌==◌, Bool, ◌&&◌, not, List, [], ◌∷◌, drop, filter, nat_eq, Option, Some, None, if◌then◌else◌}
+use Rattle.std.specs.Prelude.{ℕ, ◌+◌, ◌%◌, ◌==◌, Bool, ◌&&◌, not, List, [], ◌∷◌, drop, filter, nat_eq, Option, Some, None, if◌then◌else◌}
 use Rattle.std.specs.Cmp.Lexicographic.{pointwise}
-use Rattle.ts_packet.specs.Fields.{pid_of, error_bit, has_payload, payload_start, counter_of}
+use Rattle.ts_packet.specs.Fields.{pid_of, error_bit, has_payload, payload_start, counter_of, discontinuity}
 
 -- the payload of a packet that has one
 abbrev pub carried : List ℕ → List ℕ
@@ -26,3 +26,7 @@ without_repeats_after (Some before) (p ∷ ps) = if repeats before p then withou
 -- the usable packets of the PID without their duplicates
 unfoldable pub clean : List (List ℕ) → ℕ → List (List ℕ)
 clean packets pid = without_repeats_after None (filter (is_usable pid) packets)
+
+-- p goes on where the clean packet before it ends: its continuity_counter is one more, modulo 16, and its discontinuity_indicator is 0 (2.4.3.3, 2.4.3.5)
+abbrev pub joins : List ℕ → List ℕ → Bool
+joins before p = (counter_of p == (counter_of before + 1) % 16) && not (discontinuity p)

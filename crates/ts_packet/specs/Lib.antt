@@ -1,4 +1,5 @@
 pub mod Clean
+pub mod Counts
 pub mod Cut
 pub mod Cutting
 pub mod Fields

@@ -1,7 +1,8 @@
 // A packet of 188 bytes, and its fields.
-ghost use Rattle.std.specs.Prelude.{◌≡◌, ◌<◌, ◌≤◌, length, slice_index, IsNone, IfSome, ◌↔◌, ◌≢◌};
+ghost use Rattle.std.specs.Prelude.{◌≡◌, true, ◌<◌, ◌≤◌, length, slice_index, IsNone, IfSome, ◌↔◌, ◌≢◌};
 ghost use Rattle.std.specs.Option.{option_copied};
-ghost use Rattle.ts_packet.specs.Fields.{IsPacket, error_bit, unit_start, pid_of, counter_of, discontinuity, payload_of, null_packet};
+ghost use Rattle.ts_packet.specs.Fields.{IsPacket, error_bit, unit_start, pid_of, counter_of, discontinuity, has_payload, payload_of, null_packet};
+ghost use Rattle.ts_packet.specs.Clean.{repeats, joins};
 
 use std::marker::Model;
 
@@ -62,7 +63,8 @@ impl Packet {
 
     /// The PID, 0 to 8191.
     pub fn pid(&self) -> u16
-        ensures { result ≡ pid_of self.now }
+        ensures value { result ≡ pid_of self.now }
+        ensures fits { result < 8192 }
     {
         u16::from(self.bytes[1] & 0x1f) * 256 + u16::from(self.bytes[2])
     }
@@ -112,6 +114,24 @@ impl Packet {
         } else {
             None
         }
+    }
+
+    /// Whether it repeats a packet before it: both have the same counter and the same payload, whatever their other bits.
+    /// Both have a payload.
+    pub fn repeats(&self, before: &Packet) -> bool
+        requires has { has_payload self.now ≡ true }
+        requires before { has_payload before.now ≡ true }
+        ensures { result ≡ repeats before.now self.now }
+    {
+        before.counter() == self.counter() && before.payload() == self.payload()
+    }
+
+    /// Whether it goes on where the packet before it ends: its counter is one more, modulo 16, and its
+    /// discontinuity_indicator is 0.
+    pub fn joins(&self, before: &Packet) -> bool
+        ensures { result ≡ joins before.now self.now }
+    {
+        self.counter() == (before.counter() + 1) % 16 && !self.discontinuity()
     }
 }
 

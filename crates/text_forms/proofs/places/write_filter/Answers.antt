@@ -1,4 +1,4 @@
-use Rattle.std.proofs.Common.{◌≡◌, ◌+◌, ◌++◌, ◌∙◌, ap, sym, append-nil, ℕ, [], ◌∷◌, arith, rules}
+use Rattle.std.proofs.Common.{◌++◌, ◌∙◌, ap, sym, append-nil, arith, rules}
 use Rattle.std.proofs.lemmas.List.{flat_map_more}
 use Rattle.filter_match.specs.Match.{below}
 use Rattle.text_forms.specs.Places.{filter_place_text}

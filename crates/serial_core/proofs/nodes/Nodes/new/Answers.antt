@@ -2,9 +2,9 @@ use Rattle.std.proofs.Common.{refl, sym, subst, ap, ◌∙◌, [], ◌++◌, len
 use Rattle.dmx_calls.specs.declared.limits.TheConstants.{DEMUX_NODES}
 use Rattle.dmx_calls.specs.Rules.{dvr}
 use Rattle.dvr_core.specs.Stands.{CoreValue, StandsFor}
-use Rattle.serial_core.specs.declared.nodes.Fed.{Fed}
+use Rattle.dmx_calls.specs.declared.histories.Fed.{Fed}
 use Rattle.serial_core.specs.Nodes.{uncalled}
-use Rattle.serial_core.specs.Standing.{IsDemux, IsDvr, Pairs, pass_of}
+use Rattle.serial_core.specs.Standing.{IsDemux, IsDvr, Pairs}
 use Rattle.serial_core.proofs.Seats.{seat_fresh}
 use Rattle.serial_core.proofs.Going.{nodes_begun}
 use Rattle.serial_core.proofs.nodes.Nodes.new.Goals as goal

@@ -1,0 +1,20 @@
+use Rattle.std.proofs.Common.{◌≡◌, ◌==◌, ℕ, Bool, true, false, not, length, take, slice_index, nat_eq, ◌∙◌, ap, sym, refl, arith, w8}
+use Rattle.std.specs.List.{list_all}
+use Rattle.std.proofs.lemmas.List.{take_all}
+use Rattle.std.proofs.lemmas.Simd.{bitmask_splat}
+use Rattle.filter_match.specs.Match.{below}
+use Rattle.filter_match.proofs.Lanes.{mask-none, all-places, all-same}
+use Rattle.filter_match.proofs.compared.all_zero.Goals as goal
+
+not-not : (b : Bool) → not (not b) ≡ b
+not-not true = refl
+not-not false = refl
+
+pub returns : goal.returns
+returns c =
+    let v = c.args.lanes in
+    ap (λ m. nat_eq m 0) (bitmask_splat w8 (λ x y. not (nat_eq x y)) v 16 0 c.fits-lanes.0 (omega arith))
+    ∙ mask-none (λ x. not (nat_eq x 0)) v
+    ∙ ap (list_all (λ x. not (not (nat_eq x 0)))) (sym (take_all 16 v (omega (arith, c.fits-lanes.0))))
+    ∙ all-places (λ x. not (not (nat_eq x 0))) v 16 (omega (arith, c.fits-lanes.0))
+    ∙ all-same _ _ 16 (λ i l. not-not (nat_eq (slice_index v i) 0))

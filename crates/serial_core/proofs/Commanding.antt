@@ -1,0 +1,101 @@
+-- How the calls of a command bring the run further.
+use Rattle.std.proofs.Common.{◌≡◌, ◌≢◌, refl, sym, ap, subst, ◌∙◌, ℕ, ◌+◌, ◌<◌, ◌≤◌, Bool, true, false, List, [], ◌∷◌, ◌++◌, Option, Some, None, length, nat_lt, if◌then◌else◌, get_or, arith}
+use Rattle.std.specs.Prelude.{is_some, slice_index_or}
+use Rattle.std.proofs.lemmas.List.{get_or-set_same, get_or-set_other, length-set}
+use Rattle.dmx_calls.specs.declared.limits.TheConstants.{DEMUX_NODES}
+use Rattle.dmx_calls.specs.Response.{Response}
+use Rattle.client_script.specs.declared.line.Line.{Line}
+use Rattle.client_core.specs.declared.event.Event.{Event}
+use Rattle.client_core.specs.Core.{Core, IsAfter}
+use Rattle.client_core.specs.Events.{next_of_line, waits_on}
+use Rattle.serial_core.specs.declared.nodes.Nodes.{Nodes}
+use Rattle.serial_core.specs.declared.runner.Runner.{Runner}
+use Rattle.serial_core.specs.SerialRun.{Run, replies_of, called, made, reply_to, after_waiting, turned, calls}
+use Rattle.serial_core.specs.Budget.{one_if}
+use Rattle.serial_core.specs.Standing.{IsNodes}
+use Rattle.serial_core.specs.Moving.{IsAt, Moves, Comes}
+use Rattle.serial_core.proofs.Drawing.{draws_none}
+use Rattle.serial_core.proofs.Replies.{waiting_replies}
+use Rattle.serial_core.proofs.Within.{paid_next_of_line}
+
+-- ------ one call
+
+-- a call on a node leaves the stream and the moment
+record Leaves (r s : Run) : Type 0 where
+  left : s.left ≡ r.left
+  first : s.first ≡ r.first
+  moment : s.moment ≡ r.moment
+
+if_leaves : (b : Bool) (x y r : Run) → Leaves r x → Leaves r y → Leaves r (if b then x else y)
+if_leaves true x y r a b = a
+if_leaves false x y r a b = b
+
+made_leaves : (client : ℕ) (e : Event) (r : Run) → Leaves r (made client e r)
+made_leaves client e r = if_leaves (nat_lt e.node DEMUX_NODES) _ _ r (record { left = refl; first = refl; moment = refl }) (record { left = refl; first = refl; moment = refl })
+
+pub moves_called : (x : Option (List ℕ)) (n : ℕ) (old : Runner) (v : Nodes) (client : ℕ) (e : Event) (P : Run → Type 0)
+    → ((r : Run) → old.moment ≡ r.moment → IsNodes old.nodes r → IsNodes v (made client e r)) → ((r : Run) → old.moment ≡ r.moment → IsNodes old.nodes r → P r)
+    → Moves x x n n old (record { nodes = v; puller = old.puller; moment = old.moment }) (λ r s. (s ≡ called client e r) × P r)
+moves_called x n old v client e P goes says = record {
+  packets = [];
+  draws = draws_none x n old.puller;
+  at = λ ahead taken given later r pulls stops at left.
+      let k = goes r at.moment at.nodes in
+      let m = made_leaves client e r in (
+        called client e r,
+        (refl, says r at.moment at.nodes),
+        record {
+          nodes = record { demux = k.demux; dvr = k.dvr; turns = k.turns; has_ended = k.has_ended };
+          first = at.first ∙ sym m.first;
+          moment = at.moment ∙ sym m.moment;
+        },
+        m.left ∙ left,
+      );
+  done = λ ahead taken given pulls done. (done, refl);
+}
+
+-- ------ waiting
+
+pub wait_turns : (lines : List Line) (batch client : ℕ) (r s : Run) → is_some (waits_on client lines (replies_of client r)) ≡ true → s ≡ turned batch r → s ≡ after_waiting lines batch client r
+wait_turns lines batch client r s is to = to ∙ sym (by (is_some (waits_on client lines (replies_of client r))) is) where
+  by : (b : Bool) → b ≡ true → (if b then turned batch r else r) ≡ turned batch r
+  by b is = rw is refl
+
+pub wait_none : (lines : List Line) (batch client : ℕ) (r : Run) → is_some (waits_on client lines (replies_of client r)) ≡ false → r ≡ after_waiting lines batch client r
+wait_none lines batch client r is = sym (by (is_some (waits_on client lines (replies_of client r))) is) where
+  by : (b : Bool) → b ≡ false → (if b then turned batch r else r) ≡ r
+  by b is = rw is refl
+
+-- ------ calls one after another
+
+replies_called : (client : ℕ) (e : Event) (r : Run) → client < length r.replies → replies_of client (called client e r) ≡ replies_of client r ++ reply_to client e r ∷ []
+replies_called client e r lt = get_or-set_same r.replies client (replies_of client r ++ reply_to client e r ∷ []) [] lt
+
+pub comes_none : (lines : List Line) (batch client line : ℕ) (r : Run) (core : Core) → length r.replies ≡ 8 → IsAfter client lines (replies_of client r) core → Comes lines batch client line r r core
+comes_none lines batch client line r core clients after = record { after = after; clients = clients; others = λ other ne. refl; worked = λ s w. w; paid = λ packets p. p }
+
+pub comes_on : (lines : List Line) (batch client line : ℕ) (first now s : Run) (core next : Core) (e : Event)
+    → 1 ≤ batch → client < 8 → Comes lines batch client line first now core → next_of_line client lines line (replies_of client now) ≡ Some e
+    → s ≡ called client e (after_waiting lines batch client now) → IsAfter client lines (replies_of client now ++ reply_to client e (after_waiting lines batch client now) ∷ []) next
+    → Comes lines batch client line first s next
+comes_on lines batch client line first now s core next e some lt comes is to after =
+    let waited : Run = after_waiting lines batch client now in
+    let same : waited.replies ≡ now.replies = waiting_replies lines batch client now in
+    let long : length waited.replies ≡ 8 = ap length same ∙ comes.clients in
+    let those : replies_of client (called client e waited) ≡ replies_of client now ++ reply_to client e waited ∷ [] =
+    replies_called client e waited (omega (arith, lt, long)) ∙ ap (λ rs. slice_index_or rs client [] ++ reply_to client e waited ∷ []) same in
+    subst (λ r. Comes lines batch client line first r next) (sym to) record {
+      after = subst (λ rs. IsAfter client lines rs next) (sym those) after;
+      clients = length-set waited.replies client _ ∙ long;
+      others = λ other ne. get_or-set_other waited.replies client other _ [] ne ∙ (ap (λ rs. slice_index_or rs other []) same ∙ comes.others other ne);
+      worked = λ t w. comes.worked t (calls now t e is w);
+      paid = λ packets p. paid_next_of_line lines packets batch client line now e some (comes.paid packets p) is;
+    }
+
+pub none_by : (o : Option Event) → ((x : Event) → o ≡ Some x → ⊥) → o ≡ None
+none_by None not = refl
+none_by (Some x) not = absurd (not x refl)
+
+pub one_if_small : (b : Bool) → one_if b ≤ 1
+one_if_small true = omega arith
+one_if_small false = omega arith

@@ -1,0 +1,97 @@
+-- Pulls one after another, and moves one after another.
+use Rattle.std.proofs.Common.{◌≡◌, ◌≢◌, refl, sym, ap, subst, ◌∙◌, ℕ, ◌+◌, ◌*◌, ◌≤◌, Bool, true, false, List, [], ◌∷◌, ◌++◌, length, length-append, append_assoc, append-nil, arith, Some, None, Result, Ok, Err, OnErr, ◌<◌, ◌-◌, ◌^◌}
+use Rattle.feed_pull.specs.declared.fault.Reading.{Reading}
+use Rattle.std.proofs.KnownBytes.{Consumes-trans, Consumes-nil}
+use Rattle.std.specs.declared.option.Option.{Option}
+use Rattle.ts_packet.specs.Cut.{cut}
+use Rattle.feed_pull.specs.Pulling.{Pulling, Pulls, IsDone}
+use Rattle.feed_pull.specs.declared.fault.Reading.TheVariants.{Going}
+use Rattle.feed_pull.specs.Steps.{Carries, Follows, ReadsNothing}
+use Rattle.feed_pull.proofs.PullLemmas.{Follows-none, Follows-then, Pulls-front, Pulls-done}
+use Rattle.serial_core.specs.declared.runner.Runner.{Runner}
+use Rattle.serial_core.specs.SerialRun.{Run}
+use Rattle.serial_core.specs.Moving.{IsAt, Draws, Moves}
+
+pub Carries-none : (x : Option (List ℕ)) (p : Pulling) → Carries x x p [] p
+Carries-none x p = record {
+  more = [];
+  consumes = Consumes-nil x;
+  pulls = λ ahead taken given h. subst (λ t. Pulls ahead t (given ++ []) p) (sym (append-nil taken)) (subst (λ g. Pulls ahead taken g p) (sym (append-nil given)) h);
+}
+
+pub Carries-then : (x y z : Option (List ℕ)) (a b c : Pulling) (ps qs : List (List ℕ)) → Carries x y a ps b → Carries y z b qs c → Carries x z a (ps ++ qs) c
+Carries-then x y z a b c ps qs g h = record {
+  more = g.more ++ h.more;
+  consumes = Consumes-trans x y z g.more h.more g.consumes h.consumes;
+  pulls = λ ahead taken given k. subst (λ t. Pulls ahead t (given ++ (ps ++ qs)) c) (append_assoc taken g.more h.more)
+      (subst (λ l. Pulls ahead ((taken ++ g.more) ++ h.more) l c) (append_assoc given ps qs) (h.pulls ahead (taken ++ g.more) (given ++ ps) (g.pulls ahead taken given k)));
+}
+
+pub draws_none : (x : Option (List ℕ)) (n : ℕ) (p : Pulling) → Draws x x n n p p []
+draws_none x n p = record { carries = Carries-none x p; follows = Follows-none p.reading x n; start = refl }
+
+pub draws_then : (x y z : Option (List ℕ)) (l m n : ℕ) (a b c : Pulling) (ps qs : List (List ℕ)) → Draws x y l m a b ps → Draws y z m n b c qs → Draws x z l n a c (ps ++ qs)
+draws_then x y z l m n a b c ps qs g h = record {
+  carries = Carries-then x y z a b c ps qs g.carries h.carries;
+  follows = Follows-then a.reading b.reading c.reading x y z l m n g.follows h.follows;
+  start = h.start ∙ g.start;
+}
+
+pub moves_none : (x : Option (List ℕ)) (n : ℕ) (v : Runner) (goes : Run → Run → Type 0) → ((r : Run) → goes r r) → Moves x x n n v v goes
+moves_none x n v goes same = record {
+  packets = [];
+  draws = draws_none x n v.puller;
+  at = λ ahead taken given later r pulls stops at left. (r, same r, at, left);
+  done = λ ahead taken given pulls done. (done, refl);
+}
+
+pub moves_then : (x y z : Option (List ℕ)) (l m n : ℕ) (a b c : Runner) (G H K : Run → Run → Type 0) → ((r s t : Run) → G r s → H s t → K r t)
+    → Moves x y l m a b G → Moves y z m n b c H → Moves x z l n a c K
+moves_then x y z l m n a b c G H K both g h = record {
+  packets = g.packets ++ h.packets;
+  draws = draws_then x y z l m n a.puller b.puller c.puller g.packets h.packets g.draws h.draws;
+  at = λ ahead taken given later r pulls stops at left.
+      let more = g.draws.carries.pulls ahead taken given pulls in
+      let first = g.at ahead taken given (h.packets ++ later) r pulls
+          (λ done. let k = h.done ahead (taken ++ g.draws.carries.more) (given ++ g.packets) more done in ap (λ ps. ps ++ later) k.1 ∙ stops k.0)
+          at (left ∙ append_assoc g.packets h.packets later) in
+      let next = h.at ahead (taken ++ g.draws.carries.more) (given ++ g.packets) later first.0 more stops first.2 first.3 in
+      (next.0, both r first.0 next.0 first.1 next.1, next.2, next.3);
+  done = λ ahead taken given pulls done.
+      let k = g.done ahead taken given pulls done in
+      let e = h.done ahead (taken ++ g.draws.carries.more) (given ++ g.packets) (g.draws.carries.pulls ahead taken given pulls) k.0 in
+      (e.0, rw (k.1, e.1) refl);
+}
+
+pub moves_by : (x y : Option (List ℕ)) (l m : ℕ) (a b : Runner) (G K : Run → Run → Type 0) → ((r s : Run) → G r s → K r s) → Moves x y l m a b G → Moves x y l m a b K
+moves_by x y l m a b G K so g = record {
+  packets = g.packets;
+  draws = g.draws;
+  at = λ ahead taken given later r pulls stops at left. let k = g.at ahead taken given later r pulls stops at left in (k.0, so r k.0 k.1, k.2, k.3);
+  done = g.done;
+}
+
+-- the source's count may rise once more while reading goes on
+pub still_counts : (old new : Reading) (x y : Option (List ℕ)) (l m : ℕ) → Follows old new x y l m → (old ≡ Going → l < 2 ^ 64 - 1) → new ≡ Going → m < 2 ^ 64 - 1
+still_counts old new x y l m f below going = let k = f.went going in let b = below k.0 in omega (arith, k.1, b)
+
+pub on_err : {T E : Type 0} (r : Result T E) (P : Type 0) → P → OnErr r P
+on_err (Ok x) P p = tt
+on_err (Err e) P p = p
+
+-- ------ a puller that is done gives nothing
+
+empty_by : {A : Type 0} (xs : List A) → length xs ≡ 0 → xs ≡ []
+empty_by [] is = refl
+empty_by (x ∷ xs) is = absurd (omega (arith, is))
+
+pub none_given : (x y : Option (List ℕ)) (a b : Pulling) (packets : List (List ℕ)) → Carries x y a packets b → (a.reading ≢ Going → ReadsNothing a b) → IsDone a
+    → (ahead taken : List ℕ) (given : List (List ℕ)) → Pulls ahead taken given a → packets ≡ []
+none_given x y a b packets carries still done ahead taken given h =
+    let k = carries.pulls ahead taken given h in
+    let none : carries.more ≡ [] = empty_by carries.more (omega (arith, h.size, k.size, length-append taken carries.more, (still done.stopped).taken)) in
+    let all : (cut (ahead ++ taken)).packets ≡ given = (Pulls-done ahead taken given a h done).packets in
+    let front = Pulls-front ahead (taken ++ carries.more) (given ++ packets) b k in
+    let same : taken ++ carries.more ≡ taken = ap (λ m. taken ++ m) none ∙ append-nil taken in
+    let whole : given ≡ (given ++ packets) ++ front.0 = sym all ∙ (ap (λ t. (cut (ahead ++ t)).packets) (sym same) ∙ front.1) in
+    empty_by packets (omega (arith, ap length whole, length-append (given ++ packets) front.0, length-append given packets))

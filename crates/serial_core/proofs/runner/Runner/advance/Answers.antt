@@ -1,0 +1,37 @@
+use Rattle.std.proofs.Common.{◌≡◌, sym, ap, subst, ◌∙◌, ℕ, ◌+◌, ◌≤◌, ◌<◌, List, [], ◌∷◌, ◌++◌, arith}
+use Rattle.dmx_calls.specs.Response.{Response}
+use Rattle.client_script.specs.declared.line.Line.{Line}
+use Rattle.client_core.specs.Core.{IsAfter}
+use Rattle.serial_core.specs.SerialRun.{Run, called, replies_of, reply_to, after_waiting}
+use Rattle.serial_core.proofs.Drawing.{moves_then}
+use Rattle.serial_core.specs.Budget.{one_if}
+use Rattle.serial_core.proofs.Commanding.{moves_called, one_if_small}
+use Rattle.serial_core.proofs.runner.Runner.advance.Goals as goal
+
+pub returns-clause-moves : goal.returns-clause-moves
+returns-clause-moves g c =
+    let client = c.args.client in
+    let e = c.args.event in
+    let batch = c.args.batch in
+    let old = c.args.core.now in
+    let new = c.call.new.core in
+    let P : Run → Type 0 = λ r. (lines : List Line) (replies : List Response) → IsAfter client lines replies old → IsAfter client lines (replies ++ reply_to client e r ∷ []) new in
+    let k = c.in_ok-call.ensures in
+    moves_then _ _ _ _ _ _ _ _ _ _ _ _
+    (λ (r s t : Run) (a : (who : ℕ) (lines : List Line) → IsAfter who lines (replies_of who r) old → s ≡ after_waiting lines batch who r) (b : (t ≡ called client e s) × P s) (lines : List Line) (after : IsAfter client lines (replies_of client r) old).
+        let w = a client lines after in
+        (b.0 ∙ ap (called client e) w, subst (λ x. IsAfter client lines (replies_of client r ++ reply_to client e x ∷ []) new) w (b.1 lines (replies_of client r) after)))
+    c.in_ok-wait.ensures.moves
+    (moves_called _ _ c.wait.new.self c.call.new.self client e P k.at (λ r moment at lines replies after. k.core r lines replies moment at after))
+
+pub call-requires-clause-few : goal.call-requires-clause-few
+call-requires-clause-few g c =
+    let m = c.in_ok-wait.ensures.made 8796093022208 c.requires.made in
+    let given = c.in_ok-wait.ensures.sound.given in
+    omega (arith, m, given, one_if_small c.wait.new.self.nodes.has_ended)
+
+pub returns-clause-made : goal.returns-clause-made
+returns-clause-made g c calls made =
+    let m = c.in_ok-wait.ensures.made calls made in
+    let same = ap one_if c.in_ok-call.ensures.same in
+    omega (arith, m, c.in_ok-call.ensures.made, same)

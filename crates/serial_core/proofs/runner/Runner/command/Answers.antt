@@ -1,0 +1,62 @@
+use Rattle.std.proofs.Common.{◌≡◌, refl, sym, ap, subst, ◌∙◌, ℕ, ◌+◌, ◌<◌, ◌≤◌, ◌^◌, List, [], ◌∷◌, ◌++◌, length, Some, None, arith}
+use Rattle.client_script.specs.declared.line.Line.{Line}
+use Rattle.client_core.specs.Core.{IsAfter}
+use Rattle.serial_core.specs.SerialRun.{Run, called, replies_of, reply_to, after_waiting}
+use Rattle.serial_core.specs.Moving.{ComesBy}
+use Rattle.serial_core.proofs.Drawing.{draws_then, moves_none, moves_then, moves_by, still_counts, on_err}
+use Rattle.serial_core.proofs.Commanding.{comes_none, comes_on, none_by}
+use Rattle.serial_core.proofs.runner.Runner.command.Goals as goal
+
+pub calls-init : goal.calls-init
+calls-init g c = record {
+  moves = moves_none _ _ c.args.self.now _ (λ r lines clients after. comes_none lines c.args.batch c.args.client c.args.line r c.args.core.now clients after);
+  sound = c.requires.sound;
+  moment = refl;
+  made = λ calls made. made;
+  few = c.requires.calls;
+}
+
+pub calls-preserved : goal.calls-preserved
+calls-preserved g c =
+    let client = c.args.client in
+    let batch = c.args.batch in
+    let line = c.args.line in
+    let e = c.in-Some.event in
+    let core = c.calls.core in
+    let next = c.advance.new.core in
+    let k = c.in_ok-advance.ensures in
+    record {
+      moves = moves_then _ _ _ _ _ _ _ _ _ _ _ _
+          (λ (r s t : Run) (a : ComesBy batch client line c.args.core.now core r s)
+              (b : (lines : List Line) → IsAfter client lines (replies_of client s) core → (t ≡ called client e (after_waiting lines batch client s)) × IsAfter client lines (replies_of client s ++ reply_to client e (after_waiting lines batch client s) ∷ []) next)
+              (lines : List Line) (clients : length r.replies ≡ 8) (after : IsAfter client lines (replies_of client r) c.args.core.now).
+              let come = a lines clients after in
+              let n = b lines come.after in
+              comes_on lines batch client line r s t core next e c.requires.some c.requires.client come (sym (c.next_at.ensures.tied client lines _ come.after) ∙ c.in-Some.is) n.0 n.1)
+          c.calls.invariant.moves k.moves;
+      sound = k.sound;
+      moment = k.moment ∙ c.calls.invariant.moment;
+      made = λ calls made. let m = k.made (core.step + calls) (c.calls.invariant.made calls made) in omega (arith, m, k.step);
+      few = omega (arith, k.step, c.if-steps-ge-MOST_CALLS.false, c.steps.ensures);
+    }
+
+pub advance-requires-clause-made : goal.advance-requires-clause-made
+advance-requires-clause-made g c = let m = c.calls.invariant.made 4398046511104 c.requires.made in omega (arith, m, c.calls.invariant.few)
+
+pub advance-requires-clause-faults : goal.advance-requires-clause-faults
+advance-requires-clause-faults g c = still_counts _ _ _ _ _ _ c.calls.invariant.moves.draws.follows c.requires.faults
+
+pub returns-clause-moves : goal.returns-clause-moves
+returns-clause-moves g c =
+    moves_by _ _ _ _ _ _ _ _
+    (λ (r s : Run) (a : ComesBy c.args.batch c.args.client c.args.line c.args.core.now c.calls.core r s)
+        (lines : List Line) (clients : length r.replies ≡ 8) (after : IsAfter c.args.client lines (replies_of c.args.client r) c.args.core.now).
+        let come = a lines clients after in
+        (come, sym (c.next_at.ensures.tied c.args.client lines _ come.after) ∙ none_by c.next_at.result c.in_default.not-Some))
+    c.calls.invariant.moves
+
+pub returns-in_err-advance-clause-draws : goal.returns-in_err-advance-clause-draws
+returns-in_err-advance-clause-draws g c =
+    let m = c.calls.invariant.moves in
+    let d = c.in_err-advance.ensures.draws in
+    on_err c.from_residual.result _ (_, draws_then _ _ _ _ _ _ _ _ _ _ _ m.draws d.1)

@@ -1,0 +1,16 @@
+use Rattle.std.proofs.Common.{◌≡◌, ℕ, ◌-◌, ◌<◌, ◌≤◌, ◌^◌}
+use Rattle.feed_pull.specs.declared.fault.Reading.TheVariants.{Going}
+use Rattle.serial_core.specs.SerialRun.{fed}
+use Rattle.serial_core.specs.Moving.{Moves, IsSound, HasMade}
+use Rattle.serial_core.proofs.runner.Runner.feed.Given as goal
+
+abbrev pub invariant-turns : goal.invariant-turns
+invariant-turns g l = record {
+  moves : Moves (g.S.Source.left l.initial.source) (g.S.Source.left l.source) (g.S.Source.faults l.initial.source) (g.S.Source.faults l.source) l.initial.self l.self (λ r s. fed l.batch l.count r ≡ fed l.batch l.left s);
+  sound : IsSound l.self;
+  moment : l.self.moment ≡ l.initial.self.moment;
+  made : (calls : ℕ) → HasMade l.initial.self calls → HasMade l.self calls;
+}
+
+abbrev pub decreases-turns : goal.decreases-turns
+decreases-turns g l = l.left

@@ -1,0 +1,39 @@
+use Rattle.std.proofs.Common.{◌≡◌, ◌≢◌, refl, sym, ap, subst, ◌∙◌, ℕ, ◌+◌, ◌≤◌, ◌<◌, Bool, true, false, List, [], ◌∷◌, length, arith}
+use Rattle.dmx_calls.specs.declared.params.Input.TheVariants.{Frontend}
+use Rattle.dmx_calls.specs.Invocation.{Pass}
+use Rattle.ts_batch.specs.Batch.{Packets}
+use Rattle.feed_pull.specs.Pulling.{Pulls, IsDone}
+use Rattle.serial_core.specs.SerialRun.{Run, fed_to_all}
+use Rattle.serial_core.specs.Standing.{IsNodes}
+use Rattle.serial_core.proofs.Drawing.{draws_none, none_given}
+use Rattle.serial_core.proofs.Turning.{turn_over, turn_passed, turn_ended}
+use Rattle.serial_core.proofs.runner.Runner.turn.Goals as goal
+
+pub returns-then-self-clause-moves : goal.returns-then-self-clause-moves
+returns-then-self-clause-moves g c = record {
+  packets = [];
+  draws = draws_none _ _ c.args.self.now.puller;
+  at = λ ahead taken given later r pulls stops at left. turn_over c.args.self.now c.args.most later r c.if-self.true (c.requires.sound.ended c.if-self.true) stops at left;
+  done = λ ahead taken given pulls done. (done, refl);
+}
+
+pub returns-in_ok-pass-in-Some-clause-moves : goal.returns-in_ok-pass-in-Some-clause-moves
+returns-in_ok-pass-in-Some-clause-moves g c =
+    let old = c.args.self.now in
+    let ps = c.in-Some.batch.value.packets in
+    let stream = rw c.in-Some.is at c.in_ok-batch.ensures.stream in
+    let first = rw c.in-Some.is at c.in_ok-batch.ensures.first in
+    let given = rw c.in-Some.is at c.in_ok-batch.ensures.given in
+    let some = rw c.in-Some.is at c.in_ok-batch.ensures.some in
+    let most = rw c.in-Some.is at c.in_ok-batch.ensures.most in
+    let fewer = rw c.in-Some.is at c.in_ok-batch.ensures.fewer in
+    let goes = rw first at c.in_ok-pass-in-Some.ensures.at in
+    record {
+      packets = ps;
+      draws = record { carries = stream; follows = c.in_ok-batch.ensures.follows; start = c.in_ok-batch.ensures.start };
+      at = λ ahead taken before later r pulls stops at left.
+          turn_passed old _ c.args.most c.count-count.result ps later r (c.count-count.ensures.value ∙ ap (λ (b : Packets). length b.packets) c.deref.ensures) some most fewer goes given refl stops at left;
+      done = λ ahead taken before pulls done.
+          let none = none_given _ _ old.puller c.pull.new.self ps stream c.in_ok-batch.ensures.stopped done ahead taken before pulls in
+          absurd (let long : length ps ≡ 0 = ap length none in omega (arith, some, long));
+        }

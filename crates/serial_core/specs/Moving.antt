@@ -1,0 +1,69 @@
+-- How the code goes on with the run, while the stream is pulled as it is wanted.
+use Rattle.std.specs.Prelude.{◌≡◌, ◌≢◌, ℕ, ◌+◌, ◌≤◌, true, List, [], ◌++◌, length, None}
+use Rattle.std.specs.declared.option.Option.{Option}
+use Rattle.client_script.specs.declared.line.Line.{Line}
+use Rattle.client_core.specs.Core.{Core, IsAfter}
+use Rattle.client_core.specs.Events.{next_of_line}
+use Rattle.feed_pull.specs.Pulling.{Pulling, Pulls, IsDone}
+use Rattle.feed_pull.specs.Steps.{Carries, Follows}
+use Rattle.serial_core.specs.declared.runner.Runner.{Runner}
+use Rattle.serial_core.specs.SerialRun.{Run, replies_of, IsWorked}
+use Rattle.serial_core.specs.Budget.{one_if, IsPaid}
+use Rattle.serial_core.specs.Standing.{IsNodes, AreCounted}
+
+-- The code is where the run is, whatever is left of the stream.
+pub record IsAt (v : Runner) (r : Run) : Type 0 where
+  pub nodes : IsNodes v.nodes r
+  pub first : v.puller.given ≡ r.first
+  pub moment : v.moment ≡ r.moment
+
+-- What pulls do to a source and a puller: these packets were given, with the bytes that the source gave for them.
+pub record Draws (content left : Option (List ℕ)) (before after : ℕ) (old new : Pulling) (packets : List (List ℕ)) : Type 0 where
+  pub carries : Carries content left old packets new
+  pub follows : Follows old.reading new.reading content left before after
+  pub start : new.start ≡ old.start
+
+-- The code and the run go on together: the packets that were pulled are those that the run has in front, whatever comes behind them. Behind the last packet of a puller that is done comes nothing.
+pub record Moves (content left : Option (List ℕ)) (before after : ℕ) (old new : Runner) (goes : Run → Run → Type 0) : Type 0 where
+  pub packets : List (List ℕ)
+  pub draws : Draws content left before after old.puller new.puller packets
+  pub at : (ahead taken : List ℕ) (given later : List (List ℕ)) (r : Run) → Pulls ahead taken given old.puller → (IsDone new.puller → later ≡ [])
+      → IsAt old r → r.left ≡ packets ++ later → (s : Run) × goes r s × IsAt new s × (s.left ≡ later)
+  pub done : (ahead taken : List ℕ) (given : List (List ℕ)) → Pulls ahead taken given old.puller → IsDone old.puller → IsDone new.puller × (packets ≡ [])
+
+-- ------ numbers
+
+-- the feeder has a turn for each packet at most, and one for End
+abbrev pub turns_of : Runner → ℕ
+turns_of v = v.puller.given + one_if v.nodes.has_ended
+
+-- No node has more entries than calls were made, so many packets aren't given, and End has passed only where the puller has nothing more.
+pub record IsSound (v : Runner) : Type 0 where
+  pub ended : v.nodes.has_ended ≡ true → IsDone v.puller
+  pub counted : AreCounted v.nodes
+  pub given : v.puller.given ≤ 2199023255552
+
+-- at most so many calls were made beside the feeder's turns
+abbrev pub HasMade : Runner → (calls : ℕ) → Type 0
+HasMade v calls = v.nodes.made ≤ turns_of v + calls
+
+-- ------ commands
+
+-- The run has come from `first` by calls of this command, and the core stands after the client's replies.
+pub record Comes (lines : List Line) (batch client line : ℕ) (first now : Run) (core : Core) : Type 0 where
+  pub after : IsAfter client lines (replies_of client now) core
+  pub clients : length now.replies ≡ 8
+  pub others : (other : ℕ) → other ≢ client → replies_of other now ≡ replies_of other first
+  pub worked : (s : Run) → IsWorked lines batch client line now s → IsWorked lines batch client line first s
+  pub paid : (packets : List (List ℕ)) → IsPaid lines packets first → IsPaid lines packets now
+
+-- so it comes from each run after which the old core stood
+abbrev pub ComesBy : (batch client line : ℕ) → (old new : Core) → Run → Run → Type 0
+ComesBy batch client line old new r s =
+    (lines : List Line) → length r.replies ≡ 8 → IsAfter client lines (replies_of client r) old → Comes lines batch client line r s new
+
+-- and the command is through
+abbrev pub IsDoneBy : (batch client line : ℕ) → (old new : Core) → Run → Run → Type 0
+IsDoneBy batch client line old new r s =
+    (lines : List Line) → length r.replies ≡ 8 → IsAfter client lines (replies_of client r) old
+    → Comes lines batch client line r s new × (next_of_line client lines line (replies_of client s) ≡ None)

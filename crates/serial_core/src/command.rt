@@ -1,0 +1,116 @@
+// A command of a client, done to its end.
+ghost use Rattle.std.specs.Prelude.{◌≡◌, ℕ, ◌+◌, ◌-◌, ◌<◌, ◌≤◌, ◌^◌, List, [], ◌∷◌, ◌++◌, length, IsSome, OnOk, OnErr, IsErrOf};
+ghost use Rattle.dmx_calls.specs.declared.limits.TheConstants.{DEMUX_NODES as nodes};
+ghost use Rattle.client_script.specs.declared.line.Line.{Line as ScriptLine};
+ghost use Rattle.client_core.specs.Commands.{IsWantInRange};
+ghost use Rattle.client_core.specs.Core.{IsAfter};
+ghost use Rattle.feed_pull.specs.declared.fault.Reading.TheVariants.{Going};
+ghost use Rattle.serial_core.specs.Moving.{ComesBy, Draws, HasMade, IsDoneBy, IsSound, Moves};
+ghost use Rattle.serial_core.specs.SerialRun.{after_waiting, called, replies_of, reply_to};
+
+use crate::runner::Runner;
+use client_core::{ClientCore, Event, Stop};
+use emu_io::Source;
+use std::alloc::AllocError as NoMemory;
+use std::sync::ledger::Ledger;
+use steps::Steps;
+
+// The most calls of one client.
+const MOST_CALLS: u64 = 549_755_813_888;
+
+impl Runner {
+    // Where the client waits, the feeder has a turn.
+    fn wait<S: Source, L: Ledger>(
+        &mut self,
+        source: &mut S,
+        batch: u32,
+        core: &ClientCore,
+        steps: &mut Steps<L>,
+    ) -> Result<(), NoMemory>
+        requires some { 1 ≤ batch }
+        requires few { batch ≤ 64 }
+        requires faults { self.old.puller.reading ≡ Going → S.faults source.old < 2 ^ 64 - 1 }
+        requires sound { IsSound self.old }
+        requires made { HasMade self.old 8796093022208 }
+        ensures moves { OnOk result (Moves (S.left source.old) (S.left source.new) (S.faults source.old) (S.faults source.new) self.old self.new
+            (λ r s. (client : ℕ) (lines : List ScriptLine) → IsAfter client lines (replies_of client r) core.now → s ≡ after_waiting lines batch client r)) }
+        ensures draws { OnErr result ((packets : List (List ℕ)) × Draws (S.left source.old) (S.left source.new) (S.faults source.old) (S.faults source.new) self.old.puller self.new.puller packets) }
+        ensures sound { OnOk result (IsSound self.new) }
+        ensures moment { OnOk result (self.new.moment ≡ self.old.moment) }
+        ensures made { OnOk result ((calls : ℕ) → HasMade self.old calls → HasMade self.new calls) }
+    {
+        if core.waits().is_some() {
+            self.turn(source, batch, steps)?;
+        }
+        Ok(())
+    }
+
+    // The client makes this call, its next, and takes the reply. Where it waits, the feeder has a turn before.
+    fn advance<S: Source, L: Ledger>(
+        &mut self,
+        source: &mut S,
+        batch: u32,
+        core: &mut ClientCore,
+        client: u32,
+        event: Event,
+        steps: &mut Steps<L>,
+    ) -> Result<(), NoMemory>
+        requires some { 1 ≤ batch }
+        requires few { batch ≤ 64 }
+        requires faults { self.old.puller.reading ≡ Going → S.faults source.old < 2 ^ 64 - 1 }
+        requires sound { IsSound self.old }
+        requires made { HasMade self.old 8796093022208 }
+        requires client { client < 8 }
+        requires node { event.node ≤ nodes }
+        requires range { IsWantInRange event.want }
+        requires begun { IsSome core.old.current }
+        requires taken { core.old.step < 2 ^ 46 }
+        ensures moves { OnOk result (Moves (S.left source.old) (S.left source.new) (S.faults source.old) (S.faults source.new) self.old self.new
+            (λ r s. (lines : List ScriptLine) → IsAfter client lines (replies_of client r) core.old → (s ≡ called client event (after_waiting lines batch client r))
+                × IsAfter client lines (replies_of client r ++ reply_to client event (after_waiting lines batch client r) ∷ []) core.new)) }
+        ensures draws { OnErr result ((packets : List (List ℕ)) × Draws (S.left source.old) (S.left source.new) (S.faults source.old) (S.faults source.new) self.old.puller self.new.puller packets) }
+        ensures sound { OnOk result (IsSound self.new) }
+        ensures moment { OnOk result (self.new.moment ≡ self.old.moment) }
+        ensures made { OnOk result ((calls : ℕ) → HasMade self.old calls → HasMade self.new (calls + 1)) }
+        ensures step { OnOk result (core.new.step ≡ core.old.step + 1) }
+    {
+        self.wait(source, batch, core, steps)?;
+        self.nodes.call(core, client, event, self.moment, steps)?;
+        Ok(())
+    }
+
+    // The command of this line is done to its end, or up to the call that the client may not make.
+    pub fn command<S: Source, L: Ledger>(
+        &mut self,
+        source: &mut S,
+        batch: u32,
+        core: &mut ClientCore,
+        client: u32,
+        line: u32,
+        steps: &mut Steps<L>,
+    ) -> Result<(), Stop>
+        requires some { 1 ≤ batch }
+        requires few { batch ≤ 64 }
+        requires faults { self.old.puller.reading ≡ Going → S.faults source.old < 2 ^ 64 - 1 }
+        requires sound { IsSound self.old }
+        requires made { HasMade self.old (core.old.step + 4398046511104) }
+        requires client { client < 8 }
+        requires calls { core.old.step ≤ 549755813888 }
+        ensures moves { OnOk result (Moves (S.left source.old) (S.left source.new) (S.faults source.old) (S.faults source.new) self.old self.new (IsDoneBy batch client line core.old core.new)) }
+        ensures draws { OnErr result ((packets : List (List ℕ)) × Draws (S.left source.old) (S.left source.new) (S.faults source.old) (S.faults source.new) self.old.puller self.new.puller packets) }
+        ensures too_long { (turns : ℕ) → IsErrOf result (Stop.TooLong turns) → (turns ≡ 549755813888) × (549755813888 ≤ core.new.step)
+            × Moves (S.left source.old) (S.left source.new) (S.faults source.old) (S.faults source.new) self.old self.new (ComesBy batch client line core.old core.new) }
+        ensures sound { OnOk result (IsSound self.new) }
+        ensures moment { OnOk result (self.new.moment ≡ self.old.moment) }
+        ensures made { OnOk result ((calls : ℕ) → HasMade self.old (core.old.step + calls) → HasMade self.new (core.new.step + calls)) }
+        ensures calls { OnOk result (core.new.step ≤ 549755813888) }
+    {
+        'calls: while let Some(event) = core.next_at(line) {
+            if core.steps() >= MOST_CALLS {
+                return Err(Stop::TooLong { turns: MOST_CALLS });
+            }
+            self.advance(source, batch, core, client, event, steps)?;
+        }
+        Ok(())
+    }
+}

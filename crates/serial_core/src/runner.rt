@@ -1,0 +1,123 @@
+// A run on its way: the nodes, the stream, and the moment.
+ghost use Rattle.std.specs.Prelude.{◌≡◌, true, ℕ, ◌+◌, ◌-◌, ◌<◌, ◌≤◌, ◌^◌, ◌≢◌, List, [], length, min, IfOk, OnOk, OnErr};
+ghost use Rattle.client_script.specs.declared.line.Line.{Line as ScriptLine};
+ghost use Rattle.serial_core.specs.SerialRun.{Run, fed, finished, ticked, turned};
+ghost use Rattle.serial_core.specs.Moving.{Draws, HasMade, IsAt, IsSound, Moves};
+ghost use Rattle.feed_pull.specs.declared.fault.Reading.TheVariants.{Going};
+
+use crate::nodes::Nodes;
+use emu_io::Source;
+use feed_pull::Puller;
+use std::alloc::AllocError as NoMemory;
+use std::sync::ledger::Ledger;
+use steps::Steps;
+
+// The nodes, the packets that haven't passed them yet, and the moment in milliseconds.
+#[derive(Drop)]
+pub struct Runner {
+    pub nodes: Nodes,
+    pub puller: Puller,
+    pub moment: u64,
+}
+
+impl Runner {
+    // The feeder's next turn: a batch of at most so many packets passes, or End where none is left. It answers how many
+    // packets passed.
+    pub fn turn<S: Source, L: Ledger>(
+        &mut self,
+        source: &mut S,
+        most: u32,
+        steps: &mut Steps<L>,
+    ) -> Result<u32, NoMemory>
+        requires some { 1 ≤ most }
+        requires few { most ≤ 64 }
+        requires faults { self.old.puller.reading ≡ Going → S.faults source.old < 2 ^ 64 - 1 }
+        requires sound { IsSound self.old }
+        requires made { HasMade self.old 8796093022208 }
+        ensures moves { IfOk result (λ n. Moves (S.left source.old) (S.left source.new) (S.faults source.old) (S.faults source.new) self.old self.new
+            (λ r s. (s ≡ turned most r) × (n ≡ min most (length r.left)))) }
+        ensures draws { OnErr result ((packets : List (List ℕ)) × Draws (S.left source.old) (S.left source.new) (S.faults source.old) (S.faults source.new) self.old.puller self.new.puller packets) }
+        ensures sound { OnOk result (IsSound self.new) }
+        ensures made { OnOk result ((calls : ℕ) → HasMade self.old calls → HasMade self.new calls) }
+        ensures moment { OnOk result (self.new.moment ≡ self.old.moment) }
+        ensures over { IfOk result (λ n. n ≡ 0 → self.new.nodes.has_ended ≡ true) }
+        ensures given { IfOk result (λ n. (n ≤ most) × (self.new.puller.given ≡ self.old.puller.given + n)) }
+    {
+        if self.nodes.has_ended {
+            return Ok(0);
+        }
+        match self.puller.pull(source, most)? {
+            Some(batch) => {
+                let count = batch.count();
+                self.nodes.pass(batch, self.moment, steps)?;
+                Ok(count)
+            }
+            None => {
+                self.nodes.end(steps)?;
+                Ok(0)
+            }
+        }
+    }
+
+    // So many packets pass, in batches of at most `batch`; where fewer are left, these pass and then End.
+    pub fn feed<S: Source, L: Ledger>(
+        &mut self,
+        source: &mut S,
+        batch: u32,
+        count: u32,
+        steps: &mut Steps<L>,
+    ) -> Result<(), NoMemory>
+        requires some { 1 ≤ batch }
+        requires few { batch ≤ 64 }
+        requires faults { self.old.puller.reading ≡ Going → S.faults source.old < 2 ^ 64 - 1 }
+        requires sound { IsSound self.old }
+        requires made { HasMade self.old 8796093022208 }
+        ensures moves { OnOk result (Moves (S.left source.old) (S.left source.new) (S.faults source.old) (S.faults source.new) self.old self.new (λ r s. s ≡ fed batch count r)) }
+        ensures draws { OnErr result ((packets : List (List ℕ)) × Draws (S.left source.old) (S.left source.new) (S.faults source.old) (S.faults source.new) self.old.puller self.new.puller packets) }
+        ensures sound { OnOk result (IsSound self.new) }
+        ensures made { OnOk result ((calls : ℕ) → HasMade self.old calls → HasMade self.new calls) }
+        ensures moment { OnOk result (self.new.moment ≡ self.old.moment) }
+    {
+        let mut left = count;
+        'turns: while left > 0 {
+            let passed = self.turn(source, left.min(batch), steps)?;
+            if passed == 0 {
+                return Ok(());
+            }
+            left -= passed;
+        }
+        Ok(())
+    }
+
+    // The rest of the stream passes, in batches of at most `batch`, and then End.
+    pub fn finish<S: Source, L: Ledger>(
+        &mut self,
+        source: &mut S,
+        batch: u32,
+        steps: &mut Steps<L>,
+    ) -> Result<(), NoMemory>
+        requires some { 1 ≤ batch }
+        requires few { batch ≤ 64 }
+        requires faults { self.old.puller.reading ≡ Going → S.faults source.old < 2 ^ 64 - 1 }
+        requires sound { IsSound self.old }
+        requires made { HasMade self.old 8796093022208 }
+        ensures moves { OnOk result (Moves (S.left source.old) (S.left source.new) (S.faults source.old) (S.faults source.new) self.old self.new (λ r s. (lines : List ScriptLine) → s ≡ finished lines batch r)) }
+        ensures draws { OnErr result ((packets : List (List ℕ)) × Draws (S.left source.old) (S.left source.new) (S.faults source.old) (S.faults source.new) self.old.puller self.new.puller packets) }
+        ensures ended { OnOk result (self.new.nodes.has_ended ≡ true) }
+    {
+        'turns: while self.turn(source, batch, steps)? > 0 {}
+        Ok(())
+    }
+
+    // So many milliseconds go by.
+    pub fn tick(&mut self, time: u32)
+        requires late { self.old.moment + 2 ^ 32 ≤ 2 ^ 64 }
+        ensures at { (r : Run) → IsAt self.old r → IsAt self.new (ticked time r) }
+        ensures puller { self.new.puller ≡ self.old.puller }
+        ensures sound { IsSound self.old → IsSound self.new }
+        ensures made { (calls : ℕ) → HasMade self.old calls → HasMade self.new calls }
+        ensures moment { self.new.moment ≡ self.old.moment + time }
+    {
+        self.moment += time as u64;
+    }
+}

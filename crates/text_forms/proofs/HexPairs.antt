@@ -1,0 +1,16 @@
+-- A byte that is written in two digits is read again.
+use Rattle.std.proofs.Common.{◌≡◌, ◌<◌, ◌+◌, ◌*◌, ◌/◌, ◌%◌, ap, ℕ, Some, arith}
+use Rattle.std.proofs.lemmas.Bool.Decides.{nat_tests}
+use Rattle.text_forms.specs.Hex.{hex_digit, hex_byte, digit_text}
+
+pub hex_digit-digit_text : (value : ℕ) → value < 16 → hex_digit (digit_text value) ≡ Some value
+unfolding hex_digit
+hex_digit-digit_text value small = grind (arith, nat_tests)
+
+pub hex_byte-byte_text : (byte : ℕ) → byte < 256 → hex_byte (digit_text (byte / 16)) (digit_text (byte % 16)) ≡ Some byte
+unfolding hex_byte
+hex_byte-byte_text byte small =
+    let high : hex_digit (digit_text (byte / 16)) ≡ Some (byte / 16) = hex_digit-digit_text (byte / 16) (omega arith) in
+    let low : hex_digit (digit_text (byte % 16)) ≡ Some (byte % 16) = hex_digit-digit_text (byte % 16) (omega arith) in
+    let sum : byte / 16 * 16 + byte % 16 ≡ byte = omega arith in
+    rw (high, low) (ap Some sum)

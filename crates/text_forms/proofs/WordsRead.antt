@@ -1,0 +1,19 @@
+-- The words of inputs and outputs are read again, and have no space.
+use Rattle.std.proofs.Common.{◌≡◌, refl, Some}
+use Rattle.dmx_calls.specs.declared.params.Input.{Input}
+use Rattle.dmx_calls.specs.declared.params.Input.TheVariants as input
+use Rattle.dmx_calls.specs.declared.params.Output.{Output}
+use Rattle.dmx_calls.specs.declared.params.Output.TheVariants as output
+use Rattle.text_forms.specs.Words.{input_text, input_named, output_text, output_named}
+
+pub input_named-input_text : (i : Input) → input_named (input_text i) ≡ Some i
+unfolding input_named input_text
+input_named-input_text input.Frontend = refl
+input_named-input_text input.Dvr = refl
+
+pub output_named-output_text : (o : Output) → output_named (output_text o) ≡ Some o
+unfolding output_named output_text
+output_named-output_text output.Decoder = refl
+output_named-output_text output.Tap = refl
+output_named-output_text output.TsTap = refl
+output_named-output_text output.TsdemuxTap = refl

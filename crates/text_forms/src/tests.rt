@@ -1,0 +1,167 @@
+// Words and their values, worked out by hand from the rules.
+use crate::{
+    Place, client_named, demux_named, hex_byte, input_named, node_named, number_between,
+    output_named, place_named, slot_named, who_named, write_client, write_decimal, write_demux,
+    write_filter, write_hex, write_hex_byte, write_input, write_node, write_output, write_slot,
+    write_who,
+};
+use dmx_calls::{Input, Output};
+use filter_match::SectionFilter;
+use std::test::Fail;
+
+#[test]
+fn numbers_are_written(rt: HostRuntime) -> Result<(), Fail> {
+    let mut out = Vec::new(rt.alloc());
+    for n in [0, 7, 10, 65536, u64::MAX] {
+        write_decimal(&mut out, n)?;
+        out.push(b' ')?;
+    }
+    assert_eq!(rt;
+        out.as_slice(),
+        b"0 7 10 65536 18446744073709551615 ".as_slice()
+    );
+    Ok(())
+}
+
+#[test]
+fn numbers_are_read(rt: HostRuntime) {
+    let words: [(&[u8], Option<u64>); 10] = [
+        (b"1", Some(1)),
+        (b"64", Some(64)),
+        (b"0", None),
+        (b"65", None),
+        (b"064", None),
+        (b"", None),
+        (b"+1", None),
+        (b" 1", None),
+        (b"1x", None),
+        (b"18446744073709551680", None),
+    ];
+    for (word, want) in words {
+        assert_eq!(rt; number_between(1, 64, word), want, "{word:?}");
+    }
+    let most = number_between(0, u64::MAX, b"18446744073709551615");
+    assert_eq!(rt; most, Some(18446744073709551615));
+    let more = number_between(0, u64::MAX, b"18446744073709551616");
+    assert_eq!(rt; more, None);
+}
+
+#[test]
+fn bytes_are_written_in_lower_case(rt: HostRuntime) -> Result<(), Fail> {
+    let mut out = Vec::new(rt.alloc());
+    write_hex(&mut out, &[0x47, 0x00, 0xff, 0x0a])?;
+    write_hex_byte(&mut out, 0xa0)?;
+    assert_eq!(rt; out.as_slice(), b"4700ff0aa0".as_slice());
+    Ok(())
+}
+
+#[test]
+fn digits_in_upper_case_are_none(rt: HostRuntime) {
+    assert_eq!(rt; hex_byte(b'a', b'0'), Some(0xa0));
+    assert_eq!(rt; hex_byte(b'A', b'0'), None);
+    assert_eq!(rt; hex_byte(b'0', b'g'), None);
+}
+
+#[test]
+fn words_of_inputs_and_outputs(rt: HostRuntime) -> Result<(), Fail> {
+    let mut out = Vec::new(rt.alloc());
+    for input in [Input::Frontend, Input::Dvr] {
+        write_input(&mut out, input)?;
+        out.push(b' ')?;
+    }
+    for output in [
+        Output::Decoder,
+        Output::Tap,
+        Output::TsTap,
+        Output::TsdemuxTap,
+    ] {
+        write_output(&mut out, output)?;
+        out.push(b' ')?;
+    }
+    assert_eq!(rt;
+        out.as_slice(),
+        b"frontend dvr decoder tap ts_tap tsdemux_tap ".as_slice()
+    );
+    assert_eq!(rt; input_named(b"dvr"), Some(Input::Dvr));
+    assert_eq!(rt; input_named(b"tap"), None);
+    assert_eq!(rt; output_named(b"ts_tap"), Some(Output::TsTap));
+    assert_eq!(rt; output_named(b"tstap"), None);
+    Ok(())
+}
+
+#[test]
+fn names_are_written(rt: HostRuntime) -> Result<(), Fail> {
+    let mut out = Vec::new(rt.alloc());
+    write_client(&mut out, 7)?;
+    write_demux(&mut out, 31)?;
+    write_slot(&mut out, 0)?;
+    write_who(&mut out, 0)?;
+    write_who(&mut out, 8)?;
+    write_node(&mut out, 31)?;
+    write_node(&mut out, 32)?;
+    assert_eq!(rt; out.as_slice(), b"c7n31h0feedc731dvr".as_slice());
+    Ok(())
+}
+
+#[test]
+fn names_are_read(rt: HostRuntime) {
+    assert_eq!(rt; client_named(b"c7"), Some(7));
+    assert_eq!(rt; client_named(b"c8"), None);
+    assert_eq!(rt; client_named(b"c"), None);
+    assert_eq!(rt; demux_named(b"n31"), Some(31));
+    assert_eq!(rt; demux_named(b"n032"), None);
+    assert_eq!(rt; slot_named(b"h0"), Some(0));
+    assert_eq!(rt; slot_named(b"n0"), None);
+    assert_eq!(rt; who_named(b"feed"), Some(0));
+    assert_eq!(rt; who_named(b"c0"), Some(1));
+    assert_eq!(rt; node_named(b"31"), Some(31));
+    assert_eq!(rt; node_named(b"dvr"), Some(32));
+    assert_eq!(rt; node_named(b"32"), None);
+}
+
+// A filter with three places that aren't 0.
+fn sample() -> SectionFilter {
+    let mut filter = SectionFilter {
+        filter: [0; 16],
+        mask: [0; 16],
+        mode: [0; 16],
+    };
+    filter.filter[0] = 0x42;
+    filter.mask[0] = 0xff;
+    filter.mask[9] = 0x0a;
+    filter.mode[15] = 0x01;
+    filter
+}
+
+#[test]
+fn places_that_are_not_zero_are_written(rt: HostRuntime) -> Result<(), Fail> {
+    let mut out = Vec::new(rt.alloc());
+    write_filter(&mut out, &sample())?;
+    assert_eq!(rt;
+        out.as_slice(),
+        b" 0=42/ff/00 9=00/0a/00 15=00/00/01".as_slice()
+    );
+    Ok(())
+}
+
+#[test]
+fn places_are_read(rt: HostRuntime) {
+    let want = Place {
+        number: 9,
+        filter: 0x00,
+        mask: 0x0a,
+        mode: 0xf0,
+    };
+    assert_eq!(rt; place_named(9, b"9=00/0a/f0"), Some(want));
+    let words: [&[u8]; 6] = [
+        b"16=00/ff/00",
+        b"8=00/ff/00",
+        b"9=00/FF/00",
+        b"9=00/ff/0",
+        b"9=00-ff/00",
+        b"=00/ff/00",
+    ];
+    for word in words {
+        assert_eq!(rt; place_named(9, word), None, "{word:?}");
+    }
+}
