@@ -111,10 +111,8 @@ fn batch_of(alloc: Global, number: u64) -> Result<Option<Arc<Batch>>, NoMemory>
 
 // Each number is this, but that of the shared node.
 fn are_all(numbers: &[u64; 33], all: u64, shared: u64) -> bool {
-    numbers
-        .iter()
-        .enumerate()
-        .all(|(node, number)| *number == if node as u32 == SHARED { shared } else { all })
+    numbers.iter().enumerate().all(|(node, number)| *number
+        == if node as u32 == SHARED { shared } else { all })
 }
 
 #[test]
