@@ -28,10 +28,10 @@ module _ {P V : Type 0} (items : V → List P) (old : List V) (passes : List P) 
         later = λ i x below h. j.later i x (omega arith) (sym (set_elsewhere now n i s (λ here. omega arith)) ∙ h);
         done = λ i a b q from d f h. dite (ℕ_discrete i n)
             (λ here.
-              let is_s : s ≡ b = one_value (set now n s) n s b (set_there now n s (place_below now n r at)) (ap (slice_get (set now n s)) (sym here) ∙ h) in
-              let is_r : r ≡ a = one_value old n r a (j.later n r (omega arith) at) (ap (slice_get old) (sym here) ∙ d) in
-              let is_p : p ≡ q = one_value passes n p q (j.begins n p (ap (λ (z : List P). slice_get z n) e ∙ at_last ys p)) (ap (slice_get passes) (sym here) ∙ f) in
-              subst (λ z. items z ≡ items a ++ q ∷ []) is_s (subst (λ z. items s ≡ items z ++ q ∷ []) is_r (subst (λ z. items s ≡ items r ++ z ∷ []) is_p is)))
+            let is_s : s ≡ b = one_value (set now n s) n s b (set_there now n s (place_below now n r at)) (ap (slice_get (set now n s)) (sym here) ∙ h) in
+            let is_r : r ≡ a = one_value old n r a (j.later n r (omega arith) at) (ap (slice_get old) (sym here) ∙ d) in
+            let is_p : p ≡ q = one_value passes n p q (j.begins n p (ap (λ (z : List P). slice_get z n) e ∙ at_last ys p)) (ap (slice_get passes) (sym here) ∙ f) in
+            subst (λ z. items z ≡ items a ++ q ∷ []) is_s (subst (λ z. items s ≡ items z ++ q ∷ []) is_r (subst (λ z. items s ≡ items r ++ z ∷ []) is_p is)))
             (λ more. j.done i a b q (omega arith) d f (sym (set_elsewhere now n i s more) ∙ h));
       }
 
@@ -53,3 +53,9 @@ module _ {N : Type 0} where
         let r = at_place old who (omega arith) in let p = at_place passes who (omega arith) in
         subst (IsFreshRow callers who (ls ++ l ∷ [])) (sym (d.1 who r.0 s p.0 r.1 p.1 at)) (fresh_row callers who ls (items r.0) l p.0 (f.1 who r.0 r.1) (fresh who p.0 p.1)),
   )
+
+  pub no_rows : {V : Type 0} (items : V → List (TableId × View N)) (callers : ℕ) (rows : List V) → length rows ≡ callers → ((who : ℕ) (r : V) → slice_get rows who ≡ Some r → items r ≡ []) → AreFreshRows items callers [] rows
+  no_rows items callers rows long e = (long, λ who r at. (ap length (e who r at), λ i l p a b. absurd (cc a)))
+
+pub empty_more : {P V : Type 0} (items : V → List P) (rows : List V) (r : V) → items r ≡ [] → ((i : ℕ) (x : V) → slice_get rows i ≡ Some x → items x ≡ []) → (i : ℕ) (x : V) → slice_get (rows ++ r ∷ []) i ≡ Some x → items x ≡ []
+empty_more {P = P} items rows r none each i x at = ⊎_elim (λ a. each i x a) (λ a. subst (λ (z : _). items z ≡ []) a.1 none) (at_end rows r x i at)

@@ -6,10 +6,12 @@ use Rattle.atomic_table.specs.Seated.{TableId}
 use Rattle.node_lock.specs.declared.view.View.{View}
 use Rattle.node_lock.specs.Lists.{Has}
 use Rattle.dmx_calls.specs.History.{Entry}
-use Rattle.adapter.specs.Rows.{Fits, SomeHas, AreAll, AreAllRows, column}
-use Rattle.adapter.specs.Callers.{Caller, SomeIs, AreAllCallers}
+use Rattle.node_lock.specs.Passes.{IsSamePass}
+use Rattle.adapter.specs.Rows.{Fits, AreSamePasses, SomeHas, AreAll, AreAllRows, column}
+use Rattle.adapter.specs.Callers.{Caller, IsSameCaller, SomeIs, AreAllCallers}
 use Rattle.adapter.specs.Ends.{rows_of}
 use Rattle.adapter.proofs.Lists.{at_place, place_below}
+use Rattle.adapter.proofs.Mine.{fits_same}
 
 caller_at : (cs : List Caller) (k : ℕ) (row : List (TableId × View Entry)) → slice_get (rows_of cs) k ≡ Some row → (c : Caller) × (slice_get cs k ≡ Some c) × (c.passes ≡ row)
 caller_at [] k row e = absurd (cc e)
@@ -50,3 +52,33 @@ module _ (locks : List TableId) (cs : List Caller) (a : AreAllCallers locks cs) 
 
 pub rows_end : (cs : List Caller) (c : Caller) (row : List (TableId × View Entry)) → row ≡ c.passes → rows_of (cs ++ c ∷ []) ≡ rows_of cs ++ row ∷ []
 rows_end cs c row e = map-append (λ (x : Caller). x.passes) cs (c ∷ []) ∙ ap (λ (z : List (TableId × View Entry)). rows_of cs ++ z ∷ []) (sym e)
+
+-- ------ callers that have made calls are still all callers
+
+same_passes : (ps qs rs : List (TableId × View Entry)) → AreSamePasses ps qs → AreSamePasses qs rs → AreSamePasses ps rs
+same_passes ps qs rs a b = (
+  b.0 ∙ a.0,
+  λ i p r x z.
+      let low = place_below ps i p x in let long = a.0 in let q = at_place qs i (omega arith) in let f = a.1 i p q.0 x q.1 in let g = b.1 i q.0 r q.1 z in
+      (g.0 ∙ f.0, g.1 ∙ f.1, g.2 ∙ f.2, g.3 ∙ f.3),
+)
+
+pub same_trans : (a b c : Caller) → IsSameCaller a b → IsSameCaller b c → IsSameCaller a c
+same_trans a b c s t = (t.0 ∙ s.0, same_passes a.passes b.passes c.passes s.1 t.1)
+
+-- these are the same callers, in the same order
+abbrev pub AreSameCallers : List Caller → List Caller → Type 0
+AreSameCallers old new = (length new ≡ length old) × ((k : ℕ) (c d : Caller) → slice_get old k ≡ Some c → slice_get new k ≡ Some d → IsSameCaller c d)
+
+pub still_all : (locks : List TableId) (old new : List Caller) → AreAllCallers locks old → AreSameCallers old new → AreAllCallers locks new
+still_all locks old new a s = record {
+  fits = λ k d at. let b = before k d at in fits_same locks b.0.passes d.passes (a.fits k b.0 b.1) b.2.1;
+  own = λ k d at i q is. let b = before k d at in let p = pass_before b.0 d b.2 i q is in p.2.2 ∙ a.own k b.0 b.1 i p.0 p.1 ∙ ap (λ (n : ℕ). n ∷ []) (sym b.2.0);
+  all = λ k d at i q is w below. let b = before k d at in let p = pass_before b.0 d b.2 i q is in let m = a.all k b.0 b.1 i p.0 p.1 w (subst (λ (n : ℕ). w < n) p.2.3 below) in
+      let low = place_below old m.0 m.1 m.2 in let long = s.0 in let now = at_place new m.0 (omega arith) in (m.0, now.0, now.1, (s.1 m.0 m.1 now.0 m.2 now.1).0 ∙ m.3);
+} where
+  before : (k : ℕ) (d : Caller) → slice_get new k ≡ Some d → (c : Caller) × (slice_get old k ≡ Some c) × IsSameCaller c d
+  before k d at = let low = place_below new k d at in let long = s.0 in let c = at_place old k (omega arith) in (c.0, c.1, s.1 k c.0 d c.1 at)
+
+  pass_before : (c d : Caller) → IsSameCaller c d → (i : ℕ) (q : TableId × View Entry) → slice_get d.passes i ≡ Some q → (p : TableId × View Entry) × (slice_get c.passes i ≡ Some p) × IsSamePass p q
+  pass_before c d t i q is = let low = place_below d.passes i q is in let long = t.1.0 in let p = at_place c.passes i (omega arith) in (p.0, p.1, t.1.1 i p.0 q p.1 is)

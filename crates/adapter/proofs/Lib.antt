@@ -12,3 +12,4 @@ pub mod Deals
 pub mod Tries
 pub mod Growing
 pub mod Everybody
+pub mod Pairs

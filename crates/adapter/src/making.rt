@@ -75,9 +75,12 @@ pub(crate) fn with_dvr(
     ensures { IfOk result (λ all. (vec_len all ≡ vec_len passes) × AreLastFirst (vec_len passes) (demux.now.items ++ dvr.now ∷ []) all.items) }
 {
     let mut all = Vec::with_capacity(alloc, rows.len())?;
-    while let Some(demux) = rows.pop() {
-        let dvr = passes.pop().unwrap();
-        all.push(NodePasses { demux, dvr })?;
+    while let Some(row) = rows.pop() {
+        let pass = passes.pop().unwrap();
+        all.push(NodePasses {
+            demux: row,
+            dvr: pass,
+        })?;
     }
     Ok(all)
 }

@@ -4,7 +4,6 @@ use Rattle.std.specs.Prelude.{nat_lt, if◌then◌else◌, slice_index_or, optio
 use Rattle.std.specs.Option.{MatchOption}
 use Rattle.dmx_calls.specs.declared.limits.TheConstants.{DEMUX_NODES}
 use Rattle.dmx_calls.specs.Response.{TapChange, KeepTap, AttachTap, DetachTap, Response, Done, Busy, Refused, NoMemory, Data, Again, Overflow, TimedOut, Ready, Passed}
-use Rattle.client_script.specs.declared.line.Line.{Line}
 use Rattle.client_script.specs.declared.line.Target.{Target}
 use Rattle.client_script.specs.declared.line.Target.TheVariants.{Node, Slot, Dvr}
 use Rattle.client_script.specs.declared.line.Verb.{Verb}

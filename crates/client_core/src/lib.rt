@@ -1,13 +1,30 @@
-//! The client machine of a script: what a client calls next, by the replies that it has got.
+//! The clients of a script: what each calls next, by the replies that it has got.
 //!
-//! What a contract sees: a `ClientCore` as the record `Core` of `specs/Core.antt`; `IsAfter client lines replies core` says
-//! that it stands after these replies. The definitions are `progress`, `next_event`, `outcomes` and `waits_on` of
-//! `specs/Events.antt`, over what each command does by its replies (`specs/Commands.antt`).
+//! A client does its commands in the order of their lines. Most commands make one call. `open` of a slot opens the demux
+//! nodes 0, 1, 2 and so on until one isn't busy; `readw` repeats its read while nothing is there and the stream goes on;
+//! `drain` repeats it until the stream has ended, a read is refused or times out, or no bytes come. A command other than
+//! `open` on a slot that is bound to no node makes no call. Where a demux node's reply changes its tap, the client's next
+//! call tells the dvr node of it. All of this is this project's own.
 //!
-//! What is proved: `next`, `next_at`, `take`, `waits` and `outcomes` are the definitions'. Worked examples, computed by the
-//! check. A client makes at most 33 calls a command, beside the reads that it repeats (`calls_are_few`).
+//! What a contract sees: a `ClientCore` as the record `Core` of `specs/Core.antt`, which holds no history;
+//! `IsAfter client lines replies core` says that it stands after these replies to this client of the script. The
+//! definitions are functions of the script and of the replies alone: `done` says what a command does
+//! (`specs/Commands.antt`), and `progress`, `next_event`, `waits_on`, `current_line` and `outcomes` how far a client is
+//! (`specs/Events.antt`). `IsRun` (`specs/IsRun.antt`) says of 33 lists of printed entries that they are a run: each is
+//! legal, the feeder's packets pass every node in the same batches, and each client made just the calls that its commands
+//! ask for. `most_calls` (`specs/Budget.antt`) is the most calls of a client.
 //!
-//! A draft: no tests, no must-fail edits. `ClientCore::new` takes all memory.
+//! What is proved: `new` stands after no replies; `take` carries a core that stands after some replies to one that stands
+//! after one more, and leaves nothing else open (`HasTaken`); `next`, `next_at`, `line`, `waits` and `outcomes` are what
+//! the definitions say of the replies taken. `call_of` makes the call that is asked for, a Read with an empty buffer, and
+//! only a Read can find that memory is wanting. Laws of the definitions: a client makes at most 33 calls a command, beside
+//! the reads that it repeats (`calls_are_few`); one reply more repeats at most one read more (`one_reply_repeats_once`).
+//! The worked examples of `examples` are computed by the check.
+//!
+//! What is only tested: that memory isn't refused where there is enough.
+//!
+//! Limits: `ClientCore::new` takes all memory of a client, two lists as long as its commands, and `call_of` that of a
+//! Read's buffer. `take` passes over a row of commands on unbound slots in one call; every other call takes constant time.
 #![tactic(auto)]
 
 mod call;

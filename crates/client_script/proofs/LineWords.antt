@@ -1,5 +1,5 @@
 -- The words of a line's spelling.
-use Rattle.std.proofs.Common.{◌≡◌, ◌<◌, ◌≤◌, ◌^◌, ◌+◌, refl, ap, ◌∙◌, ℕ, List, [], ◌∷◌, ◌++◌, Bool, false, codes, arith, append-nil}
+use Rattle.std.proofs.Common.{◌≡◌, ◌<◌, ◌≤◌, refl, ap, ◌∙◌, ℕ, List, [], ◌∷◌, ◌++◌, false, codes, arith, append-nil}
 use Rattle.std.proofs.lemmas.Bool.Decides.{nat_tests}
 use Rattle.std.proofs.lemmas.List.Elements.{All-nil, All-cons, All-head, All-tail, All-append, All-weaker}
 use Rattle.std.proofs.lemmas.List.Splits.{slice_split_none, slice_split_at}
@@ -7,8 +7,8 @@ use Rattle.std.specs.Prelude.{◌==◌}
 use Rattle.std.specs.List.{All, flat_map}
 use Rattle.std.specs.Fmt.{decimal}
 use Rattle.text_forms.specs.Words.{input_text, output_text}
-use Rattle.text_forms.specs.Names.{client_text, demux_text, slot_text}
-use Rattle.text_forms.specs.Places.{place_text, place_at, filter_text, filter_words}
+use Rattle.text_forms.specs.Names.{client_text}
+use Rattle.text_forms.specs.Places.{place_at, filter_words}
 use Rattle.text_forms.proofs.FiltersRead.{filter_text-words, filter_words-each}
 use Rattle.text_forms.proofs.Visible.{IsVisible, AreVisible, decimal-visible, behind-visible, place_text-visible, visible_by_test, input_text-visible, output_text-visible}
 use Rattle.client_script.specs.Words.{words_of}

@@ -1,5 +1,5 @@
 -- A line that is spelled is read again.
-use Rattle.std.proofs.Common.{◌≡◌, ◌<◌, ◌≤◌, ◌^◌, ◌+◌, refl, ap, ◌∙◌, ℕ, zero, suc, List, [], ◌∷◌, ◌++◌, Bool, true, false, length, map, codes, arith, append_assoc, append-nil}
+use Rattle.std.proofs.Common.{◌≡◌, ◌<◌, ◌≤◌, ◌^◌, ◌+◌, refl, ℕ, zero, suc, List, [], ◌∷◌, ◌++◌, false, length, codes, arith, append_assoc, append-nil}
 use Rattle.std.proofs.lemmas.List.Elements.{All-nil, All-cons, All-head, All-tail}
 use Rattle.std.proofs.lemmas.List.Splits.{slice_split_at}
 use Rattle.std.specs.Prelude.{◌==◌, Option, Some, None, Ok}
@@ -7,8 +7,8 @@ use Rattle.std.specs.List.{All, flat_map}
 use Rattle.std.specs.Fmt.{decimal}
 use Rattle.filter_match.specs.declared.filter.SectionFilter.{SectionFilter}
 use Rattle.text_forms.specs.Words.{input_text, output_text}
-use Rattle.text_forms.specs.Names.{numbered, client_text, client_named}
-use Rattle.text_forms.specs.Places.{place_named, places_named, filter_with, filter_places, filter_words, IsFilter}
+use Rattle.text_forms.specs.Names.{numbered}
+use Rattle.text_forms.specs.Places.{place_named, places_named, filter_places, filter_words, IsFilter}
 use Rattle.text_forms.specs.declared.places.Place.{Place}
 use Rattle.text_forms.proofs.Decimals.{number_between-decimal}
 use Rattle.text_forms.proofs.NamesRead.{client_named-client_text}
@@ -18,7 +18,7 @@ use Rattle.client_script.specs.Words.{words_of, word_in}
 use Rattle.client_script.specs.Places.{places_in, filter_in}
 use Rattle.client_script.specs.Grammar.{number_in, numbered_target, target_of, name_of, section_in, pes_in, verb_in, command_in, line_in, line_of, is_passed_over, meaning, IsTargetInRange, IsVerbInRange, IsInRange}
 use Rattle.client_script.specs.Spelling.{name_text, target_text, line_text, command_text, spelling, with_number, numbered_from}
-use Rattle.client_script.specs.Script.{whole_lines, is_stream, before, lines_from, grammar}
+use Rattle.client_script.specs.Script.{whole_lines, is_stream, lines_from, grammar}
 use Rattle.client_script.specs.declared.fault.ScriptFault.{ScriptFault}
 use Rattle.client_script.specs.declared.names.CommandName.{CommandName}
 use Rattle.client_script.specs.declared.names.CommandName.TheVariants.{Open as OpenName, Close as CloseName, Section as SectionName, Pes as PesName, Add as AddName, Remove as RemoveName, Start as StartName, Stop as StopName, Size as SizeName, Read as ReadName, ReadWait as ReadWaitName, Drain as DrainName, Poll as PollName}

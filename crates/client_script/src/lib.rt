@@ -9,20 +9,25 @@
 //! of one line (`specs/Grammar.antt`), where each word is asked for by its place (`specs/Words.antt`, `specs/Places.antt`).
 //! The first word that isn't what its place asks names the kind of the fault; a missing word and a word too many are
 //! `Count`. A line has one `spelling` (`specs/Spelling.antt`). `split` says how a session's input falls into its script
-//! part and its stream.
+//! part and its stream. The spellings of numbers, names and filter bytes are those of `text_forms`.
 //!
 //! What is proved: `Script::read` answers just the lines or the fault that `grammar` gives, unless memory is refused. A
-//! script has at most 1,048,576 lines, each with its client, its target and its numbers in the ranges of the grammar
-//! (`IsScript`, which `Script::lines` tells). `Script::clients` is 1 plus the highest client that a line names, or 0.
-//! `print` appends the spelling of a line, and where memory is refused the bytes are as they were. What the grammar gives
-//! for lines and scripts worked out by hand are the clauses of `examples`, computed by the check. The law
-//! `nothing_behind_the_stream_is_examined` is about the definitions alone: the script part has the lines, or the fault, of
-//! all bytes that are searched for it.
+//! script has at most 1,048,576 lines, each with its client, its target, its numbers and its filter's bytes in the ranges
+//! of the grammar (`IsScript`, which `Script::lines` tells). `Script::clients` is 1 plus the highest client that a line
+//! names, or 0. `print` appends the spelling of a line, and where memory is refused the bytes are as they were. A
+//! `ScriptPart` is the bytes that were added to it, and its `end` tells where the first whole line `stream` ends. What the
+//! grammar gives for lines and scripts worked out by hand are the clauses of `examples`, computed by the check.
 //!
-//! What is only tested: that reading a spelling gives its line again; that memory isn't refused where there is enough.
+//! Laws about the definitions alone: what is printed is read again (`printed_lines_are_read_again`); the script part has
+//! the lines, or the fault, of all bytes that are searched for it (`nothing_behind_the_stream_is_examined`); and the first
+//! bytes of an input give its parts, where they hold the whole line `stream`
+//! (`the_script_part_ends_with_its_line_stream`), and where no more bytes are searched
+//! (`without_a_line_stream_all_bytes_are_the_script_part`).
 //!
-//! Limits: at most 1,048,576 bytes are read, each a few times. Memory is taken for the lines alone; words are read where
-//! they stand. `print` takes memory for its text.
+//! What is only tested: that memory isn't refused where there is enough.
+//!
+//! Limits: at most 1,048,576 bytes are read, each a few times; `ScriptPart` looks at each byte once. Memory is taken for the
+//! lines and for the bytes of a script part; words are read where they stand. `print` takes memory for its text.
 //!
 //! The language is this project's own. What the commands ask of a node are the calls of `dmx_calls`.
 #![tactic(auto)]

@@ -1,13 +1,12 @@
 // Lines and what they ask for, scripts and what they give, and faults, worked out by hand from the rules.
-use crate::{FaultKind, Line, Script, ScriptError, ScriptFault, Target, Verb, print};
+use crate::{
+    FaultKind, Line, MOST_BYTES, Script, ScriptError, ScriptFault, ScriptPart, Target, Verb, print,
+};
 use dmx_calls::{Input, Output, PesParams, SectionParams};
 use filter_match::SectionFilter;
 use std::alloc::Global;
 use std::process::Abort;
 use std::test::Fail;
-
-// How many bytes a script has at most.
-const MOST_BYTES: usize = 1_048_576;
 
 // What the first line of a script asks for, where a client makes it.
 const fn command(client: u32, target: Target, verb: Verb) -> Line {
@@ -642,5 +641,25 @@ fn a_line_is_printed_behind_what_is_there(rt: HostRuntime) -> Result<(), Fail> {
     let mut out = joined(rt.alloc(), &[b"feed 1\n"])?;
     print(rt.alloc(), &Line::Tick(20), &mut out)?;
     assert_eq!(rt; out.as_slice(), b"feed 1\ntick 20\n".as_slice());
+    Ok(())
+}
+
+#[test]
+fn a_script_part_ends_when_its_line_stream_is_whole(rt: HostRuntime) -> Result<(), Fail> {
+    let mut part = ScriptPart::new(rt.alloc());
+    assert_eq!(rt; part.end(), None);
+    let pieces: [(&[u8], Option<usize>); 6] = [
+        (b"feed 1\nstr", None),
+        (b"", None),
+        (b"eam", None),
+        (b"\n", Some(14)),
+        (b"G", Some(14)),
+        (b"\nstream\n", Some(14)),
+    ];
+    for (piece, end) in pieces {
+        part.add(piece)?;
+        assert_eq!(rt; part.end(), end, "{piece:?}");
+    }
+    assert_eq!(rt; part.bytes(), b"feed 1\nstream\nG\nstream\n".as_slice());
     Ok(())
 }

@@ -5,6 +5,7 @@ ghost use Rattle.feed_pull.specs.Pulling.{Pulls, fault_of};
 
 use crate::fault::Reading;
 use crate::{PullFault, Puller};
+use dmx_calls::{Head, PidRow};
 use emu_io::{MemSource, Source};
 use std::alloc::{AllocError as NoMemory, Global};
 use std::test::Fail;
@@ -167,5 +168,78 @@ fn all_packets_of_a_source_are_counted(rt: HostRuntime) -> Result<(), Fail> {
     let mut puller = Puller::new(alloc, Vec::new(alloc), 0)?;
     // Five packets are 940 bytes.
     assert_eq!(rt; count_all(&mut puller, &mut source)?, 5);
+    Ok(())
+}
+
+// The head after pulls of three packets, at most 100 of them.
+fn head_at_the_end(
+    alloc: Global,
+    puller: &mut Puller,
+    source: &mut MemSource,
+) -> Result<Option<Head>, Fail>
+    requires faults { puller.old.reading ≡ Reading.Going → source.old.faults < 2 ^ 64 - 1 }
+{
+    'turns: for _turn in 0..100u32 {
+        match puller.pull(source, 3)? {
+            None => return Ok(Some(puller.head(alloc)?)),
+            Some(_) => {}
+        }
+    }
+    Ok(None)
+}
+
+// Packets of these headers with a byte each that all others are, between two bytes 00 and one byte 47.
+fn garbage_and_packets(alloc: Global, packets: &[([u8; 4], u8)]) -> Result<Vec<u8>, Fail> {
+    let mut bytes = vec![in alloc; 0, 0]?;
+    for (header, byte) in packets {
+        bytes.extend_from_slice(header)?;
+        bytes.extend_from_slice(&[*byte; 184])?;
+    }
+    bytes.push(0x47)?;
+    Ok(bytes)
+}
+
+#[test]
+fn the_head_is_that_of_the_stream(rt: HostRuntime) -> Result<(), Fail> {
+    let alloc = rt.alloc();
+    // PID 256: a packet, its duplicate, and one whose counter is not the next; PID 257: one with the error bit.
+    let packets = [
+        ([0x47, 0x41, 0x00, 0x10], 0x22),
+        ([0x47, 0x81, 0x01, 0x10], 0x00),
+        ([0x47, 0x41, 0x00, 0x10], 0x22),
+        ([0x47, 0x01, 0x00, 0x12], 0xff),
+    ];
+    // Four reads give the 755 bytes; the read behind them may fail.
+    for (fails, read_fault) in [(1000, false), (4, true)] {
+        let bytes = garbage_and_packets(alloc, &packets)?;
+        let mut source = MemSource::new(bytes, 200, vec![in alloc; fails]?);
+        let mut puller = Puller::new(alloc, Vec::new(alloc), 0)?;
+        let tally = Tally {
+            packets: 4,
+            skipped: 2,
+            rest: 1,
+        };
+        let two = PidRow {
+            packets: 3,
+            breaks: 1,
+            duplicates: 1,
+            errors: 0,
+        };
+        let one = PidRow {
+            packets: 1,
+            breaks: 0,
+            duplicates: 0,
+            errors: 1,
+        };
+        let head = Head {
+            tally,
+            rows: vec![in alloc; (256, two), (257, one)]?,
+            read_fault,
+        };
+        assert_eq!(rt;
+            head_at_the_end(alloc, &mut puller, &mut source)?,
+            Some(head)
+        );
+    }
     Ok(())
 }

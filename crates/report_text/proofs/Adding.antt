@@ -1,5 +1,5 @@
 -- The sums over nodes.
-use Rattle.std.proofs.Common.{ℕ, zero, suc, ◌+◌, ◌≤◌, ◌≡◌, ◌∙◌, refl, sym, ap, ap₂, Bool, true, false, List, [], ◌∷◌, ◌++◌, length, map, take, drop, Some, slice_get, sum_by, arith, nat_lt, if◌then◌else◌, take-add, length-append, length-drop, take_all}
+use Rattle.std.proofs.Common.{ℕ, suc, ◌+◌, ◌≤◌, ◌≡◌, ◌∙◌, refl, sym, ap, ap₂, Bool, true, false, List, [], ◌∷◌, length, map, take, drop, Some, slice_get, sum_by, arith, nat_lt, if◌then◌else◌, take-add, length-append, length-drop}
 use Rattle.std.proofs.lemmas.List.{length-map}
 use Rattle.std.proofs.lemmas.List.Sums.{sum_by-append, sum_by-cons, sum_by-take-drop}
 use Rattle.dmx_calls.specs.declared.histories.Fed.{Fed}

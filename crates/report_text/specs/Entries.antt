@@ -2,8 +2,7 @@
 use Rattle.std.specs.Prelude.{ℕ, Bool, suc, List, [], ◌∷◌, ◌++◌, codes, nat_lt, if◌then◌else◌}
 use Rattle.std.specs.List.{flat_map, list_any}
 use Rattle.std.specs.Fmt.{decimal}
-use Rattle.dmx_calls.specs.Log.{Act, LogEntry}
-use Rattle.dmx_calls.specs.Response.{Response}
+use Rattle.dmx_calls.specs.Log.{LogEntry}
 use Rattle.text_forms.specs.Names.{who_text, node_text}
 use Rattle.report_text.specs.Acts.{act_text}
 use Rattle.report_text.specs.Replies.{response_text}

@@ -1,5 +1,5 @@
 -- How far the lines of a node are told.
-use Rattle.std.specs.Prelude.{◌≡◌, ◌+◌, ℕ, suc, List, [], ◌∷◌, ◌++◌, drop, Option, Some, None}
+use Rattle.std.specs.Prelude.{◌≡◌, ◌+◌, ℕ, suc, List, ◌∷◌, ◌++◌, drop, Option, Some, None}
 use Rattle.std.specs.List.{flat_map, slice_get}
 use Rattle.dmx_calls.specs.declared.histories.Fed.{Fed}
 use Rattle.dmx_calls.specs.Log.{Act, EndAct, LogEntry}

@@ -28,7 +28,7 @@ fn add_caller(out: &mut Vec<u8>, place: u64, who: u32, step: u64) -> Result<(), 
 }
 
 // `PLACE WHO STEP ACT = REPLY` and a line feed.
-fn add_entry(out: &mut Vec<u8>, entry: &Entry) -> Result<(), NoMemory>
+pub fn add_entry(out: &mut Vec<u8>, entry: &Entry) -> Result<(), NoMemory>
     ensures { OnOk result (out.new.items ≡ out.old.items ++ entry_text (told_entry entry.now)) }
 {
     add_caller(out, entry.place, entry.who, entry.step)?;

@@ -1,9 +1,6 @@
 -- What a node answers to a read, and which calls leave its packets and its end as they were.
-use Rattle.std.proofs.Common.{◌≡◌, refl, sym, ap, subst, ◌∙◌, ℕ, zero, suc, ◌+◌, ◌-◌, ◌<◌, ◌≤◌, Bool, true, false, List, [], ◌∷◌, Option, Some, None, length, arith}
+use Rattle.std.proofs.Common.{◌≡◌, refl, ap, ◌∙◌, ℕ, zero, suc, ◌<◌, Bool, true, false, List, [], ◌∷◌, Option, Some, None}
 use Rattle.std.specs.Prelude.{if◌then◌else◌, nat_eq, ◌||◌}
-use Rattle.std.specs.List.{All}
-use Rattle.std.proofs.lemmas.List.Elements.{All-nil}
-use Rattle.ts_packet.specs.Fields.{IsPacket}
 use Rattle.dmx_calls.specs.declared.reply.Errno.{Errno}
 use Rattle.dmx_calls.specs.declared.params.Input.{Input}
 use Rattle.dmx_calls.specs.Invocation as call
@@ -12,9 +9,9 @@ use Rattle.dmx_calls.specs.Response.{Response, Done, Busy, Refused, NoMemory, Da
 use Rattle.dmx_calls.specs.History.{History, Since, event, entry_of}
 use Rattle.dmx_calls.specs.Tenure.{is_end, has_ended}
 use Rattle.dmx_calls.specs.Rules.{Rules}
-use Rattle.dmx_calls.specs.Ledger.{Misfit, answered_in, answered, total, over}
+use Rattle.dmx_calls.specs.Ledger.{Misfit, answered_in, over}
 use Rattle.dmx_calls.specs.Facts.{Ledger, Facts, facts, ledger_of, ledger_at}
-use Rattle.dmx_calls.specs.Answer.{answer, with_call, response_unless, refusal_to, read_response, read_over, read_timeout, read_bytes, expired_of, most_bytes}
+use Rattle.dmx_calls.specs.Answer.{answer, with_call, response_unless, refusal_to, read_response, read_over, read_timeout, read_bytes, expired_of}
 use Rattle.dmx_calls.specs.Legal.{IsLegalFor}
 use Rattle.dmx_calls.specs.Bytes.{OverflowNamesAByte}
 use Rattle.dmx_calls.proofs.Going.{has_ended_refused, has_ended_after}

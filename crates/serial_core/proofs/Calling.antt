@@ -1,38 +1,30 @@
 -- A client's call is paid for: what it adds to the repeats, it adds to the bytes, or the client waits.
-use Rattle.std.proofs.Common.{◌≡◌, refl, sym, ap, subst, ◌∙◌, ℕ, zero, suc, ◌+◌, ◌-◌, ◌*◌, ◌<◌, ◌≤◌, Bool, true, false, ◌||◌, nat_lt, nat_eq, List, [], ◌∷◌, ◌++◌, Option, Some, None, length, map, replicate, get_or, set, ◌⊎◌, inl, inr, arith, length-append}
-use Rattle.std.specs.Prelude.{if◌then◌else◌, slice_index_or, slice_set, sum_by, is_some, option_map, min}
+use Rattle.std.proofs.Common.{◌≡◌, refl, sym, ap, subst, ℕ, zero, suc, ◌+◌, ◌*◌, ◌≤◌, Bool, true, false, ◌||◌, nat_eq, List, [], ◌∷◌, ◌++◌, Option, Some, None, length, ◌⊎◌, inl, inr, arith, length-append}
+use Rattle.std.specs.Prelude.{if◌then◌else◌, slice_index_or, slice_set, sum_by, is_some, option_map}
 use Rattle.std.specs.Option.{MatchOption}
-use Rattle.std.specs.List.{All, range_with_len}
-use Rattle.std.proofs.lemmas.Bool.Decides.{nat_tests}
-use Rattle.std.proofs.lemmas.List.{length-set}
-use Rattle.std.proofs.lemmas.List.Sums.{sum_by-set, sum_by-append, sum_by-cons, sum_by-le}
-use Rattle.std.proofs.lemmas.List.Elements.{All-map, All-set, All-weaker}
-use Rattle.ts_packet.specs.Fields.{IsPacket}
+use Rattle.std.specs.List.{All}
+use Rattle.std.proofs.lemmas.List.Sums.{sum_by-append, sum_by-cons}
 use Rattle.dmx_calls.specs.declared.limits.TheConstants.{DEMUX_NODES}
 use Rattle.dmx_calls.specs.Response.{Response, Done, Busy, Refused, NoMemory, Data, Again, Overflow, TimedOut, Ready, Passed}
-use Rattle.dmx_calls.specs.Tenure.{has_ended}
 use Rattle.dmx_calls.specs.Rules as rules
 use Rattle.dmx_calls.specs.Answer.{answer}
-use Rattle.dmx_calls.specs.Bytes.{bytes_answered}
 use Rattle.dmx_calls.proofs.Nodes.{demux_keeps, dvr_keeps}
-use Rattle.dmx_calls.proofs.Bytes.{demux_answers_fit, dvr_answers_fit}
 use Rattle.dmx_calls.proofs.Pending.{names_a_byte}
 use Rattle.client_script.specs.declared.line.Line.{Line}
-use Rattle.client_script.specs.declared.line.Line.TheVariants.{Feed, Tick, Command}
 use Rattle.client_core.specs.declared.event.Event.{Event}
 use Rattle.client_core.specs.declared.event.Want.{Want}
 use Rattle.client_core.specs.declared.event.Want.TheVariants.{Open, Close, Section, Pes, Add, Remove, Start, Stop, Size, Read, Poll, Attach, Detach}
 use Rattle.client_core.specs.Commands.{call_of, commands_of, ends_drain}
-use Rattle.client_core.specs.Events.{Standing, progress, next_event, next_of_line, standing_at, waits_on, no_slots}
-use Rattle.client_core.specs.Budget.{repeats, most_calls}
+use Rattle.client_core.specs.Events.{Standing, progress, next_event, next_of_line, standing_at, waits_on}
+use Rattle.client_core.specs.Budget.{repeats}
 use Rattle.client_core.specs.More.{added_by}
 use Rattle.client_core.proofs.Few.{few}
-use Rattle.client_core.proofs.More.{one_reply_more, repeats_none}
-use Rattle.serial_core.specs.Nodes.{Node, uncalled, history_of, answered}
-use Rattle.serial_core.specs.SerialRun.{Run, begun, ended, passed, turned, fed, ticked, replies_of, demux_node, reply_to, called, after_waiting, IsWorked, through, calls, AreDone, finished, IsSerialRun}
-use Rattle.serial_core.specs.Budget.{bytes_in, bytes_to, bytes_by, bytes_by_all, one_if, HasBrought, IsPaid, IsWithinBudget}
-use Rattle.serial_core.proofs.Answering.{IsReadReply, reads, bytes_same}
-use Rattle.serial_core.proofs.Paid.{Brought, client_brought, paid_turned, paid_fed, paid_ticked, paid_finished}
+use Rattle.client_core.proofs.More.{one_reply_more}
+use Rattle.serial_core.specs.Nodes.{Node, history_of}
+use Rattle.serial_core.specs.SerialRun.{Run, ended, replies_of}
+use Rattle.serial_core.specs.Budget.{bytes_in, bytes_to, bytes_by, bytes_by_all, one_if, HasBrought, IsPaid}
+use Rattle.serial_core.proofs.Answering.{IsReadReply, reads}
+use Rattle.serial_core.proofs.Paid.{Brought}
 
 -- ------ one reply
 
@@ -126,7 +118,7 @@ dvr_answers ended n node who now (Detach m) b = tt
 -- ------ the replies of all clients
 
 -- another client's replies stay, and so do those of a client that isn't there
-index_set : (xs : List (List Response)) (i j : ℕ) (y : List Response) → (slice_index_or (slice_set xs i y) j [] ≡ slice_index_or xs j []) ⊎ (j ≡ i) × (slice_index_or (slice_set xs i y) j [] ≡ y)
+pub index_set : (xs : List (List Response)) (i j : ℕ) (y : List Response) → (slice_index_or (slice_set xs i y) j [] ≡ slice_index_or xs j []) ⊎ (j ≡ i) × (slice_index_or (slice_set xs i y) j [] ≡ y)
 index_set [] i j y = inl refl
 index_set (x ∷ xs) zero zero y = inr (refl, refl)
 index_set (x ∷ xs) zero (suc j) y = inl refl

@@ -12,6 +12,13 @@ pub mod Answering
 pub mod Paid
 pub mod Calling
 pub mod Within
+pub mod Keeping
+pub mod Throughout
+pub mod Places
+pub mod Sound
+pub mod Making
+pub mod Feeding
+pub mod Whole
 pub mod Commanding
 pub mod Lawful
 pub mod Passing

@@ -1,43 +1,28 @@
 -- Along a serial run, the calls made so far are paid for.
-use Rattle.std.proofs.Common.{◌≡◌, refl, sym, ap, subst, ◌∙◌, ℕ, zero, suc, ◌+◌, ◌-◌, ◌*◌, ◌<◌, ◌≤◌, Bool, true, false, ◌||◌, nat_lt, nat_eq, List, [], ◌∷◌, ◌++◌, Option, Some, None, length, map, take, drop, fold, replicate, min, get_or, set, ◌⊎◌, inl, inr, arith, length-append, length-take-le, length-drop}
-use Rattle.std.specs.Prelude.{if◌then◌else◌, slice_index_or, slice_set, sum_by, sum, is_some, option_map}
-use Rattle.std.specs.Option.{MatchOption}
-use Rattle.std.specs.List.{All, range_with_len}
+use Rattle.std.proofs.Common.{◌≡◌, refl, sym, ap, subst, ◌∙◌, ℕ, suc, ◌+◌, ◌≤◌, Bool, true, false, ◌||◌, nat_lt, nat_eq, List, [], ◌∷◌, length, map, take, fold, min, inl, arith, length-append, length-take-le, length-drop}
+use Rattle.std.specs.Prelude.{if◌then◌else◌, sum_by, sum, is_some}
+use Rattle.std.specs.List.{All}
 use Rattle.std.proofs.lemmas.Bool.Decides.{nat_tests}
-use Rattle.std.proofs.lemmas.List.{length-set}
-use Rattle.std.proofs.lemmas.List.Sums.{sum_by-set, sum_by-append, sum_by-cons, sum_by-le}
-use Rattle.std.proofs.lemmas.List.Elements.{All-nil, All-append, All-take, All-drop, All-map, All-set, All-weaker, All-head, All-tail}
+use Rattle.std.proofs.lemmas.List.Sums.{sum_by-cons}
+use Rattle.std.proofs.lemmas.List.Elements.{All-nil, All-append, All-take, All-drop, All-map, All-weaker}
 use Rattle.ts_packet.specs.Fields.{IsPacket}
-use Rattle.dmx_calls.specs.declared.limits.TheConstants.{DEMUX_NODES}
 use Rattle.dmx_calls.specs.declared.params.Input.TheVariants.{Frontend}
 use Rattle.dmx_calls.specs.Invocation as call
 use Rattle.dmx_calls.specs.Invocation.{Invocation, brought}
-use Rattle.dmx_calls.specs.Response.{Response, Done, Busy, Refused, NoMemory, Data, Again, Overflow, TimedOut, Ready, Passed, is_accepted}
-use Rattle.dmx_calls.specs.History.{History, event, entry_of, brought_by}
-use Rattle.dmx_calls.specs.Tenure.{has_ended}
+use Rattle.dmx_calls.specs.Response.{is_accepted}
+use Rattle.dmx_calls.specs.History.{History, entry_of, brought_by}
 use Rattle.dmx_calls.specs.Rules as rules
 use Rattle.dmx_calls.specs.Rules.{Rules}
 use Rattle.dmx_calls.specs.Answer.{answer}
-use Rattle.dmx_calls.specs.Bytes.{AnswersFitThePackets, bytes_answered}
-use Rattle.dmx_calls.proofs.Nodes.{demux_keeps, dvr_keeps}
-use Rattle.dmx_calls.proofs.Bytes.{demux_answers_fit, dvr_answers_fit}
-use Rattle.dmx_calls.proofs.Pending.{names_a_byte}
 use Rattle.client_script.specs.declared.line.Line.{Line}
-use Rattle.client_script.specs.declared.line.Line.TheVariants.{Feed, Tick, Command}
-use Rattle.client_core.specs.declared.event.Event.{Event}
 use Rattle.client_core.specs.declared.event.Want.{Want}
-use Rattle.client_core.specs.declared.event.Want.TheVariants.{Open, Close, Section, Pes, Add, Remove, Start, Stop, Size, Read, Poll, Attach, Detach}
-use Rattle.client_core.specs.Commands.{call_of, commands_of, ends_drain}
-use Rattle.client_core.specs.Events.{Standing, progress, next_event, next_of_line, standing_at, waits_on, no_slots}
-use Rattle.client_core.specs.Budget.{repeats, most_calls}
-use Rattle.client_core.specs.More.{added_by}
-use Rattle.client_core.proofs.Few.{few}
-use Rattle.client_core.proofs.More.{one_reply_more, repeats_none}
-use Rattle.serial_core.specs.Nodes.{Node, uncalled, history_of, answered}
-use Rattle.serial_core.specs.SerialRun.{Run, begun, fed_to_all, passed, batch_sizes, all_passed, ended, fed, turned, ticked, replies_of, demux_node, reply_to, made, called, after_waiting, IsWorked, through, calls, AreDone, finished, IsSerialRun}
-use Rattle.serial_core.specs.Budget.{bytes_in, bytes_to, bytes_by, bytes_by_all, one_if, HasBrought, IsPaid, IsWithinBudget}
+use Rattle.client_core.specs.Commands.{call_of}
+use Rattle.client_core.specs.Events.{waits_on}
+use Rattle.serial_core.specs.Nodes.{Node, history_of, answered}
+use Rattle.serial_core.specs.SerialRun.{Run, fed_to_all, passed, batch_sizes, all_passed, ended, fed, turned, ticked, replies_of, finished}
+use Rattle.serial_core.specs.Budget.{bytes_by, bytes_by_all, one_if, HasBrought, IsPaid}
 use Rattle.serial_core.proofs.Sizes.{sizes_sum, sizes_some, AreSome}
-use Rattle.serial_core.proofs.Answering.{IsReadReply, reads, pass_answer, end_answer, end_stays, ends, none_brought, no_end, bytes_same}
+use Rattle.serial_core.proofs.Answering.{end_answer, end_stays, ends, none_brought, no_end}
 
 -- ------ the nodes
 

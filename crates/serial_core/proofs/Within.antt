@@ -1,12 +1,11 @@
 -- The invariants of a serial run's budget: each step of the run keeps them, and they give the bound.
-use Rattle.std.proofs.Common.{◌≡◌, refl, sym, ap, subst, ◌∙◌, ℕ, zero, suc, ◌+◌, ◌-◌, ◌*◌, ◌<◌, ◌≤◌, Bool, true, false, ◌||◌, nat_lt, nat_eq, List, [], ◌∷◌, ◌++◌, Option, Some, None, length, map, replicate, get_or, set, arith}
+use Rattle.std.proofs.Common.{◌≡◌, refl, sym, ap, subst, ◌∙◌, ℕ, zero, suc, ◌+◌, ◌*◌, ◌<◌, ◌≤◌, Bool, true, false, ◌||◌, nat_lt, nat_eq, List, [], ◌∷◌, ◌++◌, Some, length, map, replicate, arith}
 use Rattle.std.specs.Prelude.{if◌then◌else◌, slice_index_or, slice_set, sum_by, is_some, min}
 use Rattle.std.specs.List.{All, range_with_len}
 use Rattle.std.proofs.lemmas.Bool.Decides.{nat_tests}
 use Rattle.std.proofs.lemmas.List.{length-set}
 use Rattle.std.proofs.lemmas.List.Sums.{sum_by-set, sum_by-le}
 use Rattle.std.proofs.lemmas.List.Elements.{All-nil, All-map, All-set, All-weaker}
-use Rattle.std.proofs.Math.Nat.{mul-le-mul_left}
 use Rattle.ts_packet.specs.Fields.{IsPacket}
 use Rattle.dmx_calls.specs.declared.limits.TheConstants.{DEMUX_NODES}
 use Rattle.dmx_calls.specs.Response.{Response}
@@ -23,8 +22,8 @@ use Rattle.client_core.specs.Events.{next_event, next_of_line, waits_on, no_slot
 use Rattle.client_core.specs.Budget.{repeats, most_calls}
 use Rattle.client_core.proofs.More.{repeats_none}
 use Rattle.serial_core.specs.Nodes.{Node, uncalled, history_of, answered}
-use Rattle.serial_core.specs.SerialRun.{Run, begun, ended, passed, turned, fed, ticked, replies_of, demux_node, reply_to, called, after_waiting, IsWorked, through, calls, AreDone, finished, IsSerialRun}
-use Rattle.serial_core.specs.Budget.{bytes_in, bytes_to, bytes_by, bytes_by_all, one_if, HasBrought, IsPaid, all_commands, IsWithinBudget}
+use Rattle.serial_core.specs.SerialRun.{Run, begun, ended, passed, turned, fed, ticked, replies_of, demux_node, called, after_waiting, IsWorked, through, calls, AreDone, IsSerialRun}
+use Rattle.serial_core.specs.Budget.{bytes_in, bytes_by, bytes_by_all, one_if, HasBrought, IsPaid, all_commands, IsWithinBudget}
 use Rattle.serial_core.proofs.Answering.{bytes_same}
 use Rattle.serial_core.proofs.Paid.{Brought, client_brought, paid_turned, paid_fed, paid_ticked, paid_finished}
 use Rattle.serial_core.proofs.Calling.{IsReady, demux_answers, dvr_answers, paid_with, next_at_line}
@@ -39,7 +38,7 @@ none_brought node = record { legal = tt; are_packets = All-nil IsPacket; brought
 all_new : (numbers : List ℕ) → All (Brought 0 false) (map uncalled numbers)
 all_new numbers = All-map (Brought 0 false) uncalled numbers (λ k d lt. none_brought demux)
 
-none_said : (n client : ℕ) → slice_index_or (replicate {A = List Response} n []) client [] ≡ []
+pub none_said : (n client : ℕ) → slice_index_or (replicate {A = List Response} n []) client [] ≡ []
 none_said zero client = refl
 none_said (suc n) zero = refl
 none_said (suc n) (suc client) = none_said n client

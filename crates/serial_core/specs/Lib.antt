@@ -6,3 +6,4 @@ pub mod Examples
 pub mod Standing
 pub mod Moving
 pub mod Budget
+pub mod Whole

@@ -1,6 +1,7 @@
 // Laws of the definitions.
 ghost use Rattle.serial_core.specs.Laws.{HistoriesAreLegal, IsOne, PacketsPass, TriedIsRun};
 ghost use Rattle.serial_core.specs.Budget.{IsWithinBudget};
+ghost use Rattle.serial_core.specs.Whole.{SerialRunsAreRuns};
 
 /// A script and a stream have one serial run at most.
 pub fn the_serial_run_is_one()
@@ -15,6 +16,12 @@ pub fn what_is_tried_is_the_run()
 /// Each client of a serial run makes at most `most_calls` calls, for its own commands and the bytes of the stream's packets.
 pub fn clients_are_within_budget()
     ensures { IsWithinBudget }
+{}
+
+/// The serial run of a script is a run of it: the histories of its nodes are legal and accounted, every packet passes each node
+/// once and in order, and each client did just what its commands ask.
+pub fn the_serial_run_is_a_run()
+    ensures { SerialRunsAreRuns }
 {}
 
 /// The serial run of a script has the demux nodes 0 to 31 and the dvr node, and each of their 33 histories is legal for its

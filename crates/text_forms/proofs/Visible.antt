@@ -1,5 +1,5 @@
 -- The bytes of words stand behind the space in ASCII: they are no spaces and no line feeds.
-use Rattle.std.proofs.Common.{◌≡◌, ◌<◌, ◌^◌, ◌+◌, ◌/◌, ◌%◌, refl, ℕ, List, [], ◌∷◌, ◌++◌, Bool, true, false, codes, arith}
+use Rattle.std.proofs.Common.{◌≡◌, ◌<◌, ◌^◌, ◌/◌, ◌%◌, refl, ℕ, List, [], ◌∷◌, ◌++◌, Bool, true, codes, arith}
 use Rattle.std.proofs.lemmas.Bool.Decides.{nat_tests}
 use Rattle.std.proofs.lemmas.List.Elements.{All-nil, All-cons, All-append}
 use Rattle.std.specs.List.{All, list_all}

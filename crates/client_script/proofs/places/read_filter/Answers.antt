@@ -21,7 +21,7 @@ pub places-preserved : goal.places-preserved
 places-preserved c =
     record {
       read = rw c.set_place.ensures.set (c.places.invariant.read
-      ∙ filter_by-place c.places.filter _ (16 - (c.places._place + 1)) c.places.least c.places.words c.in-Some.word.now c.next.new.self c.in-Some-place_named.place (omega arith) (search rules) (search rules));
+          ∙ filter_by-place c.places.filter _ (16 - (c.places._place + 1)) c.places.least c.places.words c.in-Some.word.now c.next.new.self c.in-Some-place_named.place (omega arith) (search rules) (search rules));
       range = search rules;
     }
 

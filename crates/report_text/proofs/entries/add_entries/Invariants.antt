@@ -1,4 +1,4 @@
-use Rattle.std.proofs.Common.{◌≡◌, ◌≤◌, ◌+◌, length}
+use Rattle.std.proofs.Common.{◌≤◌, ◌+◌, length}
 use Rattle.report_text.proofs.Turning.{IsWeaving}
 use Rattle.report_text.proofs.entries.add_entries.Given as goal
 

@@ -1,4 +1,4 @@
-use Rattle.std.proofs.Common.{◌≡◌, ◌≤◌, ◌+◌, ◌-◌, length}
+use Rattle.std.proofs.Common.{◌≤◌, ◌+◌, ◌-◌, length}
 use Rattle.report_text.proofs.Turning.{IsTelling}
 use Rattle.report_text.proofs.entries.add_turns_before.Given as goal
 

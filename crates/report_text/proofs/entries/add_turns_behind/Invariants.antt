@@ -1,4 +1,4 @@
-use Rattle.std.proofs.Common.{◌≡◌, ◌≤◌, ◌+◌, ◌-◌, length}
+use Rattle.std.proofs.Common.{◌≤◌, ◌+◌, ◌-◌, length}
 use Rattle.report_text.proofs.Turning.{IsEnding}
 use Rattle.report_text.proofs.entries.add_turns_behind.Given as goal
 

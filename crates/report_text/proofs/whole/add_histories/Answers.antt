@@ -1,4 +1,4 @@
-use Rattle.std.proofs.Common.{◌≡◌, ◌<◌, ℕ, List, map, length, refl, arith}
+use Rattle.std.proofs.Common.{◌≡◌, map, length, refl, arith}
 use Rattle.dmx_calls.specs.Calls.{told_entry}
 use Rattle.dmx_calls.specs.Histories.{feeder_acts, woven}
 use Rattle.report_text.specs.Entries.{history_text, histories_text}
@@ -9,11 +9,12 @@ pub nodes-init : goal.nodes-init
 nodes-init c = (λ some. absurd (omega (arith, some)), refl)
 
 pub nodes-preserved : goal.nodes-preserved
-nodes-preserved c =
-    (λ _. c.node.ensures.nodes,
-    told-more history_text histories_text (λ n. refl, λ n x xs. refl) c.args.histories.now c.args.out.now.items c.nodes.node
-        (woven c.nodes.node (feeder_acts c.node.result.0.now) (map told_entry c.node.result.1.now)) c.nodes.out.items c.add_history.new.out.items
-        c.node.ensures.history c.nodes.invariant.1 c.in_ok-add_history.ensures)
+nodes-preserved c = (
+  λ _. c.node.ensures.nodes,
+  told-more history_text histories_text (λ n. refl, λ n x xs. refl) c.args.histories.now c.args.out.now.items c.nodes.node
+      (woven c.nodes.node (feeder_acts c.node.result.0.now) (map told_entry c.node.result.1.now)) c.nodes.out.items c.add_history.new.out.items
+      c.node.ensures.history c.nodes.invariant.1 c.in_ok-add_history.ensures,
+)
 
 pub returns : goal.returns
 returns c =

@@ -1,0 +1,134 @@
+-- Each node's history is legal, finds memory, and brings packets of the stream; and its log tells it.
+use Rattle.std.proofs.Common.{◌≡◌, ◌≢◌, refl, sym, ap, subst, ◌∙◌, ℕ, zero, suc, ◌≤◌, Bool, true, false, nat_eq, List, [], ◌∷◌, Option, Some, None, length, map, reverse, ◌⊎◌, inl, inr}
+use Rattle.std.specs.Prelude.{if◌then◌else◌, slice_get}
+use Rattle.std.proofs.lemmas.List.{map-append, reverse-append}
+use Rattle.dmx_calls.specs.declared.reply.Errno.{Errno}
+use Rattle.dmx_calls.specs.Invocation as call
+use Rattle.dmx_calls.specs.Invocation.{Invocation}
+use Rattle.dmx_calls.specs.Response.{TapChange, Response, NoMemory}
+use Rattle.dmx_calls.specs.History.{History}
+use Rattle.dmx_calls.specs.Rules.{Rules, rules_at}
+use Rattle.dmx_calls.specs.Ledger.{Misfit}
+use Rattle.dmx_calls.specs.Facts.{Ledger, Facts, facts}
+use Rattle.dmx_calls.specs.Answer.{answer, with_call, response_unless, refusal_to, response_to, read_response, read_over, read_timeout, read_bytes, expired_of, open_response, done_dropping}
+use Rattle.dmx_calls.specs.Legal.{IsLegalFor}
+use Rattle.dmx_calls.specs.Log.{LogEntry, IsOfStream, act_of, filled_entry, filled}
+use Rattle.dmx_calls.proofs.Telling.{fills}
+use Rattle.serial_core.specs.Nodes.{Told, Node, history_in, history_of, answered, log_in}
+use Rattle.serial_core.proofs.Places.{get_cases, entries_of}
+
+-- ------ an answer is never want of memory
+
+abbrev pub IsFound : Response → Type 0
+IsFound NoMemory = ⊥
+IsFound _ = Unit {0}
+
+if_found : (b : Bool) (r q : Response) → IsFound r → IsFound q → IsFound (if b then r else q)
+if_found true r q x y = x
+if_found false r q x y = y
+
+unless_found : (o : Option Errno) (r : Response) → IsFound r → IsFound (response_unless o r)
+unless_found None r is = is
+unless_found (Some errno) r is = tt
+
+open_found : (o : Option ℕ) → IsFound (open_response o)
+open_found None = tt
+open_found (Some who) = tt
+
+dropping_found : (o : Option Ledger) (tap : TapChange) → IsFound (done_dropping o tap)
+dropping_found None tap = tt
+dropping_found (Some l) tap = tt
+
+bytes_found : (f : Facts) (l : Ledger) (count : ℕ) → IsFound (read_bytes f l count)
+bytes_found f l zero = tt
+bytes_found f l (suc n) = if_found (nat_eq l.answered l.total) _ _ tt tt
+
+timeout_found : (f : Facts) (l : Ledger) (expired : Option ℕ) (count : ℕ) → IsFound (read_timeout f l expired count)
+timeout_found f l None count = bytes_found f l count
+timeout_found f l (Some moment) count = if_found l.is_told (read_bytes f l count) _ (bytes_found f l count) tt
+
+over_found : (f : Facts) (l : Ledger) (o : Option Misfit) (expired : Option ℕ) (count : ℕ) → IsFound (read_over f l o expired count)
+over_found f l None expired count = timeout_found f l expired count
+over_found f l (Some x) expired count = tt
+
+read_found : (f : Facts) (o : Option Ledger) (expired : Option ℕ) (count : ℕ) → IsFound (read_response f o expired count)
+read_found f None expired count = tt
+read_found f (Some l) expired count = over_found f l l.over expired count
+
+response_found : (f g : Facts) (c : Invocation) → IsFound (response_to f g c)
+response_found f g call.Open = open_found f.owner
+response_found f g call.Close = dropping_found f.ledger _
+response_found f g (call.SetFilter p now) = dropping_found f.ledger _
+response_found f g (call.SetPes p now) = dropping_found f.ledger _
+response_found f g (call.AddPid n) = tt
+response_found f g (call.RemovePid n) = tt
+response_found f g (call.Start now) = dropping_found f.ledger _
+response_found f g call.Stop = tt
+response_found f g (call.SetSize n) = if_found (nat_eq n f.size) _ (done_dropping f.ledger _) tt (dropping_found f.ledger _)
+response_found f g (call.Read now count) = read_found f f.ledger (expired_of g.ledger) count
+response_found f g (call.Poll now) = tt
+response_found f g (call.Pass i first ps now) = tt
+response_found f g call.End = tt
+response_found f g (call.Attach n ps) = tt
+response_found f g (call.Detach n) = tt
+
+found_not : (r : Response) → IsFound r → r ≢ NoMemory
+found_not r is same = subst IsFound same is
+
+pub answer_found : (node : Rules) (h : History) (who : ℕ) (c : Invocation) → answer node h who c ≢ NoMemory
+unfolding answer
+answer_found node h who c = found_not (answer node h who c) (unless_found (refusal_to node.kind (facts node h) who c) (response_to (facts node h) (facts node (with_call h who c)) c) (response_found (facts node h) (facts node (with_call h who c)) c))
+
+-- ------ a node
+
+module _ (packets : List (List ℕ)) (clients : ℕ) where
+  -- callers are the feeder and the clients, memory was found, and the packets are the stream's
+  abbrev pub AreGood : List Told → Type 0
+  AreGood [] = Unit {0}
+  AreGood (told ∷ calls) = AreGood calls × (told.entry.who ≤ clients) × (told.entry.response ≢ NoMemory) × IsOfStream packets told.entry.invocation
+
+  pub record IsSound (node : ℕ) (n : Node) : Type 0 where
+    pub number : n.number ≡ node
+    pub legal : IsLegalFor (rules_at node) (history_of n)
+    pub good : AreGood n.calls
+
+  pub sound_answered : (node : ℕ) (n : Node) (who step : ℕ) (c : Invocation) → who ≤ clients → IsOfStream packets c → IsSound node n → IsSound node (answered (rules_at node) who step c n)
+  sound_answered node n who step c le of s = record {
+    number = s.number;
+    legal = (s.legal, inl refl);
+    good = (s.good, le, answer_found (rules_at node) (history_of n) who c, of);
+  }
+
+  -- what a log says of its entries
+  abbrev pub IsPlaced : (number place : ℕ) → LogEntry → Type 0
+  IsPlaced number place e = (e.node ≡ number) × (e.place ≡ place) × (e.who ≤ clients) × (e.response ≢ NoMemory)
+
+  placed : (number : ℕ) (calls : List Told) → AreGood calls → (place : ℕ) (e : LogEntry) → slice_get (log_in number calls).entries place ≡ Some e → IsPlaced number place e
+  placed number [] good place e is = absurd (cc)
+  placed number (told ∷ calls) good place e is =
+      go (placed number calls good.0 place e) (get_cases (log_in number calls).entries
+          (record { node = (log_in number calls).node; place = length (log_in number calls).entries; step = told.step; who = told.entry.who; act = act_of told.entry.invocation; response = told.entry.response }) place e is) where
+    same_number : (cs : List Told) → (log_in number cs).node ≡ number
+    same_number [] = refl
+    same_number (t ∷ cs) = same_number cs
+
+    go : (slice_get (log_in number calls).entries place ≡ Some e → IsPlaced number place e) → (slice_get (log_in number calls).entries place ≡ Some e) ⊎ (place ≡ length (log_in number calls).entries)
+        × (record { node = (log_in number calls).node; place = length (log_in number calls).entries; step = told.step; who = told.entry.who; act = act_of told.entry.invocation; response = told.entry.response } ≡ e) → IsPlaced number place e
+    go before (inl old) = before old
+    go before (inr new) = subst (IsPlaced number place) new.1 (same_number calls, sym new.0, good.1, good.2)
+
+  pub sound_placed : (node : ℕ) (n : Node) → IsSound node n → (place : ℕ) (e : LogEntry) → slice_get (entries_of n) place ≡ Some e → IsPlaced node place e
+  sound_placed node n s place e is = subst (λ k. IsPlaced k place e) s.number (placed n.number n.calls s.good place e is)
+
+  -- filled with the packets of the stream, a log is the history
+  fills_log : (number : ℕ) (calls : List Told) → AreGood calls → filled packets (log_in number calls).entries ≡ history_in calls
+  fills_log number [] good = refl
+  fills_log number (told ∷ calls) good =
+      let x : LogEntry = record { node = (log_in number calls).node; place = length (log_in number calls).entries; step = told.step; who = told.entry.who; act = act_of told.entry.invocation; response = told.entry.response } in
+      ap reverse (map-append (filled_entry packets) (log_in number calls).entries (x ∷ []))
+      ∙ reverse-append (map (filled_entry packets) (log_in number calls).entries) (filled_entry packets x ∷ [])
+      ∙ ap (λ h. filled_entry packets x ∷ h) (fills_log number calls good.0)
+      ∙ ap (λ c. record { who = told.entry.who; invocation = c; response = told.entry.response } ∷ history_in calls) (fills packets told.entry.invocation good.3)
+
+  pub sound_filled : (node : ℕ) (n : Node) → IsSound node n → filled packets (entries_of n) ≡ history_of n
+  sound_filled node n s = fills_log n.number n.calls s.good
