@@ -1,5 +1,5 @@
 // Laws of the definitions.
-ghost use Rattle.std.specs.Prelude.{◌≡◌, ◌≤◌, ◌⊎◌, ◌++◌, ◌∷◌, [], ℕ, List, length, take, drop, codes, Some, None};
+ghost use Rattle.std.specs.Prelude.{◌≡◌, ◌<◌, ◌≤◌, ◌⊎◌, ◌++◌, ◌∷◌, [], ℕ, List, length, take, drop, codes, Some, None};
 ghost use Rattle.std.specs.List.{All, flat_map};
 ghost use Rattle.client_script.specs.Grammar.{IsInRange};
 ghost use Rattle.client_script.specs.Script.{grammar, split, most_bytes, script_len, whole_lines};
@@ -30,4 +30,9 @@ pub fn the_script_part_ends_with_its_line_stream()
 pub fn without_a_line_stream_all_bytes_are_the_script_part()
     ensures { (first others : List ℕ) → length first ≤ most_bytes → script_len (whole_lines first) ≡ None
         → (length first ≡ most_bytes) ⊎ (others ≡ []) → split (first ++ others) ≡ record { script = first; stream = None } }
+{}
+
+/// The line `stream` ends behind all bytes that don't hold it.
+pub fn the_line_stream_ends_behind_bytes_that_lack_it()
+    ensures { (first others : List ℕ) (n : ℕ) → script_len (whole_lines first) ≡ None → script_len (whole_lines (first ++ others)) ≡ Some n → length first < n }
 {}

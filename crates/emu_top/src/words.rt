@@ -1,18 +1,11 @@
 // The words of the command line.
-ghost use Rattle.std.specs.Prelude.{◌≡◌, ◌↔◌, ◌≤◌, map, IsTrue, IfSome, string_bytes};
-ghost use Rattle.emu_top.specs.Words.{is_word as is_this_word, meant, IsAccepted};
+ghost use Rattle.std.specs.Prelude.{◌≡◌, ◌≤◌, map, IfSome, string_bytes};
+ghost use Rattle.emu_top.specs.Words.{meant};
 
-use crate::number::number_between;
+use text_forms::{is_word, number_between};
 
 // The most packets of a batch.
-const MOST_IN_BATCH: u32 = 64;
-
-// Whether a word is this text.
-pub fn is_word(word: &[u8], text: &str) -> bool
-    ensures { result ≡ is_this_word word.now text.now }
-{
-    word == text.as_bytes()
-}
+const MOST_IN_BATCH: u64 = 64;
 
 // How many packets a batch has at most, by the words; None where they aren't accepted.
 pub fn batch_of_words(words: &[String]) -> Option<u32>
@@ -27,15 +20,11 @@ pub fn batch_of_words(words: &[String]) -> Option<u32>
             if !is_word(option.as_bytes(), "--batch") {
                 return None;
             }
-            number_between(1, MOST_IN_BATCH, batch.as_bytes())
+            match number_between(1, MOST_IN_BATCH, batch.as_bytes()) {
+                Some(batch) => Some(batch as u32),
+                None => None,
+            }
         }
         _ => None,
     }
-}
-
-// Whether these words are a command.
-pub fn accepts(words: &[String]) -> bool
-    ensures { IsTrue result ↔ IsAccepted (map string_bytes words.now) }
-{
-    batch_of_words(words).is_some()
 }

@@ -1,0 +1,17 @@
+use Rattle.std.proofs.Common.{◌≡◌, ◌≤◌, ◌-◌, ◌+◌, length}
+use Rattle.std.specs.Prelude.{IfSome}
+use Rattle.std.specs.Io.KnownBytes.{Consumes}
+use Rattle.client_script.specs.Script.{script_len, whole_lines, most_bytes}
+use Rattle.emu_top.proofs.part.read_front.Given as goal
+
+abbrev pub invariant-reading : goal.invariant-reading
+invariant-reading g l = record {
+  within : length l.part ≤ most_bytes;
+  bytes : Consumes (g.S.Source.left l.initial.source) (g.S.Source.left l.source) l.part;
+  steady : g.S.Source.faults l.source ≡ g.S.Source.faults l.initial.source;
+  counted : l.reads ≤ length l.part;
+  ahead : IfSome (script_len (whole_lines l.part)) (λ n. length l.part ≤ n + 65535);
+}
+
+abbrev pub decreases-reading : goal.decreases-reading
+decreases-reading g l = most_bytes - length l.part

@@ -1,0 +1,58 @@
+// The script part of a source.
+ghost use Rattle.std.specs.Prelude.{◌≡◌, ◌⊎◌, ℕ, ◌+◌, ◌<◌, ◌≤◌, List, length, None, OnErr, IfOk, IfSome, IsErrOf};
+ghost use Rattle.std.specs.Io.KnownBytes.{Consumes, IsAtEnd};
+ghost use Rattle.client_script.specs.Script.{script_len, whole_lines, most_bytes};
+ghost use Rattle.emu_top.specs.Part.{HasReadCause, IsUnended};
+
+use client_script::{MOST_BYTES, ScriptPart};
+use emu_io::Source;
+use std::alloc::Global;
+
+// The most bytes of one read.
+const READ: usize = 65536;
+
+// Why a script part isn't read.
+#[derive(Debug, Drop)]
+pub enum PartError {
+    // A read failed.
+    Failed,
+    // Memory was refused.
+    NoMemory,
+}
+
+// The first bytes of a source, and how many reads took them.
+#[derive(Drop)]
+pub struct Front {
+    pub part: ScriptPart,
+    pub reads: u64,
+}
+
+// Reads until the line `stream` is whole, until all bytes are read that are searched for it, or until the end of input. No
+// read asks for more than is searched.
+pub fn read_front<S: Source>(alloc: Global, source: &mut S) -> Result<Front, PartError>
+    ensures bytes { IfOk result (λ front. Consumes (S.left source.old) (S.left source.new) front.part) }
+    ensures fits { IfOk result (λ front. length front.part ≤ most_bytes) }
+    ensures reads { IfOk result (λ front. front.reads ≤ length front.part) }
+    ensures ahead { IfOk result (λ front. IfSome (script_len (whole_lines front.part)) (λ n. length front.part ≤ n + 65535)) }
+    ensures end { IfOk result (λ front. script_len (whole_lines front.part) ≡ None → (length front.part ≡ most_bytes) ⊎ IsAtEnd (S.left source.new)) }
+    ensures unended { IsErrOf result PartError.Failed → IsUnended (S.left source.old) (S.left source.new) }
+    ensures cause { HasReadCause (S.faults source.old) (S.faults source.new) result }
+{
+    let mut part = ScriptPart::new(alloc);
+    let mut chunk = [0u8; READ];
+    let mut reads = 0;
+    'reading: while part.end().is_none() && part.bytes().len() < MOST_BYTES {
+        let want = (MOST_BYTES - part.bytes().len()).min(READ);
+        match source.read(&mut chunk[..want]) {
+            Err(_) => return Err(PartError::Failed),
+            Ok(0) => break,
+            Ok(count) => {
+                if part.add(&chunk[..count]).is_err() {
+                    return Err(PartError::NoMemory);
+                }
+                reads += 1;
+            }
+        }
+    }
+    Ok(Front { part, reads })
+}
