@@ -15,3 +15,5 @@ pub mod Within
 pub mod Commanding
 pub mod Lawful
 pub mod Passing
+pub mod Lining
+pub mod Ending

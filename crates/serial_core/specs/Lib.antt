@@ -6,3 +6,5 @@ pub mod Examples
 pub mod Standing
 pub mod Moving
 pub mod Budget
+pub mod Lines
+pub mod Ran
