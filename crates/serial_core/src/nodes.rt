@@ -93,6 +93,7 @@ impl Nodes {
         ensures at { IfOk result (λ v. (packets : List (List ℕ)) → IsNodes v (begun packets)) }
         ensures counted { IfOk result AreCounted }
         ensures none { IfOk result (λ v. v.made ≡ 0) }
+        ensures open { IfOk result (λ v. v.has_ended ≡ false) }
     {
         Ok(Nodes {
             alloc,
@@ -240,7 +241,7 @@ impl Nodes {
     // The histories of all nodes. End has passed.
     pub fn into_histories(self) -> Result<Histories, NoMemory>
         requires counted { AreCounted self }
-        ensures { IfOk result (λ all. all ≡ histories_of self.entry.feeding.items (map (λ seat. seat.entries.items) self.entry.demux.items ++ self.entry.dvr.entries.items ∷ [])) }
+        ensures { IfOk result (λ all. all ≡ histories_of self.feeding.items (map (λ seat. seat.entries.items) self.demux.items ++ self.dvr.entries.items ∷ [])) }
     {
         let Nodes {
             alloc,
