@@ -20,7 +20,7 @@ ghost use Rattle.serial_core.specs.Standing.{AreCounted, AreUnder, IsDemux, IsNo
 use crate::seat::Seat;
 use client_core::{ClientCore, Event, call_of};
 use dmx_calls::limits::DEMUX_NODES;
-use dmx_calls::{Call, Fed, Histories};
+use dmx_calls::{Call, Entry, Fed, Histories};
 use dvr_core::DvrCore;
 use node_core::NodeCore;
 use std::alloc::{AllocError as NoMemory, Global};
@@ -85,6 +85,22 @@ fn end_demux<L: Ledger>(seats: &mut [Seat<NodeCore>], steps: &mut Steps<L>) -> R
         seat.feed(Call::End, steps)?;
     }
     Ok(())
+}
+
+// The entries of the clients on all nodes.
+fn entries_of(
+    alloc: Global,
+    demux: Vec<Seat<NodeCore>>,
+    dvr: Seat<DvrCore>,
+) -> Result<Vec<Vec<Entry>>, NoMemory>
+    ensures { IfOk result (λ nodes. map (λ calls. calls.items) nodes.items ≡ map (λ seat. seat.entries.items) demux.items ++ dvr.entries.items ∷ []) }
+{
+    let mut nodes = Vec::new(alloc);
+    'seats: for seat in demux {
+        nodes.push(seat.entries)?;
+    }
+    nodes.push(dvr.entries)?;
+    Ok(nodes)
 }
 
 impl Nodes {
@@ -250,11 +266,7 @@ impl Nodes {
             feeding,
             ..
         } = self;
-        let mut nodes = Vec::new(alloc);
-        'seats: for seat in demux {
-            nodes.push(seat.entries)?;
-        }
-        nodes.push(dvr.entries)?;
+        let nodes = entries_of(alloc, demux, dvr)?;
         Ok(Histories::new(feeding, nodes))
     }
 }

@@ -16,6 +16,6 @@ cores-preserved c lines r after =
     let those = c.in_ok-copied.ensures ∙ c.outcomes.ensures.tied i lines (replies_of i r) here in
     ap (map (λ those. those.items)) c.in_ok-push.ensures.items
     ∙ (map-append (λ those. those.items) c.cores.all.items _
-    ∙ (ap (λ l. l ++ _ ∷ []) (c.cores.invariant lines r after)
+    ∙ (ap (λ l. l ++ c.in_ok-copied.field-0.items ∷ []) (c.cores.invariant lines r after)
     ∙ (ap (λ o. map (λ client. outcomes client lines (replies_of client r)) (range_with_len 0 i) ++ o ∷ []) those
     ∙ sym (map-range_with_len_more (λ client. outcomes client lines (replies_of client r)) 0 i i (omega arith)))))

@@ -5,6 +5,7 @@ use Rattle.client_core.specs.Events.{outcomes}
 use Rattle.feed_pull.specs.Pulling.{Pulls, has_failed}
 use Rattle.dmx_calls.specs.Head.{told_head, head_of}
 use Rattle.feed_pull.specs.declared.fault.Reading.TheVariants.{TooMany}
+use Rattle.client_core.specs.declared.stop.Stop.TheVariants.{TooLong}
 use Rattle.client_core.specs.Budget.{most_calls}
 use Rattle.serial_core.specs.Budget.{all_commands}
 use Rattle.serial_core.specs.declared.run.Ran.{Ran}
@@ -50,15 +51,16 @@ pub returns-in-Ok-clause-too_long : goal.returns-in-Ok-clause-too_long
 returns-in-Ok-clause-too_long g c turns is =
     let m = c.in-Ok.ensures.moves in
     let k = c.ran_of.ensures.too_long turns is in
-    reads_by _ _ _ _ _ turns c.args.runner.puller c.whole.new.self.puller m.packets m.draws k.0 k.1
+    reads_by c.args.script.now _ _ _ _ turns c.args.runner.puller c.whole.new.self.puller m.packets m.draws k.0 k.1
 
 pub returns-in-Ok-clause-draws : goal.returns-in-Ok-clause-draws
 returns-in-Ok-clause-draws g c = let m = c.in-Ok.ensures.moves in on_err c.ran_of.result _ (m.packets, (c.whole.new.self.puller, m.draws))
 
 pub returns-in-Err-clause-too_long : goal.returns-in-Err-clause-too_long
 returns-in-Err-clause-too_long g c turns is =
-    let k = c.whole.ensures.too_long turns (c.in-Err.is ∙ is) in
-    calls_by _ _ _ c.args.runner.puller.start turns c.args.runner.puller _ (λ ahead taken (q : 549755813888 ≤ most_calls (all_commands c.args.script.now) (length ahead + length taken)). inr (k.0, q))
+    let same : c.in-Err.stop ≡ TooLong turns = cc in
+    let k = c.whole.ensures.too_long turns (c.in-Err.is ∙ ap Err same) in
+    calls_by c.args.script.now _ _ c.args.runner.puller.start turns c.args.runner.puller _ (λ ahead taken (q : 549755813888 ≤ most_calls (all_commands c.args.script.now) (length ahead + length taken)). inr (k.0, q))
     (overrun_is c.args.script.now c.args.batch _ _ _ _ c.args.runner c.whole.new.self c.args.cores.now c.requires.begun c.requires.fresh (rw c.lines.ensures.lines at k.1))
 
 pub returns-in-Err-clause-draws : goal.returns-in-Err-clause-draws
