@@ -22,3 +22,6 @@ pub mod Whole
 pub mod Commanding
 pub mod Lawful
 pub mod Passing
+pub mod Lining
+pub mod Ending
+pub mod Causes

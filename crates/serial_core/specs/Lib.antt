@@ -7,3 +7,5 @@ pub mod Standing
 pub mod Moving
 pub mod Budget
 pub mod Whole
+pub mod Lines
+pub mod Ran

@@ -5,6 +5,7 @@ ghost use Rattle.dmx_calls.specs.declared.limits.TheConstants.{DEMUX_NODES as no
 ghost use Rattle.dmx_calls.specs.declared.params.Input.TheVariants.{Frontend};
 ghost use Rattle.dmx_calls.specs.Answer.{answer};
 ghost use Rattle.dmx_calls.specs.Calls.{invocation_of};
+ghost use Rattle.dmx_calls.specs.Histories.{histories_of};
 ghost use Rattle.dmx_calls.specs.Invocation as asks;
 ghost use Rattle.dmx_calls.specs.Log.{Act as ToldAct, EndAct, PassAct};
 ghost use Rattle.dmx_calls.specs.Rules as rules;
@@ -19,7 +20,7 @@ ghost use Rattle.serial_core.specs.Standing.{AreCounted, AreUnder, IsDemux, IsNo
 use crate::seat::Seat;
 use client_core::{ClientCore, Event, call_of};
 use dmx_calls::limits::DEMUX_NODES;
-use dmx_calls::{Call, Fed};
+use dmx_calls::{Call, Entry, Fed, Histories};
 use dvr_core::DvrCore;
 use node_core::NodeCore;
 use std::alloc::{AllocError as NoMemory, Global};
@@ -86,12 +87,29 @@ fn end_demux<L: Ledger>(seats: &mut [Seat<NodeCore>], steps: &mut Steps<L>) -> R
     Ok(())
 }
 
+// The entries of the clients on all nodes.
+fn entries_of(
+    alloc: Global,
+    demux: Vec<Seat<NodeCore>>,
+    dvr: Seat<DvrCore>,
+) -> Result<Vec<Vec<Entry>>, NoMemory>
+    ensures { IfOk result (λ nodes. map (λ calls. calls.items) nodes.items ≡ map (λ seat. seat.entries.items) demux.items ++ dvr.entries.items ∷ []) }
+{
+    let mut nodes = Vec::new(alloc);
+    'seats: for seat in demux {
+        nodes.push(seat.entries)?;
+    }
+    nodes.push(dvr.entries)?;
+    Ok(nodes)
+}
+
 impl Nodes {
     // The nodes before the first call.
     pub fn new(alloc: Global) -> Result<Nodes, NoMemory>
         ensures at { IfOk result (λ v. (packets : List (List ℕ)) → IsNodes v (begun packets)) }
         ensures counted { IfOk result AreCounted }
         ensures none { IfOk result (λ v. v.made ≡ 0) }
+        ensures open { IfOk result (λ v. v.has_ended ≡ false) }
     {
         Ok(Nodes {
             alloc,
@@ -234,5 +252,21 @@ impl Nodes {
         } else {
             self.call_dvr(core, client + 1, step, call, steps)
         }
+    }
+
+    // The histories of all nodes. End has passed.
+    pub fn into_histories(self) -> Result<Histories, NoMemory>
+        requires counted { AreCounted self }
+        ensures { IfOk result (λ all. all ≡ histories_of self.feeding.items (map (λ seat. seat.entries.items) self.demux.items ++ self.dvr.entries.items ∷ [])) }
+    {
+        let Nodes {
+            alloc,
+            demux,
+            dvr,
+            feeding,
+            ..
+        } = self;
+        let nodes = entries_of(alloc, demux, dvr)?;
+        Ok(Histories::new(feeding, nodes))
     }
 }
