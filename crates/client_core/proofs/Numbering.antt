@@ -53,7 +53,7 @@ called_fits : (node : ℕ) (w : Want) (step : ℕ) (rs : List Response) → node
 called_fits node w step [] le = (omega arith, le)
 called_fits node w step (Done from to tap ∷ rs) le =
     if_fits (nat_lt node DEMUX_NODES) (step + length (Done from to tap ∷ rs)) (told Made node tap (step + 1) rs) (through Made (step + 1) rs)
-        (later (step + 1 + length rs) (step + length (Done from to tap ∷ rs)) (told Made node tap (step + 1) rs) (omega arith) (told_fits Made node tap (step + 1) rs tt)) (omega arith, tt)
+    (later (step + 1 + length rs) (step + length (Done from to tap ∷ rs)) (told Made node tap (step + 1) rs) (omega arith) (told_fits Made node tap (step + 1) rs tt)) (omega arith, tt)
 called_fits node w step (Busy x ∷ rs) le = (omega arith, tt)
 called_fits node w step (Refused x ∷ rs) le = (omega arith, tt)
 called_fits node w step (NoMemory ∷ rs) le = (omega arith, tt)
@@ -88,7 +88,7 @@ read_fits : (ends : Response → Bool) (node count step : ℕ) (rs : List Respon
 read_fits ends node count step [] le = (omega arith, le)
 read_fits ends node count step (r ∷ rs) le =
     if_fits (ends r) (step + length (r ∷ rs)) (through Made (step + 1) rs) (read_until ends node count (step + 1) rs) (omega arith, tt)
-        (later (step + 1 + length rs) (step + length (r ∷ rs)) (read_until ends node count (step + 1) rs) (omega arith) (read_fits ends node count (step + 1) rs le))
+    (later (step + 1 + length rs) (step + length (r ∷ rs)) (read_until ends node count (step + 1) rs) (omega arith) (read_fits ends node count (step + 1) rs le))
 
 on_fits : (node : ℕ) (v : Verb) (step : ℕ) (rs : List Response) → node ≤ DEMUX_NODES → Fits (step + length rs) (done_on node v step rs)
 on_fits node (verb.ReadWait count) step rs le = read_fits ends_wait node count step rs le
@@ -164,15 +164,15 @@ all_fits : (slots : Slots) (step : ℕ) (cs : List Command) (rs : List Response)
 all_fits slots step [] rs s bound ranges is = absurd (none_stands s is)
 all_fits slots step (c ∷ cs) rs s bound ranges is =
     go (λ ending next left bound there. all_fits (slots_after ending slots) next cs left s bound ranges.1 there) (done slots c.target c.verb step rs) (done_fits slots c.target c.verb step rs ranges.0 bound) is where
-  go : ((ending : Ending) (next : ℕ) (left : List Response) → AreSlots (slots_after ending slots) → (progress_from (slots_after ending slots) next cs left).standing ≡ Some s
+      go : ((ending : Ending) (next : ℕ) (left : List Response) → AreSlots (slots_after ending slots) → (progress_from (slots_after ending slots) next cs left).standing ≡ Some s
           → (s.event.step ≡ next + length left) × (s.event.node ≤ DEMUX_NODES))
-      → (d : Doing) → Fits (step + length rs) d → (progress_of slots step c cs d).standing ≡ Some s → (s.event.step ≡ step + length rs) × (s.event.node ≤ DEMUX_NODES)
-  go deeper (stands e) fits there =
-      let same : e ≡ s.event = same_event (record { line = c.line; from = step; event = e }) s there in
-      subst (λ x. (x.step ≡ step + length rs) × (x.node ≤ DEMUX_NODES)) same fits
-  go deeper (through ending next left) fits there =
-      let that = deeper ending next left (bound_after ending slots fits.1 bound) there in
-      (that.0 ∙ fits.0, that.1)
+          → (d : Doing) → Fits (step + length rs) d → (progress_of slots step c cs d).standing ≡ Some s → (s.event.step ≡ step + length rs) × (s.event.node ≤ DEMUX_NODES)
+      go deeper (stands e) fits there =
+          let same : e ≡ s.event = same_event (record { line = c.line; from = step; event = e }) s there in
+          subst (λ x. (x.step ≡ step + length rs) × (x.node ≤ DEMUX_NODES)) same fits
+      go deeper (through ending next left) fits there =
+          let that = deeper ending next left (bound_after ending slots fits.1 bound) there in
+          (that.0 ∙ fits.0, that.1)
 
 targets_append : (xs ys : List Command) → AreTargets xs → AreTargets ys → AreTargets (xs ++ ys)
 targets_append [] ys a b = b
@@ -217,11 +217,11 @@ pub through_more : (slots : Slots) (step : ℕ) (cs : List Command) (rs : List R
 through_more slots step [] rs r is = refl
 through_more slots step (c ∷ cs) rs r is =
     go (λ ending next left there. through_more (slots_after ending slots) next cs left r there) (done slots c.target c.verb step rs) (done slots c.target c.verb step (rs ++ r ∷ [])) (repeats_in slots c.target c.verb rs) (repeats_in slots c.target c.verb (rs ++ r ∷ []))
-        (done_on_more slots c.target c.verb step rs r) is where
-  go : ((ending : Ending) (next : ℕ) (left : List Response) → (progress_from (slots_after ending slots) next cs left).standing ≡ None → (progress_from (slots_after ending slots) next cs (left ++ r ∷ [])).standing ≡ None)
-      → (d f : Doing) (m n : ℕ) → Onward step r m n d f → (progress_of slots step c cs d).standing ≡ None → (progress_of slots step c cs f).standing ≡ None
-  go deeper (stands e) f m n on there = absurd (stands_none (record { line = c.line; from = step; event = e }) there)
-  go deeper (through ending next left) f m n on there = subst (λ x. (progress_of slots step c cs x).standing ≡ None) (sym on.0) (deeper ending next left there)
+    (done_on_more slots c.target c.verb step rs r) is where
+      go : ((ending : Ending) (next : ℕ) (left : List Response) → (progress_from (slots_after ending slots) next cs left).standing ≡ None → (progress_from (slots_after ending slots) next cs (left ++ r ∷ [])).standing ≡ None)
+          → (d f : Doing) (m n : ℕ) → Onward step r m n d f → (progress_of slots step c cs d).standing ≡ None → (progress_of slots step c cs f).standing ≡ None
+      go deeper (stands e) f m n on there = absurd (stands_none (record { line = c.line; from = step; event = e }) there)
+      go deeper (through ending next left) f m n on there = subst (λ x. (progress_of slots step c cs x).standing ≡ None) (sym on.0) (deeper ending next left there)
 
 -- where the commands before this one are through, and what stands there is of another line, this one is through too
 pub through_next : (slots : Slots) (step : ℕ) (before : List Command) (c : Command) (behind : List Command) (rs : List Response) → AreThrough slots step before rs
@@ -237,9 +237,9 @@ through_next slots step [] c behind rs is at = go (done slots c.target c.verb st
   go (through ending next left) none = refl
 through_next slots step (p ∷ before) c behind rs is at =
     go (λ ending next left there later. through_next (slots_after ending slots) next before c behind left there later) (done slots p.target p.verb step rs) is at where
-  go : ((ending : Ending) (next : ℕ) (left : List Response) → AreThrough (slots_after ending slots) next before left
+      go : ((ending : Ending) (next : ℕ) (left : List Response) → AreThrough (slots_after ending slots) next before left
           → standing_at c.line (progress_from (slots_after ending slots) next (before ++ c ∷ behind) left).standing ≡ None → AreThrough (slots_after ending slots) next (before ++ c ∷ []) left)
-      → (d : Doing) → (progress_of slots step p before d).standing ≡ None → standing_at c.line (progress_of slots step p (before ++ c ∷ behind) d).standing ≡ None
-      → (progress_of slots step p (before ++ c ∷ []) d).standing ≡ None
-  go deeper (stands e) there none = absurd (stands_none (record { line = p.line; from = step; event = e }) there)
-  go deeper (through ending next left) there none = deeper ending next left there none
+          → (d : Doing) → (progress_of slots step p before d).standing ≡ None → standing_at c.line (progress_of slots step p (before ++ c ∷ behind) d).standing ≡ None
+          → (progress_of slots step p (before ++ c ∷ []) d).standing ≡ None
+      go deeper (stands e) there none = absurd (stands_none (record { line = p.line; from = step; event = e }) there)
+      go deeper (through ending next left) there none = deeper ending next left there none

@@ -75,9 +75,12 @@ called_at client e r node long there here = by_event (nat_lt e.node DEMUX_NODES)
   by_event true is true at true same =
       let eq : node ≡ e.node = grind (arith, nat_tests, same) in
       let lt : e.node < length r.demux = omega (arith, below e.node is, long) in
-      inl (eq, rw (at, is) (ap (λ n. get_or (set r.demux e.node (answered demux (client + 1) e.step (call_of e.want r.moment) (demux_node e.node r))) n (uncalled n)) eq
-          ∙ get_or-set_same r.demux e.node (answered demux (client + 1) e.step (call_of e.want r.moment) (demux_node e.node r)) (uncalled e.node) lt
-          ∙ ap (λ n. answered demux (client + 1) e.step (call_of e.want r.moment) (demux_node n r)) (sym eq)))
+      inl (
+        eq,
+        rw (at, is) (ap (λ n. get_or (set r.demux e.node (answered demux (client + 1) e.step (call_of e.want r.moment) (demux_node e.node r))) n (uncalled n)) eq
+            ∙ get_or-set_same r.demux e.node (answered demux (client + 1) e.step (call_of e.want r.moment) (demux_node e.node r)) (uncalled e.node) lt
+            ∙ ap (λ n. answered demux (client + 1) e.step (call_of e.want r.moment) (demux_node n r)) (sym eq)),
+      )
   by_event true is true at false other =
       let ne : node ≢ e.node = λ same. grind (arith, nat_tests, other, same) in
       inr (ne, rw (at, is) (get_or-set_other r.demux e.node node (answered demux (client + 1) e.step (call_of e.want r.moment) (demux_node e.node r)) (uncalled node) ne))
