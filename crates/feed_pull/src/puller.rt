@@ -264,7 +264,9 @@ impl Puller {
 
     /// The fault that stopped reading, if one did.
     pub fn fault(&self) -> Option<PullFault>
-        ensures { result ≡ fault_of self.now.reading }
+        ensures value { result ≡ fault_of self.now.reading }
+        // After the last read that may be made, the bytes taken show that so many were made.
+        ensures too_many { self.now.reading ≡ Reading.TooMany → 4294967296 ≤ self.now.start + self.now.taken }
     {
         match self.reading {
             Reading::Going | Reading::Ended => None,
@@ -299,8 +301,9 @@ impl Puller {
     /// What a report says of the whole stream before it tells any call. A pull has answered None.
     pub fn head(&self, alloc: Global) -> Result<Head, NoMemory>
         requires { IsDone self.now }
-        ensures { (ahead taken : List ℕ) (given : List (List ℕ)) → Pulls ahead taken given self.now
+        ensures head { (ahead taken : List ℕ) (given : List (List ℕ)) → Pulls ahead taken given self.now
             → IfOk result (λ head. told_head head ≡ head_of (ahead ++ taken) (has_failed self.now.reading)) }
+        ensures fault { IfOk result (λ head. head.read_fault ≡ has_failed self.now.reading) }
     {
         Ok(Head {
             tally: self.tally(),

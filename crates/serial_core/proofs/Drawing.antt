@@ -1,5 +1,5 @@
 -- Pulls one after another, and moves one after another.
-use Rattle.std.proofs.Common.{◌≡◌, ◌≢◌, refl, sym, ap, subst, ◌∙◌, ℕ, ◌+◌, ◌*◌, ◌≤◌, Bool, true, false, List, [], ◌∷◌, ◌++◌, length, length-append, append_assoc, append-nil, arith, Some, None, Result, Ok, Err, OnErr, ◌<◌, ◌-◌, ◌^◌}
+use Rattle.std.proofs.Common.{◌≡◌, ◌≢◌, refl, sym, ap, subst, ◌∙◌, ℕ, ◌+◌, ◌*◌, ◌≤◌, Bool, true, false, List, [], ◌∷◌, ◌++◌, length, length-append, append_assoc, append-nil, arith, Some, None, Result, Ok, Err, OnErr, IsErrAnd, ◌<◌, ◌-◌, ◌^◌}
 use Rattle.feed_pull.specs.declared.fault.Reading.{Reading}
 use Rattle.std.proofs.KnownBytes.{Consumes-trans, Consumes-nil}
 use Rattle.std.specs.declared.option.Option.{Option}
@@ -78,6 +78,11 @@ still_counts old new x y l m f below going = let k = f.went going in let b = bel
 pub on_err : {T E : Type 0} (r : Result T E) (P : Type 0) → P → OnErr r P
 on_err (Ok x) P p = tt
 on_err (Err e) P p = p
+
+-- what is so of an error
+pub err_and : {T E : Type 0} (r : Result T E) (P : E → Type 0) (e : E) → r ≡ Err e → IsErrAnd r P → P e
+err_and (Ok x) P e is h = absurd (cc)
+err_and (Err d) P e is h = let same : d ≡ e = cc in subst P same h
 
 -- ------ a puller that is done gives nothing
 

@@ -1,7 +1,7 @@
 // Laws of the definitions.
 ghost use Rattle.serial_core.specs.Laws.{HistoriesAreLegal, IsOne, PacketsPass, TriedIsRun};
 ghost use Rattle.serial_core.specs.Budget.{IsWithinBudget};
-ghost use Rattle.serial_core.specs.Whole.{SerialRunsAreRuns};
+ghost use Rattle.serial_core.specs.Runs.{SerialRunsAreRuns};
 
 /// A script and a stream have one serial run at most.
 pub fn the_serial_run_is_one()

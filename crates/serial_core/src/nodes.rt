@@ -5,6 +5,7 @@ ghost use Rattle.dmx_calls.specs.declared.limits.TheConstants.{DEMUX_NODES as no
 ghost use Rattle.dmx_calls.specs.declared.params.Input.TheVariants.{Frontend};
 ghost use Rattle.dmx_calls.specs.Answer.{answer};
 ghost use Rattle.dmx_calls.specs.Calls.{invocation_of};
+ghost use Rattle.dmx_calls.specs.Histories.{histories_of};
 ghost use Rattle.dmx_calls.specs.Invocation as asks;
 ghost use Rattle.dmx_calls.specs.Log.{Act as ToldAct, EndAct, PassAct};
 ghost use Rattle.dmx_calls.specs.Rules as rules;
@@ -19,7 +20,7 @@ ghost use Rattle.serial_core.specs.Standing.{AreCounted, AreUnder, IsDemux, IsNo
 use crate::seat::Seat;
 use client_core::{ClientCore, Event, call_of};
 use dmx_calls::limits::DEMUX_NODES;
-use dmx_calls::{Call, Fed};
+use dmx_calls::{Call, Fed, Histories};
 use dvr_core::DvrCore;
 use node_core::NodeCore;
 use std::alloc::{AllocError as NoMemory, Global};
@@ -234,5 +235,25 @@ impl Nodes {
         } else {
             self.call_dvr(core, client + 1, step, call, steps)
         }
+    }
+
+    // The histories of all nodes. End has passed.
+    pub fn into_histories(self) -> Result<Histories, NoMemory>
+        requires counted { AreCounted self }
+        ensures { IfOk result (λ all. all ≡ histories_of self.entry.feeding.items (map (λ seat. seat.entries.items) self.entry.demux.items ++ self.entry.dvr.entries.items ∷ [])) }
+    {
+        let Nodes {
+            alloc,
+            demux,
+            dvr,
+            feeding,
+            ..
+        } = self;
+        let mut nodes = Vec::new(alloc);
+        'seats: for seat in demux {
+            nodes.push(seat.entries)?;
+        }
+        nodes.push(dvr.entries)?;
+        Ok(Histories::new(feeding, nodes))
     }
 }

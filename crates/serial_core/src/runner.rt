@@ -103,6 +103,7 @@ impl Runner {
         requires made { HasMade self.old 8796093022208 }
         ensures moves { OnOk result (Moves (S.left source.old) (S.left source.new) (S.faults source.old) (S.faults source.new) self.old self.new (λ r s. (lines : List ScriptLine) → s ≡ finished lines batch r)) }
         ensures draws { OnErr result ((packets : List (List ℕ)) × Draws (S.left source.old) (S.left source.new) (S.faults source.old) (S.faults source.new) self.old.puller self.new.puller packets) }
+        ensures sound { OnOk result (IsSound self.new) }
         ensures ended { OnOk result (self.new.nodes.has_ended ≡ true) }
     {
         'turns: while self.turn(source, batch, steps)? > 0 {}

@@ -1,0 +1,145 @@
+-- What a line does to the run, and lines one after another.
+use Rattle.std.proofs.Common.{◌≡◌, ◌≢◌, refl, sym, ap, subst, ◌∙◌, ℕ, suc, ◌+◌, ◌*◌, ◌<◌, ◌≤◌, Bool, true, false, List, [], ◌∷◌, Option, length, drop, nat_lt, nat_eq, fold, if◌then◌else◌, get_or, set, max, min, inl, inr, arith}
+use Rattle.std.specs.Prelude.{slice_index_or, sum_by, All}
+use Rattle.std.proofs.lemmas.List.{drop_all, get_or-set_same, get_or-set_other, length-set}
+use Rattle.std.proofs.lemmas.List.Sums.{sum_by-set, sum_by-le}
+use Rattle.std.proofs.lemmas.List.Elements.{All-set}
+use Rattle.std.proofs.lemmas.Bool.{cases_lt}
+use Rattle.std.proofs.lemmas.Bool.Decides.{nat_tests}
+use Rattle.client_script.specs.declared.line.Line.{Line}
+use Rattle.client_script.specs.declared.line.Line.TheVariants.{Feed, Tick, Command}
+use Rattle.client_script.specs.declared.line.Target.{Target}
+use Rattle.client_script.specs.declared.line.Verb.{Verb}
+use Rattle.client_core.specs.Core.{Core, IsAfter}
+use Rattle.feed_pull.specs.Pulling.{Pulling, IsDone}
+use Rattle.serial_core.specs.declared.runner.Runner.{Runner}
+use Rattle.serial_core.specs.SerialRun.{Run, replies_of, passed, batch_sizes, all_passed, ended, fed, finished, ticked, through, AreDone}
+use Rattle.serial_core.specs.Moving.{IsAt, Draws, Moves, IsDoneBy, ComesBy, Comes as CommandComes}
+use Rattle.serial_core.specs.Lines.{AreAfter, calls_by, AreInBudget, Comes, IsLineBy, IsFrontBy, IsWholeBy, Overruns, OverrunsBy}
+use Rattle.serial_core.proofs.Drawing.{draws_none}
+use Rattle.serial_core.proofs.Replies.{ended_replies}
+use Rattle.serial_core.proofs.Paid.{paid_fed, paid_ticked}
+
+-- ------ a feed
+
+passes_replies : (sizes : List ℕ) (r : Run) → (fold passed r sizes).replies ≡ r.replies
+passes_replies [] r = refl
+passes_replies (size ∷ sizes) r = passes_replies sizes (passed r size)
+
+fed_replies : (batch count : ℕ) (r : Run) → (fed batch count r).replies ≡ r.replies
+fed_replies batch count r = go (nat_lt (length r.left) count) where
+  go : (b : Bool) → (if b then ended (all_passed batch (length r.left) r) else all_passed batch count r).replies ≡ r.replies
+  go true = ended_replies (all_passed batch (length r.left) r) ∙ passes_replies (batch_sizes batch (length r.left)) r
+  go false = passes_replies (batch_sizes batch count) r
+
+after_same : (lines : List Line) (r s : Run) (cores : List Core) → s.replies ≡ r.replies → AreAfter lines r cores → AreAfter lines s cores
+after_same lines r s cores same after c d lt = subst (λ rs. IsAfter c lines (slice_index_or rs c []) (slice_index_or cores c d)) (sym same) (after c d lt)
+
+pub feed_done : (batch count : ℕ) (cores : List Core) (r s : Run) → 1 ≤ batch → s ≡ fed batch count r → IsLineBy batch (Feed count) cores cores r s
+feed_done batch count cores r s some is lines rest clients after =
+    subst (λ x. Comes lines batch rest (Feed count ∷ rest) r x cores) (sym is) record {
+      clients = ap length (fed_replies batch count r) ∙ clients;
+      after = after_same lines r (fed batch count r) cores (fed_replies batch count r) after;
+      paid = λ packets p. paid_fed lines packets batch count r some p;
+      done = λ t d. d;
+    }
+
+-- ------ a tick
+
+pub tick_done : (batch time : ℕ) (cores : List Core) (r : Run) → IsLineBy batch (Tick time) cores cores r (ticked time r)
+tick_done batch time cores r lines rest clients after = record {
+  clients = clients;
+  after = after;
+  paid = λ packets p. paid_ticked lines packets time r p;
+  done = λ t d. d;
+}
+
+pub moves_ticked : (x : Option (List ℕ)) (n time : ℕ) (old new : Runner) (goes : Run → Run → Type 0) → new.puller ≡ old.puller
+    → ((r : Run) → IsAt old r → IsAt new (ticked time r)) → ((r : Run) → goes r (ticked time r)) → Moves x x n n old new goes
+moves_ticked x n time old new goes same at says = record {
+  packets = [];
+  draws = subst (λ (p : Pulling). Draws x x n n old.puller p []) (sym same) (draws_none x n old.puller);
+  at = λ ahead taken given later r pulls stops here left. (ticked time r, says r, at r here, left);
+  done = λ ahead taken given pulls done. (subst (λ (p : Pulling). IsDone p) (sym same) done, refl);
+}
+
+-- ------ a command
+
+pub command_done : (batch line client : ℕ) (target : Target) (verb : Verb) (cores : List Core) (core next : Core) (r s : Run) → client < length cores → core ≡ get_or cores client core
+    → IsDoneBy batch client line core next r s → IsLineBy batch (Command line client target verb) cores (set cores client next) r s
+command_done batch line client target verb cores core next r s there is done lines rest clients after =
+    let own : IsAfter client lines (replies_of client r) core = subst (λ c. IsAfter client lines (replies_of client r) c) (sym is) (after client core there) in
+    let k = done lines clients own in
+    record {
+      clients = k.0.clients;
+      after = λ c d lt. go lines clients after own k.0 c d lt (nat_eq c client) refl;
+      paid = k.0.paid;
+      done = λ t d. (s, k.0.worked s (through s k.1), d);
+    } where
+      go : (lines : List Line) → length r.replies ≡ 8 → AreAfter lines r cores → IsAfter client lines (replies_of client r) core
+          → CommandComes lines batch client line r s next
+          → (c : ℕ) (d : Core) → c < length (set cores client next) → (b : Bool) → nat_eq c client ≡ b → IsAfter c lines (replies_of c s) (slice_index_or (set cores client next) c d)
+      go lines clients after own come c d lt true is_client =
+          let same : c ≡ client = grind (arith, nat_tests) in
+          subst (λ i. IsAfter i lines (replies_of i s) (slice_index_or (set cores client next) i d)) (sym same)
+          (subst (λ x. IsAfter client lines (replies_of client s) x) (sym (get_or-set_same cores client next d there)) come.after)
+      go lines clients after own come c d lt false other =
+          let ne : c ≢ client = λ same. absurd (let t : nat_eq c client ≡ true = grind (arith, nat_tests) in let e : true ≡ false = sym t ∙ other in cc) in
+          let long : c < length cores = omega (arith, lt, length-set cores client next) in
+          subst (λ rs. IsAfter c lines rs (slice_index_or (set cores client next) c d)) (sym (come.others c ne))
+          (subst (λ x. IsAfter c lines (replies_of c r) x) (sym (get_or-set_other cores client c next d ne)) (after c d long))
+
+pub overruns : (batch line client : ℕ) (cores : List Core) (core next : Core) (r s : Run) → client < length cores → core ≡ get_or cores client core
+    → 549755813888 ≤ next.step → ComesBy batch client line core next r s → OverrunsBy cores r s
+overruns batch line client cores core next r s there is many come lines clients after =
+    let own : IsAfter client lines (replies_of client r) core = subst (λ c. IsAfter client lines (replies_of client r) c) (sym is) (after client core there) in
+    let k = come lines clients own in
+    record { client = client; calls = omega (arith, many, k.after.steps); paid = k.paid }
+
+-- ------ numbers
+
+pub calls_few : (cores : List Core) (client : ℕ) (core : Core) → client < length cores → length cores ≤ 8 → AreInBudget cores → core ≡ get_or cores client core
+    → calls_by cores ≤ core.step + 4398046511104
+calls_few cores client core there few calls is = let all : calls_by cores ≤ length cores * 549755813888 = sum_by-le (λ c. c.step) 549755813888 cores calls in omega (arith, all, few)
+
+pub calls_most : (cores : List Core) → length cores ≤ 8 → AreInBudget cores → calls_by cores ≤ 4398046511104
+calls_most cores few calls = let all : calls_by cores ≤ length cores * 549755813888 = sum_by-le (λ c. c.step) 549755813888 cores calls in omega (arith, all, few)
+
+-- ------ lines one after another
+
+pub front_more : (batch count : ℕ) (lines rest : List Line) (line : Line) (a b c : List Core) (r s t : Run) → drop count lines ≡ line ∷ rest → drop (count + 1) lines ≡ rest
+    → IsFrontBy batch lines count a b r s → IsLineBy batch line b c s t → IsFrontBy batch lines (count + 1) a c r t
+front_more batch count lines rest line a b c r s t here behind front by clients after =
+    let f = front clients after in
+    let n = by lines rest f.clients f.after in
+    record {
+      clients = n.clients;
+      after = n.after;
+      paid = λ packets p. n.paid packets (f.paid packets p);
+      done = λ u d. f.done u (subst (λ ls. AreDone lines batch ls s u) (sym here) (n.done u (subst (λ ls. AreDone lines batch ls t u) behind d)));
+    }
+
+pub front_none : (batch : ℕ) (lines : List Line) (cores : List Core) (r : Run) → IsFrontBy batch lines 0 cores cores r r
+front_none batch lines cores r clients after = record { clients = clients; after = after; paid = λ packets p. p; done = λ t d. d }
+
+pub front_overruns : (batch count : ℕ) (lines : List Line) (a b : List Core) (r s t : Run) → IsFrontBy batch lines count a b r s → OverrunsBy b s t
+    → length r.replies ≡ 8 → AreAfter lines r a → Overruns lines r t
+front_overruns batch count lines a b r s t front over clients after =
+    let f = front clients after in
+    let n = over lines f.clients f.after in
+    record { client = n.client; calls = n.calls; paid = λ packets p. n.paid packets (f.paid packets p) }
+
+-- ------ the whole run
+
+finished_replies : (lines : List Line) (batch : ℕ) (r : Run) → (finished lines batch r).replies ≡ r.replies
+finished_replies lines batch r = ended_replies (all_passed batch (length r.left) r) ∙ passes_replies (batch_sizes batch (length r.left)) r
+
+pub whole_by : (batch : ℕ) (lines : List Line) (a b : List Core) (r s t : Run) → IsFrontBy batch lines (length lines) a b r s → ((lines : List Line) → t ≡ finished lines batch s) → IsWholeBy batch lines a b r t
+whole_by batch lines a b r s t front ends clients after =
+    let f = front clients after in
+    record {
+      before = s;
+      done = f.done s (subst (λ ls. AreDone lines batch ls s s) (sym (drop_all (length lines) lines (omega arith))) refl);
+      ends = ends lines;
+      after = subst (λ x. AreAfter lines x b) (sym (ends lines)) (after_same lines s (finished lines batch s) b (finished_replies lines batch s) f.after);
+    }

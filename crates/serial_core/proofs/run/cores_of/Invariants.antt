@@ -1,0 +1,11 @@
+use Rattle.std.proofs.Common.{◌≡◌, ◌<◌, ◌≤◌, ℕ, [], length, slice_index_or}
+use Rattle.std.specs.Prelude.{All}
+use Rattle.client_core.specs.Core.{Core, IsAfter}
+use Rattle.serial_core.proofs.run.cores_of.Given as goal
+
+abbrev pub invariant-clients : goal.invariant-clients
+invariant-clients l = record {
+  count : length l.cores.items ≡ l.client;
+  after : (c : ℕ) (d : Core) → c < length l.cores.items → IsAfter c l.script [] (slice_index_or l.cores.items c d);
+  fresh : All (λ core. core.step ≡ 0) l.cores.items;
+}

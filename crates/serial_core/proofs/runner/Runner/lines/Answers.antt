@@ -1,0 +1,59 @@
+use Rattle.std.proofs.Common.{◌≡◌, refl, sym, ap, ◌∙◌, ℕ, suc, ◌+◌, ◌*◌, ◌<◌, ◌≤◌, ◌^◌, List, ◌∷◌, length, drop, get_or, add-one, Err, arith}
+use Rattle.std.proofs.Math.Seq.{drop-cons}
+use Rattle.client_script.specs.declared.line.Line.{Line}
+use Rattle.client_core.specs.declared.stop.Stop.TheVariants.{TooLong}
+use Rattle.serial_core.specs.SerialRun.{Run}
+use Rattle.serial_core.specs.Lines.{AreAfter, IsFrontBy, IsLineBy, OverrunsBy}
+use Rattle.serial_core.proofs.Drawing.{draws_then, moves_none, moves_then, moves_by, still_counts, on_err, err_and}
+use Rattle.serial_core.proofs.Lining.{front_more, front_none, front_overruns, calls_most}
+use Rattle.serial_core.proofs.runner.Runner.lines.Goals as goal
+
+pub lines-init : goal.lines-init
+lines-init g c = record {
+  moves = moves_none _ _ c.args.self.now _ (λ r. front_none c.args.batch c.args.lines.now c.args.cores.now r);
+  sound = c.requires.sound;
+  made = c.requires.made;
+  calls = c.requires.calls;
+  moment = omega (arith, c.requires.late);
+  clients = refl;
+}
+
+pub line-requires-clause-faults : goal.line-requires-clause-faults
+line-requires-clause-faults g c = still_counts _ _ _ _ _ _ c.lines.invariant.moves.draws.follows c.requires.faults
+
+pub returns-in_err-line-clause-draws : goal.returns-in_err-line-clause-draws
+returns-in_err-line-clause-draws g c =
+    let m = c.lines.invariant.moves in
+    let d = c.in_err-line.ensures.draws in
+    on_err c.from_residual.result _ (_, draws_then _ _ _ _ _ _ _ _ _ _ _ m.draws d.1)
+
+pub returns-in_err-line-clause-too_long : goal.returns-in_err-line-clause-too_long
+returns-in_err-line-clause-too_long g c turns is =
+    let same = err_and _ _ (TooLong turns) is c.from_residual.ensures.1 in
+    let k = c.line.ensures.too_long turns (c.in_err-line.was ∙ ap Err (sym same)) in (
+      k.0,
+      moves_then _ _ _ _ _ _ _ _ _ _ _ _
+          (λ (r s t : Run) (a : IsFrontBy c.args.batch c.args.lines.now c.lines.line-index c.args.cores.now c.lines.cores r s) (b : OverrunsBy c.lines.cores s t).
+              front_overruns c.args.batch c.lines.line-index c.args.lines.now c.args.cores.now c.lines.cores r s t a b)
+          c.lines.invariant.moves k.1,
+    )
+
+pub lines-preserved : goal.lines-preserved
+lines-preserved g c =
+    let lines = c.args.lines.now in
+    let i = c.lines.line-index in
+    let k = c.in_ok-line.ensures in
+    record {
+      moves = moves_then _ _ _ _ _ _ _ _ _ _ _ _
+          (λ (r s t : Run) (a : IsFrontBy c.args.batch lines i c.args.cores.now c.lines.cores r s) (b : IsLineBy c.args.batch _ c.lines.cores c.line.new.cores s t).
+              front_more c.args.batch i lines (drop (i + 1) lines) _ c.args.cores.now c.lines.cores c.line.new.cores r s t ? refl a b)
+          c.lines.invariant.moves k.moves;
+      sound = k.sound;
+      made = k.made;
+      calls = k.calls;
+      moment = omega (arith, k.moment, c.lines.invariant.moment);
+      clients = c.line.auto.cores ∙ c.lines.invariant.clients;
+    }
+
+pub returns-clause-made : goal.returns-clause-made
+returns-clause-made g c = omega (arith, c.lines.invariant.made, calls_most c.lines.cores (omega (arith, c.lines.invariant.clients, c.requires.clients)) c.lines.invariant.calls)

@@ -1,0 +1,17 @@
+use Rattle.std.proofs.Common.{◌≡◌, refl, sym, ap, subst, ◌∙◌, ℕ, List, [], length, drop, arith}
+use Rattle.client_script.specs.declared.line.Line.{Line}
+use Rattle.serial_core.specs.SerialRun.{Run, finished, AreDone}
+use Rattle.serial_core.specs.Lines.{AreAfter, IsFrontBy}
+use Rattle.serial_core.proofs.Drawing.{draws_then, moves_then, still_counts, on_err}
+use Rattle.serial_core.proofs.Lining.{whole_by}
+use Rattle.serial_core.proofs.runner.Runner.whole.Goals as goal
+
+pub returns-clause-moves : goal.returns-clause-moves
+returns-clause-moves g c =
+    moves_then _ _ _ _ _ _ _ _ _ _ _ _
+    (λ (r s t : Run) (a : IsFrontBy c.args.batch c.args.lines.now (length c.args.lines.now) c.args.cores.now c.lines.new.cores r s) (b : (lines : List Line) → t ≡ finished lines c.args.batch s).
+        whole_by c.args.batch c.args.lines.now c.args.cores.now c.lines.new.cores r s t a b)
+    c.in_ok-lines.ensures.moves c.in_ok-finish.ensures.moves
+
+pub finish-requires-clause-faults : goal.finish-requires-clause-faults
+finish-requires-clause-faults g c = still_counts _ _ _ _ _ _ c.in_ok-lines.ensures.moves.draws.follows c.requires.faults

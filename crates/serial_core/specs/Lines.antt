@@ -1,0 +1,54 @@
+-- How the lines of a script bring the code and the run further.
+use Rattle.std.specs.Prelude.{◌≡◌, ℕ, ◌≤◌, ◌<◌, List, [], ◌∷◌, length, drop, sum_by, slice_index_or, All}
+use Rattle.client_script.specs.declared.line.Line.{Line}
+use Rattle.client_core.specs.Core.{Core, IsAfter}
+use Rattle.serial_core.specs.SerialRun.{Run, replies_of, finished, AreDone}
+use Rattle.serial_core.specs.Budget.{IsPaid}
+
+-- each core stands after the replies of its client
+abbrev pub AreAfter : List Line → Run → List Core → Type 0
+AreAfter lines r cores = (c : ℕ) (d : Core) → c < length cores → IsAfter c lines (replies_of c r) (slice_index_or cores c d)
+
+-- how many calls they have made
+abbrev pub calls_by : List Core → ℕ
+calls_by cores = sum_by (λ core. core.step) cores
+
+-- none has made more calls than a client may
+abbrev pub AreInBudget : List Core → Type 0
+AreInBudget cores = All (λ core. core.step ≤ 549755813888) cores
+
+-- The run has come from `first` by lines: where those behind them are done, all of them are.
+pub record Comes (lines : List Line) (batch : ℕ) (behind all : List Line) (first now : Run) (cores : List Core) : Type 0 where
+  pub clients : length now.replies ≡ 8
+  pub after : AreAfter lines now cores
+  pub paid : (packets : List (List ℕ)) → IsPaid lines packets first → IsPaid lines packets now
+  pub done : (t : Run) → AreDone lines batch behind now t → AreDone lines batch all first t
+
+-- this line is done
+abbrev pub IsLineBy : (batch : ℕ) (line : Line) (old new : List Core) → Run → Run → Type 0
+IsLineBy batch line old new r s =
+    (lines rest : List Line) → length r.replies ≡ 8 → AreAfter lines r old → Comes lines batch rest (line ∷ rest) r s new
+
+-- the first so many lines are done
+abbrev pub IsFrontBy : (batch : ℕ) (lines : List Line) (count : ℕ) (old new : List Core) → Run → Run → Type 0
+IsFrontBy batch lines count old new r s =
+    length r.replies ≡ 8 → AreAfter lines r old → Comes lines batch (drop count lines) lines r s new
+
+-- a client has made as many calls as it may
+pub record Overruns (lines : List Line) (first now : Run) : Type 0 where
+  pub client : ℕ
+  pub calls : 549755813888 ≤ length (replies_of client now)
+  pub paid : (packets : List (List ℕ)) → IsPaid lines packets first → IsPaid lines packets now
+
+abbrev pub OverrunsBy : List Core → Run → Run → Type 0
+OverrunsBy old r s = (lines : List Line) → length r.replies ≡ 8 → AreAfter lines r old → Overruns lines r s
+
+-- All lines are done, and the rest of the stream has passed.
+pub record IsWhole (lines : List Line) (batch : ℕ) (r s : Run) (cores : List Core) : Type 0 where
+  pub before : Run
+  pub done : AreDone lines batch lines r before
+  pub ends : s ≡ finished lines batch before
+  pub after : AreAfter lines s cores
+
+abbrev pub IsWholeBy : (batch : ℕ) (lines : List Line) (old new : List Core) → Run → Run → Type 0
+IsWholeBy batch lines old new r s = length r.replies ≡ 8 → AreAfter lines r old → IsWhole lines batch r s new

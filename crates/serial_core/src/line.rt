@@ -1,0 +1,123 @@
+// The lines of a script, done one after another.
+ghost use Rattle.std.specs.Prelude.{◌≡◌, true, ℕ, ◌+◌, ◌*◌, ◌-◌, ◌<◌, ◌≤◌, ◌^◌, List, length, All, OnOk, OnErr, IsErrOf};
+ghost use Rattle.client_script.specs.Script.{clients_of, most_bytes};
+ghost use Rattle.client_script.specs.declared.line.Line.{Line as ScriptLine};
+ghost use Rattle.feed_pull.specs.declared.fault.Reading.TheVariants.{Going};
+ghost use Rattle.serial_core.specs.Lines.{AreAfter, AreInBudget, IsFrontBy, IsLineBy, IsWholeBy, Overruns, OverrunsBy, calls_by};
+ghost use Rattle.serial_core.specs.Moving.{Draws, HasMade, IsSound, Moves};
+
+use crate::runner::Runner;
+use client_core::{ClientCore, Stop};
+use client_script::Line;
+use emu_io::Source;
+use std::sync::ledger::Ledger;
+use steps::Steps;
+
+impl Runner {
+    // A line is done, or up to the call that its client may not make.
+    fn line<S: Source, L: Ledger>(
+        &mut self,
+        source: &mut S,
+        batch: u32,
+        cores: &mut [ClientCore],
+        asked: Line,
+        steps: &mut Steps<L>,
+    ) -> Result<(), Stop>
+        requires some { 1 ≤ batch }
+        requires few { batch ≤ 64 }
+        requires faults { self.old.puller.reading ≡ Going → S.faults source.old < 2 ^ 64 - 1 }
+        requires sound { IsSound self.old }
+        requires made { HasMade self.old (calls_by cores.old) }
+        requires late { self.old.moment + 2 ^ 32 ≤ 2 ^ 64 }
+        requires clients { length cores.old ≤ 8 }
+        requires client { clients_of asked ≤ length cores.old }
+        requires calls { AreInBudget cores.old }
+        ensures moves { OnOk result (Moves (S.left source.old) (S.left source.new) (S.faults source.old) (S.faults source.new) self.old self.new (IsLineBy batch asked cores.old cores.new)) }
+        ensures draws { OnErr result ((packets : List (List ℕ)) × Draws (S.left source.old) (S.left source.new) (S.faults source.old) (S.faults source.new) self.old.puller self.new.puller packets) }
+        ensures too_long { (turns : ℕ) → IsErrOf result (Stop.TooLong turns) → (turns ≡ 549755813888)
+            × Moves (S.left source.old) (S.left source.new) (S.faults source.old) (S.faults source.new) self.old self.new (OverrunsBy cores.old) }
+        ensures sound { OnOk result (IsSound self.new) }
+        ensures made { OnOk result (HasMade self.new (calls_by cores.new)) }
+        ensures calls { OnOk result (AreInBudget cores.new) }
+        ensures moment { OnOk result (self.new.moment ≤ self.old.moment + 2 ^ 32) }
+    {
+        match asked {
+            Line::Feed(count) => {
+                self.feed(source, batch, count, steps)?;
+                Ok(())
+            }
+            Line::Tick(time) => {
+                self.tick(time);
+                Ok(())
+            }
+            Line::Command { line, client, .. } => {
+                let core = &mut cores[client as usize];
+                self.command(source, batch, core, client, line, steps)?;
+                Ok(())
+            }
+        }
+    }
+
+    // All lines are done, or up to the call that a client may not make.
+    pub fn lines<S: Source, L: Ledger>(
+        &mut self,
+        source: &mut S,
+        batch: u32,
+        cores: &mut [ClientCore],
+        lines: &[Line],
+        steps: &mut Steps<L>,
+    ) -> Result<(), Stop>
+        requires some { 1 ≤ batch }
+        requires few { batch ≤ 64 }
+        requires faults { self.old.puller.reading ≡ Going → S.faults source.old < 2 ^ 64 - 1 }
+        requires sound { IsSound self.old }
+        requires made { HasMade self.old (calls_by cores.old) }
+        requires late { self.old.moment ≡ 0 }
+        requires short { length lines.now ≤ most_bytes }
+        requires clients { length cores.old ≤ 8 }
+        requires client { All (λ line. clients_of line ≤ length cores.old) lines.now }
+        requires calls { AreInBudget cores.old }
+        ensures moves { OnOk result (Moves (S.left source.old) (S.left source.new) (S.faults source.old) (S.faults source.new) self.old self.new (IsFrontBy batch lines.now (length lines.now) cores.old cores.new)) }
+        ensures draws { OnErr result ((packets : List (List ℕ)) × Draws (S.left source.old) (S.left source.new) (S.faults source.old) (S.faults source.new) self.old.puller self.new.puller packets) }
+        ensures too_long { (turns : ℕ) → IsErrOf result (Stop.TooLong turns) → (turns ≡ 549755813888)
+            × Moves (S.left source.old) (S.left source.new) (S.faults source.old) (S.faults source.new) self.old self.new (λ r s. length r.replies ≡ 8 → AreAfter lines.now r cores.old → Overruns lines.now r s) }
+        ensures sound { OnOk result (IsSound self.new) }
+        ensures made { OnOk result (HasMade self.new 4398046511104) }
+    {
+        'lines: for line in lines {
+            self.line(source, batch, cores, *line, steps)?;
+        }
+        Ok(())
+    }
+
+    // All lines are done, and the rest of the stream passes.
+    pub fn whole<S: Source, L: Ledger>(
+        &mut self,
+        source: &mut S,
+        batch: u32,
+        cores: &mut [ClientCore],
+        lines: &[Line],
+        steps: &mut Steps<L>,
+    ) -> Result<(), Stop>
+        requires some { 1 ≤ batch }
+        requires few { batch ≤ 64 }
+        requires faults { self.old.puller.reading ≡ Going → S.faults source.old < 2 ^ 64 - 1 }
+        requires sound { IsSound self.old }
+        requires made { HasMade self.old (calls_by cores.old) }
+        requires late { self.old.moment ≡ 0 }
+        requires short { length lines.now ≤ most_bytes }
+        requires clients { length cores.old ≤ 8 }
+        requires client { All (λ line. clients_of line ≤ length cores.old) lines.now }
+        requires calls { AreInBudget cores.old }
+        ensures moves { OnOk result (Moves (S.left source.old) (S.left source.new) (S.faults source.old) (S.faults source.new) self.old self.new (IsWholeBy batch lines.now cores.old cores.new)) }
+        ensures draws { OnErr result ((packets : List (List ℕ)) × Draws (S.left source.old) (S.left source.new) (S.faults source.old) (S.faults source.new) self.old.puller self.new.puller packets) }
+        ensures too_long { (turns : ℕ) → IsErrOf result (Stop.TooLong turns) → (turns ≡ 549755813888)
+            × Moves (S.left source.old) (S.left source.new) (S.faults source.old) (S.faults source.new) self.old self.new (λ r s. length r.replies ≡ 8 → AreAfter lines.now r cores.old → Overruns lines.now r s) }
+        ensures sound { OnOk result (IsSound self.new) }
+        ensures ended { OnOk result (self.new.nodes.has_ended ≡ true) }
+    {
+        self.lines(source, batch, cores, lines, steps)?;
+        self.finish(source, batch, steps)?;
+        Ok(())
+    }
+}

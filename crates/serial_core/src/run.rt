@@ -1,0 +1,159 @@
+// The serial run of a script.
+ghost use Rattle.std.specs.Prelude.{◌≡◌, ◌≢◌, true, false, ℕ, ◌+◌, ◌-◌, ◌<◌, ◌≤◌, ◌^◌, ◌↔◌, List, [], ◌∷◌, ◌++◌, length, map, All, IfOk, OnOk, OnErr, IsErrOf, IsTrue, slice_index_or};
+ghost use Rattle.std.specs.Io.KnownBytes.{IsAtEnd};
+ghost use Rattle.client_script.specs.Script.{clients_in};
+ghost use Rattle.client_core.specs.Core.{Core as CoreValue, IsAfter};
+ghost use Rattle.dmx_calls.specs.Head.{head_of, told_head};
+ghost use Rattle.feed_pull.specs.Pulling.{Pulling, Pulls, has_failed};
+ghost use Rattle.feed_pull.specs.declared.fault.Reading.TheVariants.{Going, TooMany};
+ghost use Rattle.client_core.specs.Events.{outcomes};
+ghost use Rattle.client_script.specs.declared.line.Line.{Line as ScriptLine};
+ghost use Rattle.std.specs.List.{range_with_len};
+ghost use Rattle.serial_core.specs.Lines.{AreAfter};
+ghost use Rattle.serial_core.specs.Moving.{Draws, IsSound};
+ghost use Rattle.serial_core.specs.SerialRun.{Run, replies_of};
+ghost use Rattle.serial_core.specs.Ran.{IsRanOf, IsTooLong, OfStream, histories_in};
+ghost use Rattle.serial_core.specs.Legal.{AreLegal};
+ghost use Rattle.serial_core.specs.Standing.{IsNodes};
+
+use crate::nodes::Nodes;
+use crate::runner::Runner;
+use client_core::{ClientCore, Stop};
+use client_script::Script;
+use dmx_calls::{Head, Histories, Outcome};
+use emu_io::Source;
+use feed_pull::{PullFault, Puller};
+use std::alloc::{AllocError as NoMemory, Global};
+use std::marker::Brand;
+use std::sync::ledger::{Blank, Ledger};
+use steps::Steps;
+
+/// What a run of one thread leaves.
+#[derive(Drop)]
+pub struct Ran {
+    /// The histories of the 33 nodes.
+    pub histories: Histories,
+    /// The outcomes of each client's commands.
+    pub outcomes: Vec<Vec<Outcome>>,
+    /// What is known of the stream.
+    pub head: Head,
+}
+
+// The clients of the script before their first calls.
+fn cores_of(alloc: Global, script: &Script) -> Result<Vec<ClientCore>, NoMemory>
+    ensures count { IfOk result (λ cores. length cores.items ≡ clients_in script.now) }
+    ensures few { IfOk result (λ cores. length cores.items ≤ 8) }
+    ensures after { IfOk result (λ cores. (c : ℕ) (d : CoreValue) → c < length cores.items → IsAfter c script.now [] (slice_index_or cores.items c d)) }
+    ensures fresh { IfOk result (λ cores. All (λ core. core.step ≡ 0) cores.items) }
+{
+    let mut cores = Vec::new(alloc);
+    'clients: for client in 0..script.clients() {
+        cores.push(ClientCore::new(alloc, script, client)?)?;
+    }
+    Ok(cores)
+}
+
+// What became of the commands of each client.
+fn outcomes_of(alloc: Global, cores: &[ClientCore]) -> Result<Vec<Vec<Outcome>>, NoMemory>
+    ensures { IfOk result (λ all. (lines : List ScriptLine) (r : Run) → AreAfter lines r cores.now
+        → map (λ those. those.items) all.items ≡ map (λ client. outcomes client lines (replies_of client r)) (range_with_len 0 (length cores.now))) }
+{
+    let mut all = Vec::new(alloc);
+    'cores: for core in cores {
+        all.push(core.outcomes().to_vec(alloc)?)?;
+    }
+    Ok(all)
+}
+
+// What a run leaves that is at its end.
+fn ran_of(alloc: Global, runner: Runner, cores: &[ClientCore]) -> Result<Ran, Stop>
+    requires sound { IsSound runner }
+    requires ended { runner.nodes.has_ended ≡ true }
+    ensures histories { IfOk result (λ ran. (r : Run) → IsNodes runner.nodes r → AreLegal r → ran.histories ≡ histories_in r) }
+    ensures outcomes { IfOk result (λ ran. (lines : List ScriptLine) (r : Run) → AreAfter lines r cores.now
+        → map (λ those. those.items) ran.outcomes.items ≡ map (λ client. outcomes client lines (replies_of client r)) (range_with_len 0 (length cores.now))) }
+    ensures head { IfOk result (λ ran. (ahead taken : List ℕ) (given : List (List ℕ)) → Pulls ahead taken given runner.puller → told_head ran.head ≡ head_of (ahead ++ taken) ran.head.read_fault) }
+    ensures fault { IfOk result (λ ran. ran.head.read_fault ≡ has_failed runner.puller.reading) }
+    ensures well { IfOk result (λ ran. runner.puller.reading ≢ TooMany) }
+    ensures too_long { (turns : ℕ) → IsErrOf result (Stop.TooLong turns) → (turns ≡ 4294967296) × (4294967296 ≤ runner.puller.start + runner.puller.taken) }
+{
+    let Runner { nodes, puller, .. } = runner;
+    if let Some(PullFault::TooLong { turns }) = puller.fault() {
+        return Err(Stop::TooLong { turns });
+    }
+    let head = puller.head(alloc)?;
+    let histories = nodes.into_histories()?;
+    let outcomes = outcomes_of(alloc, cores)?;
+    Ok(Ran {
+        histories,
+        outcomes,
+        head,
+    })
+}
+
+// The serial run of a script, with a counter of steps of its own.
+fn run_counted<S: Source, L: Ledger>(
+    alloc: Global,
+    script: &Script,
+    source: &mut S,
+    puller: Puller,
+    batch: u32,
+    blank: Blank,
+) -> Result<Ran, Stop>
+    requires name { blank.name ≡ L.name }
+    requires parts { blank.parts ≡ L.parts }
+    requires counter { 0 < blank.parts }
+    requires some { 1 ≤ batch }
+    requires few { batch ≤ 64 }
+    requires going { puller.reading ≡ Going }
+    requires fresh { puller.given ≡ 0 }
+    requires faults { S.faults source.old < 2 ^ 64 - 1 }
+    ensures ran { IfOk result (λ ran. OfStream (S.left source.old) (S.left source.new) puller (λ ahead taken. IsRanOf script.now batch (ahead ++ taken) ran)) }
+    ensures rose { IfOk result (λ ran. IsTrue ran.head.read_fault ↔ (S.faults source.old < S.faults source.new)) }
+    ensures end { IfOk result (λ ran. ran.head.read_fault ≡ false → IsAtEnd (S.left source.new)) }
+    ensures too_long { (turns : ℕ) → IsErrOf result (Stop.TooLong turns) → OfStream (S.left source.old) (S.left source.new) puller (IsTooLong script.now puller.start turns) }
+    ensures draws { OnErr result ((packets : List (List ℕ)) × ((last : Pulling) × Draws (S.left source.old) (S.left source.new) (S.faults source.old) (S.faults source.new) puller last packets)) }
+{
+    let mut steps = Steps::<L>::new(blank);
+    let mut cores = cores_of(alloc, script)?;
+    let mut runner = Runner {
+        nodes: Nodes::new(alloc)?,
+        puller,
+        moment: 0,
+    };
+    runner.whole(source, batch, &mut cores, script.lines(), &mut steps)?;
+    ran_of(alloc, runner, &cores)
+}
+
+/// Does the lines of a script in their order, on one thread, over the stream of the puller, in batches of at most `batch`
+/// packets, 1 to 64. No pull of the puller was made before, and it reads from this source.
+///
+/// A line `feed` passes its packets through all nodes, a line `tick` lets time go by, and a command is done to its end: where
+/// its client waits, a batch passes, or the end of the stream, and the read is repeated. After the last line the rest of the
+/// stream passes. The end passes once, at the first time that a packet is wanted and none is left.
+///
+/// Where a read of the source fails the stream ends there, and the head says so. The answer is `TooLong` after a client's
+/// 549,755,813,888th call, or where the puller stopped after 4,294,967,296 reads; else `NoMemory` where memory was refused.
+pub fn run_steps<S: Source>(
+    alloc: Global,
+    script: &Script,
+    source: &mut S,
+    puller: Puller,
+    batch: u32,
+) -> Result<Ran, Stop>
+    requires some { 1 ≤ batch }
+    requires few { batch ≤ 64 }
+    requires going { puller.reading ≡ Going }
+    requires fresh { puller.given ≡ 0 }
+    requires faults { S.faults source.old < 2 ^ 64 - 1 }
+    // The histories, the outcomes and the head are those of the serial run, which is the only one.
+    ensures ran { IfOk result (λ ran. OfStream (S.left source.old) (S.left source.new) puller (λ ahead taken. IsRanOf script.now batch (ahead ++ taken) ran)) }
+    // The source failed exactly where its count rose; else it has nothing left.
+    ensures rose { IfOk result (λ ran. IsTrue ran.head.read_fault ↔ (S.faults source.old < S.faults source.new)) }
+    ensures end { IfOk result (λ ran. ran.head.read_fault ≡ false → IsAtEnd (S.left source.new)) }
+    ensures too_long { (turns : ℕ) → IsErrOf result (Stop.TooLong turns) → OfStream (S.left source.old) (S.left source.new) puller (IsTooLong script.now puller.start turns) }
+    // What was taken of the source where the run stopped, as the puller's pulls tell it.
+    ensures draws { OnErr result ((packets : List (List ℕ)) × ((last : Pulling) × Draws (S.left source.old) (S.left source.new) (S.faults source.old) (S.faults source.new) puller last packets)) }
+{
+    run_counted::<S, Brand>(alloc, script, source, puller, batch, Blank::new(1))
+}
