@@ -24,3 +24,4 @@ pub mod Lawful
 pub mod Passing
 pub mod Lining
 pub mod Ending
+pub mod Existing

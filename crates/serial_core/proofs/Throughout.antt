@@ -25,7 +25,7 @@ passed_replies : (sizes : List ℕ) (r : Run) → (fold passed r sizes).replies 
 passed_replies [] r = refl
 passed_replies (size ∷ sizes) r = passed_replies sizes (passed r size)
 
-fed_replies : (batch count : ℕ) (r : Run) → (fed batch count r).replies ≡ r.replies
+pub fed_replies : (batch count : ℕ) (r : Run) → (fed batch count r).replies ≡ r.replies
 fed_replies batch count r = go (nat_lt (length r.left) count) where
   go : (b : Bool) → (if b then ended (all_passed batch (length r.left) r) else all_passed batch count r).replies ≡ r.replies
   go true = ended_replies (all_passed batch (length r.left) r) ∙ passed_replies (batch_sizes batch (length r.left)) r

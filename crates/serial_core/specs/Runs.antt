@@ -1,5 +1,6 @@
 -- What holds of a serial run as a whole (this project's own).
 use Rattle.std.specs.Prelude.{ℕ, ◌≡◌, ◌<◌, ◌≤◌, List, slice_get, Some, All}
+use Rattle.ts_packet.specs.Fields.{IsPacket}
 use Rattle.dmx_calls.specs.Log.{LogEntry, filled}
 use Rattle.dmx_calls.specs.Rules.{rules_at}
 use Rattle.dmx_calls.specs.Accounted.{IsAccounted}
@@ -19,3 +20,7 @@ pub record IsAccountedRun (lines : List Line) (batch : ℕ) (packets : List (Lis
 -- The serial run of a script is a run of it, where a batch has at least one packet.
 abbrev pub SerialRunsAreRuns : Type 0
 SerialRunsAreRuns = (lines : List Line) (batch : ℕ) (packets : List (List ℕ)) (r : Run) → All IsInRange lines → 1 ≤ batch → IsSerialRun lines batch packets r → IsAccountedRun lines batch packets r
+
+-- A script and a stream have a serial run, where a batch has at least one packet: each command ends.
+abbrev pub HaveSerialRuns : Type 0
+HaveSerialRuns = (lines : List Line) (batch : ℕ) (packets : List (List ℕ)) → All IsInRange lines → All IsPacket packets → 1 ≤ batch → (r : Run) × IsSerialRun lines batch packets r
