@@ -10,6 +10,8 @@ mod nodes;
 mod run;
 mod runner;
 mod seat;
+#[cfg(test)]
+mod tests;
 
 pub use laws::{
     clients_are_within_budget, every_packet_passes_each_node_once, every_script_has_a_serial_run,

@@ -20,7 +20,7 @@ ghost use Rattle.serial_core.specs.Standing.{AreCounted, AreUnder, IsDemux, IsNo
 use crate::seat::Seat;
 use client_core::{ClientCore, Event, call_of};
 use dmx_calls::limits::DEMUX_NODES;
-use dmx_calls::{Call, Fed, Histories};
+use dmx_calls::{Call, Entry, Fed, Histories};
 use dvr_core::DvrCore;
 use node_core::NodeCore;
 use std::alloc::{AllocError as NoMemory, Global};
@@ -87,12 +87,29 @@ fn end_demux<L: Ledger>(seats: &mut [Seat<NodeCore>], steps: &mut Steps<L>) -> R
     Ok(())
 }
 
+// The entries of the clients on all nodes.
+fn entries_of(
+    alloc: Global,
+    demux: Vec<Seat<NodeCore>>,
+    dvr: Seat<DvrCore>,
+) -> Result<Vec<Vec<Entry>>, NoMemory>
+    ensures { IfOk result (λ nodes. map (λ calls. calls.items) nodes.items ≡ map (λ seat. seat.entries.items) demux.items ++ dvr.entries.items ∷ []) }
+{
+    let mut nodes = Vec::new(alloc);
+    'seats: for seat in demux {
+        nodes.push(seat.entries)?;
+    }
+    nodes.push(dvr.entries)?;
+    Ok(nodes)
+}
+
 impl Nodes {
     // The nodes before the first call.
     pub fn new(alloc: Global) -> Result<Nodes, NoMemory>
         ensures at { IfOk result (λ v. (packets : List (List ℕ)) → IsNodes v (begun packets)) }
         ensures counted { IfOk result AreCounted }
         ensures none { IfOk result (λ v. v.made ≡ 0) }
+        ensures open { IfOk result (λ v. v.has_ended ≡ false) }
     {
         Ok(Nodes {
             alloc,
@@ -240,7 +257,7 @@ impl Nodes {
     // The histories of all nodes. End has passed.
     pub fn into_histories(self) -> Result<Histories, NoMemory>
         requires counted { AreCounted self }
-        ensures { IfOk result (λ all. all ≡ histories_of self.entry.feeding.items (map (λ seat. seat.entries.items) self.entry.demux.items ++ self.entry.dvr.entries.items ∷ [])) }
+        ensures { IfOk result (λ all. all ≡ histories_of self.feeding.items (map (λ seat. seat.entries.items) self.demux.items ++ self.dvr.entries.items ∷ [])) }
     {
         let Nodes {
             alloc,
@@ -249,11 +266,7 @@ impl Nodes {
             feeding,
             ..
         } = self;
-        let mut nodes = Vec::new(alloc);
-        'seats: for seat in demux {
-            nodes.push(seat.entries)?;
-        }
-        nodes.push(dvr.entries)?;
+        let nodes = entries_of(alloc, demux, dvr)?;
         Ok(Histories::new(feeding, nodes))
     }
 }

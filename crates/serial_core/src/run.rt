@@ -12,7 +12,7 @@ ghost use Rattle.std.specs.List.{range_with_len};
 ghost use Rattle.serial_core.specs.Lines.{AreAfter};
 ghost use Rattle.serial_core.specs.Moving.{Draws, IsSound};
 ghost use Rattle.serial_core.specs.SerialRun.{Run, replies_of};
-ghost use Rattle.serial_core.specs.Ran.{IsRanOf, IsTooLong, OfStream, histories_in};
+ghost use Rattle.serial_core.specs.Ran.{AreFresh, IsBegun, IsRanOf, IsTooLong, OfStream, histories_in};
 ghost use Rattle.serial_core.specs.Legal.{AreLegal};
 ghost use Rattle.serial_core.specs.Standing.{IsNodes};
 
@@ -41,16 +41,22 @@ pub struct Ran {
 
 // The clients of the script before their first calls.
 fn cores_of(alloc: Global, script: &Script) -> Result<Vec<ClientCore>, NoMemory>
-    ensures count { IfOk result (λ cores. length cores.items ≡ clients_in script.now) }
-    ensures few { IfOk result (λ cores. length cores.items ≤ 8) }
-    ensures after { IfOk result (λ cores. (c : ℕ) (d : CoreValue) → c < length cores.items → IsAfter c script.now [] (slice_index_or cores.items c d)) }
-    ensures fresh { IfOk result (λ cores. All (λ core. core.step ≡ 0) cores.items) }
+    ensures { IfOk result (λ cores. AreFresh script.now cores.items) }
 {
     let mut cores = Vec::new(alloc);
     'clients: for client in 0..script.clients() {
         cores.push(ClientCore::new(alloc, script, client)?)?;
     }
     Ok(cores)
+}
+
+// These outcomes, copied.
+fn copied(alloc: Global, from: &[Outcome]) -> Result<Vec<Outcome>, NoMemory>
+    ensures { IfOk result (λ copy. copy.items ≡ from.now) }
+{
+    let mut copy = Vec::with_capacity(alloc, from.len())?;
+    copy.extend_from_slice(from)?;
+    Ok(copy)
 }
 
 // What became of the commands of each client.
@@ -60,7 +66,7 @@ fn outcomes_of(alloc: Global, cores: &[ClientCore]) -> Result<Vec<Vec<Outcome>>,
 {
     let mut all = Vec::new(alloc);
     'cores: for core in cores {
-        all.push(core.outcomes().to_vec(alloc)?)?;
+        all.push(copied(alloc, core.outcomes())?)?;
     }
     Ok(all)
 }
@@ -91,7 +97,36 @@ fn ran_of(alloc: Global, runner: Runner, cores: &[ClientCore]) -> Result<Ran, St
     })
 }
 
-// The serial run of a script, with a counter of steps of its own.
+// The serial run of a script, from before its first line on.
+fn run_over<S: Source, L: Ledger>(
+    alloc: Global,
+    script: &Script,
+    source: &mut S,
+    runner: Runner,
+    batch: u32,
+    cores: &mut [ClientCore],
+    steps: &mut Steps<L>,
+) -> Result<Ran, Stop>
+    requires some { 1 ≤ batch }
+    requires few { batch ≤ 64 }
+    requires begun { IsBegun runner }
+    requires fresh { AreFresh script.now cores.old }
+    requires going { runner.puller.reading ≡ Going }
+    requires faults { S.faults source.old < 2 ^ 64 - 1 }
+    ensures ran { IfOk result (λ ran. OfStream (S.left source.old) (S.left source.new) runner.puller (λ ahead taken. IsRanOf script.now batch (ahead ++ taken) ran)) }
+    ensures rose { IfOk result (λ ran. IsTrue ran.head.read_fault ↔ (S.faults source.old < S.faults source.new)) }
+    ensures end { IfOk result (λ ran. ran.head.read_fault ≡ false → IsAtEnd (S.left source.new)) }
+    ensures too_long { (turns : ℕ) → IsErrOf result (Stop.TooLong turns) → OfStream (S.left source.old) (S.left source.new) runner.puller (IsTooLong script.now runner.puller.start turns) }
+    ensures draws { OnErr result ((packets : List (List ℕ)) × ((last : Pulling) × Draws (S.left source.old) (S.left source.new) (S.faults source.old) (S.faults source.new) runner.puller last packets)) }
+{
+    let mut runner = runner;
+    match runner.whole(source, batch, cores, script.lines(), steps) {
+        Ok(()) => ran_of(alloc, runner, cores),
+        Err(stop) => Err(stop),
+    }
+}
+
+// The same with a counter of steps of its own.
 fn run_counted<S: Source, L: Ledger>(
     alloc: Global,
     script: &Script,
@@ -115,14 +150,20 @@ fn run_counted<S: Source, L: Ledger>(
     ensures draws { OnErr result ((packets : List (List ℕ)) × ((last : Pulling) × Draws (S.left source.old) (S.left source.new) (S.faults source.old) (S.faults source.new) puller last packets)) }
 {
     let mut steps = Steps::<L>::new(blank);
-    let mut cores = cores_of(alloc, script)?;
-    let mut runner = Runner {
-        nodes: Nodes::new(alloc)?,
+    let mut cores = match cores_of(alloc, script) {
+        Ok(cores) => cores,
+        Err(_) => return Err(Stop::NoMemory),
+    };
+    let nodes = match Nodes::new(alloc) {
+        Ok(nodes) => nodes,
+        Err(_) => return Err(Stop::NoMemory),
+    };
+    let runner = Runner {
+        nodes,
         puller,
         moment: 0,
     };
-    runner.whole(source, batch, &mut cores, script.lines(), &mut steps)?;
-    ran_of(alloc, runner, &cores)
+    run_over(alloc, script, source, runner, batch, &mut cores, &mut steps)
 }
 
 /// Does the lines of a script in their order, on one thread, over the stream of the puller, in batches of at most `batch`

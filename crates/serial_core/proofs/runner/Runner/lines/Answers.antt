@@ -1,6 +1,7 @@
 use Rattle.std.proofs.Common.{◌≡◌, refl, sym, ap, ◌∙◌, ℕ, suc, ◌+◌, ◌*◌, ◌<◌, ◌≤◌, ◌^◌, List, ◌∷◌, length, drop, get_or, add-one, Err, arith}
 use Rattle.std.proofs.Math.Seq.{drop-cons}
 use Rattle.client_script.specs.declared.line.Line.{Line}
+use Rattle.client_script.specs.declared.line.Line.TheVariants.{Feed}
 use Rattle.client_core.specs.declared.stop.Stop.TheVariants.{TooLong}
 use Rattle.serial_core.specs.SerialRun.{Run}
 use Rattle.serial_core.specs.Lines.{AreAfter, IsFrontBy, IsLineBy, OverrunsBy}
@@ -43,10 +44,12 @@ lines-preserved g c =
     let lines = c.args.lines.now in
     let i = c.lines.line-index in
     let k = c.in_ok-line.ensures in
+    let there : i < length lines = omega (arith, c.lines-test.true, c.lines.auto.line-index-end) in
+    let here : drop i lines ≡ get_or lines i (Feed 0) ∷ drop (i + 1) lines = drop-cons lines i (Feed 0) there ∙ ap (λ n. get_or lines i (Feed 0) ∷ drop n lines) (sym (add-one i)) in
     record {
       moves = moves_then _ _ _ _ _ _ _ _ _ _ _ _
           (λ (r s t : Run) (a : IsFrontBy c.args.batch lines i c.args.cores.now c.lines.cores r s) (b : IsLineBy c.args.batch _ c.lines.cores c.line.new.cores s t).
-              front_more c.args.batch i lines (drop (i + 1) lines) _ c.args.cores.now c.lines.cores c.line.new.cores r s t ? refl a b)
+              front_more c.args.batch i lines (drop (i + 1) lines) _ c.args.cores.now c.lines.cores c.line.new.cores r s t here refl a b)
           c.lines.invariant.moves k.moves;
       sound = k.sound;
       made = k.made;

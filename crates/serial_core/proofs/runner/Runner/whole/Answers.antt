@@ -2,6 +2,7 @@ use Rattle.std.proofs.Common.{◌≡◌, refl, sym, ap, subst, ◌∙◌, ℕ, L
 use Rattle.client_script.specs.declared.line.Line.{Line}
 use Rattle.serial_core.specs.SerialRun.{Run, finished, AreDone}
 use Rattle.serial_core.specs.Lines.{AreAfter, IsFrontBy}
+use Rattle.serial_core.specs.Moving.{Draws}
 use Rattle.serial_core.proofs.Drawing.{draws_then, moves_then, still_counts, on_err}
 use Rattle.serial_core.proofs.Lining.{whole_by}
 use Rattle.serial_core.proofs.runner.Runner.whole.Goals as goal
@@ -15,3 +16,10 @@ returns-clause-moves g c =
 
 pub finish-requires-clause-faults : goal.finish-requires-clause-faults
 finish-requires-clause-faults g c = still_counts _ _ _ _ _ _ c.in_ok-lines.ensures.moves.draws.follows c.requires.faults
+
+pub returns-in_err-finish-clause-draws : goal.returns-in_err-finish-clause-draws
+returns-in_err-finish-clause-draws g c =
+    let m = c.in_ok-lines.ensures.moves in
+    let d = c.in_err-finish.ensures.draws in
+    on_err _ ((packets : List (List ℕ)) × Draws (g.S.Source.left c.args.source.now) (g.S.Source.left c.finish.new.source) (g.S.Source.faults c.args.source.now) (g.S.Source.faults c.finish.new.source) c.args.self.now.puller c.finish.new.self.puller packets)
+    (_, draws_then _ _ _ _ _ _ _ _ _ _ _ m.draws d.1)

@@ -1,5 +1,5 @@
 use Rattle.std.proofs.Common.{◌≡◌, map}
-use Rattle.serial_core.proofs.nodes.Nodes.into_histories.Given as goal
+use Rattle.serial_core.proofs.nodes.entries_of.Given as goal
 
 abbrev pub invariant-seats : goal.invariant-seats
 invariant-seats l = map (λ calls. calls.items) l.nodes.items ≡ map (λ seat. seat.entries.items) l.yielded

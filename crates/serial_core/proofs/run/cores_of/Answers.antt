@@ -1,0 +1,32 @@
+use Rattle.std.proofs.Common.{◌≡◌, refl, sym, ap, subst, ◌∙◌, ℕ, ◌+◌, ◌<◌, ◌≤◌, List, [], ◌∷◌, ◌++◌, length, get_or, length-append, inl, inr, arith}
+use Rattle.std.specs.Prelude.{All, slice_index_or}
+use Rattle.std.proofs.lemmas.Bool.{cases_lt}
+use Rattle.std.proofs.lemmas.List.{get_or_append_left}
+use Rattle.std.proofs.Math.Seq.{get_or-append_seam}
+use Rattle.std.proofs.lemmas.List.Elements.{All-push, All-nil}
+use Rattle.client_script.specs.declared.line.Line.{Line}
+use Rattle.client_core.specs.Core.{Core, IsAfter}
+use Rattle.serial_core.proofs.run.cores_of.Goals as goal
+
+after_push : (lines : List Line) (cores : List Core) (core : Core) (n : ℕ) → length cores ≡ n → ((c : ℕ) (d : Core) → c < length cores → IsAfter c lines [] (slice_index_or cores c d))
+    → IsAfter n lines [] core → (c : ℕ) (d : Core) → c < length (cores ++ core ∷ []) → IsAfter c lines [] (slice_index_or (cores ++ core ∷ []) c d)
+after_push lines cores core n count before one c d lt = elim (cases_lt c (length cores)) [
+  | inl old ↦ subst (λ x. IsAfter c lines [] x) (sym (get_or_append_left cores (core ∷ []) d c old)) (before c d old)
+  | inr new ↦
+      let last : length cores ≡ c = omega (arith, new, lt, length-append cores (core ∷ [])) in
+      subst (λ i. IsAfter i lines [] (slice_index_or (cores ++ core ∷ []) i d)) last
+      (subst (λ x. IsAfter (length cores) lines [] x) (sym (get_or-append_seam cores core [] d)) (subst (λ i. IsAfter i lines [] core) (sym count) one))
+]
+
+pub clients-init : goal.clients-init
+clients-init c = rw c.new-cores.ensures.items record { count = refl; after = λ k d lt. absurd (omega (arith, lt)); fresh = All-nil _ }
+
+pub clients-preserved : goal.clients-preserved
+clients-preserved c =
+    let i = c.clients.invariant in
+    let k = c.in_ok-new.ensures in
+    rw c.in_ok-push.ensures.items record {
+      count = length-append c.clients.cores.items _ ∙ omega (arith, i.count);
+      after = after_push _ c.clients.cores.items _ c.clients.client i.count i.after k;
+      fresh = All-push (λ (x : Core). x.step ≡ 0) c.clients.cores.items _ i.fresh k.steps;
+    }

@@ -1,0 +1,10 @@
+use Rattle.std.proofs.Common.{◌≡◌, sym, ap, ◌∙◌, ◌++◌}
+use Rattle.dmx_calls.specs.Head.{head_of}
+use Rattle.serial_core.proofs.Ending.{all_woven}
+use Rattle.serial_core.proofs.run.ran_of.Goals as goal
+
+pub returns-clause-histories : goal.returns-clause-histories
+returns-clause-histories c r at legal = c.in_ok-histories.ensures ∙ all_woven c.args.runner.nodes r at c.requires.ended legal
+
+pub returns-clause-head : goal.returns-clause-head
+returns-clause-head c ahead taken given p = c.in_ok-head.ensures.head ahead taken given p ∙ ap (head_of (ahead ++ taken)) (sym c.in_ok-head.ensures.fault)

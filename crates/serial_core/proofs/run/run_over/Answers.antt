@@ -1,0 +1,83 @@
+use Rattle.std.proofs.Common.{◌≡◌, ◌≢◌, refl, sym, ap, ◌∙◌, ℕ, ◌+◌, ◌≤◌, List, ◌++◌, length, map, Err, inl, inr, Bool, true, false, arith}
+use Rattle.std.specs.List.{range_with_len}
+use Rattle.client_script.specs.declared.line.Line.{Line}
+use Rattle.client_core.specs.Events.{outcomes}
+use Rattle.feed_pull.specs.Pulling.{Pulls, has_failed}
+use Rattle.dmx_calls.specs.Head.{told_head, head_of}
+use Rattle.feed_pull.specs.declared.fault.Reading.TheVariants.{TooMany}
+use Rattle.client_core.specs.declared.stop.Stop.TheVariants.{TooLong}
+use Rattle.client_core.specs.Budget.{most_calls}
+use Rattle.serial_core.specs.Budget.{all_commands}
+use Rattle.serial_core.specs.declared.run.Ran.{Ran}
+use Rattle.serial_core.specs.SerialRun.{Run, replies_of}
+use Rattle.serial_core.specs.Legal.{AreLegal}
+use Rattle.serial_core.specs.Lines.{AreAfter}
+use Rattle.serial_core.specs.Standing.{IsNodes}
+use Rattle.serial_core.specs.Ran.{histories_in}
+use Rattle.serial_core.proofs.Drawing.{on_err}
+use Rattle.serial_core.proofs.Ending.{ran_is, overrun_is, clients_within}
+use Rattle.serial_core.proofs.Causes.{rose_by, end_by, reads_by, calls_by, ok_by}
+use Rattle.serial_core.proofs.run.run_over.Goals as goal
+
+pub returns-in-Ok-clause-ran : goal.returns-in-Ok-clause-ran
+returns-in-Ok-clause-ran g c =
+    let w = c.in-Ok.ensures in
+    let done = w.sound.ended w.ended in
+    ok_by c.ran_of.result _ _ _ _
+    (λ (ran : Ran) (a : (r : Run) → IsNodes c.whole.new.self.nodes r → AreLegal r → ran.histories ≡ histories_in r)
+        (b : (ls : List Line) (r : Run) → AreAfter ls r c.whole.new.cores → map (λ those. those.items) ran.outcomes.items ≡ map (λ client. outcomes client ls (replies_of client r)) (range_with_len 0 (length c.whole.new.cores)))
+        (h : (ahead taken : List ℕ) (given : List (List ℕ)) → Pulls ahead taken given c.whole.new.self.puller → told_head ran.head ≡ head_of (ahead ++ taken) ran.head.read_fault).
+        ran_is c.args.script.now c.args.batch _ _ _ _ c.args.runner c.whole.new.self c.args.cores.now c.requires.begun c.requires.fresh c.whole.new.cores ran c.whole.auto.cores (rw c.lines.ensures.lines at w.moves) done w.ended a b h)
+    c.ran_of.ensures.histories c.ran_of.ensures.outcomes c.ran_of.ensures.head
+
+pub returns-in-Ok-clause-rose : goal.returns-in-Ok-clause-rose
+returns-in-Ok-clause-rose g c =
+    let w = c.in-Ok.ensures in
+    ok_by c.ran_of.result _ _ _ _
+    (λ (ran : Ran) (a : ran.head.read_fault ≡ has_failed c.whole.new.self.puller.reading) (b : ran.head.read_fault ≡ has_failed c.whole.new.self.puller.reading) (h : ran.head.read_fault ≡ has_failed c.whole.new.self.puller.reading).
+        rose_by ran.head.read_fault c.args.runner.puller.reading c.whole.new.self.puller.reading _ _ _ _ w.moves.draws.follows c.requires.going a)
+    c.ran_of.ensures.fault c.ran_of.ensures.fault c.ran_of.ensures.fault
+
+pub returns-in-Ok-clause-end : goal.returns-in-Ok-clause-end
+returns-in-Ok-clause-end g c =
+    let w = c.in-Ok.ensures in
+    let done = w.sound.ended w.ended in
+    ok_by c.ran_of.result _ _ _ _
+    (λ (ran : Ran) (a : ran.head.read_fault ≡ has_failed c.whole.new.self.puller.reading) (b : c.whole.new.self.puller.reading ≢ TooMany) (h : c.whole.new.self.puller.reading ≢ TooMany).
+        end_by ran.head.read_fault c.args.runner.puller.reading c.whole.new.self.puller.reading _ _ _ _ w.moves.draws.follows c.requires.going a done.stopped b)
+    c.ran_of.ensures.fault c.ran_of.ensures.well c.ran_of.ensures.well
+
+pub returns-in-Ok-clause-too_long : goal.returns-in-Ok-clause-too_long
+returns-in-Ok-clause-too_long g c turns is =
+    let m = c.in-Ok.ensures.moves in
+    let k = c.ran_of.ensures.too_long turns is in
+    reads_by c.args.script.now _ _ _ _ turns c.args.runner.puller c.whole.new.self.puller m.packets m.draws k.0 k.1
+
+pub returns-in-Ok-clause-draws : goal.returns-in-Ok-clause-draws
+returns-in-Ok-clause-draws g c = let m = c.in-Ok.ensures.moves in on_err c.ran_of.result _ (m.packets, (c.whole.new.self.puller, m.draws))
+
+pub returns-in-Err-clause-too_long : goal.returns-in-Err-clause-too_long
+returns-in-Err-clause-too_long g c turns is =
+    let same : c.in-Err.stop ≡ TooLong turns = cc in
+    let k = c.whole.ensures.too_long turns (c.in-Err.is ∙ ap Err same) in
+    calls_by c.args.script.now _ _ c.args.runner.puller.start turns c.args.runner.puller _ (λ ahead taken (q : 549755813888 ≤ most_calls (all_commands c.args.script.now) (length ahead + length taken)). inr (k.0, q))
+    (overrun_is c.args.script.now c.args.batch _ _ _ _ c.args.runner c.whole.new.self c.args.cores.now c.requires.begun c.requires.fresh (rw c.lines.ensures.lines at k.1))
+
+pub returns-in-Err-clause-draws : goal.returns-in-Err-clause-draws
+returns-in-Err-clause-draws g c = let d = c.in-Err.ensures.draws in (d.0, (c.whole.new.self.puller, d.1))
+
+pub whole-requires-clause-sound : goal.whole-requires-clause-sound
+whole-requires-clause-sound g c = record {
+  ended = λ is. absurd (let e : true ≡ false = sym is ∙ c.requires.begun.unended in cc);
+  counted = c.requires.begun.counted;
+  given = omega (arith, c.requires.begun.given);
+}
+
+pub whole-requires-clause-made : goal.whole-requires-clause-made
+whole-requires-clause-made g c = omega (arith, c.requires.begun.made)
+
+pub whole-requires-clause-client : goal.whole-requires-clause-client
+whole-requires-clause-client g c = rw (c.lines.ensures.lines, c.requires.fresh.count) (clients_within c.args.script.now)
+
+pub whole-requires-clause-calls : goal.whole-requires-clause-calls
+whole-requires-clause-calls g c k d lt = let none = c.requires.fresh.fresh k d lt in omega (arith, none)
