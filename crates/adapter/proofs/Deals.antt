@@ -28,10 +28,10 @@ module _ {P V : Type 0} (items : V → List P) (old : List V) (passes : List P) 
         later = λ i x below h. j.later i x (omega arith) (sym (set_elsewhere now n i s (λ here. omega arith)) ∙ h);
         done = λ i a b q from d f h. dite (ℕ_discrete i n)
             (λ here.
-              let is_s : s ≡ b = one_value (set now n s) n s b (set_there now n s (place_below now n r at)) (ap (slice_get (set now n s)) (sym here) ∙ h) in
-              let is_r : r ≡ a = one_value old n r a (j.later n r (omega arith) at) (ap (slice_get old) (sym here) ∙ d) in
-              let is_p : p ≡ q = one_value passes n p q (j.begins n p (ap (λ (z : List P). slice_get z n) e ∙ at_last ys p)) (ap (slice_get passes) (sym here) ∙ f) in
-              subst (λ z. items z ≡ items a ++ q ∷ []) is_s (subst (λ z. items s ≡ items z ++ q ∷ []) is_r (subst (λ z. items s ≡ items r ++ z ∷ []) is_p is)))
+            let is_s : s ≡ b = one_value (set now n s) n s b (set_there now n s (place_below now n r at)) (ap (slice_get (set now n s)) (sym here) ∙ h) in
+            let is_r : r ≡ a = one_value old n r a (j.later n r (omega arith) at) (ap (slice_get old) (sym here) ∙ d) in
+            let is_p : p ≡ q = one_value passes n p q (j.begins n p (ap (λ (z : List P). slice_get z n) e ∙ at_last ys p)) (ap (slice_get passes) (sym here) ∙ f) in
+            subst (λ z. items z ≡ items a ++ q ∷ []) is_s (subst (λ z. items s ≡ items z ++ q ∷ []) is_r (subst (λ z. items s ≡ items r ++ z ∷ []) is_p is)))
             (λ more. j.done i a b q (omega arith) d f (sym (set_elsewhere now n i s more) ∙ h));
       }
 

@@ -56,9 +56,12 @@ rows_end cs c row e = map-append (λ (x : Caller). x.passes) cs (c ∷ []) ∙ a
 -- ------ callers that have made calls are still all callers
 
 same_passes : (ps qs rs : List (TableId × View Entry)) → AreSamePasses ps qs → AreSamePasses qs rs → AreSamePasses ps rs
-same_passes ps qs rs a b = (b.0 ∙ a.0, λ i p r x z.
-    let low = place_below ps i p x in let long = a.0 in let q = at_place qs i (omega arith) in let f = a.1 i p q.0 x q.1 in let g = b.1 i q.0 r q.1 z in
-    (g.0 ∙ f.0, g.1 ∙ f.1, g.2 ∙ f.2, g.3 ∙ f.3))
+same_passes ps qs rs a b = (
+  b.0 ∙ a.0,
+  λ i p r x z.
+      let low = place_below ps i p x in let long = a.0 in let q = at_place qs i (omega arith) in let f = a.1 i p q.0 x q.1 in let g = b.1 i q.0 r q.1 z in
+      (g.0 ∙ f.0, g.1 ∙ f.1, g.2 ∙ f.2, g.3 ∙ f.3),
+)
 
 pub same_trans : (a b c : Caller) → IsSameCaller a b → IsSameCaller b c → IsSameCaller a c
 same_trans a b c s t = (t.0 ∙ s.0, same_passes a.passes b.passes c.passes s.1 t.1)
@@ -76,5 +79,6 @@ still_all locks old new a s = record {
 } where
   before : (k : ℕ) (d : Caller) → slice_get new k ≡ Some d → (c : Caller) × (slice_get old k ≡ Some c) × IsSameCaller c d
   before k d at = let low = place_below new k d at in let long = s.0 in let c = at_place old k (omega arith) in (c.0, c.1, s.1 k c.0 d c.1 at)
+
   pass_before : (c d : Caller) → IsSameCaller c d → (i : ℕ) (q : TableId × View Entry) → slice_get d.passes i ≡ Some q → (p : TableId × View Entry) × (slice_get c.passes i ≡ Some p) × IsSamePass p q
   pass_before c d t i q is = let low = place_below d.passes i q is in let long = t.1.0 in let p = at_place c.passes i (omega arith) in (p.0, p.1, t.1.1 i p.0 q p.1 is)

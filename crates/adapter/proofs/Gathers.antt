@@ -49,10 +49,13 @@ module _ {N : Type 0} where
     }
 
   pub all_gathered : (locks : List TableId) (all rest : List (List (TableId × View N))) (into : List (TableId × View N)) → Gathering locks all rest into → rest ≡ [] → AreGathered locks all into
-  all_gathered locks all rest into g e = (g.own, λ i p d.
-      let low = place_below into i p d in let f0 = g.own.0 in let l = at_place locks i (omega arith) in
-      let a = all_joined l.0 (column i all) (column i rest) p (g.at i l.0 p l.1 d) (ap (column i) e) in
-      record { whole = a.0; calls = a.1; begins = a.2 })
+  all_gathered locks all rest into g e = (
+    g.own,
+    λ i p d.
+        let low = place_below into i p d in let f0 = g.own.0 in let l = at_place locks i (omega arith) in
+        let a = all_joined l.0 (column i all) (column i rest) p (g.at i l.0 p l.1 d) (ap (column i) e) in
+        record { whole = a.0; calls = a.1; begins = a.2 },
+  )
 
 pub rows_more : (cs ys : List Caller) (c : Caller) (h : List (TableId × View Entry)) → cs ≡ ys ++ c ∷ [] → h ≡ c.passes → rows_of cs ≡ rows_of ys ++ h ∷ []
 rows_more cs ys c h e same = ap rows_of e ∙ map-append (λ (x : Caller). x.passes) ys (c ∷ []) ∙ ap (λ (z : List (TableId × View Entry)). rows_of ys ++ z ∷ []) (sym same)

@@ -42,9 +42,10 @@ module _ (locks : List TableId) (rows : List (List (TableId × View Entry))) whe
         long = length-set lengths node r ∙ k.long;
         later = λ i p from e. k.later i p (omega arith) (sym (set_elsewhere now node i o.then (λ here. omega arith)) ∙ ap (λ (l : List (TableId × View Entry)). slice_get l i) (sym o.is) ∙ e);
         done = λ i under. dite (ℕ_discrete i node)
-            (λ here. let d = subst (λ (j : ℕ). (length o.then.1.seen ≡ slice_index (set lengths node r) j) × IsHistory j (column j rows) o.then.1.seen) (sym here)
-              (o.looked.long ∙ sym (get_or-set_same lengths node r 0 inside),
-                history_of node r o.first o.then (k.later node o.first (omega arith) o.was) o.looked) in (o.then.1.seen, d.0, d.1))
+            (λ here. let d = subst (λ (j : ℕ). (length o.then.1.seen ≡ slice_index (set lengths node r) j) × IsHistory j (column j rows) o.then.1.seen) (sym here) (
+              o.looked.long ∙ sym (get_or-set_same lengths node r 0 inside),
+              history_of node r o.first o.then (k.later node o.first (omega arith) o.was) o.looked,
+            ) in (o.then.1.seen, d.0, d.1))
             (λ more. let d = k.done i (omega arith) in (d.0, d.1 ∙ sym (get_or-set_other lengths node i r 0 more), d.2));
       }
 

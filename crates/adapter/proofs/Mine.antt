@@ -16,12 +16,15 @@ module _ {N : Type 0} where
   same_self p = (refl, refl, refl, refl)
 
   pub same_set : (ps : List (TableId × View N)) (node : ℕ) (p q : TableId × View N) → slice_get ps node ≡ Some p → IsSamePass p q → AreSamePasses ps (set ps node q)
-  same_set ps node p q was same = (length-set ps node q, λ i a b x y. dite (ℕ_discrete i node)
-      (λ here.
+  same_set ps node p q was same = (
+    length-set ps node q,
+    λ i a b x y. dite (ℕ_discrete i node)
+        (λ here.
         let is_a : p ≡ a = one_value ps node p a was (ap (slice_get ps) (sym here) ∙ x) in
         let is_b : q ≡ b = one_value (set ps node q) node q b (set_there ps node q (place_below ps node p was)) (ap (slice_get (set ps node q)) (sym here) ∙ y) in
         subst (λ z. IsSamePass z b) is_a (subst (λ z. IsSamePass p z) is_b same))
-      (λ other. let is : a ≡ b = one_value ps i a b x (sym (set_elsewhere ps node i q other) ∙ y) in subst (λ z. IsSamePass a z) is (same_self a)))
+        (λ other. let is : a ≡ b = one_value ps i a b x (sym (set_elsewhere ps node i q other) ∙ y) in subst (λ z. IsSamePass a z) is (same_self a)),
+  )
 
   pub same_after : (ps qs : List (TableId × View N)) (node : ℕ) (p q : TableId × View N) → slice_get ps node ≡ Some p → qs ≡ set ps node q → IsSamePass p q → AreSamePasses ps qs
   same_after ps qs node p q was is same = subst (AreSamePasses ps) (sym is) (same_set ps node p q was same)
@@ -44,17 +47,22 @@ module _ (who left : ℕ) where
   mine_set more node ps qs p q less was is number few mine i r at =
       let here : slice_get (set ps node q) i ≡ Some r = ap (λ (l : List (TableId × View Entry)). slice_get l i) (sym is) ∙ at in
       dite (ℕ_discrete i node)
-        (λ e. let same : q ≡ r = one_value (set ps node q) node q r (set_there ps node q (place_below ps node p was)) (ap (slice_get (set ps node q)) (sym e) ∙ here) in
-          subst (λ (z : TableId × View Entry). (z.1.number ≡ who) × (more ≤ z.1.left)) same (number ∙ (mine node p was).0, few))
-        (λ n. let m = mine i r (sym (set_elsewhere ps node i q n) ∙ here) in let enough = m.1 in (m.0, omega arith))
+      (λ e. let same : q ≡ r = one_value (set ps node q) node q r (set_there ps node q (place_below ps node p was)) (ap (slice_get (set ps node q)) (sym e) ∙ here) in
+      subst (λ (z : TableId × View Entry). (z.1.number ≡ who) × (more ≤ z.1.left)) same (number ∙ (mine node p was).0, few))
+      (λ n. let m = mine i r (sym (set_elsewhere ps node i q n) ∙ here) in let enough = m.1 in (m.0, omega arith))
 
   module _ (S : List Entry → Type 0) (node : ℕ) (entry : ℕ → Entry) (place : ℕ) (ps qs : List (TableId × View Entry)) where
     pub mine_after : 0 < left → AreMine who left ps → OneCalls caller_of S node entry place ps qs → AreMine who (left - 1) qs
     mine_after some mine o = let m = (mine node o.first o.was).1 in let fewer = o.more.left in mine_set (left - 1) node ps qs o.first o.then (omega arith) o.was o.is o.more.same.1 (omega arith) mine
 
     pub by_me : AreMine who left ps → OneCalls caller_of S node entry place ps qs → OneCalls caller_of S node (λ _. entry who) place ps qs
-    by_me mine o = record { first = o.first; then = o.then; was = o.was; is = o.is;
-      more = subst (λ (n : ℕ). OneMore caller_of S (entry n) place o.first o.then) (mine node o.first o.was).0 o.more }
+    by_me mine o = record {
+      first = o.first;
+      then = o.then;
+      was = o.was;
+      is = o.is;
+      more = subst (λ (n : ℕ). OneMore caller_of S (entry n) place o.first o.then) (mine node o.first o.was).0 o.more;
+    }
 
     pub fits_after : (locks : List TableId) → Fits locks ps → OneCalls caller_of S node entry place ps qs → Fits locks qs
     fits_after locks f o = fits_same locks ps qs f (same_after ps qs node o.first o.then o.was o.is o.more.same)

@@ -35,8 +35,8 @@ module _ {V : Type 0} (items : V → List (TableId × View Entry)) (callers : �
         fresh = λ i q at. k.fresh i q (ap (λ (z : List (TableId × View Entry)). slice_get z i) d ∙ at_before zs (p ∷ []) i q at);
         done = λ i who x at sum. ⊎_elim (λ old. k.done i who x old sum)
             (λ new. let place : i ≡ length all = new.0 in let number : length ys ≡ who = omega arith in
-              subst (IsFreshRow callers who (ls ++ l ∷ [])) (sym is ∙ new.1)
-                (fresh_row callers who ls (items r) l p (k.left who r (ap (slice_get rows) (sym number) ∙ here_r)) (k.fresh who p (ap (slice_get dvrs) (sym number ∙ even) ∙ here_p))))
+            subst (IsFreshRow callers who (ls ++ l ∷ [])) (sym is ∙ new.1)
+            (fresh_row callers who ls (items r) l p (k.left who r (ap (slice_get rows) (sym number) ∙ here_r)) (k.fresh who p (ap (slice_get dvrs) (sym number ∙ even) ∙ here_p))))
             (at_end all row x i at);
       }
 
@@ -60,8 +60,8 @@ module _ (callers : ℕ) (locks : List TableId) where
         left = λ i w x at sum. k.left i w x (ap (λ (z : List (List (TableId × View Entry))). slice_get z i) e ∙ at_before ys (row ∷ []) i x at) sum;
         done = λ i x at. ⊎_elim (λ old. k.done i x old)
             (λ new. let place : length clients + 1 ≡ i + 1 = ap (λ (n : ℕ). n + 1) (sym new.0) in
-              subst (IsFreshCaller locks callers (i + 1) (2 ^ 40)) new.1
-                (record { number = who ∙ place; calls = calls; row = subst (λ (n : ℕ). IsFreshRow callers n locks c.passes) place (subst (IsFreshRow callers (length clients + 1) locks) (sym passes) (next_row_of rest ys clients row k e)) }))
+            subst (IsFreshCaller locks callers (i + 1) (2 ^ 40)) new.1
+            (record { number = who ∙ place; calls = calls; row = subst (λ (n : ℕ). IsFreshRow callers n locks c.passes) place (subst (IsFreshRow callers (length clients + 1) locks) (sym passes) (next_row_of rest ys clients row k e)) }))
             (at_end clients c x i at);
       }
 

@@ -52,14 +52,14 @@ module _ (locks : List TableId) (entry : ℕ → Entry) (old : List (TableId × 
         later = λ i p from at. k.later i p (omega arith) (sym (set_elsewhere now node i o.then (λ here. omega arith)) ∙ ap (λ (l : List (TableId × View Entry)). slice_get l i) (sym o.is) ∙ at);
         done = λ i p q under a b. dite (ℕ_discrete i node)
             (λ here.
-              let is_p : o.first ≡ p = one_value old node o.first p (k.later node o.first (omega arith) o.was) (ap (slice_get old) (sym here) ∙ a) in
-              let is_q : o.then ≡ q = one_value (set now node o.then) node o.then q (set_there now node o.then (place_below now node o.first o.was)) (ap (slice_get (set now node o.then)) (sym here) ∙ ap (λ (l : List (TableId × View Entry)). slice_get l i) (sym o.is) ∙ b) in
-              subst (λ (j : ℕ). OneMore caller_of (IsLegalAt j) (entry p.1.number) (slice_index (set places node place) j) p q) (sym here)
-                (subst (λ (n : ℕ). OneMore caller_of (IsLegalAt node) (entry p.1.number) n p q) (sym (get_or-set_same places node place 0 inside))
-                  (subst (λ z. OneMore caller_of (IsLegalAt node) (entry z.1.number) place z q) is_p (subst (λ z. OneMore caller_of (IsLegalAt node) (entry o.first.1.number) place o.first z) is_q
-                    (subst (λ x. OneMore caller_of (IsLegalAt node) x place o.first o.then) here_is o.more)))))
+            let is_p : o.first ≡ p = one_value old node o.first p (k.later node o.first (omega arith) o.was) (ap (slice_get old) (sym here) ∙ a) in
+            let is_q : o.then ≡ q = one_value (set now node o.then) node o.then q (set_there now node o.then (place_below now node o.first o.was)) (ap (slice_get (set now node o.then)) (sym here) ∙ ap (λ (l : List (TableId × View Entry)). slice_get l i) (sym o.is) ∙ b) in
+            subst (λ (j : ℕ). OneMore caller_of (IsLegalAt j) (entry p.1.number) (slice_index (set places node place) j) p q) (sym here)
+            (subst (λ (n : ℕ). OneMore caller_of (IsLegalAt node) (entry p.1.number) n p q) (sym (get_or-set_same places node place 0 inside))
+            (subst (λ z. OneMore caller_of (IsLegalAt node) (entry z.1.number) place z q) is_p (subst (λ z. OneMore caller_of (IsLegalAt node) (entry o.first.1.number) place o.first z) is_q
+            (subst (λ x. OneMore caller_of (IsLegalAt node) x place o.first o.then) here_is o.more)))))
             (λ more. subst (λ (n : ℕ). OneMore caller_of (IsLegalAt i) (entry p.1.number) n p q) (sym (get_or-set_other places node i place 0 more))
-              (k.done i p q (omega arith) a (sym (set_elsewhere now node i o.then more) ∙ ap (λ (l : List (TableId × View Entry)). slice_get l i) (sym o.is) ∙ b)));
+            (k.done i p q (omega arith) a (sym (set_elsewhere now node i o.then more) ∙ ap (λ (l : List (TableId × View Entry)). slice_get l i) (sym o.is) ∙ b)));
       }
 
   pub all_passed : (node : ℕ) (places : List ℕ) (now : List (TableId × View Entry)) → length locks ≡ DEMUX_NODES + 1 → node ≡ DEMUX_NODES + 1 → PassedTo node places now → AllCall caller_of IsLegalAt entry places old now

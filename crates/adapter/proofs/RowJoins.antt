@@ -20,8 +20,14 @@ module _ {N : Type 0} (locks : List TableId) (old other : List (TableId × View 
     pub done : (i : ℕ) (p q r : TableId × View N) → length rest ≤ i → slice_get old i ≡ Some p → slice_get other i ≡ Some q → slice_get now i ≡ Some r → OneJoins p q r
 
   pub none_joined : Fits locks old → Fits locks other → RowJoined other old
-  none_joined f g = let a = f.0 in let b = g.0 in record { fits = f; theirs = g; begins = λ i q e. e; few = omega arith; later = λ i p b e. e;
-    done = λ i p q r below d e n. let low = place_below other i q e in absurd (omega arith) }
+  none_joined f g = let a = f.0 in let b = g.0 in record {
+    fits = f;
+    theirs = g;
+    begins = λ i q e. e;
+    few = omega arith;
+    later = λ i p b e. e;
+    done = λ i p q r below d e n. let low = place_below other i q e in absurd (omega arith);
+  }
 
   -- the pass that is taken is of the lock in its place
   pub last_theirs : (rest ys now : List (TableId × View N)) (q : TableId × View N) (l : TableId) → RowJoined rest now → rest ≡ ys ++ q ∷ [] → slice_get locks (length ys) ≡ Some l → q.0 ≡ l
@@ -37,10 +43,10 @@ module _ {N : Type 0} (locks : List TableId) (old other : List (TableId × View 
         later = λ i x below h. j.later i x (omega arith) (sym (set_elsewhere now n i r (λ here. omega arith)) ∙ h);
         done = λ i a b c from d f h. dite (ℕ_discrete i n)
             (λ here.
-              let is_r : r ≡ c = one_value (set now n r) n r c (set_there now n r (place_below now n p at)) (ap (slice_get (set now n r)) (sym here) ∙ h) in
-              let is_p : p ≡ a = one_value old n p a (j.later n p (omega arith) at) (ap (slice_get old) (sym here) ∙ d) in
-              let is_q : q ≡ b = one_value other n q b (j.begins n q (ap (λ (z : List (TableId × View N)). slice_get z n) e ∙ at_last ys q)) (ap (slice_get other) (sym here) ∙ f) in
-              subst (λ z. OneJoins z b c) is_p (subst (λ z. OneJoins p z c) is_q (subst (λ z. OneJoins p q z) is_r is)))
+            let is_r : r ≡ c = one_value (set now n r) n r c (set_there now n r (place_below now n p at)) (ap (slice_get (set now n r)) (sym here) ∙ h) in
+            let is_p : p ≡ a = one_value old n p a (j.later n p (omega arith) at) (ap (slice_get old) (sym here) ∙ d) in
+            let is_q : q ≡ b = one_value other n q b (j.begins n q (ap (λ (z : List (TableId × View N)). slice_get z n) e ∙ at_last ys q)) (ap (slice_get other) (sym here) ∙ f) in
+            subst (λ z. OneJoins z b c) is_p (subst (λ z. OneJoins p z c) is_q (subst (λ z. OneJoins p q z) is_r is)))
             (λ more. j.done i a b c (omega arith) d f (sym (set_elsewhere now n i r more) ∙ h));
       }
 
@@ -54,6 +60,6 @@ join_both ps qs rs p q r same j o = record {
   each = λ i a b c d e f. let long = j.long in ⊎_elim
       (λ x. ⊎_elim (λ y. ⊎_elim (λ z. j.each i a b c x y z) (λ z. let low = place_below ps i a x in let at : i ≡ length rs = z.0 in absurd (omega arith)) (at_end rs r c i f)) (λ y. let low = place_below ps i a x in let at : i ≡ length qs = y.0 in absurd (omega arith)) (at_end qs q b i e))
       (λ x. let at : i ≡ length ps = x.0 in ⊎_elim (λ y. let low = place_below qs i b y in absurd (omega arith)) (λ y. ⊎_elim (λ z. let low = place_below rs i c z in absurd (omega arith))
-        (λ z. subst (λ u. OneJoins u b c) x.1 (subst (λ u. OneJoins p u c) y.1 (subst (λ u. OneJoins p q u) z.1 o))) (at_end rs r c i f)) (at_end qs q b i e))
+      (λ z. subst (λ u. OneJoins u b c) x.1 (subst (λ u. OneJoins p u c) y.1 (subst (λ u. OneJoins p q u) z.1 o))) (at_end rs r c i f)) (at_end qs q b i e))
       (at_end ps p a i d);
 }

@@ -62,7 +62,14 @@ impl NodePasses {
         ensures cost { steps.new ≤ steps.old + packets_of call }
     {
         if node < DEMUX_NODES {
-            call_in(rt, &adapter.demux, &mut self.demux, node as usize, call, steps)
+            call_in(
+                rt,
+                &adapter.demux,
+                &mut self.demux,
+                node as usize,
+                call,
+                steps,
+            )
         } else {
             adapter.dvr.call(rt, &mut self.dvr, call, steps)
         }

@@ -15,4 +15,4 @@ loop-pass-preserved g c =
     let r : slice_get c.loop-pass.rows n ≡ Some row = slice_get-get_or c.loop-pass.rows n c.index-rows-who.result (omega arith) in
     let is : c.push.new.self.items ≡ row.items ++ c.in-Some.pass ∷ [] = search rules in
     subst (λ (k : ℕ). Dealing (λ x. x.items) c.args.rows.now c.args.passes.items ys (set c.loop-pass.rows k c.push.new.self)) (sym at)
-      (next_deal (λ x. x.items) c.args.rows.now c.args.passes.items rest ys c.loop-pass.rows c.in-Some.pass row c.push.new.self j e r is)
+    (next_deal (λ x. x.items) c.args.rows.now c.args.passes.items rest ys c.loop-pass.rows c.in-Some.pass row c.push.new.self j e r is)

@@ -14,4 +14,4 @@ loop-row-preserved c =
     let row : List (TableId × View Entry) = r.items ++ p ∷ [] in
     let more : c.push.new.self.items ≡ c.loop-row.all.items ++ row ∷ [] = search rules in
     subst (λ (rows : List (List (TableId × View Entry))). Paired (λ x. x.items) (vec_len c.args.passes) c.args.demux.now.items c.args.dvr.now ys zs rows) (sym more)
-      (next_pair (λ x. x.items) (vec_len c.args.passes) c.args.demux.now.items c.args.dvr.now c.loop-row.rows.items ys r c.loop-row.passes.items zs p c.loop-row.all.items row c.loop-row.invariant e d refl)
+    (next_pair (λ x. x.items) (vec_len c.args.passes) c.args.demux.now.items c.args.dvr.now c.loop-row.rows.items ys r c.loop-row.passes.items zs p c.loop-row.all.items row c.loop-row.invariant e d refl)

@@ -34,8 +34,11 @@ returns-clause-fresh c =
     let callers : n ≡ c.args.clients + 1 = search rules in let same : length rest ≡ vec_len c.pop.new.self = search rules in
     let count : vec_len c.pop.new.self + 1 ≡ c.args.clients + 1 = ap (λ (k : ℕ). k + 1) (sym same) ∙ (r.1 ∙ callers) in let made : _ = c.in_ok-clients.ensures in
     let many : length c.in_ok-clients.clients.items ≡ c.args.clients = search rules in
-    record { first = record { number = refl; calls = refl; row = subst (λ (k : ℕ). IsFreshRow k 0 locks row) callers r.0 }; long = many;
-      each = subst (λ (k : ℕ). AreFreshClients k locks c.in_ok-clients.clients.items) count made.1 }
+    record {
+      first = record { number = refl; calls = refl; row = subst (λ (k : ℕ). IsFreshRow k 0 locks row) callers r.0 };
+      long = many;
+      each = subst (λ (k : ℕ). AreFreshClients k locks c.in_ok-clients.clients.items) count made.1;
+    }
 
 pub returns-clause-all : goal.returns-clause-all
 returns-clause-all c =
@@ -47,6 +50,9 @@ returns-clause-all c =
     let count : vec_len c.pop.new.self + 1 ≡ c.args.clients + 1 = ap (λ (k : ℕ). k + 1) (sym same) ∙ (r.1 ∙ callers) in let made : _ = c.in_ok-clients.ensures in
     let many : length c.in_ok-clients.clients.items ≡ c.args.clients = search rules in
     let feeder : Caller = record { who = 0; left = 2 ^ 44; passes = row } in
-    let fresh : AreFreshCallers locks c.args.clients feeder c.in_ok-clients.clients.items = record { first = record { number = refl; calls = refl; row = subst (λ (k : ℕ). IsFreshRow k 0 locks row) callers r.0 }; long = many;
-      each = subst (λ (k : ℕ). AreFreshClients k locks c.in_ok-clients.clients.items) count made.1 } in
+    let fresh : AreFreshCallers locks c.args.clients feeder c.in_ok-clients.clients.items = record {
+      first = record { number = refl; calls = refl; row = subst (λ (k : ℕ). IsFreshRow k 0 locks row) callers r.0 };
+      long = many;
+      each = subst (λ (k : ℕ). AreFreshClients k locks c.in_ok-clients.clients.items) count made.1;
+    } in
     fresh_all locks c.args.clients feeder c.in_ok-clients.clients.items fresh

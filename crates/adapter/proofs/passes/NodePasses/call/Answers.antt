@@ -18,7 +18,7 @@ returns-else-node-lt-DEMUX_NODES-clause-call g c =
     let long : length c.self.inside.demux.items ≡ nodes = c.self.invariant in
     let e = c.call.ensures in let p = c.self.inside.dvr in let q = c.call.new.pass in
     let more : OneMore caller_of DvrStood (told p.1.number c.args.call c.call.result.1) c.call.result.0 p q =
-      record { before = e.entry.0; seen = e.entry.1; now = e.entry.2; at = e.entry.3; few = e.place; told = e.told; calls = e.calls; same = e.same; left = e.left; miss = e.miss; meant = e.stood } in
+    record { before = e.entry.0; seen = e.entry.1; now = e.entry.2; at = e.entry.3; few = e.place; told = e.told; calls = e.calls; same = e.same; left = e.left; miss = e.miss; meant = e.stood } in
     rw (← c.self.view_is) (subst (λ (n : ℕ). OneCalls caller_of (IsLegalAt n) n (λ who. told who c.args.call c.call.result.1) c.call.result.0 (c.self.inside.demux.items ++ p ∷ []) (c.self.inside.demux.items ++ q ∷ [])) (sym at)
-      (subst (λ (n : ℕ). OneCalls caller_of (IsLegalAt nodes) n (λ who. told who c.args.call c.call.result.1) c.call.result.0 (c.self.inside.demux.items ++ p ∷ []) (c.self.inside.demux.items ++ q ∷ [])) long
-        (calls_last caller_of DvrStood (IsLegalAt nodes) dvr_legal (λ who. told who c.args.call c.call.result.1) c.call.result.0 c.self.inside.demux.items p q more)))
+    (subst (λ (n : ℕ). OneCalls caller_of (IsLegalAt nodes) n (λ who. told who c.args.call c.call.result.1) c.call.result.0 (c.self.inside.demux.items ++ p ∷ []) (c.self.inside.demux.items ++ q ∷ [])) long
+    (calls_last caller_of DvrStood (IsLegalAt nodes) dvr_legal (λ who. told who c.args.call c.call.result.1) c.call.result.0 c.self.inside.demux.items p q more)))

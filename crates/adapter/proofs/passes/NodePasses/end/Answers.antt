@@ -13,11 +13,12 @@ call-place-requires-clause-left g c = λ p at. may_now c.args.adapter.now (λ wh
 pub nodes-preserved : goal.nodes-preserved
 nodes-preserved g c =
     let below : c.nodes.node ≤ nodes = search rules in
-    let r = response_of c.call-place.result.1.reply in
-    (next_passed c.args.adapter.now (λ who. entry_of who asks.End Passed) c.args.self.now c.nodes.node c.call-place.result.0
-      (λ who. entry_of who asks.End r) c.nodes.places c.nodes.self c.call-place.new.self below c.nodes.invariant.0 c.call-place.ensures.call
-      (λ who h legal. ap (entry_of who asks.End) (ends_at c.nodes.node h who r legal)),
-     search rules)
+    let r = response_of c.call-place.result.1.reply in (
+      next_passed c.args.adapter.now (λ who. entry_of who asks.End Passed) c.args.self.now c.nodes.node c.call-place.result.0
+          (λ who. entry_of who asks.End r) c.nodes.places c.nodes.self c.call-place.new.self below c.nodes.invariant.0 c.call-place.ensures.call
+          (λ who h legal. ap (entry_of who asks.End) (ends_at c.nodes.node h who r legal)),
+      search rules,
+    )
 
 pub returns-clause-entries : goal.returns-clause-entries
 returns-clause-entries g c = let end : c.nodes.node ≡ nodes + 1 = search rules in

@@ -17,13 +17,14 @@ pub nodes-preserved : goal.nodes-preserved
 nodes-preserved g c =
     let below : c.nodes.node ≤ nodes = search rules in
     let b = c.args.batch.value in let r = response_of c.call-place.result.1.reply in
-    let same : c.nodes.batch.value ≡ b = c.nodes.invariant.1 in
-    (next_passed c.args.adapter.now (λ who. entry_of who (asks.Pass Frontend b.first b.packets c.args.now) Passed) c.args.self.now c.nodes.node c.call-place.result.0
-      (λ who. entry_of who (asks.Pass Frontend c.nodes.batch.value.first c.nodes.batch.value.packets c.args.now) r) c.nodes.places c.nodes.self c.call-place.new.self below c.nodes.invariant.0 c.call-place.ensures.call
-      (λ who h legal. ap (λ (v : Packets). entry_of who (asks.Pass Frontend v.first v.packets c.args.now) r) same
-        ∙ ap (entry_of who (asks.Pass Frontend b.first b.packets c.args.now)) (passes_at c.nodes.node h who Frontend c.nodes.batch.value.first c.nodes.batch.value.packets c.args.now r legal)),
-     search rules,
-     one_node_more c.args.steps.now c.nodes.steps c.call-place.new.steps c.nodes.node (length b.packets) c.nodes.invariant.2 (subst (λ (v : Packets). c.call-place.new.steps ≤ c.nodes.steps + length v.packets) same c.call-place.ensures.cost))
+    let same : c.nodes.batch.value ≡ b = c.nodes.invariant.1 in (
+      next_passed c.args.adapter.now (λ who. entry_of who (asks.Pass Frontend b.first b.packets c.args.now) Passed) c.args.self.now c.nodes.node c.call-place.result.0
+          (λ who. entry_of who (asks.Pass Frontend c.nodes.batch.value.first c.nodes.batch.value.packets c.args.now) r) c.nodes.places c.nodes.self c.call-place.new.self below c.nodes.invariant.0 c.call-place.ensures.call
+          (λ who h legal. ap (λ (v : Packets). entry_of who (asks.Pass Frontend v.first v.packets c.args.now) r) same
+          ∙ ap (entry_of who (asks.Pass Frontend b.first b.packets c.args.now)) (passes_at c.nodes.node h who Frontend c.nodes.batch.value.first c.nodes.batch.value.packets c.args.now r legal)),
+      search rules,
+      one_node_more c.args.steps.now c.nodes.steps c.call-place.new.steps c.nodes.node (length b.packets) c.nodes.invariant.2 (subst (λ (v : Packets). c.call-place.new.steps ≤ c.nodes.steps + length v.packets) same c.call-place.ensures.cost),
+    )
 
 pub returns-clause-entries : goal.returns-clause-entries
 returns-clause-entries g c = let end : c.nodes.node ≡ nodes + 1 = search rules in

@@ -20,5 +20,5 @@ returns-else-node-lt-DEMUX_NODES c =
     let e = c.len.ensures in let p = c.self.inside.dvr in let q = c.len.new.pass in
     let look : OneLook caller_of DvrStood c.len.result p q = record { seen = e.seen.0; long = e.seen.1; few = e.seen.2; looks = e.looks; own = e.calls.0; calls = e.calls.1; whole = e.whole; same = e.same.0; left = e.same.1; miss = e.same.2; meant = e.stood } in
     rw (← c.self.view_is) (subst (λ (n : ℕ). OneLooks caller_of (IsLegalAt n) n c.len.result (ps ++ p ∷ []) (ps ++ q ∷ [])) (sym at)
-      (subst (λ (n : ℕ). OneLooks caller_of (IsLegalAt nodes) n c.len.result (ps ++ p ∷ []) (ps ++ q ∷ [])) long
-        (looks_last caller_of DvrStood (IsLegalAt nodes) dvr_legal c.len.result ps p q look)))
+    (subst (λ (n : ℕ). OneLooks caller_of (IsLegalAt nodes) n c.len.result (ps ++ p ∷ []) (ps ++ q ∷ [])) long
+    (looks_last caller_of DvrStood (IsLegalAt nodes) dvr_legal c.len.result ps p q look)))
