@@ -32,21 +32,22 @@ pub dealing-more : (lists longer : List (List ToldEntry)) (left rest : List Told
     → longer ≡ set lists e.node (get_or lists e.node [] ++ e ∷ []) → length longer ≡ length lists → IsDealing lists left whole → IsDealing longer rest whole
 dealing-more lists longer left rest e whole there last is same so_far node low =
     by_test (nat_eq e.node node) refl where
-  before : get_or lists node [] ++ (reverse (filter (is_on node) (e ∷ [])) ++ reverse (filter (is_on node) rest)) ≡ whole node
-  before = ap (λ r. get_or lists node [] ++ r) (sym (last-of node rest e)) ∙ ap (λ l. get_or lists node [] ++ reverse (filter (is_on node) l)) (sym last) ∙ so_far node (omega (arith, low, same))
-  by_test : (b : Bool) → nat_eq e.node node ≡ b → get_or longer node [] ++ reverse (filter (is_on node) rest) ≡ whole node
-  by_test true y =
-      let at : e.node ≡ node = grind (arith, nat_tests) in
-      let own : get_or longer node [] ≡ get_or lists node [] ++ e ∷ [] =
+      before : get_or lists node [] ++ (reverse (filter (is_on node) (e ∷ [])) ++ reverse (filter (is_on node) rest)) ≡ whole node
+      before = ap (λ r. get_or lists node [] ++ r) (sym (last-of node rest e)) ∙ ap (λ l. get_or lists node [] ++ reverse (filter (is_on node) l)) (sym last) ∙ so_far node (omega (arith, low, same))
+
+      by_test : (b : Bool) → nat_eq e.node node ≡ b → get_or longer node [] ++ reverse (filter (is_on node) rest) ≡ whole node
+      by_test true y =
+          let at : e.node ≡ node = grind (arith, nat_tests) in
+          let own : get_or longer node [] ≡ get_or lists node [] ++ e ∷ [] =
           ap (λ l. get_or l node []) is ∙ ap (λ n. get_or (set lists e.node (get_or lists e.node [] ++ e ∷ [])) n []) (sym at)
           ∙ get_or-set_same lists e.node (get_or lists e.node [] ++ e ∷ []) [] there ∙ ap (λ n. get_or lists n [] ++ e ∷ []) at in
-      ap (λ l. l ++ reverse (filter (is_on node) rest)) own ∙ append_assoc (get_or lists node []) (e ∷ []) (reverse (filter (is_on node) rest))
-      ∙ ap (λ b. get_or lists node [] ++ (reverse (cond b (e ∷ []) []) ++ reverse (filter (is_on node) rest))) (sym y) ∙ before
-  by_test false y =
-      let apart : node ≢ e.node = λ same. absurd (let at : e.node ≢ node = grind (arith, nat_tests) in at (sym same)) in
-      ap (λ l. get_or l node [] ++ reverse (filter (is_on node) rest)) is
-      ∙ ap (λ l. l ++ reverse (filter (is_on node) rest)) (get_or-set_other lists e.node node (get_or lists e.node [] ++ e ∷ []) [] apart)
-      ∙ ap (λ b. get_or lists node [] ++ (reverse (cond b (e ∷ []) []) ++ reverse (filter (is_on node) rest))) (sym y) ∙ before
+          ap (λ l. l ++ reverse (filter (is_on node) rest)) own ∙ append_assoc (get_or lists node []) (e ∷ []) (reverse (filter (is_on node) rest))
+          ∙ ap (λ b. get_or lists node [] ++ (reverse (cond b (e ∷ []) []) ++ reverse (filter (is_on node) rest))) (sym y) ∙ before
+      by_test false y =
+          let apart : node ≢ e.node = λ same. absurd (let at : e.node ≢ node = grind (arith, nat_tests) in at (sym same)) in
+          ap (λ l. get_or l node [] ++ reverse (filter (is_on node) rest)) is
+          ∙ ap (λ l. l ++ reverse (filter (is_on node) rest)) (get_or-set_other lists e.node node (get_or lists e.node [] ++ e ∷ []) [] apart)
+          ∙ ap (λ b. get_or lists node [] ++ (reverse (cond b (e ∷ []) []) ++ reverse (filter (is_on node) rest))) (sym y) ∙ before
 
 -- a log behind others
 pub last-log : (node : ℕ) (rest : List (List ToldEntry)) (log : List ToldEntry) → reverse (filter (is_on node) (all_of (rest ++ log ∷ []))) ≡ reverse (filter (is_on node) log) ++ reverse (filter (is_on node) (all_of rest))

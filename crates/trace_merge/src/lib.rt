@@ -1,5 +1,19 @@
-//! Histories by place, made of the callers' logs.
+//! The histories of all nodes by place, made of what each caller told.
+//!
+//! Each client keeps a log of its own calls, on whatever node, and each entry names its node and its place in that node's
+//! history. `histories` brings them together: one list for each of the 33 nodes, in order of place, beside the feeder's
+//! batches, which are kept once for all nodes.
+//!
+//! What is proved: each node has just the entries that the logs have on it, each as often as there, and their places never
+//! fall (`AreByPlace`). A contract sees the histories whole, with the feeder's calls at all other places.
+//!
+//! The cost: each log is gone through once, and a node's entries are then a row of runs, one for each client, which the
+//! stable sort finds and merges: linear in the entries for the few clients that there are. Memory is asked for the lists
+//! and for the sort's buffer.
 #![tactic(auto)]
+
+#[cfg(test)]
+mod tests;
 
 ghost use Rattle.std.specs.Prelude.{◌≡◌, ◌+◌, ◌<◌, ◌++◌, ℕ, [], length, map, get_or, IfOk, OnOk};
 ghost use Rattle.std.specs.List.{All};

@@ -20,7 +20,9 @@ entries-preserved c =
     let n = length-map (set raw e.node c.push.new.self) (λ calls. calls.items) in
     let s = length-set raw e.node c.push.new.self in
     let own : get_or lists e.node [] ≡ c.index_mut.result.now.items = get_or-map (λ calls. calls.items) raw e.node c.index_mut.result.now [] there ∙ ap (λ v. v.items) (sym c.index_mut.ensures.value) in
-    let pushed : c.push.new.self.items ≡ get_or lists e.node [] ++ e ∷ [] = c.in_ok-push.ensures.items ∙ ap (λ l. l ++ e ∷ []) (sym own) in
-    (s ∙ many, all-front (λ (e : ToldEntry). e.node ≤ 32) c.pop.new.self.items (e ∷ []) all,
-    dealing-more lists longer c.entries.left.items c.pop.new.self.items e _ (omega (arith, there, m)) last
-        (map-set (λ calls. calls.items) raw e.node c.push.new.self ∙ ap (λ l. set lists e.node l) pushed) (omega (arith, m, n, s)) c.entries.invariant.2)
+    let pushed : c.push.new.self.items ≡ get_or lists e.node [] ++ e ∷ [] = c.in_ok-push.ensures.items ∙ ap (λ l. l ++ e ∷ []) (sym own) in (
+      s ∙ many,
+      all-front (λ (e : ToldEntry). e.node ≤ 32) c.pop.new.self.items (e ∷ []) all,
+      dealing-more lists longer c.entries.left.items c.pop.new.self.items e _ (omega (arith, there, m)) last
+          (map-set (λ calls. calls.items) raw e.node c.push.new.self ∙ ap (λ l. set lists e.node l) pushed) (omega (arith, m, n, s)) c.entries.invariant.2,
+    )

@@ -16,14 +16,15 @@ by_place logs old new dealt sorted =
           let own = get_or_from_slice_get new node calls [] at in
           let l = filter (is_on node) (all_of logs) in
           IsPermutation-trans l (reverse l) calls (IsPermutation-reverse l)
-              (subst (λ x. IsPermutation (reverse l) x) own (subst (λ x. IsPermutation x (get_or new node [])) (dealt.each node (omega (arith, low, long))) (sorted.same node (omega (arith, low, long)))));
+          (subst (λ x. IsPermutation (reverse l) x) own (subst (λ x. IsPermutation x (get_or new node [])) (dealt.each node (omega (arith, low, long))) (sorted.same node (omega (arith, low, long)))));
       in_order = λ node calls at.
           let low = slice_get_within new node calls at in
-          subst (λ x. IsNonDecreasingBy (λ (e : ToldEntry). e.place) x) (get_or_from_slice_get new node calls [] at) (sorted.in_order node (omega (arith, low, long)))
+          subst (λ x. IsNonDecreasingBy (λ (e : ToldEntry). e.place) x) (get_or_from_slice_get new node calls [] at) (sorted.in_order node (omega (arith, low, long)));
     }
 
 pub returns : goal.returns
-returns c =
-    (map (λ calls. calls.items) c.sort_all.new.nodes.items,
-    by_place (map (λ log. log.items) c.args.logs.items) (map (λ calls. calls.items) c.in_ok-nodes.nodes.items) (map (λ calls. calls.items) c.sort_all.new.nodes.items) c.in_ok-nodes.ensures c.in_ok-sort_all.ensures,
-    c.new.ensures)
+returns c = (
+  map (λ calls. calls.items) c.sort_all.new.nodes.items,
+  by_place (map (λ log. log.items) c.args.logs.items) (map (λ calls. calls.items) c.in_ok-nodes.nodes.items) (map (λ calls. calls.items) c.sort_all.new.nodes.items) c.in_ok-nodes.ensures c.in_ok-sort_all.ensures,
+  c.new.ensures,
+)

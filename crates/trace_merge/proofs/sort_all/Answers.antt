@@ -20,12 +20,13 @@ nodes-preserved c =
     let s = length-set raw i sorted in
     let own : get_or lists i [] ≡ c.index_mut.result.now.items = get_or-map (λ calls. calls.items) raw i c.index_mut.result.now [] there ∙ ap (λ v. v.items) (sym c.index_mut.ensures.value) in
     let moved : IsPermutation (get_or before i []) sorted.items =
-        IsPermutation-trans (get_or before i []) (get_or lists i []) sorted.items (inv.1 i there) (subst (λ l. IsPermutation l sorted.items) (sym own) c.in_ok-sort_by_key.ensures.permutation) in
+    IsPermutation-trans (get_or before i []) (get_or lists i []) sorted.items (inv.1 i there) (subst (λ l. IsPermutation l sorted.items) (sym own) c.in_ok-sort_by_key.ensures.permutation) in
     let order : IsNonDecreasingBy (λ (e : ToldEntry). e.place) sorted.items =
-        IsNonDecreasingBy-from_sort_by_key (λ (e : ToldEntry). e.place) sorted.items c.in_ok-sort_by_key.ensures.sorted (λ a r q k. search rules) in
-    let same = map-set (λ calls. calls.items) raw i sorted in
-    (s ∙ long,
-    (λ n low. subst (λ l. IsPermutation (get_or before n []) (get_or l n [])) (sym same)
-        (set-each (λ n l. IsPermutation (get_or before n []) l) lists i sorted.items (omega (arith, there, m)) moved n (λ _. inv.1 n (omega (arith, low, s))))),
-    (λ n low. subst (λ l. IsNonDecreasingBy (λ (e : ToldEntry). e.place) (get_or l n [])) (sym same)
-        (set-each (λ n l. IsNonDecreasingBy (λ (e : ToldEntry). e.place) l) lists i sorted.items (omega (arith, there, m)) order n (λ apart. inv.2 n (omega (arith, low, apart))))))
+    IsNonDecreasingBy-from_sort_by_key (λ (e : ToldEntry). e.place) sorted.items c.in_ok-sort_by_key.ensures.sorted (λ a r q k. search rules) in
+    let same = map-set (λ calls. calls.items) raw i sorted in (
+      s ∙ long,
+      (λ n low. subst (λ l. IsPermutation (get_or before n []) (get_or l n [])) (sym same)
+          (set-each (λ n l. IsPermutation (get_or before n []) l) lists i sorted.items (omega (arith, there, m)) moved n (λ _. inv.1 n (omega (arith, low, s))))),
+      (λ n low. subst (λ l. IsNonDecreasingBy (λ (e : ToldEntry). e.place) (get_or l n [])) (sym same)
+          (set-each (λ n l. IsNonDecreasingBy (λ (e : ToldEntry). e.place) l) lists i sorted.items (omega (arith, there, m)) order n (λ apart. inv.2 n (omega (arith, low, apart))))),
+    )
