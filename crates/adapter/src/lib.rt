@@ -16,8 +16,8 @@
 //! history has. After `gather` or `finish` each node has one legal history, with just the calls of the feeder and the
 //! clients, each at the place that was told, and it begins with what each of them had seen; `finish` tells the lengths.
 //!
-//! What isn't proved: that a wait ends, fairness, time, or in which order calls of two callers come. That threads do run
-//! beside each other is only tested.
+//! What is neither proved nor tested here: that a wait ends, fairness, time, in which order calls of two callers come, and
+//! that threads run beside each other.
 //!
 //! Limits: 8 clients; 2^44 calls of the feeder and 2^40 of each client. `new` takes memory, and so do the nodes for an Open
 //! or a SetSize; nothing else does. The adapter knows nothing of scripts and reports. It is this project's own design.
@@ -30,8 +30,6 @@ mod feeder;
 mod making;
 mod passes;
 mod rows;
-#[cfg(test)]
-mod tests;
 
 pub use adapter::{Adapter, Finished};
 pub use client::Client;

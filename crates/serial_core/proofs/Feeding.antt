@@ -28,9 +28,9 @@ none_fed h x not =
     let other : nat_eq x.who 0 ≡ false = grind (arith, nat_tests, not) in
     ap (map step_of) (filter-append (λ e. nat_eq e.who 0) h (x ∷ [])) ∙ map-append step_of (filter (λ e. nat_eq e.who 0) h) (filter (λ e. nat_eq e.who 0) (x ∷ []))
     ∙ rw other (nil (steps_of 0 h)) where
-  nil : (xs : List Step) → xs ++ [] ≡ xs
-  nil [] = refl
-  nil (y ∷ ys) = ap (λ zs. y ∷ zs) (nil ys)
+      nil : (xs : List Step) → xs ++ [] ≡ xs
+      nil [] = refl
+      nil (y ∷ ys) = ap (λ zs. y ∷ zs) (nil ys)
 
 -- ------ batches
 
@@ -59,8 +59,8 @@ passes_more first step (c ∷ bs) b =
     let f : first + c.size + sizes_of bs ≡ first + sizes_of (c ∷ bs) = omega (arith, size_first c bs) in
     let s : suc step + length bs ≡ step + length (c ∷ bs) = omega arith in
     ap (λ l. record { step = step; act = PassAct Frontend first c.size c.moment } ∷ l) (passes_more (first + c.size) (suc step) bs b
-        ∙ ap (λ n. passes_of (first + c.size) (suc step) bs ++ record { step = n; act = PassAct Frontend (first + c.size + sizes_of bs) b.size b.moment } ∷ []) s
-        ∙ ap (λ n. passes_of (first + c.size) (suc step) bs ++ record { step = step + length (c ∷ bs); act = PassAct Frontend n b.size b.moment } ∷ []) f)
+    ∙ ap (λ n. passes_of (first + c.size) (suc step) bs ++ record { step = n; act = PassAct Frontend (first + c.size + sizes_of bs) b.size b.moment } ∷ []) s
+    ∙ ap (λ n. passes_of (first + c.size) (suc step) bs ++ record { step = step + length (c ∷ bs); act = PassAct Frontend n b.size b.moment } ∷ []) f)
 
 abbrev pub end_of : (step : ℕ) → Bool → List Step
 end_of step true = record { step = step; act = EndAct } ∷ []
@@ -100,18 +100,18 @@ module _ (most : ℕ) (logs after : ℕ → List LogEntry) where
         counted = omega (arith, f.counted, length-append f.batches (b ∷ []));
         on_each = λ node le. on node (each node le) (f.on_each node le);
       } where
-    on : (node : ℕ) → (x : LogEntry) × (after node ≡ logs node ++ x ∷ []) × (x.who ≡ 0) × (x.step ≡ turns) × (x.act ≡ PassAct Frontend first size moment)
-        → steps_of 0 (logs node) ≡ passes_of 0 0 f.batches ++ []
-        → steps_of 0 (after node) ≡ passes_of 0 0 (f.batches ++ record { size = size; moment = moment } ∷ []) ++ []
-    on node (x, more, who, step, act) before =
-        let s : x.step ≡ 0 + length f.batches = omega (arith, step, f.counted) in
-        let p : first ≡ 0 + sizes_of f.batches = omega (arith, f.whole) in
-        ap (steps_of 0) more ∙ more_fed (logs node) x who
-        ∙ ap (λ l. l ++ record { step = x.step; act = x.act } ∷ []) (before ∙ append_nil (passes_of 0 0 f.batches))
-        ∙ ap (λ n. passes_of 0 0 f.batches ++ record { step = n; act = x.act } ∷ []) s
-        ∙ ap (λ a. passes_of 0 0 f.batches ++ record { step = 0 + length f.batches; act = a } ∷ []) (act ∙ ap (λ n. PassAct Frontend n size moment) p)
-        ∙ sym (passes_more 0 0 f.batches (record { size = size; moment = moment }))
-        ∙ sym (append_nil (passes_of 0 0 (f.batches ++ record { size = size; moment = moment } ∷ [])))
+        on : (node : ℕ) → (x : LogEntry) × (after node ≡ logs node ++ x ∷ []) × (x.who ≡ 0) × (x.step ≡ turns) × (x.act ≡ PassAct Frontend first size moment)
+            → steps_of 0 (logs node) ≡ passes_of 0 0 f.batches ++ []
+            → steps_of 0 (after node) ≡ passes_of 0 0 (f.batches ++ record { size = size; moment = moment } ∷ []) ++ []
+        on node (x, more, who, step, act) before =
+            let s : x.step ≡ 0 + length f.batches = omega (arith, step, f.counted) in
+            let p : first ≡ 0 + sizes_of f.batches = omega (arith, f.whole) in
+            ap (steps_of 0) more ∙ more_fed (logs node) x who
+            ∙ ap (λ l. l ++ record { step = x.step; act = x.act } ∷ []) (before ∙ append_nil (passes_of 0 0 f.batches))
+            ∙ ap (λ n. passes_of 0 0 f.batches ++ record { step = n; act = x.act } ∷ []) s
+            ∙ ap (λ a. passes_of 0 0 f.batches ++ record { step = 0 + length f.batches; act = a } ∷ []) (act ∙ ap (λ n. PassAct Frontend n size moment) p)
+            ∙ sym (passes_more 0 0 f.batches (record { size = size; moment = moment }))
+            ∙ sym (append_nil (passes_of 0 0 (f.batches ++ record { size = size; moment = moment } ∷ [])))
 
   -- the end passes
   pub fed_end : (turns first : ℕ) → AreFed most logs turns first false

@@ -105,7 +105,7 @@ module _ (lines : List Line) (batch clients : ℕ) (one : 1 ≤ batch) (P : Run 
   kept_worked client line r s lt (calls _ _ e is w) p =
       let same : replies_of client (after_waiting lines batch client r) ≡ replies_of client r = ap (λ rs. slice_index_or rs client []) (waiting_replies lines batch client r) in
       kept_worked client line _ s lt w
-          (calling (after_waiting lines batch client r) client e lt (ap (λ rs. next_event client lines rs) same ∙ next_at_line client lines line (replies_of client r) e is) (kept_waited client r p))
+      (calling (after_waiting lines batch client r) client e lt (ap (λ rs. next_event client lines rs) same ∙ next_at_line client lines line (replies_of client r) e is) (kept_waited client r p))
 
   kept_done : (more : List Line) (r t : Run) → AreBelow clients more → AreDone lines batch more r t → P r → P t
   kept_done [] r t below same p = subst P (sym same) p

@@ -18,10 +18,11 @@ pub mod Places
 pub mod Sound
 pub mod Making
 pub mod Feeding
-pub mod Whole
+pub mod Runs
 pub mod Commanding
 pub mod Lawful
 pub mod Passing
 pub mod Lining
 pub mod Ending
+pub mod Existing
 pub mod Causes

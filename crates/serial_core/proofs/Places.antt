@@ -13,7 +13,7 @@ use Rattle.client_core.specs.declared.event.Event.{Event}
 use Rattle.client_core.specs.Commands.{call_of}
 use Rattle.serial_core.specs.Nodes.{Told, Node, uncalled, history_of, answered, log_in, log_of}
 use Rattle.serial_core.specs.SerialRun.{Run, fed_to_all, demux_node, reply_to, called, nodes_of}
-use Rattle.serial_core.specs.Whole.{logs_of}
+use Rattle.serial_core.specs.Ran.{histories_in}
 
 -- ------ lists with one element more
 
@@ -75,9 +75,12 @@ called_at client e r node long there here = by_event (nat_lt e.node DEMUX_NODES)
   by_event true is true at true same =
       let eq : node ≡ e.node = grind (arith, nat_tests, same) in
       let lt : e.node < length r.demux = omega (arith, below e.node is, long) in
-      inl (eq, rw (at, is) (ap (λ n. get_or (set r.demux e.node (answered demux (client + 1) e.step (call_of e.want r.moment) (demux_node e.node r))) n (uncalled n)) eq
-          ∙ get_or-set_same r.demux e.node (answered demux (client + 1) e.step (call_of e.want r.moment) (demux_node e.node r)) (uncalled e.node) lt
-          ∙ ap (λ n. answered demux (client + 1) e.step (call_of e.want r.moment) (demux_node n r)) (sym eq)))
+      inl (
+        eq,
+        rw (at, is) (ap (λ n. get_or (set r.demux e.node (answered demux (client + 1) e.step (call_of e.want r.moment) (demux_node e.node r))) n (uncalled n)) eq
+            ∙ get_or-set_same r.demux e.node (answered demux (client + 1) e.step (call_of e.want r.moment) (demux_node e.node r)) (uncalled e.node) lt
+            ∙ ap (λ n. answered demux (client + 1) e.step (call_of e.want r.moment) (demux_node n r)) (sym eq)),
+      )
   by_event true is true at false other =
       let ne : node ≢ e.node = λ same. grind (arith, nat_tests, other, same) in
       inr (ne, rw (at, is) (get_or-set_other r.demux e.node node (answered demux (client + 1) e.step (call_of e.want r.moment) (demux_node e.node r)) (uncalled node) ne))
@@ -120,8 +123,8 @@ entries_answered rules who step c n =
     ap (λ k. entries_of n ++ record { node = k; place = length (entries_of n); step = step; who = who; act = act_of c; response = answer rules (history_of n) who c } ∷ []) (log_number n.number n.calls)
 
 -- the 33 logs
-pub logs_get : (r : Run) (node : ℕ) → length r.demux ≡ DEMUX_NODES → node ≤ DEMUX_NODES → slice_get (logs_of r) node ≡ Some (entries_at node r)
-logs_get r node long le = slice_get-map entries_of (nodes_of r) node ∙ ap (option_map entries_of) (go (nat_lt node DEMUX_NODES) refl) where
+pub histories_get : (r : Run) (node : ℕ) → length r.demux ≡ DEMUX_NODES → node ≤ DEMUX_NODES → slice_get (histories_in r) node ≡ Some (entries_at node r)
+histories_get r node long le = slice_get-map entries_of (nodes_of r) node ∙ ap (option_map entries_of) (go (nat_lt node DEMUX_NODES) refl) where
   go : (b : Bool) → nat_lt node DEMUX_NODES ≡ b → slice_get (r.demux ++ r.dvr ∷ []) node ≡ Some (if b then demux_node node r else r.dvr)
   go true is = get_more r.demux (r.dvr ∷ []) node (demux_node node r) (slice_get-get_or r.demux node (uncalled node) (omega (arith, below node is, long)))
   go false is =
@@ -132,13 +135,13 @@ length_map : {A B : Type 0} (f : A → B) (xs : List A) → length (map f xs) �
 length_map f [] = refl
 length_map f (x ∷ xs) = ap suc (length_map f xs)
 
-pub logs_length : (r : Run) → length r.demux ≡ DEMUX_NODES → length (logs_of r) ≡ DEMUX_NODES + 1
-logs_length r long = omega (arith, length_map entries_of (nodes_of r), length-append r.demux (r.dvr ∷ []), long)
+pub histories_length : (r : Run) → length r.demux ≡ DEMUX_NODES → length (histories_in r) ≡ DEMUX_NODES + 1
+histories_length r long = omega (arith, length_map entries_of (nodes_of r), length-append r.demux (r.dvr ∷ []), long)
 
 same_some : {A : Type 0} (x y : A) → Some x ≡ Some y → x ≡ y
 same_some x y is = cc
 
-pub logs_is : (r : Run) (node : ℕ) (h : List LogEntry) → length r.demux ≡ DEMUX_NODES → slice_get (logs_of r) node ≡ Some h → (node ≤ DEMUX_NODES) × (entries_at node r ≡ h)
-logs_is r node h long is =
-    let le : node ≤ DEMUX_NODES = omega (arith, slice_get_within (logs_of r) node h is, logs_length r long) in
-    (le, same_some (entries_at node r) h (sym (logs_get r node long le) ∙ is))
+pub histories_is : (r : Run) (node : ℕ) (h : List LogEntry) → length r.demux ≡ DEMUX_NODES → slice_get (histories_in r) node ≡ Some h → (node ≤ DEMUX_NODES) × (entries_at node r ≡ h)
+histories_is r node h long is =
+    let le : node ≤ DEMUX_NODES = omega (arith, slice_get_within (histories_in r) node h is, histories_length r long) in
+    (le, same_some (entries_at node r) h (sym (histories_get r node long le) ∙ is))

@@ -107,15 +107,15 @@ module _ (packets : List (List ℕ)) (clients : ℕ) where
   placed number [] good place e is = absurd (cc)
   placed number (told ∷ calls) good place e is =
       go (placed number calls good.0 place e) (get_cases (log_in number calls).entries
-          (record { node = (log_in number calls).node; place = length (log_in number calls).entries; step = told.step; who = told.entry.who; act = act_of told.entry.invocation; response = told.entry.response }) place e is) where
-    same_number : (cs : List Told) → (log_in number cs).node ≡ number
-    same_number [] = refl
-    same_number (t ∷ cs) = same_number cs
+      (record { node = (log_in number calls).node; place = length (log_in number calls).entries; step = told.step; who = told.entry.who; act = act_of told.entry.invocation; response = told.entry.response }) place e is) where
+        same_number : (cs : List Told) → (log_in number cs).node ≡ number
+        same_number [] = refl
+        same_number (t ∷ cs) = same_number cs
 
-    go : (slice_get (log_in number calls).entries place ≡ Some e → IsPlaced number place e) → (slice_get (log_in number calls).entries place ≡ Some e) ⊎ (place ≡ length (log_in number calls).entries)
-        × (record { node = (log_in number calls).node; place = length (log_in number calls).entries; step = told.step; who = told.entry.who; act = act_of told.entry.invocation; response = told.entry.response } ≡ e) → IsPlaced number place e
-    go before (inl old) = before old
-    go before (inr new) = subst (IsPlaced number place) new.1 (same_number calls, sym new.0, good.1, good.2)
+        go : (slice_get (log_in number calls).entries place ≡ Some e → IsPlaced number place e) → (slice_get (log_in number calls).entries place ≡ Some e) ⊎ (place ≡ length (log_in number calls).entries)
+            × (record { node = (log_in number calls).node; place = length (log_in number calls).entries; step = told.step; who = told.entry.who; act = act_of told.entry.invocation; response = told.entry.response } ≡ e) → IsPlaced number place e
+        go before (inl old) = before old
+        go before (inr new) = subst (IsPlaced number place) new.1 (same_number calls, sym new.0, good.1, good.2)
 
   pub sound_placed : (node : ℕ) (n : Node) → IsSound node n → (place : ℕ) (e : LogEntry) → slice_get (entries_of n) place ≡ Some e → IsPlaced node place e
   sound_placed node n s place e is = subst (λ k. IsPlaced k place e) s.number (placed n.number n.calls s.good place e is)

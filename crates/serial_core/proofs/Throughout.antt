@@ -25,7 +25,7 @@ passed_replies : (sizes : List ℕ) (r : Run) → (fold passed r sizes).replies 
 passed_replies [] r = refl
 passed_replies (size ∷ sizes) r = passed_replies sizes (passed r size)
 
-fed_replies : (batch count : ℕ) (r : Run) → (fed batch count r).replies ≡ r.replies
+pub fed_replies : (batch count : ℕ) (r : Run) → (fed batch count r).replies ≡ r.replies
 fed_replies batch count r = go (nat_lt (length r.left) count) where
   go : (b : Bool) → (if b then ended (all_passed batch (length r.left) r) else all_passed batch count r).replies ≡ r.replies
   go true = ended_replies (all_passed batch (length r.left) r) ∙ passed_replies (batch_sizes batch (length r.left)) r
@@ -74,32 +74,32 @@ module _ (lines : List Line) (batch : ℕ) where
   unfolding progress
   command_through client before more line c rs is whole none at =
       through_next no_slots 0 (commands_of client before) c (commands_of client more) rs at
-          (subst (λ cs. standing_at c.line (progress_from no_slots 0 cs rs).standing ≡ None) whole (subst (λ l. standing_at l (progress_from no_slots 0 (commands_of client lines) rs).standing ≡ None) (sym is) none))
+      (subst (λ cs. standing_at c.line (progress_from no_slots 0 cs rs).standing ≡ None) whole (subst (λ l. standing_at l (progress_from no_slots 0 (commands_of client lines) rs).standing ≡ None) (sym is) none))
 
   all_through : (before more : List Line) (r t : Run) → before ++ more ≡ lines → AreDone lines batch more r t → ((client : ℕ) → IsThrough client before (replies_of client r)) → (client : ℕ) → IsThrough client lines (replies_of client t)
   all_through before [] r t whole same is client =
       subst (λ ls. IsThrough client ls (replies_of client t)) (sym (append-nil before) ∙ whole) (subst (λ s. IsThrough client before (replies_of client s)) (sym same) (is client))
   all_through before (Feed count ∷ more) r t whole d is client =
       all_through (before ++ Feed count ∷ []) more (fed batch count r) t (append_assoc before (Feed count ∷ []) more ∙ whole) d
-          (λ c. subst (λ cs. AreThrough no_slots 0 cs (replies_of c (fed batch count r))) (sym (no_command c before (Feed count) refl))
-              (subst (λ rs. IsThrough c before (slice_index_or rs c [])) (sym (fed_replies batch count r)) (is c))) client
+      (λ c. subst (λ cs. AreThrough no_slots 0 cs (replies_of c (fed batch count r))) (sym (no_command c before (Feed count) refl))
+      (subst (λ rs. IsThrough c before (slice_index_or rs c [])) (sym (fed_replies batch count r)) (is c))) client
   all_through before (Tick time ∷ more) r t whole d is client =
       all_through (before ++ Tick time ∷ []) more (ticked time r) t (append_assoc before (Tick time ∷ []) more ∙ whole) d
-          (λ c. subst (λ cs. AreThrough no_slots 0 cs (replies_of c (ticked time r))) (sym (no_command c before (Tick time) refl)) (is c)) client
+      (λ c. subst (λ cs. AreThrough no_slots 0 cs (replies_of c (ticked time r))) (sym (no_command c before (Tick time) refl)) (is c)) client
   all_through before (Command line who target verb ∷ more) r t whole d is client =
       all_through (before ++ Command line who target verb ∷ []) more d.0 t (append_assoc before (Command line who target verb ∷ []) more ∙ whole) d.2 (λ c. go c (nat_eq who c) refl) client where
-    go : (c : ℕ) (b : Bool) → nat_eq who c ≡ b → IsThrough c (before ++ Command line who target verb ∷ []) (replies_of c d.0)
-    go c false nay =
-        subst (λ cs. AreThrough no_slots 0 cs (replies_of c d.0)) (sym (no_command c before (Command line who target verb) (ap (in_line line target verb) nay))) (through_worked c before who line r d.0 d.1 (is c))
-    go c true yea =
-        let same : who ≡ c = grind (arith, nat_tests, yea) in
-        let here : commands_in c (Command line who target verb) ≡ record { line = line; target = target; verb = verb } ∷ [] = ap (in_line line target verb) yea in
-        let up : commands_of c (before ++ Command line who target verb ∷ []) ≡ commands_of c before ++ record { line = line; target = target; verb = verb } ∷ [] =
-        flat_map-append (commands_in c) before (Command line who target verb ∷ []) ∙ ap (λ cs. commands_of c before ++ (cs ++ [])) here in
-        let all : commands_of c lines ≡ commands_of c before ++ record { line = line; target = target; verb = verb } ∷ commands_of c more =
-        ap (commands_of c) (sym whole) ∙ flat_map-append (commands_in c) before (Command line who target verb ∷ more) ∙ ap (λ cs. commands_of c before ++ (cs ++ commands_of c more)) here in
-        let none : next_of_line c lines line (replies_of c d.0) ≡ None = subst (λ k. next_of_line k lines line (replies_of k d.0) ≡ None) same (worked_none who line r d.0 d.1) in
-        subst (λ cs. AreThrough no_slots 0 cs (replies_of c d.0)) (sym up)
+        go : (c : ℕ) (b : Bool) → nat_eq who c ≡ b → IsThrough c (before ++ Command line who target verb ∷ []) (replies_of c d.0)
+        go c false nay =
+            subst (λ cs. AreThrough no_slots 0 cs (replies_of c d.0)) (sym (no_command c before (Command line who target verb) (ap (in_line line target verb) nay))) (through_worked c before who line r d.0 d.1 (is c))
+        go c true yea =
+            let same : who ≡ c = grind (arith, nat_tests, yea) in
+            let here : commands_in c (Command line who target verb) ≡ record { line = line; target = target; verb = verb } ∷ [] = ap (in_line line target verb) yea in
+            let up : commands_of c (before ++ Command line who target verb ∷ []) ≡ commands_of c before ++ record { line = line; target = target; verb = verb } ∷ [] =
+            flat_map-append (commands_in c) before (Command line who target verb ∷ []) ∙ ap (λ cs. commands_of c before ++ (cs ++ [])) here in
+            let all : commands_of c lines ≡ commands_of c before ++ record { line = line; target = target; verb = verb } ∷ commands_of c more =
+            ap (commands_of c) (sym whole) ∙ flat_map-append (commands_in c) before (Command line who target verb ∷ more) ∙ ap (λ cs. commands_of c before ++ (cs ++ commands_of c more)) here in
+            let none : next_of_line c lines line (replies_of c d.0) ≡ None = subst (λ k. next_of_line k lines line (replies_of k d.0) ≡ None) same (worked_none who line r d.0 d.1) in
+            subst (λ cs. AreThrough no_slots 0 cs (replies_of c d.0)) (sym up)
             (command_through c before more line (record { line = line; target = target; verb = verb }) (replies_of c d.0) refl all none (through_worked c before who line r d.0 d.1 (is c)))
 
   -- At the end no client has a next call.

@@ -23,7 +23,7 @@ use Rattle.client_core.specs.Budget.{repeats, most_calls}
 use Rattle.client_core.proofs.More.{repeats_none}
 use Rattle.serial_core.specs.Nodes.{Node, uncalled, history_of, answered}
 use Rattle.serial_core.specs.SerialRun.{Run, begun, ended, passed, turned, fed, ticked, replies_of, demux_node, called, after_waiting, IsWorked, through, calls, AreDone, IsSerialRun}
-use Rattle.serial_core.specs.Budget.{bytes_in, bytes_by, bytes_by_all, one_if, HasBrought, IsPaid, all_commands, IsWithinBudget}
+use Rattle.serial_core.specs.Budget.{bytes_in, bytes_by, bytes_by_all, one_if, HasBrought, IsPaid, all_commands, IsBegun, no_call, one_call, AreBegun, IsMoment, IsWithinBudget}
 use Rattle.serial_core.proofs.Answering.{bytes_same}
 use Rattle.serial_core.proofs.Paid.{Brought, client_brought, paid_turned, paid_fed, paid_ticked, paid_finished}
 use Rattle.serial_core.proofs.Calling.{IsReady, demux_answers, dvr_answers, paid_with, next_at_line}
@@ -77,8 +77,8 @@ module _ (lines : List Line) (packets : List (List ℕ)) where
       let bytes : sum_by bytes_by (slice_set r.demux e.node m) + bytes_by r.dvr ≡ bytes_by_all r + bytes_in x =
       omega (arith, sum_by-set bytes_by r.demux e.node m (uncalled e.node) within, bytes_same (client + 1) (call_of e.want r.moment) x (history_of n)) in
       paid_with lines packets client x e (slice_set r.demux e.node m) r.dvr r p ready stands (demux_answers r.has_ended r.first n (client + 1) r.moment e.want brought)
-          (length-set r.demux e.node m ∙ p.nodes)
-          (All-set (Brought r.first r.has_ended) r.demux e.node m (client_brought demux r.first r.has_ended (history_of n) (client + 1) r.moment e.want brought) p.demux) p.dvr bytes
+      (length-set r.demux e.node m ∙ p.nodes)
+      (All-set (Brought r.first r.has_ended) r.demux e.node m (client_brought demux r.first r.has_ended (history_of n) (client + 1) r.moment e.want brought) p.demux) p.dvr bytes
 
   called_dvr : (client : ℕ) (r : Run) (e : Event) → IsPaid lines packets r → IsReady lines packets client r → next_event client lines (replies_of client r) ≡ Some e
       → IsPaid lines packets (record r {
@@ -89,8 +89,8 @@ module _ (lines : List Line) (packets : List (List ℕ)) where
       let x : Response = answer dvr (history_of r.dvr) (client + 1) (call_of e.want r.moment) in
       let m : Node = answered dvr (client + 1) e.step (call_of e.want r.moment) r.dvr in
       paid_with lines packets client x e r.demux m r p ready stands (dvr_answers r.has_ended r.first r.dvr (client + 1) r.moment e.want p.dvr) p.nodes p.demux
-          (client_brought dvr r.first r.has_ended (history_of r.dvr) (client + 1) r.moment e.want p.dvr)
-          (omega (arith, bytes_same (client + 1) (call_of e.want r.moment) x (history_of r.dvr)))
+      (client_brought dvr r.first r.has_ended (history_of r.dvr) (client + 1) r.moment e.want p.dvr)
+      (omega (arith, bytes_same (client + 1) (call_of e.want r.moment) x (history_of r.dvr)))
 
   paid_called : (client : ℕ) (r : Run) (e : Event) → IsPaid lines packets r → IsReady lines packets client r → next_event client lines (replies_of client r) ≡ Some e → IsPaid lines packets (called client e r)
   paid_called client r e p ready stands = go (nat_lt e.node DEMUX_NODES) refl where
@@ -151,6 +151,19 @@ module _ (lines : List Line) (packets : List (List ℕ)) where
   paid_done batch (Tick time ∷ more) r t one d p = paid_done batch more (ticked time r) t one d (paid_ticked lines packets time r p)
   paid_done batch (Command line client target verb ∷ more) r t one d p = paid_done batch more d.0 t one d.2 (paid_worked batch client line r d.0 one d.1 p)
 
+  paid_begun_command : (batch client line : ℕ) (r s : Run) → 1 ≤ batch → IsBegun lines batch client line r s → IsPaid lines packets r → IsPaid lines packets s
+  paid_begun_command batch client line r s one (no_call _) p = p
+  paid_begun_command batch client line r s one (one_call _ _ e is w) p = paid_begun_command batch client line _ s one w (paid_next_of_line batch client line r e one p is)
+
+  paid_line : (batch : ℕ) (more : List Line) (r s : Run) → 1 ≤ batch → AreBegun lines batch more r s → IsPaid lines packets r → IsPaid lines packets s
+  paid_line batch [] r s one same p = subst (IsPaid lines packets) (sym same) p
+  paid_line batch (Feed count ∷ more) r s one same p = subst (IsPaid lines packets) (sym same) p
+  paid_line batch (Tick time ∷ more) r s one same p = subst (IsPaid lines packets) (sym same) p
+  paid_line batch (Command line client target verb ∷ more) r s one w p = paid_begun_command batch client line r s one w p
+
+  pub paid_moment : (batch : ℕ) (s : Run) → 1 ≤ batch → All IsPacket packets → IsMoment lines batch packets s → IsPaid lines packets s
+  paid_moment batch s one are (before, more, whole, r, d, w) = paid_line batch more r s one w (paid_done batch before (begun packets) r one d (paid_begun are))
+
   pub paid_run : (batch : ℕ) (t : Run) → 1 ≤ batch → All IsPacket packets → IsSerialRun lines batch packets t → IsPaid lines packets t
   paid_run batch t one are run = subst (IsPaid lines packets) (sym run.2) (paid_finished lines packets batch run.0 one (paid_done batch lines (begun packets) run.0 one run.1 (paid_begun are)))
 
@@ -185,5 +198,9 @@ own_commands client (Command line who target verb ∷ lines) = go (nat_eq who cl
   go false le = omega (arith, le)
 
 pub within_budget : IsWithinBudget
-within_budget lines batch packets r one are run client =
-    within lines packets r client (length (commands_of client lines)) (188 * length packets) (paid_run lines packets batch r one are run) (omega arith) (omega arith)
+within_budget = record {
+  moments = λ lines batch packets r one are moment client.
+      within lines packets r client (length (commands_of client lines)) (188 * length packets) (paid_moment lines packets batch r one are moment) (omega arith) (omega arith);
+  runs = λ lines batch packets r one are run client.
+      within lines packets r client (length (commands_of client lines)) (188 * length packets) (paid_run lines packets batch r one are run) (omega arith) (omega arith);
+}

@@ -1,5 +1,5 @@
 -- What pays for the calls of clients in the serial run (this project's own).
-use Rattle.std.specs.Prelude.{ℕ, ◌≡◌, ◌≤◌, ◌+◌, ◌*◌, ◌-◌, Bool, true, false, ◌||◌, List, [], ◌∷◌, length, sum_by, is_some, All}
+use Rattle.std.specs.Prelude.{ℕ, ◌≡◌, ◌≤◌, ◌+◌, ◌*◌, ◌-◌, Bool, true, false, ◌||◌, List, [], ◌∷◌, ◌++◌, length, Some, sum_by, is_some, All}
 use Rattle.ts_packet.specs.Fields.{IsPacket}
 use Rattle.dmx_calls.specs.declared.limits.TheConstants.{DEMUX_NODES}
 use Rattle.dmx_calls.specs.Response.{Response, Data, Overflow}
@@ -11,10 +11,43 @@ use Rattle.dmx_calls.specs.Bytes.{bytes_answered}
 use Rattle.client_script.specs.declared.line.Line.{Line}
 use Rattle.client_script.specs.declared.line.Line.TheVariants.{Command}
 use Rattle.client_core.specs.Commands.{commands_of}
-use Rattle.client_core.specs.Events.{waits_on}
+use Rattle.client_core.specs.declared.event.Event.{Event}
+use Rattle.client_core.specs.Events.{next_of_line, waits_on}
 use Rattle.client_core.specs.Budget.{most_calls, repeats}
 use Rattle.serial_core.specs.Nodes.{Node, history_of}
-use Rattle.serial_core.specs.SerialRun.{Run, replies_of, IsSerialRun}
+use Rattle.serial_core.specs.SerialRun.{Run, begun, replies_of, called, after_waiting, AreDone, IsSerialRun}
+
+-- ------ the law
+
+-- how many commands a script has
+abbrev pub all_commands : List Line → ℕ
+all_commands [] = 0
+all_commands (Command line client target verb ∷ lines) = 1 + all_commands lines
+all_commands (_ ∷ lines) = all_commands lines
+
+module _ (lines : List Line) (batch : ℕ) where
+  -- some calls of a command are made
+  pub data IsBegun (client line : ℕ) : Run → Run → Type 0 where
+    no_call : (r : Run) → IsBegun client line r r
+    one_call : (r s : Run) (e : Event) → next_of_line client lines line (replies_of client r) ≡ Some e → IsBegun client line (called client e (after_waiting lines batch client r)) s → IsBegun client line r s
+
+  -- some calls of the next line are made, where it is a command
+  abbrev pub AreBegun : List Line → Run → Run → Type 0
+  AreBegun (Command line client target verb ∷ more) r s = IsBegun client line r s
+  AreBegun _ r s = s ≡ r
+
+  -- A moment of the serial run: some lines are done, and of the next line some calls are made.
+  abbrev pub IsMoment : (packets : List (List ℕ)) → Run → Type 0
+  IsMoment packets s = (before : List Line) × (more : List Line) × (before ++ more ≡ lines) × (r : Run) × AreDone lines batch before (begun packets) r × AreBegun more r s
+
+-- At each moment of the serial run, and at its end, a client has made no more calls than its commands and the bytes of the packets allow, where a batch has at least one packet.
+pub record IsWithinBudget : Type 0 where
+  pub moments : (lines : List Line) (batch : ℕ) (packets : List (List ℕ)) (r : Run) → 1 ≤ batch → All IsPacket packets → IsMoment lines batch packets r
+      → (client : ℕ) → length (replies_of client r) ≤ most_calls (length (commands_of client lines)) (188 * length packets)
+  pub runs : (lines : List Line) (batch : ℕ) (packets : List (List ℕ)) (r : Run) → 1 ≤ batch → All IsPacket packets → IsSerialRun lines batch packets r
+      → (client : ℕ) → length (replies_of client r) ≤ most_calls (length (commands_of client lines)) (188 * length packets)
+
+-- ------ what is kept on the way
 
 -- the bytes that a reply gives, or names as lost
 abbrev pub bytes_in : Response → ℕ
@@ -56,14 +89,3 @@ pub record IsPaid (lines : List Line) (packets : List (List ℕ)) (r : Run) : Ty
   pub bytes : (client : ℕ) → bytes_to client r ≤ bytes_by_all r
   pub repeats : (client : ℕ) → repeats client lines (replies_of client r) ≤ r.turns + bytes_to client r + one_if (is_some (waits_on client lines (replies_of client r)) || r.has_ended)
   pub calls : (client : ℕ) → length (replies_of client r) ≤ 33 * length (commands_of client lines) + r.turns + bytes_to client r + 2
-
--- how many commands a script has
-abbrev pub all_commands : List Line → ℕ
-all_commands [] = 0
-all_commands (Command line client target verb ∷ lines) = 1 + all_commands lines
-all_commands (_ ∷ lines) = all_commands lines
-
--- Each client of a serial run gets by with the calls that its commands and the bytes of the packets allow, where a batch has at least one packet.
-abbrev pub IsWithinBudget : Type 0
-IsWithinBudget = (lines : List Line) (batch : ℕ) (packets : List (List ℕ)) (r : Run) → 1 ≤ batch → All IsPacket packets → IsSerialRun lines batch packets r
-    → (client : ℕ) → length (replies_of client r) ≤ most_calls (length (commands_of client lines)) (188 * length packets)

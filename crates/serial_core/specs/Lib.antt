@@ -9,3 +9,4 @@ pub mod Budget
 pub mod Whole
 pub mod Lines
 pub mod Ran
+pub mod Runs

@@ -1,7 +1,7 @@
 // Laws of the definitions.
 ghost use Rattle.serial_core.specs.Laws.{HistoriesAreLegal, IsOne, PacketsPass, TriedIsRun};
 ghost use Rattle.serial_core.specs.Budget.{IsWithinBudget};
-ghost use Rattle.serial_core.specs.Whole.{SerialRunsAreRuns};
+ghost use Rattle.serial_core.specs.Runs.{HaveSerialRuns, SerialRunsAreRuns};
 
 /// A script and a stream have one serial run at most.
 pub fn the_serial_run_is_one()
@@ -16,6 +16,11 @@ pub fn what_is_tried_is_the_run()
 /// Each client of a serial run makes at most `most_calls` calls, for its own commands and the bytes of the stream's packets.
 pub fn clients_are_within_budget()
     ensures { IsWithinBudget }
+{}
+
+/// A script and a stream have a serial run: each command ends.
+pub fn every_script_has_a_serial_run()
+    ensures { HaveSerialRuns }
 {}
 
 /// The serial run of a script is a run of it: the histories of its nodes are legal and accounted, every packet passes each node

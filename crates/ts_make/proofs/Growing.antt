@@ -1,11 +1,10 @@
 -- The steps of a session: one more word, one more packet.
 use Rattle.std.specs.Prelude.{if◌then◌else◌}
-use Rattle.std.proofs.Common.{◌≡◌, ℕ, ◌+◌, ◌%◌, ◌<◌, ◌==◌, List, [], ◌∷◌, ◌++◌, refl, sym, ap, ◌∙◌, arith, suc, add-one, append_assoc}
-use Rattle.rand_pcg.specs.Lcg.{Lcg, started}
+use Rattle.std.proofs.Common.{◌≡◌, ℕ, ◌+◌, ◌%◌, ◌==◌, List, [], ◌∷◌, ◌++◌, refl, ap, ◌∙◌, arith, add-one, append_assoc}
+use Rattle.rand_pcg.specs.Lcg.{started}
 use Rattle.rand_pcg.specs.Pcg.{pcg32, multiplier_64}
 use Rattle.ts_make.specs.declared.kind.Kind.{Kind}
 use Rattle.ts_make.specs.declared.kind.Kind.TheVariants.{Association, Video, Audio, Service, Null}
-use Rattle.ts_make.specs.declared.counters.Counters.{Counters}
 use Rattle.ts_make.specs.Made.{kind_of, pid_of, generator, word, packets_of, packets, packet, packet_at, payload}
 use Rattle.ts_make.specs.Counting.{AreSmall, counter_in, risen, counters_of, all_zero}
 

@@ -1,6 +1,6 @@
 -- The session of a number: its script, and 65,536 packets, each chosen by a word of the generator PCG32 (XSH RR 64/32) that
 -- has the number as its state, and stream 54.
-use Rattle.std.specs.Prelude.{ℕ, ◌+◌, ◌*◌, ◌/◌, ◌%◌, ◌==◌, Bool, true, List, [], ◌∷◌, ◌++◌, replicate, nat_le, Option, Some, None, if◌then◌else◌}
+use Rattle.std.specs.Prelude.{ℕ, ◌+◌, ◌/◌, ◌%◌, ◌==◌, Bool, true, List, [], ◌∷◌, ◌++◌, replicate, nat_le, Option, Some, None, if◌then◌else◌}
 use Rattle.std.specs.Int.{w16, w32, w64, to_be_bytes}
 use Rattle.std.proofs.Common.{zero, suc}
 use Rattle.rand_pcg.specs.Lcg.{Lcg, started, increment_of}

@@ -24,5 +24,4 @@ mod script;
 #[cfg(test)]
 mod tests;
 
-pub use kind::Kind;
 pub use making::session;

@@ -161,16 +161,21 @@ fn rows_are_counted(rt: HostRuntime) -> Result<(), Fail> {
     Ok(())
 }
 
-// Each PID from the highest down, by a packet that is sent twice.
-#[test]
-fn there_is_room_for_each_pid(rt: HostRuntime) -> Result<(), Fail> {
-    let mut watch = Watch::new(rt.alloc())?;
-    'pids: for i in 0..16384u64 {
-        let pid = 8191 - i as u16 / 2;
+// A watch that was shown two packets of each PID, from the highest down, the second a duplicate of the first.
+fn watched_all(alloc: Global) -> Result<Watch, Fail> {
+    let mut watch = Watch::new(alloc)?;
+    'shown: for i in 0..16384u16 {
+        let pid = 8191 - i / 2;
         let header = [0x47, (pid / 256) as u8, (pid % 256) as u8, 0x10, 0, 0];
         watch.watch(&packet_of(&(header, 0)));
     }
-    for pid in 0..8191 {
+    Ok(watch)
+}
+
+#[test]
+fn there_is_room_for_each_pid(rt: HostRuntime) -> Result<(), Fail> {
+    let watch = watched_all(rt.alloc())?;
+    for pid in 0..8191u16 {
         assert_eq!(rt; watch.row(pid), row([2, 0, 1, 0]), "{pid}");
     }
     assert_eq!(rt; watch.row(8191), row([2, 0, 0, 0]));

@@ -1,10 +1,9 @@
-use Rattle.std.proofs.Common.{◌≡◌, ◌+◌, ◌%◌, ◌++◌, ◌∙◌, List, ℕ, refl, sym, ap, arith}
+use Rattle.std.proofs.Common.{◌≡◌, ◌%◌, ◌++◌, ◌∙◌, List, ℕ, refl, sym, ap, arith}
 use Rattle.rand_pcg.specs.Lcg.{Lcg}
 use Rattle.rand_pcg.specs.Pcg.{pcg32}
-use Rattle.ts_make.specs.declared.kind.Kind.{Kind}
 use Rattle.ts_make.specs.Script.{script}
-use Rattle.ts_make.specs.Made.{generator, packets, packet_at, packets_of, made, word, kind_of, pid_of}
-use Rattle.ts_make.proofs.Growing.{generator-none, generator-next, packets-next, packets-none, counters-none, counters-next, counter-is, are-small, two-behind, packet-same}
+use Rattle.ts_make.specs.Made.{packets, packet_at, packets_of, made, word, kind_of, pid_of}
+use Rattle.ts_make.proofs.Growing.{generator-none, generator-next, packets-next, packets-none, counters-none, counters-next, counter-is, two-behind, packet-same}
 use Rattle.ts_make.proofs.making.session.Goals as goal
 
 pub packets-init : goal.packets-init

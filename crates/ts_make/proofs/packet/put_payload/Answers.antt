@@ -1,4 +1,4 @@
-use Rattle.std.proofs.Common.{◌≡◌, ◌+◌, ◌%◌, ◌∷◌, [], sym, append_assoc}
+use Rattle.std.proofs.Common.{◌+◌, ◌%◌, ◌∷◌, [], sym, append_assoc}
 use Rattle.std.proofs.lemmas.List.{append-nil}
 use Rattle.ts_make.specs.Made.{payload}
 use Rattle.ts_make.proofs.Growing.{payload-none, payload-next}

@@ -1,4 +1,4 @@
-use Rattle.std.proofs.Common.{◌≡◌, ◌++◌, List, ℕ, ◌∙◌, ap, refl}
+use Rattle.std.proofs.Common.{◌≡◌, ◌++◌, refl}
 use Rattle.std.specs.Int.{w32, to_be_bytes}
 use Rattle.section_crc.specs.Crc.{crc}
 use Rattle.ts_make.specs.Made.{section_front}

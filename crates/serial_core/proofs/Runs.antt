@@ -30,8 +30,9 @@ use Rattle.client_core.specs.IsRun.{IsFed, HasDone, feeding, steps_of}
 use Rattle.client_core.proofs.Numbering.{next_is_numbered}
 use Rattle.serial_core.specs.Nodes.{Node, uncalled, history_of, answered}
 use Rattle.serial_core.specs.SerialRun.{Run, begun, fed_to_all, passed, ended, ticked, all_passed, demux_node, replies_of, reply_to, made, called, AreDone, finished}
-use Rattle.serial_core.specs.Whole.{logs_of, IsWhole, SerialRunsAreRuns}
-use Rattle.serial_core.proofs.Places.{node_at, fed_at, called_at, IsCalledAt, reply_at, entries_of, entries_at, entry_for, entries_answered, logs_get, logs_length, logs_is}
+use Rattle.serial_core.specs.Ran.{histories_in}
+use Rattle.serial_core.specs.Runs.{IsAccountedRun, SerialRunsAreRuns}
+use Rattle.serial_core.proofs.Places.{node_at, fed_at, called_at, IsCalledAt, reply_at, entries_of, entries_at, entry_for, entries_answered, histories_get, histories_length, histories_is}
 use Rattle.serial_core.proofs.Sound.{IsSound, sound_answered, sound_placed, sound_filled}
 use Rattle.serial_core.proofs.Making.{AreMade, others_made, mine_made}
 use Rattle.serial_core.proofs.Feeding.{AreFed, fed_pass, fed_end, fed_other, none_fed, all_fed, passes_of, end_of}
@@ -120,7 +121,7 @@ module _ (lines : List Line) (batch : ℕ) (packets : List (List ℕ)) (clients 
       → AreMade lines client (λ node. entries_at node (fed_to_all c r)) (replies_of client r)
   fed_made client c r long m =
       others_made lines client (λ node. entries_at node r) (λ node. entries_at node (fed_to_all c r)) (replies_of client r)
-          (λ node le. inr (entry_for (rules_at node) 0 r.turns c (node_at node r), fed_entries node c r long, λ same. absurd (omega (arith, same)))) m
+      (λ node le. inr (entry_for (rules_at node) 0 r.turns c (node_at node r), fed_entries node c r long, λ same. absurd (omega (arith, same)))) m
 
   not_ended : (r : Run) → IsSoFar r → 1 ≤ length r.left → r.has_ended ≡ false
   not_ended r p some = go r.has_ended refl where
@@ -144,7 +145,7 @@ module _ (lines : List Line) (batch : ℕ) (packets : List (List ℕ)) (clients 
         sound = λ node le. fed_sound node c r p.nodes of (p.sound node le);
         fed = subst (λ b. AreFed batch (λ node. entries_at node (fed_to_all c r)) (r.turns + 1) (r.first + size) b) (sym unended)
             (fed_pass batch (λ node. entries_at node r) (λ node. entries_at node (fed_to_all c r)) r.turns r.first size r.moment some within before
-                (λ node le. (entry_for (rules_at node) 0 r.turns c (node_at node r), fed_entries node c r p.nodes, refl, refl, ap (λ n. PassAct Frontend r.first n r.moment) long)));
+            (λ node le. (entry_for (rules_at node) 0 r.turns c (node_at node r), fed_entries node c r p.nodes, refl, refl, ap (λ n. PassAct Frontend r.first n r.moment) long)));
         made = λ client lt. fed_made client c r p.nodes (p.made client lt);
       }
 
@@ -218,19 +219,19 @@ module _ (lines : List Line) (batch : ℕ) (packets : List (List ℕ)) (clients 
     call_made other less true yea =
         let eq : other ≡ client = grind (arith, nat_tests, yea) in
         subst (λ o. AreMade lines o (λ node. entries_at node after) (replies_of o after)) (sym eq)
-            (subst (λ rs. AreMade lines client (λ node. entries_at node after) rs) (sym my_replies)
-                (mine_made lines client (λ node. entries_at node r) (λ node. entries_at node after) (replies_of client r) x e r.moment (p.made client lt) stands refl numbered.1 numbered.0 refl refl refl
-                    (here (at e.node numbered.1)) (λ node le ne. elsewhere node ne (at node le))))
+        (subst (λ rs. AreMade lines client (λ node. entries_at node after) rs) (sym my_replies)
+        (mine_made lines client (λ node. entries_at node r) (λ node. entries_at node after) (replies_of client r) x e r.moment (p.made client lt) stands refl numbered.1 numbered.0 refl refl refl
+        (here (at e.node numbered.1)) (λ node le ne. elsewhere node ne (at node le))))
     call_made other less false nay =
         let ne : other ≢ client = λ is. grind (arith, nat_tests, nay, is) in
         let theirs : replies_of other after ≡ replies_of other r = get_or-set_other r.replies client other (replies_of client r ++ reply_to client e r ∷ []) [] ne in
         subst (λ rs. AreMade lines other (λ node. entries_at node after) rs) (sym theirs)
-            (others_made lines other (λ node. entries_at node r) (λ node. entries_at node after) (replies_of other r) (λ node le. others node ne (at node le)) (p.made other less)) where
-      others : (node : ℕ) → other ≢ client → IsCalledAt client e r node
-          → (entries_at node after ≡ entries_at node r) ⊎ ((y : LogEntry) × (entries_at node after ≡ entries_at node r ++ y ∷ []) × (y.who ≢ other + 1))
-      others node ne (inl is) =
-          inr (entry_for (rules_at node) (client + 1) e.step c (node_at node r), ap entries_of is.1 ∙ entries_answered (rules_at node) (client + 1) e.step c (node_at node r), λ eq. absurd (ne (omega (arith, eq))))
-      others node ne (inr not) = inl (ap entries_of not.1)
+        (others_made lines other (λ node. entries_at node r) (λ node. entries_at node after) (replies_of other r) (λ node le. others node ne (at node le)) (p.made other less)) where
+          others : (node : ℕ) → other ≢ client → IsCalledAt client e r node
+              → (entries_at node after ≡ entries_at node r) ⊎ ((y : LogEntry) × (entries_at node after ≡ entries_at node r ++ y ∷ []) × (y.who ≢ other + 1))
+          others node ne (inl is) =
+              inr (entry_for (rules_at node) (client + 1) e.step c (node_at node r), ap entries_of is.1 ∙ entries_answered (rules_at node) (client + 1) e.step c (node_at node r), λ eq. absurd (ne (omega (arith, eq))))
+          others node ne (inr not) = inl (ap entries_of not.1)
 
     call_keeps : IsSoFar after
     call_keeps = record {
@@ -242,8 +243,8 @@ module _ (lines : List Line) (batch : ℕ) (packets : List (List ℕ)) (clients 
       sound = λ node le. call_sound node le (at node le);
       fed = subst (λ t. AreFed batch (λ node. entries_at node after) t after.first after.has_ended) (sym same.turns)
           (subst (λ n. AreFed batch (λ node. entries_at node after) r.turns n after.has_ended) (sym same.first)
-              (subst (λ b. AreFed batch (λ node. entries_at node after) r.turns r.first b) (sym same.ended)
-                  (fed_other batch (λ node. entries_at node r) (λ node. entries_at node after) r.turns r.first r.has_ended p.fed (λ node le. call_fed node (at node le)))));
+          (subst (λ b. AreFed batch (λ node. entries_at node after) r.turns r.first b) (sym same.ended)
+          (fed_other batch (λ node. entries_at node r) (λ node. entries_at node after) r.turns r.first r.has_ended p.fed (λ node le. call_fed node (at node le)))));
       made = λ other less. call_made other less (nat_eq other client) refl;
     }
 
@@ -288,36 +289,36 @@ module _ (lines : List Line) (batch : ℕ) (packets : List (List ℕ)) (clients 
     whole : r.first ≡ length packets
     whole = omega (arith, p.first, p.ended over)
 
-    run_placed : (node place : ℕ) (h : List LogEntry) (e : LogEntry) → slice_get (logs_of r) node ≡ Some h → slice_get h place ≡ Some e → (e.node ≡ node) × (e.place ≡ place) × (e.who ≤ clients) × (e.response ≢ NoMemory)
+    run_placed : (node place : ℕ) (h : List LogEntry) (e : LogEntry) → slice_get (histories_in r) node ≡ Some h → slice_get h place ≡ Some e → (e.node ≡ node) × (e.place ≡ place) × (e.who ≤ clients) × (e.response ≢ NoMemory)
     run_placed node place h e log is =
-        let w = logs_is r node h p.nodes log in
+        let w = histories_is r node h p.nodes log in
         sound_placed packets clients node (node_at node r) (p.sound node w.0) place e (subst (λ l. slice_get l place ≡ Some e) (sym w.1) is)
 
-    run_legal : (node : ℕ) (h : List LogEntry) → slice_get (logs_of r) node ≡ Some h → IsLegalFor (rules_at node) (filled packets h)
+    run_legal : (node : ℕ) (h : List LogEntry) → slice_get (histories_in r) node ≡ Some h → IsLegalFor (rules_at node) (filled packets h)
     run_legal node h log =
-        let w = logs_is r node h p.nodes log in
+        let w = histories_is r node h p.nodes log in
         subst (λ l. IsLegalFor (rules_at node) (filled packets l)) w.1
-            (subst (IsLegalFor (rules_at node)) (sym (sound_filled packets clients node (node_at node r) (p.sound node w.0))) (p.sound node w.0).legal)
+        (subst (IsLegalFor (rules_at node)) (sym (sound_filled packets clients node (node_at node r) (p.sound node w.0))) (p.sound node w.0).legal)
 
-    run_fed : IsFed batch (length packets) (logs_of r)
+    run_fed : IsFed batch (length packets) (histories_in r)
     run_fed = record {
       batches = p.fed.batches;
       each_size = p.fed.each_size;
       whole = p.fed.whole ∙ whole;
-      on_each = λ node h log. on node h (logs_is r node h p.nodes log);
+      on_each = λ node h log. on node h (histories_is r node h p.nodes log);
     } where
       on : (node : ℕ) (h : List LogEntry) → (node ≤ DEMUX_NODES) × (entries_at node r ≡ h) → steps_of 0 h ≡ feeding 0 0 p.fed.batches
       on node h w =
           let n : length p.fed.batches ≡ 0 + length p.fed.batches = omega arith in
           subst (λ l. steps_of 0 l ≡ feeding 0 0 p.fed.batches) w.1
-              (p.fed.on_each node w.0 ∙ ap (λ b. passes_of 0 0 p.fed.batches ++ end_of (length p.fed.batches) b) over ∙ ap (λ k. passes_of 0 0 p.fed.batches ++ end_of k true) n ∙ sym (all_fed 0 0 p.fed.batches))
+          (p.fed.on_each node w.0 ∙ ap (λ b. passes_of 0 0 p.fed.batches ++ end_of (length p.fed.batches) b) over ∙ ap (λ k. passes_of 0 0 p.fed.batches ++ end_of k true) n ∙ sym (all_fed 0 0 p.fed.batches))
 
-    run_done : (client : ℕ) → client < clients → HasDone lines client (logs_of r)
+    run_done : (client : ℕ) → client < clients → HasDone lines client (histories_in r)
     run_done client lt = record {
       made = m.made;
-      steps = λ i e is. let s = m.steps i e is in (s.step, s.who, (entries_at e.node r, logs_get r e.node p.nodes s.within, s.there), s.event);
+      steps = λ i e is. let s = m.steps i e is in (s.step, s.who, (entries_at e.node r, histories_get r e.node p.nodes s.within, s.there), s.event);
       ends = ap (λ rs. next_event client lines rs) m.same ∙ through client;
-      only = λ node place h e log is mine. only node place h e (logs_is r node h p.nodes log) is mine;
+      only = λ node place h e log is mine. only node place h e (histories_is r node h p.nodes log) is mine;
       in_order = m.in_order;
     } where
       m : AreMade lines client (λ node. entries_at node r) (replies_of client r)
@@ -326,7 +327,7 @@ module _ (lines : List Line) (batch : ℕ) (packets : List (List ℕ)) (clients 
       only : (node place : ℕ) (h : List LogEntry) (e : LogEntry) → (node ≤ DEMUX_NODES) × (entries_at node r ≡ h) → slice_get h place ≡ Some e → e.who ≡ client + 1 → slice_get m.made e.step ≡ Some e
       only node place h e w is mine = m.only node place e w.0 (subst (λ l. slice_get l place ≡ Some e) (sym w.1) is) mine
 
-    run_accounted : (node : ℕ) (h : List LogEntry) → slice_get (logs_of r) node ≡ Some h → IsAccounted (rules_at node) (filled packets h)
+    run_accounted : (node : ℕ) (h : List LogEntry) → slice_get (histories_in r) node ≡ Some h → IsAccounted (rules_at node) (filled packets h)
     unfolding rules_at
     run_accounted node h log = go (nat_lt node DEMUX_NODES) (run_legal node h log) where
       go : (b : Bool) → IsLegalFor (if b then demux else dvr) (filled packets h) → IsAccounted (if b then demux else dvr) (filled packets h)
@@ -343,18 +344,18 @@ pub are_runs : SerialRunsAreRuns
 unfolding run_done
 are_runs lines batch packets t ranges one run =
     let few : clients_in lines ≤ 8 = few_clients lines 0 (omega arith) ranges in
-    subst (IsWhole lines batch packets) (sym run.2)
-        (whole_of few (finished lines batch run.0) (run_so_far lines batch packets (clients_in lines) few ranges one run.0 (omega arith) run.1) (none_stands lines batch packets run.0 run.1)
-            (ended_over (all_passed batch (length run.0.left) run.0))) where
-  whole_of : (few : clients_in lines ≤ 8) (r : Run) → IsSoFar lines batch packets (clients_in lines) few ranges r → ((client : ℕ) → next_event client lines (replies_of client r) ≡ None) → r.has_ended ≡ true → IsWhole lines batch packets r
-  whole_of few r p through over = record {
-    run = record {
-      nodes = logs_length r p.nodes;
-      places = run_placed lines batch packets (clients_in lines) few ranges r p through over;
-      legal = run_legal lines batch packets (clients_in lines) few ranges r p through over;
-      fed = run_fed lines batch packets (clients_in lines) few ranges r p through over;
-      clients_done = run_done lines batch packets (clients_in lines) few ranges r p through over;
-    };
-    replies = λ client lt. (p.made client lt).same;
-    accounted = run_accounted lines batch packets (clients_in lines) few ranges r p through over;
-  }
+    subst (IsAccountedRun lines batch packets) (sym run.2)
+    (whole_of few (finished lines batch run.0) (run_so_far lines batch packets (clients_in lines) few ranges one run.0 (omega arith) run.1) (none_stands lines batch packets run.0 run.1)
+    (ended_over (all_passed batch (length run.0.left) run.0))) where
+      whole_of : (few : clients_in lines ≤ 8) (r : Run) → IsSoFar lines batch packets (clients_in lines) few ranges r → ((client : ℕ) → next_event client lines (replies_of client r) ≡ None) → r.has_ended ≡ true → IsAccountedRun lines batch packets r
+      whole_of few r p through over = record {
+        run = record {
+          nodes = histories_length r p.nodes;
+          places = run_placed lines batch packets (clients_in lines) few ranges r p through over;
+          legal = run_legal lines batch packets (clients_in lines) few ranges r p through over;
+          fed = run_fed lines batch packets (clients_in lines) few ranges r p through over;
+          clients_done = run_done lines batch packets (clients_in lines) few ranges r p through over;
+        };
+        replies = λ client lt. (p.made client lt).same;
+        accounted = run_accounted lines batch packets (clients_in lines) few ranges r p through over;
+      }

@@ -1,0 +1,75 @@
+-- A script and a stream have a serial run: within the budget of its client each command ends.
+use Rattle.std.proofs.Common.{◌≡◌, refl, sym, ap, ◌∙◌, ℕ, zero, suc, ◌+◌, ◌-◌, ◌*◌, ◌<◌, ◌≤◌, List, [], ◌∷◌, ◌++◌, Option, Some, None, length, arith, length-append}
+use Rattle.std.specs.Prelude.{slice_index_or, slice_set}
+use Rattle.std.specs.List.{All}
+use Rattle.std.proofs.lemmas.List.{length-set, get_or-set_same}
+use Rattle.std.proofs.lemmas.List.Elements.{All-head, All-tail}
+use Rattle.ts_packet.specs.Fields.{IsPacket}
+use Rattle.dmx_calls.specs.Response.{Response}
+use Rattle.client_script.specs.Grammar.{IsInRange}
+use Rattle.client_script.specs.declared.line.Line.{Line}
+use Rattle.client_script.specs.declared.line.Line.TheVariants.{Feed, Tick, Command}
+use Rattle.client_core.specs.declared.event.Event.{Event}
+use Rattle.client_core.specs.Commands.{commands_of}
+use Rattle.client_core.specs.Events.{next_of_line}
+use Rattle.client_core.specs.Budget.{most_calls}
+use Rattle.serial_core.specs.SerialRun.{Run, begun, fed, ticked, replies_of, reply_to, called, after_waiting, IsWorked, through, calls, AreDone, finished}
+use Rattle.serial_core.specs.Budget.{IsPaid}
+use Rattle.serial_core.specs.Runs.{HaveSerialRuns}
+use Rattle.serial_core.proofs.Replies.{waiting_replies}
+use Rattle.serial_core.proofs.Throughout.{fed_replies}
+use Rattle.serial_core.proofs.Paid.{paid_fed, paid_ticked}
+use Rattle.serial_core.proofs.Within.{paid_begun, paid_next_of_line, paid_worked, within}
+
+module _ (lines : List Line) (batch : ℕ) (packets : List (List ℕ)) (one : 1 ≤ batch) where
+  -- the most calls of a client
+  abbrev most : (client : ℕ) → ℕ
+  most client = most_calls (length (commands_of client lines)) (188 * length packets)
+
+  paid_most : (client : ℕ) (r : Run) → IsPaid lines packets r → length (replies_of client r) ≤ most client
+  paid_most client r p = within lines packets r client (length (commands_of client lines)) (188 * length packets) p (omega arith) (omega arith)
+
+  -- a call leaves eight clients, and gives the caller one reply
+  call_clients : (client : ℕ) (e : Event) (r : Run) → length r.replies ≡ 8 → length (called client e (after_waiting lines batch client r)).replies ≡ 8
+  call_clients client e r eight =
+      let w : Run = after_waiting lines batch client r in
+      length-set w.replies client (replies_of client w ++ reply_to client e w ∷ []) ∙ ap length (waiting_replies lines batch client r) ∙ eight
+
+  call_replies : (client : ℕ) (e : Event) (r : Run) → client < 8 → length r.replies ≡ 8 → length (replies_of client (called client e (after_waiting lines batch client r))) ≡ length (replies_of client r) + 1
+  call_replies client e r lt eight =
+      let w : Run = after_waiting lines batch client r in
+      let same : w.replies ≡ r.replies = waiting_replies lines batch client r in
+      let there : client < length w.replies = omega (arith, lt, ap length same, eight) in
+      ap length (get_or-set_same w.replies client (replies_of client w ++ reply_to client e w ∷ []) [] there) ∙ length-append (replies_of client w) (reply_to client e w ∷ [])
+      ∙ ap (λ rs. length (slice_index_or rs client []) + 1) same
+
+  command_ends : (fuel client line : ℕ) (r : Run) → client < 8 → length r.replies ≡ 8 → IsPaid lines packets r → length (replies_of client r) + fuel ≡ most client + 1 → (s : Run) × IsWorked lines batch client line r s
+  command_ends zero client line r lt eight p is = absurd (omega (arith, is, paid_most client r p))
+  command_ends (suc fuel) client line r lt eight p is =
+      go (λ e at. command_ends fuel client line (called client e (after_waiting lines batch client r)) lt (call_clients client e r eight) (paid_next_of_line lines packets batch client line r e one p at)
+      (omega (arith, is, call_replies client e r lt eight))) (next_of_line client lines line (replies_of client r)) refl where
+        go : ((e : Event) → next_of_line client lines line (replies_of client r) ≡ Some e → (s : Run) × IsWorked lines batch client line (called client e (after_waiting lines batch client r)) s)
+            → (o : Option Event) → next_of_line client lines line (replies_of client r) ≡ o → (s : Run) × IsWorked lines batch client line r s
+        go deeper None none = (r, through r none)
+        go deeper (Some e) some = let later = deeper e some in (later.0, calls r later.0 e some later.1)
+
+  worked_clients : (client line : ℕ) (r s : Run) → IsWorked lines batch client line r s → length r.replies ≡ 8 → length s.replies ≡ 8
+  worked_clients client line r s (through _ none) eight = eight
+  worked_clients client line r s (calls _ _ e at w) eight = worked_clients client line _ s w (call_clients client e r eight)
+
+  lines_end : (more : List Line) (r : Run) → All IsInRange more → length r.replies ≡ 8 → IsPaid lines packets r → (t : Run) × AreDone lines batch more r t
+  lines_end [] r ranges eight p = (r, refl)
+  lines_end (Feed count ∷ more) r ranges eight p =
+      lines_end more (fed batch count r) (All-tail IsInRange (Feed count) more ranges) (ap length (fed_replies batch count r) ∙ eight) (paid_fed lines packets batch count r one p)
+  lines_end (Tick time ∷ more) r ranges eight p = lines_end more (ticked time r) (All-tail IsInRange (Tick time) more ranges) eight (paid_ticked lines packets time r p)
+  lines_end (Command line client target verb ∷ more) r ranges eight p =
+      let lt : client < 8 = omega (arith, (All-head IsInRange (Command line client target verb) more ranges).2) in
+      let within : length (replies_of client r) ≤ most client = paid_most client r p in
+      let done = command_ends (most client + 1 - length (replies_of client r)) client line r lt eight p (omega (arith, within)) in
+      let later = lines_end more done.0 (All-tail IsInRange (Command line client target verb) more ranges) (worked_clients client line r done.0 done.1 eight) (paid_worked lines packets batch client line r done.0 one done.1 p) in
+      (later.0, (done.0, done.1, later.1))
+
+pub have_runs : HaveSerialRuns
+have_runs lines batch packets ranges are one =
+    let end = lines_end lines batch packets one lines (begun packets) ranges refl (paid_begun lines packets are) in
+    (finished lines batch end.0, (end.0, end.1, refl))

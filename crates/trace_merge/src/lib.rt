@@ -1,0 +1,93 @@
+//! The histories of all nodes by place, made of what each caller told.
+//!
+//! Each client keeps a log of its own calls, on whatever node, and each entry names its node and its place in that node's
+//! history. `histories` brings them together: one list for each of the 33 nodes, in order of place, beside the feeder's
+//! batches, which are kept once for all nodes.
+//!
+//! What is proved: each node has just the entries that the logs have on it, each as often as there, and their places never
+//! fall (`AreByPlace`). A contract sees the histories whole, with the feeder's calls at all other places.
+//!
+//! The cost: each log is gone through once, and a node's entries are then a row of runs, one for each client, which the
+//! stable sort finds and merges: linear in the entries for the few clients that there are. Memory is asked for the lists
+//! and for the sort's buffer.
+#![tactic(auto)]
+
+#[cfg(test)]
+mod tests;
+
+ghost use Rattle.std.specs.Prelude.{◌≡◌, ◌+◌, ◌<◌, ◌++◌, ℕ, [], length, map, get_or, IfOk, OnOk};
+ghost use Rattle.std.specs.List.{All};
+ghost use Rattle.dmx_calls.specs.declared.limits.TheConstants.{DEMUX_NODES};
+ghost use Rattle.dmx_calls.specs.Histories.{histories_of};
+ghost use Rattle.trace_merge.specs.Merging.{AreOnNodes, AreByPlace, IsDealt, AreDealt, AreSorted};
+
+use dmx_calls::limits::DEMUX_NODES;
+use dmx_calls::{Entry, Fed, Histories};
+use std::alloc::{AllocError as NoMemory, Global};
+
+// An empty list for each node.
+fn empty_lists(alloc: Global) -> Result<Vec<Vec<Entry>>, NoMemory>
+    ensures long { IfOk result (λ nodes. length nodes.items ≡ DEMUX_NODES + 1) }
+    ensures empty { IfOk result (λ nodes. (node : ℕ) → get_or (map (λ calls. calls.items) nodes.items) node [] ≡ []) }
+{
+    let mut nodes: Vec<Vec<Entry>> = Vec::with_capacity(alloc, 33)?;
+    'nodes: for _ in 0..DEMUX_NODES + 1 {
+        nodes.push(Vec::new(alloc))?;
+    }
+    Ok(nodes)
+}
+
+// Puts the entries of a log to those of their nodes, the last one first.
+fn deal(nodes: &mut Vec<Vec<Entry>>, log: Vec<Entry>) -> Result<(), NoMemory>
+    requires nodes { length nodes.old.items ≡ DEMUX_NODES + 1 }
+    requires log { AreOnNodes log.items }
+    ensures { OnOk result (IsDealt log.items (map (λ calls. calls.items) nodes.old.items) (map (λ calls. calls.items) nodes.new.items)) }
+{
+    let mut left = log;
+    'entries: while let Some(entry) = left.pop() {
+        nodes[entry.node as usize].push(entry)?;
+    }
+    Ok(())
+}
+
+// The entries of all logs by node.
+fn deal_all(alloc: Global, logs: Vec<Vec<Entry>>) -> Result<Vec<Vec<Entry>>, NoMemory>
+    requires { All (λ log. AreOnNodes log.items) logs.items }
+    ensures { IfOk result (λ nodes. AreDealt (map (λ log. log.items) logs.items) (map (λ calls. calls.items) nodes.items)) }
+{
+    let mut nodes = empty_lists(alloc)?;
+    let mut left = logs;
+    'logs: while let Some(log) = left.pop() {
+        deal(&mut nodes, log)?;
+    }
+    Ok(nodes)
+}
+
+// Brings the entries of each node into the order of their places.
+fn sort_all(nodes: &mut Vec<Vec<Entry>>) -> Result<(), NoMemory>
+    ensures { OnOk result (AreSorted (map (λ calls. calls.items) nodes.old.items) (map (λ calls. calls.items) nodes.new.items)) }
+{
+    'nodes: for node in 0..nodes.len() {
+        nodes[node].sort_by_key(|entry: &Entry| entry.place)?;
+    }
+    Ok(())
+}
+
+/// The histories of all nodes: the feeder's calls are these batches and then the end of the stream, and the clients' entries
+/// are those of these logs, of which each names its place in its node's history.
+///
+/// # Errors
+///
+/// `NoMemory` where memory was refused; nothing is kept then.
+pub fn histories(
+    alloc: Global,
+    feeding: Vec<Fed>,
+    logs: Vec<Vec<Entry>>,
+) -> Result<Histories, NoMemory>
+    requires { All (λ log. AreOnNodes log.items) logs.items }
+    ensures { IfOk result (λ all. (nodes : _) × AreByPlace (map (λ log. log.items) logs.items) nodes × (all ≡ histories_of feeding.items nodes)) }
+{
+    let mut nodes = deal_all(alloc, logs)?;
+    sort_all(&mut nodes)?;
+    Ok(Histories::new(feeding, nodes))
+}
