@@ -63,7 +63,7 @@ module _ (node : Rules) (names : OverflowNamesAByte node) where
   unfolding answer facts
   reads h who now count legal =
       unless_reads (has_ended h) (refusal_to node.kind (facts node h) who (call.Read now count)) _
-          (ledger_read h (facts node h) (node.capture h) (expired_of (facts node (with_call h who (call.Read now count))).ledger) count legal)
+      (ledger_read h (facts node h) (node.capture h) (expired_of (facts node (with_call h who (call.Read now count))).ledger) count legal)
 
 -- ------ calls of the feeder and of clients
 

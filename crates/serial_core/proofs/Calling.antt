@@ -175,36 +175,42 @@ module _ (lines : List Line) (packets : List (List ℕ)) where
     my_repeats =
         let more = one_reply_more client lines (replies_of client r) x e stands in
         go more.0 more.1 (pays r.has_ended e.want x is) where
-      or_more : (w b : Bool) → one_if b ≤ one_if (w || b)
-      or_more true true = omega arith
-      or_more true false = omega arith
-      or_more false b = omega arith
+          or_more : (w b : Bool) → one_if b ≤ one_if (w || b)
+          or_more true true = omega arith
+          or_more true false = omega arith
+          or_more false b = omega arith
 
-      waiting : (w : Option ℕ) → (w ≡ None → repeats client lines (replies_of client r ++ x ∷ []) ≤ repeats client lines (replies_of client r))
-          → repeats client lines (replies_of client r ++ x ∷ []) ≤ repeats client lines (replies_of client r) + one_if (is_some w)
-      waiting None le = omega (arith, le refl)
-      waiting (Some n) le = omega (arith, one_reply_more client lines (replies_of client r) x e stands, added_one e.want x)
+          waiting : (w : Option ℕ) → (w ≡ None → repeats client lines (replies_of client r ++ x ∷ []) ≤ repeats client lines (replies_of client r))
+              → repeats client lines (replies_of client r ++ x ∷ []) ≤ repeats client lines (replies_of client r) + one_if (is_some w)
+          waiting None le = omega (arith, le refl)
+          waiting (Some n) le = omega (arith, one_reply_more client lines (replies_of client r) x e stands, added_one e.want x)
 
-      or_first : (w b : Bool) → b ≡ false → one_if (w || b) ≡ one_if w
-      or_first true b nay = refl
-      or_first false b nay = ap one_if nay
+          or_first : (w b : Bool) → b ≡ false → one_if (w || b) ≡ one_if w
+          or_first true b nay = refl
+          or_first false b nay = ap one_if nay
 
-      go : repeats client lines (replies_of client r ++ x ∷ []) ≤ repeats client lines (replies_of client r) + added_by e.want x
-          → (x ≡ Again false → waits_on client lines (replies_of client r ++ x ∷ []) ≡ None → repeats client lines (replies_of client r ++ x ∷ []) ≤ repeats client lines (replies_of client r))
-          → (added_by e.want x ≤ bytes_in x) ⊎ IsOpenAgain r.has_ended x
-          → repeats client lines (replies_of client r ++ x ∷ []) ≤ r.turns + sum_by bytes_in (replies_of client r ++ x ∷ []) + one_if (is_some (waits_on client lines (replies_of client r ++ x ∷ [])) || r.has_ended)
-      go le again (inl paid) = omega (arith, le, paid, ready, more_bytes, or_more (is_some (waits_on client lines (replies_of client r ++ x ∷ []))) r.has_ended)
-      go le again (inr unended) =
-          omega (arith, waiting (waits_on client lines (replies_of client r ++ x ∷ [])) (again unended.0), ready, more_bytes, ap one_if unended.1,
-              or_first (is_some (waits_on client lines (replies_of client r ++ x ∷ []))) r.has_ended unended.1)
+          go : repeats client lines (replies_of client r ++ x ∷ []) ≤ repeats client lines (replies_of client r) + added_by e.want x
+              → (x ≡ Again false → waits_on client lines (replies_of client r ++ x ∷ []) ≡ None → repeats client lines (replies_of client r ++ x ∷ []) ≤ repeats client lines (replies_of client r))
+              → (added_by e.want x ≤ bytes_in x) ⊎ IsOpenAgain r.has_ended x
+              → repeats client lines (replies_of client r ++ x ∷ []) ≤ r.turns + sum_by bytes_in (replies_of client r ++ x ∷ []) + one_if (is_some (waits_on client lines (replies_of client r ++ x ∷ [])) || r.has_ended)
+          go le again (inl paid) = omega (arith, le, paid, ready, more_bytes, or_more (is_some (waits_on client lines (replies_of client r ++ x ∷ []))) r.has_ended)
+          go le again (inr unended) =
+              omega (
+                arith,
+                waiting (waits_on client lines (replies_of client r ++ x ∷ [])) (again unended.0),
+                ready,
+                more_bytes,
+                ap one_if unended.1,
+                or_first (is_some (waits_on client lines (replies_of client r ++ x ∷ []))) r.has_ended unended.1,
+              )
 
     my_calls : length (replies_of client r ++ x ∷ []) ≤ 33 * length (commands_of client lines) + r.turns + sum_by bytes_in (replies_of client r ++ x ∷ []) + 2
     my_calls =
         let there = some_of (progress client lines (replies_of client r)).standing e stands in
         omega (arith, length-append (replies_of client r) (x ∷ []), few client lines (replies_of client r) there.0 there.1, ready, more_bytes, one_ended r.has_ended) where
-      one_ended : (b : Bool) → one_if b ≤ 1
-      one_ended true = omega arith
-      one_ended false = omega arith
+          one_ended : (b : Bool) → one_if b ≤ 1
+          one_ended true = omega arith
+          one_ended false = omega arith
 
     abbrev after : Run
     after = with_call client x ds d r

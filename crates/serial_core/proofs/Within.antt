@@ -78,8 +78,8 @@ module _ (lines : List Line) (packets : List (List ℕ)) where
       let bytes : sum_by bytes_by (slice_set r.demux e.node m) + bytes_by r.dvr ≡ bytes_by_all r + bytes_in x =
       omega (arith, sum_by-set bytes_by r.demux e.node m (uncalled e.node) within, bytes_same (client + 1) (call_of e.want r.moment) x (history_of n)) in
       paid_with lines packets client x e (slice_set r.demux e.node m) r.dvr r p ready stands (demux_answers r.has_ended r.first n (client + 1) r.moment e.want brought)
-          (length-set r.demux e.node m ∙ p.nodes)
-          (All-set (Brought r.first r.has_ended) r.demux e.node m (client_brought demux r.first r.has_ended (history_of n) (client + 1) r.moment e.want brought) p.demux) p.dvr bytes
+      (length-set r.demux e.node m ∙ p.nodes)
+      (All-set (Brought r.first r.has_ended) r.demux e.node m (client_brought demux r.first r.has_ended (history_of n) (client + 1) r.moment e.want brought) p.demux) p.dvr bytes
 
   called_dvr : (client : ℕ) (r : Run) (e : Event) → IsPaid lines packets r → IsReady lines packets client r → next_event client lines (replies_of client r) ≡ Some e
       → IsPaid lines packets (record r {
@@ -90,8 +90,8 @@ module _ (lines : List Line) (packets : List (List ℕ)) where
       let x : Response = answer dvr (history_of r.dvr) (client + 1) (call_of e.want r.moment) in
       let m : Node = answered dvr (client + 1) e.step (call_of e.want r.moment) r.dvr in
       paid_with lines packets client x e r.demux m r p ready stands (dvr_answers r.has_ended r.first r.dvr (client + 1) r.moment e.want p.dvr) p.nodes p.demux
-          (client_brought dvr r.first r.has_ended (history_of r.dvr) (client + 1) r.moment e.want p.dvr)
-          (omega (arith, bytes_same (client + 1) (call_of e.want r.moment) x (history_of r.dvr)))
+      (client_brought dvr r.first r.has_ended (history_of r.dvr) (client + 1) r.moment e.want p.dvr)
+      (omega (arith, bytes_same (client + 1) (call_of e.want r.moment) x (history_of r.dvr)))
 
   paid_called : (client : ℕ) (r : Run) (e : Event) → IsPaid lines packets r → IsReady lines packets client r → next_event client lines (replies_of client r) ≡ Some e → IsPaid lines packets (called client e r)
   paid_called client r e p ready stands = go (nat_lt e.node DEMUX_NODES) refl where
