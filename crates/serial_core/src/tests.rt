@@ -33,8 +33,12 @@ fn four_packets(alloc: Global) -> Result<Vec<u8>, Fail> {
 }
 
 // What the script leaves over this stream; the reads of these numbers fail.
-fn ran(alloc: Global, script: &str, stream: Vec<u8>, fails: &[u64]) -> Result<Ran, Fail> {
-    let script = match Script::read(alloc, script.as_bytes()) {
+fn left_by(alloc: Global, script: &str, stream: Vec<u8>, fails: &[u64]) -> Result<Ran, Fail> {
+    let bytes = script.as_bytes();
+    if bytes.len() > 1000 {
+        return Err(Fail::from("a long script"));
+    }
+    let script = match Script::read(alloc, bytes) {
         Ok(script) => script,
         Err(_) => return Err(Fail::from("no script")),
     };
@@ -66,12 +70,13 @@ fn is_data(entry: &Entry, want: &[u8]) -> bool {
 fn an_overflow_is_told_before_later_bytes(rt: HostRuntime) -> Result<(), Fail> {
     let alloc = rt.alloc();
     let stream = four_packets(alloc)?;
-    let fourth = stream[564..752].to_vec(alloc)?;
+    let mut fourth = Vec::new(alloc);
+    add_packet(&mut fourth, 0, 3)?;
     // A buffer of 377 bytes has room for two packets.
     let script =
         "c0 open n0\nc0 size n0 377\nc0 pes n0 256 frontend tsdemux_tap 20 0\nc0 start n0\nfeed 3\n\
         c0 read n0 188\nfeed 1\nc0 read n0 188\nstream\n";
-    let ran = ran(alloc, script, stream, &[])?;
+    let ran = left_by(alloc, script, stream, &[])?;
     match replies(&ran, 0, 4) {
         [lost, read] => {
             let told = match lost.reply {
@@ -102,7 +107,7 @@ fn taps_record_for_the_dvr_node(rt: HostRuntime) -> Result<(), Fail> {
     let script =
         "c0 open dvr\nc0 open n0\nc0 open n1\nc0 pes n0 256 frontend ts_tap 20 0\nc0 pes n1 8192 frontend ts_tap 20 0\n\
         c0 start n0\nc0 start n1\nfeed 2\nc0 stop n0\nfeed 1\nc0 read dvr 65536\nstream\n";
-    let ran = ran(alloc, script, stream, &[])?;
+    let ran = left_by(alloc, script, stream, &[])?;
     // On the dvr node stand Open, two times Attach, Detach and the read.
     match replies(&ran, 32, 0) {
         [.., read] => assert!(rt; is_data(read, &all)),
