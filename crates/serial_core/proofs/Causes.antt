@@ -36,9 +36,13 @@ end_by b old new x y l m f going is stopped few unfailed = f.ends going (ended_b
 -- so many reads were made
 pub reads_by : (lines : List Line) (x y : Option (List ℕ)) (l n turns : ℕ) (old new : Pulling) (packets : List (List ℕ)) → Draws x y l n old new packets
     → turns ≡ 4294967296 → 4294967296 ≤ new.start + new.taken → OfStream x y old (IsTooLong lines old.start turns)
-reads_by lines x y l n turns old new packets draws is many = (draws.carries.more, draws.carries.consumes, λ ahead pulls.
-    let p : Pulls ahead ([] ++ draws.carries.more) ([] ++ packets) new = draws.carries.pulls ahead [] [] pulls in
-    inl (is, omega (arith, many, draws.start, p.size)))
+reads_by lines x y l n turns old new packets draws is many = (
+  draws.carries.more,
+  draws.carries.consumes,
+  λ ahead pulls.
+      let p : Pulls ahead ([] ++ draws.carries.more) ([] ++ packets) new = draws.carries.pulls ahead [] [] pulls in
+      inl (is, omega (arith, many, draws.start, p.size)),
+)
 
 pub calls_by : (lines : List Line) (x y : Option (List ℕ)) (start turns : ℕ) (old : Pulling) (Q : List ℕ → List ℕ → Type 0) → ((ahead taken : List ℕ) → Q ahead taken → IsTooLong lines start turns ahead taken)
     → OfStream x y old Q → OfStream x y old (IsTooLong lines start turns)

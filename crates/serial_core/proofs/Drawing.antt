@@ -53,8 +53,8 @@ moves_then x y z l m n a b c G H K both g h = record {
   at = λ ahead taken given later r pulls stops at left.
       let more = g.draws.carries.pulls ahead taken given pulls in
       let first = g.at ahead taken given (h.packets ++ later) r pulls
-          (λ done. let k = h.done ahead (taken ++ g.draws.carries.more) (given ++ g.packets) more done in ap (λ ps. ps ++ later) k.1 ∙ stops k.0)
-          at (left ∙ append_assoc g.packets h.packets later) in
+      (λ done. let k = h.done ahead (taken ++ g.draws.carries.more) (given ++ g.packets) more done in ap (λ ps. ps ++ later) k.1 ∙ stops k.0)
+      at (left ∙ append_assoc g.packets h.packets later) in
       let next = h.at ahead (taken ++ g.draws.carries.more) (given ++ g.packets) later first.0 more stops first.2 first.3 in
       (next.0, both r first.0 next.0 first.1 next.1, next.2, next.3);
   done = λ ahead taken given pulls done.

@@ -81,7 +81,7 @@ all_woven v r at over legal =
     let count : length r.demux ≡ DEMUX_NODES = sym (length_map (λ n. n.number) r.demux) ∙ (ap length legal.numbers ∙ length-range_with_len 0 DEMUX_NODES) in
     let numbers : map (λ n. n.number) r.demux ≡ range_with_len 0 (length r.demux) = legal.numbers ∙ ap (range_with_len 0) (sym count) in
     let own : map (λ calls. map told_entry calls) (map (λ seat. seat.entries.items) v.demux.items ++ v.dvr.entries.items ∷ [])
-        ≡ map (λ seat. map told_entry seat.entries.items) v.demux.items ++ map told_entry v.dvr.entries.items ∷ [] =
+    ≡ map (λ seat. map told_entry seat.entries.items) v.demux.items ++ map told_entry v.dvr.entries.items ∷ [] =
     map-append (λ calls. map told_entry calls) (map (λ seat. seat.entries.items) v.demux.items) (v.dvr.entries.items ∷ [])
     ∙ ap (λ l. l ++ map told_entry v.dvr.entries.items ∷ []) (map_map (λ calls. map told_entry calls) (λ seat. seat.entries.items) v.demux.items) in
     let last : woven (0 + length r.demux) acts (map told_entry v.dvr.entries.items) ≡ (log_of r.dvr).entries =
@@ -130,35 +130,43 @@ module _ (lines : List Line) (batch : ℕ) (x y : Option (List ℕ)) (l n : ℕ)
       → ((ls : List Line) (r : Run) → AreAfter ls r next → map (λ those. those.items) ran.outcomes.items ≡ map (λ client. outcomes client ls (replies_of client r)) (range_with_len 0 (length next)))
       → ((ahead taken : List ℕ) (given : List (List ℕ)) → Pulls ahead taken given new.puller → told_head ran.head ≡ head_of (ahead ++ taken) ran.head.read_fault)
       → OfStream x y old.puller (λ ahead taken. IsRanOf lines batch (ahead ++ taken) ran)
-  ran_is next ran count moves done over histories outs head = (moves.draws.carries.more, moves.draws.carries.consumes, λ ahead pulls.
-      let taken = moves.draws.carries.more in
-      let ps = moves.packets in
-      let p : Pulls ahead taken ps new.puller = moves.draws.carries.pulls ahead [] [] pulls in
-      let all : (cut (ahead ++ taken)).packets ≡ ps = (Pulls-done ahead taken ps new.puller p done).packets in
-      let k = moves.at ahead [] [] [] (begun ps) pulls (λ is. refl) (begun_at old ps begins) (sym (append-nil ps)) in
-      let w = k.1 refl (fresh_after lines ps cores fresh) in
-      let serial : IsSerialRun lines batch ps k.0 = (w.before, w.done, w.ends) in
-      record {
-        run = k.0;
-        serial = subst (λ qs. IsSerialRun lines batch qs k.0) (sym all) serial;
-        histories = histories k.0 k.2.nodes (serial_legal lines batch ps k.0 serial);
-        outcomes = outs lines k.0 w.after ∙ ap (λ m. map (λ client. outcomes client lines (replies_of client k.0)) (range_with_len 0 m)) (count ∙ fresh.count);
-        head = head ahead taken ps p;
-      })
+  ran_is next ran count moves done over histories outs head = (
+    moves.draws.carries.more,
+    moves.draws.carries.consumes,
+    λ ahead pulls.
+        let taken = moves.draws.carries.more in
+        let ps = moves.packets in
+        let p : Pulls ahead taken ps new.puller = moves.draws.carries.pulls ahead [] [] pulls in
+        let all : (cut (ahead ++ taken)).packets ≡ ps = (Pulls-done ahead taken ps new.puller p done).packets in
+        let k = moves.at ahead [] [] [] (begun ps) pulls (λ is. refl) (begun_at old ps begins) (sym (append-nil ps)) in
+        let w = k.1 refl (fresh_after lines ps cores fresh) in
+        let serial : IsSerialRun lines batch ps k.0 = (w.before, w.done, w.ends) in
+        record {
+          run = k.0;
+          serial = subst (λ qs. IsSerialRun lines batch qs k.0) (sym all) serial;
+          histories = histories k.0 k.2.nodes (serial_legal lines batch ps k.0 serial);
+          outcomes = outs lines k.0 w.after ∙ ap (λ m. map (λ client. outcomes client lines (replies_of client k.0)) (range_with_len 0 m)) (count ∙ fresh.count);
+          head = head ahead taken ps p;
+        },
+  )
 
   pub overrun_is : Moves x y l n old new (λ r s. length r.replies ≡ 8 → AreAfter lines r cores → Overruns lines r s)
       → OfStream x y old.puller (λ ahead taken. 549755813888 ≤ most_calls (all_commands lines) (length ahead + length taken))
-  overrun_is moves = (moves.draws.carries.more, moves.draws.carries.consumes, λ ahead pulls.
-      let taken = moves.draws.carries.more in
-      let ps = moves.packets in
-      let p : Pulls ahead taken ps new.puller = moves.draws.carries.pulls ahead [] [] pulls in
-      let front = Pulls-front ahead taken ps new.puller p in
-      let packets : All IsPacket ps = All-take_front ps front.0 (subst (λ qs. All IsPacket qs) front.1 (are_packets (ahead ++ taken))) in
-      let k = moves.at ahead [] [] [] (begun ps) pulls (λ is. refl) (begun_at old ps begins) (sym (append-nil ps)) in
-      let o = k.1 refl (fresh_after lines ps cores fresh) in
-      let paid = o.paid ps (paid_begun lines ps packets) in
-      let few = within lines ps k.0 o.client (all_commands lines) (length ahead + length taken) paid (own_commands o.client lines) (Pulls-size ahead taken ps new.puller p) in
-      omega (arith, few, o.calls))
-      where
-        All-take_front : (xs ys : List (List ℕ)) → All IsPacket (xs ++ ys) → All IsPacket xs
-        All-take_front xs ys all k d lt = subst IsPacket (get_or_append_left xs ys d k lt) (all k d (omega (arith, lt, length-append xs ys)))
+  overrun_is moves = (
+    moves.draws.carries.more,
+    moves.draws.carries.consumes,
+    λ ahead pulls.
+        let taken = moves.draws.carries.more in
+        let ps = moves.packets in
+        let p : Pulls ahead taken ps new.puller = moves.draws.carries.pulls ahead [] [] pulls in
+        let front = Pulls-front ahead taken ps new.puller p in
+        let packets : All IsPacket ps = All-take_front ps front.0 (subst (λ qs. All IsPacket qs) front.1 (are_packets (ahead ++ taken))) in
+        let k = moves.at ahead [] [] [] (begun ps) pulls (λ is. refl) (begun_at old ps begins) (sym (append-nil ps)) in
+        let o = k.1 refl (fresh_after lines ps cores fresh) in
+        let paid = o.paid ps (paid_begun lines ps packets) in
+        let few = within lines ps k.0 o.client (all_commands lines) (length ahead + length taken) paid (own_commands o.client lines) (Pulls-size ahead taken ps new.puller p) in
+        omega (arith, few, o.calls),
+  )
+    where
+      All-take_front : (xs ys : List (List ℕ)) → All IsPacket (xs ++ ys) → All IsPacket xs
+      All-take_front xs ys all k d lt = subst IsPacket (get_or_append_left xs ys d k lt) (all k d (omega (arith, lt, length-append xs ys)))

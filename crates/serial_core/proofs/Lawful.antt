@@ -70,6 +70,7 @@ made_legal : (client : ℕ) (e : Event) (r : Run) → AreLegal r → AreLegal (m
 made_legal client e r legal = go (nat_lt e.node DEMUX_NODES) where
   one : Node
   one = answered rules.demux (client + 1) e.step (call_of e.want r.moment) (demux_node e.node r)
+
   on_demux : AreLegal (record r { demux = set r.demux e.node one })
   on_demux = record {
     numbers = map-set_same (λ n. n.number) r.demux e.node one (uncalled e.node) refl ∙ legal.numbers;
@@ -77,8 +78,10 @@ made_legal client e r legal = go (nat_lt e.node DEMUX_NODES) where
     demux = All-set IsLegalNode r.demux e.node one (one_legal e.node e.node r.demux legal.demux, inl refl) legal.demux;
     dvr = legal.dvr;
   }
+
   on_dvr : AreLegal (record r { dvr = answered rules.dvr (client + 1) e.step (call_of e.want r.moment) r.dvr })
   on_dvr = record { numbers = legal.numbers; dvr_number = legal.dvr_number; demux = legal.demux; dvr = (legal.dvr, inl refl) }
+
   go : (b : Bool) → AreLegal (if b then record r { demux = set r.demux e.node one } else record r { dvr = answered rules.dvr (client + 1) e.step (call_of e.want r.moment) r.dvr })
   go true = on_demux
   go false = on_dvr

@@ -113,6 +113,7 @@ module _ (packets : List (List ℕ)) where
   made_passing client e r at = go (nat_lt e.node DEMUX_NODES) where
     none : brought (call_of e.want r.moment) ≡ []
     none = call_none e.want r.moment
+
     go : (b : Bool) → IsPassing packets (if b then record r { demux = set r.demux e.node (answered rules.demux (client + 1) e.step (call_of e.want r.moment) (demux_node e.node r)) } else record r { dvr = answered rules.dvr (client + 1) e.step (call_of e.want r.moment) r.dvr })
     go true = demux_passing e.node (client + 1) e.step (call_of e.want r.moment) r none at
     go false = dvr_passing (client + 1) e.step (call_of e.want r.moment) r none at

@@ -83,7 +83,7 @@ module _ {Core : Type 0} (stands : Core → History → Type 0) (rules : Rules) 
       woven-fed n.number acts (map told_entry old.entries.items) (act_of c) (subst (λ es. AreInPlace 0 es) (sym at.log) (log_in_place n.number n.calls))
       ∙ ap (λ es. es ++ feeder_entry n.number (length es) (length acts) (act_of c) ∷ []) at.log in
       let said : feeder_entry n.number (length all) (length acts) (act_of c)
-          ≡ record { node = (log_of n).node; place = length all; step = length acts; who = 0; act = act_of c; response = answer rules (history_of n) 0 c } =
+      ≡ record { node = (log_of n).node; place = length all; step = length acts; who = 0; act = act_of c; response = answer rules (history_of n) 0 c } =
       same_entry _ _ (sym (log_node n.number n.calls)) refl refl refl refl (sym (is_passed rules (history_of n) 0 c feeding)) in
       record {
         core = core;

@@ -32,8 +32,7 @@ turn_passed old new most n ps later r count some few short goes given moment sto
     let k : IsNodes new.nodes (fed_to_all (Pass Frontend r.first (take (length ps) r.left) r.moment) r) =
     subst (λ f. IsNodes new.nodes (fed_to_all (Pass Frontend f (take (length ps) r.left) r.moment) r)) at.first
     (subst (λ m. IsNodes new.nodes (fed_to_all (Pass Frontend old.puller.given (take (length ps) r.left) m) r)) at.moment
-    (subst (λ p. IsNodes new.nodes (fed_to_all (Pass Frontend old.puller.given p old.moment) r)) (sym front) (goes r at.nodes))) in
-    (
+    (subst (λ p. IsNodes new.nodes (fed_to_all (Pass Frontend old.puller.given p old.moment) r)) (sym front) (goes r at.nodes))) in (
       passed r (length ps),
       (ap (passed r) size ∙ sym (turned_some most r (omega arith)), count ∙ size),
       record {
@@ -51,8 +50,7 @@ pub turn_ended : (old new : Runner) (most : ℕ) (later : List (List ℕ)) (r : 
     → (s : Run) × ((s ≡ turned most r) × (0 ≡ min most (length r.left))) × IsAt new s × (s.left ≡ later)
 turn_ended old new most later r done goes given moment stops at left =
     let none : length r.left ≡ 0 = ap length left ∙ ap length (stops done) in
-    let k = goes r at.nodes in
-    (
+    let k = goes r at.nodes in (
       ended r,
       (sym (turned_none most r none), omega arith),
       record {
@@ -67,11 +65,13 @@ turn_ended old new most later r done goes given moment stops at left =
         go : (b : Bool) → (if b then r else record (fed_to_all End r) { has_ended = true }).first ≡ r.first
         go true = refl
         go false = refl
+
       ended_moment : (r : Run) → (ended r).moment ≡ r.moment
       ended_moment r = go r.has_ended where
         go : (b : Bool) → (if b then r else record (fed_to_all End r) { has_ended = true }).moment ≡ r.moment
         go true = refl
         go false = refl
+
       ended_left : (r : Run) → (ended r).left ≡ r.left
       ended_left r = go r.has_ended where
         go : (b : Bool) → (if b then r else record (fed_to_all End r) { has_ended = true }).left ≡ r.left

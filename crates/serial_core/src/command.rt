@@ -67,7 +67,7 @@ impl Runner {
         requires taken { core.old.step < 2 ^ 46 }
         ensures moves { OnOk result (Moves (S.left source.old) (S.left source.new) (S.faults source.old) (S.faults source.new) self.old self.new
             (λ r s. (lines : List ScriptLine) → IsAfter client lines (replies_of client r) core.old → (s ≡ called client event (after_waiting lines batch client r))
-                × IsAfter client lines (replies_of client r ++ reply_to client event (after_waiting lines batch client r) ∷ []) core.new)) }
+            × IsAfter client lines (replies_of client r ++ reply_to client event (after_waiting lines batch client r) ∷ []) core.new)) }
         ensures draws { OnErr result ((packets : List (List ℕ)) × Draws (S.left source.old) (S.left source.new) (S.faults source.old) (S.faults source.new) self.old.puller self.new.puller packets) }
         ensures sound { OnOk result (IsSound self.new) }
         ensures moment { OnOk result (self.new.moment ≡ self.old.moment) }

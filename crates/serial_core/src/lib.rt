@@ -1,8 +1,32 @@
-//! The serial run.
+//! The run of a script on one thread: its lines done in their order on 32 demux nodes and the dvr node, over a stream that is
+//! pulled as it is wanted.
+//!
+//! A line `feed` passes its packets through all nodes in batches, a line `tick` lets time go by, and a command is done to its
+//! end. Where a client waits, the feeder has a turn before the read is repeated: a batch passes, or the end of the stream.
+//! After the last line the rest of the stream passes, and then its end, once.
+//!
+//! What a contract sees: the serial run (`specs/SerialRun.antt`) as a relation between a script, the size of a batch, the
+//! packets of a stream and a `Run`. It runs no node: each reply in it is the answer that the history of its node gives, and
+//! each call of a client is the one that `client_core` names by the replies before. Of a script and a stream there is one run
+//! at most (`the_serial_run_is_one`).
+//!
+//! What is proved: `run_steps` gives the histories, the outcomes and the head of the serial run of the stream, which is what
+//! stood ahead in the puller and the bytes that were taken; the source failed just where its count rose, and else it has
+//! nothing left. `TooLong` comes only where so many reads were made, or where the commands and the bytes allow a client so
+//! many calls. Where the run stops early, what was taken of the source is told as the puller's pulls tell it. Laws of each
+//! serial run: its 33 histories are legal, every packet passes each node once and in order, and no client makes more calls
+//! than its commands and the bytes allow. Worked runs are computed by the check.
+//!
+//! What is only tested: that memory isn't refused where there is enough of it.
+//!
+//! Only the clients' entries are kept node by node. The feeder's passes, which are the same on each, are kept once a batch.
+//!
+//! The order of the lines and the moments are this project's own; what a node answers is `dmx_calls`', and the cutting of the
+//! stream is `ts_packet`'s.
 #![tactic(auto)]
 
 mod command;
-mod examples;
+pub mod examples;
 mod laws;
 mod line;
 mod node;

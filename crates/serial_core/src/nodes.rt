@@ -63,7 +63,7 @@ fn pass_demux<L: Ledger>(
     requires few { AreUnder seats.old (2 ^ 50 - 1) }
     ensures at { OnOk result ((acts : List ToldAct) (ns : List RunNode) → Pairs (IsDemux acts) seats.old ns
         → Pairs (IsDemux (acts ++ PassAct Frontend batch.value.first (length batch.value.packets) now ∷ [])) seats.new
-            (map (answered rules.demux 0 (length acts) (asks.Pass Frontend batch.value.first batch.value.packets now)) ns)) }
+        (map (answered rules.demux 0 (length acts) (asks.Pass Frontend batch.value.first batch.value.packets now)) ns)) }
     ensures rises { OnOk result ((most : ℕ) → AreUnder seats.old most → AreUnder seats.new (most + 1)) }
     ensures back { IfOk result (λ back. back.value ≡ batch.value) }
 {

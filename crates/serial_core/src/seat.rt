@@ -129,7 +129,7 @@ impl<M: Node> Seat<M> {
         requires few { M.calls self.old.core < 2 ^ 50 }
         ensures at { OnOk result ((acts : List ToldAct) (n : RunNode) → IsSeat M.stands acts self.old n
             → IsSeat M.stands (acts ++ PassAct Frontend batch.value.first (length batch.value.packets) now ∷ []) self.new
-                (answered M.rules 0 (length acts) (asks.Pass Frontend batch.value.first batch.value.packets now) n)) }
+            (answered M.rules 0 (length acts) (asks.Pass Frontend batch.value.first batch.value.packets now) n)) }
         ensures rises { M.calls self.new.core ≡ M.calls self.old.core + 1 }
         ensures back { IfOk result (λ back. back.value ≡ batch.value) }
     {

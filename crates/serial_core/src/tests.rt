@@ -33,8 +33,12 @@ fn four_packets(alloc: Global) -> Result<Vec<u8>, Fail> {
 }
 
 // What the script leaves over this stream; the reads of these numbers fail.
-fn ran(alloc: Global, script: &str, stream: Vec<u8>, fails: &[u64]) -> Result<Ran, Fail> {
-    let script = match Script::read(alloc, script.as_bytes()) {
+fn left_by(alloc: Global, script: &str, stream: Vec<u8>, fails: &[u64]) -> Result<Ran, Fail> {
+    let bytes = script.as_bytes();
+    if bytes.len() > 1000 {
+        return Err(Fail::from("a long script"));
+    }
+    let script = match Script::read(alloc, bytes) {
         Ok(script) => script,
         Err(_) => return Err(Fail::from("no script")),
     };
@@ -66,15 +70,23 @@ fn is_data(entry: &Entry, want: &[u8]) -> bool {
 fn an_overflow_is_told_before_later_bytes(rt: HostRuntime) -> Result<(), Fail> {
     let alloc = rt.alloc();
     let stream = four_packets(alloc)?;
-    let fourth = stream[564..752].to_vec(alloc)?;
+    let mut fourth = Vec::new(alloc);
+    add_packet(&mut fourth, 0, 3)?;
     // A buffer of 377 bytes has room for two packets.
-    let script = "c0 open n0\nc0 size n0 377\nc0 pes n0 256 frontend tsdemux_tap 20 0\nc0 start n0\nfeed 3\n\
+    let script =
+        "c0 open n0\nc0 size n0 377\nc0 pes n0 256 frontend tsdemux_tap 20 0\nc0 start n0\nfeed 3\n\
         c0 read n0 188\nfeed 1\nc0 read n0 188\nstream\n";
-    let ran = ran(alloc, script, stream, &[])?;
+    let ran = left_by(alloc, script, stream, &[])?;
     match replies(&ran, 0, 4) {
         [lost, read] => {
             let told = match lost.reply {
-                Reply::Overflow { from, to, item, need, room } => (from, to, item, need, room),
+                Reply::Overflow {
+                    from,
+                    to,
+                    item,
+                    need,
+                    room,
+                } => (from, to, item, need, room),
                 _ => (0, 0, 0, 0, 0),
             };
             assert_eq!(rt; told, (0, 564, 2, 188, 0));
@@ -92,9 +104,10 @@ fn taps_record_for_the_dvr_node(rt: HostRuntime) -> Result<(), Fail> {
     let alloc = rt.alloc();
     let stream = three_packets(alloc)?;
     let all = stream.to_vec(alloc)?;
-    let script = "c0 open dvr\nc0 open n0\nc0 open n1\nc0 pes n0 256 frontend ts_tap 20 0\nc0 pes n1 8192 frontend ts_tap 20 0\n\
+    let script =
+        "c0 open dvr\nc0 open n0\nc0 open n1\nc0 pes n0 256 frontend ts_tap 20 0\nc0 pes n1 8192 frontend ts_tap 20 0\n\
         c0 start n0\nc0 start n1\nfeed 2\nc0 stop n0\nfeed 1\nc0 read dvr 65536\nstream\n";
-    let ran = ran(alloc, script, stream, &[])?;
+    let ran = left_by(alloc, script, stream, &[])?;
     // On the dvr node stand Open, two times Attach, Detach and the read.
     match replies(&ran, 32, 0) {
         [.., read] => assert!(rt; is_data(read, &all)),
@@ -108,7 +121,12 @@ fn taps_record_for_the_dvr_node(rt: HostRuntime) -> Result<(), Fail> {
 fn a_failed_read_ends_the_stream(rt: HostRuntime) -> Result<(), Fail> {
     let alloc = rt.alloc();
     // The first read gives two packets, and the second fails.
-    let ran = ran(alloc, "c0 drain h0 4\nfeed 3\nc1 open h0\nstream\n", three_packets(alloc)?, &[1])?;
+    let ran = ran(
+        alloc,
+        "c0 drain h0 4\nfeed 3\nc1 open h0\nstream\n",
+        three_packets(alloc)?,
+        &[1],
+    )?;
     assert!(rt; ran.head.read_fault);
     assert_eq!(rt; ran.head.tally.packets, 2);
     let (feeding, _) = ran.histories.node(7);

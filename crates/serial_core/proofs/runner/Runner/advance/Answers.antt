@@ -19,8 +19,8 @@ returns-clause-moves g c =
     let k = c.in_ok-call.ensures in
     moves_then _ _ _ _ _ _ _ _ _ _ _ _
     (λ (r s t : Run) (a : (who : ℕ) (lines : List Line) → IsAfter who lines (replies_of who r) old → s ≡ after_waiting lines batch who r) (b : (t ≡ called client e s) × P s) (lines : List Line) (after : IsAfter client lines (replies_of client r) old).
-        let w = a client lines after in
-        (b.0 ∙ ap (called client e) w, subst (λ x. IsAfter client lines (replies_of client r ++ reply_to client e x ∷ []) new) w (b.1 lines (replies_of client r) after)))
+    let w = a client lines after in
+    (b.0 ∙ ap (called client e) w, subst (λ x. IsAfter client lines (replies_of client r ++ reply_to client e x ∷ []) new) w (b.1 lines (replies_of client r) after)))
     c.in_ok-wait.ensures.moves
     (moves_called _ _ c.wait.new.self c.call.new.self client e P k.at (λ r moment at lines replies after. k.core r lines replies moment at after))
 

@@ -28,11 +28,11 @@ calls-preserved g c =
     record {
       moves = moves_then _ _ _ _ _ _ _ _ _ _ _ _
           (λ (r s t : Run) (a : ComesBy batch client line c.args.core.now core r s)
-              (b : (lines : List Line) → IsAfter client lines (replies_of client s) core → (t ≡ called client e (after_waiting lines batch client s)) × IsAfter client lines (replies_of client s ++ reply_to client e (after_waiting lines batch client s) ∷ []) next)
-              (lines : List Line) (clients : length r.replies ≡ 8) (after : IsAfter client lines (replies_of client r) c.args.core.now).
-              let come = a lines clients after in
-              let n = b lines come.after in
-              comes_on lines batch client line r s t core next e c.requires.some c.requires.client come (sym (c.next_at.ensures.tied client lines _ come.after) ∙ c.in-Some.is) n.0 n.1)
+          (b : (lines : List Line) → IsAfter client lines (replies_of client s) core → (t ≡ called client e (after_waiting lines batch client s)) × IsAfter client lines (replies_of client s ++ reply_to client e (after_waiting lines batch client s) ∷ []) next)
+          (lines : List Line) (clients : length r.replies ≡ 8) (after : IsAfter client lines (replies_of client r) c.args.core.now).
+          let come = a lines clients after in
+          let n = b lines come.after in
+          comes_on lines batch client line r s t core next e c.requires.some c.requires.client come (sym (c.next_at.ensures.tied client lines _ come.after) ∙ c.in-Some.is) n.0 n.1)
           c.calls.invariant.moves k.moves;
       sound = k.sound;
       moment = k.moment ∙ c.calls.invariant.moment;
@@ -50,9 +50,9 @@ pub returns-clause-moves : goal.returns-clause-moves
 returns-clause-moves g c =
     moves_by _ _ _ _ _ _ _ _
     (λ (r s : Run) (a : ComesBy c.args.batch c.args.client c.args.line c.args.core.now c.calls.core r s)
-        (lines : List Line) (clients : length r.replies ≡ 8) (after : IsAfter c.args.client lines (replies_of c.args.client r) c.args.core.now).
-        let come = a lines clients after in
-        (come, sym (c.next_at.ensures.tied c.args.client lines _ come.after) ∙ none_by c.next_at.result c.in_default.not-Some))
+    (lines : List Line) (clients : length r.replies ≡ 8) (after : IsAfter c.args.client lines (replies_of c.args.client r) c.args.core.now).
+    let come = a lines clients after in
+    (come, sym (c.next_at.ensures.tied c.args.client lines _ come.after) ∙ none_by c.next_at.result c.in_default.not-Some))
     c.calls.invariant.moves
 
 pub returns-in_err-advance-clause-draws : goal.returns-in_err-advance-clause-draws

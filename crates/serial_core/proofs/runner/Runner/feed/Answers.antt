@@ -28,9 +28,9 @@ returns-then-passed-eq0-clause-moves g c =
     let more : 0 < left = omega arith in
     moves_then _ _ _ _ _ _ _ _ _ _ _ _
     (λ (r s t : Run) (a : fed batch c.args.count r ≡ fed batch left s) (b : (t ≡ turned c.min.result s) × (c.in_ok-passed.passed ≡ min c.min.result (length s.left))).
-        let some : 0 < batch = omega (arith, c.requires.some) in
-        let empty : length s.left ≡ 0 = omega (arith, b.1, q, none, more, some) in
-        b.0 ∙ (sym (fed_end batch c.min.result left s some more empty) ∙ sym a))
+    let some : 0 < batch = omega (arith, c.requires.some) in
+    let empty : length s.left ≡ 0 = omega (arith, b.1, q, none, more, some) in
+    b.0 ∙ (sym (fed_end batch c.min.result left s some more empty) ∙ sym a))
     c.turns.invariant.moves c.in_ok-passed.ensures.moves
 
 pub returns-then-passed-eq0-clause-made : goal.returns-then-passed-eq0-clause-made
@@ -46,8 +46,8 @@ turns-preserved g c =
     record {
       moves = moves_then _ _ _ _ _ _ _ _ _ _ _ _
           (λ (r s t : Run) (a : fed batch c.args.count r ≡ fed batch left s) (b : (t ≡ turned c.min.result s) × (n ≡ min c.min.result (length s.left))).
-              a ∙ (fed_step batch left n s (omega (arith, c.requires.some)) more (b.1 ∙ ap (λ m. min m (length s.left)) q) (omega arith)
-              ∙ ap (fed batch (left - n)) (ap (λ m. turned m s) (sym q) ∙ sym b.0)))
+          a ∙ (fed_step batch left n s (omega (arith, c.requires.some)) more (b.1 ∙ ap (λ m. min m (length s.left)) q) (omega arith)
+          ∙ ap (fed batch (left - n)) (ap (λ m. turned m s) (sym q) ∙ sym b.0)))
           c.turns.invariant.moves c.in_ok-passed.ensures.moves;
       sound = c.in_ok-passed.ensures.sound;
       moment = c.in_ok-passed.ensures.moment ∙ c.turns.invariant.moment;

@@ -28,7 +28,7 @@ turns-preserved g c =
     record {
       moves = moves_then _ _ _ _ _ _ _ _ _ _ _ _
           (λ (r s t : Run) (a : (lines : List Line) → finished lines batch r ≡ finished lines batch s) (b : (t ≡ turned batch s) × (n ≡ min batch (length s.left))) (lines : List Line).
-              a lines ∙ (finished_step lines batch n s (omega (arith, c.requires.some)) b.1 here ∙ ap (finished lines batch) (sym b.0)))
+          a lines ∙ (finished_step lines batch n s (omega (arith, c.requires.some)) b.1 here ∙ ap (finished lines batch) (sym b.0)))
           c.turns.invariant.moves c.in_ok-turn.ensures.moves;
       sound = c.in_ok-turn.ensures.sound;
       made = λ calls made. c.in_ok-turn.ensures.made calls (c.turns.invariant.made calls made);
@@ -41,6 +41,6 @@ returns-clause-moves g c =
     let none : n ≡ 0 = omega arith in
     moves_then _ _ _ _ _ _ _ _ _ _ _ _
     (λ (r s t : Run) (a : (lines : List Line) → finished lines batch r ≡ finished lines batch s) (b : (t ≡ turned batch s) × (n ≡ min batch (length s.left))) (lines : List Line).
-        let some : 0 < batch = omega (arith, c.requires.some) in
-        b.0 ∙ (sym (finished_end lines batch s some (omega (arith, b.1, none, some))) ∙ sym (a lines)))
+    let some : 0 < batch = omega (arith, c.requires.some) in
+    b.0 ∙ (sym (finished_end lines batch s some (omega (arith, b.1, none, some))) ∙ sym (a lines)))
     c.turns.invariant.moves c.in_ok-turn.ensures.moves

@@ -45,7 +45,7 @@ returns-in_ok-command-in-Command-clause-moves g c =
     rw c.in-Command.is
     (moves_by _ _ _ _ _ _ _ _
     (λ (r s : Run) (a : IsDoneBy c.args.batch client c.in-Command.line (get_or cores client core) c.command.new.core r s).
-        command_done c.args.batch c.in-Command.line client c.in-Command.target c.in-Command.verb cores (get_or cores client core) c.command.new.core r s (omega (arith, there)) (ap (get_or cores client) c.index-cores-client.is) a)
+    command_done c.args.batch c.in-Command.line client c.in-Command.target c.in-Command.verb cores (get_or cores client core) c.command.new.core r s (omega (arith, there)) (ap (get_or cores client) c.index-cores-client.is) a)
     c.in_ok-command-in-Command.ensures.moves)
 
 pub returns-in_ok-command-in-Command-clause-made : goal.returns-in_ok-command-in-Command-clause-made
@@ -71,6 +71,6 @@ returns-in_err-command-in-Command-clause-too_long g c turns is =
       k.0,
       moves_by _ _ _ _ _ _ _ _
           (λ (r s : Run) (a : ComesBy c.args.batch client c.in-Command.line (get_or cores client core) c.command.new.core r s).
-              overruns c.args.batch c.in-Command.line client cores (get_or cores client core) c.command.new.core r s (omega (arith, there)) (ap (get_or cores client) c.index-cores-client.is) k.1 a)
+          overruns c.args.batch c.in-Command.line client cores (get_or cores client core) c.command.new.core r s (omega (arith, there)) (ap (get_or cores client) c.index-cores-client.is) k.1 a)
           k.2,
     )

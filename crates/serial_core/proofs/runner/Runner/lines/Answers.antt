@@ -35,7 +35,7 @@ returns-in_err-line-clause-too_long g c turns is =
       k.0,
       moves_then _ _ _ _ _ _ _ _ _ _ _ _
           (λ (r s t : Run) (a : IsFrontBy c.args.batch c.args.lines.now c.lines.line-index c.args.cores.now c.lines.cores r s) (b : OverrunsBy c.lines.cores s t).
-              front_overruns c.args.batch c.lines.line-index c.args.lines.now c.args.cores.now c.lines.cores r s t a b)
+          front_overruns c.args.batch c.lines.line-index c.args.lines.now c.args.cores.now c.lines.cores r s t a b)
           c.lines.invariant.moves k.1,
     )
 
@@ -49,7 +49,7 @@ lines-preserved g c =
     record {
       moves = moves_then _ _ _ _ _ _ _ _ _ _ _ _
           (λ (r s t : Run) (a : IsFrontBy c.args.batch lines i c.args.cores.now c.lines.cores r s) (b : IsLineBy c.args.batch _ c.lines.cores c.line.new.cores s t).
-              front_more c.args.batch i lines (drop (i + 1) lines) _ c.args.cores.now c.lines.cores c.line.new.cores r s t here refl a b)
+          front_more c.args.batch i lines (drop (i + 1) lines) _ c.args.cores.now c.lines.cores c.line.new.cores r s t here refl a b)
           c.lines.invariant.moves k.moves;
       sound = k.sound;
       made = k.made;

@@ -36,4 +36,4 @@ returns-in_ok-pass-in-Some-clause-moves g c =
       done = λ ahead taken before pulls done.
           let none = none_given _ _ old.puller c.pull.new.self ps stream c.in_ok-batch.ensures.stopped done ahead taken before pulls in
           absurd (let long : length ps ≡ 0 = ap length none in omega (arith, some, long));
-        }
+    }

@@ -11,7 +11,7 @@ pub returns-clause-moves : goal.returns-clause-moves
 returns-clause-moves g c =
     moves_then _ _ _ _ _ _ _ _ _ _ _ _
     (λ (r s t : Run) (a : IsFrontBy c.args.batch c.args.lines.now (length c.args.lines.now) c.args.cores.now c.lines.new.cores r s) (b : (lines : List Line) → t ≡ finished lines c.args.batch s).
-        whole_by c.args.batch c.args.lines.now c.args.cores.now c.lines.new.cores r s t a b)
+    whole_by c.args.batch c.args.lines.now c.args.cores.now c.lines.new.cores r s t a b)
     c.in_ok-lines.ensures.moves c.in_ok-finish.ensures.moves
 
 pub finish-requires-clause-faults : goal.finish-requires-clause-faults
