@@ -6,7 +6,6 @@ pub mod Examples
 pub mod Standing
 pub mod Moving
 pub mod Budget
-pub mod Whole
 pub mod Lines
 pub mod Ran
 pub mod Runs
