@@ -140,3 +140,18 @@ module _ (s : Selecting) (packets : List (List ℕ)) (i : ℕ) (within : i < len
   items-skip =
       sym (ap (items_found s) (drop_more packets i [] within)
       ∙ ap₂ (λ r x. r ++ items_found x (drop (i + 1) packets)) (ap (λ x. x.ready) quiet ∙ given) as-before)
+
+-- ------ no packet is named
+
+module _ (s : Selecting) (given : s.ready ≡ []) where
+  pub none-kept : (packets : List (List ℕ)) → ((i : ℕ) → i < length packets → after_offer s (get_or packets i []) ≡ s) → kept_after s packets ≡ s
+  unfolding kept_after
+  none-kept [] quiet = refl
+  none-kept (p ∷ ps) quiet = ap (λ x. kept_after x ps) (ap all_given (quiet 0 (omega arith)) ∙ all-given s given) ∙ none-kept ps (λ i l. quiet (suc i) (omega arith))
+
+  pub none-found : (packets : List (List ℕ)) → ((i : ℕ) → i < length packets → after_offer s (get_or packets i []) ≡ s) → items_found s packets ≡ []
+  unfolding items_found
+  none-found [] quiet = refl
+  none-found (p ∷ ps) quiet =
+      ap₂ (λ r x. r ++ items_found x ps) (ap (λ x. x.ready) (quiet 0 (omega arith)) ∙ given) (ap all_given (quiet 0 (omega arith)) ∙ all-given s given)
+      ∙ none-found ps (λ i l. quiet (suc i) (omega arith))

@@ -93,6 +93,9 @@ pub fn offer_all<L: Ledger>(
     ensures cost { steps.new ≤ steps.old + count_by (is_named (pids_of params.now)) batch.now.packets }
 {
     let places = named_places(params, batch);
+    if places.is_empty() {
+        return;
+    }
     for i in 0..batch.count() {
         if places.has(i) {
             offer(selector, buffer, by_section, batch.packet(i, steps));

@@ -5,9 +5,9 @@ use Rattle.std.proofs.lemmas.List.Sums.{count_by_more_yes, count_by_more_no}
 use Rattle.std.proofs.lemmas.Option.{slice_get_cases, unwrap_or-slice_get}
 use Rattle.dmx_calls.specs.Calls.{pids_of}
 use Rattle.dmx_calls.specs.Items.{is_named}
-use Rattle.item_select.specs.Selecting.{kept_after, section_pid}
+use Rattle.item_select.specs.Selecting.{after_offer, items_found, kept_after, section_pid}
 use Rattle.node_buffer.specs.Capturing.{with_items}
-use Rattle.node_core.proofs.Looking.{unnamed, assembled, kept-skip, items-skip}
+use Rattle.node_core.proofs.Looking.{unnamed, assembled, kept-skip, items-skip, none-kept, none-found}
 use Rattle.node_core.proofs.Offered.{kept-next, items-next, none-left}
 use Rattle.node_core.proofs.offer.offer_all.Goals.{then-has, else-has}
 use Rattle.node_core.proofs.offer.offer_all.Goals as goal
@@ -82,3 +82,24 @@ pub returns-clause-cost : goal.returns-clause-cost
 returns-clause-cost g c =
     let whole = take_all c.loop-i.i c.args.batch.now.packets (omega arith) in
     rw whole at c.loop-i.invariant.cost
+
+pub returns-then-is_empty-clause-selector : goal.returns-then-is_empty-clause-selector
+returns-then-is_empty-clause-selector g c =
+    let s = c.args.selector.now in
+    let packets = c.args.batch.now.packets in
+    let quiet : (i : ℕ) → i < length packets → after_offer s (get_or packets i []) ≡ s =
+    λ i l. unnamed s c.requires.given c.requires.pid c.requires.sections (get_or packets i []) c.args.params.now c.requires.filter c.requires.names
+    (sym (c.named_places-places.ensures i (get_or packets i []) (at-index packets i [] l)) ∙ c.is_empty.ensures (search rules) i) in
+    sym (none-kept s c.requires.given packets quiet)
+
+pub returns-then-is_empty-clause-buffer : goal.returns-then-is_empty-clause-buffer
+unfolding items_found
+returns-then-is_empty-clause-buffer g c =
+    let s = c.args.selector.now in
+    let packets = c.args.batch.now.packets in
+    let quiet : (i : ℕ) → i < length packets → after_offer s (get_or packets i []) ≡ s =
+    λ i l. unnamed s c.requires.given c.requires.pid c.requires.sections (get_or packets i []) c.args.params.now c.requires.filter c.requires.names
+    (sym (c.named_places-places.ensures i (get_or packets i []) (at-index packets i [] l)) ∙ c.is_empty.ensures (search rules) i) in
+    ap (λ o. record { size = c.args.buffer.now.size; ledger = o })
+    (none-left c.args.by_section (c.args.buffer.now.size - 1) s c.args.buffer.now.ledger
+    ∙ ap (λ r. option_map (λ x. with_items c.args.by_section (c.args.buffer.now.size - 1) x r) c.args.buffer.now.ledger) (sym (none-found s c.requires.given packets quiet)))
