@@ -1,13 +1,12 @@
 -- Laws of heads.
 use Rattle.std.specs.Prelude.{if◌then◌else◌, nat_lt}
-use Rattle.std.proofs.Common.{◌≡◌, ℕ, ◌+◌, ◌<◌, ◌≤◌, Bool, true, false, List, [], ◌∷◌, ◌++◌, length, refl, sym, ◌∙◌, arith, suc, add-one}
+use Rattle.std.proofs.Common.{◌≡◌, ℕ, ◌+◌, ◌<◌, ◌≤◌, Bool, true, false, List, [], ◌∷◌, ◌++◌, refl, arith, suc, add-one}
 use Rattle.std.proofs.lemmas.Bool.Decides.{nat_tests}
 use Rattle.ts_packet.specs.Cut.{Cut, cut}
 use Rattle.ts_packet.specs.Cutting.{IsTally}
 use Rattle.ts_packet.specs.Counts.{counts}
 use Rattle.ts_packet.specs.declared.cutter.Tally.{Tally}
 use Rattle.dmx_calls.specs.declared.head.Head.{Head}
-use Rattle.dmx_calls.specs.declared.head.PidRow.{PidRow}
 use Rattle.dmx_calls.specs.Head.{told_head, tally_of, pid_row, rows_below, head_of}
 
 rows-by : (n : ℕ) (packets : List (List ℕ)) (b : Bool) → nat_lt 0 (counts packets n).packets ≡ b → rows_below (suc n) packets ≡ (if b then rows_below n packets ++ (n, pid_row packets n) ∷ [] else rows_below n packets)

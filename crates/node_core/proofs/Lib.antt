@@ -1,4 +1,5 @@
 pub mod WholeSections
+pub mod Looking
 pub mod Offered
 pub mod Expiries
 pub mod Offerings

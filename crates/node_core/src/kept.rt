@@ -16,6 +16,7 @@ ghost use Rattle.dmx_calls.specs.Calls.{invocation_of, response_of, params_of, p
 ghost use Rattle.dmx_calls.specs.Back.{BackOfRead};
 ghost use Rattle.item_select.specs.Selecting.{begun as begun_selecting};
 ghost use Rattle.node_core.specs.Offers.{choice_of, names_of};
+ghost use Rattle.node_core.specs.Looks.{named_packets};
 ghost use Rattle.node_core.specs.Sound.{IsSound};
 ghost use Rattle.node_core.specs.Gives.{Gives};
 ghost use Rattle.node_buffer.specs.Capturing.{begun};
@@ -361,14 +362,14 @@ impl Kept {
         }
     }
 
-    /// A batch passes. The filter may expire first; where it then still runs and takes this input, its packets are looked at.
+    /// A batch passes. The filter may expire first; where it then still runs and takes this input, the packets that its PIDs name are looked at.
     pub fn pass<L: Ledger>(&mut self, input: Input, batch: &Batch, now: u64, steps: &mut Steps<L>)
         requires sound { IsSound (knows_of self.old) }
         requires bytes { bytes_in (knows_of self.old) + 12032 < 2 ^ 64 }
         ensures after { knows_of self.new ≡ next (knows_of self.old) 0 (Pass input batch.now.first batch.now.packets now) Passed }
         ensures sound { IsSound (knows_of self.new) }
         ensures bytes { bytes_in (knows_of self.new) ≤ bytes_in (knows_of self.old) + 12032 }
-        ensures cost { steps.new ≤ steps.old + length batch.now.packets }
+        ensures cost { steps.new ≤ steps.old + named_packets (knows_of self.old).facts (Pass input batch.now.first batch.now.packets now) }
         ensures idle { state_of (knows_of self.old).facts ≢ State.Go → steps.new ≡ steps.old }
     {
         if let Some(tenure) = &mut self.tenure {
@@ -379,6 +380,7 @@ impl Kept {
                     offer_all(
                         &mut tenure.selector,
                         &mut tenure.buffer,
+                        &tenure.params,
                         by_section,
                         batch,
                         steps,

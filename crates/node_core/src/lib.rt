@@ -9,8 +9,8 @@
 //! node's tap at the dvr node: attach these PIDs, where a filter with DMX_OUT_TS_TAP runs after a start, a set call or a
 //! change of its PIDs; detach, where such a filter ran and no longer does. After want of memory, which only Open and SetSize
 //! to another size can answer, all is as before. `apply` hands back the buffer of a Read unless the reply holds it, and the
-//! batch of a Pass always. A Pass takes at most a step for each packet, and none where the filter doesn't run; no other call
-//! takes one. `number` and `entries` are the node's.
+//! batch of a Pass always. A Pass takes at most a step for each packet that the filter's PIDs name, and none where the filter
+//! doesn't run; no other call takes one. `number` and `entries` are the node's.
 //!
 //! What is only tested: that the rules are those meant, on replies worked by hand. What isn't proved: time. An item is
 //! copied once into the ring and once out of it, and a section once more where it is selected.

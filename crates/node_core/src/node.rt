@@ -3,7 +3,6 @@
 ghost use Rattle.std.specs.Prelude.{◌≡◌, ◌≢◌, ◌≤◌, ◌<◌, ◌+◌, ◌^◌, ◌∷◌, []};
 ghost use Rattle.dmx_calls.specs.declared.node.NodeKind.TheVariants.{Demux};
 ghost use Rattle.dmx_calls.specs.declared.limits.TheConstants.{DEMUX_NODES};
-ghost use Rattle.dmx_calls.specs.Invocation.{packets_of_call};
 ghost use Rattle.dmx_calls.specs.History.{History, entry_of};
 ghost use Rattle.dmx_calls.specs.Rules.{demux};
 ghost use Rattle.dmx_calls.specs.Facts.{state_of};
@@ -11,6 +10,7 @@ ghost use Rattle.dmx_calls.specs.Legal.{May};
 ghost use Rattle.dmx_calls.specs.Calls.{invocation_of, response_of};
 ghost use Rattle.dmx_calls.specs.Back.{GivesBack};
 ghost use Rattle.node_buffer.specs.Causes.{Causes};
+ghost use Rattle.node_core.specs.Looks.{named_packets};
 ghost use Rattle.node_core.specs.Sound.{IsSound};
 ghost use Rattle.node_core.specs.Gives.{Gives};
 ghost use Rattle.node_core.specs.Step.{next};
@@ -63,7 +63,7 @@ fn act<L: Ledger>(
     ensures back { GivesBack call result }
     ensures sound { IsSound (knows_of kept.new) }
     ensures bytes { bytes_in (knows_of kept.new) ≤ bytes_in (knows_of kept.old) + 12032 }
-    ensures cost { steps.new ≤ steps.old + packets_of_call (invocation_of call) }
+    ensures cost { steps.new ≤ steps.old + named_packets (knows_of kept.old).facts (invocation_of call) }
     ensures idle { state_of (knows_of kept.old).facts ≢ State.Go → steps.new ≡ steps.old }
 {
     if let Some(errno) = kept.refusal(who, &call) {
@@ -147,7 +147,7 @@ impl NodeCore {
         ensures back { GivesBack call result }
         ensures rises { self.new.entries ≡ self.old.entries + 1 }
         ensures number { self.new.number ≡ self.old.number }
-        ensures cost { steps.new ≤ steps.old + packets_of_call (invocation_of call) }
+        ensures cost { steps.new ≤ steps.old + named_packets self.old.facts (invocation_of call) }
         ensures idle { state_of self.old.facts ≢ State.Go → steps.new ≡ steps.old }
     {
         let answer = act(&mut self.kept, self.alloc, who, call, steps);

@@ -1,16 +1,22 @@
 // The packets of a pass: they are offered to the selector, and the items that it finds go into the buffer.
 
-ghost use Rattle.std.specs.Prelude.{[], ◌≡◌, ◌≤◌, ◌<◌, ◌+◌, ◌-◌, ◌^◌, length, option_map};
+ghost use Rattle.std.specs.Prelude.{[], ◌≡◌, ◌≤◌, ◌<◌, ◌+◌, ◌-◌, ◌^◌, ℕ, List, false, slice_get, count_by, option_map, Some};
+ghost use Rattle.ts_batch.specs.Places.{is_in};
+ghost use Rattle.dmx_calls.specs.Items.{is_named};
+ghost use Rattle.dmx_calls.specs.Calls.{params_of, pids_of};
+ghost use Rattle.node_core.specs.Offers.{choice_of, names_of};
 ghost use Rattle.ts_packet.specs.Fields.{IsPacket};
-ghost use Rattle.item_select.specs.Selecting.{after_offer, all_given, bytes_held, items_found, kept_after};
+ghost use Rattle.item_select.specs.Selecting.{after_offer, all_given, bytes_held, items_found, kept_after, section_pid};
 ghost use Rattle.node_buffer.specs.Coherent.{CoherentIn, total_of};
 ghost use Rattle.node_buffer.specs.Capturing.{with_items};
 
+use dmx_calls::Params;
 use item_select::Selector;
 use node_buffer::Buffer;
+use pid_set::Pids;
 use std::sync::ledger::Ledger;
 use steps::Steps;
-use ts_batch::Batch;
+use ts_batch::{Batch, PlaceSet};
 use ts_packet::Packet;
 
 /// A packet is offered.
@@ -32,15 +38,47 @@ fn offer(selector: &mut Selector, buffer: &mut Buffer, by_section: bool, packet:
     }
 }
 
-/// The packets of a batch are offered, each for one step. `by_section` says that the filter is one of sections.
+/// The places of the packets that a filter's PIDs name.
+fn named_places(params: &Params, batch: &Batch) -> PlaceSet
+    ensures { (i : ℕ) (packet : List ℕ) → slice_get batch.now.packets i ≡ Some packet → is_in i result ≡ is_named (pids_of params.now) packet }
+{
+    let mut places = PlaceSet::new();
+    match params {
+        Params::Empty => {}
+        Params::Section(wanted) => places.add(batch, wanted.pid),
+        Params::Pes { pids, .. } => add_all(&mut places, pids, batch),
+    }
+    places
+}
+
+/// Adds the places of the packets that these PIDs name.
+fn add_all(places: &mut PlaceSet, pids: &Pids, batch: &Batch)
+    requires { (i : ℕ) → is_in i places.old ≡ false }
+    ensures { (i : ℕ) (packet : List ℕ) → slice_get batch.now.packets i ≡ Some packet → is_in i places.new ≡ is_named pids.now packet }
+{
+    'pids: for i in 0..pids.len() {
+        match pids.get(i) {
+            Some(pid) => places.add(batch, pid),
+            None => unreachable!(),
+        }
+    }
+}
+
+/// The packets of a batch that the filter's PIDs name are offered, each for one step. `by_section` says that the filter is
+/// one of sections.
 pub fn offer_all<L: Ledger>(
     selector: &mut Selector,
     buffer: &mut Buffer,
+    params: &Params,
     by_section: bool,
     batch: &Batch,
     steps: &mut Steps<L>,
 )
+    requires filter { selector.old.choice ≡ choice_of (params_of params.now) }
+    requires names { selector.old.pids ≡ names_of (choice_of (params_of params.now)) (pids_of params.now) }
     requires given { selector.old.ready ≡ [] }
+    requires pid { selector.old.kept.pid ≡ section_pid selector.old.choice }
+    requires sections { selector.old.kept.ready ≡ [] }
     requires bytes { total_of buffer.old.ledger + bytes_held selector.old + 12032 < 2 ^ 64 }
     requires sound { CoherentIn buffer.old.ledger }
     ensures selector { selector.new ≡ kept_after selector.old batch.now.packets }
@@ -48,11 +86,19 @@ pub fn offer_all<L: Ledger>(
     ensures choice { selector.new.choice ≡ selector.old.choice }
     ensures pids { selector.new.pids ≡ selector.old.pids }
     ensures given { selector.new.ready ≡ [] }
+    ensures pid { selector.new.kept.pid ≡ section_pid selector.new.choice }
+    ensures sections { selector.new.kept.ready ≡ [] }
     ensures sound { CoherentIn buffer.new.ledger }
     ensures bytes { total_of buffer.new.ledger + bytes_held selector.new ≤ total_of buffer.old.ledger + bytes_held selector.old + 12032 }
-    ensures cost { steps.new ≤ steps.old + length batch.now.packets }
+    ensures cost { steps.new ≤ steps.old + count_by (is_named (pids_of params.now)) batch.now.packets }
 {
+    let places = named_places(params, batch);
+    if places.is_empty() {
+        return;
+    }
     for i in 0..batch.count() {
-        offer(selector, buffer, by_section, batch.packet(i, steps));
+        if places.has(i) {
+            offer(selector, buffer, by_section, batch.packet(i, steps));
+        }
     }
 }

@@ -5,13 +5,16 @@
 //! batches, which are kept once for all nodes.
 //!
 //! What is proved: each node has just the entries that the logs have on it, each as often as there, and their places never
-//! fall (`AreByPlace`). A contract sees the histories whole, with the feeder's calls at all other places.
+//! fall (`AreByPlace`). A contract sees the histories whole, with the feeder's calls at all other places. The law of `laws`:
+//! where the logs name no place twice, and none beyond the end of its history, each entry stands at the place that it names,
+//! and each history has as many entries as calls were made on its node.
 //!
 //! The cost: each log is gone through once, and a node's entries are then a row of runs, one for each client, which the
 //! stable sort finds and merges: linear in the entries for the few clients that there are. Memory is asked for the lists
 //! and for the sort's buffer.
 #![tactic(auto)]
 
+pub mod laws;
 #[cfg(test)]
 mod tests;
 

@@ -1,6 +1,8 @@
-use Rattle.std.proofs.Common.{◌≡◌, ◌≤◌, ◌+◌, ◌-◌, ◌*◌, [], drop}
-use Rattle.std.specs.Prelude.{option_map}
-use Rattle.item_select.specs.Selecting.{bytes_held, items_found, kept_after}
+use Rattle.std.proofs.Common.{◌≡◌, ◌≤◌, ◌+◌, ◌-◌, ◌*◌, [], drop, take}
+use Rattle.std.specs.Prelude.{option_map, count_by}
+use Rattle.dmx_calls.specs.Calls.{pids_of}
+use Rattle.dmx_calls.specs.Items.{is_named}
+use Rattle.item_select.specs.Selecting.{bytes_held, items_found, kept_after, section_pid}
 use Rattle.node_buffer.specs.Coherent.{CoherentIn, total_of}
 use Rattle.node_buffer.specs.Capturing.{with_items}
 use Rattle.node_core.proofs.offer.offer_all.Given as goal
@@ -17,5 +19,7 @@ invariant-loop-i g l = record {
       ≡ option_map (λ x. with_items l.by_section (l.fn.buffer.size - 1) x (items_found l.fn.selector l.batch.packets)) l.fn.buffer.ledger;
   sound : CoherentIn l.buffer.ledger;
   bytes : total_of l.buffer.ledger + bytes_held l.selector ≤ total_of l.fn.buffer.ledger + bytes_held l.fn.selector + 188 * l.i;
-  cost : l.steps ≤ l.fn.steps + l.i;
+  pid : l.selector.kept.pid ≡ section_pid l.selector.choice;
+  sections : l.selector.kept.ready ≡ [];
+  cost : l.steps ≤ l.fn.steps + count_by (is_named (pids_of l.params)) (take l.i l.batch.packets);
 }

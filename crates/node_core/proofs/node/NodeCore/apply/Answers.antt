@@ -23,3 +23,6 @@ returns-clause-causes g c =
     let after : CoreValue = record { number = c.self.inside.number; entries = c.self.inside.entries + 1; facts = k'.facts; selecting = k'.selecting } in
     rw (← c.self.view_is) (causes_of before after c.args.who (invocation_of c.args.call) (response_of c.act-answer.result.reply)
     c.self.invariant.sound c.act-answer.ensures.said c.act-answer.ensures.after)
+
+pub returns-clause-cost : goal.returns-clause-cost
+returns-clause-cost g c = rw (← c.self.view_is) c.act-answer.ensures.cost
