@@ -1,19 +1,12 @@
 -- What a call of the program does: by its words, by what source and sink tell before and after, and by its status.
-use Rattle.std.specs.Prelude.{◌≡◌, ◌↔◌, ◌⊎◌, ⊥, ℕ, ◌<◌, ◌≤◌, Bool, true, false, List, length, take, Option, Some, None, Result, Ok, Err, MatchOption, MatchResult, IfSome}
-use Rattle.std.specs.Io.KnownBytes.{Appends, Consumes, Keeps, IsAtEnd}
+use Rattle.std.specs.Prelude.{◌≡◌, ◌↔◌, ◌⊎◌, ⊥, ℕ, ◌<◌, Bool, true, false, List, length, take, Option, Some, None, Result, Ok, Err, IfSome}
+use Rattle.std.specs.Io.KnownBytes.{Appends, Keeps}
 use Rattle.emu_io.specs.Causes.{Rose}
-use Rattle.ts_packet.specs.Cut.{cut}
-use Rattle.dmx_calls.specs.Head.{head_of}
 use Rattle.client_script.specs.declared.line.Line.{Line}
 use Rattle.client_script.specs.declared.fault.ScriptFault.{ScriptFault}
 use Rattle.client_script.specs.Script.{split, grammar}
-use Rattle.client_core.specs.Budget.{most_calls}
-use Rattle.serial_core.specs.Budget.{all_commands}
-use Rattle.serial_core.specs.SerialRun.{Run, IsSerialRun}
-use Rattle.serial_core.specs.Ran.{histories_in, outcomes_in}
-use Rattle.serial_core.specs.Whole.{IsWhole}
-use Rattle.report_text.specs.Report.{report_of}
 use Rattle.emu_top.specs.Words.{meant}
+use Rattle.emu_top.specs.Session.{Makes, GivesUp, HasFault, FailsEarly}
 use Rattle.emu_top.specs.declared.status.Status.{Status}
 use Rattle.emu_top.specs.declared.status.Status.TheVariants.{Usage, Script, TooLong, ReadFault, WriteFault, NoMemory, Ok as Done}
 
@@ -25,21 +18,6 @@ pub record Outside : Type 0 where
   pub written : Option (List ℕ)
   pub write_faults : ℕ
 
--- ------ a session
-
--- These bytes of a session have a whole script without a fault, and the text is the report of the serial run of its lines
--- over the packets of the stream behind it, in batches of this size. `failed`: reading failed behind the last byte. The
--- serial run is a run: 33 legal histories which every packet passes once, in which each client did just what its commands ask.
-pub record IsOutput (batch : ℕ) (bytes : List ℕ) (failed : Bool) (text : List ℕ) : Type 0 where
-  pub lines : List Line
-  pub stream : List ℕ
-  pub run : Run
-  pub script : grammar (split bytes).script ≡ Ok lines
-  pub behind : (split bytes).stream ≡ Some stream
-  pub serial : IsSerialRun lines batch (cut stream).packets run
-  pub report : text ≡ report_of (head_of stream failed) (outcomes_in lines run) (histories_in run)
-  pub whole : IsWhole lines batch (cut stream).packets run
-
 -- ------ what is read and written
 
 abbrev pub NoReadFails : Outside → Outside → Type 0
@@ -47,10 +25,6 @@ NoReadFails before after = after.read_faults ≡ before.read_faults
 
 abbrev pub NoWriteFails : Outside → Outside → Type 0
 NoWriteFails before after = after.write_faults ≡ before.write_faults
-
--- these bytes were taken from the source
-abbrev pub Takes : Outside → Outside → List ℕ → Type 0
-Takes before after bytes = Consumes before.left after.left bytes
 
 -- these bytes came behind those that were written
 abbrev pub Writes : Outside → Outside → List ℕ → Type 0
@@ -62,60 +36,31 @@ WritesNothing before after = Keeps before.written after.written × NoWriteFails 
 abbrev pub ReadsNothing : Outside → Outside → Type 0
 ReadsNothing before after = Keeps before.left after.left × NoReadFails before after
 
--- whether reading failed, or the source has nothing left
-abbrev pub ReadsTo : (failed : Bool) → Outside → Outside → Type 0
-ReadsTo true before after = Rose before.read_faults after.read_faults
-ReadsTo false before after = NoReadFails before after × IsAtEnd after.left
-
 -- ------ what each status says
+
+-- In batches of this size the bytes that were taken have this output.
+abbrev pub MakesOutput : (batch : ℕ) → Outside → Outside → (failed : Bool) → (text : List ℕ) → Type 0
+MakesOutput batch before after failed text = Makes batch before.left after.left before.read_faults after.read_faults failed text
 
 -- The input was read to its end, and the whole output for it was written.
 pub record IsDone (batch : ℕ) (before after : Outside) : Type 0 where
-  pub bytes : List ℕ
   pub text : List ℕ
-  pub taken : Takes before after bytes
-  pub reads : ReadsTo false before after
-  pub output : IsOutput batch bytes false text
+  pub made : MakesOutput batch before after false text
   pub written : Writes before after text
   pub writes : NoWriteFails before after
 
--- The script of the input has this fault. Nothing was written.
-pub record IsFaulty (fault : ScriptFault) (before after : Outside) : Type 0 where
-  pub reads : NoReadFails before after
-  pub fault : IfSome before.left (λ input. grammar (split input).script ≡ Err fault)
-  pub nothing : WritesNothing before after
-
--- The run of a script without a fault was given up: so many reads were made, each of which took a byte, or its commands and
--- the bytes of the stream allow a client so many calls. Nothing was written.
-pub record IsGivenUp (turns : ℕ) (before after : Outside) : Type 0 where
-  pub bytes : List ℕ
-  pub lines : List Line
-  pub stream : List ℕ
-  pub taken : Takes before after bytes
-  pub script : grammar (split bytes).script ≡ Ok lines
-  pub behind : (split bytes).stream ≡ Some stream
-  pub cause : ((turns ≡ 4294967296) × (turns ≤ length bytes))
-      ⊎ ((turns ≡ 549755813888) × (turns ≤ most_calls (all_commands lines) (length stream)))
-  pub nothing : WritesNothing before after
-
 -- A read failed. Where a whole script was read before, the report over the bytes that were taken was written; else nothing.
-pub record HasReadFault (batch : ℕ) (before after : Outside) : Type 0 where
-  pub bytes : List ℕ
-  pub taken : Takes before after bytes
-  pub rose : Rose before.read_faults after.read_faults
-  pub written : MatchOption (split bytes).stream (Keeps before.written after.written)
-      (λ stream. (text : List ℕ) × IsOutput batch bytes true text × Writes before after text)
-  pub writes : NoWriteFails before after
+abbrev pub HasReadFault : (batch : ℕ) → (before after : Outside) → Type 0
+HasReadFault batch before after = NoWriteFails before after
+    × (((text : List ℕ) × MakesOutput batch before after true text × Writes before after text)
+    ⊎ (FailsEarly before.left after.left before.read_faults after.read_faults × Keeps before.written after.written))
 
 -- A write failed. A part of the output was written, from its front on.
 pub record HasWriteFault (batch : ℕ) (before after : Outside) : Type 0 where
-  pub bytes : List ℕ
   pub text : List ℕ
   pub failed : Bool
   pub count : ℕ
-  pub taken : Takes before after bytes
-  pub reads : ReadsTo failed before after
-  pub output : IsOutput batch bytes failed text
+  pub made : MakesOutput batch before after failed text
   pub part : count < length text
   pub written : Writes before after (take count text)
   pub rose : Rose before.write_faults after.write_faults
@@ -123,8 +68,8 @@ pub record HasWriteFault (batch : ℕ) (before after : Outside) : Type 0 where
 -- what a status says of a session in batches of this size
 abbrev pub Says : (batch : ℕ) → Outside → Outside → Status → Type 0
 Says batch before after Usage = ⊥
-Says batch before after (Script line kind) = IsFaulty (record { line = line; kind = kind }) before after
-Says batch before after (TooLong turns) = IsGivenUp turns before after
+Says batch before after (Script line kind) = HasFault (record { line = line; kind = kind }) before.left before.read_faults after.read_faults × WritesNothing before after
+Says batch before after (TooLong turns) = GivesUp before.left after.left turns × WritesNothing before after
 Says batch before after ReadFault = HasReadFault batch before after
 Says batch before after WriteFault = HasWriteFault batch before after
 Says batch before after NoMemory = WritesNothing before after

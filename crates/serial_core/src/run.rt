@@ -115,6 +115,7 @@ fn run_over<S: Source, L: Ledger>(
     requires faults { S.faults source.old < 2 ^ 64 - 1 }
     ensures ran { IfOk result (λ ran. OfStream (S.left source.old) (S.left source.new) runner.puller (λ ahead taken. IsRanOf script.now batch (ahead ++ taken) ran)) }
     ensures rose { IfOk result (λ ran. IsTrue ran.head.read_fault ↔ (S.faults source.old < S.faults source.new)) }
+    ensures later { IfOk result (λ _. S.faults source.old ≤ S.faults source.new) }
     ensures end { IfOk result (λ ran. ran.head.read_fault ≡ false → IsAtEnd (S.left source.new)) }
     ensures too_long { (turns : ℕ) → IsErrOf result (Stop.TooLong turns) → OfStream (S.left source.old) (S.left source.new) runner.puller (IsTooLong script.now runner.puller.start turns) }
     ensures draws { OnErr result ((packets : List (List ℕ)) × ((last : Pulling) × Draws (S.left source.old) (S.left source.new) (S.faults source.old) (S.faults source.new) runner.puller last packets)) }
@@ -145,6 +146,7 @@ fn run_counted<S: Source, L: Ledger>(
     requires faults { S.faults source.old < 2 ^ 64 - 1 }
     ensures ran { IfOk result (λ ran. OfStream (S.left source.old) (S.left source.new) puller (λ ahead taken. IsRanOf script.now batch (ahead ++ taken) ran)) }
     ensures rose { IfOk result (λ ran. IsTrue ran.head.read_fault ↔ (S.faults source.old < S.faults source.new)) }
+    ensures later { IfOk result (λ _. S.faults source.old ≤ S.faults source.new) }
     ensures end { IfOk result (λ ran. ran.head.read_fault ≡ false → IsAtEnd (S.left source.new)) }
     ensures too_long { (turns : ℕ) → IsErrOf result (Stop.TooLong turns) → OfStream (S.left source.old) (S.left source.new) puller (IsTooLong script.now puller.start turns) }
     ensures draws { OnErr result ((packets : List (List ℕ)) × ((last : Pulling) × Draws (S.left source.old) (S.left source.new) (S.faults source.old) (S.faults source.new) puller last packets)) }
@@ -191,6 +193,7 @@ pub fn run_steps<S: Source>(
     ensures ran { IfOk result (λ ran. OfStream (S.left source.old) (S.left source.new) puller (λ ahead taken. IsRanOf script.now batch (ahead ++ taken) ran)) }
     // The source failed exactly where its count rose; else it has nothing left.
     ensures rose { IfOk result (λ ran. IsTrue ran.head.read_fault ↔ (S.faults source.old < S.faults source.new)) }
+    ensures later { IfOk result (λ _. S.faults source.old ≤ S.faults source.new) }
     ensures end { IfOk result (λ ran. ran.head.read_fault ≡ false → IsAtEnd (S.left source.new)) }
     ensures too_long { (turns : ℕ) → IsErrOf result (Stop.TooLong turns) → OfStream (S.left source.old) (S.left source.new) puller (IsTooLong script.now puller.start turns) }
     // What was taken of the source where the run stopped, as the puller's pulls tell it.

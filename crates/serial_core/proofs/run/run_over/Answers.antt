@@ -81,3 +81,11 @@ whole-requires-clause-client g c = rw (c.lines.ensures.lines, c.requires.fresh.c
 
 pub whole-requires-clause-calls : goal.whole-requires-clause-calls
 whole-requires-clause-calls g c k d lt = let none = c.requires.fresh.fresh k d lt in omega (arith, none)
+
+pub returns-in-Ok-clause-later : goal.returns-in-Ok-clause-later
+returns-in-Ok-clause-later g c =
+    let w = c.in-Ok.ensures in
+    ok_by c.ran_of.result _ _ _ _
+    (λ (ran : Ran) (a : ran.head.read_fault ≡ has_failed c.whole.new.self.puller.reading) (b : ran.head.read_fault ≡ has_failed c.whole.new.self.puller.reading) (h : ran.head.read_fault ≡ has_failed c.whole.new.self.puller.reading).
+    w.moves.draws.follows.later)
+    c.ran_of.ensures.fault c.ran_of.ensures.fault c.ran_of.ensures.fault

@@ -1,0 +1,109 @@
+-- What is read of a session, and what is to be written for it.
+use Rattle.std.specs.Prelude.{◌≡◌, ◌⊎◌, ⊥, ⊤, ℕ, ◌≤◌, ◌++◌, Bool, true, false, List, [], length, Option, Some, None, Result, Ok, Err, IfSome}
+use Rattle.std.specs.Io.KnownBytes.{Consumes, IsAtEnd}
+use Rattle.emu_io.specs.Causes.{Rose}
+use Rattle.ts_packet.specs.Cut.{cut}
+use Rattle.dmx_calls.specs.Head.{head_of}
+use Rattle.client_script.specs.declared.line.Line.{Line}
+use Rattle.client_script.specs.declared.fault.ScriptFault.{ScriptFault}
+use Rattle.client_script.specs.declared.fault.ScriptError.{ScriptError}
+use Rattle.client_script.specs.declared.fault.ScriptError.TheVariants.{Fault, NoMemory as NoMemoryToRead}
+use Rattle.client_script.specs.Script.{split, grammar, most_bytes, IsScript}
+use Rattle.client_core.specs.declared.stop.Stop.{Stop}
+use Rattle.client_core.specs.declared.stop.Stop.TheVariants.{NoMemory as NoMemoryToRun, TooLong as RunTooLong}
+use Rattle.client_core.specs.Budget.{most_calls}
+use Rattle.feed_pull.specs.Pulling.{Pulling, Pulls}
+use Rattle.serial_core.specs.Budget.{all_commands}
+use Rattle.serial_core.specs.SerialRun.{Run, IsSerialRun}
+use Rattle.serial_core.specs.Ran.{histories_in, outcomes_in}
+use Rattle.serial_core.specs.Runs.{IsAccountedRun}
+use Rattle.report_text.specs.Report.{report_of}
+use Rattle.emu_top.specs.declared.status.Status.{Status}
+use Rattle.emu_top.specs.declared.status.Status.TheVariants.{Usage, Script, TooLong, ReadFault, WriteFault, NoMemory, Ok as Done}
+
+-- These bytes of a session have a whole script without a fault, and the text is the report of the serial run of its lines
+-- over the packets of the stream behind it, in batches of this size. `failed`: reading failed behind the last byte. The
+-- serial run is a run: 33 legal histories, which every packet passes once, in which each client did just what its commands
+-- ask; and each history is accounted.
+pub record IsOutput (batch : ℕ) (bytes : List ℕ) (failed : Bool) (text : List ℕ) : Type 0 where
+  pub lines : List Line
+  pub stream : List ℕ
+  pub run : Run
+  pub script : grammar (split bytes).script ≡ Ok lines
+  pub behind : (split bytes).stream ≡ Some stream
+  pub serial : IsSerialRun lines batch (cut stream).packets run
+  pub report : text ≡ report_of (head_of stream failed) (outcomes_in lines run) (histories_in run)
+  pub whole : IsAccountedRun lines batch (cut stream).packets run
+
+-- ------ In what follows a source had `content` left before and `left` after, and its count of faults was `before` and is
+-- `after`.
+
+-- whether reading failed, or nothing is left
+abbrev pub ReadsTo : (failed : Bool) → (left : Option (List ℕ)) → (before after : ℕ) → Type 0
+ReadsTo true left before after = Rose before after
+ReadsTo false left before after = (after ≡ before) × IsAtEnd left
+
+-- the bytes that were taken have this output
+pub record Makes (batch : ℕ) (content left : Option (List ℕ)) (before after : ℕ) (failed : Bool) (text : List ℕ) : Type 0 where
+  pub bytes : List ℕ
+  pub taken : Consumes content left bytes
+  pub reads : ReadsTo failed left before after
+  pub output : IsOutput batch bytes failed text
+
+-- The run of a script without a fault was given up: so many reads were made, each of which took a byte, or its commands and
+-- the bytes of the stream allow a client so many calls.
+pub record GivesUp (content left : Option (List ℕ)) (turns : ℕ) : Type 0 where
+  pub bytes : List ℕ
+  pub lines : List Line
+  pub stream : List ℕ
+  pub taken : Consumes content left bytes
+  pub script : grammar (split bytes).script ≡ Ok lines
+  pub known : IsScript lines
+  pub behind : (split bytes).stream ≡ Some stream
+  pub cause : ((turns ≡ 4294967296) × (turns ≤ length bytes))
+      ⊎ ((turns ≡ 549755813888) × (turns ≤ most_calls (all_commands lines) (length stream)))
+
+-- the script of the input has this fault
+abbrev pub HasFault : ScriptFault → (content : Option (List ℕ)) → (before after : ℕ) → Type 0
+HasFault fault content before after = (after ≡ before) × IfSome content (λ input. grammar (split input).script ≡ Err fault)
+
+-- a read failed before the line `stream` was whole
+pub record FailsEarly (content left : Option (List ℕ)) (before after : ℕ) : Type 0 where
+  pub bytes : List ℕ
+  pub taken : Consumes content left bytes
+  pub missing : (split bytes).stream ≡ None
+  pub rose : Rose before after
+
+-- why there is no output
+abbrev pub Refuses : (content left : Option (List ℕ)) → (before after : ℕ) → Status → Type 0
+Refuses content left before after (Script line kind) = HasFault (record { line = line; kind = kind }) content before after
+Refuses content left before after (TooLong turns) = GivesUp content left turns
+Refuses content left before after ReadFault = FailsEarly content left before after
+Refuses content left before after NoMemory = ⊤
+Refuses content left before after _ = ⊥
+
+-- ------ the parts
+
+abbrev pub status_of_error : ScriptError → Status
+status_of_error (Fault fault) = Script fault.line fault.kind
+status_of_error NoMemoryToRead = NoMemory
+
+abbrev pub status_of_stop : Stop → Status
+status_of_stop NoMemoryToRun = NoMemory
+status_of_stop (RunTooLong turns) = TooLong turns
+
+-- these first bytes of an input hold a script without a fault, and the puller begins with those behind its part
+pub record Holds (first : List ℕ) (lines : List Line) (puller : Pulling) : Type 0 where
+  pub part : List ℕ
+  pub ahead : List ℕ
+  pub splits : (more : List ℕ) → split (first ++ more) ≡ record { script = part; stream = Some (ahead ++ more) }
+  pub script : grammar part ≡ Ok lines
+  pub known : IsScript lines
+  pub pulls : Pulls ahead [] [] puller
+  pub reads : puller.start ≤ length first
+
+-- these first bytes of an input have no script without a fault, or memory was refused
+abbrev pub IsFaultIn : (first : List ℕ) → Status → Type 0
+IsFaultIn first (Script line kind) = grammar first ≡ Err (record { line = line; kind = kind })
+IsFaultIn first NoMemory = ⊤
+IsFaultIn first _ = ⊥

@@ -1,0 +1,128 @@
+// The output for a session.
+ghost use Rattle.std.specs.Prelude.{◌≡◌, ℕ, ◌+◌, ◌-◌, ◌^◌, ◌<◌, ◌≤◌, List, length, IfOk, IfErr, IfSome};
+ghost use Rattle.std.specs.declared.option.Option.{Option};
+ghost use Rattle.std.specs.Io.KnownBytes.{Consumes};
+ghost use Rattle.client_script.specs.Script.{script_len, whole_lines, most_bytes};
+ghost use Rattle.feed_pull.specs.declared.fault.Reading.TheVariants.{Going};
+ghost use Rattle.emu_top.specs.Session.{Holds, IsFaultIn, Makes, Refuses, status_of_error, status_of_stop};
+
+use crate::Status;
+use crate::part::{Front, PartError, read_front};
+use client_core::Stop;
+use client_script::{Script, ScriptError};
+use emu_io::Source;
+use feed_pull::Puller;
+use report_text::report;
+use serial_core::run_steps;
+use std::alloc::Global;
+
+// A script, and the stream behind it.
+#[derive(Drop)]
+pub struct Session {
+    pub script: Script,
+    pub puller: Puller,
+}
+
+// What is to be written for a session.
+#[derive(Drop)]
+pub struct Output {
+    pub text: Vec<u8>,
+    // Reading failed in the stream.
+    pub read_fault: bool,
+}
+
+// The status of a script that isn't read.
+fn status_of_script(error: ScriptError) -> Status
+    ensures { result ≡ status_of_error error }
+{
+    match error {
+        ScriptError::Fault(fault) => Status::Script {
+            line: fault.line,
+            kind: fault.kind,
+        },
+        ScriptError::NoMemory => Status::NoMemory,
+    }
+}
+
+// The status of a run that was given up.
+fn status_of_run(stop: Stop) -> Status
+    ensures { result ≡ status_of_stop stop }
+{
+    match stop {
+        Stop::NoMemory => Status::NoMemory,
+        Stop::TooLong { turns } => Status::TooLong { turns },
+    }
+}
+
+// The script of these bytes, and the stream that begins with those behind it, if they hold the whole script part.
+fn session_of(alloc: Global, front: Front) -> Result<Session, Status>
+    requires few { length front.part ≤ most_bytes }
+    requires reads { front.reads ≤ length front.part }
+    requires ahead { IfSome (script_len (whole_lines front.part)) (λ n. length front.part ≤ n + 65535) }
+    ensures begins { IfOk result (λ session. Holds front.part session.script session.puller) }
+    ensures going { IfOk result (λ session. (session.puller.reading ≡ Going) × (session.puller.given ≡ 0)) }
+    ensures fault { IfErr result (λ status. IsFaultIn front.part status) }
+{
+    let bytes = front.part.bytes();
+    let end = front.part.end().unwrap_or(bytes.len());
+    let script = match Script::read(alloc, &bytes[..end]) {
+        Ok(script) => script,
+        Err(error) => return Err(status_of_script(error)),
+    };
+    let Ok(ahead) = bytes[end..].to_vec(alloc) else {
+        return Err(Status::NoMemory);
+    };
+    match Puller::new(alloc, ahead, front.reads) {
+        Ok(puller) => Ok(Session { script, puller }),
+        Err(_) => Err(Status::NoMemory),
+    }
+}
+
+// What is to be written for a session that is begun.
+fn run_session<S: Source>(
+    alloc: Global,
+    source: &mut S,
+    session: Session,
+    batch: u32,
+) -> Result<Output, Status>
+    requires some { 1 ≤ batch }
+    requires few { batch ≤ 64 }
+    requires going { session.puller.reading ≡ Going }
+    requires fresh { session.puller.given ≡ 0 }
+    requires faults { S.faults source.old < 2 ^ 64 - 1 }
+    ensures makes { IfOk result (λ output. (content : Option (List ℕ)) (first : List ℕ) → Consumes content (S.left source.old) first → Holds first session.script session.puller
+        → Makes batch content (S.left source.new) (S.faults source.old) (S.faults source.new) output.read_fault output.text.items) }
+    ensures refuses { IfErr result (λ status. (content : Option (List ℕ)) (first : List ℕ) → Consumes content (S.left source.old) first → Holds first session.script session.puller
+        → Refuses content (S.left source.new) (S.faults source.old) (S.faults source.new) status) }
+{
+    let ran = match run_steps(alloc, &session.script, source, session.puller, batch) {
+        Ok(ran) => ran,
+        Err(stop) => return Err(status_of_run(stop)),
+    };
+    match report(alloc, &ran.head, &ran.outcomes, &ran.histories) {
+        Ok(text) => Ok(Output {
+            text,
+            read_fault: ran.head.read_fault,
+        }),
+        Err(_) => Err(Status::NoMemory),
+    }
+}
+
+// What is to be written for the session of a source, in batches of this size.
+pub fn output_of<S: Source>(alloc: Global, source: &mut S, batch: u32) -> Result<Output, Status>
+    requires some { 1 ≤ batch }
+    requires few { batch ≤ 64 }
+    requires faults { S.faults source.old < 2 ^ 64 - 1 }
+    ensures makes { IfOk result (λ output. Makes batch (S.left source.old) (S.left source.new) (S.faults source.old) (S.faults source.new) output.read_fault output.text.items) }
+    ensures refuses { IfErr result (λ status. Refuses (S.left source.old) (S.left source.new) (S.faults source.old) (S.faults source.new) status) }
+{
+    let front = match read_front(alloc, source) {
+        Ok(front) => front,
+        Err(PartError::Failed) => return Err(Status::ReadFault),
+        Err(PartError::NoMemory) => return Err(Status::NoMemory),
+    };
+    match session_of(alloc, front) {
+        Ok(session) => run_session(alloc, source, session, batch),
+        Err(status) => Err(status),
+    }
+}
