@@ -1,5 +1,5 @@
 -- What is read of a session, and what is to be written for it.
-use Rattle.std.specs.Prelude.{◌≡◌, ◌⊎◌, ⊥, ⊤, ℕ, ◌≤◌, ◌++◌, Bool, true, false, List, [], length, Option, Some, None, Result, Ok, Err, IfSome}
+use Rattle.std.specs.Prelude.{◌≡◌, ◌⊎◌, ⊤, ℕ, ◌≤◌, ◌++◌, Bool, true, false, List, [], length, Option, Some, None, Result, Ok, Err, IfSome}
 use Rattle.std.specs.Io.KnownBytes.{Consumes, IsAtEnd}
 use Rattle.emu_io.specs.Causes.{Rose}
 use Rattle.ts_packet.specs.Cut.{cut}

@@ -47,9 +47,9 @@ pub fn read_front<S: Source>(alloc: Global, source: &mut S) -> Result<Front, Par
             Err(_) => return Err(PartError::Failed),
             Ok(0) => break,
             Ok(count) => {
-                if part.add(&chunk[..count]).is_err() {
+                let Ok(()) = part.add(&chunk[..count]) else {
                     return Err(PartError::NoMemory);
-                }
+                };
                 reads += 1;
             }
         }

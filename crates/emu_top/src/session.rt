@@ -95,7 +95,8 @@ fn run_session<S: Source>(
     ensures refuses { IfErr result (λ status. (content : Option (List ℕ)) (first : List ℕ) → Consumes content (S.left source.old) first → Holds first session.script session.puller
         → Refuses content (S.left source.new) (S.faults source.old) (S.faults source.new) status) }
 {
-    let ran = match run_steps(alloc, &session.script, source, session.puller, batch) {
+    let Session { script, puller } = session;
+    let ran = match run_steps(alloc, &script, source, puller, batch) {
         Ok(ran) => ran,
         Err(stop) => return Err(status_of_run(stop)),
     };

@@ -1,0 +1,91 @@
+-- The first bytes of an input, up to and with the line `stream`.
+use Rattle.std.proofs.Common.{◌≡◌, ◌<◌, ◌≤◌, ◌+◌, ◌-◌, refl, sym, ap, ◌∙◌, ℕ, Bool, true, false, List, [], ◌∷◌, ◌++◌, length, take, drop, arith, length-append}
+use Rattle.std.proofs.lemmas.List.{take_all, length-drop}
+use Rattle.std.specs.Prelude.{Option, Some, None, IfSome, Result, Ok, Err, unwrap_or, if◌then◌else◌}
+use Rattle.std.specs.Option.{option_map}
+use Rattle.client_script.specs.Grammar.{meaning}
+use Rattle.client_script.specs.Script.{whole_lines, is_stream, script_len, grammar, lines_from, before, Parsed, most_bytes, IsScript, split}
+use Rattle.client_script.specs.declared.line.Line.{Line}
+use Rattle.client_script.specs.declared.fault.FaultKind.{FaultKind}
+use Rattle.client_script.specs.declared.fault.ScriptFault.{ScriptFault}
+use Rattle.client_script.proofs.Lengthening.{stream_ends_later}
+use Rattle.client_script.proofs.Parting.{front_of}
+use Rattle.client_script.proofs.Splitting.{split-found}
+use Rattle.feed_pull.specs.Pulling.{Pulling, Pulls}
+use Rattle.client_script.specs.declared.fault.ScriptError.{ScriptError}
+use Rattle.client_script.specs.declared.fault.ScriptError.TheVariants.{Fault, NoMemory}
+use Rattle.client_script.specs.Script.{IsRead}
+use Rattle.emu_top.specs.Session.{Holds, IsFaultIn, status_of_error}
+
+-- ------ how many bytes may stand ahead
+
+ahead_by : (xs ys : List ℕ) → script_len (whole_lines xs) ≡ None → length ys ≤ 65536 → (r : Option ℕ) → script_len (whole_lines (xs ++ ys)) ≡ r → IfSome r (λ n. length (xs ++ ys) ≤ n + 65535)
+ahead_by xs ys none short None e = tt
+ahead_by xs ys none short (Some n) e =
+    let later : length xs < n = stream_ends_later xs ys n none e in
+    let size : length (xs ++ ys) ≡ length xs + length ys = length-append xs ys in
+    omega arith
+
+-- a read behind bytes that lack the line `stream` brings at most 65,535 bytes behind it
+pub ahead_of : (xs ys : List ℕ) → script_len (whole_lines xs) ≡ None → length ys ≤ 65536 → IfSome (script_len (whole_lines (xs ++ ys))) (λ n. length (xs ++ ys) ≤ n + 65535)
+ahead_of xs ys none short = ahead_by xs ys none short (script_len (whole_lines (xs ++ ys))) refl
+
+-- ------ a script without a fault has the line `stream`
+
+parted_by : (line : List ℕ) (more : List (List ℕ)) (b : Bool) (r : Option ℕ) → is_stream line ≡ b → script_len more ≡ r → (if b then Some (length line + 1) else option_map (λ n. length line + 1 + n) r) ≡ None → (is_stream line ≡ false) × (script_len more ≡ None)
+parted_by line more true r is e none = absurd (cc)
+parted_by line more false None is e none = (is, e)
+parted_by line more false (Some m) is e none = absurd (cc)
+
+faulty_by : (k : ℕ) (m : Result (Option Line) FaultKind) (rest : Parsed) (asked : List Line) → ((ls : List Line) → rest ≡ Ok ls → ⊥) → before k m rest ≡ Ok asked → ⊥
+faulty_by k (Err kind) rest asked none e = absurd (cc)
+faulty_by k (Ok a) (Ok ls) asked none e = none ls refl
+faulty_by k (Ok a) (Err fault) asked none e = absurd (cc)
+
+faulty : (lines : List (List ℕ)) (missing : ScriptFault) (k : ℕ) (asked : List Line) → script_len lines ≡ None → lines_from missing k lines ≡ Ok asked → ⊥
+unfolding lines_from
+faulty [] missing k asked none e = absurd (cc)
+faulty (line ∷ more) missing k asked none e =
+    let o = parted_by line more (is_stream line) (script_len more) refl refl none in
+    let here : before k (meaning k line) (lines_from missing (k + 1) more) ≡ Ok asked = rw o.0 at e in
+    faulty_by k (meaning k line) (lines_from missing (k + 1) more) asked (λ ls is. faulty more missing (k + 1) ls o.1 is) here
+
+no_script : (bytes : List ℕ) (lines : List Line) → script_len (whole_lines bytes) ≡ None → grammar bytes ≡ Ok lines → ⊥
+unfolding grammar
+no_script bytes lines none e = faulty (whole_lines bytes) _ 1 lines none e
+
+-- ------ the bytes of the script part
+
+-- up to and with the line `stream`, or all of them
+abbrev pub part_of : Option ℕ → List ℕ → List ℕ
+part_of r bytes = take (unwrap_or r (length bytes)) bytes
+
+pub grammar_of_part : (bytes : List ℕ) (r : Option ℕ) → script_len (whole_lines bytes) ≡ r → grammar (part_of r bytes) ≡ grammar bytes
+grammar_of_part bytes None e = ap grammar (take_all (length bytes) bytes (omega arith))
+grammar_of_part bytes (Some n) e = (front_of bytes n e).1
+
+pub holds : (first : List ℕ) (r : Option ℕ) (lines : List Line) (puller : Pulling) → length first ≤ most_bytes → script_len (whole_lines first) ≡ r
+    → grammar (part_of r first) ≡ Ok lines → IsScript lines → Pulls (drop (unwrap_or r (length first)) first) [] [] puller → puller.start ≤ length first → Holds first lines puller
+holds first None lines puller few e script known pulls reads = absurd (no_script first lines e (sym (grammar_of_part first None e) ∙ script))
+holds first (Some n) lines puller few e script known pulls reads = record {
+  part = take n first;
+  ahead = drop n first;
+  splits = λ more. split-found first more n few e;
+  script = script;
+  known = known;
+  pulls = pulls;
+  reads = reads;
+}
+
+-- a script part that isn't read has a fault of the grammar, or memory was refused
+pub fault_is : (first : List ℕ) (r : Option ℕ) (error : ScriptError) → script_len (whole_lines first) ≡ r → IsRead (Err error) (grammar (part_of r first)) → IsFaultIn first (status_of_error error)
+fault_is first r (Fault fault) e read = sym (grammar_of_part first r e) ∙ read
+fault_is first r NoMemory e read = tt
+
+-- the bytes behind the script part are those that stand ahead in the puller
+pub pulls_ahead : (items bytes first : List ℕ) (end : ℕ) (r : Option ℕ) (p : Pulling) → Pulls items [] [] p → items ≡ take (length bytes - end) (drop end bytes) → bytes ≡ first
+    → end ≡ unwrap_or r (length bytes) → Pulls (drop (unwrap_or r (length first)) first) [] [] p
+pulls_ahead items bytes first end r p pulls is same at =
+    let all : take (length bytes - end) (drop end bytes) ≡ drop end bytes = take_all (length bytes - end) (drop end bytes) (omega (arith, length-drop end bytes)) in
+    let here : items ≡ drop end bytes = is ∙ all in
+    rw (← same, ← at, ← here) pulls
