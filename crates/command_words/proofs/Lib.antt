@@ -1,1 +1,4 @@
-pub mod Fronts
+pub mod Asked
+pub mod Clapped
+pub mod Spelled
+pub mod Walks

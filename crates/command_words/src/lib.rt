@@ -7,10 +7,13 @@
 //! What a contract sees: the words as lists of bytes. `meant` in specs/Meant.antt says which command they name, by plain
 //! cases, and knows nothing of a parser.
 //!
-//! What is proved: `read_words` answers what `meant` says, and a batch has 1 to 64 packets.
+//! What is proved: `read_words` answers what `meant` says, and a batch has 1 to 64 packets. Where memory is refused it says
+//! so, and takes no words for others. The first word is read here, and the one or two behind it by the crate `clap`: the
+//! proof walks over them by clap's own definitions of what it finds (`matches_of`) and of what it refuses (`fault_of`).
+//! Before clap sees them, the code refuses more than two words behind the first, and the word `--`, behind which clap takes
+//! no word for an option.
 //!
-//! The words are read by the code itself, since the words behind the first are two at most. `read_words` takes the
-//! allocator and may say that memory is refused, so that a parser can read them behind the same contract.
+//! What is only tested: that memory isn't refused where there is enough.
 //!
 //! The rules are this project's own.
 #![tactic(auto)]
@@ -35,37 +38,29 @@ pub enum Command {
 
 // The command of a first word and the words behind it.
 #[tactic(auto, unfolding(crate::specs::Meant::command_of))]
-fn command_by(first: &[u8], rest: &[String]) -> Option<Command>
-    ensures value { result ≡ command_of first.now (map string_bytes rest.now) }
-    ensures range { IfSome result IsInRange }
+fn command_by(alloc: Global, first: &[u8], rest: &[String]) -> Result<Option<Command>, NoMemory>
+    ensures value { IfOk result (λ command. command ≡ command_of first.now (map string_bytes rest.now)) }
+    ensures range { IfOk result (λ command. IfSome command IsInRange) }
 {
     if !is_word(first, "steps") {
-        return None;
+        return Ok(None);
     }
-    match batch_in(rest) {
-        Some(batch) => Some(Command::Steps { batch }),
-        None => None,
-    }
-}
-
-// The command of all words.
-#[tactic(auto, unfolding(crate::specs::Meant::meant))]
-fn command_in(words: &[String]) -> Option<Command>
-    ensures value { result ≡ meant (map string_bytes words.now) }
-    ensures range { IfSome result IsInRange }
-{
-    match words {
-        [first, rest @ ..] => command_by(first.as_bytes(), rest),
-        _ => None,
+    match batch_in(alloc, rest)? {
+        Some(batch) => Ok(Some(Command::Steps { batch })),
+        None => Ok(None),
     }
 }
 
 /// The command that the words behind the program's name mean; None where they are refused.
 ///
 /// Err where memory is refused. The rules are this project's own.
-pub fn read_words(_alloc: Global, words: &[String]) -> Result<Option<Command>, NoMemory>
+#[tactic(auto, unfolding(crate::specs::Meant::meant))]
+pub fn read_words(alloc: Global, words: &[String]) -> Result<Option<Command>, NoMemory>
     ensures value { IfOk result (λ command. command ≡ meant (map string_bytes words.now)) }
     ensures range { IfOk result (λ command. IfSome command IsInRange) }
 {
-    Ok(command_in(words))
+    match words {
+        [first, rest @ ..] => command_by(alloc, first.as_bytes(), rest),
+        _ => Ok(None),
+    }
 }

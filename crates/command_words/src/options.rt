@@ -1,58 +1,78 @@
-// The words behind the first one.
-ghost use Rattle.std.specs.Prelude.{◌≡◌, ◌≤◌, IfSome, map, string_bytes};
-ghost use Rattle.text_forms.specs.Numbers.{number_between as number_in_word};
-ghost use Rattle.command_words.specs.Meant.{batch_joined, batch_apart as batch_of_two, batch_of};
+// The options behind the first word, read by clap.
+ghost use Rattle.std.specs.Prelude.{◌≡◌, ◌≤◌, IfOk, IfSome, map, string_bytes, codes, option_map};
+ghost use Rattle.std.specs.Str.{bytes_eq};
+ghost use Rattle.std.specs.List.{list_any};
+ghost use Rattle.command_words.specs.Meant.{batch_of};
+ghost use Rattle.command_words.specs.Reader.{options, batch_by, answer};
+ghost use Rattle.clap.specs.Words.{app_of};
 
-use text_forms::{is_word, number_between};
+use clap::error::ErrorKind;
+use clap::{Arg, ArgAction, Command};
+use std::alloc::{AllocError as NoMemory, Global};
+use text_forms::number_between;
 
-// How many packets a batch has by its number, 1 to 64.
-fn batch_number(number: &[u8]) -> Option<u32>
-    ensures value { result ≡ number_in_word 1 64 number.now }
+// What clap reads: one option, without help, and no program's name before it.
+fn option_reader<'a>(alloc: Global) -> Result<Command<'a>, NoMemory>
+    ensures { IfOk result (λ command. app_of command ≡ options) }
+{
+    let batch = Arg::new(alloc, "batch")
+        .long("batch")
+        .action(ArgAction::Set);
+    Command::new(alloc, "dvbemu")
+        .no_binary_name(true)
+        .disable_help_flag(true)
+        .arg(batch)
+}
+
+// Whether the word `--`, behind which clap takes no word for an option, stands among these words.
+fn has_end_of_options(words: &[String]) -> bool
+    ensures { result ≡ list_any (λ word. bytes_eq (string_bytes word) (codes "--")) words.now }
+{
+    words.iter().any(|word| word.as_str() == "--")
+}
+
+// How many packets a batch has by the value of the option, 64 where it isn't given; None where it is no number from 1 to 64.
+fn batch_by_value(value: Option<&str>) -> Option<u32>
+    ensures value { result ≡ batch_by (option_map (λ text. text.now) value.entry) }
     ensures range { IfSome result (λ batch. (1 ≤ batch) × (batch ≤ 64)) }
 {
-    match number_between(1, 64, number) {
-        Some(batch) => Some(batch as u32),
-        None => None,
+    match value {
+        Some(word) => match number_between(1, 64, word.as_bytes()) {
+            Some(batch) => Some(batch as u32),
+            None => None,
+        },
+        None => Some(64),
     }
 }
 
-// How many packets a batch has by one word, `--batch=B`.
-#[tactic(auto, using(crate::proofs::Fronts::short_is_other), unfolding(crate::specs::Meant::batch_joined))]
-fn batch_by_word(word: &[u8]) -> Option<u32>
-    ensures value { result ≡ batch_joined word.now }
-    ensures range { IfSome result (λ batch. (1 ≤ batch) × (batch ≤ 64)) }
+// What clap's answer to the words behind the first comes to: None where it finds a fault. Err where memory is refused.
+fn ask(alloc: Global, rest: &[String]) -> Result<Option<u32>, NoMemory>
+    ensures value { IfOk result (λ batch. batch ≡ answer (map string_bytes rest.now)) }
+    ensures range { IfOk result (λ batch. IfSome batch (λ b. (1 ≤ b) × (b ≤ 64))) }
 {
-    if word.len() < 8 {
-        return None;
+    let reader = option_reader(alloc)?;
+    match reader.try_get_matches_from(rest) {
+        Ok(matches) => Ok(batch_by_value(matches.get_str("batch"))),
+        Err(error) => {
+            if error.kind() == ErrorKind::OutOfMemory {
+                return Err(NoMemory);
+            }
+            Ok(None)
+        }
     }
-    if is_word(&word[..8], "--batch=") {
-        return batch_number(&word[8..]);
-    }
-    None
 }
 
-// The same by two words, `--batch` and B.
-#[tactic(auto, unfolding(crate::specs::Meant::batch_apart))]
-fn batch_by_words(word: &[u8], number: &[u8]) -> Option<u32>
-    ensures value { result ≡ batch_of_two word.now number.now }
-    ensures range { IfSome result (λ batch. (1 ≤ batch) × (batch ≤ 64)) }
+// How many packets a batch has, 1 to 64, by the words behind the first; None where they are refused. Err where memory is
+// refused.
+pub fn batch_in(alloc: Global, rest: &[String]) -> Result<Option<u32>, NoMemory>
+    ensures value { IfOk result (λ batch. batch ≡ batch_of (map string_bytes rest.now)) }
+    ensures range { IfOk result (λ batch. IfSome batch (λ b. (1 ≤ b) × (b ≤ 64))) }
 {
-    if is_word(word, "--batch") {
-        return batch_number(number);
+    if rest.len() > 2 {
+        return Ok(None);
     }
-    None
-}
-
-// The same by all words behind the first; None where they are refused.
-#[tactic(auto, unfolding(crate::specs::Meant::batch_of))]
-pub fn batch_in(rest: &[String]) -> Option<u32>
-    ensures value { result ≡ batch_of (map string_bytes rest.now) }
-    ensures range { IfSome result (λ batch. (1 ≤ batch) × (batch ≤ 64)) }
-{
-    match rest {
-        [] => Some(64),
-        [word] => batch_by_word(word.as_bytes()),
-        [word, number] => batch_by_words(word.as_bytes(), number.as_bytes()),
-        _ => None,
+    if has_end_of_options(rest) {
+        return Ok(None);
     }
+    ask(alloc, rest)
 }
