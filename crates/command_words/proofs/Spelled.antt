@@ -1,5 +1,5 @@
 -- What clap makes of a word's letters: `--batch`, `--batch=` before a value, and all other words.
-use Rattle.std.proofs.Common.{◌≡◌, ◌+◌, ◌==◌, ◌&&◌, refl, ap, sym, subst, ◌∙◌, ℕ, suc, cond, List, [], ◌∷◌, ◌++◌, Bool, true, false, not, true≢false, length, take, drop, Option, Some, None, codes, arith}
+use Rattle.std.proofs.Common.{◌≡◌, ◌+◌, ◌==◌, ◌&&◌, refl, ap, sym, ◌∙◌, ℕ, suc, cond, List, [], ◌∷◌, ◌++◌, Bool, true, false, not, true≢false, length, take, drop, Option, Some, None, codes, arith}
 use Rattle.std.proofs.lemmas.List.{take-append-drop}
 use Rattle.std.proofs.lemmas.Slice.Eq.{bytes_eq-Decides}
 use Rattle.std.proofs.lemmas.Bool.{eqb-true}

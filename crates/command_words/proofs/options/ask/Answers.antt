@@ -1,4 +1,4 @@
-use Rattle.std.proofs.Common.{rules, ◌≡◌, ◌∙◌, map, string_bytes}
+use Rattle.std.proofs.Common.{rules, ◌∙◌, map, string_bytes}
 use Rattle.command_words.proofs.Asked.{by_fault, by_matches}
 use Rattle.command_words.proofs.options.ask.Goals as goal
 

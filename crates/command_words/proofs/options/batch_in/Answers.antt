@@ -1,4 +1,4 @@
-use Rattle.std.proofs.Common.{rules, ◌≡◌, ◌∙◌, map, string_bytes, arith}
+use Rattle.std.proofs.Common.{rules, ◌∙◌, string_bytes}
 use Rattle.std.proofs.lemmas.Result.{IfOk-weaker}
 use Rattle.command_words.proofs.Clapped.{clapped, dashed, many}
 use Rattle.command_words.proofs.options.batch_in.Goals as goal
