@@ -1,0 +1,4 @@
+pub mod Asked
+pub mod Clapped
+pub mod Spelled
+pub mod Walks

@@ -1,0 +1,66 @@
+//! The words of the command line: which command they name.
+//!
+//! `steps` stands alone, or before the two words `--batch` and B, or before the one word `--batch=B`. B is a number from 1 to
+//! 64 in decimal digits, without sign and without a leading zero; without `--batch` it is 64. A repeated option, the word
+//! `--`, `--help`, `-h` and all other words are refused.
+//!
+//! What a contract sees: the words as lists of bytes. `meant` in specs/Meant.antt says which command they name, by plain
+//! cases, and knows nothing of a parser.
+//!
+//! What is proved: `read_words` answers what `meant` says, and a batch has 1 to 64 packets. Where memory is refused it says
+//! so, and takes no words for others. The first word is read here, and the one or two behind it by the crate `clap`: the
+//! proof walks over them by clap's own definitions of what it finds (`matches_of`) and of what it refuses (`fault_of`).
+//! Before clap sees them, the code refuses more than two words behind the first, and the word `--`, behind which clap takes
+//! no word for an option.
+//!
+//! What is only tested: that memory isn't refused where there is enough.
+//!
+//! The rules are this project's own.
+#![tactic(auto)]
+
+ghost use Rattle.std.specs.Prelude.{◌≡◌, IfOk, IfSome, map, string_bytes};
+ghost use Rattle.command_words.specs.Meant.{IsInRange, command_of, meant};
+
+mod options;
+#[cfg(test)]
+mod tests;
+
+use options::batch_in;
+use std::alloc::{AllocError as NoMemory, Global};
+use text_forms::is_word;
+
+/// What the words of the command line ask for.
+#[derive(Clone, Copy, Debug, PartialEq, Eq, Drop)]
+pub enum Command {
+    /// A session step by step in one thread, in batches of so many packets, 1 to 64.
+    Steps { batch: u32 },
+}
+
+// The command of a first word and the words behind it.
+#[tactic(auto, unfolding(crate::specs::Meant::command_of))]
+fn command_by(alloc: Global, first: &[u8], rest: &[String]) -> Result<Option<Command>, NoMemory>
+    ensures value { IfOk result (λ command. command ≡ command_of first.now (map string_bytes rest.now)) }
+    ensures range { IfOk result (λ command. IfSome command IsInRange) }
+{
+    if !is_word(first, "steps") {
+        return Ok(None);
+    }
+    match batch_in(alloc, rest)? {
+        Some(batch) => Ok(Some(Command::Steps { batch })),
+        None => Ok(None),
+    }
+}
+
+/// The command that the words behind the program's name mean; None where they are refused.
+///
+/// Err where memory is refused. The rules are this project's own.
+#[tactic(auto, unfolding(crate::specs::Meant::meant))]
+pub fn read_words(alloc: Global, words: &[String]) -> Result<Option<Command>, NoMemory>
+    ensures value { IfOk result (λ command. command ≡ meant (map string_bytes words.now)) }
+    ensures range { IfOk result (λ command. IfSome command IsInRange) }
+{
+    match words {
+        [first, rest @ ..] => command_by(alloc, first.as_bytes(), rest),
+        _ => Ok(None),
+    }
+}
