@@ -1,11 +1,12 @@
 -- What a call of the program does: by its words, by what source and sink tell before and after, and by its status.
-use Rattle.std.specs.Prelude.{◌≡◌, ◌↔◌, ◌⊎◌, ℕ, ◌<◌, Bool, true, false, List, length, take, Option, Some, None, Result, Ok, Err, IfSome}
+use Rattle.std.specs.Prelude.{◌≡◌, ◌⊎◌, ℕ, ◌<◌, Bool, true, false, List, length, take, Option, Some, None, Result, Ok, Err, IfSome}
 use Rattle.std.specs.Io.KnownBytes.{Appends, Keeps}
 use Rattle.emu_io.specs.Causes.{Rose}
 use Rattle.client_script.specs.declared.line.Line.{Line}
 use Rattle.client_script.specs.declared.fault.ScriptFault.{ScriptFault}
 use Rattle.client_script.specs.Script.{split, grammar}
-use Rattle.emu_top.specs.Words.{meant}
+use Rattle.command_words.specs.declared.Command.TheVariants.{Steps}
+use Rattle.command_words.specs.Meant.{meant}
 use Rattle.emu_top.specs.Session.{Makes, GivesUp, HasFault, FailsEarly}
 use Rattle.emu_top.specs.declared.status.Status.{Status}
 use Rattle.emu_top.specs.declared.status.Status.TheVariants.{Usage, Script, TooLong, ReadFault, WriteFault, NoMemory, Ok as Done}
@@ -83,12 +84,12 @@ Determines (Ok lines) input status = length input < 4294967296 → status ≡ Do
 
 -- ------ the whole
 
--- What the program does on one thread. It is `Usage` exactly where the words aren't accepted, and nothing is then read or
--- written. Else the status says what was read and written. Where no read and no write fails, it is the one that the input
--- determines, or memory was refused.
+-- What the program does on one thread. Words that aren't accepted are answered `Usage`, or want of memory, and nothing is then
+-- read or written. Else the status says what was read and written. Where no read and no write fails, it is the one that the
+-- input determines, or memory was refused.
 pub record Serves (words : List (List ℕ)) (before after : Outside) (status : Status) : Type 0 where
-  pub usage : (status ≡ Usage) ↔ (meant words ≡ None)
-  pub untouched : meant words ≡ None → ReadsNothing before after × WritesNothing before after
-  pub says : (batch : ℕ) → meant words ≡ Some batch → Says batch before after status
-  pub settled : (batch : ℕ) → meant words ≡ Some batch → NoReadFails before after → NoWriteFails before after
+  pub usage : status ≡ Usage → meant words ≡ None
+  pub refused : meant words ≡ None → ((status ≡ Usage) ⊎ (status ≡ NoMemory)) × ReadsNothing before after × WritesNothing before after
+  pub says : (batch : ℕ) → meant words ≡ Some (Steps batch) → Says batch before after status
+  pub settled : (batch : ℕ) → meant words ≡ Some (Steps batch) → NoReadFails before after → NoWriteFails before after
       → IfSome before.left (λ input. (status ≡ NoMemory) ⊎ Determines (grammar (split input).script) input status)

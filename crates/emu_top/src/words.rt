@@ -1,30 +1,19 @@
 // The words of the command line.
-ghost use Rattle.std.specs.Prelude.{◌≡◌, ◌≤◌, map, IfSome, string_bytes};
-ghost use Rattle.emu_top.specs.Words.{meant};
+ghost use Rattle.std.specs.Prelude.{◌≡◌, ◌≤◌, map, IfOk, IfSome, string_bytes};
+ghost use Rattle.std.specs.Option.{option_map};
+ghost use Rattle.command_words.specs.declared.Command.TheVariants.{Steps};
+ghost use Rattle.command_words.specs.Meant.{meant};
 
-use text_forms::{is_word, number_between};
-
-// The most packets of a batch.
-const MOST_IN_BATCH: u64 = 64;
+use command_words::{Command, read_words};
+use std::alloc::{AllocError as NoMemory, Global};
 
 // How many packets a batch has at most, by the words; None where they aren't accepted.
-pub fn batch_of_words(words: &[String]) -> Option<u32>
-    ensures value { result ≡ meant (map string_bytes words.now) }
-    ensures bound { IfSome result (λ batch. (1 ≤ batch) × (batch ≤ 64)) }
+pub fn batch_of_words(alloc: Global, words: &[String]) -> Result<Option<u32>, NoMemory>
+    ensures value { IfOk result (λ batch. meant (map string_bytes words.now) ≡ option_map (λ b. Steps b) batch) }
+    ensures range { IfOk result (λ batch. IfSome batch (λ b. (1 ≤ b) × (b ≤ 64))) }
 {
-    match words {
-        [command, option, batch] => {
-            if !is_word(command.as_bytes(), "steps") {
-                return None;
-            }
-            if !is_word(option.as_bytes(), "--batch") {
-                return None;
-            }
-            match number_between(1, MOST_IN_BATCH, batch.as_bytes()) {
-                Some(batch) => Some(batch as u32),
-                None => None,
-            }
-        }
-        _ => None,
+    match read_words(alloc, words)? {
+        Some(Command::Steps { batch }) => Ok(Some(batch)),
+        None => Ok(None),
     }
 }

@@ -1,5 +1,6 @@
-use Rattle.std.proofs.Common.{◌≡◌, ◌≤◌, ◌++◌, ◌+◌, ◌∙◌, ap, ℕ, take, drop, length, None, rules, arith, length-append}
+use Rattle.std.proofs.Common.{◌≡◌, ◌≤◌, ◌++◌, ◌+◌, ◌∙◌, ap, ℕ, take, drop, length, None, rules, arith, length-append, length-take-le}
 use Rattle.std.proofs.lemmas.List.{length-take, take-append-le}
+use Rattle.std.proofs.lemmas.Grind.{common_steps}
 use Rattle.std.proofs.KnownBytes.{Consumes-trans}
 use Rattle.client_script.specs.Script.{script_len, whole_lines}
 use Rattle.emu_top.proofs.Fronts.{ahead_of}
@@ -14,14 +15,14 @@ reading-preserved g c =
     let is : c.add.new.self ≡ c.reading.part ++ found = c.in-Ok-add.ensures.added ∙ ap (λ f. c.reading.part ++ f) same in
     let none : script_len (whole_lines c.reading.part) ≡ None = search rules in
     let long : length (c.reading.part ++ found) ≡ length c.reading.part + length found = length-append c.reading.part found in
-    let want : c.in-Ok.count ≤ c.min-want.result = ? in
-    let some : 1 ≤ c.in-Ok.count = ? in
-    let most : c.min-want.result ≤ 65536 = ? in
-    let room : length c.reading.part + c.min-want.result ≤ 1048576 = ? in
+    let some : 1 ≤ c.in-Ok.count = grind (arith, common_steps, c.in-Ok.count-test) in
+    let size : length found ≡ c.in-Ok.count = length-take-le c.in-Ok.count into within in
+    let room : length c.reading.part + c.in-Ok.count ≤ 1048576 = grind (arith, common_steps, within, c.min-want.ensures, c.bytes-in-reading.ensures) in
+    let most : c.in-Ok.count ≤ 65536 = grind (arith, common_steps, within, c.min-want.ensures) in
     rw is (record {
-      within = omega (arith, length-take c.in-Ok.count into);
+      within = omega arith;
       bytes = Consumes-trans _ _ _ _ _ c.reading.invariant.bytes c.in-Ok.ensures.bytes.0;
-      steady = ?;
-      counted = omega (arith, length-take c.in-Ok.count into, c.reading.invariant.counted);
-      ahead = ahead_of c.reading.part found none (omega (arith, length-take c.in-Ok.count into));
+      steady = search rules;
+      counted = omega (arith, c.reading.invariant.counted);
+      ahead = ahead_of c.reading.part found none (omega arith);
     })

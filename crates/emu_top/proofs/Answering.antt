@@ -1,0 +1,159 @@
+-- What a status says, and that the input determines it.
+use Rattle.std.proofs.Common.{◌≡◌, ◌<◌, ◌≤◌, ◌+◌, ◌-◌, ◌*◌, ◌^◌, ◌⊎◌, refl, sym, ap, subst, ◌∙◌, ℕ, Bool, true, false, List, [], ◌∷◌, ◌++◌, length, take, drop, append_assoc, append-nil, arith, length-append, inl, inr}
+use Rattle.std.proofs.lemmas.List.{take-append-drop, length-drop, length-take}
+use Rattle.std.specs.Prelude.{min, Option, Some, None, IfSome, Result, Ok, Err}
+use Rattle.std.specs.Io.KnownBytes.{Appends, Consumes, Keeps, IsAtEnd}
+use Rattle.emu_io.specs.Causes.{Rose}
+use Rattle.client_script.specs.declared.line.Line.{Line}
+use Rattle.client_script.specs.declared.line.Line.TheVariants.{Feed, Tick, Command}
+use Rattle.client_script.specs.declared.fault.ScriptFault.{ScriptFault}
+use Rattle.client_script.specs.Script.{split, parted, grammar, most_bytes, script_len, whole_lines, IsScript}
+use Rattle.client_script.proofs.Splitting.{split-found}
+use Rattle.client_core.specs.Budget.{most_calls}
+use Rattle.serial_core.specs.Budget.{all_commands}
+use Rattle.command_words.specs.declared.Command.{Command as Asked}
+use Rattle.command_words.specs.declared.Command.TheVariants.{Steps}
+use Rattle.command_words.specs.Meant.{meant}
+use Rattle.emu_top.specs.Session.{Makes, GivesUp, FailsEarly, Refuses, HasFault}
+use Rattle.emu_top.specs.Serves.{Outside, Says, Serves, Determines, NoReadFails, NoWriteFails}
+use Rattle.emu_top.specs.declared.status.Status.{Status}
+use Rattle.emu_top.specs.declared.status.Status.TheVariants.{Usage, Script, TooLong, ReadFault, WriteFault, NoMemory, Ok as Done}
+
+pub keeps : (w : Option (List ℕ)) → Keeps w w
+keeps None = tt
+keeps (Some xs) = refl
+
+-- ------ a status without output
+
+pub says_refused : (batch : ℕ) (content left w : Option (List ℕ)) (before after f : ℕ) (status : Status) → Refuses content left before after status
+    → Says batch (record { left = content; read_faults = before; written = w; write_faults = f }) (record { left = left; read_faults = after; written = w; write_faults = f }) status
+says_refused batch content left w before after f Usage r = r
+says_refused batch content left w before after f (Script line kind) r = (r, (keeps w, refl))
+says_refused batch content left w before after f (TooLong turns) r = (r, (keeps w, refl))
+says_refused batch content left w before after f ReadFault r = (refl, inr (r, keeps w))
+says_refused batch content left w before after f WriteFault r = absurd r
+says_refused batch content left w before after f NoMemory r = (keeps w, refl)
+says_refused batch content left w before after f Done r = absurd r
+
+-- ------ what the bytes taken say of the whole input
+
+split_by : (bytes rest : List ℕ) (r : Option ℕ) (stream : List ℕ) → script_len (whole_lines (take most_bytes bytes)) ≡ r → (parted bytes r).stream ≡ Some stream
+    → ((split (bytes ++ rest)).script ≡ (split bytes).script) × (length stream ≤ length bytes)
+split_by bytes rest None stream e is = absurd (cc)
+split_by bytes rest (Some n) stream e is =
+    let front = take most_bytes bytes in
+    let behind = drop most_bytes bytes in
+    let few : length front ≤ most_bytes = omega (arith, length-take most_bytes bytes) in
+    let whole : front ++ behind ≡ bytes = take-append-drop most_bytes bytes in
+    let longer : front ++ (behind ++ rest) ≡ bytes ++ rest = sym (append_assoc front behind rest) ∙ ap (λ xs. xs ++ rest) whole in
+    let one : (split (front ++ behind)).script ≡ take n front = ap (λ p. p.script) (split-found front behind n few e) in
+    let two : (split (front ++ (behind ++ rest))).script ≡ take n front = ap (λ p. p.script) (split-found front (behind ++ rest) n few e) in
+    let size : drop n bytes ≡ stream = cc in
+    (ap (λ xs. (split xs).script) (sym longer) ∙ (two ∙ (sym one ∙ ap (λ xs. (split xs).script) whole)), rw (← size) (omega (arith, length-drop n bytes)))
+
+pub split_more : (bytes rest stream : List ℕ) → (split bytes).stream ≡ Some stream → ((split (bytes ++ rest)).script ≡ (split bytes).script) × (length stream ≤ length bytes)
+unfolding split
+split_more bytes rest stream is = split_by bytes rest (script_len (whole_lines (take most_bytes bytes))) stream refl is
+
+script_of_all : (input bytes rest stream : List ℕ) (lines : List Line) → input ≡ bytes ++ rest → grammar (split bytes).script ≡ Ok lines → (split bytes).stream ≡ Some stream → grammar (split input).script ≡ Ok lines
+script_of_all input bytes rest stream lines is script behind = ap (λ xs. grammar (split xs).script) is ∙ (ap grammar (split_more bytes rest stream behind).0 ∙ script)
+
+-- ------ no budget is met
+
+few_commands : (lines : List Line) → all_commands lines ≤ length lines
+few_commands [] = omega arith
+few_commands (Feed n ∷ lines) = let h = few_commands lines in omega arith
+few_commands (Tick n ∷ lines) = let h = few_commands lines in omega arith
+few_commands (Command line client target verb ∷ lines) = let h = few_commands lines in omega arith
+
+not_too_long : (input bytes rest stream : List ℕ) (lines : List Line) (turns : ℕ) → input ≡ bytes ++ rest → length input < 4294967296 → length stream ≤ length bytes → IsScript lines
+    → ((turns ≡ 4294967296) × (turns ≤ length bytes)) ⊎ ((turns ≡ 549755813888) × (turns ≤ most_calls (all_commands lines) (length stream))) → ⊥
+not_too_long input bytes rest stream lines turns is short fits known (inl (e, le)) =
+    let size : length input ≡ length bytes + length rest = ap length is ∙ length-append bytes rest in
+    omega arith
+not_too_long input bytes rest stream lines turns is short fits known (inr (e, le)) =
+    let size : length input ≡ length bytes + length rest = ap length is ∙ length-append bytes rest in
+    let few = few_commands lines in
+    let known_few = known.few in
+    let big : 549755813888 ≤ 33 * (all_commands lines + 2 * length stream + 1) = rw (← e) le in
+    omega arith
+
+-- ------ the answer that the input determines
+
+steady : (n : ℕ) → n < 2 ^ 64 - 1 → Rose n n → ⊥
+steady n few rose = grind (arith)
+
+by_taken : (input : List ℕ) (left : Option (List ℕ)) (bytes : List ℕ) → Consumes (Some input) left bytes → (rest : List ℕ) × (input ≡ bytes ++ rest)
+by_taken input None bytes con = absurd con
+by_taken input (Some rest) bytes con = (rest, con)
+
+determined : (batch : ℕ) (input : List ℕ) (left old new : Option (List ℕ)) (r s w v : ℕ) (status : Status) → r < 2 ^ 64 - 1 → w < 2 ^ 64 - 1 → s ≡ r → v ≡ w
+    → Says batch (record { left = Some input; read_faults = r; written = old; write_faults = w }) (record { left = left; read_faults = s; written = new; write_faults = v }) status
+    → (status ≡ NoMemory) ⊎ Determines (grammar (split input).script) input status
+determined batch input left old new r s w v Usage fr fw nr nw says = absurd says
+determined batch input left old new r s w v (Script line kind) fr fw nr nw says = inr (rw (says.0.1) refl)
+determined batch input left old new r s w v (TooLong turns) fr fw nr nw says =
+    let g = says.0 in
+    let t = by_taken input left g.bytes g.taken in
+    let ok = script_of_all input g.bytes t.0 g.stream g.lines t.1 g.script g.behind in
+    let fits = (split_more g.bytes t.0 g.stream g.behind).1 in
+    inr (rw ok (λ short. absurd (not_too_long input g.bytes t.0 g.stream g.lines turns t.1 short fits g.known g.cause)))
+determined batch input left old new r s w v ReadFault fr fw nr nw (steady_writes, inl (text, m, a)) = absurd (steady r fr (subst (λ n. Rose r n) nr m.reads))
+determined batch input left old new r s w v ReadFault fr fw nr nw (steady_writes, inr (f, k)) = absurd (steady r fr (subst (λ n. Rose r n) nr f.rose))
+determined batch input left old new r s w v WriteFault fr fw nr nw says = absurd (steady w fw (subst (λ n. Rose w n) nw says.rose))
+determined batch input left old new r s w v NoMemory fr fw nr nw says = inl refl
+determined batch input left old new r s w v Done fr fw nr nw says =
+    let o = says.made.output in
+    let t = by_taken input left says.made.bytes says.made.taken in
+    let ok = script_of_all input says.made.bytes t.0 o.stream o.lines t.1 o.script o.behind in
+    inr (rw ok (λ short. refl))
+
+settled_by : (batch : ℕ) (content left old new : Option (List ℕ)) (r s w v : ℕ) (status : Status) → r < 2 ^ 64 - 1 → w < 2 ^ 64 - 1 → s ≡ r → v ≡ w
+    → Says batch (record { left = content; read_faults = r; written = old; write_faults = w }) (record { left = left; read_faults = s; written = new; write_faults = v }) status
+    → IfSome content (λ input. (status ≡ NoMemory) ⊎ Determines (grammar (split input).script) input status)
+settled_by batch None left old new r s w v status fr fw nr nw says = tt
+settled_by batch (Some input) left old new r s w v status fr fw nr nw says = determined batch input left old new r s w v status fr fw nr nw says
+
+never_usage : (batch : ℕ) (before after : Outside) (status : Status) → Says batch before after status → status ≡ Usage → ⊥
+never_usage batch before after status says is = subst (λ s. Says batch before after s) is says
+
+-- ------ the whole
+
+same_batch : (batch other : ℕ) (m : Option Asked) → m ≡ Some (Steps batch) → m ≡ Some (Steps other) → batch ≡ other
+same_batch batch other m a b = cc
+
+-- words that are accepted
+pub serves : (words : List (List ℕ)) (batch : ℕ) (content left old new : Option (List ℕ)) (r s w v : ℕ) (status : Status) → meant words ≡ Some (Steps batch) → r < 2 ^ 64 - 1 → w < 2 ^ 64 - 1
+    → Says batch (record { left = content; read_faults = r; written = old; write_faults = w }) (record { left = left; read_faults = s; written = new; write_faults = v }) status
+    → Serves words (record { left = content; read_faults = r; written = old; write_faults = w }) (record { left = left; read_faults = s; written = new; write_faults = v }) status
+serves words batch content left old new r s w v status is fr fw says =
+    let before : Outside = record { left = content; read_faults = r; written = old; write_faults = w } in
+    let after : Outside = record { left = left; read_faults = s; written = new; write_faults = v } in
+    record {
+      usage = λ e. absurd (never_usage batch before after status says e);
+      refused = λ none. absurd (let e : Some (Steps batch) ≡ None = sym is ∙ none in cc);
+      says = λ other e. subst (λ b. Says b before after status) (same_batch batch other (meant words) is e) says;
+      settled = λ other e nr nw. settled_by batch content left old new r s w v status fr fw nr nw says;
+    }
+
+-- words that are refused
+pub serves_none : (words : List (List ℕ)) (at : Outside) (status : Status) → meant words ≡ None → (status ≡ Usage) ⊎ (status ≡ NoMemory) → Serves words at at status
+serves_none words at status is one = record {
+  usage = λ e. is;
+  refused = λ none. (one, (keeps at.left, refl), (keeps at.written, refl));
+  says = λ batch e. absurd (let x : None ≡ Some (Steps batch) = sym is ∙ e in cc);
+  settled = λ batch e nr nw. absurd (let x : None ≡ Some (Steps batch) = sym is ∙ e in cc);
+}
+
+-- want of memory while the words are read
+says_if : (left : Option (List ℕ)) (status : Status) (input_of : List ℕ → Type 0) → ((input : List ℕ) → input_of input) → IfSome left input_of
+says_if None status P each = tt
+says_if (Some input) status P each = each input
+
+pub serves_unread : (words : List (List ℕ)) (at : Outside) → Serves words at at NoMemory
+serves_unread words at = record {
+  usage = λ e. absurd (cc);
+  refused = λ none. (inr refl, (keeps at.left, refl), (keeps at.written, refl));
+  says = λ batch e. (keeps at.written, refl);
+  settled = λ batch e nr nw. says_if at.left NoMemory _ (λ input. inl refl);
+}

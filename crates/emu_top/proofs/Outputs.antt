@@ -1,0 +1,131 @@
+-- What is to be written for a session, and why there is nothing.
+use Rattle.std.proofs.Common.{◌≡◌, ◌<◌, ◌≤◌, ◌+◌, ◌-◌, ◌*◌, ◌^◌, ◌⊎◌, refl, sym, ap, ◌∙◌, ℕ, Bool, true, false, List, [], ◌∷◌, ◌++◌, length, take, drop, map, append-nil, arith, length-append, inl, inr, IsTrue}
+use Rattle.std.proofs.lemmas.Bool.{cases_lt}
+use Rattle.std.proofs.KnownBytes.{Consumes-trans}
+use Rattle.std.specs.Prelude.{◌↔◌, min, Option, Some, None, IfSome, Result, Ok, Err}
+use Rattle.std.specs.Io.KnownBytes.{Consumes, IsAtEnd}
+use Rattle.emu_io.specs.Causes.{Rose}
+use Rattle.ts_packet.specs.Cut.{cut}
+use Rattle.dmx_calls.specs.Head.{told_head, head_of}
+use Rattle.client_script.specs.declared.line.Line.{Line}
+use Rattle.client_script.specs.declared.fault.ScriptFault.{ScriptFault}
+use Rattle.client_script.specs.Script.{split, grammar, most_bytes, script_len, whole_lines}
+use Rattle.client_script.proofs.Parting.{front_of}
+use Rattle.client_script.proofs.Splitting.{split-found, split-missing}
+use Rattle.client_core.specs.declared.stop.Stop.{Stop}
+use Rattle.client_core.specs.declared.stop.Stop.TheVariants.{NoMemory as NoMemoryToRun, TooLong as RunTooLong}
+use Rattle.client_core.specs.Budget.{most_calls}
+use Rattle.feed_pull.specs.Pulling.{Pulling}
+use Rattle.serial_core.specs.declared.run.Ran.{Ran}
+use Rattle.serial_core.specs.Budget.{all_commands}
+use Rattle.serial_core.specs.Ran.{IsRanOf, OfStream, IsTooLong}
+use Rattle.serial_core.proofs.Runs.{are_runs}
+use Rattle.report_text.specs.Report.{report_of}
+use Rattle.emu_top.specs.Part.{IsUnended}
+use Rattle.emu_top.specs.Session.{Holds, IsFaultIn, Makes, GivesUp, FailsEarly, Refuses, ReadsTo, IsOutput, status_of_stop}
+use Rattle.emu_top.specs.declared.status.Status.{Status}
+use Rattle.emu_top.specs.declared.status.Status.TheVariants.{Usage, Script, TooLong, ReadFault, WriteFault, NoMemory, Ok as Done}
+
+-- ------ the output
+
+pub rose_of : (before after : ℕ) → before < after → Rose before after
+rose_of before after lt = grind (arith)
+
+reads_to : (b : Bool) (left : Option (List ℕ)) (before after : ℕ) → (IsTrue b ↔ (before < after)) → before ≤ after → (b ≡ false → IsAtEnd left) → ReadsTo b left before after
+reads_to true left before after rose later end = rose_of before after (rose.0 refl)
+reads_to false left before after rose later end = elim (cases_lt before after) [
+  | inl lt ↦ absurd (let e : false ≡ true = rose.1 lt in cc)
+  | inr le ↦ (omega arith, end refl)
+]
+
+pub made : (batch : ℕ) (lines : List Line) (puller : Pulling) (content mid left : Option (List ℕ)) (before after : ℕ) (first : List ℕ) (ran : Ran) (text : List ℕ)
+    → 1 ≤ batch → Consumes content mid first → Holds first lines puller
+    → OfStream mid left puller (λ ahead taken. IsRanOf lines batch (ahead ++ taken) ran)
+    → (IsTrue ran.head.read_fault ↔ (before < after)) → before ≤ after → (ran.head.read_fault ≡ false → IsAtEnd left)
+    → text ≡ report_of (told_head ran.head) (map (λ o. o.items) ran.outcomes.items) ran.histories
+    → Makes batch content left before after ran.head.read_fault text
+made batch lines puller content mid left before after first ran text one con h of rose later end e =
+    let taken = of.0 in
+    let r : IsRanOf lines batch (h.ahead ++ taken) ran = of.2 h.ahead h.pulls in
+    let s = h.splits taken in
+    record {
+      bytes = first ++ taken;
+      taken = Consumes-trans _ _ _ _ _ con of.1;
+      reads = reads_to ran.head.read_fault left before after rose later end;
+      output = record {
+        lines = lines;
+        stream = h.ahead ++ taken;
+        run = r.run;
+        script = ap (λ p. grammar p.script) s ∙ h.script;
+        behind = ap (λ p. p.stream) s;
+        serial = r.serial;
+        report = rw (← r.head, ← r.outcomes, ← r.histories) e;
+        whole = are_runs lines batch (cut (h.ahead ++ taken)).packets r.run h.known.ranges one r.serial;
+      };
+    }
+
+-- ------ a run that was given up
+
+cause_of : (lines : List Line) (start turns : ℕ) (ahead taken first : List ℕ) → start ≤ length first → IsTooLong lines start turns ahead taken
+    → ((turns ≡ 4294967296) × (turns ≤ length (first ++ taken))) ⊎ ((turns ≡ 549755813888) × (turns ≤ most_calls (all_commands lines) (length (ahead ++ taken))))
+cause_of lines start turns ahead taken first reads (inl (is, le)) = inl (is, omega (arith, length-append first taken))
+cause_of lines start turns ahead taken first reads (inr (is, le)) = inr (is, rw (length-append ahead taken, is) le)
+
+pub given_up : (lines : List Line) (puller : Pulling) (content mid left : Option (List ℕ)) (before after : ℕ) (first : List ℕ) (stop : Stop)
+    → ((turns : ℕ) → stop ≡ RunTooLong turns → OfStream mid left puller (IsTooLong lines puller.start turns))
+    → Consumes content mid first → Holds first lines puller → Refuses content left before after (status_of_stop stop)
+given_up lines puller content mid left before after first NoMemoryToRun each con h = tt
+given_up lines puller content mid left before after first (RunTooLong turns) each con h =
+    let of = each turns refl in
+    let taken = of.0 in
+    let s = h.splits taken in
+    record {
+      bytes = first ++ taken;
+      lines = lines;
+      stream = h.ahead ++ taken;
+      taken = Consumes-trans _ _ _ _ _ con of.1;
+      script = ap (λ p. grammar p.script) s ∙ h.script;
+      known = h.known;
+      behind = ap (λ p. p.stream) s;
+      cause = cause_of lines puller.start turns h.ahead taken first h.reads (of.2 h.ahead h.pulls);
+    }
+
+-- ------ a script part that isn't read
+
+pub fails_early : (content left : Option (List ℕ)) (before after : ℕ) → IsUnended content left → Rose before after → FailsEarly content left before after
+fails_early content left before after u rose =
+    let s : split (u.taken ++ []) ≡ record { script = u.taken; stream = None } = split-missing u.taken [] u.searched u.none (inr refl) in
+    record {
+      bytes = u.taken;
+      taken = u.consumes;
+      missing = ap (λ bytes. (split bytes).stream) (sym (append-nil u.taken)) ∙ ap (λ p. p.stream) s;
+      rose = rose;
+    }
+
+-- the script of an input is that of its first bytes
+pub script_of : (part rest : List ℕ) (r : Option ℕ) → length part ≤ most_bytes → script_len (whole_lines part) ≡ r → (r ≡ None → (length part ≡ most_bytes) ⊎ (rest ≡ []))
+    → grammar (split (part ++ rest)).script ≡ grammar part
+script_of part rest None few e end = ap (λ p. grammar p.script) (split-missing part rest few e (end refl))
+script_of part rest (Some n) few e end = ap (λ p. grammar p.script) (split-found part rest n few e) ∙ (front_of part n e).1
+
+ended_so : (part rest : List ℕ) → (length part ≡ most_bytes) ⊎ IsAtEnd (Some rest) → (length part ≡ most_bytes) ⊎ (rest ≡ [])
+ended_so part rest (inl is) = inl is
+ended_so part rest (inr is) = inr is
+
+has_fault : (content left : Option (List ℕ)) (part : List ℕ) (fault : ScriptFault) → length part ≤ most_bytes → Consumes content left part
+    → (script_len (whole_lines part) ≡ None → (length part ≡ most_bytes) ⊎ IsAtEnd left) → grammar part ≡ Err fault → IfSome content (λ input. grammar (split input).script ≡ Err fault)
+has_fault None left part fault few con end e = tt
+has_fault (Some input) None part fault few con end e = absurd con
+has_fault (Some input) (Some rest) part fault few con end e =
+    let same = script_of part rest (script_len (whole_lines part)) few refl (λ none. ended_so part rest (end none)) in
+    ap (λ bytes. grammar (split bytes).script) con ∙ (same ∙ e)
+
+pub refused_by : (content left : Option (List ℕ)) (before after : ℕ) (part : List ℕ) (status : Status) → length part ≤ most_bytes → Consumes content left part → after ≡ before
+    → (script_len (whole_lines part) ≡ None → (length part ≡ most_bytes) ⊎ IsAtEnd left) → IsFaultIn part status → Refuses content left before after status
+refused_by content left before after part (Script line kind) few con steady end e = (steady, has_fault content left part (record { line = line; kind = kind }) few con end e)
+refused_by content left before after part NoMemory few con steady end e = tt
+refused_by content left before after part Usage few con steady end e = absurd e
+refused_by content left before after part (TooLong turns) few con steady end e = absurd e
+refused_by content left before after part ReadFault few con steady end e = absurd e
+refused_by content left before after part WriteFault few con steady end e = absurd e
+refused_by content left before after part Done few con steady end e = absurd e
