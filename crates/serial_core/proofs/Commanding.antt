@@ -1,9 +1,8 @@
 -- How the calls of a command bring the run further.
-use Rattle.std.proofs.Common.{◌≡◌, ◌≢◌, refl, sym, ap, subst, ◌∙◌, ℕ, ◌+◌, ◌<◌, ◌≤◌, Bool, true, false, List, [], ◌∷◌, ◌++◌, Option, Some, None, length, nat_lt, if◌then◌else◌, get_or, arith}
+use Rattle.std.proofs.Common.{◌≡◌, refl, sym, ap, subst, ◌∙◌, ℕ, ◌<◌, ◌≤◌, Bool, true, false, List, [], ◌∷◌, ◌++◌, Option, Some, None, length, nat_lt, if◌then◌else◌, arith}
 use Rattle.std.specs.Prelude.{is_some, slice_index_or}
 use Rattle.std.proofs.lemmas.List.{get_or-set_same, get_or-set_other, length-set}
 use Rattle.dmx_calls.specs.declared.limits.TheConstants.{DEMUX_NODES}
-use Rattle.dmx_calls.specs.Response.{Response}
 use Rattle.client_script.specs.declared.line.Line.{Line}
 use Rattle.client_core.specs.declared.event.Event.{Event}
 use Rattle.client_core.specs.Core.{Core, IsAfter}
@@ -13,7 +12,7 @@ use Rattle.serial_core.specs.declared.runner.Runner.{Runner}
 use Rattle.serial_core.specs.SerialRun.{Run, replies_of, called, made, reply_to, after_waiting, turned, calls}
 use Rattle.serial_core.specs.Budget.{one_if}
 use Rattle.serial_core.specs.Standing.{IsNodes}
-use Rattle.serial_core.specs.Moving.{IsAt, Moves, Comes}
+use Rattle.serial_core.specs.Moving.{Moves, Comes}
 use Rattle.serial_core.proofs.Drawing.{draws_none}
 use Rattle.serial_core.proofs.Replies.{waiting_replies}
 use Rattle.serial_core.proofs.Within.{paid_next_of_line}

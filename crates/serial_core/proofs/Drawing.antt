@@ -1,5 +1,5 @@
 -- Pulls one after another, and moves one after another.
-use Rattle.std.proofs.Common.{◌≡◌, ◌≢◌, refl, sym, ap, subst, ◌∙◌, ℕ, ◌+◌, ◌*◌, ◌≤◌, Bool, true, false, List, [], ◌∷◌, ◌++◌, length, length-append, append_assoc, append-nil, arith, Some, None, Result, Ok, Err, OnErr, IsErrAnd, ◌<◌, ◌-◌, ◌^◌}
+use Rattle.std.proofs.Common.{◌≡◌, ◌≢◌, refl, sym, ap, subst, ◌∙◌, ℕ, List, [], ◌∷◌, ◌++◌, length, length-append, append_assoc, append-nil, arith, Result, Ok, Err, OnErr, IsErrAnd, ◌<◌, ◌-◌, ◌^◌}
 use Rattle.feed_pull.specs.declared.fault.Reading.{Reading}
 use Rattle.std.proofs.KnownBytes.{Consumes-trans, Consumes-nil}
 use Rattle.std.specs.declared.option.Option.{Option}
@@ -10,7 +10,7 @@ use Rattle.feed_pull.specs.Steps.{Carries, Follows, ReadsNothing}
 use Rattle.feed_pull.proofs.PullLemmas.{Follows-none, Follows-then, Pulls-front, Pulls-done}
 use Rattle.serial_core.specs.declared.runner.Runner.{Runner}
 use Rattle.serial_core.specs.SerialRun.{Run}
-use Rattle.serial_core.specs.Moving.{IsAt, Draws, Moves}
+use Rattle.serial_core.specs.Moving.{Draws, Moves}
 
 pub Carries-none : (x : Option (List ℕ)) (p : Pulling) → Carries x x p [] p
 Carries-none x p = record {

@@ -1,15 +1,15 @@
 -- The feeder's call on one demux node after the other.
-use Rattle.std.proofs.Common.{◌≡◌, refl, sym, ap, subst, ◌∙◌, ℕ, zero, suc, ◌+◌, ◌-◌, ◌<◌, ◌≤◌, ◌^◌, Bool, true, false, List, [], ◌∷◌, ◌++◌, length, map, replicate, take, drop, get_or, set, length-append, append_assoc, append-nil, add-one, arith}
-use Rattle.std.proofs.lemmas.List.{map-append, length-map, length-replicate, get_or-replicate, take-append-le, take_all}
+use Rattle.std.proofs.Common.{◌≡◌, refl, sym, ap, subst, ◌∙◌, ℕ, zero, suc, ◌+◌, ◌-◌, ◌<◌, ◌≤◌, ◌^◌, List, [], ◌∷◌, ◌++◌, length, map, replicate, get_or, set, add-one, arith}
+use Rattle.std.proofs.lemmas.List.{length-replicate, get_or-replicate}
 use Rattle.dmx_calls.specs.declared.limits.TheConstants.{DEMUX_NODES}
 use Rattle.dmx_calls.specs.Invocation.{Invocation}
-use Rattle.dmx_calls.specs.Log.{Act, EndAct, act_of}
+use Rattle.dmx_calls.specs.Log.{Act, act_of}
 use Rattle.dmx_calls.specs.Rules as rules
 use Rattle.node_core.specs.Stands.{CoreValue as DemuxCore}
 use Rattle.serial_core.specs.declared.seat.Seat.{Seat}
 use Rattle.serial_core.specs.Nodes.{Node, answered}
 use Rattle.serial_core.specs.Standing.{Pairs, IsDemux, IsUnder, AreUnder}
-use Rattle.serial_core.proofs.Pairs.{map_replicate, same_length, pair_at, same_set, same_weaker, equal_by}
+use Rattle.serial_core.proofs.Pairs.{map_replicate, same_length}
 
 -- ------ lists of which a front has come to stand in another relation
 

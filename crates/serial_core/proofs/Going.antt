@@ -1,6 +1,5 @@
 -- What a call does to the nodes.
-use Rattle.std.proofs.Common.{◌≡◌, refl, sym, ap, subst, ◌∙◌, ℕ, suc, ◌+◌, ◌<◌, ◌≤◌, Bool, true, false, List, [], ◌∷◌, ◌++◌, length, map, replicate, take, drop, get_or, set, length-append, append_assoc, append-nil, vec_len, arith}
-use Rattle.std.specs.Prelude.{slice_set}
+use Rattle.std.proofs.Common.{◌≡◌, refl, sym, ap, subst, ◌∙◌, ℕ, suc, ◌+◌, ◌<◌, ◌≤◌, Bool, true, false, List, [], ◌∷◌, ◌++◌, length, map, replicate, take, drop, get_or, set, length-append, append-nil, arith}
 use Rattle.std.proofs.lemmas.List.{map-append, length-replicate, get_or-replicate, take-append-le, take_all}
 use Rattle.dmx_calls.specs.declared.limits.TheConstants.{DEMUX_NODES}
 use Rattle.dmx_calls.specs.Invocation.{Invocation}
@@ -13,7 +12,7 @@ use Rattle.dmx_calls.specs.declared.histories.Fed.{Fed}
 use Rattle.serial_core.specs.declared.nodes.Nodes.{Nodes}
 use Rattle.serial_core.specs.Nodes.{Node, answered}
 use Rattle.serial_core.specs.SerialRun.{Run, begun, fed_to_all}
-use Rattle.serial_core.specs.Standing.{Pairs, IsDemux, IsDvr, IsNodes, IsUnder, AreUnder, AreCounted, acts_of, acts_on}
+use Rattle.serial_core.specs.Standing.{Pairs, IsDemux, IsDvr, IsNodes, IsUnder, AreUnder, acts_of, acts_on}
 use Rattle.serial_core.proofs.Pairs.{pair_at, same_length, same_set, same_weaker}
 
 -- ------ before the first call

@@ -1,10 +1,10 @@
 -- What one call does to a node with its entries.
-use Rattle.std.proofs.Common.{◌≡◌, refl, sym, ap, subst, ◌∙◌, ℕ, suc, ◌+◌, List, [], ◌∷◌, ◌++◌, length, map, length-append, add-one, arith}
+use Rattle.std.proofs.Common.{◌≡◌, refl, sym, ap, subst, ◌∙◌, ℕ, ◌+◌, List, [], ◌∷◌, ◌++◌, length, map, length-append, add-one, arith}
 use Rattle.std.proofs.lemmas.List.{map-append}
 use Rattle.dmx_calls.specs.declared.node.NodeKind.{NodeKind}
 use Rattle.dmx_calls.specs.declared.node.NodeKind.TheVariants.{Demux, Dvr}
 use Rattle.dmx_calls.specs.Invocation.{Invocation, Open, Close, SetFilter, SetPes, AddPid, RemovePid, Start, Stop, SetSize, Read, Poll, Pass, End, Attach, Detach}
-use Rattle.dmx_calls.specs.Response.{Response, Passed}
+use Rattle.dmx_calls.specs.Response.{Passed}
 use Rattle.dmx_calls.specs.History.{History, entry_of}
 use Rattle.dmx_calls.specs.Rules.{Rules}
 use Rattle.dmx_calls.specs.Facts.{Facts, facts}
@@ -15,7 +15,7 @@ use Rattle.dmx_calls.proofs.Weaving.{in_place-append, woven-call, woven-fed}
 use Rattle.dmx_calls.specs.declared.log.Entry.{Entry as CodeEntry}
 use Rattle.dmx_calls.specs.Calls.{told_entry}
 use Rattle.serial_core.specs.declared.seat.Seat.{Seat}
-use Rattle.serial_core.specs.Nodes.{Node, Told, Log, history_in, history_of, uncalled, answered, logged, log_in, log_of}
+use Rattle.serial_core.specs.Nodes.{Node, Told, history_in, history_of, uncalled, answered, log_in, log_of}
 use Rattle.serial_core.specs.Standing.{IsFeeding, IsSeat}
 
 -- ------ the feeder's calls are answered Passed

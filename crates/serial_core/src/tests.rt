@@ -1,4 +1,6 @@
 // Small scripts, run over streams in memory. The replies are worked out by hand from the rules of the nodes.
+ghost use Rattle.std.specs.Prelude.{◌≤◌};
+
 use crate::{Ran, run_steps};
 use client_script::Script;
 use dmx_calls::{Entry, OutcomeKind, Reply};
@@ -121,7 +123,7 @@ fn taps_record_for_the_dvr_node(rt: HostRuntime) -> Result<(), Fail> {
 fn a_failed_read_ends_the_stream(rt: HostRuntime) -> Result<(), Fail> {
     let alloc = rt.alloc();
     // The first read gives two packets, and the second fails.
-    let ran = ran(
+    let ran = left_by(
         alloc,
         "c0 drain h0 4\nfeed 3\nc1 open h0\nstream\n",
         three_packets(alloc)?,

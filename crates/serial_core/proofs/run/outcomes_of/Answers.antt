@@ -1,8 +1,7 @@
-use Rattle.std.proofs.Common.{◌≡◌, refl, sym, ap, subst, ◌∙◌, ℕ, ◌+◌, ◌<◌, ◌≤◌, List, [], ◌∷◌, ◌++◌, length, map, arith}
+use Rattle.std.proofs.Common.{sym, ap, subst, ◌∙◌, ◌<◌, [], ◌∷◌, ◌++◌, length, map, arith}
 use Rattle.std.specs.List.{range_with_len}
 use Rattle.std.proofs.lemmas.List.{map-append}
 use Rattle.std.proofs.lemmas.List.FromFn.{map-range_with_len_more}
-use Rattle.dmx_calls.specs.declared.outcome.Outcome.{Outcome}
 use Rattle.client_core.specs.Core.{Core, IsAfter}
 use Rattle.client_core.specs.Events.{outcomes}
 use Rattle.serial_core.specs.SerialRun.{replies_of}

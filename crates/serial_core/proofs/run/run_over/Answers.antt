@@ -1,4 +1,4 @@
-use Rattle.std.proofs.Common.{◌≡◌, ◌≢◌, refl, sym, ap, ◌∙◌, ℕ, ◌+◌, ◌≤◌, List, ◌++◌, length, map, Err, inl, inr, Bool, true, false, arith}
+use Rattle.std.proofs.Common.{◌≡◌, ◌≢◌, sym, ap, ◌∙◌, ℕ, ◌+◌, ◌≤◌, List, ◌++◌, length, map, Err, inr, true, false, arith}
 use Rattle.std.specs.List.{range_with_len}
 use Rattle.client_script.specs.declared.line.Line.{Line}
 use Rattle.client_core.specs.Events.{outcomes}

@@ -1,10 +1,7 @@
-use Rattle.std.proofs.Common.{refl, sym, subst, ap, ◌∙◌, [], ◌++◌, length, map, List, ℕ}
+use Rattle.std.proofs.Common.{refl, sym, subst, []}
 use Rattle.dmx_calls.specs.declared.limits.TheConstants.{DEMUX_NODES}
 use Rattle.dmx_calls.specs.Rules.{dvr}
 use Rattle.dvr_core.specs.Stands.{CoreValue, StandsFor}
-use Rattle.dmx_calls.specs.declared.histories.Fed.{Fed}
-use Rattle.serial_core.specs.Nodes.{uncalled}
-use Rattle.serial_core.specs.Standing.{IsDemux, IsDvr, Pairs}
 use Rattle.serial_core.proofs.Seats.{seat_fresh}
 use Rattle.serial_core.proofs.Going.{nodes_begun}
 use Rattle.serial_core.proofs.nodes.Nodes.new.Goals as goal

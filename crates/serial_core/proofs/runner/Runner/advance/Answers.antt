@@ -1,4 +1,4 @@
-use Rattle.std.proofs.Common.{◌≡◌, sym, ap, subst, ◌∙◌, ℕ, ◌+◌, ◌≤◌, ◌<◌, List, [], ◌∷◌, ◌++◌, arith}
+use Rattle.std.proofs.Common.{◌≡◌, ap, subst, ◌∙◌, ℕ, List, [], ◌∷◌, ◌++◌, arith}
 use Rattle.dmx_calls.specs.Response.{Response}
 use Rattle.client_script.specs.declared.line.Line.{Line}
 use Rattle.client_core.specs.Core.{IsAfter}

@@ -1,4 +1,4 @@
-use Rattle.std.proofs.Common.{◌≡◌, refl, sym, ap, subst, ◌∙◌, ℕ, ◌+◌, ◌<◌, ◌≤◌, ◌^◌, List, [], ◌∷◌, ◌++◌, length, Some, None, arith}
+use Rattle.std.proofs.Common.{◌≡◌, refl, sym, ◌∙◌, ◌+◌, List, [], ◌∷◌, ◌++◌, length, arith}
 use Rattle.client_script.specs.declared.line.Line.{Line}
 use Rattle.client_core.specs.Core.{IsAfter}
 use Rattle.serial_core.specs.SerialRun.{Run, called, replies_of, reply_to, after_waiting}

@@ -1,4 +1,4 @@
-use Rattle.std.proofs.Common.{◌≡◌, ℕ, ◌+◌, ◌-◌, ◌<◌, ◌≤◌, ◌^◌}
+use Rattle.std.proofs.Common.{◌≡◌, ℕ, ◌+◌, ◌-◌, ◌≤◌}
 use Rattle.serial_core.specs.Moving.{Moves, IsSound, HasMade, ComesBy}
 use Rattle.serial_core.proofs.runner.Runner.command.Given as goal
 

@@ -1,4 +1,4 @@
-use Rattle.std.proofs.Common.{◌≡◌, refl, sym, ap, ◌∙◌, ℕ, ◌-◌, ◌<◌, ◌≤◌, min, List, length, arith}
+use Rattle.std.proofs.Common.{◌≡◌, refl, sym, ap, ◌∙◌, ◌-◌, ◌<◌, min, length, arith}
 use Rattle.serial_core.specs.SerialRun.{Run, fed, turned}
 use Rattle.serial_core.proofs.Drawing.{draws_then, moves_none, moves_then, moves_by, still_counts, on_err}
 use Rattle.serial_core.proofs.Batches.{fed_none, fed_end, fed_step}

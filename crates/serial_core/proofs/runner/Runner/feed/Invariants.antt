@@ -1,5 +1,4 @@
-use Rattle.std.proofs.Common.{◌≡◌, ℕ, ◌-◌, ◌<◌, ◌≤◌, ◌^◌}
-use Rattle.feed_pull.specs.declared.fault.Reading.TheVariants.{Going}
+use Rattle.std.proofs.Common.{◌≡◌, ℕ}
 use Rattle.serial_core.specs.SerialRun.{fed}
 use Rattle.serial_core.specs.Moving.{Moves, IsSound, HasMade}
 use Rattle.serial_core.proofs.runner.Runner.feed.Given as goal

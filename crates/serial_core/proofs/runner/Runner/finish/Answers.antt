@@ -1,4 +1,4 @@
-use Rattle.std.proofs.Common.{◌≡◌, refl, sym, ap, ◌∙◌, ℕ, ◌-◌, ◌<◌, ◌≤◌, min, List, length, arith}
+use Rattle.std.proofs.Common.{◌≡◌, refl, sym, ap, ◌∙◌, ◌<◌, min, List, length, arith}
 use Rattle.client_script.specs.declared.line.Line.{Line}
 use Rattle.serial_core.specs.SerialRun.{Run, finished, turned}
 use Rattle.serial_core.proofs.Drawing.{draws_then, moves_none, moves_then, still_counts, on_err}

@@ -1,6 +1,5 @@
-use Rattle.std.proofs.Common.{◌≡◌, ℕ, List, ◌-◌, ◌<◌, ◌≤◌, ◌^◌}
+use Rattle.std.proofs.Common.{◌≡◌, ℕ, List, ◌-◌}
 use Rattle.client_script.specs.declared.line.Line.{Line}
-use Rattle.feed_pull.specs.declared.fault.Reading.TheVariants.{Going}
 use Rattle.serial_core.specs.SerialRun.{finished}
 use Rattle.serial_core.specs.Moving.{Moves, IsSound, HasMade}
 use Rattle.serial_core.proofs.runner.Runner.finish.Given as goal

@@ -1,11 +1,10 @@
-use Rattle.std.proofs.Common.{◌≡◌, refl, sym, ap, ◌∙◌, ℕ, suc, ◌+◌, ◌*◌, ◌<◌, ◌≤◌, ◌^◌, List, ◌∷◌, length, drop, get_or, add-one, Err, arith}
+use Rattle.std.proofs.Common.{◌≡◌, refl, sym, ap, ◌∙◌, ◌+◌, ◌<◌, ◌∷◌, length, drop, get_or, add-one, Err, arith}
 use Rattle.std.proofs.Math.Seq.{drop-cons}
-use Rattle.client_script.specs.declared.line.Line.{Line}
 use Rattle.client_script.specs.declared.line.Line.TheVariants.{Feed}
 use Rattle.client_core.specs.declared.stop.Stop.TheVariants.{TooLong}
 use Rattle.serial_core.specs.SerialRun.{Run}
-use Rattle.serial_core.specs.Lines.{AreAfter, IsFrontBy, IsLineBy, OverrunsBy}
-use Rattle.serial_core.proofs.Drawing.{draws_then, moves_none, moves_then, moves_by, still_counts, on_err, err_and}
+use Rattle.serial_core.specs.Lines.{IsFrontBy, IsLineBy, OverrunsBy}
+use Rattle.serial_core.proofs.Drawing.{draws_then, moves_none, moves_then, still_counts, on_err, err_and}
 use Rattle.serial_core.proofs.Lining.{front_more, front_none, front_overruns, calls_most}
 use Rattle.serial_core.proofs.runner.Runner.lines.Goals as goal
 

@@ -1,4 +1,4 @@
-use Rattle.std.proofs.Common.{◌≡◌, ℕ, ◌+◌, ◌*◌, ◌≤◌, ◌^◌, length}
+use Rattle.std.proofs.Common.{◌≡◌, ◌*◌, ◌≤◌, ◌^◌, length}
 use Rattle.serial_core.specs.Moving.{Moves, IsSound, HasMade}
 use Rattle.serial_core.specs.Lines.{AreInBudget, IsFrontBy, calls_by}
 use Rattle.serial_core.proofs.runner.Runner.lines.Given as goal

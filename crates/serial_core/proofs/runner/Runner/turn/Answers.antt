@@ -1,12 +1,7 @@
-use Rattle.std.proofs.Common.{◌≡◌, ◌≢◌, refl, sym, ap, subst, ◌∙◌, ℕ, ◌+◌, ◌≤◌, ◌<◌, Bool, true, false, List, [], ◌∷◌, length, arith}
-use Rattle.dmx_calls.specs.declared.params.Input.TheVariants.{Frontend}
-use Rattle.dmx_calls.specs.Invocation.{Pass}
+use Rattle.std.proofs.Common.{◌≡◌, refl, ap, ◌∙◌, [], length, arith}
 use Rattle.ts_batch.specs.Batch.{Packets}
-use Rattle.feed_pull.specs.Pulling.{Pulls, IsDone}
-use Rattle.serial_core.specs.SerialRun.{Run, fed_to_all}
-use Rattle.serial_core.specs.Standing.{IsNodes}
 use Rattle.serial_core.proofs.Drawing.{draws_none, none_given}
-use Rattle.serial_core.proofs.Turning.{turn_over, turn_passed, turn_ended}
+use Rattle.serial_core.proofs.Turning.{turn_over, turn_passed}
 use Rattle.serial_core.proofs.runner.Runner.turn.Goals as goal
 
 pub returns-then-self-clause-moves : goal.returns-then-self-clause-moves

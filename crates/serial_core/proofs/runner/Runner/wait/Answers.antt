@@ -1,4 +1,4 @@
-use Rattle.std.proofs.Common.{◌≡◌, refl, sym, ap, ◌∙◌, ℕ, min, List, length}
+use Rattle.std.proofs.Common.{◌≡◌, sym, ap, ◌∙◌, ℕ, min, List, length}
 use Rattle.std.specs.Prelude.{is_some}
 use Rattle.client_script.specs.declared.line.Line.{Line}
 use Rattle.client_core.specs.Core.{IsAfter}
