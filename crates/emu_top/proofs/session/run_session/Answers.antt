@@ -13,6 +13,6 @@ pub returns-in-Ok-report-clause-makes : goal.returns-in-Ok-report-clause-makes
 returns-in-Ok-report-clause-makes g c content first con h =
     let ran = c.in-Ok.ran in
     let text : c.in-Ok-report.text.items ≡ report_of (told_head ran.head) (map (λ o. o.items) ran.outcomes.items) ran.histories =
-        search rules in
+    search rules in
     made c.args.batch c.args.session.script c.args.session.puller content _ _ _ _ first ran c.in-Ok-report.text.items c.requires.some con h
     c.in-Ok.ensures.ran c.in-Ok.ensures.rose c.in-Ok.ensures.later c.in-Ok.ensures.end text

@@ -1,0 +1,307 @@
+// Sessions and their reports, wrong words, and faults of reading and writing.
+use crate::{Status, emulate, serial};
+use client_script::FaultKind;
+use emu_io::{FixedClock, MemSink, MemSource, NoGate};
+use std::alloc::Global;
+use std::test::Fail;
+
+const WORDS: [&str; 3] = ["steps", "--batch", "1"];
+
+const EMPTY: &[u8] = b"dvbemu 1\npackets=0 skipped=0 rest=0\nend\n";
+
+// A part of an input: some bytes, and behind them so many bytes of one kind.
+pub type Part = (&'static [u8], usize, u8);
+
+pub fn input_of(alloc: Global, parts: &[Part]) -> Result<Vec<u8>, Fail> {
+    let mut input = Vec::new(alloc);
+    for (bytes, count, byte) in parts {
+        input.extend_from_slice(bytes)?;
+        for _ in 0..*count {
+            input.push(*byte)?;
+        }
+    }
+    Ok(input)
+}
+
+fn words_of(alloc: Global, words: &[&str]) -> Result<Vec<String>, Fail> {
+    let mut all = Vec::new(alloc);
+    for word in words {
+        all.push(String::from_str(alloc, word)?)?;
+    }
+    Ok(all)
+}
+
+// What `emulate` answers and writes for an input, without faults.
+pub fn told(alloc: Global, words: &[&str], parts: &[Part]) -> Result<(Status, Vec<u8>), Fail> {
+    let words = words_of(alloc, words)?;
+    let mut source = MemSource::new(input_of(alloc, parts)?, 1000, Vec::new(alloc));
+    let mut sink = MemSink::new(alloc, 100000, 1000, Vec::new(alloc))?;
+    let status = emulate(
+        alloc,
+        &words,
+        &mut source,
+        &mut sink,
+        &FixedClock::new(0),
+        &NoGate::new(),
+    );
+    Ok((status, sink.bytes().to_vec(alloc)?))
+}
+
+// A report without its rows of PIDs and of clients.
+pub fn without_rows(alloc: Global, report: Vec<u8>) -> Result<Vec<u8>, Fail> {
+    let text = String::from_utf8(report)?;
+    let mut kept = Vec::new(alloc);
+    for line in text.lines() {
+        if !line.starts_with("pid ") && !line.starts_with("client ") && !line.starts_with("line ") {
+            kept.extend_from_slice(line.as_bytes())?;
+            kept.push(b'\n')?;
+        }
+    }
+    Ok(kept)
+}
+
+#[test]
+fn a_session_gives_its_report(rt: HostRuntime) -> Result<(), Fail> {
+    let alloc = rt.alloc();
+    let cases: [(&[Part], &[u8]); 6] = [
+        (&[(b"stream\n", 0, 0)], EMPTY),
+        (&[(b"# a comment\n\n#\n#stream\nstream\n", 0, 0)], EMPTY),
+        // The stream may have the bytes of that line once more: seven bytes that are no packet.
+        (
+            &[(b"stream\nstream\n", 0, 0)],
+            b"dvbemu 1\npackets=0 skipped=7 rest=0\nend\n",
+        ),
+        // A byte between packets, a packet, and a packet that is cut off.
+        (
+            &[(b"stream\n\x00\x47", 187, 0), (b"\x47", 99, 0)],
+            b"dvbemu 1\npackets=1 skipped=1 rest=100\npid 0 packets=1 breaks=0 duplicates=0 errors=0\nend\n",
+        ),
+        // The sync byte inside a packet begins none.
+        (
+            &[(b"stream\n\x47", 187, 0x47)],
+            b"dvbemu 1\npackets=1 skipped=0 rest=0\npid 1863 packets=1 breaks=0 duplicates=0 errors=0\nend\n",
+        ),
+        // More than 65,536 bytes.
+        (
+            &[(b"stream\n", 400 * 188, 0x47)],
+            b"dvbemu 1\npackets=400 skipped=0 rest=0\npid 1863 packets=400 breaks=0 duplicates=0 errors=0\nend\n",
+        ),
+    ];
+    for (case, (parts, want)) in cases.into_iter().enumerate() {
+        let (status, written) = told(alloc, &WORDS, parts)?;
+        assert!(rt; status == Status::Ok, "case {case}");
+        assert_eq!(rt; written.as_slice(), want, "case {case}");
+    }
+    Ok(())
+}
+
+// A script, and the line and the kind of its first fault.
+type Faulty = (&'static [Part], u32, FaultKind);
+
+static FAULTS: [Faulty; 10] = [
+    (&[], 1, FaultKind::NoStream),
+    (&[(b"", 1048576, b'#')], 1, FaultKind::NoStream),
+    (&[(b"stream", 0, 0)], 1, FaultKind::NoStream),
+    (&[(b"# stream\n", 0, 0)], 2, FaultKind::NoStream),
+    (
+        &[(b"c0 open n0\nc0 close n0\nc0 strat n0\nstream\n", 0, 0)],
+        3,
+        FaultKind::Command,
+    ),
+    (&[(b" \nstream\n", 0, 0)], 1, FaultKind::Client),
+    (&[(b"\nstream \nstream\n", 0, 0)], 2, FaultKind::Client),
+    (&[(b"c0 open n32\nstream\n", 0, 0)], 1, FaultKind::Target),
+    (
+        &[(b"c0 read n0 65537\nstream\n", 0, 0)],
+        1,
+        FaultKind::Number,
+    ),
+    (&[(b"c0 start\nc9\nstream\n", 0, 0)], 1, FaultKind::Count),
+];
+
+#[test]
+fn the_first_fault_of_a_script_is_told(rt: HostRuntime) -> Result<(), Fail> {
+    for (case, (parts, line, kind)) in FAULTS.iter().enumerate() {
+        let (status, written) = told(rt.alloc(), &WORDS, parts)?;
+        let want = Status::Script {
+            line: *line,
+            kind: *kind,
+        };
+        assert!(rt; status == want, "case {case}");
+        assert!(rt; written.is_empty(), "case {case}");
+    }
+    Ok(())
+}
+
+#[test]
+fn words_are_accepted_or_usage(rt: HostRuntime) -> Result<(), Fail> {
+    let alloc = rt.alloc();
+    let cases: [(&[&str], Status); 9] = [
+        (&["steps"], Status::Ok),
+        (&["steps", "--batch", "64"], Status::Ok),
+        (&["steps", "--batch=1"], Status::Ok),
+        (&[], Status::Usage),
+        (&["steps", "--"], Status::Usage),
+        (&["steps", "--batch", "05"], Status::Usage),
+        (&["steps", "--batch", "1", "--batch", "1"], Status::Usage),
+        (&["steps", "--help"], Status::Usage),
+        (&["run", "--batch", "65"], Status::Usage),
+    ];
+    for (case, (words, want)) in cases.into_iter().enumerate() {
+        let (status, written) = told(alloc, words, &[(b"stream\n", 0, 0)])?;
+        assert!(rt; status == want, "case {case}");
+        assert!(rt;
+            written.is_empty() == (want == Status::Usage),
+            "case {case}"
+        );
+    }
+    Ok(())
+}
+
+// Which reads fail, how much the sink may hold, which writes fail; the status, and what was written.
+type Faults = (&'static [u64], usize, &'static [u64], Status, &'static [u8]);
+
+// What `serial` answers and writes over reads of at most 188 bytes and writes of at most 10.
+fn told_with(
+    alloc: Global,
+    parts: &[Part],
+    reads: &[u64],
+    capacity: usize,
+    writes: &[u64],
+) -> Result<(Status, Vec<u8>), Fail> {
+    let words = words_of(alloc, &WORDS)?;
+    let mut source = MemSource::new(input_of(alloc, parts)?, 188, reads.to_vec(alloc)?);
+    let mut sink = MemSink::new(alloc, capacity, 10, writes.to_vec(alloc)?)?;
+    let status = serial(alloc, &words, &mut source, &mut sink);
+    Ok((status, sink.bytes().to_vec(alloc)?))
+}
+
+// Three times the packet of PID 256 with the counter 0 and the payload 00, behind the line `stream`.
+const THREE: [Part; 4] = [
+    (b"stream\n", 0, 0),
+    (b"\x47\x01\x00\x10", 184, 0),
+    (b"\x47\x01\x00\x10", 184, 0),
+    (b"\x47\x01\x00\x10", 184, 0),
+];
+
+static READ_FAULTS: [Faults; 7] = [
+    (&[0], 1000, &[], Status::ReadFault, b""),
+    (
+        &[1],
+        1000,
+        &[],
+        Status::ReadFault,
+        b"dvbemu 1\npackets=0 skipped=0 rest=181\nfault read\n",
+    ),
+    (
+        &[2],
+        1000,
+        &[],
+        Status::ReadFault,
+        b"dvbemu 1\npackets=1 skipped=0 rest=181\npid 256 packets=1 breaks=0 duplicates=0 errors=0\nfault read\n",
+    ),
+    (
+        &[3],
+        1000,
+        &[],
+        Status::ReadFault,
+        b"dvbemu 1\npackets=2 skipped=0 rest=181\npid 256 packets=2 breaks=0 duplicates=1 errors=0\nfault read\n",
+    ),
+    (
+        &[4],
+        1000,
+        &[],
+        Status::ReadFault,
+        b"dvbemu 1\npackets=3 skipped=0 rest=0\npid 256 packets=3 breaks=0 duplicates=2 errors=0\nfault read\n",
+    ),
+    (
+        &[5],
+        1000,
+        &[],
+        Status::Ok,
+        b"dvbemu 1\npackets=3 skipped=0 rest=0\npid 256 packets=3 breaks=0 duplicates=2 errors=0\nend\n",
+    ),
+    (&[2], 1000, &[0], Status::WriteFault, b""),
+];
+
+#[test]
+fn a_read_fault_ends_the_stream(rt: HostRuntime) -> Result<(), Fail> {
+    for (case, (reads, capacity, writes, want, output)) in READ_FAULTS.iter().enumerate() {
+        let (status, written) = told_with(rt.alloc(), &THREE, reads, *capacity, writes)?;
+        assert!(rt; status == *want, "case {case}");
+        assert_eq!(rt; written.as_slice(), *output, "case {case}");
+    }
+    Ok(())
+}
+
+#[test]
+fn a_faulty_script_is_told_without_a_look_behind_it(rt: HostRuntime) -> Result<(), Fail> {
+    let parts: [Part; 2] = [(b"c0 open\nstream\n", 0, 0), (b"", 1000, 0x47)];
+    let (status, written) = told_with(rt.alloc(), &parts, &[1], 1000, &[])?;
+    let want = Status::Script {
+        line: 1,
+        kind: FaultKind::Count,
+    };
+    assert!(rt; status == want);
+    assert!(rt; written.is_empty());
+    Ok(())
+}
+
+#[test]
+fn a_write_fault_leaves_the_front(rt: HostRuntime) -> Result<(), Fail> {
+    // The report has 40 bytes, so there are four writes.
+    let parts: [Part; 1] = [(b"stream\n", 0, 0)];
+    let cases: [Faults; 8] = [
+        (&[], 1000, &[0], Status::WriteFault, b""),
+        (&[], 1000, &[1], Status::WriteFault, b"dvbemu 1\np"),
+        (
+            &[],
+            1000,
+            &[2],
+            Status::WriteFault,
+            b"dvbemu 1\npackets=0 s",
+        ),
+        (
+            &[],
+            1000,
+            &[3],
+            Status::WriteFault,
+            b"dvbemu 1\npackets=0 skipped=0 r",
+        ),
+        (&[], 1000, &[4], Status::Ok, EMPTY),
+        (
+            &[],
+            39,
+            &[],
+            Status::WriteFault,
+            b"dvbemu 1\npackets=0 skipped=0 rest=0\nend",
+        ),
+        (&[], 40, &[], Status::Ok, EMPTY),
+        (&[], 0, &[], Status::WriteFault, b""),
+    ];
+    for (case, (reads, capacity, writes, want, output)) in cases.into_iter().enumerate() {
+        let (status, written) = told_with(rt.alloc(), &parts, reads, capacity, writes)?;
+        assert!(rt; status == want, "case {case}");
+        assert_eq!(rt; written.as_slice(), output, "case {case}");
+    }
+    Ok(())
+}
+
+#[test]
+fn each_status_has_its_number(rt: HostRuntime) {
+    let script = Status::Script {
+        line: 1,
+        kind: FaultKind::Client,
+    };
+    for (status, number) in [
+        (Status::Ok, 0),
+        (Status::Usage, 2),
+        (script, 3),
+        (Status::TooLong { turns: 1 }, 4),
+        (Status::ReadFault, 5),
+        (Status::WriteFault, 6),
+        (Status::NoMemory, 7),
+    ] {
+        assert_eq!(rt; status.number(), number);
+    }
+}
