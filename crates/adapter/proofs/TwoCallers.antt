@@ -1,5 +1,5 @@
 -- Two clients and a feeder, as the tests have them.
-use Rattle.std.proofs.Common.{◌≡◌, ℕ, zero, suc, ◌+◌, ◌^◌, List, [], ◌∷◌, ◌++◌, length, slice_get, Some, refl, ap, sym, ◌∙◌, subst, arith, length-append}
+use Rattle.std.proofs.Common.{◌≡◌, ℕ, zero, suc, ◌+◌, ◌^◌, List, [], ◌∷◌, ◌++◌, length, slice_get, Some, refl, ap, ◌∙◌, subst, arith, length-append}
 use Rattle.atomic_table.specs.Seated.{TableId}
 use Rattle.adapter.specs.Rows.{Fits}
 use Rattle.adapter.specs.Callers.{Caller, IsSameCaller, AreFreshCallers, AreAllCallers}
