@@ -1,6 +1,6 @@
 -- The kind of a node, by its number, and what its machine stands for.
-use Rattle.std.proofs.Common.{◌≡◌, ℕ, ◌<◌, List, true, false, arith, ap, subst, sym, refl, reverse}
-use Rattle.std.specs.Prelude.{nat_lt, if◌then◌else◌}
+use Rattle.std.proofs.Common.{◌≡◌, ℕ, ◌<◌, List, ap, subst, sym, refl, reverse}
+use Rattle.std.specs.Prelude.{if◌then◌else◌}
 use Rattle.dmx_calls.specs.declared.limits.TheConstants.{DEMUX_NODES}
 use Rattle.dmx_calls.specs.History.{Entry}
 use Rattle.dmx_calls.specs.Rules.{Rules, demux, dvr, rules_at}

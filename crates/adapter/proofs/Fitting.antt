@@ -1,5 +1,5 @@
 -- A row of passes of which one is changed.
-use Rattle.std.proofs.Common.{◌≡◌, ℕ, List, length, slice_get, set, Some, ap, sym, ◌∙◌, length-set}
+use Rattle.std.proofs.Common.{◌≡◌, ℕ, List, slice_get, set, Some, ap, sym, ◌∙◌, length-set}
 use mathlib.Core.Logic.{dite}
 use native.Mathlib.Decide.{ℕ_discrete}
 use Rattle.atomic_table.specs.Seated.{TableId}

@@ -1,5 +1,5 @@
 -- Steps that are taken node by node.
-use Rattle.std.proofs.Common.{◌≡◌, ℕ, ◌+◌, ◌*◌, ◌≤◌, suc, arith}
+use Rattle.std.proofs.Common.{ℕ, ◌+◌, ◌*◌, ◌≤◌, arith}
 use Rattle.std.proofs.Math.Nat.{suc-mul}
 
 pub one_node_more : (start now next node n : ℕ) → now ≤ start + node * n → next ≤ now + n → next ≤ start + (node + 1) * n

@@ -13,3 +13,4 @@ pub mod Tries
 pub mod Growing
 pub mod Everybody
 pub mod Pairs
+pub mod TwoCallers

@@ -1,5 +1,5 @@
 -- The nodes are looked at one after another.
-use Rattle.std.proofs.Common.{◌≡◌, ℕ, ◌+◌, ◌<◌, ◌≤◌, List, [], ◌∷◌, ◌++◌, length, slice_get, slice_index, set, Some, refl, ap, sym, ◌∙◌, subst, arith, length-set}
+use Rattle.std.proofs.Common.{◌≡◌, ℕ, ◌+◌, ◌<◌, ◌≤◌, List, length, slice_get, slice_index, set, Some, ap, sym, ◌∙◌, subst, arith, length-set}
 use Rattle.std.proofs.lemmas.List.{get_or-set_same, get_or-set_other}
 use mathlib.Core.Logic.{dite}
 use native.Mathlib.Decide.{ℕ_discrete}
@@ -10,8 +10,8 @@ use Rattle.node_lock.specs.Lists.{Has}
 use Rattle.node_lock.proofs.Views.{prefix_trans}
 use Rattle.dmx_calls.specs.declared.limits.TheConstants.{DEMUX_NODES}
 use Rattle.dmx_calls.specs.History.{Entry}
-use Rattle.adapter.specs.Rows.{Fits, all_calls, EachBegins}
-use Rattle.adapter.proofs.Lists.{place_below, set_there, set_elsewhere}
+use Rattle.adapter.specs.Rows.{Fits}
+use Rattle.adapter.proofs.Lists.{set_elsewhere}
 use Rattle.adapter.proofs.Fitting.{fits_set}
 use Rattle.adapter.specs.Rows.{OneLook, OneLooks, column, IsGathered, AreGathered}
 use Rattle.adapter.specs.Nodes.{IsLegalAt}

@@ -1,8 +1,8 @@
 -- The passes of the demux nodes and those of the dvr node go to the callers, the last caller first; then the clients are made, the first first.
-use Rattle.std.proofs.Common.{◌≡◌, ◌⊎◌, ⊎_elim, ℕ, zero, suc, ◌+◌, ◌<◌, ◌≤◌, ◌^◌, List, [], ◌∷◌, ◌++◌, length, slice_get, Some, refl, ap, sym, ◌∙◌, subst, arith, length-append}
+use Rattle.std.proofs.Common.{◌≡◌, ⊎_elim, ℕ, zero, suc, ◌+◌, ◌<◌, ◌≤◌, ◌^◌, List, [], ◌∷◌, ◌++◌, length, slice_get, Some, ap, sym, ◌∙◌, subst, arith, length-append}
 use Rattle.atomic_table.specs.Seated.{TableId}
 use Rattle.node_lock.specs.declared.view.View.{View}
-use Rattle.node_lock.specs.Passes.{IsFresh, AreFresh}
+use Rattle.node_lock.specs.Passes.{AreFresh}
 use Rattle.dmx_calls.specs.History.{Entry}
 use Rattle.adapter.specs.Rows.{Fits, IsFreshRow}
 use Rattle.adapter.specs.Callers.{Caller, IsFreshCaller, AreFreshCallers, AreAllCallers, SomeIs}

@@ -1,5 +1,5 @@
 -- The nodes 0 to 32: the demux nodes, and the dvr node last. A history has the oldest entry first here, as that of a lock.
-use Rattle.std.specs.Prelude.{ℕ, List, [], reverse}
+use Rattle.std.specs.Prelude.{ℕ, List, reverse}
 use Rattle.ts_batch.specs.Batch.{Packets}
 use Rattle.atomic_table.specs.Seated.{TableId}
 use Rattle.node_lock.specs.declared.lock.Held.{Held}

@@ -34,3 +34,6 @@ mod rows;
 pub use adapter::{Adapter, Finished};
 pub use client::Client;
 pub use feeder::Feeder;
+
+#[cfg(test)]
+mod tests;

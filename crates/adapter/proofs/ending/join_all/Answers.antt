@@ -1,10 +1,5 @@
-use Rattle.std.proofs.Common.{rules, ◌≡◌, ℕ, List, ap, ◌∙◌, ◌∷◌, [], ◌++◌, map, sym}
-use Rattle.std.proofs.lemmas.List.{map-append}
+use Rattle.std.proofs.Common.{rules, ◌≡◌, ap, ◌∙◌, ◌∷◌, [], ◌++◌}
 use Rattle.std.specs.Option.{option_to_list}
-use Rattle.atomic_table.specs.Seated.{TableId}
-use Rattle.node_lock.specs.declared.view.View.{View}
-use Rattle.dmx_calls.specs.History.{Entry}
-use Rattle.adapter.specs.Callers.{Caller}
 use Rattle.adapter.proofs.Gathers.{first_gathering, next_gathering, next_fits, all_gathered, rows_more}
 use Rattle.adapter.specs.Ends.{rows_of}
 use Rattle.adapter.proofs.ending.join_all.Goals as goal

@@ -1,4 +1,4 @@
-use Rattle.std.proofs.Common.{rules, ◌≡◌, ◌+◌, ℕ, ◌<◌, ◌≤◌, List, length, slice_get, slice_index_or, Some, ap, ◌∙◌, ◌∷◌, [], ◌++◌, refl, sym, subst, set, arith, length-append}
+use Rattle.std.proofs.Common.{rules, ◌≡◌, ◌+◌, ℕ, length, slice_get, slice_index_or, Some, ap, ◌∙◌, ◌∷◌, [], ◌++◌, sym, subst, set, arith, length-append}
 use Rattle.std.specs.Option.{option_to_list}
 use Rattle.std.proofs.lemmas.Option.{slice_get-get_or}
 use Rattle.adapter.proofs.Deals.{Dealing, next_deal}

@@ -1,4 +1,4 @@
-use Rattle.std.proofs.Common.{◌≡◌, ◌+◌, ◌++◌, ◌∷◌, [], vec_len}
+use Rattle.std.proofs.Common.{◌+◌, ◌++◌, ◌∷◌, [], vec_len}
 use Rattle.adapter.proofs.Pairs.{Made}
 use Rattle.adapter.proofs.making.make_clients.Given as goal
 

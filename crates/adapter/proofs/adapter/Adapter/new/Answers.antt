@@ -1,7 +1,5 @@
 use Rattle.std.proofs.Common.{rules, ◌≡◌, ℕ, ◌+◌, ◌≤◌, ◌^◌, ◌∙◌, ◌++◌, ◌∷◌, [], List, length, vec_len, ap, subst, sym, refl, arith}
 use Rattle.atomic_table.specs.Seated.{TableId}
-use Rattle.node_lock.specs.declared.view.View.{View}
-use Rattle.dmx_calls.specs.History.{Entry}
 use Rattle.adapter.specs.Rows.{IsFreshRow}
 use Rattle.adapter.specs.Callers.{Caller, AreFreshCallers}
 use Rattle.adapter.specs.Making.{AreLastFirst, AreFreshClients}

@@ -1,4 +1,4 @@
-use Rattle.std.proofs.Common.{rules, ◌≡◌, ℕ, ◌<◌, ◌≤◌, subst, sym, refl, true, false}
+use Rattle.std.proofs.Common.{rules, ◌≡◌, ◌<◌, subst, sym, refl, true, false}
 use Rattle.std.specs.Result.{is_ok}
 use Rattle.dmx_calls.specs.Entries.{told}
 use Rattle.adapter.specs.Nodes.{IsLegalAt}

@@ -1,8 +1,7 @@
-use Rattle.std.proofs.Common.{rules, ◌≡◌, ℕ, ◌<◌, ◌≤◌, subst, sym, refl}
+use Rattle.std.proofs.Common.{rules, ◌<◌, subst, sym, refl}
 use Rattle.dmx_calls.specs.History.{entry_of}
 use Rattle.dmx_calls.specs.Invocation as asks
 use Rattle.dmx_calls.specs.Response.{Passed}
-use Rattle.dmx_calls.specs.declared.params.Input.TheVariants.{Frontend}
 use Rattle.dmx_calls.specs.Entries.{caller_of}
 use Rattle.adapter.specs.Nodes.{IsLegalAt}
 use Rattle.adapter.specs.Rows.{Fits}

@@ -1,4 +1,4 @@
-use Rattle.std.proofs.Common.{rules, ◌≡◌, ℕ, ◌<◌, ◌≤◌, subst, sym, refl}
+use Rattle.std.proofs.Common.{rules, ◌<◌, subst, sym, refl}
 use Rattle.dmx_calls.specs.History.{entry_of}
 use Rattle.dmx_calls.specs.Invocation as asks
 use Rattle.dmx_calls.specs.Response.{Passed}

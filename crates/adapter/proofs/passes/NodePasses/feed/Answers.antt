@@ -1,6 +1,6 @@
-use Rattle.std.proofs.Common.{rules, ◌≡◌, ℕ, ◌+◌, ◌*◌, ◌<◌, ◌≤◌, List, length, [], ◌∷◌, ◌++◌, ap, sym, ◌∙◌, subst, arith, length-append}
+use Rattle.std.proofs.Common.{rules, ◌≡◌, ℕ, ◌+◌, ◌*◌, ◌≤◌, length, [], ◌∷◌, ap, ◌∙◌, subst, arith, length-append}
 use Rattle.dmx_calls.specs.declared.limits.TheConstants.{DEMUX_NODES as nodes}
-use Rattle.dmx_calls.specs.History.{Entry, entry_of}
+use Rattle.dmx_calls.specs.History.{entry_of}
 use Rattle.dmx_calls.specs.Calls.{response_of}
 use Rattle.dmx_calls.specs.Invocation as asks
 use Rattle.dmx_calls.specs.Response.{Passed}

@@ -1,4 +1,4 @@
-use Rattle.std.proofs.Common.{rules, ◌≡◌, ℕ, ◌<◌, ◌≤◌, List, length, arith, subst, sym, [], ◌∷◌, ◌++◌, ◌∙◌}
+use Rattle.std.proofs.Common.{rules, ◌≡◌, ℕ, ◌<◌, length, subst, sym, [], ◌∷◌, ◌++◌}
 use Rattle.dmx_calls.specs.declared.limits.TheConstants.{DEMUX_NODES as nodes}
 use Rattle.dmx_calls.specs.Entries.{caller_of}
 use Rattle.adapter.specs.Nodes.{IsLegalAt}

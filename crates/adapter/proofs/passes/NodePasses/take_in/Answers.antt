@@ -1,4 +1,4 @@
-use Rattle.std.proofs.Common.{rules, ◌≡◌, ◌∙◌, sym}
+use Rattle.std.proofs.Common.{◌∙◌, sym}
 use Rattle.adapter.proofs.RowJoins.{join_both}
 use Rattle.adapter.proofs.passes.NodePasses.take_in.Goals as goal
 

@@ -1,10 +1,9 @@
-use Rattle.std.proofs.Common.{rules, ◌≡◌, ℕ, ◌<◌, ◌≤◌, List, length, arith, subst, sym, [], ◌∷◌, ◌++◌, ◌∙◌}
+use Rattle.std.proofs.Common.{rules, ◌≡◌, ℕ, ◌<◌, length, subst, sym, [], ◌∷◌, ◌++◌}
 use Rattle.dmx_calls.specs.declared.limits.TheConstants.{DEMUX_NODES as nodes}
-use Rattle.std.specs.Prelude.{IfOk, IfErr}
 use Rattle.std.proofs.lemmas.Result.{IfOk-weaker, IfErr-weaker}
 use Rattle.dmx_calls.specs.Entries.{told, caller_of}
 use Rattle.adapter.specs.Nodes.{IsLegalAt}
-use Rattle.adapter.specs.Rows.{OneCalls, OneMore, OneMisses, OneMiss}
+use Rattle.adapter.specs.Rows.{OneCalls, OneMisses}
 use Rattle.adapter.proofs.Pieces.{calls_left, calls_last, misses_left, misses_last}
 use Rattle.adapter.proofs.Tries.{tried_more, tried_miss}
 use Rattle.adapter.proofs.ByNumber.{DemuxStood, DvrStood, demux_legal, dvr_legal}
