@@ -1,4 +1,5 @@
 pub mod Asked
 pub mod Clapped
+pub mod Numbered
 pub mod Spelled
 pub mod Walks

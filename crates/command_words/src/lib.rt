@@ -21,11 +21,12 @@
 ghost use Rattle.std.specs.Prelude.{◌≡◌, IfOk, IfSome, map, string_bytes};
 ghost use Rattle.command_words.specs.Meant.{IsInRange, command_of, meant};
 
+mod behind;
 mod options;
 #[cfg(test)]
 mod tests;
 
-use options::batch_in;
+use behind::{make, self_test, steps};
 use std::alloc::{AllocError as NoMemory, Global};
 use text_forms::is_word;
 
@@ -34,6 +35,10 @@ use text_forms::is_word;
 pub enum Command {
     /// A session step by step in one thread, in batches of so many packets, 1 to 64.
     Steps { batch: u32 },
+    /// The session of a number.
+    Make { number: u64 },
+    /// The sums of the run of a number's session, step by step in one thread, in batches of so many packets, 1 to 64.
+    SelfTest { number: u64, batch: u32 },
 }
 
 // The command of a first word and the words behind it.
@@ -42,13 +47,16 @@ fn command_by(alloc: Global, first: &[u8], rest: &[String]) -> Result<Option<Com
     ensures value { IfOk result (λ command. command ≡ command_of first.now (map string_bytes rest.now)) }
     ensures range { IfOk result (λ command. IfSome command IsInRange) }
 {
-    if !is_word(first, "steps") {
-        return Ok(None);
+    if is_word(first, "steps") {
+        return steps(alloc, rest);
     }
-    match batch_in(alloc, rest)? {
-        Some(batch) => Ok(Some(Command::Steps { batch })),
-        None => Ok(None),
+    if is_word(first, "make") {
+        return Ok(make(rest));
     }
+    if is_word(first, "selftest") {
+        return self_test(alloc, rest);
+    }
+    Ok(None)
 }
 
 /// The command that the words behind the program's name mean; None where they are refused.

@@ -14,26 +14,36 @@ fn told(alloc: Global, words: &[&str]) -> Result<Option<Command>, Fail> {
 
 #[test]
 fn words_are_taken(rt: HostRuntime) -> Result<(), Fail> {
-    let cases: [(&[&str], u32); 5] = [
-        (&["steps"], 64),
-        (&["steps", "--batch", "1"], 1),
-        (&["steps", "--batch", "64"], 64),
-        (&["steps", "--batch=64"], 64),
-        (&["steps", "--batch=7"], 7),
+    const MOST: u64 = 18446744073709551615;
+    let steps = |batch| Command::Steps { batch };
+    let make = |number| Command::Make { number };
+    let self_test = |number, batch| Command::SelfTest { number, batch };
+    let cases: [(&[&str], Command); 15] = [
+        (&["steps"], steps(64)),
+        (&["steps", "--batch", "1"], steps(1)),
+        (&["steps", "--batch", "64"], steps(64)),
+        (&["steps", "--batch=64"], steps(64)),
+        (&["steps", "--batch=7"], steps(7)),
+        (&["make", "0"], make(0)),
+        (&["make", "7"], make(7)),
+        (&["make", "18446744073709551615"], make(MOST)),
+        (&["selftest", "7"], self_test(7, 64)),
+        (&["selftest", "18446744073709551615"], self_test(MOST, 64)),
+        (&["selftest", "7", "--batch", "2"], self_test(7, 2)),
+        (&["selftest", "--batch", "2", "7"], self_test(7, 2)),
+        (&["selftest", "7", "--batch=2"], self_test(7, 2)),
+        (&["selftest", "--batch=2", "7"], self_test(7, 2)),
+        (&["selftest", "1", "--batch", "1"], self_test(1, 1)),
     ];
-    for (words, batch) in cases {
-        assert_eq!(rt;
-            told(rt.alloc(), words)?,
-            Some(Command::Steps { batch }),
-            "{words:?}"
-        );
+    for (words, want) in cases {
+        assert_eq!(rt; told(rt.alloc(), words)?, Some(want), "{words:?}");
     }
     Ok(())
 }
 
 #[test]
 fn words_are_refused(rt: HostRuntime) -> Result<(), Fail> {
-    let cases: [&[&str]; 27] = [
+    let cases: [&[&str]; 51] = [
         &[],
         &[""],
         &["steps", ""],
@@ -61,6 +71,30 @@ fn words_are_refused(rt: HostRuntime) -> Result<(), Fail> {
         &["run", "--batch", "1"],
         &["steps", "--batch="],
         &["steps", "--batch==1"],
+        &["steps", "7"],
+        &["make"],
+        &["make", ""],
+        &["make", "01"],
+        &["make", "-1"],
+        &["make", "+1"],
+        &["make", "7 "],
+        &["make", "18446744073709551616"],
+        &["make", "7", "7"],
+        &["make", "7", "--batch", "1"],
+        &["make", "--batch=1", "7"],
+        &["make", "--", "7"],
+        &["make", "--help"],
+        &["selftest"],
+        &["selftest", "01"],
+        &["selftest", "--batch", "1"],
+        &["selftest", "7", "--batch", "0"],
+        &["selftest", "7", "--batch", "65"],
+        &["selftest", "7", "--batch"],
+        &["selftest", "--batch", "7"],
+        &["selftest", "7", "8"],
+        &["selftest", "--batch=1", "7", "--batch=1"],
+        &["selftest", "7", "--batch", "1", "--batch", "1"],
+        &["selftest", "--", "7"],
     ];
     for words in cases {
         assert_eq!(rt; told(rt.alloc(), words)?, None, "{words:?}");
