@@ -4,7 +4,7 @@ use Rattle.std.specs.Option.{option_map, option_and_then, option_or}
 use Rattle.text_forms.specs.Numbers.{number_between}
 use Rattle.text_forms.specs.Words.{is_word}
 use Rattle.command_words.specs.declared.Command.{Command}
-use Rattle.command_words.specs.declared.Command.TheVariants.{Steps, Make, SelfTest}
+use Rattle.command_words.specs.declared.Command.TheVariants.{Steps, Run, Make, SelfTest}
 
 -- how many packets a batch has by one word, `--batch=B`
 unfoldable pub batch_joined : List ℕ → Option ℕ
@@ -29,6 +29,10 @@ session_number word = number_between 0 18446744073709551615 word
 unfoldable pub steps_of : List (List ℕ) → Option Command
 steps_of words = option_map (λ batch. Steps batch) (batch_of words)
 
+-- `run`: the same
+unfoldable pub run_of : List (List ℕ) → Option Command
+run_of words = option_map (λ batch. Run batch) (batch_of words)
+
 -- `make`: a number alone
 unfoldable pub make_of : List (List ℕ) → Option Command
 make_of (word ∷ []) = option_map (λ number. Make number) (session_number word)
@@ -49,9 +53,10 @@ self_test_of _ = None
 unfoldable pub command_of : List ℕ → List (List ℕ) → Option Command
 command_of first rest =
     if is_word first (codes "steps") then steps_of rest
+    else (if is_word first (codes "run") then run_of rest
     else (if is_word first (codes "make") then make_of rest
     else (if is_word first (codes "selftest") then self_test_of rest
-    else None))
+    else None)))
 
 -- the command of the words behind the program's name; None where they are refused
 unfoldable pub meant : List (List ℕ) → Option Command
@@ -61,5 +66,6 @@ meant (first ∷ rest) = command_of first rest
 -- a batch has 1 to 64 packets
 abbrev pub IsInRange : Command → Type 0
 IsInRange (Steps batch) = (1 ≤ batch) × (batch ≤ 64)
+IsInRange (Run batch) = (1 ≤ batch) × (batch ≤ 64)
 IsInRange (Make number) = ⊤
 IsInRange (SelfTest number batch) = (1 ≤ batch) × (batch ≤ 64)

@@ -1,6 +1,6 @@
 // The words behind the first, command by command.
 ghost use Rattle.std.specs.Prelude.{◌≡◌, ◌≤◌, IfOk, IfSome, map, string_bytes};
-ghost use Rattle.command_words.specs.Meant.{IsInRange, batch_of, make_of, self_test_by, self_test_of, session_number as number_of_word, steps_of};
+ghost use Rattle.command_words.specs.Meant.{IsInRange, batch_of, make_of, run_of, self_test_by, self_test_of, session_number as number_of_word, steps_of};
 
 use crate::Command;
 use crate::options::batch_in;
@@ -15,6 +15,18 @@ pub fn steps(alloc: Global, rest: &[String]) -> Result<Option<Command>, NoMemory
 {
     match batch_in(alloc, rest)? {
         Some(batch) => Ok(Some(Command::Steps { batch })),
+        None => Ok(None),
+    }
+}
+
+// Behind `run`.
+#[tactic(auto, unfolding(crate::specs::Meant::run_of))]
+pub fn run(alloc: Global, rest: &[String]) -> Result<Option<Command>, NoMemory>
+    ensures value { IfOk result (λ command. command ≡ run_of (map string_bytes rest.now)) }
+    ensures range { IfOk result (λ command. IfSome command IsInRange) }
+{
+    match batch_in(alloc, rest)? {
+        Some(batch) => Ok(Some(Command::Run { batch })),
         None => Ok(None),
     }
 }

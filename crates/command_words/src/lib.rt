@@ -1,7 +1,8 @@
 //! The words of the command line: which command they name.
 //!
-//! `steps` stands alone, or before the two words `--batch` and B, or before the one word `--batch=B`. B is a number from 1 to
-//! 64 in decimal digits, without sign and without a leading zero; without `--batch` it is 64. A repeated option, the word
+//! `steps` or `run` stands alone, or before the two words `--batch` and B, or before the one word `--batch=B`; `make` before a
+//! number N; `selftest` before N alone, or with the same option before or behind N. B is a number from 1 to 64 and N one below
+//! 2^64, in decimal digits, without sign and without a leading zero; without `--batch`, B is 64. A repeated option, the word
 //! `--`, `--help`, `-h` and all other words are refused.
 //!
 //! What a contract sees: the words as lists of bytes. `meant` in specs/Meant.antt says which command they name, by plain
@@ -26,7 +27,7 @@ mod options;
 #[cfg(test)]
 mod tests;
 
-use behind::{make, self_test, steps};
+use behind::{make, run, self_test, steps};
 use std::alloc::{AllocError as NoMemory, Global};
 use text_forms::is_word;
 
@@ -35,6 +36,8 @@ use text_forms::is_word;
 pub enum Command {
     /// A session step by step in one thread, in batches of so many packets, 1 to 64.
     Steps { batch: u32 },
+    /// A session by threads, in batches of so many packets, 1 to 64.
+    Run { batch: u32 },
     /// The session of a number.
     Make { number: u64 },
     /// The sums of the run of a number's session, step by step in one thread, in batches of so many packets, 1 to 64.
@@ -49,6 +52,9 @@ fn command_by(alloc: Global, first: &[u8], rest: &[String]) -> Result<Option<Com
 {
     if is_word(first, "steps") {
         return steps(alloc, rest);
+    }
+    if is_word(first, "run") {
+        return run(alloc, rest);
     }
     if is_word(first, "make") {
         return Ok(make(rest));

@@ -16,14 +16,18 @@ fn told(alloc: Global, words: &[&str]) -> Result<Option<Command>, Fail> {
 fn words_are_taken(rt: HostRuntime) -> Result<(), Fail> {
     const MOST: u64 = 18446744073709551615;
     let steps = |batch| Command::Steps { batch };
+    let run = |batch| Command::Run { batch };
     let make = |number| Command::Make { number };
     let self_test = |number, batch| Command::SelfTest { number, batch };
-    let cases: [(&[&str], Command); 15] = [
+    let cases: [(&[&str], Command); 18] = [
         (&["steps"], steps(64)),
         (&["steps", "--batch", "1"], steps(1)),
         (&["steps", "--batch", "64"], steps(64)),
         (&["steps", "--batch=64"], steps(64)),
         (&["steps", "--batch=7"], steps(7)),
+        (&["run"], run(64)),
+        (&["run", "--batch", "1"], run(1)),
+        (&["run", "--batch=64"], run(64)),
         (&["make", "0"], make(0)),
         (&["make", "7"], make(7)),
         (&["make", "18446744073709551615"], make(MOST)),
@@ -43,7 +47,7 @@ fn words_are_taken(rt: HostRuntime) -> Result<(), Fail> {
 
 #[test]
 fn words_are_refused(rt: HostRuntime) -> Result<(), Fail> {
-    let cases: [&[&str]; 51] = [
+    let cases: [&[&str]; 52] = [
         &[],
         &[""],
         &["steps", ""],
@@ -68,7 +72,8 @@ fn words_are_refused(rt: HostRuntime) -> Result<(), Fail> {
         &["steps", "-batch", "1"],
         &["steps", "--batc", "1"],
         &["--batch", "1", "steps"],
-        &["run", "--batch", "1"],
+        &["run", "--batch", "65"],
+        &["run", "7"],
         &["steps", "--batch="],
         &["steps", "--batch==1"],
         &["steps", "7"],
