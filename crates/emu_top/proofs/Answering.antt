@@ -9,8 +9,7 @@ use Rattle.client_script.specs.declared.line.Line.TheVariants.{Feed, Tick, Comma
 use Rattle.client_script.specs.declared.fault.ScriptFault.{ScriptFault}
 use Rattle.client_script.specs.Script.{split, parted, grammar, most_bytes, script_len, whole_lines, IsScript}
 use Rattle.client_script.proofs.Splitting.{split-found}
-use Rattle.client_core.specs.Budget.{most_calls}
-use Rattle.serial_core.specs.Budget.{all_commands}
+use Rattle.client_core.specs.Budget.{most_calls, all_commands}
 use Rattle.command_words.specs.declared.Command.{Command as Asked}
 use Rattle.command_words.specs.declared.Command.TheVariants.{Steps}
 use Rattle.command_words.specs.Meant.{meant}

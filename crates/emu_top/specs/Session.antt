@@ -1,5 +1,5 @@
 -- What is read of a session, and what is to be written for it.
-use Rattle.std.specs.Prelude.{◌≡◌, ◌⊎◌, ⊤, ℕ, ◌≤◌, ◌++◌, Bool, true, false, List, [], length, Option, Some, None, Result, Ok, Err, IfSome}
+use Rattle.std.specs.Prelude.{◌≡◌, ◌⊎◌, ⊤, ℕ, ◌≤◌, ◌++◌, Bool, true, false, List, [], length, Option, Some, None, Ok, Err, IfSome}
 use Rattle.std.specs.Io.KnownBytes.{Consumes, IsAtEnd}
 use Rattle.emu_io.specs.Causes.{Rose}
 use Rattle.ts_packet.specs.Cut.{cut}
@@ -8,18 +8,17 @@ use Rattle.client_script.specs.declared.line.Line.{Line}
 use Rattle.client_script.specs.declared.fault.ScriptFault.{ScriptFault}
 use Rattle.client_script.specs.declared.fault.ScriptError.{ScriptError}
 use Rattle.client_script.specs.declared.fault.ScriptError.TheVariants.{Fault, NoMemory as NoMemoryToRead}
-use Rattle.client_script.specs.Script.{split, grammar, most_bytes, IsScript}
+use Rattle.client_script.specs.Script.{split, grammar, IsScript}
 use Rattle.client_core.specs.declared.stop.Stop.{Stop}
 use Rattle.client_core.specs.declared.stop.Stop.TheVariants.{NoMemory as NoMemoryToRun, TooLong as RunTooLong}
-use Rattle.client_core.specs.Budget.{most_calls}
+use Rattle.client_core.specs.Budget.{most_calls, all_commands}
 use Rattle.feed_pull.specs.Pulling.{Pulling, Pulls}
-use Rattle.serial_core.specs.Budget.{all_commands}
 use Rattle.serial_core.specs.SerialRun.{Run, IsSerialRun}
 use Rattle.serial_core.specs.Ran.{histories_in, outcomes_in}
 use Rattle.serial_core.specs.Runs.{IsAccountedRun}
 use Rattle.report_text.specs.Report.{report_of}
 use Rattle.emu_top.specs.declared.status.Status.{Status}
-use Rattle.emu_top.specs.declared.status.Status.TheVariants.{Usage, Script, TooLong, ReadFault, WriteFault, NoMemory, Ok as Done}
+use Rattle.emu_top.specs.declared.status.Status.TheVariants.{Script, TooLong, ReadFault, NoMemory}
 
 -- These bytes of a session have a whole script without a fault, and the text is the report of the serial run of its lines
 -- over the packets of the stream behind it, in batches of this size. `failed`: reading failed behind the last byte. The

@@ -1,2 +1,3 @@
 pub mod Pulling
 pub mod Steps
+pub mod Streams

@@ -7,8 +7,8 @@ use Rattle.feed_pull.specs.declared.fault.Reading.{Reading}
 use Rattle.feed_pull.specs.declared.fault.Reading.TheVariants.{Going, Ended, Failed, TooMany}
 use Rattle.feed_pull.specs.Pulling.{Pulling, Pulls, has_failed}
 use Rattle.feed_pull.specs.Steps.{Follows}
-use Rattle.serial_core.specs.Moving.{Draws}
-use Rattle.serial_core.specs.Ran.{OfStream, IsTooLong}
+use Rattle.feed_pull.specs.Streams.{Draws, OfStream}
+use Rattle.client_core.specs.Budget.{IsTooLong}
 
 failed_by : (r : Reading) → has_failed r ≡ true → r ≡ Failed
 failed_by Going is = absurd (cc)

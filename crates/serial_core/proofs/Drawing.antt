@@ -10,7 +10,8 @@ use Rattle.feed_pull.specs.Steps.{Carries, Follows, ReadsNothing}
 use Rattle.feed_pull.proofs.PullLemmas.{Follows-none, Follows-then, Pulls-front, Pulls-done}
 use Rattle.serial_core.specs.declared.runner.Runner.{Runner}
 use Rattle.serial_core.specs.SerialRun.{Run}
-use Rattle.serial_core.specs.Moving.{Draws, Moves}
+use Rattle.serial_core.specs.Moving.{Moves}
+use Rattle.feed_pull.specs.Streams.{Draws}
 
 pub Carries-none : (x : Option (List ℕ)) (p : Pulling) → Carries x x p [] p
 Carries-none x p = record {

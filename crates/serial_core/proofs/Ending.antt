@@ -19,7 +19,7 @@ use Rattle.serial_core.specs.declared.seat.Seat.{Seat}
 use Rattle.serial_core.specs.declared.nodes.Nodes.{Nodes}
 use Rattle.client_core.specs.Core.{Core, IsAfter}
 use Rattle.client_core.specs.Events.{outcomes}
-use Rattle.client_core.specs.Budget.{most_calls}
+use Rattle.client_core.specs.Budget.{most_calls, all_commands}
 use Rattle.dmx_calls.specs.Head.{told_head, head_of}
 use Rattle.feed_pull.specs.Pulling.{Pulls, IsDone}
 use Rattle.feed_pull.proofs.PullLemmas.{Pulls-done, Pulls-front, Pulls-size}
@@ -29,10 +29,10 @@ use Rattle.serial_core.specs.Nodes.{Node, log_of}
 use Rattle.serial_core.specs.SerialRun.{Run, begun, replies_of, IsSerialRun}
 use Rattle.serial_core.specs.Standing.{Pairs, IsDemux, IsNodes, acts_on, acts_of}
 use Rattle.serial_core.specs.Legal.{AreLegal}
-use Rattle.serial_core.specs.Budget.{all_commands}
 use Rattle.serial_core.specs.Moving.{IsAt, Moves}
 use Rattle.serial_core.specs.Lines.{AreAfter, IsWholeBy, Overruns}
-use Rattle.serial_core.specs.Ran.{IsRanOf, OfStream, IsBegun, AreFresh, histories_in}
+use Rattle.serial_core.specs.Ran.{IsRanOf, IsBegun, AreFresh, histories_in}
+use Rattle.feed_pull.specs.Streams.{OfStream}
 use Rattle.serial_core.proofs.Lawful.{serial_legal}
 use Rattle.serial_core.proofs.Within.{paid_begun, within, own_commands}
 

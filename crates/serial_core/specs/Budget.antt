@@ -1,5 +1,5 @@
 -- What pays for the calls of clients in the serial run (this project's own).
-use Rattle.std.specs.Prelude.{ℕ, ◌≡◌, ◌≤◌, ◌+◌, ◌*◌, ◌-◌, Bool, true, false, ◌||◌, List, [], ◌∷◌, ◌++◌, length, Some, sum_by, is_some, All}
+use Rattle.std.specs.Prelude.{ℕ, ◌≡◌, ◌≤◌, ◌+◌, ◌*◌, ◌-◌, Bool, true, false, ◌||◌, List, ◌∷◌, ◌++◌, length, Some, sum_by, is_some, All}
 use Rattle.ts_packet.specs.Fields.{IsPacket}
 use Rattle.dmx_calls.specs.declared.limits.TheConstants.{DEMUX_NODES}
 use Rattle.dmx_calls.specs.Response.{Response, Data, Overflow}
@@ -18,12 +18,6 @@ use Rattle.serial_core.specs.Nodes.{Node, history_of}
 use Rattle.serial_core.specs.SerialRun.{Run, begun, replies_of, called, after_waiting, AreDone, IsSerialRun}
 
 -- ------ the law
-
--- how many commands a script has
-abbrev pub all_commands : List Line → ℕ
-all_commands [] = 0
-all_commands (Command line client target verb ∷ lines) = 1 + all_commands lines
-all_commands (_ ∷ lines) = all_commands lines
 
 module _ (lines : List Line) (batch : ℕ) where
   -- some calls of a command are made

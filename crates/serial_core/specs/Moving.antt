@@ -4,8 +4,8 @@ use Rattle.std.specs.declared.option.Option.{Option}
 use Rattle.client_script.specs.declared.line.Line.{Line}
 use Rattle.client_core.specs.Core.{Core, IsAfter}
 use Rattle.client_core.specs.Events.{next_of_line}
-use Rattle.feed_pull.specs.Pulling.{Pulling, Pulls, IsDone}
-use Rattle.feed_pull.specs.Steps.{Carries, Follows}
+use Rattle.feed_pull.specs.Pulling.{Pulls, IsDone}
+use Rattle.feed_pull.specs.Streams.{Draws}
 use Rattle.serial_core.specs.declared.runner.Runner.{Runner}
 use Rattle.serial_core.specs.SerialRun.{Run, replies_of, IsWorked}
 use Rattle.serial_core.specs.Budget.{one_if, IsPaid}
@@ -16,12 +16,6 @@ pub record IsAt (v : Runner) (r : Run) : Type 0 where
   pub nodes : IsNodes v.nodes r
   pub first : v.puller.given ≡ r.first
   pub moment : v.moment ≡ r.moment
-
--- What pulls do to a source and a puller: these packets were given, with the bytes that the source gave for them.
-pub record Draws (content left : Option (List ℕ)) (before after : ℕ) (old new : Pulling) (packets : List (List ℕ)) : Type 0 where
-  pub carries : Carries content left old packets new
-  pub follows : Follows old.reading new.reading content left before after
-  pub start : new.start ≡ old.start
 
 -- The code and the run go on together: the packets that were pulled are those that the run has in front, whatever comes behind them. Behind the last packet of a puller that is done comes nothing.
 pub record Moves (content left : Option (List ℕ)) (before after : ℕ) (old new : Runner) (goes : Run → Run → Type 0) : Type 0 where

@@ -1,23 +1,18 @@
 -- What `run_steps` answers.
-use Rattle.std.specs.Prelude.{◌≡◌, ℕ, ◌≤◌, ◌<◌, ◌+◌, false, slice_index_or, All, List, [], length, map, ◌⊎◌}
+use Rattle.std.specs.Prelude.{◌≡◌, ℕ, ◌≤◌, ◌<◌, false, slice_index_or, All, List, [], length, map}
 use Rattle.std.specs.List.{range_with_len}
-use Rattle.std.specs.declared.option.Option.{Option}
-use Rattle.std.specs.Io.KnownBytes.{Consumes}
 use Rattle.ts_packet.specs.Cut.{cut}
 use Rattle.dmx_calls.specs.declared.outcome.Outcome.{Outcome}
 use Rattle.dmx_calls.specs.Head.{told_head, head_of}
 use Rattle.dmx_calls.specs.Log.{LogEntry}
 use Rattle.client_script.specs.declared.line.Line.{Line}
 use Rattle.client_script.specs.Script.{clients_in}
-use Rattle.client_core.specs.Budget.{most_calls}
 use Rattle.client_core.specs.Events.{outcomes}
-use Rattle.feed_pull.specs.Pulling.{Pulling, Pulls}
 use Rattle.client_core.specs.Core.{Core, IsAfter}
 use Rattle.serial_core.specs.declared.run.Ran.{Ran}
 use Rattle.serial_core.specs.declared.runner.Runner.{Runner}
 use Rattle.serial_core.specs.Nodes.{log_of}
 use Rattle.serial_core.specs.SerialRun.{Run, begun, IsSerialRun, nodes_of, replies_of}
-use Rattle.serial_core.specs.Budget.{all_commands}
 use Rattle.serial_core.specs.Standing.{IsNodes, AreCounted}
 
 -- the entries of the 33 nodes, the oldest first, the dvr node last
@@ -35,16 +30,6 @@ pub record IsRanOf (lines : List Line) (batch : ℕ) (stream : List ℕ) (ran : 
   pub histories : ran.histories ≡ histories_in run
   pub outcomes : map (λ those. those.items) ran.outcomes.items ≡ outcomes_in lines run
   pub head : told_head ran.head ≡ head_of stream ran.head.read_fault
-
--- So many bytes were taken from the source, and whatever bytes stand ahead of them in the puller, it is so of the stream of both.
-abbrev pub OfStream : (content left : Option (List ℕ)) → Pulling → ((ahead taken : List ℕ) → Type 0) → Type 0
-OfStream content left puller P = (taken : List ℕ) × Consumes content left taken × ((ahead : List ℕ) → Pulls ahead [] [] puller → P ahead taken)
-
--- Why a run is too long: so many reads were made, as the bytes taken show, or the commands and the bytes allow a client so many calls.
-abbrev pub IsTooLong : (lines : List Line) → (start turns : ℕ) → (ahead taken : List ℕ) → Type 0
-IsTooLong lines start turns ahead taken =
-    ((turns ≡ 4294967296) × (4294967296 ≤ start + length taken))
-    ⊎ ((turns ≡ 549755813888) × (549755813888 ≤ most_calls (all_commands lines) (length ahead + length taken)))
 
 -- ------ before the first line
 

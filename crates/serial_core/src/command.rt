@@ -5,7 +5,8 @@ ghost use Rattle.client_script.specs.declared.line.Line.{Line as ScriptLine};
 ghost use Rattle.client_core.specs.Commands.{IsWantInRange};
 ghost use Rattle.client_core.specs.Core.{IsAfter};
 ghost use Rattle.feed_pull.specs.declared.fault.Reading.TheVariants.{Going};
-ghost use Rattle.serial_core.specs.Moving.{ComesBy, Draws, HasMade, IsDoneBy, IsSound, Moves};
+ghost use Rattle.serial_core.specs.Moving.{ComesBy, HasMade, IsDoneBy, IsSound, Moves};
+ghost use Rattle.feed_pull.specs.Streams.{Draws};
 ghost use Rattle.serial_core.specs.SerialRun.{after_waiting, called, replies_of, reply_to};
 
 use crate::runner::Runner;

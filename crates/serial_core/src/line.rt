@@ -4,7 +4,8 @@ ghost use Rattle.client_script.specs.Script.{clients_of, most_bytes};
 ghost use Rattle.client_script.specs.declared.line.Line.{Line as ScriptLine};
 ghost use Rattle.feed_pull.specs.declared.fault.Reading.TheVariants.{Going};
 ghost use Rattle.serial_core.specs.Lines.{AreAfter, AreInBudget, IsFrontBy, IsLineBy, IsWholeBy, Overruns, OverrunsBy, calls_by};
-ghost use Rattle.serial_core.specs.Moving.{Draws, HasMade, IsSound, Moves};
+ghost use Rattle.serial_core.specs.Moving.{HasMade, IsSound, Moves};
+ghost use Rattle.feed_pull.specs.Streams.{Draws};
 
 use crate::runner::Runner;
 use client_core::{ClientCore, Stop};

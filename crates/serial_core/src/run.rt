@@ -10,9 +10,11 @@ ghost use Rattle.client_core.specs.Events.{outcomes};
 ghost use Rattle.client_script.specs.declared.line.Line.{Line as ScriptLine};
 ghost use Rattle.std.specs.List.{range_with_len};
 ghost use Rattle.serial_core.specs.Lines.{AreAfter};
-ghost use Rattle.serial_core.specs.Moving.{Draws, IsSound};
+ghost use Rattle.serial_core.specs.Moving.{IsSound};
+ghost use Rattle.feed_pull.specs.Streams.{Draws, OfStream};
 ghost use Rattle.serial_core.specs.SerialRun.{Run, replies_of};
-ghost use Rattle.serial_core.specs.Ran.{AreFresh, IsBegun, IsRanOf, IsTooLong, OfStream, histories_in};
+ghost use Rattle.serial_core.specs.Ran.{AreFresh, IsBegun, IsRanOf, histories_in};
+ghost use Rattle.client_core.specs.Budget.{IsTooLong};
 ghost use Rattle.serial_core.specs.Legal.{AreLegal};
 ghost use Rattle.serial_core.specs.Standing.{IsNodes};
 

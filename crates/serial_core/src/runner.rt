@@ -2,7 +2,8 @@
 ghost use Rattle.std.specs.Prelude.{◌≡◌, true, ℕ, ◌+◌, ◌-◌, ◌<◌, ◌≤◌, ◌^◌, ◌≢◌, List, [], length, min, IfOk, OnOk, OnErr};
 ghost use Rattle.client_script.specs.declared.line.Line.{Line as ScriptLine};
 ghost use Rattle.serial_core.specs.SerialRun.{Run, fed, finished, ticked, turned};
-ghost use Rattle.serial_core.specs.Moving.{Draws, HasMade, IsAt, IsSound, Moves};
+ghost use Rattle.serial_core.specs.Moving.{HasMade, IsAt, IsSound, Moves};
+ghost use Rattle.feed_pull.specs.Streams.{Draws};
 ghost use Rattle.feed_pull.specs.declared.fault.Reading.TheVariants.{Going};
 
 use crate::nodes::Nodes;

@@ -2,7 +2,7 @@ use Rattle.std.proofs.Common.{◌≡◌, ℕ, List, length}
 use Rattle.client_script.specs.declared.line.Line.{Line}
 use Rattle.serial_core.specs.SerialRun.{Run, finished}
 use Rattle.serial_core.specs.Lines.{IsFrontBy}
-use Rattle.serial_core.specs.Moving.{Draws}
+use Rattle.feed_pull.specs.Streams.{Draws}
 use Rattle.serial_core.proofs.Drawing.{draws_then, moves_then, still_counts, on_err}
 use Rattle.serial_core.proofs.Lining.{whole_by}
 use Rattle.serial_core.proofs.runner.Runner.whole.Goals as goal

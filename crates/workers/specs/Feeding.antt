@@ -1,0 +1,59 @@
+-- What the feeder has done, and how it is tied to what its passes know.
+use Rattle.std.specs.Prelude.{◌≡◌, ◌<◌, ◌≤◌, ◌+◌, ℕ, Bool, IsTrue, List, [], ◌∷◌, ◌++◌, length, map, take, drop, slice_get, Some, All}
+use mathlib.Core.Option.{some}
+use lib.ListN.{get_elem?}
+use Rattle.atomic_table.specs.Seated.{TableId}
+use Rattle.node_lock.specs.declared.view.View.{View}
+use Rattle.dmx_calls.specs.declared.histories.Fed.{Fed}
+use Rattle.dmx_calls.specs.declared.params.Input.TheVariants.{Frontend}
+use Rattle.dmx_calls.specs.Invocation.{Pass}
+use Rattle.dmx_calls.specs.Response.{Passed}
+use Rattle.dmx_calls.specs.History.{Entry, entry_of}
+use Rattle.adapter.specs.Callers.{Caller}
+use Rattle.adapter.specs.Nodes.{ended}
+
+-- the entry of a batch of these packets' stream
+abbrev pub fed_entry : (stream : List (List ℕ)) → Fed → Entry
+fed_entry stream fed = entry_of 0 (Pass Frontend fed.first (take fed.count (drop fed.first stream)) fed.now) Passed
+
+abbrev pub fed_entries : (stream : List (List ℕ)) → List Fed → List Entry
+fed_entries stream feeding = map (fed_entry stream) feeding
+
+-- The batches tile the packets from this number on up to that: each has 1 to `most`, and begins where the one before it
+-- ends.
+abbrev pub Tiles : (most first end : ℕ) → List Fed → Type 0
+Tiles most first end [] = first ≡ end
+Tiles most first end (fed ∷ feeding) = (fed.first ≡ first) × (1 ≤ fed.count) × (fed.count ≤ most) × Tiles most (first + fed.count) end feeding
+
+-- every batch but the last has `most` packets
+abbrev pub AreFullBatches : (most : ℕ) → List Fed → Type 0
+AreFullBatches most [] = Unit {0}
+AreFullBatches most (fed ∷ []) = Unit {0}
+AreFullBatches most (fed ∷ next ∷ feeding) = (fed.count ≡ most) × AreFullBatches most (next ∷ feeding)
+
+-- these entries stand in the history at these places
+abbrev pub StandAt : List Entry → (entries : List Entry) → (places : List ℕ) → Type 0
+StandAt h [] [] = Unit {0}
+StandAt h (x ∷ xs) (place ∷ places) = (get_elem? h place ≡ some x) × StandAt h xs places
+StandAt h _ _ = ⊥
+
+-- a pass of the feeder has made just these entries, in this order
+pub record HasMade (entries : List Entry) (p : TableId × View Entry) : Type 0 where
+  pub places : List ℕ
+  pub number : p.1.number ≡ 0
+  pub own : p.1.own ≡ map (λ place. (0, place)) places
+  pub stand : StandAt p.1.seen entries places
+  pub rise : (i j place later : ℕ) → i < j → slice_get places i ≡ Some place → slice_get places j ≡ Some later → place < later
+
+-- The feeder has passed these packets through all nodes, in these batches, each at a moment that the clock may give, and has
+-- made these entries behind them.
+pub record HasFed (most : ℕ) (may : ℕ → Bool) (packets : List (List ℕ)) (behind : List Entry) (c : Caller) (feeding : List Fed) : Type 0 where
+  pub who : c.who ≡ 0
+  pub tiles : Tiles most 0 (length packets) feeding
+  pub moments : All (λ fed. IsTrue (may fed.now)) feeding
+  pub made : (node : ℕ) (p : TableId × View Entry) → slice_get c.passes node ≡ Some p → HasMade (fed_entries packets feeding ++ behind) p
+
+-- The whole stream has passed, in full batches but for the last, and then its end.
+pub record HasFedAll (most : ℕ) (may : ℕ → Bool) (stream : List (List ℕ)) (c : Caller) (feeding : List Fed) : Type 0 where
+  pub fed : HasFed most may stream (ended ∷ []) c feeding
+  pub full : AreFullBatches most feeding

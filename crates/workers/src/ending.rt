@@ -1,0 +1,39 @@
+//! The end of a run: the adapter ends, and the calls of all callers are brought together.
+ghost use Rattle.std.specs.Prelude.{◌≡◌, ◌++◌, ◌∷◌, [], ℕ, Bool, List, map, All, IfOk};
+ghost use Rattle.dmx_calls.specs.Calls.{told_entry};
+ghost use Rattle.dmx_calls.specs.declared.outcome.Outcome.{Outcome};
+ghost use Rattle.client_script.specs.declared.line.Line.{Line};
+ghost use Rattle.client_core.specs.WholeRun.{IsWholeRun};
+ghost use Rattle.adapter.specs.Callers.{AreAllCallers};
+ghost use Rattle.trace_merge.specs.Merging.{AreOnNodes};
+ghost use Rattle.workers.specs.Worked.{AreWorked};
+
+use adapter::{Adapter, Client, Feeder};
+use dmx_calls::{Entry, Fed, Histories};
+use std::alloc::{AllocError as NoMemory, Global};
+use trace_merge::histories;
+
+/// Ends the adapter, and brings the calls of its feeder and of its clients together, in the order of their places.
+///
+/// These are the histories of a run: of whatever script the logs are the calls, and whatever stream was fed.
+///
+/// # Errors
+///
+/// `NoMemory` where memory was refused.
+pub fn histories_of_run(
+    alloc: Global,
+    adapter: Adapter,
+    feeder: Feeder,
+    clients: Vec<Client>,
+    feeding: Vec<Fed>,
+    logs: Vec<Vec<Entry>>,
+) -> Result<Histories, NoMemory>
+    requires all { AreAllCallers adapter (clients.items ++ feeder ∷ []) }
+    requires nodes { All (λ log. AreOnNodes log.items) logs.items }
+    ensures { IfOk result (λ hs. (lines : List Line) (most : ℕ) (may : ℕ → Bool) (stream : List (List ℕ)) (told : List (List Outcome))
+        → AreWorked lines most may stream feeder feeding.items clients.items (map (λ log. map told_entry log.items) logs.items) told
+        → IsWholeRun lines most may stream told hs) }
+{
+    let _ = adapter.finish(feeder, clients);
+    histories(alloc, feeding, logs)
+}
