@@ -1,4 +1,5 @@
 """What the scripts of this folder share: a stream, and the times that programs take over it."""
+import os
 import random
 import subprocess
 import time
@@ -53,3 +54,14 @@ def least_times(ways, path, repeats):
         for name, words in ways.items():
             least[name] = min(least[name], run(words, path)[1])
     return least
+
+
+def peak_memory(words, path):
+    """The most bytes of memory that a run held, by the system's count."""
+    with open(path, "rb") as source:
+        child = subprocess.Popen(words, stdin=source, stdout=subprocess.DEVNULL)
+        _, status, used = os.wait4(child.pid, 0)
+    child.returncode = os.waitstatus_to_exitcode(status)
+    if child.returncode:
+        raise subprocess.CalledProcessError(child.returncode, words)
+    return used.ru_maxrss * 1024

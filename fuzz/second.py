@@ -146,10 +146,7 @@ def matches(places, section):
 class Capture:
     def __init__(self, moment):
         self.started, self.stopped, self.expired, self.told = moment, False, None, False
-        self.offered, self.items, self.answered, self.over = [], [], 0, None
-
-    def total(self):
-        return sum(len(item) for item in self.items)
+        self.offered, self.items, self.total, self.answered, self.over = [], [], 0, 0, None
 
 
 class Node:
@@ -161,15 +158,16 @@ class Node:
     def arrive(self, items):
         capture = self.capture
         for item in items:
-            room = self.size - 1 - (capture.total() - capture.answered)
+            room = self.size - 1 - (capture.total - capture.answered)
             if capture.over is None and len(item) > room:
                 capture.over = (len(capture.items), len(item), room)
             capture.items.append(item)
+            capture.total += len(item)
 
     def drop(self):
         """The span that a call drops, as its reply names it."""
         capture, self.capture = self.capture, None
-        return (capture.answered, capture.total()) if capture else (0, 0)
+        return (capture.answered, capture.total) if capture else (0, 0)
 
     def by_sections(self):
         return False
@@ -189,7 +187,7 @@ class Node:
         capture = self.capture
         if capture is None:
             return "data -"
-        total, answered = capture.total(), capture.answered
+        total, answered = capture.total, capture.answered
         if capture.over:
             item, need, room = capture.over
             capture.over, capture.answered = None, total
@@ -212,7 +210,7 @@ class Node:
         if capture is None:
             return f"ready readable=0 error=none at=0 ended={int(self.ended)}"
         error = "overflow" if capture.over else "timedout" if self.is_untold() else "none"
-        readable = error != "none" or capture.total() > capture.answered
+        readable = error != "none" or capture.total > capture.answered
         return f"ready readable={int(readable)} error={error} at={capture.answered} ended={int(self.ended)}"
 
 
@@ -273,7 +271,7 @@ class Demux(Node):
         if self.state() != "Go":
             return
         if self.filter[0] == "section":
-            self.capture.offered += packets
+            self.capture.offered += [packet for packet in packets if pid_of(packet) == self.filter[1]]
             self.arrive(self.selected()[len(self.capture.items) :])
             return
         for packet in packets:
@@ -648,12 +646,18 @@ def pid_rows(packets):
     return rows
 
 
-def report(session, batch):
-    """The report of a session's `steps`, as text. Raises Fault where its script has one."""
+def run_of(session, batch):
+    """The run of a session's `steps`, and what was cut of its stream. Raises Fault where its script has one."""
     lines, stream = read_script(session)
     packets, skipped, rest = cut(stream)
     run = Run(lines, packets, batch)
     run.run()
+    return run, packets, skipped, rest
+
+
+def report(session, batch):
+    """The report of a session's `steps`, as text."""
+    run, packets, skipped, rest = run_of(session, batch)
     text = ["dvbemu 1", f"packets={len(packets)} skipped={skipped} rest={rest}", *pid_rows(packets)]
     for client, outcomes in enumerate(run.outcomes):
         text += [f"client {client}", *outcomes]
@@ -662,3 +666,16 @@ def report(session, batch):
             text.append("node dvr" if number_of == DVR else f"node {number_of}")
             text += [f"{place} {who} {step} {act} = {reply}" for place, (who, step, act, reply) in enumerate(node.entries)]
     return "\n".join([*text, "end"]) + "\n"
+
+
+def bytes_read(node):
+    return sum(len(reply[5:]) // 2 for _, _, _, reply in node.entries if reply.startswith("data ") and reply != "data -")
+
+
+def sums(session, batch):
+    """The sums of the same run in one line."""
+    run, packets, _, _ = run_of(session, batch)
+    entries = sum(len(node.entries) for node in run.nodes)
+    overflows = sum(reply.startswith("overflow ") for node in run.nodes for _, _, _, reply in node.entries)
+    demux = sum(map(bytes_read, run.nodes[:DVR]))
+    return f"packets={len(packets)} entries={entries} demux={demux} dvr={bytes_read(run.nodes[DVR])} overflows={overflows}\n"

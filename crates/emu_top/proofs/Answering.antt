@@ -11,10 +11,11 @@ use Rattle.client_script.specs.Script.{split, parted, grammar, most_bytes, scrip
 use Rattle.client_script.proofs.Splitting.{split-found}
 use Rattle.client_core.specs.Budget.{most_calls, all_commands}
 use Rattle.command_words.specs.declared.Command.{Command as Asked}
-use Rattle.command_words.specs.declared.Command.TheVariants.{Steps}
+use Rattle.command_words.specs.declared.Command.TheVariants.{Steps, Make, SelfTest}
 use Rattle.command_words.specs.Meant.{meant}
-use Rattle.emu_top.specs.Session.{Makes, GivesUp, FailsEarly, Refuses, HasFault}
-use Rattle.emu_top.specs.Serves.{Outside, Says, Serves, Determines, NoReadFails, NoWriteFails}
+use Rattle.ts_make.specs.Made.{made}
+use Rattle.emu_top.specs.Session.{Makes, GivesUp, FailsEarly, Refuses, HasFault, IsSums}
+use Rattle.emu_top.specs.Serves.{Outside, Says, Serves, Determines, NoReadFails, NoWriteFails, Tells, Gives}
 use Rattle.emu_top.specs.declared.status.Status.{Status}
 use Rattle.emu_top.specs.declared.status.Status.TheVariants.{Usage, Script, TooLong, ReadFault, WriteFault, NoMemory, Ok as Done}
 
@@ -65,7 +66,7 @@ few_commands (Feed n ∷ lines) = let h = few_commands lines in omega arith
 few_commands (Tick n ∷ lines) = let h = few_commands lines in omega arith
 few_commands (Command line client target verb ∷ lines) = let h = few_commands lines in omega arith
 
-not_too_long : (input bytes rest stream : List ℕ) (lines : List Line) (turns : ℕ) → input ≡ bytes ++ rest → length input < 4294967296 → length stream ≤ length bytes → IsScript lines
+pub not_too_long : (input bytes rest stream : List ℕ) (lines : List Line) (turns : ℕ) → input ≡ bytes ++ rest → length input < 4294967296 → length stream ≤ length bytes → IsScript lines
     → ((turns ≡ 4294967296) × (turns ≤ length bytes)) ⊎ ((turns ≡ 549755813888) × (turns ≤ most_calls (all_commands lines) (length stream))) → ⊥
 not_too_long input bytes rest stream lines turns is short fits known (inl (e, le)) =
     let size : length input ≡ length bytes + length rest = ap length is ∙ length-append bytes rest in
@@ -79,10 +80,10 @@ not_too_long input bytes rest stream lines turns is short fits known (inr (e, le
 
 -- ------ the answer that the input determines
 
-steady : (n : ℕ) → n < 2 ^ 64 - 1 → Rose n n → ⊥
+pub steady : (n : ℕ) → n < 2 ^ 64 - 1 → Rose n n → ⊥
 steady n few rose = grind (arith)
 
-by_taken : (input : List ℕ) (left : Option (List ℕ)) (bytes : List ℕ) → Consumes (Some input) left bytes → (rest : List ℕ) × (input ≡ bytes ++ rest)
+pub by_taken : (input : List ℕ) (left : Option (List ℕ)) (bytes : List ℕ) → Consumes (Some input) left bytes → (rest : List ℕ) × (input ≡ bytes ++ rest)
 by_taken input None bytes con = absurd con
 by_taken input (Some rest) bytes con = (rest, con)
 
@@ -99,12 +100,12 @@ determined batch input left old new r s w v (TooLong turns) fr fw nr nw says =
     inr (rw ok (λ short. absurd (not_too_long input g.bytes t.0 g.stream g.lines turns t.1 short fits g.known g.cause)))
 determined batch input left old new r s w v ReadFault fr fw nr nw (steady_writes, inl (text, m, a)) = absurd (steady r fr (subst (λ n. Rose r n) nr m.reads))
 determined batch input left old new r s w v ReadFault fr fw nr nw (steady_writes, inr (f, k)) = absurd (steady r fr (subst (λ n. Rose r n) nr f.rose))
-determined batch input left old new r s w v WriteFault fr fw nr nw says = absurd (steady w fw (subst (λ n. Rose w n) nw says.rose))
+determined batch input left old new r s w v WriteFault fr fw nr nw says = absurd (steady w fw (subst (λ n. Rose w n) nw says.front.rose))
 determined batch input left old new r s w v NoMemory fr fw nr nw says = inl refl
 determined batch input left old new r s w v Done fr fw nr nw says =
     let o = says.made.output in
     let t = by_taken input left says.made.bytes says.made.taken in
-    let ok = script_of_all input says.made.bytes t.0 o.stream o.lines t.1 o.script o.behind in
+    let ok = script_of_all input says.made.bytes t.0 o.stream o.lines t.1 o.session.script o.session.behind in
     inr (rw ok (λ short. refl))
 
 settled_by : (batch : ℕ) (content left old new : Option (List ℕ)) (r s w v : ℕ) (status : Status) → r < 2 ^ 64 - 1 → w < 2 ^ 64 - 1 → s ≡ r → v ≡ w
@@ -115,6 +116,40 @@ settled_by batch (Some input) left old new r s w v status fr fw nr nw says = det
 
 never_usage : (batch : ℕ) (before after : Outside) (status : Status) → Says batch before after status → status ≡ Usage → ⊥
 never_usage batch before after status says is = subst (λ s. Says batch before after s) is says
+
+-- ------ a text that is made from a number
+
+never_usage_told : (IsText : List ℕ → Type 0) (before after : Outside) (status : Status) → Tells IsText before after status → status ≡ Usage → ⊥
+never_usage_told IsText before after status says is = subst (λ s. Tells IsText before after s) is says
+
+settled_told : (IsText : List ℕ → Type 0) (before after : Outside) (status : Status) → before.write_faults < 2 ^ 64 - 1 → Tells IsText before after status
+    → NoWriteFails before after → (status ≡ NoMemory) ⊎ (status ≡ Done)
+settled_told IsText before after Usage fw says nw = absurd says
+settled_told IsText before after (Script line kind) fw says nw = absurd says
+settled_told IsText before after (TooLong turns) fw says nw = absurd says
+settled_told IsText before after ReadFault fw says nw = absurd says
+settled_told IsText before after WriteFault fw (text, is, front) nw = absurd (steady before.write_faults fw (subst (λ n. Rose before.write_faults n) nw front.rose))
+settled_told IsText before after NoMemory fw says nw = inl refl
+settled_told IsText before after Done fw says nw = inr refl
+
+gives : (IsText : List ℕ → Type 0) (left old new : Option (List ℕ)) (r w v : ℕ) (status : Status) → w < 2 ^ 64 - 1
+    → Tells IsText (record { left = left; read_faults = r; written = old; write_faults = w }) (record { left = left; read_faults = r; written = new; write_faults = v }) status
+    → Gives IsText (record { left = left; read_faults = r; written = old; write_faults = w }) (record { left = left; read_faults = r; written = new; write_faults = v }) status
+gives IsText left old new r w v status fw says = record {
+  reads = (keeps left, refl);
+  says = says;
+  settled = settled_told IsText _ _ status fw says;
+}
+
+-- one text for another that is equal to it
+pub told_as : (IsText : List ℕ → Type 0) (text : List ℕ) (before after : Outside) (status : Status) → IsText text → Tells (λ whole. whole ≡ text) before after status → Tells IsText before after status
+told_as IsText text before after Usage is says = absurd says
+told_as IsText text before after (Script line kind) is says = absurd says
+told_as IsText text before after (TooLong turns) is says = absurd says
+told_as IsText text before after ReadFault is says = absurd says
+told_as IsText text before after WriteFault is (whole, e, front) = (whole, subst IsText (sym e) is, front)
+told_as IsText text before after NoMemory is says = says
+told_as IsText text before after Done is (whole, e, all) = (whole, subst IsText (sym e) is, all)
 
 -- ------ the whole
 
@@ -133,6 +168,47 @@ serves words batch content left old new r s w v status is fr fw says =
       refused = λ none. absurd (let e : Some (Steps batch) ≡ None = sym is ∙ none in cc);
       says = λ other e. subst (λ b. Says b before after status) (same_batch batch other (meant words) is e) says;
       settled = λ other e nr nw. settled_by batch content left old new r s w v status fr fw nr nw says;
+      makes = λ number e. absurd (let x : Some (Steps batch) ≡ Some (Make number) = sym is ∙ e in cc);
+      sums = λ number other e. absurd (let x : Some (Steps batch) ≡ Some (SelfTest number other) = sym is ∙ e in cc);
+    }
+
+same_number : (number other : ℕ) (m : Option Asked) → m ≡ Some (Make number) → m ≡ Some (Make other) → number ≡ other
+same_number number other m a b = cc
+
+pub serves_made : (words : List (List ℕ)) (number : ℕ) (left old new : Option (List ℕ)) (r w v : ℕ) (status : Status) → meant words ≡ Some (Make number) → w < 2 ^ 64 - 1
+    → Tells (λ text. text ≡ made number) (record { left = left; read_faults = r; written = old; write_faults = w }) (record { left = left; read_faults = r; written = new; write_faults = v }) status
+    → Serves words (record { left = left; read_faults = r; written = old; write_faults = w }) (record { left = left; read_faults = r; written = new; write_faults = v }) status
+serves_made words number left old new r w v status is fw says =
+    let before : Outside = record { left = left; read_faults = r; written = old; write_faults = w } in
+    let after : Outside = record { left = left; read_faults = r; written = new; write_faults = v } in
+    record {
+      usage = λ e. absurd (never_usage_told (λ text. text ≡ made number) before after status says e);
+      refused = λ none. absurd (let e : Some (Make number) ≡ None = sym is ∙ none in cc);
+      says = λ batch e. absurd (let x : Some (Make number) ≡ Some (Steps batch) = sym is ∙ e in cc);
+      settled = λ batch e nr nw. absurd (let x : Some (Make number) ≡ Some (Steps batch) = sym is ∙ e in cc);
+      makes = λ other e. subst (λ n. Gives (λ text. text ≡ made n) before after status) (same_number number other (meant words) is e) (gives (λ text. text ≡ made number) left old new r w v status fw says);
+      sums = λ other batch e. absurd (let x : Some (Make number) ≡ Some (SelfTest other batch) = sym is ∙ e in cc);
+    }
+
+same_test : (number other batch size : ℕ) (m : Option Asked) → m ≡ Some (SelfTest number batch) → m ≡ Some (SelfTest other size) → (number ≡ other) × (batch ≡ size)
+same_test number other batch size m a b = (cc, cc)
+
+pub serves_sums : (words : List (List ℕ)) (number batch : ℕ) (left old new : Option (List ℕ)) (r w v : ℕ) (status : Status) → meant words ≡ Some (SelfTest number batch) → w < 2 ^ 64 - 1
+    → Tells (IsSums number batch) (record { left = left; read_faults = r; written = old; write_faults = w }) (record { left = left; read_faults = r; written = new; write_faults = v }) status
+    → Serves words (record { left = left; read_faults = r; written = old; write_faults = w }) (record { left = left; read_faults = r; written = new; write_faults = v }) status
+serves_sums words number batch left old new r w v status is fw says =
+    let before : Outside = record { left = left; read_faults = r; written = old; write_faults = w } in
+    let after : Outside = record { left = left; read_faults = r; written = new; write_faults = v } in
+    record {
+      usage = λ e. absurd (never_usage_told (IsSums number batch) before after status says e);
+      refused = λ none. absurd (let e : Some (SelfTest number batch) ≡ None = sym is ∙ none in cc);
+      says = λ size e. absurd (let x : Some (SelfTest number batch) ≡ Some (Steps size) = sym is ∙ e in cc);
+      settled = λ size e nr nw. absurd (let x : Some (SelfTest number batch) ≡ Some (Steps size) = sym is ∙ e in cc);
+      makes = λ other e. absurd (let x : Some (SelfTest number batch) ≡ Some (Make other) = sym is ∙ e in cc);
+      sums = λ other size e.
+          let same = same_test number other batch size (meant words) is e in
+          subst (λ n. Gives (IsSums n size) before after status) same.0
+          (subst (λ b. Gives (IsSums number b) before after status) same.1 (gives (IsSums number batch) left old new r w v status fw says));
     }
 
 -- words that are refused
@@ -142,6 +218,8 @@ serves_none words at status is one = record {
   refused = λ none. (one, (keeps at.left, refl), (keeps at.written, refl));
   says = λ batch e. absurd (let x : None ≡ Some (Steps batch) = sym is ∙ e in cc);
   settled = λ batch e nr nw. absurd (let x : None ≡ Some (Steps batch) = sym is ∙ e in cc);
+  makes = λ number e. absurd (let x : None ≡ Some (Make number) = sym is ∙ e in cc);
+  sums = λ number batch e. absurd (let x : None ≡ Some (SelfTest number batch) = sym is ∙ e in cc);
 }
 
 -- want of memory while the words are read
@@ -149,10 +227,15 @@ says_if : (left : Option (List ℕ)) (status : Status) (input_of : List ℕ → 
 says_if None status P each = tt
 says_if (Some input) status P each = each input
 
+unread : {IsText : List ℕ → Type 0} (at : Outside) → Gives IsText at at NoMemory
+unread at = record { reads = (keeps at.left, refl); says = (keeps at.written, refl); settled = λ nw. inl refl }
+
 pub serves_unread : (words : List (List ℕ)) (at : Outside) → Serves words at at NoMemory
 serves_unread words at = record {
   usage = λ e. absurd (cc);
   refused = λ none. (inr refl, (keeps at.left, refl), (keeps at.written, refl));
   says = λ batch e. (keeps at.written, refl);
   settled = λ batch e nr nw. says_if at.left NoMemory _ (λ input. inl refl);
+  makes = λ number e. unread at;
+  sums = λ number batch e. unread at;
 }

@@ -1,3 +1,4 @@
 pub mod Fronts
 pub mod Outputs
 pub mod Answering
+pub mod Numbers

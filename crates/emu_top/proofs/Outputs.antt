@@ -22,7 +22,7 @@ use Rattle.serial_core.specs.Ran.{IsRanOf}
 use Rattle.serial_core.proofs.Runs.{are_runs}
 use Rattle.report_text.specs.Report.{report_of}
 use Rattle.emu_top.specs.Part.{IsUnended}
-use Rattle.emu_top.specs.Session.{Holds, IsFaultIn, Makes, GivesUp, FailsEarly, Refuses, ReadsTo, IsOutput, status_of_stop}
+use Rattle.emu_top.specs.Session.{Holds, IsFaultIn, Makes, Runs, GivesUp, FailsEarly, Refuses, ReadsTo, IsOutput, status_of_stop}
 use Rattle.emu_top.specs.declared.status.Status.{Status}
 use Rattle.emu_top.specs.declared.status.Status.TheVariants.{Usage, Script, TooLong, ReadFault, WriteFault, NoMemory, Ok as Done}
 
@@ -38,31 +38,49 @@ reads_to false left before after rose later end = elim (cases_lt before after) [
   | inr le ↦ (omega arith, end refl)
 ]
 
-pub made : (batch : ℕ) (lines : List Line) (puller : Pulling) (content mid left : Option (List ℕ)) (before after : ℕ) (first : List ℕ) (ran : Ran) (text : List ℕ)
+-- what the run of a session left
+pub run_of : (batch : ℕ) (lines : List Line) (puller : Pulling) (content mid left : Option (List ℕ)) (before after : ℕ) (first : List ℕ) (ran : Ran)
     → 1 ≤ batch → Consumes content mid first → Holds first lines puller
     → OfStream mid left puller (λ ahead taken. IsRanOf lines batch (ahead ++ taken) ran)
     → (IsTrue ran.head.read_fault ↔ (before < after)) → before ≤ after → (ran.head.read_fault ≡ false → IsAtEnd left)
-    → text ≡ report_of (told_head ran.head) (map (λ o. o.items) ran.outcomes.items) ran.histories
-    → Makes batch content left before after ran.head.read_fault text
-made batch lines puller content mid left before after first ran text one con h of rose later end e =
+    → Runs batch content left before after ran
+run_of batch lines puller content mid left before after first ran one con h of rose later end =
     let taken = of.0 in
     let r : IsRanOf lines batch (h.ahead ++ taken) ran = of.2 h.ahead h.pulls in
     let s = h.splits taken in
     record {
       bytes = first ++ taken;
+      lines = lines;
+      stream = h.ahead ++ taken;
+      run = r.run;
       taken = Consumes-trans _ _ _ _ _ con of.1;
       reads = reads_to ran.head.read_fault left before after rose later end;
-      output = record {
-        lines = lines;
-        stream = h.ahead ++ taken;
-        run = r.run;
+      session = record {
         script = ap (λ p. grammar p.script) s ∙ h.script;
         behind = ap (λ p. p.stream) s;
         serial = r.serial;
-        report = rw (← r.head, ← r.outcomes, ← r.histories) e;
         whole = are_runs lines batch (cut (h.ahead ++ taken)).packets r.run h.known.ranges one r.serial;
       };
+      histories = r.histories;
+      outcomes = r.outcomes;
+      head = r.head;
     }
+
+-- its report
+pub reported : (batch : ℕ) (content left : Option (List ℕ)) (before after : ℕ) (ran : Ran) (text : List ℕ) → Runs batch content left before after ran
+    → text ≡ report_of (told_head ran.head) (map (λ o. o.items) ran.outcomes.items) ran.histories → Makes batch content left before after ran.head.read_fault text
+reported batch content left before after ran text r e = record {
+  bytes = r.bytes;
+  taken = r.taken;
+  reads = r.reads;
+  output = record {
+    lines = r.lines;
+    stream = r.stream;
+    run = r.run;
+    session = r.session;
+    report = rw (← r.head, ← r.outcomes, ← r.histories) e;
+  };
+}
 
 -- ------ a run that was given up
 

@@ -5,9 +5,10 @@ use Rattle.emu_io.specs.Causes.{Rose}
 use Rattle.client_script.specs.declared.line.Line.{Line}
 use Rattle.client_script.specs.declared.fault.ScriptFault.{ScriptFault}
 use Rattle.client_script.specs.Script.{split, grammar}
-use Rattle.command_words.specs.declared.Command.TheVariants.{Steps}
+use Rattle.command_words.specs.declared.Command.TheVariants.{Steps, Make, SelfTest}
 use Rattle.command_words.specs.Meant.{meant}
-use Rattle.emu_top.specs.Session.{Makes, GivesUp, HasFault, FailsEarly}
+use Rattle.ts_make.specs.Made.{made}
+use Rattle.emu_top.specs.Session.{Makes, GivesUp, HasFault, FailsEarly, IsSums}
 use Rattle.emu_top.specs.declared.status.Status.{Status}
 use Rattle.emu_top.specs.declared.status.Status.TheVariants.{Usage, Script, TooLong, ReadFault, WriteFault, NoMemory, Ok as Done}
 
@@ -37,7 +38,19 @@ WritesNothing before after = Keeps before.written after.written × NoWriteFails 
 abbrev pub ReadsNothing : Outside → Outside → Type 0
 ReadsNothing before after = Keeps before.left after.left × NoReadFails before after
 
--- ------ what each status says
+-- the whole text was written
+pub record WritesWhole (before after : Outside) (text : List ℕ) : Type 0 where
+  pub written : Writes before after text
+  pub writes : NoWriteFails before after
+
+-- A write failed. A part of the text was written, from its front on.
+pub record WritesFront (before after : Outside) (text : List ℕ) : Type 0 where
+  pub count : ℕ
+  pub part : count < length text
+  pub written : Writes before after (take count text)
+  pub rose : Rose before.write_faults after.write_faults
+
+-- ------ `steps`: what each status says
 
 -- In batches of this size the bytes that were taken have this output.
 abbrev pub MakesOutput : (batch : ℕ) → Outside → Outside → (failed : Bool) → (text : List ℕ) → Type 0
@@ -47,8 +60,7 @@ MakesOutput batch before after failed text = Makes batch before.left after.left 
 pub record IsDone (batch : ℕ) (before after : Outside) : Type 0 where
   pub text : List ℕ
   pub made : MakesOutput batch before after false text
-  pub written : Writes before after text
-  pub writes : NoWriteFails before after
+  pub whole : WritesWhole before after text
 
 -- A read failed. Where a whole script was read before, the report over the bytes that were taken was written; else nothing.
 abbrev pub HasReadFault : (batch : ℕ) → (before after : Outside) → Type 0
@@ -60,11 +72,8 @@ HasReadFault batch before after = NoWriteFails before after
 pub record HasWriteFault (batch : ℕ) (before after : Outside) : Type 0 where
   pub text : List ℕ
   pub failed : Bool
-  pub count : ℕ
   pub made : MakesOutput batch before after failed text
-  pub part : count < length text
-  pub written : Writes before after (take count text)
-  pub rose : Rose before.write_faults after.write_faults
+  pub front : WritesFront before after text
 
 -- what a status says of a session in batches of this size
 abbrev pub Says : (batch : ℕ) → Outside → Outside → Status → Type 0
@@ -82,14 +91,33 @@ abbrev pub Determines : Result (List Line) ScriptFault → (input : List ℕ) �
 Determines (Err fault) input status = status ≡ Script fault.line fault.kind
 Determines (Ok lines) input status = length input < 4294967296 → status ≡ Done
 
+-- ------ `make` and `selftest`: a text that is made from a number
+
+-- what a status says where such a text is to be written
+abbrev pub Tells : (IsText : List ℕ → Type 0) → Outside → Outside → Status → Type 0
+Tells IsText before after WriteFault = (text : List ℕ) × IsText text × WritesFront before after text
+Tells IsText before after NoMemory = WritesNothing before after
+Tells IsText before after Done = (text : List ℕ) × IsText text × WritesWhole before after text
+Tells IsText before after _ = ⊥
+
+-- Nothing is read, and the status says what was written. Where no write fails the whole text was written, or memory was
+-- refused.
+pub record Gives (IsText : List ℕ → Type 0) (before after : Outside) (status : Status) : Type 0 where
+  pub reads : ReadsNothing before after
+  pub says : Tells IsText before after status
+  pub settled : NoWriteFails before after → (status ≡ NoMemory) ⊎ (status ≡ Done)
+
 -- ------ the whole
 
 -- What the program does on one thread. Words that aren't accepted are answered `Usage`, or want of memory, and nothing is then
--- read or written. Else the status says what was read and written. Where no read and no write fails, it is the one that the
--- input determines, or memory was refused.
+-- read or written. On `steps` the status says what was read and written. Where no read and no write fails, it is the one that
+-- the input determines, or memory was refused. `make` writes the session of its number, and `selftest` the line of sums over the
+-- serial run of that session; both read nothing.
 pub record Serves (words : List (List ℕ)) (before after : Outside) (status : Status) : Type 0 where
   pub usage : status ≡ Usage → meant words ≡ None
   pub refused : meant words ≡ None → ((status ≡ Usage) ⊎ (status ≡ NoMemory)) × ReadsNothing before after × WritesNothing before after
   pub says : (batch : ℕ) → meant words ≡ Some (Steps batch) → Says batch before after status
   pub settled : (batch : ℕ) → meant words ≡ Some (Steps batch) → NoReadFails before after → NoWriteFails before after
       → IfSome before.left (λ input. (status ≡ NoMemory) ⊎ Determines (grammar (split input).script) input status)
+  pub makes : (number : ℕ) → meant words ≡ Some (Make number) → Gives (λ text. text ≡ made number) before after status
+  pub sums : (number batch : ℕ) → meant words ≡ Some (SelfTest number batch) → Gives (IsSums number batch) before after status

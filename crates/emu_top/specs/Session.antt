@@ -1,9 +1,9 @@
 -- What is read of a session, and what is to be written for it.
-use Rattle.std.specs.Prelude.{◌≡◌, ◌⊎◌, ⊤, ℕ, ◌≤◌, ◌++◌, Bool, true, false, List, [], length, Option, Some, None, Ok, Err, IfSome}
+use Rattle.std.specs.Prelude.{◌≡◌, ◌⊎◌, ⊤, ℕ, ◌≤◌, ◌++◌, Bool, true, false, List, [], length, map, Option, Some, None, Ok, Err, IfSome}
 use Rattle.std.specs.Io.KnownBytes.{Consumes, IsAtEnd}
 use Rattle.emu_io.specs.Causes.{Rose}
 use Rattle.ts_packet.specs.Cut.{cut}
-use Rattle.dmx_calls.specs.Head.{head_of}
+use Rattle.dmx_calls.specs.Head.{told_head, head_of}
 use Rattle.client_script.specs.declared.line.Line.{Line}
 use Rattle.client_script.specs.declared.fault.ScriptFault.{ScriptFault}
 use Rattle.client_script.specs.declared.fault.ScriptError.{ScriptError}
@@ -13,26 +13,40 @@ use Rattle.client_core.specs.declared.stop.Stop.{Stop}
 use Rattle.client_core.specs.declared.stop.Stop.TheVariants.{NoMemory as NoMemoryToRun, TooLong as RunTooLong}
 use Rattle.client_core.specs.Budget.{most_calls, all_commands}
 use Rattle.feed_pull.specs.Pulling.{Pulling, Pulls}
+use Rattle.serial_core.specs.declared.run.Ran.{Ran}
 use Rattle.serial_core.specs.SerialRun.{Run, IsSerialRun}
 use Rattle.serial_core.specs.Ran.{histories_in, outcomes_in}
 use Rattle.serial_core.specs.Runs.{IsAccountedRun}
 use Rattle.report_text.specs.Report.{report_of}
+use Rattle.report_text.specs.Summary.{summary_of}
+use Rattle.ts_make.specs.Made.{made}
 use Rattle.emu_top.specs.declared.status.Status.{Status}
 use Rattle.emu_top.specs.declared.status.Status.TheVariants.{Script, TooLong, ReadFault, NoMemory}
 
--- These bytes of a session have a whole script without a fault, and the text is the report of the serial run of its lines
--- over the packets of the stream behind it, in batches of this size. `failed`: reading failed behind the last byte. The
--- serial run is a run: 33 legal histories, which every packet passes once, in which each client did just what its commands
--- ask; and each history is accounted.
+-- These bytes of a session have a whole script without a fault, with these lines, and this stream behind it. The run is the
+-- serial run of the lines over the packets of the stream, in batches of this size. It is a run: 33 legal histories, which
+-- every packet passes once, in which each client did just what its commands ask; and each history is accounted.
+pub record IsRunOf (batch : ℕ) (bytes : List ℕ) (lines : List Line) (stream : List ℕ) (run : Run) : Type 0 where
+  pub script : grammar (split bytes).script ≡ Ok lines
+  pub behind : (split bytes).stream ≡ Some stream
+  pub serial : IsSerialRun lines batch (cut stream).packets run
+  pub whole : IsAccountedRun lines batch (cut stream).packets run
+
+-- the text is the report of the run of a session's bytes; `failed`: reading failed behind the last byte
 pub record IsOutput (batch : ℕ) (bytes : List ℕ) (failed : Bool) (text : List ℕ) : Type 0 where
   pub lines : List Line
   pub stream : List ℕ
   pub run : Run
-  pub script : grammar (split bytes).script ≡ Ok lines
-  pub behind : (split bytes).stream ≡ Some stream
-  pub serial : IsSerialRun lines batch (cut stream).packets run
+  pub session : IsRunOf batch bytes lines stream run
   pub report : text ≡ report_of (head_of stream failed) (outcomes_in lines run) (histories_in run)
-  pub whole : IsAccountedRun lines batch (cut stream).packets run
+
+-- the text is the line of sums over the run of the session of a number
+pub record IsSums (number batch : ℕ) (text : List ℕ) : Type 0 where
+  pub lines : List Line
+  pub stream : List ℕ
+  pub run : Run
+  pub session : IsRunOf batch (made number) lines stream run
+  pub sums : text ≡ summary_of (head_of stream false) (histories_in run)
 
 -- ------ In what follows a source had `content` left before and `left` after, and its count of faults was `before` and is
 -- `after`.
@@ -41,6 +55,19 @@ pub record IsOutput (batch : ℕ) (bytes : List ℕ) (failed : Bool) (text : Lis
 abbrev pub ReadsTo : (failed : Bool) → (left : Option (List ℕ)) → (before after : ℕ) → Type 0
 ReadsTo true left before after = Rose before after
 ReadsTo false left before after = (after ≡ before) × IsAtEnd left
+
+-- the bytes that were taken are those of a session, and this is what its run left
+pub record Runs (batch : ℕ) (content left : Option (List ℕ)) (before after : ℕ) (ran : Ran) : Type 0 where
+  pub bytes : List ℕ
+  pub lines : List Line
+  pub stream : List ℕ
+  pub run : Run
+  pub taken : Consumes content left bytes
+  pub reads : ReadsTo ran.head.read_fault left before after
+  pub session : IsRunOf batch bytes lines stream run
+  pub histories : ran.histories ≡ histories_in run
+  pub outcomes : map (λ those. those.items) ran.outcomes.items ≡ outcomes_in lines run
+  pub head : told_head ran.head ≡ head_of stream ran.head.read_fault
 
 -- the bytes that were taken have this output
 pub record Makes (batch : ℕ) (content left : Option (List ℕ)) (before after : ℕ) (failed : Bool) (text : List ℕ) : Type 0 where

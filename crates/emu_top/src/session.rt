@@ -4,7 +4,7 @@ ghost use Rattle.std.specs.declared.option.Option.{Option};
 ghost use Rattle.std.specs.Io.KnownBytes.{Consumes};
 ghost use Rattle.client_script.specs.Script.{script_len, whole_lines, most_bytes};
 ghost use Rattle.feed_pull.specs.declared.fault.Reading.TheVariants.{Going};
-ghost use Rattle.emu_top.specs.Session.{Holds, IsFaultIn, Makes, Refuses, status_of_error, status_of_stop};
+ghost use Rattle.emu_top.specs.Session.{Holds, IsFaultIn, Makes, Refuses, Runs, status_of_error, status_of_stop};
 
 use crate::Status;
 use crate::part::{Front, PartError, read_front};
@@ -13,7 +13,7 @@ use client_script::{Script, ScriptError};
 use emu_io::Source;
 use feed_pull::Puller;
 use report_text::report;
-use serial_core::run_steps;
+use serial_core::{Ran, run_steps};
 use std::alloc::Global;
 
 // A script, and the stream behind it.
@@ -78,34 +78,46 @@ fn session_of(alloc: Global, front: Front) -> Result<Session, Status>
     }
 }
 
-// What is to be written for a session that is begun.
+// Runs a session that is begun.
 fn run_session<S: Source>(
     alloc: Global,
     source: &mut S,
     session: Session,
     batch: u32,
-) -> Result<Output, Status>
+) -> Result<Ran, Status>
     requires some { 1 ≤ batch }
     requires few { batch ≤ 64 }
     requires going { session.puller.reading ≡ Going }
     requires fresh { session.puller.given ≡ 0 }
     requires faults { S.faults source.old < 2 ^ 64 - 1 }
-    ensures makes { IfOk result (λ output. (content : Option (List ℕ)) (first : List ℕ) → Consumes content (S.left source.old) first → Holds first session.script session.puller
-        → Makes batch content (S.left source.new) (S.faults source.old) (S.faults source.new) output.read_fault output.text.items) }
+    ensures runs { IfOk result (λ ran. (content : Option (List ℕ)) (first : List ℕ) → Consumes content (S.left source.old) first → Holds first session.script session.puller
+        → Runs batch content (S.left source.new) (S.faults source.old) (S.faults source.new) ran) }
     ensures refuses { IfErr result (λ status. (content : Option (List ℕ)) (first : List ℕ) → Consumes content (S.left source.old) first → Holds first session.script session.puller
         → Refuses content (S.left source.new) (S.faults source.old) (S.faults source.new) status) }
 {
     let Session { script, puller } = session;
-    let ran = match run_steps(alloc, &script, source, puller, batch) {
-        Ok(ran) => ran,
-        Err(stop) => return Err(status_of_run(stop)),
+    match run_steps(alloc, &script, source, puller, batch) {
+        Ok(ran) => Ok(ran),
+        Err(stop) => Err(status_of_run(stop)),
+    }
+}
+
+// Reads the session of a source and runs it, in batches of this size.
+pub fn ran_of<S: Source>(alloc: Global, source: &mut S, batch: u32) -> Result<Ran, Status>
+    requires some { 1 ≤ batch }
+    requires few { batch ≤ 64 }
+    requires faults { S.faults source.old < 2 ^ 64 - 1 }
+    ensures runs { IfOk result (λ ran. Runs batch (S.left source.old) (S.left source.new) (S.faults source.old) (S.faults source.new) ran) }
+    ensures refuses { IfErr result (λ status. Refuses (S.left source.old) (S.left source.new) (S.faults source.old) (S.faults source.new) status) }
+{
+    let front = match read_front(alloc, source) {
+        Ok(front) => front,
+        Err(PartError::Failed) => return Err(Status::ReadFault),
+        Err(PartError::NoMemory) => return Err(Status::NoMemory),
     };
-    match report(alloc, &ran.head, &ran.outcomes, &ran.histories) {
-        Ok(text) => Ok(Output {
-            text,
-            read_fault: ran.head.read_fault,
-        }),
-        Err(_) => Err(Status::NoMemory),
+    match session_of(alloc, front) {
+        Ok(session) => run_session(alloc, source, session, batch),
+        Err(status) => Err(status),
     }
 }
 
@@ -117,13 +129,15 @@ pub fn output_of<S: Source>(alloc: Global, source: &mut S, batch: u32) -> Result
     ensures makes { IfOk result (λ output. Makes batch (S.left source.old) (S.left source.new) (S.faults source.old) (S.faults source.new) output.read_fault output.text.items) }
     ensures refuses { IfErr result (λ status. Refuses (S.left source.old) (S.left source.new) (S.faults source.old) (S.faults source.new) status) }
 {
-    let front = match read_front(alloc, source) {
-        Ok(front) => front,
-        Err(PartError::Failed) => return Err(Status::ReadFault),
-        Err(PartError::NoMemory) => return Err(Status::NoMemory),
+    let ran = match ran_of(alloc, source, batch) {
+        Ok(ran) => ran,
+        Err(status) => return Err(status),
     };
-    match session_of(alloc, front) {
-        Ok(session) => run_session(alloc, source, session, batch),
-        Err(status) => Err(status),
+    match report(alloc, &ran.head, &ran.outcomes, &ran.histories) {
+        Ok(text) => Ok(Output {
+            text,
+            read_fault: ran.head.read_fault,
+        }),
+        Err(_) => Err(Status::NoMemory),
     }
 }

@@ -136,7 +136,7 @@ fn the_first_fault_of_a_script_is_told(rt: HostRuntime) -> Result<(), Fail> {
 #[test]
 fn words_are_accepted_or_usage(rt: HostRuntime) -> Result<(), Fail> {
     let alloc = rt.alloc();
-    let cases: [(&[&str], Status); 9] = [
+    let cases: [(&[&str], Status); 12] = [
         (&["steps"], Status::Ok),
         (&["steps", "--batch", "64"], Status::Ok),
         (&["steps", "--batch=1"], Status::Ok),
@@ -146,6 +146,9 @@ fn words_are_accepted_or_usage(rt: HostRuntime) -> Result<(), Fail> {
         (&["steps", "--batch", "1", "--batch", "1"], Status::Usage),
         (&["steps", "--help"], Status::Usage),
         (&["run", "--batch", "65"], Status::Usage),
+        (&["make"], Status::Usage),
+        (&["make", "01"], Status::Usage),
+        (&["selftest", "7", "--batch", "0"], Status::Usage),
     ];
     for (case, (words, want)) in cases.into_iter().enumerate() {
         let (status, written) = told(alloc, words, &[(b"stream\n", 0, 0)])?;
@@ -283,6 +286,57 @@ fn a_write_fault_leaves_the_front(rt: HostRuntime) -> Result<(), Fail> {
         let (status, written) = told_with(rt.alloc(), &parts, reads, capacity, writes)?;
         assert!(rt; status == want, "case {case}");
         assert_eq!(rt; written.as_slice(), output, "case {case}");
+    }
+    Ok(())
+}
+
+// What `emulate` answers and writes for words that read nothing. The first read of the source would fail.
+fn told_unread(alloc: Global, words: &[&str], capacity: usize) -> Result<(Status, Vec<u8>), Fail> {
+    let words = words_of(alloc, words)?;
+    let mut source = MemSource::new(Vec::new(alloc), 1, [0u64].to_vec(alloc)?);
+    let mut sink = MemSink::new(alloc, capacity, 65536, Vec::new(alloc))?;
+    let status = emulate(
+        alloc,
+        &words,
+        &mut source,
+        &mut sink,
+        &FixedClock::new(0),
+        &NoGate::new(),
+    );
+    Ok((status, sink.bytes().to_vec(alloc)?))
+}
+
+// The script of a made session has 656 bytes, its stream 65,536 packets of 188.
+const MADE: usize = 656 + 12_320_768;
+
+#[test]
+fn the_session_of_the_greatest_number_is_written(rt: HostRuntime) -> Result<(), Fail> {
+    let words = ["make", "18446744073709551615"];
+    let (status, written) = told_unread(rt.alloc(), &words, MADE)?;
+    assert!(rt; status == Status::Ok);
+    assert_eq!(rt; written.len(), MADE);
+    assert!(rt; written.starts_with(b"c0 open n0\nc0 size n0 16777216\n"));
+    Ok(())
+}
+
+#[test]
+fn a_made_session_is_cut_off_where_the_sink_is_full(rt: HostRuntime) -> Result<(), Fail> {
+    let (status, written) = told_unread(rt.alloc(), &["make", "7"], 12)?;
+    assert!(rt; status == Status::WriteFault);
+    assert_eq!(rt; written.as_slice(), b"c0 open n0\nc");
+    Ok(())
+}
+
+// fuzz/made.py worked these sums out: a second program, which shares no code with this one.
+const SUMS: &[u8] = b"packets=65536 entries=43396 demux=11501856 dvr=10013256 overflows=0\n";
+
+#[test]
+fn the_sums_of_a_number_are_told_again(rt: HostRuntime) -> Result<(), Fail> {
+    let cases: [&[&str]; 2] = [&["selftest", "7"], &["selftest", "--batch=64", "7"]];
+    for words in cases {
+        let (status, written) = told_unread(rt.alloc(), words, 1000)?;
+        assert!(rt; status == Status::Ok);
+        assert_eq!(rt; written.as_slice(), SUMS);
     }
     Ok(())
 }

@@ -1,0 +1,140 @@
+-- The session of a number: its script has no fault, and it is short.
+use Rattle.std.proofs.Common.{◌≡◌, ◌<◌, ◌≤◌, ◌+◌, ◌-◌, ◌*◌, ◌^◌, ◌%◌, refl, sym, ap, subst, ◌∙◌, ℕ, suc, zero, Bool, true, false, List, [], ◌∷◌, ◌++◌, length, take, drop, append-nil, arith, length-append}
+use Rattle.std.proofs.lemmas.List.{take_all, length-replicate}
+use Rattle.std.specs.Prelude.{Option, Some, None, Result, Ok, Err, is_ok, replicate}
+use Rattle.std.specs.Io.KnownBytes.{Consumes, IsAtEnd}
+use Rattle.std.specs.Int.{w16, w32, w64, to_be_bytes}
+use Rattle.emu_io.specs.Causes.{Rose}
+use Rattle.section_crc.specs.Crc.{crc}
+use Rattle.dmx_calls.specs.Head.{told_head, head_of}
+use Rattle.text_forms.specs.Numbers.{value_after}
+use Rattle.text_forms.specs.Hex.{hex_digit, hex_byte}
+use Rattle.text_forms.specs.Words.{input_named, output_named}
+use Rattle.text_forms.specs.Names.{numbered}
+use Rattle.text_forms.specs.Places.{place_with, place_named, with_place}
+use Rattle.client_script.specs.Words.{word_in}
+use Rattle.client_script.specs.Places.{places_in, filter_in}
+use Rattle.client_script.specs.Grammar.{number_in, numbered_target, target_of, name_of, section_in, pes_in, verb_in, command_in, line_in, line_of, meaning}
+use Rattle.client_script.specs.declared.line.Line.{Line}
+use Rattle.client_script.specs.declared.fault.ScriptFault.{ScriptFault}
+use Rattle.client_script.specs.Script.{split, grammar, most_bytes, script_len, whole_lines, lines_from}
+use Rattle.client_script.proofs.Splitting.{split-found}
+use Rattle.report_text.specs.Summary.{summary_of}
+use Rattle.serial_core.specs.declared.run.Ran.{Ran}
+use Rattle.serial_core.specs.Ran.{histories_in}
+use Rattle.ts_make.specs.declared.kind.Kind.{Kind}
+use Rattle.ts_make.specs.Made.{made, packets, packet_at, payload, carrying, section, section_front}
+use Rattle.ts_make.specs.Script.{script}
+use Rattle.emu_top.specs.Session.{Runs, Refuses, ReadsTo, IsRunOf, IsSums}
+use Rattle.emu_top.specs.declared.status.Status.{Status}
+use Rattle.emu_top.specs.declared.status.Status.TheVariants.{Usage, Script, TooLong, ReadFault, WriteFault, NoMemory, Ok as Done}
+use Rattle.emu_top.proofs.Answering.{by_taken, not_too_long, split_more, steady}
+
+-- ------ its script
+
+script_length : length script ≡ 656
+unfolding script
+script_length = refl
+
+script_end : script_len (whole_lines script) ≡ Some 656
+unfolding script
+script_end = refl
+
+lines_if : (p : Result (List Line) ScriptFault) → is_ok p ≡ true → (lines : List Line) × (p ≡ Ok lines)
+lines_if (Ok lines) e = (lines, refl)
+lines_if (Err fault) e = absurd (cc)
+
+has_lines : is_ok (grammar script) ≡ true
+unfolding script value_after hex_digit hex_byte word_in place_with place_named places_in with_place filter_in number_in input_named output_named numbered numbered_target target_of name_of section_in pes_in verb_in command_in line_in line_of meaning lines_from grammar
+has_lines = refl
+
+parts : (number : ℕ) → split (made number) ≡ record { script = take 656 script; stream = Some (drop 656 script ++ packets number 65536) }
+unfolding made
+parts number = split-found script (packets number 65536) 656 (omega (arith, script_length)) script_end
+
+lines_of : (number : ℕ) → (lines : List Line) × (grammar (split (made number)).script ≡ Ok lines)
+lines_of number =
+    let lines = lines_if (grammar script) has_lines in
+    (lines.0, ap (λ p. grammar p.script) (parts number) ∙ (ap grammar (take_all 656 script (omega (arith, script_length))) ∙ lines.1))
+
+-- ------ how long it is
+
+payload_length : (place n : ℕ) → length (payload place n) ≡ n
+unfolding payload
+payload_length place zero = refl
+payload_length place (suc n) =
+    let rest = payload_length place n in
+    let more = length-append (payload place n) ((place + n) % 256 ∷ []) in
+    omega arith
+
+section_length : (table_id place : ℕ) → length (section table_id place) ≡ 20
+section_length table_id place =
+    let front = section_front table_id place in
+    let whole = length-append front (to_be_bytes w32 (crc front)) in
+    let check : length (to_be_bytes w32 (crc front)) ≡ 4 = refl in
+    let long = length-append (to_be_bytes w16 place) (0xc1 ∷ 0x00 ∷ 0x00 ∷ to_be_bytes w64 place) in
+    let short : length (to_be_bytes w16 place) ≡ 2 = refl in
+    let number : length (to_be_bytes w64 place) ≡ 8 = refl in
+    omega arith
+
+carried_length : (table : Option ℕ) (kind : Kind) (place word counter : ℕ) → length (carrying table kind place word counter) ≡ 188
+carried_length (Some table_id) kind place word counter =
+    let behind = length-append (section table_id place) (replicate 163 0xff) in
+    let has = section_length table_id place in
+    let stuffing = length-replicate {A = ℕ} 163 0xff in
+    omega arith
+carried_length None kind place word counter = let has = payload_length place 184 in omega arith
+
+packets_length : (number n : ℕ) → length (packets number n) ≡ 188 * n
+unfolding packets
+packets_length number zero = refl
+packets_length number (suc n) =
+    let rest = packets_length number n in
+    let more = length-append (packets number n) (packet_at number n) in
+    let one : length (packet_at number n) ≡ 188 = carried_length _ _ n _ _ in
+    omega arith
+
+short : (number : ℕ) → length (made number) < 4294967296
+unfolding made
+short number =
+    let whole = length-append script (packets number 65536) in
+    let stream = packets_length number 65536 in
+    omega (arith, script_length)
+
+-- ------ its run
+
+-- nothing but want of memory is told in place of its run
+pub refused : (number : ℕ) (left : Option (List ℕ)) (status : Status) → Refuses (Some (made number)) left 0 0 status → status ≡ NoMemory
+refused number left Usage r = absurd r
+refused number left (Script line kind) r = absurd (let e : Ok (lines_of number).0 ≡ Err (record { line = line; kind = kind }) = sym (lines_of number).1 ∙ r.1 in cc)
+refused number left (TooLong turns) g =
+    let t = by_taken (made number) left g.bytes g.taken in
+    let fits = (split_more g.bytes t.0 g.stream g.behind).1 in
+    absurd (not_too_long (made number) g.bytes t.0 g.stream g.lines turns t.1 (short number) fits g.known g.cause)
+refused number left ReadFault r = absurd (steady 0 (omega arith) r.rose)
+refused number left WriteFault r = absurd r
+refused number left NoMemory r = refl
+refused number left Done r = absurd r
+
+read_whole : (input : List ℕ) (left : Option (List ℕ)) (bytes : List ℕ) → Consumes (Some input) left bytes → IsAtEnd left → input ≡ bytes
+read_whole input None bytes con end = absurd con
+read_whole input (Some rest) bytes con end = con ∙ (ap (λ r. bytes ++ r) end ∙ append-nil bytes)
+
+summed_by : (number batch : ℕ) (left : Option (List ℕ)) (ran : Ran) (text : List ℕ) (failed : Bool) → ran.head.read_fault ≡ failed → Runs batch (Some (made number)) left 0 0 ran
+    → text ≡ summary_of (told_head ran.head) ran.histories → IsSums number batch text
+summed_by number batch left ran text true is r e = absurd (steady 0 (omega arith) (subst (λ b. ReadsTo b left 0 0) is r.reads))
+summed_by number batch left ran text false is r e =
+    let reads : ReadsTo false left 0 0 = subst (λ b. ReadsTo b left 0 0) is r.reads in
+    let whole : made number ≡ r.bytes = read_whole (made number) left r.bytes r.taken reads.1 in
+    record {
+      lines = r.lines;
+      stream = r.stream;
+      run = r.run;
+      session = subst (λ bytes. IsRunOf batch bytes r.lines r.stream r.run) (sym whole) r.session;
+      sums = e ∙ (ap (λ h. summary_of h ran.histories) (r.head ∙ ap (head_of r.stream) is) ∙ ap (summary_of (head_of r.stream false)) r.histories);
+    }
+
+-- the sums of its run
+pub summed : (number batch : ℕ) (left : Option (List ℕ)) (ran : Ran) (text : List ℕ) → Runs batch (Some (made number)) left 0 0 ran
+    → text ≡ summary_of (told_head ran.head) ran.histories → IsSums number batch text
+summed number batch left ran text r e = summed_by number batch left ran text ran.head.read_fault refl r e
