@@ -3,17 +3,17 @@
 //! A program to measure the lock with; `bench/lock` runs it. Its words are `lock` or `mutex`, the number of threads, 1 to
 //! 64, and how many calls each of them makes, below 2^32. A call adds 1, and the program prints the sum.
 //!
+//! The sum at the lock is the answer of one call more, which adds 0.
+//!
 //! What is proved: no call goes past a bound, and no thread makes a call that its pass has not left. That the sum is the
 //! number of threads times the calls of each is tested.
 #![tactic(auto)]
 
-ghost use Rattle.std.specs.Prelude.{◌≡◌, ◌<◌, ◌≤◌, ◌^◌, ℕ, All, length, slice_index_or, vec_len};
-ghost use Rattle.node_lock.specs.Passes.{IsSamePass, AreFresh};
+ghost use Rattle.std.specs.Prelude.{◌≡◌, ◌<◌, ◌≤◌, ◌^◌, ◌+◌, ℕ, All, length};
 
-mod counted;
+mod adder;
 
-use crate::counted::Counted;
-use lock_layers::{Adder, finish};
+use crate::adder::Adder;
 use node_lock::{NodeLock, Pass};
 use std::alloc::{AllocError as NoMemory, Global};
 use std::marker::Brand;
@@ -32,9 +32,9 @@ fn call_lock<L: Ledger, R: Wait>(
     blank: Blank,
 )
     requires own { pass.old.0 ≡ lock.now }
-    requires left { calls ≤ pass.old.1.left }
+    requires left { calls + 1 ≤ pass.old.1.left }
     requires ledger { (blank.name ≡ L.name) × (blank.parts ≡ L.parts) × (0 < L.parts) }
-    ensures { IsSamePass pass.old pass.new }
+    ensures { (pass.new.0 ≡ lock.now) × (1 ≤ pass.new.1.left) }
 {
     let mut steps: Steps<L> = Steps::new(blank);
     for _ in 0..calls {
@@ -44,8 +44,8 @@ fn call_lock<L: Ledger, R: Wait>(
 
 fn call_lock_often<R: Wait>(rt: &R, lock: &NodeLock<Adder>, pass: &mut Pass<Adder>, calls: u32)
     requires own { pass.old.0 ≡ lock.now }
-    requires left { calls ≤ pass.old.1.left }
-    ensures { IsSamePass pass.old pass.new }
+    requires left { calls + 1 ≤ pass.old.1.left }
+    ensures { (pass.new.0 ≡ lock.now) × (1 ≤ pass.new.1.left) }
 {
     call_lock::<Brand, R>(rt, lock, pass, calls, Blank::new(1))
 }
@@ -57,32 +57,46 @@ fn call_beside<R: Threads + Wait + Sync>(
     passes: &mut [Pass<Adder>],
     calls: u32,
 )
-    requires all { All (λ p. (p.0 ≡ lock.now) × (calls ≤ p.1.left)) passes.old }
+    requires all { All (λ p. (p.0 ≡ lock.now) × (calls + 1 ≤ p.1.left)) passes.old }
     ensures long { length passes.new ≡ length passes.old }
-    ensures same { (i : ℕ) (d : _) → i < length passes.old → IsSamePass (slice_index_or passes.old i d) (slice_index_or passes.new i d) }
+    ensures each { All (λ p. (p.0 ≡ lock.now) × (1 ≤ p.1.left)) passes.new }
 {
     let threads = passes.len().max(1);
     let work = |_: usize, pass: &mut Pass<Adder>|
-        requires { (pass.old.0 ≡ lock.now) × (calls ≤ pass.old.1.left) }
-        ensures { IsSamePass pass.old pass.new }
+        requires { (pass.old.0 ≡ lock.now) × (calls + 1 ≤ pass.old.1.left) }
+        ensures { (pass.new.0 ≡ pass.old.0) × (1 ≤ pass.new.1.left) }
     { call_lock_often(rt, lock, pass, calls) };
     thread::for_each_mut(rt, passes, threads, &work);
+}
+
+// The answer of one call more, which adds 0.
+fn add_nothing<L: Ledger, R: Wait>(
+    rt: &R,
+    lock: &NodeLock<Adder>,
+    pass: &mut Pass<Adder>,
+    blank: Blank,
+) -> u64
+    requires own { pass.old.0 ≡ lock.now }
+    requires left { 1 ≤ pass.old.1.left }
+    requires ledger { (blank.name ≡ L.name) × (blank.parts ≡ L.parts) × (0 < L.parts) }
+{
+    let mut steps: Steps<L> = Steps::new(blank);
+    let (_, sum) = lock.call(rt, pass, 0, &mut steps);
+    sum
 }
 
 // The sum after the calls of all passes.
 fn sum_of_calls<R: Threads + Wait + Sync>(
     rt: &R,
-    lock: NodeLock<Adder>,
-    mut passes: Vec<Pass<Adder>>,
+    lock: &NodeLock<Adder>,
+    passes: &mut [Pass<Adder>],
     calls: u32,
-    threads: u32,
 ) -> u64
-    requires fresh { (vec_len passes ≡ threads) × AreFresh lock threads passes.items }
-    requires some { 1 ≤ threads }
+    requires some { 1 ≤ length passes.old }
+    requires all { All (λ p. (p.0 ≡ lock.now) × (calls + 1 ≤ p.1.left)) passes.old }
 {
-    call_beside(rt, &lock, &mut passes, calls);
-    let (adder, _) = finish(lock, passes);
-    adder.sum()
+    call_beside(rt, lock, passes, calls);
+    add_nothing::<Brand, R>(rt, lock, &mut passes[0], Blank::new(1))
 }
 
 fn through_lock<R: Threads + Wait + Sync>(
@@ -93,25 +107,25 @@ fn through_lock<R: Threads + Wait + Sync>(
 ) -> Result<u64, NoMemory>
     requires { (1 ≤ threads) × (threads ≤ 64) }
 {
-    let Ok((lock, passes)) = NodeLock::new(alloc, Adder::new(), threads) else {
+    let Ok((lock, mut passes)) = NodeLock::new(alloc, Adder::new(), threads) else {
         return Err(NoMemory);
     };
-    Ok(sum_of_calls(rt, lock, passes, calls, threads))
+    Ok(sum_of_calls(rt, &lock, &mut passes, calls))
 }
 
 // Makes the calls of one thread through the mutex, and answers the last sum.
-fn call_mutex<L: Ledger, R: Wait>(rt: &R, shared: &Mutex<Counted>, calls: u32, blank: Blank) -> u64
+fn call_mutex<L: Ledger, R: Wait>(rt: &R, shared: &Mutex<Adder>, calls: u32, blank: Blank) -> u64
     requires ledger { (blank.name ≡ L.name) × (blank.parts ≡ L.parts) × (0 < L.parts) }
 {
     let mut steps: Steps<L> = Steps::new(blank);
     let mut last = 0;
     for _ in 0..calls {
-        last = shared.lock(rt).add(&mut steps);
+        last = shared.lock(rt).add_one(&mut steps);
     }
     last
 }
 
-fn call_mutex_often<R: Wait>(rt: &R, shared: &Mutex<Counted>, calls: u32) -> u64 {
+fn call_mutex_often<R: Wait>(rt: &R, shared: &Mutex<Adder>, calls: u32) -> u64 {
     call_mutex::<Brand, R>(rt, shared, calls, Blank::new(1))
 }
 
@@ -123,7 +137,7 @@ fn through_mutex<R: Threads + Wait + Sync>(
 ) -> Result<u64, NoMemory>
     requires { 1 ≤ threads }
 {
-    let shared = Mutex::new(Counted::new());
+    let shared = Mutex::new(Adder::new());
     let mut lasts = vec![in alloc; 0u64; threads as usize]?;
     let work = |_: usize, last: &mut u64| *last = call_mutex_often(rt, &shared, calls);
     thread::for_each_mut(rt, &mut lasts, threads as usize, &work);

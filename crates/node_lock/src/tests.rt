@@ -16,15 +16,15 @@ use steps::Steps;
 const CALLS: usize = 1000;
 
 // What a history keeps of a call.
-struct Added {
+pub(crate) struct Added {
     who: u32,
     number: u8,
 }
 
 // A machine that starts at 0, adds the call's number and answers the new sum.
 #[derive(Drop)]
-struct Adder {
-    sum: u64,
+pub(crate) struct Adder {
+    pub(crate) sum: u64,
     made: u64,
     ghost small: { sum ≤ 255 * made },
 }
@@ -62,7 +62,7 @@ impl Machine for Adder {
     ghost counts = { λ m h is. is };
 }
 
-fn at_zero() -> Adder
+pub(crate) fn at_zero() -> Adder
     ensures { result.made ≡ 0 }
 {
     Adder { sum: 0, made: 0 }

@@ -1,3 +1,0 @@
-pub mod Sums
-pub mod Rows
-pub mod Offers
