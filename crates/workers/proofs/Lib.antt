@@ -1,0 +1,2 @@
+pub mod Weaves
+pub mod Members
