@@ -1,2 +1,4 @@
 pub mod Weaves
 pub mod Members
+pub mod Calls
+pub mod Feeders
