@@ -2,3 +2,5 @@ pub mod Weaves
 pub mod Members
 pub mod Calls
 pub mod Feeders
+pub mod Columns
+pub mod Owning
