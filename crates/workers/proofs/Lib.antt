@@ -4,3 +4,5 @@ pub mod Calls
 pub mod Feeders
 pub mod Columns
 pub mod Owning
+pub mod Batches
+pub mod Ended
