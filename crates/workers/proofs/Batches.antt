@@ -24,7 +24,7 @@ sizes most first end fs tiles k d low =
 -- together they have the packets from the first on
 pub total_is : (most first end : ℕ) (fs : List Fed) → Tiles most first end fs → first + sum (map (λ (b : Batch). b.size) (map batch_of fs)) ≡ end
 total_is most first end [] tiles = let e : first ≡ end = tiles in omega (arith, e)
-total_is most first end (f ∷ fs) tiles = 
+total_is most first end (f ∷ fs) tiles =
     let rest = total_is most (first + f.count) end fs tiles.3 in
     let l = map (λ (b : Batch). b.size) (map batch_of fs) in
     let one : sum (f.count ∷ l) ≡ f.count + sum l = sum_by-cons (λ x. x) f.count l in omega (arith, rest, one)

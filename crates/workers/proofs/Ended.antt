@@ -1,5 +1,5 @@
 -- The merged histories of a run are those of a run of the script.
-use Rattle.std.proofs.Common.{◌≡◌, ◌≢◌, ℕ, zero, suc, Bool, true, false, nat_lt, ◌+◌, ◌<◌, ◌≤◌, List, [], ◌∷◌, ◌++◌, length, map, reverse, slice_get, Option, Some, None, refl, ap, sym, ◌∙◌, subst, arith}
+use Rattle.std.proofs.Common.{◌≡◌, ◌≢◌, ℕ, zero, suc, Bool, true, false, nat_lt, ◌+◌, ◌<◌, ◌≤◌, List, [], ◌∷◌, ◌++◌, length, map, reverse, slice_get, Option, Some, None, All, refl, ap, sym, ◌∙◌, subst, arith}
 use Rattle.std.specs.Prelude.{if◌then◌else◌}
 use Rattle.std.specs.List.{AllByRecursion}
 use Rattle.std.proofs.lemmas.List.{length-map}
@@ -24,7 +24,7 @@ use Rattle.client_script.specs.Script.{clients_in}
 use Rattle.client_core.specs.Events.{outcomes}
 use Rattle.client_core.specs.IsRun.{IsFed, HasDone, IsRun, StandsIn, feeding, steps_of, replies}
 use Rattle.client_core.specs.WholeRun.{IsGiven, IsWholeRun}
-use Rattle.trace_merge.specs.Merging.{AreByPlace}
+use Rattle.trace_merge.specs.Merging.{AreOnNodes, AreByPlace}
 use Rattle.adapter.specs.Rows.{column}
 use Rattle.adapter.specs.Callers.{Caller, AreAllCallers}
 use Rattle.adapter.specs.Ends.{IsHistory, HaveHistories, rows_of}
@@ -61,7 +61,6 @@ book_at logs c log i e at there = let l = map_at (λ log. map told_entry log) lo
 module _ (lines : List Line) (most : ℕ) (may : ℕ → Bool) (stream : List (List ℕ)) (feeder : Caller) (fs : List Fed) (others : List Caller) (logs : List (List ToldEntry)) (told : List (List Outcome))
     (w : AreWorked lines most may stream feeder fs others (books_of logs) told)
     (low_nodes : (c : ℕ) (log : List ToldEntry) (e : ToldEntry) → slice_get logs c ≡ Some log → Has log e → e.node ≤ DEMUX_NODES) (nodes : List (List ToldEntry)) (merged : AreByPlace logs nodes) where
-
   -- ------ a node
 
   -- what is said of each entry of the merged history
@@ -188,7 +187,7 @@ module _ (lines : List Line) (most : ℕ) (may : ℕ → Bool) (stream : List (L
         let k = at_has h e (has_woven e.node (map told_entry calls.0) j.0 e j.1 0 0 (feeder_acts fs)) in
         let place : e.place ≡ 0 + k.0 = in_place-at 0 h (in_place e.node h here) k.0 e k.1 in
         let same : k.0 ≡ e.place = omega (arith, place) in
-        (h, here, subst (λ n. slice_get h n ≡ Some e) same k.1)
+        (h, here, subst (λ n. slice_get h n ≡ Some e) {x = k.0} same k.1)
 
     run_fed : IsFed most (length stream) (histories_of fs nodes)
     run_fed = record {
@@ -235,3 +234,8 @@ module _ (lines : List Line) (most : ℕ) (may : ℕ → Bool) (stream : List (L
       clients = w.outcomes;
       outcomes = λ c lt. let k = client_of lines most may stream feeder fs others (books_of logs) told w c (log_at c lt).0 (log_at c lt).1 in k.2.1 ∙ ap (λ z. Some z) k.2.2.outcomes;
     }
+
+-- ------ the logs as the code keeps them
+
+pub nodes_low : (logs : List (List ToldEntry)) → All (λ log. AreOnNodes log) logs → (c : ℕ) (log : List ToldEntry) (e : ToldEntry) → slice_get logs c ≡ Some log → Has log e → e.node ≤ DEMUX_NODES
+nodes_low logs all c log e at has = has_all (λ (e : ToldEntry). e.node ≤ DEMUX_NODES) log (has_all (λ (log : List ToldEntry). AreOnNodes log) logs all log (has_at logs log c at)) e has

@@ -91,7 +91,7 @@ some_entry : (node : ℕ) (log : List LogEntry) (who place : ℕ) → Has {A = �
 some_entry node [] who place has = absurd has
 some_entry node (x ∷ log) who place has = dite (ℕ_discrete x.node node)
     (λ on. ⊎_elim (λ is. (0, x, refl, on, ap (λ (z : ℕ × ℕ). z.0) is, ap (λ (z : ℕ × ℕ). z.1) is)) (λ more. behind (some_entry node log who place more))
-      (subst (λ b. Has {A = ℕ × ℕ} (if b then (x.who, x.place) ∷ calls_on node log else calls_on node log) (who, place)) (eq-eqb x.node node on) has))
+    (subst (λ b. Has {A = ℕ × ℕ} (if b then (x.who, x.place) ∷ calls_on node log else calls_on node log) (who, place)) (eq-eqb x.node node on) has))
     (λ off. behind (some_entry node log who place (subst (λ b. Has {A = ℕ × ℕ} (if b then (x.who, x.place) ∷ calls_on node log else calls_on node log) (who, place)) (ne_eqb x.node node off) has))) where
       behind : (i : ℕ) × (e : LogEntry) × (slice_get log i ≡ Some e) × (e.node ≡ node) × (e.who ≡ who) × (e.place ≡ place)
           → (i : ℕ) × (e : LogEntry) × (slice_get (x ∷ log) i ≡ Some e) × (e.node ≡ node) × (e.who ≡ who) × (e.place ≡ place)
