@@ -1,5 +1,5 @@
 -- The merged histories of a run are those of a run of the script.
-use Rattle.std.proofs.Common.{◌≡◌, ◌≢◌, ℕ, zero, suc, Bool, true, false, nat_lt, ◌+◌, ◌<◌, ◌≤◌, List, [], ◌∷◌, ◌++◌, length, map, reverse, slice_get, Option, Some, None, All, refl, ap, sym, ◌∙◌, subst, arith}
+use Rattle.std.proofs.Common.{◌≡◌, ◌≢◌, ℕ, zero, suc, Bool, true, false, nat_lt, ◌+◌, ◌<◌, ◌≤◌, List, [], ◌∷◌, ◌++◌, length, map, reverse, slice_get, Some, All, refl, ap, sym, ◌∙◌, subst, arith}
 use Rattle.std.specs.Prelude.{if◌then◌else◌}
 use Rattle.std.specs.List.{AllByRecursion}
 use Rattle.std.proofs.lemmas.List.{length-map}
@@ -10,28 +10,26 @@ use Rattle.dmx_calls.specs.declared.limits.TheConstants.{DEMUX_NODES}
 use Rattle.dmx_calls.specs.declared.log.Entry.{Entry as ToldEntry}
 use Rattle.dmx_calls.specs.declared.outcome.Outcome.{Outcome}
 use Rattle.dmx_calls.specs.Calls.{told_entry}
-use Rattle.dmx_calls.specs.Response.{NoMemory, Passed}
+use Rattle.dmx_calls.specs.Response.{NoMemory}
 use Rattle.dmx_calls.specs.History.{Entry}
 use Rattle.dmx_calls.specs.Rules.{demux, dvr, rules_at}
 use Rattle.dmx_calls.specs.Legal.{IsLegalFor}
 use Rattle.dmx_calls.specs.Accounted.{IsAccounted}
 use Rattle.dmx_calls.specs.Log.{Act, LogEntry, filled, filled_entry}
-use Rattle.dmx_calls.specs.Histories.{feeder_acts, feeder_entry, histories_of, woven, woven_nodes, AreInPlace}
+use Rattle.dmx_calls.specs.Histories.{feeder_acts, feeder_entry, histories_of, woven, AreInPlace}
 use Rattle.dmx_calls.proofs.LawsHold.{demux_accounted, dvr_accounted}
 use Rattle.dmx_calls.proofs.Weaving.{in_place-at, woven_nodes-at, woven_nodes-length}
 use Rattle.client_script.specs.declared.line.Line.{Line}
 use Rattle.client_script.specs.Script.{clients_in}
-use Rattle.client_core.specs.Events.{outcomes}
-use Rattle.client_core.specs.IsRun.{IsFed, HasDone, IsRun, StandsIn, feeding, steps_of, replies}
+use Rattle.client_core.specs.IsRun.{IsFed, HasDone, StandsIn, feeding, steps_of}
 use Rattle.client_core.specs.WholeRun.{IsGiven, IsWholeRun}
 use Rattle.trace_merge.specs.Merging.{AreOnNodes, AreByPlace}
 use Rattle.adapter.specs.Rows.{column}
 use Rattle.adapter.specs.Callers.{Caller, AreAllCallers}
 use Rattle.adapter.specs.Ends.{IsHistory, HaveHistories, rows_of}
-use Rattle.adapter.specs.Nodes.{IsLegalAt}
 use Rattle.adapter.proofs.Lists.{at_place, place_below, one_value}
 use Rattle.workers.specs.Worked.{AreWorked}
-use Rattle.workers.proofs.Weaves.{Rises, AreTold, weaves}
+use Rattle.workers.proofs.Weaves.{weaves}
 use Rattle.workers.proofs.Members.{all_at, all_from, at_has, has_at, each_woven, has_woven, feeder_steps, batch_of}
 use Rattle.workers.proofs.Calls.{has_all, RisesOn, AreApart, of_some_log, is_merged, merged_rise}
 use Rattle.workers.proofs.Batches.{sizes, total_is, full, given}

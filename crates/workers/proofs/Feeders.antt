@@ -1,5 +1,5 @@
 -- The feeder's entries in a history are those that its pass has made, in their order; and alone they are legal.
-use Rattle.std.proofs.Common.{◌≡◌, ◌≢◌, ◌⊎◌, inl, inr, ⊎_elim, ℕ, zero, suc, Bool, true, false, nat_eq, eq-eqb, ne_eqb, ◌+◌, ◌<◌, ◌≤◌, List, [], ◌∷◌, ◌++◌, map, filter, reverse, slice_get, Some, refl, ap, sym, ◌∙◌, subst, arith, append_assoc, append-nil}
+use Rattle.std.proofs.Common.{◌≡◌, ◌≢◌, inl, inr, ⊎_elim, ℕ, zero, suc, eq-eqb, ne_eqb, ◌+◌, ◌<◌, ◌≤◌, List, [], ◌∷◌, ◌++◌, map, filter, reverse, slice_get, Some, refl, ap, sym, ◌∙◌, subst, arith, append_assoc, append-nil}
 use Rattle.std.specs.Prelude.{if◌then◌else◌, take, drop}
 use Rattle.std.specs.List.{AllByRecursion}
 use Rattle.std.proofs.lemmas.List.{reverse-append}
@@ -12,14 +12,13 @@ use Rattle.node_lock.specs.Lists.{Has}
 use Rattle.node_lock.proofs.Views.{prefix_at}
 use Rattle.dmx_calls.specs.declared.histories.Fed.{Fed}
 use Rattle.dmx_calls.specs.declared.params.Input.TheVariants.{Frontend}
-use Rattle.dmx_calls.specs.Invocation.{Pass, End}
+use Rattle.dmx_calls.specs.Invocation.{Pass}
 use Rattle.dmx_calls.specs.Response.{Passed}
 use Rattle.dmx_calls.specs.History.{Entry, History, entry_of}
 use Rattle.dmx_calls.specs.Rules.{Rules, rules_at}
 use Rattle.dmx_calls.specs.Answer.{answer}
 use Rattle.dmx_calls.specs.Legal.{May, IsLegalFor}
-use Rattle.dmx_calls.specs.Log.{EndAct, filled_act}
-use Rattle.dmx_calls.specs.Histories.{pass_act, feeder_acts}
+use Rattle.dmx_calls.specs.Histories.{feeder_acts}
 use Rattle.adapter.specs.Nodes.{IsLegalAt, ended}
 use Rattle.workers.specs.Feeding.{fed_entry, fed_entries, StandAt}
 use Rattle.workers.proofs.Weaves.{fed_of, by_feeder}

@@ -1,10 +1,9 @@
 -- Which entries stand in a woven history, and which steps are the feeder's.
-use Rattle.std.proofs.Common.{◌≡◌, ◌≢◌, ◌⊎◌, inl, inr, ⊎_elim, ℕ, zero, suc, Bool, true, false, nat_eq, nat_lt, ne_eqb, ◌+◌, ◌<◌, ◌≤◌, List, [], ◌∷◌, ◌++◌, map, filter, slice_get, Some, refl, ap, sym, ◌∙◌, arith}
+use Rattle.std.proofs.Common.{◌≡◌, ◌≢◌, ◌⊎◌, inl, inr, ⊎_elim, ℕ, zero, suc, Bool, true, false, nat_eq, nat_lt, ne_eqb, ◌+◌, List, [], ◌∷◌, ◌++◌, map, filter, slice_get, Some, refl, ap, ◌∙◌}
 use Rattle.std.specs.Prelude.{if◌then◌else◌}
 use Rattle.std.specs.List.{AllByRecursion}
 use Rattle.node_lock.specs.Lists.{Has}
 use Rattle.dmx_calls.specs.declared.histories.Fed.{Fed}
-use Rattle.dmx_calls.specs.declared.params.Input.TheVariants.{Frontend}
 use Rattle.dmx_calls.specs.Log.{Act, EndAct, LogEntry}
 use Rattle.dmx_calls.specs.Histories.{pass_act, feeder_acts, feeder_entry, feeder_entries, before_entry, woven_from}
 use Rattle.client_core.specs.IsRun.{Batch, Step, feeding, steps_of}
