@@ -1,6 +1,6 @@
 -- The log of a client, and how it is tied to what its passes know. A history is the list of a node's entries, the oldest
 -- first.
-use Rattle.std.specs.Prelude.{◌≡◌, ◌≢◌, ◌<◌, ◌+◌, ℕ, Bool, List, [], ◌∷◌, length, take, nat_eq, if◌then◌else◌, slice_get, Some, IsSome, All}
+use Rattle.std.specs.Prelude.{◌≡◌, ◌≢◌, ◌<◌, ◌+◌, ℕ, Bool, List, [], ◌∷◌, take, nat_eq, if◌then◌else◌, slice_get, Some, IsSome, All}
 use mathlib.Core.Option.{some}
 use lib.ListN.{get_elem?}
 use Rattle.atomic_table.specs.Seated.{TableId}

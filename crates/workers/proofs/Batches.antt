@@ -1,0 +1,40 @@
+-- The feeder's batches are those of a run.
+use Rattle.std.proofs.Common.{◌≡◌, ℕ, Bool, ◌+◌, ◌≤◌, List, [], ◌∷◌, map, sum, get_or, All, arith}
+use Rattle.std.specs.Prelude.{IsTrue}
+use Rattle.std.specs.List.{AllByRecursion}
+use Rattle.std.proofs.lemmas.List.Elements.{All-head, All-tail}
+use Rattle.std.proofs.lemmas.List.Sums.{sum_by-cons}
+use Rattle.std.proofs.lemmas.Option.{slice_get-get_or}
+use Rattle.dmx_calls.specs.declared.histories.Fed.{Fed}
+use Rattle.dmx_calls.specs.Histories.{feeder_acts}
+use Rattle.client_core.specs.IsRun.{Batch}
+use Rattle.client_core.specs.WholeRun.{IsGiven, AreFull}
+use Rattle.workers.specs.Feeding.{Tiles, AreFullBatches}
+use Rattle.workers.proofs.Members.{all_at, batch_of}
+
+sizes_are : (most first end : ℕ) (fs : List Fed) → Tiles most first end fs → AllByRecursion (λ (b : Batch). (1 ≤ b.size) × (b.size ≤ most)) (map batch_of fs)
+sizes_are most first end [] tiles = tt
+sizes_are most first end (f ∷ fs) tiles = ((tiles.1, tiles.2), sizes_are most (first + f.count) end fs tiles.3)
+
+-- each has 1 to `most` packets
+pub sizes : (most first end : ℕ) (fs : List Fed) → Tiles most first end fs → All (λ (b : Batch). (1 ≤ b.size) × (b.size ≤ most)) (map batch_of fs)
+sizes most first end fs tiles k d low =
+    all_at (λ (b : Batch). (1 ≤ b.size) × (b.size ≤ most)) (map batch_of fs) (sizes_are most first end fs tiles) k (get_or (map batch_of fs) k d) (slice_get-get_or (map batch_of fs) k d low)
+
+-- together they have the packets from the first on
+pub total_is : (most first end : ℕ) (fs : List Fed) → Tiles most first end fs → first + sum (map (λ (b : Batch). b.size) (map batch_of fs)) ≡ end
+total_is most first end [] tiles = let e : first ≡ end = tiles in omega (arith, e)
+total_is most first end (f ∷ fs) tiles =
+    let rest = total_is most (first + f.count) end fs tiles.3 in
+    let l = map (λ (b : Batch). b.size) (map batch_of fs) in
+    let one : sum (f.count ∷ l) ≡ f.count + sum l = sum_by-cons (λ x. x) f.count l in omega (arith, rest, one)
+
+pub full : (most : ℕ) (fs : List Fed) → AreFullBatches most fs → AreFull most (map batch_of fs)
+full most [] is = tt
+full most (f ∷ []) is = tt
+full most (f ∷ g ∷ fs) is = (is.0, full most (g ∷ fs) is.1)
+
+-- each call of the feeder is at a moment that the clock may give
+pub given : (may : ℕ → Bool) (fs : List Fed) → All (λ fed. IsTrue (may fed.now)) fs → AllByRecursion (IsGiven may) (feeder_acts fs)
+given may [] all = (tt, tt)
+given may (f ∷ fs) all = (All-head (λ (fed : Fed). IsTrue (may fed.now)) f fs all, given may fs (All-tail (λ (fed : Fed). IsTrue (may fed.now)) f fs all))
