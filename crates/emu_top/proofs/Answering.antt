@@ -5,17 +5,17 @@ use Rattle.std.specs.Prelude.{min, Option, Some, None, IfSome, Result, Ok, Err}
 use Rattle.std.specs.Io.KnownBytes.{Appends, Consumes, Keeps, IsAtEnd}
 use Rattle.emu_io.specs.Causes.{Rose}
 use Rattle.client_script.specs.declared.line.Line.{Line}
-use Rattle.client_script.specs.declared.line.Line.TheVariants.{Feed, Tick, Command}
+use Rattle.client_script.specs.declared.line.Line.TheVariants.{Feed, Tick, Command as CommandLine}
 use Rattle.client_script.specs.declared.fault.ScriptFault.{ScriptFault}
 use Rattle.client_script.specs.Script.{split, parted, grammar, most_bytes, script_len, whole_lines, IsScript}
 use Rattle.client_script.proofs.Splitting.{split-found}
 use Rattle.client_core.specs.Budget.{most_calls, all_commands}
-use Rattle.command_words.specs.declared.Command.{Command as Asked}
-use Rattle.command_words.specs.declared.Command.TheVariants.{Steps, Make, SelfTest}
+use Rattle.command_words.specs.declared.Command.{Command}
+use Rattle.command_words.specs.declared.Command.TheVariants.{Steps, Run, Make, SelfTest}
 use Rattle.command_words.specs.Meant.{meant}
 use Rattle.ts_make.specs.Made.{made}
-use Rattle.emu_top.specs.Session.{Makes, GivesUp, FailsEarly, Refuses, HasFault, IsSums}
-use Rattle.emu_top.specs.Serves.{Outside, Says, Serves, Determines, NoReadFails, NoWriteFails, Tells, Gives}
+use Rattle.emu_top.specs.Session.{Output, IsSerialOutput, IsThreadOutput, IsSums, Makes, Refuses}
+use Rattle.emu_top.specs.Serves.{Outside, NoWriteFails, WritesWhole, WritesFront, HasWritten, Says, Determines, Does, Tells, Gives, Obeys, Serves}
 use Rattle.emu_top.specs.declared.status.Status.{Status}
 use Rattle.emu_top.specs.declared.status.Status.TheVariants.{Usage, Script, TooLong, ReadFault, WriteFault, NoMemory, Ok as Done}
 
@@ -25,15 +25,30 @@ keeps (Some xs) = refl
 
 -- ------ a status without output
 
-pub says_refused : (batch : ℕ) (content left w : Option (List ℕ)) (before after f : ℕ) (status : Status) → Refuses content left before after status
-    → Says batch (record { left = content; read_faults = before; written = w; write_faults = f }) (record { left = left; read_faults = after; written = w; write_faults = f }) status
-says_refused batch content left w before after f Usage r = r
-says_refused batch content left w before after f (Script line kind) r = (r, (keeps w, refl))
-says_refused batch content left w before after f (TooLong turns) r = (r, (keeps w, refl))
-says_refused batch content left w before after f ReadFault r = (refl, inr (r, keeps w))
-says_refused batch content left w before after f WriteFault r = absurd r
-says_refused batch content left w before after f NoMemory r = (keeps w, refl)
-says_refused batch content left w before after f Done r = absurd r
+pub says_refused : (out : Output) (content left w : Option (List ℕ)) (before after f : ℕ) (status : Status) → Refuses content left before after status
+    → Says out (record { left = content; read_faults = before; written = w; write_faults = f }) (record { left = left; read_faults = after; written = w; write_faults = f }) status
+says_refused out content left w before after f Usage r = r
+says_refused out content left w before after f (Script line kind) r = (r, (keeps w, refl))
+says_refused out content left w before after f (TooLong turns) r = (r, (keeps w, refl))
+says_refused out content left w before after f ReadFault r = (refl, inr (r, keeps w))
+says_refused out content left w before after f WriteFault r = absurd r
+says_refused out content left w before after f NoMemory r = (keeps w, refl)
+says_refused out content left w before after f Done r = absurd r
+
+-- ------ a status with output
+
+pub says_written : (out : Output) (content left old new : Option (List ℕ)) (before after r s : ℕ) (failed : Bool) (text : List ℕ) (status : Status)
+    → Makes out content left before after failed text → HasWritten failed text old new r s status
+    → Says out (record { left = content; read_faults = before; written = old; write_faults = r }) (record { left = left; read_faults = after; written = new; write_faults = s }) status
+says_written out content left old new before after r s failed text Usage m w = absurd w
+says_written out content left old new before after r s failed text (Script line kind) m w = absurd w
+says_written out content left old new before after r s failed text (TooLong turns) m w = absurd w
+says_written out content left old new before after r s failed text ReadFault m (is, written, steady) = (steady, inl (text, subst (λ b. Makes out content left before after b text) is m, written))
+says_written out content left old new before after r s failed text WriteFault m (count, part, written, rose) =
+    record { text = text; failed = failed; made = m; front = record { count = count; part = part; written = written; rose = rose } }
+says_written out content left old new before after r s failed text NoMemory m w = absurd w
+says_written out content left old new before after r s failed text Done m (is, written, steady) =
+    record { text = text; made = subst (λ b. Makes out content left before after b text) is m; whole = record { written = written; writes = steady } }
 
 -- ------ what the bytes taken say of the whole input
 
@@ -64,7 +79,7 @@ few_commands : (lines : List Line) → all_commands lines ≤ length lines
 few_commands [] = omega arith
 few_commands (Feed n ∷ lines) = let h = few_commands lines in omega arith
 few_commands (Tick n ∷ lines) = let h = few_commands lines in omega arith
-few_commands (Command line client target verb ∷ lines) = let h = few_commands lines in omega arith
+few_commands (CommandLine line client target verb ∷ lines) = let h = few_commands lines in omega arith
 
 pub not_too_long : (input bytes rest stream : List ℕ) (lines : List Line) (turns : ℕ) → input ≡ bytes ++ rest → length input < 4294967296 → length stream ≤ length bytes → IsScript lines
     → ((turns ≡ 4294967296) × (turns ≤ length bytes)) ⊎ ((turns ≡ 549755813888) × (turns ≤ most_calls (all_commands lines) (length stream))) → ⊥
@@ -87,35 +102,43 @@ pub by_taken : (input : List ℕ) (left : Option (List ℕ)) (bytes : List ℕ) 
 by_taken input None bytes con = absurd con
 by_taken input (Some rest) bytes con = (rest, con)
 
-determined : (batch : ℕ) (input : List ℕ) (left old new : Option (List ℕ)) (r s w v : ℕ) (status : Status) → r < 2 ^ 64 - 1 → w < 2 ^ 64 - 1 → s ≡ r → v ≡ w
-    → Says batch (record { left = Some input; read_faults = r; written = old; write_faults = w }) (record { left = left; read_faults = s; written = new; write_faults = v }) status
+determined : (out : Output) (input : List ℕ) (left old new : Option (List ℕ)) (r s w v : ℕ) (status : Status) → r < 2 ^ 64 - 1 → w < 2 ^ 64 - 1 → s ≡ r → v ≡ w
+    → Says out (record { left = Some input; read_faults = r; written = old; write_faults = w }) (record { left = left; read_faults = s; written = new; write_faults = v }) status
     → (status ≡ NoMemory) ⊎ Determines (grammar (split input).script) input status
-determined batch input left old new r s w v Usage fr fw nr nw says = absurd says
-determined batch input left old new r s w v (Script line kind) fr fw nr nw says = inr (rw (says.0.1) refl)
-determined batch input left old new r s w v (TooLong turns) fr fw nr nw says =
+determined out input left old new r s w v Usage fr fw nr nw says = absurd says
+determined out input left old new r s w v (Script line kind) fr fw nr nw says = inr (rw (says.0.1) refl)
+determined out input left old new r s w v (TooLong turns) fr fw nr nw says =
     let g = says.0 in
     let t = by_taken input left g.bytes g.taken in
-    let ok = script_of_all input g.bytes t.0 g.stream g.lines t.1 g.script g.behind in
-    let fits = (split_more g.bytes t.0 g.stream g.behind).1 in
+    let ok = script_of_all input g.bytes t.0 g.stream g.lines t.1 g.session.script g.session.behind in
+    let fits = (split_more g.bytes t.0 g.stream g.session.behind).1 in
     inr (rw ok (λ short. absurd (not_too_long input g.bytes t.0 g.stream g.lines turns t.1 short fits g.known g.cause)))
-determined batch input left old new r s w v ReadFault fr fw nr nw (steady_writes, inl (text, m, a)) = absurd (steady r fr (subst (λ n. Rose r n) nr m.reads))
-determined batch input left old new r s w v ReadFault fr fw nr nw (steady_writes, inr (f, k)) = absurd (steady r fr (subst (λ n. Rose r n) nr f.rose))
-determined batch input left old new r s w v WriteFault fr fw nr nw says = absurd (steady w fw (subst (λ n. Rose w n) nw says.front.rose))
-determined batch input left old new r s w v NoMemory fr fw nr nw says = inl refl
-determined batch input left old new r s w v Done fr fw nr nw says =
-    let o = says.made.output in
-    let t = by_taken input left says.made.bytes says.made.taken in
-    let ok = script_of_all input says.made.bytes t.0 o.stream o.lines t.1 o.session.script o.session.behind in
+determined out input left old new r s w v ReadFault fr fw nr nw (steady_writes, inl (text, m, a)) = absurd (steady r fr (subst (λ n. Rose r n) nr m.reads))
+determined out input left old new r s w v ReadFault fr fw nr nw (steady_writes, inr (f, k)) = absurd (steady r fr (subst (λ n. Rose r n) nr f.rose))
+determined out input left old new r s w v WriteFault fr fw nr nw says = absurd (steady w fw (subst (λ n. Rose w n) nw says.front.rose))
+determined out input left old new r s w v NoMemory fr fw nr nw says = inl refl
+determined out input left old new r s w v Done fr fw nr nw says =
+    let m = says.made in
+    let t = by_taken input left m.bytes m.taken in
+    let ok = script_of_all input m.bytes t.0 m.stream m.lines t.1 m.session.script m.session.behind in
     inr (rw ok (λ short. refl))
 
-settled_by : (batch : ℕ) (content left old new : Option (List ℕ)) (r s w v : ℕ) (status : Status) → r < 2 ^ 64 - 1 → w < 2 ^ 64 - 1 → s ≡ r → v ≡ w
-    → Says batch (record { left = content; read_faults = r; written = old; write_faults = w }) (record { left = left; read_faults = s; written = new; write_faults = v }) status
+settled_by : (out : Output) (content left old new : Option (List ℕ)) (r s w v : ℕ) (status : Status) → r < 2 ^ 64 - 1 → w < 2 ^ 64 - 1 → s ≡ r → v ≡ w
+    → Says out (record { left = content; read_faults = r; written = old; write_faults = w }) (record { left = left; read_faults = s; written = new; write_faults = v }) status
     → IfSome content (λ input. (status ≡ NoMemory) ⊎ Determines (grammar (split input).script) input status)
-settled_by batch None left old new r s w v status fr fw nr nw says = tt
-settled_by batch (Some input) left old new r s w v status fr fw nr nw says = determined batch input left old new r s w v status fr fw nr nw says
+settled_by out None left old new r s w v status fr fw nr nw says = tt
+settled_by out (Some input) left old new r s w v status fr fw nr nw says = determined out input left old new r s w v status fr fw nr nw says
 
-never_usage : (batch : ℕ) (before after : Outside) (status : Status) → Says batch before after status → status ≡ Usage → ⊥
-never_usage batch before after status says is = subst (λ s. Says batch before after s) is says
+never_usage : (out : Output) (before after : Outside) (status : Status) → Says out before after status → status ≡ Usage → ⊥
+never_usage out before after status says is = subst (λ s. Says out before after s) is says
+
+pub does : (out : Output) (content left old new : Option (List ℕ)) (r s w v : ℕ) (status : Status) → r < 2 ^ 64 - 1 → w < 2 ^ 64 - 1
+    → Says out (record { left = content; read_faults = r; written = old; write_faults = w }) (record { left = left; read_faults = s; written = new; write_faults = v }) status
+    → Does out (record { left = content; read_faults = r; written = old; write_faults = w }) (record { left = left; read_faults = s; written = new; write_faults = v }) status
+does out content left old new r s w v status fr fw says = record {
+  says = says;
+  settled = λ nr nw. settled_by out content left old new r s w v status fr fw nr nw says;
+}
 
 -- ------ a text that is made from a number
 
@@ -132,7 +155,7 @@ settled_told IsText before after WriteFault fw (text, is, front) nw = absurd (st
 settled_told IsText before after NoMemory fw says nw = inl refl
 settled_told IsText before after Done fw says nw = inr refl
 
-gives : (IsText : List ℕ → Type 0) (left old new : Option (List ℕ)) (r w v : ℕ) (status : Status) → w < 2 ^ 64 - 1
+pub gives : (IsText : List ℕ → Type 0) (left old new : Option (List ℕ)) (r w v : ℕ) (status : Status) → w < 2 ^ 64 - 1
     → Tells IsText (record { left = left; read_faults = r; written = old; write_faults = w }) (record { left = left; read_faults = r; written = new; write_faults = v }) status
     → Gives IsText (record { left = left; read_faults = r; written = old; write_faults = w }) (record { left = left; read_faults = r; written = new; write_faults = v }) status
 gives IsText left old new r w v status fw says = record {
@@ -153,89 +176,51 @@ told_as IsText text before after Done is (whole, e, all) = (whole, subst IsText 
 
 -- ------ the whole
 
-same_batch : (batch other : ℕ) (m : Option Asked) → m ≡ Some (Steps batch) → m ≡ Some (Steps other) → batch ≡ other
-same_batch batch other m a b = cc
+not_usage : (c : Command) (may : ℕ → Bool) (before after : Outside) (status : Status) → Obeys c may before after status → status ≡ Usage → ⊥
+not_usage (Steps batch) may before after status d is = never_usage (IsSerialOutput batch) before after status d.says is
+not_usage (Run batch) may before after status d is = never_usage (IsThreadOutput batch may) before after status d.says is
+not_usage (Make number) may before after status d is = never_usage_told (λ text. text ≡ made number) before after status d.says is
+not_usage (SelfTest number batch) may before after status d is = never_usage_told (IsSums number batch) before after status d.says is
+
+same_command : (c other : Command) (m : Option Command) → m ≡ Some c → m ≡ Some other → c ≡ other
+same_command c other m a b = cc
 
 -- words that are accepted
-pub serves : (words : List (List ℕ)) (batch : ℕ) (content left old new : Option (List ℕ)) (r s w v : ℕ) (status : Status) → meant words ≡ Some (Steps batch) → r < 2 ^ 64 - 1 → w < 2 ^ 64 - 1
-    → Says batch (record { left = content; read_faults = r; written = old; write_faults = w }) (record { left = left; read_faults = s; written = new; write_faults = v }) status
-    → Serves words (record { left = content; read_faults = r; written = old; write_faults = w }) (record { left = left; read_faults = s; written = new; write_faults = v }) status
-serves words batch content left old new r s w v status is fr fw says =
-    let before : Outside = record { left = content; read_faults = r; written = old; write_faults = w } in
-    let after : Outside = record { left = left; read_faults = s; written = new; write_faults = v } in
-    record {
-      usage = λ e. absurd (never_usage batch before after status says e);
-      refused = λ none. absurd (let e : Some (Steps batch) ≡ None = sym is ∙ none in cc);
-      says = λ other e. subst (λ b. Says b before after status) (same_batch batch other (meant words) is e) says;
-      settled = λ other e nr nw. settled_by batch content left old new r s w v status fr fw nr nw says;
-      makes = λ number e. absurd (let x : Some (Steps batch) ≡ Some (Make number) = sym is ∙ e in cc);
-      sums = λ number other e. absurd (let x : Some (Steps batch) ≡ Some (SelfTest number other) = sym is ∙ e in cc);
-    }
-
-same_number : (number other : ℕ) (m : Option Asked) → m ≡ Some (Make number) → m ≡ Some (Make other) → number ≡ other
-same_number number other m a b = cc
-
-pub serves_made : (words : List (List ℕ)) (number : ℕ) (left old new : Option (List ℕ)) (r w v : ℕ) (status : Status) → meant words ≡ Some (Make number) → w < 2 ^ 64 - 1
-    → Tells (λ text. text ≡ made number) (record { left = left; read_faults = r; written = old; write_faults = w }) (record { left = left; read_faults = r; written = new; write_faults = v }) status
-    → Serves words (record { left = left; read_faults = r; written = old; write_faults = w }) (record { left = left; read_faults = r; written = new; write_faults = v }) status
-serves_made words number left old new r w v status is fw says =
-    let before : Outside = record { left = left; read_faults = r; written = old; write_faults = w } in
-    let after : Outside = record { left = left; read_faults = r; written = new; write_faults = v } in
-    record {
-      usage = λ e. absurd (never_usage_told (λ text. text ≡ made number) before after status says e);
-      refused = λ none. absurd (let e : Some (Make number) ≡ None = sym is ∙ none in cc);
-      says = λ batch e. absurd (let x : Some (Make number) ≡ Some (Steps batch) = sym is ∙ e in cc);
-      settled = λ batch e nr nw. absurd (let x : Some (Make number) ≡ Some (Steps batch) = sym is ∙ e in cc);
-      makes = λ other e. subst (λ n. Gives (λ text. text ≡ made n) before after status) (same_number number other (meant words) is e) (gives (λ text. text ≡ made number) left old new r w v status fw says);
-      sums = λ other batch e. absurd (let x : Some (Make number) ≡ Some (SelfTest other batch) = sym is ∙ e in cc);
-    }
-
-same_test : (number other batch size : ℕ) (m : Option Asked) → m ≡ Some (SelfTest number batch) → m ≡ Some (SelfTest other size) → (number ≡ other) × (batch ≡ size)
-same_test number other batch size m a b = (cc, cc)
-
-pub serves_sums : (words : List (List ℕ)) (number batch : ℕ) (left old new : Option (List ℕ)) (r w v : ℕ) (status : Status) → meant words ≡ Some (SelfTest number batch) → w < 2 ^ 64 - 1
-    → Tells (IsSums number batch) (record { left = left; read_faults = r; written = old; write_faults = w }) (record { left = left; read_faults = r; written = new; write_faults = v }) status
-    → Serves words (record { left = left; read_faults = r; written = old; write_faults = w }) (record { left = left; read_faults = r; written = new; write_faults = v }) status
-serves_sums words number batch left old new r w v status is fw says =
-    let before : Outside = record { left = left; read_faults = r; written = old; write_faults = w } in
-    let after : Outside = record { left = left; read_faults = r; written = new; write_faults = v } in
-    record {
-      usage = λ e. absurd (never_usage_told (IsSums number batch) before after status says e);
-      refused = λ none. absurd (let e : Some (SelfTest number batch) ≡ None = sym is ∙ none in cc);
-      says = λ size e. absurd (let x : Some (SelfTest number batch) ≡ Some (Steps size) = sym is ∙ e in cc);
-      settled = λ size e nr nw. absurd (let x : Some (SelfTest number batch) ≡ Some (Steps size) = sym is ∙ e in cc);
-      makes = λ other e. absurd (let x : Some (SelfTest number batch) ≡ Some (Make other) = sym is ∙ e in cc);
-      sums = λ other size e.
-          let same = same_test number other batch size (meant words) is e in
-          subst (λ n. Gives (IsSums n size) before after status) same.0
-          (subst (λ b. Gives (IsSums number b) before after status) same.1 (gives (IsSums number batch) left old new r w v status fw says));
-    }
+pub serves : (words : List (List ℕ)) (c : Command) (may : ℕ → Bool) (before after : Outside) (status : Status) → meant words ≡ Some c → Obeys c may before after status → Serves words may before after status
+serves words c may before after status is o = record {
+  usage = λ e. absurd (not_usage c may before after status o e);
+  refused = λ none. absurd (let e : Some c ≡ None = sym is ∙ none in cc);
+  obeys = λ other e. subst (λ x. Obeys x may before after status) (same_command c other (meant words) is e) o;
+}
 
 -- words that are refused
-pub serves_none : (words : List (List ℕ)) (at : Outside) (status : Status) → meant words ≡ None → (status ≡ Usage) ⊎ (status ≡ NoMemory) → Serves words at at status
-serves_none words at status is one = record {
+pub serves_none : (words : List (List ℕ)) (may : ℕ → Bool) (at : Outside) (status : Status) → meant words ≡ None → (status ≡ Usage) ⊎ (status ≡ NoMemory) → Serves words may at at status
+serves_none words may at status is one = record {
   usage = λ e. is;
   refused = λ none. (one, (keeps at.left, refl), (keeps at.written, refl));
-  says = λ batch e. absurd (let x : None ≡ Some (Steps batch) = sym is ∙ e in cc);
-  settled = λ batch e nr nw. absurd (let x : None ≡ Some (Steps batch) = sym is ∙ e in cc);
-  makes = λ number e. absurd (let x : None ≡ Some (Make number) = sym is ∙ e in cc);
-  sums = λ number batch e. absurd (let x : None ≡ Some (SelfTest number batch) = sym is ∙ e in cc);
+  obeys = λ c e. absurd (let x : None ≡ Some c = sym is ∙ e in cc);
 }
 
 -- want of memory while the words are read
-says_if : (left : Option (List ℕ)) (status : Status) (input_of : List ℕ → Type 0) → ((input : List ℕ) → input_of input) → IfSome left input_of
-says_if None status P each = tt
-says_if (Some input) status P each = each input
+says_if : (left : Option (List ℕ)) (P : List ℕ → Type 0) → ((input : List ℕ) → P input) → IfSome left P
+says_if None P each = tt
+says_if (Some input) P each = each input
 
-unread : {IsText : List ℕ → Type 0} (at : Outside) → Gives IsText at at NoMemory
-unread at = record { reads = (keeps at.left, refl); says = (keeps at.written, refl); settled = λ nw. inl refl }
+unmade : (IsText : List ℕ → Type 0) (at : Outside) → Gives IsText at at NoMemory
+unmade IsText at = record { reads = (keeps at.left, refl); says = (keeps at.written, refl); settled = λ nw. inl refl }
 
-pub serves_unread : (words : List (List ℕ)) (at : Outside) → Serves words at at NoMemory
-serves_unread words at = record {
+undone : (out : Output) (at : Outside) → Does out at at NoMemory
+undone out at = record { says = (keeps at.written, refl); settled = λ nr nw. says_if at.left _ (λ input. inl refl) }
+
+unread : (c : Command) (may : ℕ → Bool) (at : Outside) → Obeys c may at at NoMemory
+unread (Steps batch) may at = undone (IsSerialOutput batch) at
+unread (Run batch) may at = undone (IsThreadOutput batch may) at
+unread (Make number) may at = unmade (λ text. text ≡ made number) at
+unread (SelfTest number batch) may at = unmade (IsSums number batch) at
+
+pub serves_unread : (words : List (List ℕ)) (may : ℕ → Bool) (at : Outside) → Serves words may at at NoMemory
+serves_unread words may at = record {
   usage = λ e. absurd (cc);
   refused = λ none. (inr refl, (keeps at.left, refl), (keeps at.written, refl));
-  says = λ batch e. (keeps at.written, refl);
-  settled = λ batch e nr nw. says_if at.left NoMemory _ (λ input. inl refl);
-  makes = λ number e. unread at;
-  sums = λ number batch e. unread at;
+  obeys = λ c e. unread c may at;
 }

@@ -25,7 +25,7 @@ use Rattle.serial_core.specs.Ran.{histories_in}
 use Rattle.ts_make.specs.declared.kind.Kind.{Kind}
 use Rattle.ts_make.specs.Made.{made, packets, packet_at, payload, carrying, section, section_front}
 use Rattle.ts_make.specs.Script.{script}
-use Rattle.emu_top.specs.Session.{Runs, Refuses, ReadsTo, IsRunOf, IsSums}
+use Rattle.emu_top.specs.Session.{Runs, Refuses, ReadsTo, IsSession, IsSums}
 use Rattle.emu_top.specs.declared.status.Status.{Status}
 use Rattle.emu_top.specs.declared.status.Status.TheVariants.{Usage, Script, TooLong, ReadFault, WriteFault, NoMemory, Ok as Done}
 use Rattle.emu_top.proofs.Answering.{by_taken, not_too_long, split_more, steady}
@@ -109,7 +109,7 @@ refused number left Usage r = absurd r
 refused number left (Script line kind) r = absurd (let e : Ok (lines_of number).0 ≡ Err (record { line = line; kind = kind }) = sym (lines_of number).1 ∙ r.1 in cc)
 refused number left (TooLong turns) g =
     let t = by_taken (made number) left g.bytes g.taken in
-    let fits = (split_more g.bytes t.0 g.stream g.behind).1 in
+    let fits = (split_more g.bytes t.0 g.stream g.session.behind).1 in
     absurd (not_too_long (made number) g.bytes t.0 g.stream g.lines turns t.1 (short number) fits g.known g.cause)
 refused number left ReadFault r = absurd (steady 0 (omega arith) r.rose)
 refused number left WriteFault r = absurd r
@@ -130,7 +130,8 @@ summed_by number batch left ran text false is r e =
       lines = r.lines;
       stream = r.stream;
       run = r.run;
-      session = subst (λ bytes. IsRunOf batch bytes r.lines r.stream r.run) (sym whole) r.session;
+      session = subst (λ bytes. IsSession bytes r.lines r.stream) (sym whole) r.session;
+      ran = r.ran;
       sums = e ∙ (ap (λ h. summary_of h ran.histories) (r.head ∙ ap (head_of r.stream) is) ∙ ap (summary_of (head_of r.stream false)) r.histories);
     }
 

@@ -6,6 +6,7 @@ use Rattle.std.specs.Prelude.{◌↔◌, min, Option, Some, None, IfSome, Result
 use Rattle.std.specs.Io.KnownBytes.{Consumes, IsAtEnd}
 use Rattle.emu_io.specs.Causes.{Rose}
 use Rattle.ts_packet.specs.Cut.{cut}
+use Rattle.dmx_calls.specs.declared.outcome.Outcome.{Outcome}
 use Rattle.dmx_calls.specs.Head.{told_head, head_of}
 use Rattle.client_script.specs.declared.line.Line.{Line}
 use Rattle.client_script.specs.declared.fault.ScriptFault.{ScriptFault}
@@ -22,7 +23,7 @@ use Rattle.serial_core.specs.Ran.{IsRanOf}
 use Rattle.serial_core.proofs.Runs.{are_runs}
 use Rattle.report_text.specs.Report.{report_of}
 use Rattle.emu_top.specs.Part.{IsUnended}
-use Rattle.emu_top.specs.Session.{Holds, IsFaultIn, Makes, Runs, GivesUp, FailsEarly, Refuses, ReadsTo, IsOutput, status_of_stop}
+use Rattle.emu_top.specs.Session.{Output, IsSession, IsSerialOutput, Holds, IsFaultIn, Makes, Runs, GivesUp, FailsEarly, Refuses, ReadsTo, status_of_stop}
 use Rattle.emu_top.specs.declared.status.Status.{Status}
 use Rattle.emu_top.specs.declared.status.Status.TheVariants.{Usage, Script, TooLong, ReadFault, WriteFault, NoMemory, Ok as Done}
 
@@ -37,6 +38,9 @@ reads_to false left before after rose later end = elim (cases_lt before after) [
   | inl lt ↦ absurd (let e : false ≡ true = rose.1 lt in cc)
   | inr le ↦ (omega arith, end refl)
 ]
+
+session_of : (bytes part stream : List ℕ) (lines : List Line) → split bytes ≡ record { script = part; stream = Some stream } → grammar part ≡ Ok lines → IsSession bytes lines stream
+session_of bytes part stream lines s script = record { script = ap (λ p. grammar p.script) s ∙ script; behind = ap (λ p. p.stream) s }
 
 -- what the run of a session left
 pub run_of : (batch : ℕ) (lines : List Line) (puller : Pulling) (content mid left : Option (List ℕ)) (before after : ℕ) (first : List ℕ) (ran : Ran)
@@ -55,9 +59,8 @@ run_of batch lines puller content mid left before after first ran one con h of r
       run = r.run;
       taken = Consumes-trans _ _ _ _ _ con of.1;
       reads = reads_to ran.head.read_fault left before after rose later end;
-      session = record {
-        script = ap (λ p. grammar p.script) s ∙ h.script;
-        behind = ap (λ p. p.stream) s;
+      session = session_of (first ++ taken) h.part (h.ahead ++ taken) lines s h.script;
+      ran = record {
         serial = r.serial;
         whole = are_runs lines batch (cut (h.ahead ++ taken)).packets r.run h.known.ranges one r.serial;
       };
@@ -67,20 +70,38 @@ run_of batch lines puller content mid left before after first ran one con h of r
     }
 
 -- its report
-pub reported : (batch : ℕ) (content left : Option (List ℕ)) (before after : ℕ) (ran : Ran) (text : List ℕ) → Runs batch content left before after ran
-    → text ≡ report_of (told_head ran.head) (map (λ o. o.items) ran.outcomes.items) ran.histories → Makes batch content left before after ran.head.read_fault text
-reported batch content left before after ran text r e = record {
+pub reported : (batch : ℕ) (content left : Option (List ℕ)) (before after : ℕ) (ran : Ran) (became : List (List Outcome)) (failed : Bool) (text : List ℕ) → Runs batch content left before after ran
+    → failed ≡ ran.head.read_fault → became ≡ map (λ o. o.items) ran.outcomes.items → text ≡ report_of (told_head ran.head) became ran.histories
+    → Makes (IsSerialOutput batch) content left before after failed text
+reported batch content left before after ran became failed text r fault same e = rw fault record {
   bytes = r.bytes;
+  lines = r.lines;
+  stream = r.stream;
   taken = r.taken;
   reads = r.reads;
+  session = r.session;
   output = record {
-    lines = r.lines;
-    stream = r.stream;
     run = r.run;
-    session = r.session;
-    report = rw (← r.head, ← r.outcomes, ← r.histories) e;
+    ran = r.ran;
+    report = rw (← r.head, ← r.outcomes, ← r.histories, ← same) e;
   };
 }
+
+-- of whatever kind it is, the output for the bytes of a script and of the stream behind it
+pub made_of : (out : Output) (lines : List Line) (puller : Pulling) (content mid left : Option (List ℕ)) (before after : ℕ) (first : List ℕ) (failed : Bool) (text : List ℕ)
+    → Consumes content mid first → Holds first lines puller → OfStream mid left puller (λ ahead taken. out lines (ahead ++ taken) failed text)
+    → (IsTrue failed ↔ (before < after)) → before ≤ after → (failed ≡ false → IsAtEnd left) → Makes out content left before after failed text
+made_of out lines puller content mid left before after first failed text con h of rose later end =
+    let taken = of.0 in
+    record {
+      bytes = first ++ taken;
+      lines = lines;
+      stream = h.ahead ++ taken;
+      taken = Consumes-trans _ _ _ _ _ con of.1;
+      reads = reads_to failed left before after rose later end;
+      session = session_of (first ++ taken) h.part (h.ahead ++ taken) lines (h.splits taken) h.script;
+      output = of.2 h.ahead h.pulls;
+    }
 
 -- ------ a run that was given up
 
@@ -96,15 +117,13 @@ given_up lines puller content mid left before after first NoMemoryToRun each con
 given_up lines puller content mid left before after first (RunTooLong turns) each con h =
     let of = each turns refl in
     let taken = of.0 in
-    let s = h.splits taken in
     record {
       bytes = first ++ taken;
       lines = lines;
       stream = h.ahead ++ taken;
       taken = Consumes-trans _ _ _ _ _ con of.1;
-      script = ap (λ p. grammar p.script) s ∙ h.script;
+      session = session_of (first ++ taken) h.part (h.ahead ++ taken) lines (h.splits taken) h.script;
       known = h.known;
-      behind = ap (λ p. p.stream) s;
       cause = cause_of lines puller.start turns h.ahead taken first h.reads (of.2 h.ahead h.pulls);
     }
 

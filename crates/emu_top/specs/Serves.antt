@@ -5,10 +5,11 @@ use Rattle.emu_io.specs.Causes.{Rose}
 use Rattle.client_script.specs.declared.line.Line.{Line}
 use Rattle.client_script.specs.declared.fault.ScriptFault.{ScriptFault}
 use Rattle.client_script.specs.Script.{split, grammar}
-use Rattle.command_words.specs.declared.Command.TheVariants.{Steps, Make, SelfTest}
+use Rattle.command_words.specs.declared.Command.{Command}
+use Rattle.command_words.specs.declared.Command.TheVariants.{Steps, Run, Make, SelfTest}
 use Rattle.command_words.specs.Meant.{meant}
 use Rattle.ts_make.specs.Made.{made}
-use Rattle.emu_top.specs.Session.{Makes, GivesUp, HasFault, FailsEarly, IsSums}
+use Rattle.emu_top.specs.Session.{Output, IsSerialOutput, IsThreadOutput, IsSums, Makes, GivesUp, HasFault, FailsEarly}
 use Rattle.emu_top.specs.declared.status.Status.{Status}
 use Rattle.emu_top.specs.declared.status.Status.TheVariants.{Usage, Script, TooLong, ReadFault, WriteFault, NoMemory, Ok as Done}
 
@@ -50,46 +51,61 @@ pub record WritesFront (before after : Outside) (text : List ℕ) : Type 0 where
   pub written : Writes before after (take count text)
   pub rose : Rose before.write_faults after.write_faults
 
--- ------ `steps`: what each status says
+-- What was written of a session's output, by a status: the whole of it, or a part from its front on where a write failed.
+-- `failed`: reading failed.
+abbrev pub HasWritten : (failed : Bool) → (text : List ℕ) → (old new : Option (List ℕ)) → (before after : ℕ) → Status → Type 0
+HasWritten failed text old new before after WriteFault = (count : ℕ) × (count < length text) × Appends old new (take count text) × Rose before after
+HasWritten failed text old new before after ReadFault = (failed ≡ true) × Appends old new text × (after ≡ before)
+HasWritten failed text old new before after Done = (failed ≡ false) × Appends old new text × (after ≡ before)
+HasWritten failed text old new before after _ = ⊥
 
--- In batches of this size the bytes that were taken have this output.
-abbrev pub MakesOutput : (batch : ℕ) → Outside → Outside → (failed : Bool) → (text : List ℕ) → Type 0
-MakesOutput batch before after failed text = Makes batch before.left after.left before.read_faults after.read_faults failed text
+-- ------ `steps` and `run`: what each status says
+
+-- the bytes that were taken have this output
+abbrev pub MakesOutput : Output → Outside → Outside → (failed : Bool) → (text : List ℕ) → Type 0
+MakesOutput output before after failed text = Makes output before.left after.left before.read_faults after.read_faults failed text
 
 -- The input was read to its end, and the whole output for it was written.
-pub record IsDone (batch : ℕ) (before after : Outside) : Type 0 where
+pub record IsDone (output : Output) (before after : Outside) : Type 0 where
   pub text : List ℕ
-  pub made : MakesOutput batch before after false text
+  pub made : MakesOutput output before after false text
   pub whole : WritesWhole before after text
 
 -- A read failed. Where a whole script was read before, the report over the bytes that were taken was written; else nothing.
-abbrev pub HasReadFault : (batch : ℕ) → (before after : Outside) → Type 0
-HasReadFault batch before after = NoWriteFails before after
-    × (((text : List ℕ) × MakesOutput batch before after true text × Writes before after text)
+abbrev pub HasReadFault : Output → (before after : Outside) → Type 0
+HasReadFault output before after = NoWriteFails before after
+    × (((text : List ℕ) × MakesOutput output before after true text × Writes before after text)
     ⊎ (FailsEarly before.left after.left before.read_faults after.read_faults × Keeps before.written after.written))
 
 -- A write failed. A part of the output was written, from its front on.
-pub record HasWriteFault (batch : ℕ) (before after : Outside) : Type 0 where
+pub record HasWriteFault (output : Output) (before after : Outside) : Type 0 where
   pub text : List ℕ
   pub failed : Bool
-  pub made : MakesOutput batch before after failed text
+  pub made : MakesOutput output before after failed text
   pub front : WritesFront before after text
 
--- what a status says of a session in batches of this size
-abbrev pub Says : (batch : ℕ) → Outside → Outside → Status → Type 0
-Says batch before after Usage = ⊥
-Says batch before after (Script line kind) = HasFault (record { line = line; kind = kind }) before.left before.read_faults after.read_faults × WritesNothing before after
-Says batch before after (TooLong turns) = GivesUp before.left after.left turns × WritesNothing before after
-Says batch before after ReadFault = HasReadFault batch before after
-Says batch before after WriteFault = HasWriteFault batch before after
-Says batch before after NoMemory = WritesNothing before after
-Says batch before after Done = IsDone batch before after
+-- what a status says of a session that has this output
+abbrev pub Says : Output → Outside → Outside → Status → Type 0
+Says output before after Usage = ⊥
+Says output before after (Script line kind) = HasFault (record { line = line; kind = kind }) before.left before.read_faults after.read_faults × WritesNothing before after
+Says output before after (TooLong turns) = GivesUp before.left after.left turns × WritesNothing before after
+Says output before after ReadFault = HasReadFault output before after
+Says output before after WriteFault = HasWriteFault output before after
+Says output before after NoMemory = WritesNothing before after
+Says output before after Done = IsDone output before after
 
 -- The answer that an input determines where no read and no write fails: its script's fault, or for less than 4,294,967,296
 -- bytes that all is well.
 abbrev pub Determines : Result (List Line) ScriptFault → (input : List ℕ) → Status → Type 0
 Determines (Err fault) input status = status ≡ Script fault.line fault.kind
 Determines (Ok lines) input status = length input < 4294967296 → status ≡ Done
+
+-- What the program does with a session that has this output: the status says what was read and written. Where no read and no
+-- write fails, it is the one that the input determines, or memory was refused.
+pub record Does (output : Output) (before after : Outside) (status : Status) : Type 0 where
+  pub says : Says output before after status
+  pub settled : NoReadFails before after → NoWriteFails before after
+      → IfSome before.left (λ input. (status ≡ NoMemory) ⊎ Determines (grammar (split input).script) input status)
 
 -- ------ `make` and `selftest`: a text that is made from a number
 
@@ -109,15 +125,18 @@ pub record Gives (IsText : List ℕ → Type 0) (before after : Outside) (status
 
 -- ------ the whole
 
--- What the program does on one thread. Words that aren't accepted are answered `Usage`, or want of memory, and nothing is then
--- read or written. On `steps` the status says what was read and written. Where no read and no write fails, it is the one that
--- the input determines, or memory was refused. `make` writes the session of its number, and `selftest` the line of sums over the
--- serial run of that session; both read nothing.
-pub record Serves (words : List (List ℕ)) (before after : Outside) (status : Status) : Type 0 where
+-- What the program does by a command, where the clock may give these numbers. `steps` and `run` read a session and write the
+-- report of its run, on one thread or by threads. `make` writes the session of its number, and `selftest` the line of sums
+-- over the serial run of that session; both read nothing.
+abbrev pub Obeys : Command → (may : ℕ → Bool) → Outside → Outside → Status → Type 0
+Obeys (Steps batch) may before after status = Does (IsSerialOutput batch) before after status
+Obeys (Run batch) may before after status = Does (IsThreadOutput batch may) before after status
+Obeys (Make number) may before after status = Gives (λ text. text ≡ made number) before after status
+Obeys (SelfTest number batch) may before after status = Gives (IsSums number batch) before after status
+
+-- What the program does by the words of its command line. Words that aren't accepted are answered `Usage`, or want of memory,
+-- and nothing is then read or written.
+pub record Serves (words : List (List ℕ)) (may : ℕ → Bool) (before after : Outside) (status : Status) : Type 0 where
   pub usage : status ≡ Usage → meant words ≡ None
   pub refused : meant words ≡ None → ((status ≡ Usage) ⊎ (status ≡ NoMemory)) × ReadsNothing before after × WritesNothing before after
-  pub says : (batch : ℕ) → meant words ≡ Some (Steps batch) → Says batch before after status
-  pub settled : (batch : ℕ) → meant words ≡ Some (Steps batch) → NoReadFails before after → NoWriteFails before after
-      → IfSome before.left (λ input. (status ≡ NoMemory) ⊎ Determines (grammar (split input).script) input status)
-  pub makes : (number : ℕ) → meant words ≡ Some (Make number) → Gives (λ text. text ≡ made number) before after status
-  pub sums : (number batch : ℕ) → meant words ≡ Some (SelfTest number batch) → Gives (IsSums number batch) before after status
+  pub obeys : (command : Command) → meant words ≡ Some command → Obeys command may before after status

@@ -4,6 +4,8 @@ use Rattle.std.specs.Io.KnownBytes.{Consumes, IsAtEnd}
 use Rattle.emu_io.specs.Causes.{Rose}
 use Rattle.ts_packet.specs.Cut.{cut}
 use Rattle.dmx_calls.specs.Head.{told_head, head_of}
+use Rattle.dmx_calls.specs.Log.{LogEntry}
+use Rattle.dmx_calls.specs.declared.outcome.Outcome.{Outcome}
 use Rattle.client_script.specs.declared.line.Line.{Line}
 use Rattle.client_script.specs.declared.fault.ScriptFault.{ScriptFault}
 use Rattle.client_script.specs.declared.fault.ScriptError.{ScriptError}
@@ -12,6 +14,7 @@ use Rattle.client_script.specs.Script.{split, grammar, IsScript}
 use Rattle.client_core.specs.declared.stop.Stop.{Stop}
 use Rattle.client_core.specs.declared.stop.Stop.TheVariants.{NoMemory as NoMemoryToRun, TooLong as RunTooLong}
 use Rattle.client_core.specs.Budget.{most_calls, all_commands}
+use Rattle.client_core.specs.WholeRun.{IsWholeRun}
 use Rattle.feed_pull.specs.Pulling.{Pulling, Pulls}
 use Rattle.serial_core.specs.declared.run.Ran.{Ran}
 use Rattle.serial_core.specs.SerialRun.{Run, IsSerialRun}
@@ -23,29 +26,45 @@ use Rattle.ts_make.specs.Made.{made}
 use Rattle.emu_top.specs.declared.status.Status.{Status}
 use Rattle.emu_top.specs.declared.status.Status.TheVariants.{Script, TooLong, ReadFault, NoMemory}
 
--- These bytes of a session have a whole script without a fault, with these lines, and this stream behind it. The run is the
--- serial run of the lines over the packets of the stream, in batches of this size. It is a run: 33 legal histories, which
--- every packet passes once, in which each client did just what its commands ask; and each history is accounted.
-pub record IsRunOf (batch : ℕ) (bytes : List ℕ) (lines : List Line) (stream : List ℕ) (run : Run) : Type 0 where
+-- these bytes of a session have a whole script without a fault, with these lines, and this stream behind it
+pub record IsSession (bytes : List ℕ) (lines : List Line) (stream : List ℕ) : Type 0 where
   pub script : grammar (split bytes).script ≡ Ok lines
   pub behind : (split bytes).stream ≡ Some stream
+
+-- The serial run of the lines over the packets of the stream, in batches of this size. It is a run: 33 legal histories, which
+-- every packet passes once, in which each client did just what its commands ask; and each history is accounted.
+pub record IsRunOf (batch : ℕ) (lines : List Line) (stream : List ℕ) (run : Run) : Type 0 where
   pub serial : IsSerialRun lines batch (cut stream).packets run
   pub whole : IsAccountedRun lines batch (cut stream).packets run
 
--- the text is the report of the run of a session's bytes; `failed`: reading failed behind the last byte
-pub record IsOutput (batch : ℕ) (bytes : List ℕ) (failed : Bool) (text : List ℕ) : Type 0 where
-  pub lines : List Line
-  pub stream : List ℕ
+-- ------ what is written
+
+-- What is written for the lines of a script and the bytes of a stream. `failed`: reading failed behind the last byte.
+abbrev pub Output : Type 1
+Output = (lines : List Line) → (stream : List ℕ) → (failed : Bool) → (text : List ℕ) → Type 0
+
+-- on one thread: the report of the serial run
+pub record IsSerialOutput (batch : ℕ) (lines : List Line) (stream : List ℕ) (failed : Bool) (text : List ℕ) : Type 0 where
   pub run : Run
-  pub session : IsRunOf batch bytes lines stream run
+  pub ran : IsRunOf batch lines stream run
   pub report : text ≡ report_of (head_of stream failed) (outcomes_in lines run) (histories_in run)
+
+-- By threads: the report of 33 histories that are those of a run of the lines over the packets of the stream, in full batches
+-- of this size but for the last, at moments that the clock may give. Each history is accounted, and the outcomes are those of
+-- the clients' commands by the replies in the histories.
+pub record IsThreadOutput (batch : ℕ) (may : ℕ → Bool) (lines : List Line) (stream : List ℕ) (failed : Bool) (text : List ℕ) : Type 0 where
+  pub histories : List (List LogEntry)
+  pub outcomes : List (List Outcome)
+  pub whole : IsWholeRun lines batch may (cut stream).packets outcomes histories
+  pub report : text ≡ report_of (head_of stream failed) outcomes histories
 
 -- the text is the line of sums over the run of the session of a number
 pub record IsSums (number batch : ℕ) (text : List ℕ) : Type 0 where
   pub lines : List Line
   pub stream : List ℕ
   pub run : Run
-  pub session : IsRunOf batch (made number) lines stream run
+  pub session : IsSession (made number) lines stream
+  pub ran : IsRunOf batch lines stream run
   pub sums : text ≡ summary_of (head_of stream false) (histories_in run)
 
 -- ------ In what follows a source had `content` left before and `left` after, and its count of faults was `before` and is
@@ -57,24 +76,28 @@ ReadsTo true left before after = Rose before after
 ReadsTo false left before after = (after ≡ before) × IsAtEnd left
 
 -- the bytes that were taken are those of a session, and this is what its run left
-pub record Runs (batch : ℕ) (content left : Option (List ℕ)) (before after : ℕ) (ran : Ran) : Type 0 where
+pub record Runs (batch : ℕ) (content left : Option (List ℕ)) (before after : ℕ) (answer : Ran) : Type 0 where
   pub bytes : List ℕ
   pub lines : List Line
   pub stream : List ℕ
   pub run : Run
   pub taken : Consumes content left bytes
-  pub reads : ReadsTo ran.head.read_fault left before after
-  pub session : IsRunOf batch bytes lines stream run
-  pub histories : ran.histories ≡ histories_in run
-  pub outcomes : map (λ those. those.items) ran.outcomes.items ≡ outcomes_in lines run
-  pub head : told_head ran.head ≡ head_of stream ran.head.read_fault
+  pub reads : ReadsTo answer.head.read_fault left before after
+  pub session : IsSession bytes lines stream
+  pub ran : IsRunOf batch lines stream run
+  pub histories : answer.histories ≡ histories_in run
+  pub outcomes : map (λ those. those.items) answer.outcomes.items ≡ outcomes_in lines run
+  pub head : told_head answer.head ≡ head_of stream answer.head.read_fault
 
--- the bytes that were taken have this output
-pub record Makes (batch : ℕ) (content left : Option (List ℕ)) (before after : ℕ) (failed : Bool) (text : List ℕ) : Type 0 where
+-- the bytes that were taken are those of a session, and have this output
+pub record Makes (is_output : Output) (content left : Option (List ℕ)) (before after : ℕ) (failed : Bool) (text : List ℕ) : Type 0 where
   pub bytes : List ℕ
+  pub lines : List Line
+  pub stream : List ℕ
   pub taken : Consumes content left bytes
   pub reads : ReadsTo failed left before after
-  pub output : IsOutput batch bytes failed text
+  pub session : IsSession bytes lines stream
+  pub output : is_output lines stream failed text
 
 -- The run of a script without a fault was given up: so many reads were made, each of which took a byte, or its commands and
 -- the bytes of the stream allow a client so many calls.
@@ -83,9 +106,8 @@ pub record GivesUp (content left : Option (List ℕ)) (turns : ℕ) : Type 0 whe
   pub lines : List Line
   pub stream : List ℕ
   pub taken : Consumes content left bytes
-  pub script : grammar (split bytes).script ≡ Ok lines
+  pub session : IsSession bytes lines stream
   pub known : IsScript lines
-  pub behind : (split bytes).stream ≡ Some stream
   pub cause : ((turns ≡ 4294967296) × (turns ≤ length bytes))
       ⊎ ((turns ≡ 549755813888) × (turns ≤ most_calls (all_commands lines) (length stream)))
 

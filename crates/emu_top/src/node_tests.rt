@@ -351,9 +351,10 @@ const TAPS: [Case; 2] = [
 ];
 
 // Whether a session in batches of one packet gives this report.
-fn gives(alloc: Global, case: Case) -> Result<bool, Fail> {
+fn gives(rt: &HostRuntime, case: Case) -> Result<bool, Fail> {
+    let alloc = rt.alloc();
     let (parts, report) = case;
-    let (status, written) = told(alloc, &["steps", "--batch", "1"], parts)?;
+    let (status, written) = told(rt, &["steps", "--batch", "1"], parts)?;
     let nodes = without_rows(alloc, written)?;
     Ok(status == Status::Ok && nodes.as_slice() == input_of(alloc, report)?.as_slice())
 }
@@ -361,7 +362,7 @@ fn gives(alloc: Global, case: Case) -> Result<bool, Fail> {
 #[test]
 fn each_node_has_its_own_history(rt: HostRuntime) -> Result<(), Fail> {
     for case in NODES {
-        assert!(rt; gives(rt.alloc(), case)?);
+        assert!(rt; gives(&rt, case)?);
     }
     Ok(())
 }
@@ -369,7 +370,7 @@ fn each_node_has_its_own_history(rt: HostRuntime) -> Result<(), Fail> {
 #[test]
 fn taps_record_each_packet_once(rt: HostRuntime) -> Result<(), Fail> {
     for (number, case) in RECORDINGS.into_iter().enumerate() {
-        assert!(rt; gives(rt.alloc(), case)?, "case {number}");
+        assert!(rt; gives(&rt, case)?, "case {number}");
     }
     Ok(())
 }
@@ -377,7 +378,7 @@ fn taps_record_each_packet_once(rt: HostRuntime) -> Result<(), Fail> {
 #[test]
 fn a_tap_follows_its_filter(rt: HostRuntime) -> Result<(), Fail> {
     for (number, case) in TAPS.into_iter().enumerate() {
-        assert!(rt; gives(rt.alloc(), case)?, "case {number}");
+        assert!(rt; gives(&rt, case)?, "case {number}");
     }
     Ok(())
 }

@@ -545,8 +545,9 @@ fn replies_in(alloc: Global, report: &str) -> Result<Vec<&str>, Fail> {
 }
 
 // Whether the replies of a session's last commands are these.
-fn ends_with(alloc: Global, session: &[Part], wanted: &[Part]) -> Result<bool, Fail> {
-    let (status, written) = told(alloc, &["steps", "--batch", "1"], session)?;
+fn ends_with(rt: &HostRuntime, session: &[Part], wanted: &[Part]) -> Result<bool, Fail> {
+    let alloc = rt.alloc();
+    let (status, written) = told(rt, &["steps", "--batch", "1"], session)?;
     let report = String::from_utf8(written)?;
     let replies = replies_in(alloc, &report)?;
     if status != Status::Ok || replies.len() < wanted.len() {
@@ -564,7 +565,7 @@ fn ends_with(alloc: Global, session: &[Part], wanted: &[Part]) -> Result<bool, F
 #[test]
 fn section_filters_give_what_they_select(rt: HostRuntime) -> Result<(), Fail> {
     for (case, (session, wanted)) in SECTIONS.iter().enumerate() {
-        assert!(rt; ends_with(rt.alloc(), session, wanted)?, "case {case}");
+        assert!(rt; ends_with(&rt, session, wanted)?, "case {case}");
     }
     Ok(())
 }
@@ -572,7 +573,7 @@ fn section_filters_give_what_they_select(rt: HostRuntime) -> Result<(), Fail> {
 #[test]
 fn calls_are_refused_and_taken(rt: HostRuntime) -> Result<(), Fail> {
     for (case, (session, wanted)) in CALLS.iter().enumerate() {
-        assert!(rt; ends_with(rt.alloc(), session, wanted)?, "case {case}");
+        assert!(rt; ends_with(&rt, session, wanted)?, "case {case}");
     }
     Ok(())
 }

@@ -142,7 +142,7 @@ fn reads_give_the_packets_of_the_pid(rt: HostRuntime) -> Result<(), Fail> {
         ),
     ];
     for (case, (batch, parts, want)) in cases.into_iter().enumerate() {
-        let (status, written) = told(rt.alloc(), &["steps", "--batch", batch], parts)?;
+        let (status, written) = told(&rt, &["steps", "--batch", batch], parts)?;
         assert!(rt; status == Status::Ok, "case {case}");
         let nodes = without_rows(rt.alloc(), written)?;
         let want = input_of(rt.alloc(), want)?;
@@ -428,7 +428,7 @@ fn what_does_not_fit_is_lost_and_said_so(rt: HostRuntime) -> Result<(), Fail> {
         ),
     ];
     for (case, (batch, parts, want)) in cases.into_iter().enumerate() {
-        let (status, written) = told(rt.alloc(), &["steps", "--batch", batch], parts)?;
+        let (status, written) = told(&rt, &["steps", "--batch", batch], parts)?;
         assert!(rt; status == Status::Ok, "case {case}");
         let nodes = without_rows(rt.alloc(), written)?;
         let want = input_of(rt.alloc(), want)?;
@@ -655,7 +655,7 @@ fn calls_and_refusals_stand_in_their_order(rt: HostRuntime) -> Result<(), Fail> 
         ),
     ];
     for (case, (batch, parts, want)) in cases.into_iter().enumerate() {
-        let (status, written) = told(rt.alloc(), &["steps", "--batch", batch], parts)?;
+        let (status, written) = told(&rt, &["steps", "--batch", batch], parts)?;
         assert!(rt; status == Status::Ok, "case {case}");
         let nodes = without_rows(rt.alloc(), written)?;
         let want = input_of(rt.alloc(), want)?;
@@ -747,7 +747,7 @@ fn each_call_is_told_with_its_caller_and_its_moment(rt: HostRuntime) -> Result<(
         ),
     ];
     for (case, (batch, parts, want)) in cases.into_iter().enumerate() {
-        let (status, written) = told(rt.alloc(), &["steps", "--batch", batch], parts)?;
+        let (status, written) = told(&rt, &["steps", "--batch", batch], parts)?;
         assert!(rt; status == Status::Ok, "case {case}");
         let nodes = without_rows(rt.alloc(), written)?;
         let want = input_of(rt.alloc(), want)?;

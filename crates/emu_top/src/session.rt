@@ -1,15 +1,18 @@
 // The output for a session.
-ghost use Rattle.std.specs.Prelude.{◌≡◌, ℕ, ◌+◌, ◌-◌, ◌^◌, ◌<◌, ◌≤◌, List, length, IfOk, IfErr, IfSome};
+ghost use Rattle.std.specs.Prelude.{◌≡◌, ℕ, ◌+◌, ◌-◌, ◌^◌, ◌<◌, ◌≤◌, List, length, map, IfOk, IfErr, IfSome};
 ghost use Rattle.std.specs.declared.option.Option.{Option};
 ghost use Rattle.std.specs.Io.KnownBytes.{Consumes};
 ghost use Rattle.client_script.specs.Script.{script_len, whole_lines, most_bytes};
+ghost use Rattle.dmx_calls.specs.Head.{told_head};
+ghost use Rattle.report_text.specs.Report.{report_of};
 ghost use Rattle.feed_pull.specs.declared.fault.Reading.TheVariants.{Going};
-ghost use Rattle.emu_top.specs.Session.{Holds, IsFaultIn, Makes, Refuses, Runs, status_of_error, status_of_stop};
+ghost use Rattle.emu_top.specs.Session.{Holds, IsFaultIn, IsSerialOutput, Makes, Refuses, Runs, status_of_error, status_of_stop};
 
 use crate::Status;
 use crate::part::{Front, PartError, read_front};
 use client_core::Stop;
 use client_script::{Script, ScriptError};
+use dmx_calls::{Head, Histories, Outcome};
 use emu_io::Source;
 use feed_pull::Puller;
 use report_text::report;
@@ -45,7 +48,7 @@ fn status_of_script(error: ScriptError) -> Status
 }
 
 // The status of a run that was given up.
-fn status_of_run(stop: Stop) -> Status
+pub fn status_of_run(stop: Stop) -> Status
     ensures { result ≡ status_of_stop stop }
 {
     match stop {
@@ -75,6 +78,20 @@ fn session_of(alloc: Global, front: Front) -> Result<Session, Status>
     match Puller::new(alloc, ahead, front.reads) {
         Ok(puller) => Ok(Session { script, puller }),
         Err(_) => Err(Status::NoMemory),
+    }
+}
+
+// Reads the script part of a source: its script, and the stream behind it.
+pub fn read_session<S: Source>(alloc: Global, source: &mut S) -> Result<Session, Status>
+    ensures begins { IfOk result (λ session. (first : List ℕ) × Consumes (S.left source.old) (S.left source.new) first × Holds first session.script session.puller) }
+    ensures going { IfOk result (λ session. (session.puller.reading ≡ Going) × (session.puller.given ≡ 0)) }
+    ensures steady { IfOk result (λ session. S.faults source.new ≡ S.faults source.old) }
+    ensures refuses { IfErr result (λ status. Refuses (S.left source.old) (S.left source.new) (S.faults source.old) (S.faults source.new) status) }
+{
+    match read_front(alloc, source) {
+        Ok(front) => session_of(alloc, front),
+        Err(PartError::Failed) => Err(Status::ReadFault),
+        Err(PartError::NoMemory) => Err(Status::NoMemory),
     }
 }
 
@@ -110,34 +127,42 @@ pub fn ran_of<S: Source>(alloc: Global, source: &mut S, batch: u32) -> Result<Ra
     ensures runs { IfOk result (λ ran. Runs batch (S.left source.old) (S.left source.new) (S.faults source.old) (S.faults source.new) ran) }
     ensures refuses { IfErr result (λ status. Refuses (S.left source.old) (S.left source.new) (S.faults source.old) (S.faults source.new) status) }
 {
-    let front = match read_front(alloc, source) {
-        Ok(front) => front,
-        Err(PartError::Failed) => return Err(Status::ReadFault),
-        Err(PartError::NoMemory) => return Err(Status::NoMemory),
-    };
-    match session_of(alloc, front) {
+    match read_session(alloc, source) {
         Ok(session) => run_session(alloc, source, session, batch),
         Err(status) => Err(status),
     }
 }
 
-// What is to be written for the session of a source, in batches of this size.
+// The report of a run.
+pub fn reported(
+    alloc: Global,
+    head: &Head,
+    outcomes: &[Vec<Outcome>],
+    histories: &Histories,
+) -> Result<Output, Status>
+    ensures told { IfOk result (λ output. (output.read_fault ≡ head.now.read_fault)
+        × (output.text.items ≡ report_of (told_head head.now) (map (λ those. those.items) outcomes.now) histories.now)) }
+    ensures memory { IfErr result (λ status. status ≡ Status.NoMemory) }
+{
+    match report(alloc, head, outcomes, histories) {
+        Ok(text) => Ok(Output {
+            text,
+            read_fault: head.read_fault,
+        }),
+        Err(_) => Err(Status::NoMemory),
+    }
+}
+
+// What is to be written for the session of a source on one thread, in batches of this size.
 pub fn output_of<S: Source>(alloc: Global, source: &mut S, batch: u32) -> Result<Output, Status>
     requires some { 1 ≤ batch }
     requires few { batch ≤ 64 }
     requires faults { S.faults source.old < 2 ^ 64 - 1 }
-    ensures makes { IfOk result (λ output. Makes batch (S.left source.old) (S.left source.new) (S.faults source.old) (S.faults source.new) output.read_fault output.text.items) }
+    ensures makes { IfOk result (λ output. Makes (IsSerialOutput batch) (S.left source.old) (S.left source.new) (S.faults source.old) (S.faults source.new) output.read_fault output.text.items) }
     ensures refuses { IfErr result (λ status. Refuses (S.left source.old) (S.left source.new) (S.faults source.old) (S.faults source.new) status) }
 {
-    let ran = match ran_of(alloc, source, batch) {
-        Ok(ran) => ran,
-        Err(status) => return Err(status),
-    };
-    match report(alloc, &ran.head, &ran.outcomes, &ran.histories) {
-        Ok(text) => Ok(Output {
-            text,
-            read_fault: ran.head.read_fault,
-        }),
-        Err(_) => Err(Status::NoMemory),
+    match ran_of(alloc, source, batch) {
+        Ok(ran) => reported(alloc, &ran.head, &ran.outcomes, &ran.histories),
+        Err(status) => Err(status),
     }
 }

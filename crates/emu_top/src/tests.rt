@@ -1,5 +1,5 @@
 // Sessions and their reports, wrong words, and faults of reading and writing.
-use crate::{Status, emulate, serial};
+use crate::{Status, emulate};
 use client_script::FaultKind;
 use emu_io::{FixedClock, MemSink, MemSource, NoGate};
 use std::alloc::Global;
@@ -32,11 +32,17 @@ fn words_of(alloc: Global, words: &[&str]) -> Result<Vec<String>, Fail> {
 }
 
 // What `emulate` answers and writes for an input, without faults.
-pub fn told(alloc: Global, words: &[&str], parts: &[Part]) -> Result<(Status, Vec<u8>), Fail> {
+pub fn told(
+    rt: &HostRuntime,
+    words: &[&str],
+    parts: &[Part],
+) -> Result<(Status, Vec<u8>), Fail> {
+    let alloc = rt.alloc();
     let words = words_of(alloc, words)?;
     let mut source = MemSource::new(input_of(alloc, parts)?, 1000, Vec::new(alloc));
     let mut sink = MemSink::new(alloc, 100000, 1000, Vec::new(alloc))?;
     let status = emulate(
+        rt,
         alloc,
         &words,
         &mut source,
@@ -88,7 +94,7 @@ fn a_session_gives_its_report(rt: HostRuntime) -> Result<(), Fail> {
         ),
     ];
     for (case, (parts, want)) in cases.into_iter().enumerate() {
-        let (status, written) = told(alloc, &WORDS, parts)?;
+        let (status, written) = told(&rt, &WORDS, parts)?;
         assert!(rt; status == Status::Ok, "case {case}");
         assert_eq!(rt; written.as_slice(), want, "case {case}");
     }
@@ -122,7 +128,7 @@ static FAULTS: [Faulty; 10] = [
 #[test]
 fn the_first_fault_of_a_script_is_told(rt: HostRuntime) -> Result<(), Fail> {
     for (case, (parts, line, kind)) in FAULTS.iter().enumerate() {
-        let (status, written) = told(rt.alloc(), &WORDS, parts)?;
+        let (status, written) = told(&rt, &WORDS, parts)?;
         let want = Status::Script {
             line: *line,
             kind: *kind,
@@ -136,7 +142,7 @@ fn the_first_fault_of_a_script_is_told(rt: HostRuntime) -> Result<(), Fail> {
 #[test]
 fn words_are_accepted_or_usage(rt: HostRuntime) -> Result<(), Fail> {
     let alloc = rt.alloc();
-    let cases: [(&[&str], Status); 12] = [
+    let cases: [(&[&str], Status); 14] = [
         (&["steps"], Status::Ok),
         (&["steps", "--batch", "64"], Status::Ok),
         (&["steps", "--batch=1"], Status::Ok),
@@ -145,13 +151,15 @@ fn words_are_accepted_or_usage(rt: HostRuntime) -> Result<(), Fail> {
         (&["steps", "--batch", "05"], Status::Usage),
         (&["steps", "--batch", "1", "--batch", "1"], Status::Usage),
         (&["steps", "--help"], Status::Usage),
+        (&["run"], Status::Ok),
+        (&["run", "--batch=1"], Status::Ok),
         (&["run", "--batch", "65"], Status::Usage),
         (&["make"], Status::Usage),
         (&["make", "01"], Status::Usage),
         (&["selftest", "7", "--batch", "0"], Status::Usage),
     ];
     for (case, (words, want)) in cases.into_iter().enumerate() {
-        let (status, written) = told(alloc, words, &[(b"stream\n", 0, 0)])?;
+        let (status, written) = told(&rt, words, &[(b"stream\n", 0, 0)])?;
         assert!(rt; status == want, "case {case}");
         assert!(rt;
             written.is_empty() == (want == Status::Usage),
@@ -164,18 +172,27 @@ fn words_are_accepted_or_usage(rt: HostRuntime) -> Result<(), Fail> {
 // Which reads fail, how much the sink may hold, which writes fail; the status, and what was written.
 type Faults = (&'static [u64], usize, &'static [u64], Status, &'static [u8]);
 
-// What `serial` answers and writes over reads of at most 188 bytes and writes of at most 10.
+// What `emulate` answers and writes over reads of at most 188 bytes and writes of at most 10.
 fn told_with(
-    alloc: Global,
+    rt: &HostRuntime,
     parts: &[Part],
     reads: &[u64],
     capacity: usize,
     writes: &[u64],
 ) -> Result<(Status, Vec<u8>), Fail> {
+    let alloc = rt.alloc();
     let words = words_of(alloc, &WORDS)?;
     let mut source = MemSource::new(input_of(alloc, parts)?, 188, reads.to_vec(alloc)?);
     let mut sink = MemSink::new(alloc, capacity, 10, writes.to_vec(alloc)?)?;
-    let status = serial(alloc, &words, &mut source, &mut sink);
+    let status = emulate(
+        rt,
+        alloc,
+        &words,
+        &mut source,
+        &mut sink,
+        &FixedClock::new(0),
+        &NoGate::new(),
+    );
     Ok((status, sink.bytes().to_vec(alloc)?))
 }
 
@@ -230,7 +247,7 @@ static READ_FAULTS: [Faults; 7] = [
 #[test]
 fn a_read_fault_ends_the_stream(rt: HostRuntime) -> Result<(), Fail> {
     for (case, (reads, capacity, writes, want, output)) in READ_FAULTS.iter().enumerate() {
-        let (status, written) = told_with(rt.alloc(), &THREE, reads, *capacity, writes)?;
+        let (status, written) = told_with(&rt, &THREE, reads, *capacity, writes)?;
         assert!(rt; status == *want, "case {case}");
         assert_eq!(rt; written.as_slice(), *output, "case {case}");
     }
@@ -240,7 +257,7 @@ fn a_read_fault_ends_the_stream(rt: HostRuntime) -> Result<(), Fail> {
 #[test]
 fn a_faulty_script_is_told_without_a_look_behind_it(rt: HostRuntime) -> Result<(), Fail> {
     let parts: [Part; 2] = [(b"c0 open\nstream\n", 0, 0), (b"", 1000, 0x47)];
-    let (status, written) = told_with(rt.alloc(), &parts, &[1], 1000, &[])?;
+    let (status, written) = told_with(&rt, &parts, &[1], 1000, &[])?;
     let want = Status::Script {
         line: 1,
         kind: FaultKind::Count,
@@ -283,7 +300,7 @@ fn a_write_fault_leaves_the_front(rt: HostRuntime) -> Result<(), Fail> {
         (&[], 0, &[], Status::WriteFault, b""),
     ];
     for (case, (reads, capacity, writes, want, output)) in cases.into_iter().enumerate() {
-        let (status, written) = told_with(rt.alloc(), &parts, reads, capacity, writes)?;
+        let (status, written) = told_with(&rt, &parts, reads, capacity, writes)?;
         assert!(rt; status == want, "case {case}");
         assert_eq!(rt; written.as_slice(), output, "case {case}");
     }
@@ -291,11 +308,17 @@ fn a_write_fault_leaves_the_front(rt: HostRuntime) -> Result<(), Fail> {
 }
 
 // What `emulate` answers and writes for words that read nothing. The first read of the source would fail.
-fn told_unread(alloc: Global, words: &[&str], capacity: usize) -> Result<(Status, Vec<u8>), Fail> {
+fn told_unread(
+    rt: &HostRuntime,
+    words: &[&str],
+    capacity: usize,
+) -> Result<(Status, Vec<u8>), Fail> {
+    let alloc = rt.alloc();
     let words = words_of(alloc, words)?;
     let mut source = MemSource::new(Vec::new(alloc), 1, [0u64].to_vec(alloc)?);
     let mut sink = MemSink::new(alloc, capacity, 65536, Vec::new(alloc))?;
     let status = emulate(
+        rt,
         alloc,
         &words,
         &mut source,
@@ -312,7 +335,7 @@ const MADE: usize = 656 + 12_320_768;
 #[test]
 fn the_session_of_the_greatest_number_is_written(rt: HostRuntime) -> Result<(), Fail> {
     let words = ["make", "18446744073709551615"];
-    let (status, written) = told_unread(rt.alloc(), &words, MADE)?;
+    let (status, written) = told_unread(&rt, &words, MADE)?;
     assert!(rt; status == Status::Ok);
     assert_eq!(rt; written.len(), MADE);
     assert!(rt; written.starts_with(b"c0 open n0\nc0 size n0 16777216\n"));
@@ -321,7 +344,7 @@ fn the_session_of_the_greatest_number_is_written(rt: HostRuntime) -> Result<(), 
 
 #[test]
 fn a_made_session_is_cut_off_where_the_sink_is_full(rt: HostRuntime) -> Result<(), Fail> {
-    let (status, written) = told_unread(rt.alloc(), &["make", "7"], 12)?;
+    let (status, written) = told_unread(&rt, &["make", "7"], 12)?;
     assert!(rt; status == Status::WriteFault);
     assert_eq!(rt; written.as_slice(), b"c0 open n0\nc");
     Ok(())
@@ -334,7 +357,7 @@ const SUMS: &[u8] = b"packets=65536 entries=43396 demux=11501856 dvr=10013256 ov
 fn the_sums_of_a_number_are_told_again(rt: HostRuntime) -> Result<(), Fail> {
     let cases: [&[&str]; 2] = [&["selftest", "7"], &["selftest", "--batch=64", "7"]];
     for words in cases {
-        let (status, written) = told_unread(rt.alloc(), words, 1000)?;
+        let (status, written) = told_unread(&rt, words, 1000)?;
         assert!(rt; status == Status::Ok);
         assert_eq!(rt; written.as_slice(), SUMS);
     }

@@ -1,0 +1,18 @@
+use Rattle.std.proofs.Common.{◌∙◌, ap, sym, Some}
+use Rattle.command_words.specs.declared.Command.TheVariants.{Run}
+use Rattle.emu_top.specs.Session.{IsThreadOutput}
+use Rattle.emu_top.proofs.Answering.{does, serves}
+use Rattle.emu_top.proofs.top.emulate.Goals as goal
+
+pub returns-in-Ok-Some-Run : goal.returns-in-Ok-Some-Run
+returns-in-Ok-Some-Run g c =
+    let batch = c.in-Ok-Some-Run.batch in
+    let done = does (IsThreadOutput batch _) _ _ _ _ _ _ _ _ c.run.result c.requires.source_can_count c.requires.sink_can_count c.run.ensures.says in
+    record {
+      serves = serves _ (Run batch) _ _ _ c.run.result (sym c.in-Ok-Some-Run.ensures.value ∙ (c.in-Ok-Some-Run.field-0-is ∙ ap Some c.in-Ok-Some-Run.field-0-0-is)) done;
+    }
+
+pub returns-in-Ok-Some : goal.returns-in-Ok-Some
+returns-in-Ok-Some g c = record {
+  serves = serves _ c.in-Ok-Some.command _ _ _ c.on_one_thread.result (sym c.in-Ok-Some.ensures.value ∙ c.in-Ok-Some.field-0-is) (c.on_one_thread.ensures _);
+}

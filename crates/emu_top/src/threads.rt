@@ -1,0 +1,78 @@
+// The output for a session that threads run.
+ghost use Rattle.std.specs.Prelude.{◌≡◌, ℕ, ◌-◌, ◌^◌, ◌<◌, ◌≤◌, List, IfOk, IfErr};
+ghost use Rattle.std.specs.declared.option.Option.{Option};
+ghost use Rattle.std.specs.Io.KnownBytes.{Consumes};
+ghost use Rattle.feed_pull.specs.declared.fault.Reading.TheVariants.{Going};
+ghost use Rattle.emu_top.specs.Session.{Holds, IsThreadOutput, Makes, Refuses};
+
+use crate::Status;
+use crate::session::{Output, Session, read_session, reported, status_of_run};
+use adapter::Adapter;
+use emu_io::{Clock, Gate, Source};
+use std::alloc::Global;
+use std::sync::Wait;
+use std::thread::Threads;
+use workers::{Worked, histories_of_run, work};
+
+// What is to be written for a session that is begun: a thread passes its stream, and each client has a thread of its own.
+fn run_threads<R: Threads + Wait + Sync, S: Source + Send, C: Clock + Sync, G: Gate + Sync>(
+    rt: &R,
+    alloc: Global,
+    source: &mut S,
+    session: Session,
+    batch: u32,
+    clock: &C,
+    gate: &G,
+) -> Result<Output, Status>
+    requires some { 1 ≤ batch }
+    requires few { batch ≤ 64 }
+    requires going { session.puller.reading ≡ Going }
+    requires fresh { session.puller.given ≡ 0 }
+    requires faults { S.faults source.old < 2 ^ 64 - 1 }
+    ensures makes { IfOk result (λ output. (content : Option (List ℕ)) (first : List ℕ) → Consumes content (S.left source.old) first → Holds first session.script session.puller
+        → Makes (IsThreadOutput batch (C.may_give clock.now)) content (S.left source.new) (S.faults source.old) (S.faults source.new) output.read_fault output.text.items) }
+    ensures refuses { IfErr result (λ status. (content : Option (List ℕ)) (first : List ℕ) → Consumes content (S.left source.old) first → Holds first session.script session.puller
+        → Refuses content (S.left source.new) (S.faults source.old) (S.faults source.new) status) }
+{
+    let Session { script, puller } = session;
+    let Ok((adapter, feeder, clients)) = Adapter::new(alloc, script.clients()) else {
+        return Err(Status::NoMemory);
+    };
+    let worked = match work(
+        rt, alloc, &adapter, feeder, clients, &script, source, puller, batch, clock, gate,
+    ) {
+        Ok(worked) => worked,
+        Err(stop) => return Err(status_of_run(stop)),
+    };
+    let Worked {
+        feeding,
+        logs,
+        outcomes,
+        head,
+        feeder,
+        clients,
+    } = worked;
+    match histories_of_run(alloc, adapter, feeder, clients, feeding, logs) {
+        Ok(histories) => reported(alloc, &head, &outcomes, &histories),
+        Err(_) => Err(Status::NoMemory),
+    }
+}
+
+// What is to be written for the session of a source that threads run, in batches of this size.
+pub fn output_of_threads<R: Threads + Wait + Sync, S: Source + Send, C: Clock + Sync, G: Gate + Sync>(
+    rt: &R,
+    alloc: Global,
+    source: &mut S,
+    batch: u32,
+    clock: &C,
+    gate: &G,
+) -> Result<Output, Status>
+    requires some { 1 ≤ batch }
+    requires few { batch ≤ 64 }
+    requires faults { S.faults source.old < 2 ^ 64 - 1 }
+    ensures makes { IfOk result (λ output. Makes (IsThreadOutput batch (C.may_give clock.now)) (S.left source.old) (S.left source.new) (S.faults source.old) (S.faults source.new) output.read_fault output.text.items) }
+    ensures refuses { IfErr result (λ status. Refuses (S.left source.old) (S.left source.new) (S.faults source.old) (S.faults source.new) status) }
+{
+    let session = read_session(alloc, source)?;
+    run_threads(rt, alloc, source, session, batch, clock, gate)
+}
