@@ -1,0 +1,4 @@
+pub mod Counting
+pub mod HistoryBytes
+pub mod ReadReplies
+pub mod FirstCalls
