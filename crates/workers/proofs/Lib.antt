@@ -2,3 +2,4 @@ pub mod Counting
 pub mod HistoryBytes
 pub mod ReadReplies
 pub mod FirstCalls
+pub mod Repeating
