@@ -40,7 +40,7 @@ got_at weight [] i x is = absurd (cc is)
 got_at weight (y ∷ xs) zero x is = let same : y ≡ x = cc is in ap weight same
 got_at weight (y ∷ xs) (suc i) x is = got_at weight xs i x is
 
-there_is : {A : Type 0} (xs : List A) (i : ℕ) → i < length xs → (x : A) × (slice_get xs i ≡ Some x)
+pub there_is : {A : Type 0} (xs : List A) (i : ℕ) → i < length xs → (x : A) × (slice_get xs i ≡ Some x)
 there_is [] i lt = absurd (omega (arith, lt))
 there_is (x ∷ xs) zero lt = (x, refl)
 there_is (x ∷ xs) (suc i) lt = there_is xs i (omega (arith, lt))
@@ -110,14 +110,14 @@ again_at None = false
 again_at (Some e) = is_again e.response
 
 -- what the client's commands ask for
-record Asked (o : Option Event) (e : LogEntry) : Type 0 where
-  event : Event
-  is : o ≡ Some event
-  node : e.node ≡ event.node
-  moment : ℕ
-  act : e.act ≡ act_of (call_of event.want moment)
+pub record Asked (o : Option Event) (e : LogEntry) : Type 0 where
+  pub event : Event
+  pub is : o ≡ Some event
+  pub node : e.node ≡ event.node
+  pub moment : ℕ
+  pub act : e.act ≡ act_of (call_of event.want moment)
 
-asked_by : (o : Option Event) (e : LogEntry) → IsEvent o e → Asked o e
+pub asked_by : (o : Option Event) (e : LogEntry) → IsEvent o e → Asked o e
 asked_by None e is = absurd is
 asked_by (Some event) e is = record { event = event; is = refl; node = is.0; moment = is.1.0; act = is.1.1 }
 
