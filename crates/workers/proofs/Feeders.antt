@@ -1,7 +1,8 @@
 -- What the feeder has made on a node: as many entries as it has batches, and perhaps the end; and they bring the packets.
-use Rattle.std.proofs.Common.{◌≡◌, refl, sym, ap, subst, ◌∙◌, ℕ, zero, suc, ◌+◌, ◌*◌, ◌<◌, ◌≤◌, Bool, true, false, List, [], ◌∷◌, ◌++◌, Option, Some, None, length, map, take, drop, slice_get, inl, inr, arith, length-append, length-take, length-drop}
+use Rattle.std.proofs.Common.{◌≡◌, refl, sym, ap, subst, ℕ, suc, ◌+◌, ◌≤◌, List, [], ◌∷◌, ◌++◌, length, map, drop, inl, inr, arith, length-append, length-take}
 use Rattle.std.specs.Prelude.{◌⊎◌}
 use Rattle.std.specs.List.{All}
+use Rattle.std.proofs.lemmas.List.{length-map}
 use Rattle.std.proofs.lemmas.List.Elements.{All-nil, All-take, All-drop}
 use mathlib.Core.Option.{some}
 use lib.ListN.{get_elem?}
@@ -42,10 +43,6 @@ both_bring : (xs ys : List Entry) → BringPackets xs → BringPackets ys → Br
 both_bring [] ys x y = y
 both_bring (e ∷ xs) ys x y = (x.0, both_bring xs ys x.1 y)
 
-length_map : {A B : Type 0} (f : A → B) (xs : List A) → length (map f xs) ≡ length xs
-length_map f [] = refl
-length_map f (x ∷ xs) = ap suc (length_map f xs)
-
 -- what is known of the feeder's entries
 pub record AreFed (stream : List (List ℕ)) (entries : List Entry) : Type 0 where
   pub few : length entries ≤ length stream + 1
@@ -61,7 +58,7 @@ pub are_fed : (stream : List (List ℕ)) (most : ℕ) (feeding : List Fed) (behi
 are_fed stream most feeding behind are tiles end =
     let b = behind_few behind end in
     record {
-      few = omega (arith, length-append (fed_entries stream feeding) behind, length_map (fed_entry stream) feeding, tiles_long most 0 (length stream) feeding tiles, b.0);
+      few = omega (arith, length-append (fed_entries stream feeding) behind, length-map feeding (fed_entry stream), tiles_long most 0 (length stream) feeding tiles, b.0);
       weigh = omega (arith, weigh_append packets_in (fed_entries stream feeding) behind, tiles_weigh stream most 0 (length stream) feeding tiles, b.1);
       bring = both_bring (fed_entries stream feeding) behind (fed_bring stream feeding are) b.2;
     }
@@ -122,7 +119,7 @@ pub record FeederPass (stream : List (List ℕ)) (node : ℕ) (pass : TableId ×
 
 pub feeder_pass : (stream : List (List ℕ)) (node : ℕ) (entries : List Entry) (pass : TableId × View Entry) → AreFed stream entries → HasMade entries pass → FeederPass stream node pass
 feeder_pass stream node entries pass fed made = record {
-  few = omega (arith, ap (λ (l : List (ℕ × ℕ)). length l) made.own, length_map {B = ℕ × ℕ} (λ place. (0, place)) made.places, stand_long pass.1.seen entries made.places made.stand, fed.few);
+  few = omega (arith, ap (λ (l : List (ℕ × ℕ)). length l) made.own, length-map {B = ℕ × ℕ} made.places (λ place. (0, place)), stand_long pass.1.seen entries made.places made.stand, fed.few);
   tokens = fed_tokens node entries made.places;
   weigh = omega (arith, fed_weigh node entries made.places, fed.weigh);
   each = λ w q has. fed_at node pass.1.seen entries made.places made.stand fed.bring q (own_place made.places w q (subst (λ own. Has {A = ℕ × ℕ} own (w, q)) made.own has));

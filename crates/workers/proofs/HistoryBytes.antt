@@ -1,6 +1,6 @@
 -- The packets that a history brings and the bytes that it answers, entry by entry.
-use Rattle.std.proofs.Common.{◌≡◌, refl, sym, ap, subst, ◌∙◌, ℕ, zero, suc, ◌+◌, ◌-◌, ◌*◌, ◌<◌, ◌≤◌, Bool, true, false, nat_lt, List, [], ◌∷◌, ◌++◌, length, inl, inr, arith, length-append, append_assoc}
-use Rattle.std.specs.Prelude.{◌⊎◌, reverse, if◌then◌else◌}
+use Rattle.std.proofs.Common.{◌≡◌, refl, sym, ap, subst, ◌∙◌, ℕ, zero, suc, ◌+◌, ◌-◌, ◌*◌, ◌≤◌, Bool, true, false, nat_lt, List, [], ◌∷◌, ◌++◌, length, inl, inr, arith, length-append, append_assoc}
+use Rattle.std.specs.Prelude.{reverse, if◌then◌else◌}
 use Rattle.std.specs.List.{All}
 use Rattle.std.proofs.lemmas.List.{reverse-append}
 use Rattle.std.proofs.lemmas.List.Elements.{All-nil, All-append}
@@ -17,7 +17,7 @@ use Rattle.dmx_calls.specs.Ledger.{answered_in}
 use Rattle.dmx_calls.specs.Legal.{IsLegalFor}
 use Rattle.dmx_calls.specs.Bytes.{bytes_answered}
 use Rattle.dmx_calls.proofs.Bytes.{demux_answers_fit, dvr_answers_fit}
-use Rattle.workers.proofs.Counting.{weigh, weigh_append, total, total_le}
+use Rattle.workers.proofs.Counting.{weigh, weigh_append, total}
 
 -- ------ sums over lists
 

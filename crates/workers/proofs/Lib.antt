@@ -5,3 +5,7 @@ pub mod FirstCalls
 pub mod Repeating
 pub mod Columns
 pub mod Feeders
+pub mod Calls
+pub mod Fitting
+pub mod Gaps
+pub mod Budgeting

@@ -1,8 +1,9 @@
 -- How often a client repeats a read, by its log: each repeat follows a read that gave bytes, named some as lost, or was
 -- answered Again, after which the client waits on the same node.
-use Rattle.std.proofs.Common.{◌≡◌, refl, sym, ap, subst, ◌∙◌, ℕ, zero, suc, ◌+◌, ◌-◌, ◌*◌, ◌<◌, ◌≤◌, Bool, true, false, List, [], ◌∷◌, ◌++◌, Option, Some, None, length, map, take, slice_get, inl, inr, arith, length-append}
-use Rattle.std.specs.Prelude.{◌≢◌, ◌⊎◌, if◌then◌else◌, IsSome, option_map}
-use Rattle.dmx_calls.specs.Log.{Act, OpenAct, CloseAct, SetFilterAct, SetPesAct, AddPidAct, RemovePidAct, StartAct, StopAct, SetSizeAct, ReadAct, PollAct, PassAct, EndAct, AttachAct, DetachAct, LogEntry, act_of}
+use Rattle.std.proofs.Common.{◌≡◌, refl, sym, ap, subst, ◌∙◌, ℕ, zero, suc, ◌+◌, ◌-◌, ◌*◌, ◌<◌, ◌≤◌, Bool, true, false, List, [], ◌∷◌, ◌++◌, Option, Some, None, length, map, take, slice_get, inl, inr, arith}
+use Rattle.std.specs.Prelude.{◌⊎◌, if◌then◌else◌, IsSome}
+use Rattle.std.proofs.lemmas.List.{map-append}
+use Rattle.dmx_calls.specs.Log.{Act, ReadAct, LogEntry, act_of}
 use Rattle.dmx_calls.specs.Response.{Response, Done, Busy, Refused, NoMemory, Data, Again, Overflow, TimedOut, Ready, Passed}
 use Rattle.client_script.specs.declared.line.Line.{Line}
 use Rattle.client_core.specs.declared.event.Event.{Event}
@@ -14,6 +15,7 @@ use Rattle.client_core.specs.IsRun.{IsEvent, replies}
 use Rattle.client_core.specs.Budget.{repeats}
 use Rattle.client_core.specs.More.{added_by}
 use Rattle.client_core.proofs.More.{one_reply_more, some_of, repeats_none}
+use Rattle.adapter.proofs.Lists.{at_place}
 use Rattle.workers.proofs.Counting.{total, total_le, total_add, weigh}
 use Rattle.workers.proofs.HistoryBytes.{bytes_in, weight_at, weigh_places}
 use Rattle.workers.proofs.ReadReplies.{IsReadReply, not_ended}
@@ -26,10 +28,6 @@ take_next [] i x is = absurd (cc is)
 take_next (y ∷ xs) zero x is = let same : y ≡ x = cc is in ap (λ z. z ∷ []) same
 take_next (y ∷ xs) (suc i) x is = ap (λ l. y ∷ l) (take_next xs i x is)
 
-map_next : {A B : Type 0} (f : A → B) (xs : List A) (x : A) → map f (xs ++ x ∷ []) ≡ map f xs ++ f x ∷ []
-map_next f [] x = refl
-map_next f (y ∷ xs) x = ap (λ l. f y ∷ l) (map_next f xs x)
-
 length_taken : {A B : Type 0} (f : A → B) (xs : List A) (i : ℕ) (x : A) → slice_get xs i ≡ Some x → length (map f (take i xs)) ≡ i
 length_taken f [] i x is = absurd (cc is)
 length_taken f (y ∷ xs) zero x is = refl
@@ -39,11 +37,6 @@ pub got_at : {A : Type 0} (weight : A → ℕ) (xs : List A) (i : ℕ) (x : A) �
 got_at weight [] i x is = absurd (cc is)
 got_at weight (y ∷ xs) zero x is = let same : y ≡ x = cc is in ap weight same
 got_at weight (y ∷ xs) (suc i) x is = got_at weight xs i x is
-
-pub there_is : {A : Type 0} (xs : List A) (i : ℕ) → i < length xs → (x : A) × (slice_get xs i ≡ Some x)
-there_is [] i lt = absurd (omega (arith, lt))
-there_is (x ∷ xs) zero lt = (x, refl)
-there_is (x ∷ xs) (suc i) lt = there_is xs i (omega (arith, lt))
 
 -- ------ one entry
 
@@ -142,7 +135,7 @@ module _ (lines : List Line) (client : ℕ) (log : List LogEntry) (events : (i :
   one_call i e is =
       let a : Asked (next_event client lines (replies (take i log))) e = asked_by (next_event client lines (replies (take i log))) e (events i e is) in
       let s = some_of (progress client lines (replies (take i log))).standing a.event a.is in
-      let next : replies (take (suc i) log) ≡ replies (take i log) ++ e.response ∷ [] = ap replies (take_next log i e is) ∙ map_next (λ (x : LogEntry). x.response) (take i log) e in
+      let next : replies (take (suc i) log) ≡ replies (take i log) ++ e.response ∷ [] = ap replies (take_next log i e is) ∙ map-append (λ (x : LogEntry). x.response) (take i log) (e ∷ []) in
       let more = one_reply_more client lines (replies (take i log)) e.response a.event a.is in
       let added : adds e ≡ added_by a.event.want e.response = ap (λ x. adds_to x e.response) a.act ∙ asked a.event.want a.moment e.response in
       let grown : repeats_after (suc i) ≡ repeats client lines (replies (take i log) ++ e.response ∷ []) = ap (λ rs. repeats client lines rs) next in
@@ -173,7 +166,7 @@ module _ (lines : List Line) (client : ℕ) (log : List LogEntry) (events : (i :
 
   grows_by : (i : ℕ) → i < length log → grows i ≤ weight_at adds log i
   grows_by i lt =
-      let e = there_is log i lt in
+      let e = at_place log i lt in
       omega (arith, (one_call i e.0 e.1).more, got_at adds log i e.0 e.1)
 
   -- how many calls there are but the last
@@ -184,7 +177,7 @@ module _ (lines : List Line) (client : ℕ) (log : List LogEntry) (events : (i :
   few_to : (n : ℕ) → length log ≡ n → n ≤ 33 * length (commands_of client lines) + total grows (but_one n)
   few_to zero is = omega arith
   few_to (suc k) is =
-      let e = there_is log k (omega (arith, is)) in
+      let e = at_place log k (omega (arith, is)) in
       omega (arith, (one_call k e.0 e.1).few, all_repeats k)
 
   -- A client makes 33 calls a command, beside the repeats that all its calls but the last add.

@@ -7,7 +7,7 @@ use Rattle.dmx_calls.specs.History.{Entry}
 use Rattle.dmx_calls.specs.Log.{LogEntry}
 use Rattle.client_script.specs.declared.line.Line.{Line}
 use Rattle.client_script.specs.Script.{clients_in}
-use Rattle.client_core.specs.Budget.{most_calls, all_commands}
+use Rattle.client_core.specs.Budget.{most_calls, all_commands, IsTooLong}
 use Rattle.adapter.specs.Callers.{Caller}
 use Rattle.adapter.specs.Ends.{HaveHistories}
 use Rattle.adapter.specs.Nodes.{ended}
@@ -40,3 +40,12 @@ FewBytesAreFewCalls =
     (lines : List Line) (most : ℕ) (may : ℕ → Bool) (packets : List (List ℕ)) (behind : List Entry) (feeder : Caller) (feeding : List Fed) (others : List Caller) (books : List (List LogEntry))
     → IsRunning lines most may packets behind feeder feeding others books → all_commands lines + 188 * length packets < 4294967296
     → (c : ℕ) (log : List LogEntry) → slice_get books c ≡ Some log → length log < 549755813888
+
+-- Where a client comes to 549,755,813,888 calls, the run is too long: its cause is in the commands and in the bytes of which the
+-- packets were cut.
+abbrev pub ManyCallsAreTooLong : Type 0
+ManyCallsAreTooLong =
+    (lines : List Line) (most : ℕ) (may : ℕ → Bool) (packets : List (List ℕ)) (behind : List Entry) (feeder : Caller) (feeding : List Fed) (others : List Caller) (books : List (List LogEntry))
+    → IsRunning lines most may packets behind feeder feeding others books
+    → (start : ℕ) (ahead taken : List ℕ) → 188 * length packets ≤ length ahead + length taken
+    → (c : ℕ) (log : List LogEntry) → slice_get books c ≡ Some log → length log ≡ 549755813888 → IsTooLong lines start (length log) ahead taken
