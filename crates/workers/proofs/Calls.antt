@@ -129,40 +129,52 @@ module _ (lines : List Line) (may : ℕ → Bool) (client : ℕ) (c : Caller) (l
     before true yea = let earlier : g.place < e.place = rises k i g e (grind (arith, nat_tests, yea)) there is on in omega (arith, earlier, at)
     before false nay = within (nat_lt i k) refl (grind (arith, nat_tests, nay))
 
-module _ (lines : List Line) (most : ℕ) (may : ℕ → Bool) (packets : List (List ℕ)) (behind : List Entry) (feeder : Caller) (feeding : List Fed) (others : List Caller) (books : List (List LogEntry))
-    (r : IsRunning lines most may packets behind feeder feeding others books) where
+-- a moment of a run, with all that it is of
+pub record Moment : Type 0 where
+  pub lines : List Line
+  pub most : ℕ
+  pub may : ℕ → Bool
+  pub packets : List (List ℕ)
+  pub behind : List Entry
+  pub feeder : Caller
+  pub feeding : List Fed
+  pub others : List Caller
+  pub books : List (List LogEntry)
+  pub running : IsRunning lines most may packets behind feeder feeding others books
+
+module _ (m : Moment) where
   -- a client has a log
   pub record Client (d : ℕ) : Type 0 where
     pub caller : Caller
     pub log : List LogEntry
-    pub there : slice_get others d ≡ Some caller
-    pub book : slice_get books d ≡ Some log
-    pub called : HasCalled lines d may caller log
+    pub there : slice_get m.others d ≡ Some caller
+    pub book : slice_get m.books d ≡ Some log
+    pub called : HasCalled m.lines d m.may caller log
 
-  pub client_with : (d : ℕ) (log : List LogEntry) → slice_get books d ≡ Some log → (c : Client d) × (c.log ≡ log)
+  pub client_with : (d : ℕ) (log : List LogEntry) → slice_get m.books d ≡ Some log → (c : Client d) × (c.log ≡ log)
   client_with d log is =
-      let within : d < length others = omega (arith, place_below books d log is, r.clients, r.logs) in
-      let c = at_place others d within in
-      (record { caller = c.0; log = log; there = c.1; book = is; called = r.called d c.0 log c.1 is }, refl)
+      let within : d < length m.others = omega (arith, place_below m.books d log is, m.running.clients, m.running.logs) in
+      let c = at_place m.others d within in
+      (record { caller = c.0; log = log; there = c.1; book = is; called = m.running.called d c.0 log c.1 is }, refl)
 
-  pub client_at : (d : ℕ) → d < length books → Client d
-  client_at d lt = let log = at_place books d lt in (client_with d log.0 log.1).0
+  pub client_at : (d : ℕ) → d < length m.books → Client d
+  client_at d lt = let log = at_place m.books d lt in (client_with d log.0 log.1).0
 
-  client_of : (d : ℕ) (caller : Caller) → slice_get others d ≡ Some caller → (c : Client d) × (c.caller ≡ caller)
+  client_of : (d : ℕ) (caller : Caller) → slice_get m.others d ≡ Some caller → (c : Client d) × (c.caller ≡ caller)
   client_of d caller is =
-      let within : d < length books = omega (arith, place_below others d caller is, r.clients, r.logs) in
-      let log = at_place books d within in
-      (record { caller = caller; log = log.0; there = is; book = log.1; called = r.called d caller log.0 is log.1 }, refl)
+      let within : d < length m.books = omega (arith, place_below m.others d caller is, m.running.clients, m.running.logs) in
+      let log = at_place m.books d within in
+      (record { caller = caller; log = log.0; there = is; book = log.1; called = m.running.called d caller log.0 is log.1 }, refl)
 
   -- ------ a node's history
 
-  module _ (node : ℕ) (h : List Entry) (history : IsHistory node (column node (rows_of (others ++ feeder ∷ []))) h) where
+  module _ (node : ℕ) (h : List Entry) (history : IsHistory node (column node (rows_of (m.others ++ m.feeder ∷ []))) h) where
     pub one_entry : (place : ℕ) (x y : Entry) → get_elem? h place ≡ some x → get_elem? h place ≡ some y → x ≡ y
     one_entry place x y a b = some-injective x y (sym a ∙ b)
 
     -- what the feeder has seen stands there
-    pub feeder_seen : (p : TableId × View Entry) → slice_get feeder.passes node ≡ Some p → (place : ℕ) (x : Entry) → get_elem? p.1.seen place ≡ some x → get_elem? h place ≡ some x
-    feeder_seen p at place x is = seen_there node (others ++ feeder ∷ []) h history (length others) feeder p (at_last others feeder) at place x is
+    pub feeder_seen : (p : TableId × View Entry) → slice_get m.feeder.passes node ≡ Some p → (place : ℕ) (x : Entry) → get_elem? p.1.seen place ≡ some x → get_elem? h place ≡ some x
+    feeder_seen p at place x is = seen_there node (m.others ++ m.feeder ∷ []) h history (length m.others) m.feeder p (at_last m.others m.feeder) at place x is
 
     -- an entry of a client's log stands there
     pub logged_there : (d : ℕ) (c : Client d) (i : ℕ) (e : LogEntry) → slice_get c.log i ≡ Some e → e.node ≡ node → (x : Entry) × (get_elem? h e.place ≡ some x) × Tells e x
@@ -170,12 +182,12 @@ module _ (lines : List Line) (most : ℕ) (may : ℕ → Bool) (packets : List (
         let t = c.called.logged.tells i e is in
         let at : slice_get c.caller.passes node ≡ Some t.0 = subst (λ n. slice_get c.caller.passes n ≡ Some t.0) on t.1 in
         let x = t.2 in
-        (x.0, seen_there node (others ++ feeder ∷ []) h history d c.caller t.0 (at_before others (feeder ∷ []) d c.caller c.there) at e.place x.0 x.1, x.2)
+        (x.0, seen_there node (m.others ++ m.feeder ∷ []) h history d c.caller t.0 (at_before m.others (m.feeder ∷ []) d c.caller c.there) at e.place x.0 x.1, x.2)
 
     -- an entry of the history is the feeder's, or a client's
     pub record ByFeeder (place : ℕ) (x : Entry) : Type 0 where
       pub pass : TableId × View Entry
-      pub at : slice_get feeder.passes node ≡ Some pass
+      pub at : slice_get m.feeder.passes node ≡ Some pass
       pub has : Has {A = ℕ × ℕ} pass.1.own (x.who, place)
 
     pub record ByClient (place : ℕ) (x : Entry) : Type 0 where
@@ -196,21 +208,21 @@ module _ (lines : List Line) (most : ℕ) (may : ℕ → Bool) (packets : List (
         let same : y.0 ≡ x = one_entry place y.0 x (subst (λ k. get_elem? h k ≡ some y.0) l.place y.1) is in
         record { number = d; client = c; index = l.number; entry = l.entry; there = l.there; on = l.on; here = l.place; tells = subst (λ z. Tells l.entry z) same y.2 }
 
-    by_either : (place : ℕ) (x : Entry) → get_elem? h place ≡ some x → (m : Made node (others ++ feeder ∷ []) (x.who, place))
-        → (slice_get others m.number ≡ Some m.caller) ⊎ (feeder ≡ m.caller) → ByFeeder place x ⊎ ByClient place x
-    by_either place x is m (inl there) =
-        let c = client_of m.number m.caller there in
-        inr (by_client place x is m.number c.0 m.pass (subst (λ k. slice_get k.passes node ≡ Some m.pass) (sym c.1) m.at) m.has)
-    by_either place x is m (inr same) = inl (record { pass = m.pass; at = subst (λ k. slice_get k.passes node ≡ Some m.pass) (sym same) m.at; has = m.has })
+    by_either : (place : ℕ) (x : Entry) → get_elem? h place ≡ some x → (made : Made node (m.others ++ m.feeder ∷ []) (x.who, place))
+        → (slice_get m.others made.number ≡ Some made.caller) ⊎ (m.feeder ≡ made.caller) → ByFeeder place x ⊎ ByClient place x
+    by_either place x is made (inl there) =
+        let c = client_of made.number made.caller there in
+        inr (by_client place x is made.number c.0 made.pass (subst (λ k. slice_get k.passes node ≡ Some made.pass) (sym c.1) made.at) made.has)
+    by_either place x is made (inr same) = inl (record { pass = made.pass; at = subst (λ k. slice_get k.passes node ≡ Some made.pass) (sym same) made.at; has = made.has })
 
     pub whose : (place : ℕ) (x : Entry) → get_elem? h place ≡ some x → ByFeeder place x ⊎ ByClient place x
     whose place x is =
-        let m : Made node (others ++ feeder ∷ []) (x.who, place) = made_by node (others ++ feeder ∷ []) (x.who, place) (history.just.only place x is) in
-        by_either place x is m (at_either others feeder m.caller m.number m.there)
+        let made : Made node (m.others ++ m.feeder ∷ []) (x.who, place) = made_by node (m.others ++ m.feeder ∷ []) (x.who, place) (history.just.only place x is) in
+        by_either place x is made (at_either m.others m.feeder made.caller made.number made.there)
 
     -- a reply to a client's read
     pub reply_there : (d : ℕ) (c : Client d) (i : ℕ) (e : LogEntry) → slice_get c.log i ≡ Some e → e.node ≡ node → (now count : ℕ) → e.act ≡ ReadAct now count → IsReadReply e.response
     reply_there d c i e is on now count read =
         let x = logged_there d c i e is on in
         subst IsReadReply (sym x.2.response)
-        (read_there node h e.place x.0 now count history.legal x.1 (read_of x.0.invocation now count (sym x.2.act ∙ read)) (memory_found lines may d c.caller c.log c.called i e x.0 is x.2))
+        (read_there node h e.place x.0 now count history.legal x.1 (read_of x.0.invocation now count (sym x.2.act ∙ read)) (memory_found m.lines m.may d c.caller c.log c.called i e x.0 is x.2))

@@ -3,6 +3,7 @@ use Rattle.std.proofs.Common.{◌≡◌, refl, sym, ap, subst, ◌∙◌, ℕ, z
 use Rattle.std.specs.Prelude.{◌≢◌, ◌⊎◌, if◌then◌else◌}
 use Rattle.std.proofs.lemmas.Bool.Decides.{nat_tests}
 use Rattle.node_lock.specs.Lists.{Has}
+use Rattle.node_lock.proofs.Views.{has_left, has_right}
 
 -- ------ sums
 
@@ -154,15 +155,6 @@ module _ {T : Type 0} (weight : T → ℕ) where
   pub weigh_append : (xs ys : List T) → weigh (xs ++ ys) ≡ weigh xs + weigh ys
   weigh_append [] ys = omega arith
   weigh_append (x ∷ xs) ys = let deeper = weigh_append xs ys in omega (arith, deeper)
-
-  pub has_left : (xs ys : List T) (t : T) → Has xs t → Has (xs ++ ys) t
-  has_left [] ys t has = absurd has
-  has_left (x ∷ xs) ys t (inl is) = inl is
-  has_left (x ∷ xs) ys t (inr has) = inr (has_left xs ys t has)
-
-  pub has_right : (xs ys : List T) (t : T) → Has ys t → Has (xs ++ ys) t
-  has_right [] ys t has = has
-  has_right (x ∷ xs) ys t has = inr (has_right xs ys t has)
 
   -- the tokens of two pools
   pub both : (P Q : T → Type 0) (a b : ℕ) → Pool P a → Pool Q b → Pool (λ t. P t ⊎ Q t) (a + b)

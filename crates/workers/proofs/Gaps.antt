@@ -10,7 +10,6 @@ use Rattle.atomic_table.specs.Seated.{TableId}
 use Rattle.node_lock.specs.declared.view.View.{View}
 use Rattle.node_lock.specs.Lists.{Has}
 use Rattle.node_lock.proofs.Views.{at_there, at_below}
-use Rattle.dmx_calls.specs.declared.histories.Fed.{Fed}
 use Rattle.dmx_calls.specs.declared.reply.Errno.TheVariants.{Ebadf}
 use Rattle.dmx_calls.specs.Log.{LogEntry}
 use Rattle.dmx_calls.specs.Response.{Response, Refused}
@@ -22,12 +21,11 @@ use Rattle.adapter.specs.Rows.{column}
 use Rattle.adapter.specs.Callers.{Caller}
 use Rattle.adapter.specs.Ends.{IsHistory, rows_of}
 use Rattle.workers.specs.Logged.{Tells}
-use Rattle.workers.specs.Budget.{IsRunning}
 use Rattle.workers.proofs.Counting.{weigh, Pool, but}
 use Rattle.workers.proofs.HistoryBytes.{Token, token, weight_of}
 use Rattle.workers.proofs.ReadReplies.{next_is_refused}
 use Rattle.workers.proofs.Repeating.{adds, quiet, IsGoing, going, quiet_calls}
-use Rattle.workers.proofs.Calls.{Client, client_at, ByFeeder, ByClient, whose, logged_there, has_number, none_between, read_of}
+use Rattle.workers.proofs.Calls.{Moment, Client, client_at, ByFeeder, ByClient, whose, logged_there, has_number, none_between, read_of}
 use Rattle.workers.proofs.Fitting.{feeder_at}
 
 -- ------ lists of tokens
@@ -86,9 +84,8 @@ OtherPays books c t = (d : ℕ) × (d < length books) × ClientPays books c d t
 abbrev pub firsts : List Line → ℕ → ℕ
 firsts lines d = 33 * length (commands_of d lines)
 
-module _ (lines : List Line) (most : ℕ) (may : ℕ → Bool) (packets : List (List ℕ)) (behind : List Entry) (feeder : Caller) (feeding : List Fed) (others : List Caller) (books : List (List LogEntry))
-    (r : IsRunning lines most may packets behind feeder feeding others books) where
-  module _ (node : ℕ) (h : List Entry) (history : IsHistory node (column node (rows_of (others ++ feeder ∷ []))) h) where
+module _ (m : Moment) where
+  module _ (node : ℕ) (h : List Entry) (history : IsHistory node (column node (rows_of (m.others ++ m.feeder ∷ []))) h) where
     -- right behind a read of c another client adds no repeat
     quiet_there : (c d place : ℕ) (e g : LogEntry) (x y : Entry) → get_elem? h place ≡ some x → get_elem? h (suc place) ≡ some y → Tells e x → Tells g y → x.who ≡ c + 1 → y.who ≡ d + 1 → d ≢ c
         → IsGoing e.act e.response → (n : ℕ) → adds g ≡ n → quiet g ≡ 1
@@ -96,22 +93,22 @@ module _ (lines : List Line) (most : ℕ) (may : ℕ → Bool) (packets : List (
     quiet_there c d place e g x y is next te tg one other differ on (suc n) more =
         absurd (next_is_refused node h place (c + 1) (d + 1) x y history.legal is next (λ same. differ (omega (arith, same))) (reads_on e x (c + 1) te one on) (reads_on g y (d + 1) tg other (going g.act g.response (omega (arith, more)))))
 
-    module _ (c : ℕ) (me : Client lines most may packets behind feeder feeding others books r c) (i : ℕ) (e f : LogEntry) (is : slice_get me.log i ≡ Some e) (next : slice_get me.log (suc i) ≡ Some f) (on : e.node ≡ node) (stays : f.node ≡ e.node)
+    module _ (c : ℕ) (me : Client m c) (i : ℕ) (e f : LogEntry) (is : slice_get me.log i ≡ Some e) (next : slice_get me.log (suc i) ≡ Some f) (on : e.node ≡ node) (stays : f.node ≡ e.node)
         (gap : suc e.place < f.place) (going_on : IsGoing e.act e.response) where
-      other_pays : (y : Entry) → get_elem? h (suc e.place) ≡ some y → (b : ByClient lines most may packets behind feeder feeding others books r node h history (suc e.place) y)
-          → (same : Bool) → nat_eq b.number c ≡ same → OtherPays books c (token e.node (suc e.place) 1)
+      other_pays : (y : Entry) → get_elem? h (suc e.place) ≡ some y → (b : ByClient m node h history (suc e.place) y)
+          → (same : Bool) → nat_eq b.number c ≡ same → OtherPays m.books c (token e.node (suc e.place) 1)
       other_pays y there b true yea =
           let number : b.number ≡ c = grind (arith, nat_tests, yea) in
-          let logs : b.client.log ≡ me.log = one_log b.client.log me.log (subst (λ d. slice_get books d ≡ Some b.client.log) number b.client.book) me.book in
-          absurd (none_between lines may c me.caller me.log me.called i b.index e f b.entry is next (subst (λ l. slice_get l b.index ≡ Some b.entry) logs b.there) stays (b.on ∙ sym on) b.here gap) where
-            one_log : (l m : List LogEntry) → slice_get books c ≡ Some l → slice_get books c ≡ Some m → l ≡ m
-            one_log l m a b = (let k : Some l ≡ Some m = sym a ∙ b in cc k)
+          let logs : b.client.log ≡ me.log = one_log b.client.log me.log (subst (λ d. slice_get m.books d ≡ Some b.client.log) number b.client.book) me.book in
+          absurd (none_between m.lines m.may c me.caller me.log me.called i b.index e f b.entry is next (subst (λ l. slice_get l b.index ≡ Some b.entry) logs b.there) stays (b.on ∙ sym on) b.here gap) where
+            one_log : (l n : List LogEntry) → slice_get m.books c ≡ Some l → slice_get m.books c ≡ Some n → l ≡ n
+            one_log l n a b = (let k : Some l ≡ Some n = sym a ∙ b in cc k)
       other_pays y there b false nay =
           let differ : b.number ≢ c = λ same. (grind (arith, nat_tests, nay, same)) in
-          let x = logged_there lines most may packets behind feeder feeding others books r node h history c me i e is on in
+          let x = logged_there m node h history c me i e is on in
           let silent : quiet b.entry ≡ 1 =
-          quiet_there c b.number e.place e b.entry x.0 y x.1 there x.2 b.tells (has_number lines may c me.caller me.log me.called i e x.0 is x.2)
-          (has_number lines may b.number b.client.caller b.client.log b.client.called b.index b.entry y b.there b.tells) differ going_on (adds b.entry) refl in (
+          quiet_there c b.number e.place e b.entry x.0 y x.1 there x.2 b.tells (has_number m.lines m.may c me.caller me.log me.called i e x.0 is x.2)
+          (has_number m.lines m.may b.number b.client.caller b.client.log b.client.called b.index b.entry y b.there b.tells) differ going_on (adds b.entry) refl in (
             b.number,
             within b.number b.client.log b.client.book,
             (
@@ -124,60 +121,60 @@ module _ (lines : List Line) (most : ℕ) (may : ℕ → Bool) (packets : List (
               ap (λ n. token n (suc e.place) 1) (on ∙ sym b.on) ∙ ap (λ p. token b.entry.node p 1) (sym b.here) ∙ ap (λ n. token b.entry.node b.entry.place n) (sym silent),
             ),
           ) where
-            within : (d : ℕ) (log : List LogEntry) → slice_get books d ≡ Some log → d < length books
-            within d log there = slice_get_within books d log there
+            within : (d : ℕ) (log : List LogEntry) → slice_get m.books d ≡ Some log → d < length m.books
+            within d log there = slice_get_within m.books d log there
 
       either_pays : (y : Entry) → get_elem? h (suc e.place) ≡ some y
-          → ByFeeder lines most may packets behind feeder feeding others books r node h history (suc e.place) y ⊎ ByClient lines most may packets behind feeder feeding others books r node h history (suc e.place) y
-          → FeederPays feeder node (token e.node (suc e.place) 1) ⊎ OtherPays books c (token e.node (suc e.place) 1)
+          → ByFeeder m node h history (suc e.place) y ⊎ ByClient m node h history (suc e.place) y
+          → FeederPays m.feeder node (token e.node (suc e.place) 1) ⊎ OtherPays m.books c (token e.node (suc e.place) 1)
       either_pays y there (inl b) = inl (b.pass, pair y.who (suc e.place), b.at, b.has, ap (λ n. token n (suc e.place) 1) on) where
         pair : ℕ → ℕ → ℕ × ℕ
         pair w q = (w, q)
       either_pays y there (inr b) = inr (other_pays y there b (nat_eq b.number c) refl)
 
       -- In the gap stands an entry that pays.
-      pub gap_is_paid : FeederPays feeder node (token e.node (suc e.place) 1) ⊎ OtherPays books c (token e.node (suc e.place) 1)
+      pub gap_is_paid : FeederPays m.feeder node (token e.node (suc e.place) 1) ⊎ OtherPays m.books c (token e.node (suc e.place) 1)
       gap_is_paid =
-          let last = logged_there lines most may packets behind feeder feeding others books r node h history c me (suc i) f next (stays ∙ on) in
+          let last = logged_there m node h history c me (suc i) f next (stays ∙ on) in
           let y = at_there h (suc e.place) (omega (arith, gap, at_below h f.place last.0 last.1)) in
-          either_pays y.0 y.1 (whose lines most may packets behind feeder feeding others books r node h history (suc e.place) y.0 y.1)
+          either_pays y.0 y.1 (whose m node h history (suc e.place) y.0 y.1)
 
   -- ------ all that may pay
 
-  feeder_pool_at : (node : ℕ) (o : Option (TableId × View Entry)) → slice_get feeder.passes node ≡ o → Pool weight_of (FeederPays feeder node) (length packets + 1)
+  feeder_pool_at : (node : ℕ) (o : Option (TableId × View Entry)) → slice_get m.feeder.passes node ≡ o → Pool weight_of (FeederPays m.feeder node) (length m.packets + 1)
   feeder_pool_at node None is = record { tokens = []; within = omega arith; all = λ t pays. absurd (let k : None ≡ Some pays.0 = sym is ∙ pays.2 in cc k) }
   feeder_pool_at node (Some p) is = record {
     tokens = map (call_token node) p.1.own;
-    within = omega (arith, calls_weigh node p.1.own, (feeder_at lines most may packets behind feeder feeding others books r node p is).few);
+    within = omega (arith, calls_weigh node p.1.own, (feeder_at m node p is).few);
     all = λ t pays. one t pays.0 pays.1 pays.2 pays.3 pays.4;
   } where
-    one : (t : Token) (q : TableId × View Entry) (call : ℕ × ℕ) → slice_get feeder.passes node ≡ Some q → Has q.1.own call → t ≡ call_token node call → Has (map (call_token node) p.1.own) t
+    one : (t : Token) (q : TableId × View Entry) (call : ℕ × ℕ) → slice_get m.feeder.passes node ≡ Some q → Has q.1.own call → t ≡ call_token node call → Has (map (call_token node) p.1.own) t
     one t q call at has eq =
         let same : q ≡ p = (let k : Some q ≡ Some p = sym at ∙ is in cc k) in
         subst (λ u. Has (map (call_token node) p.1.own) u) (sym eq) (has_map (call_token node) p.1.own call (subst (λ (x : TableId × View Entry). Has x.1.own call) same has))
 
   -- the feeder has made as many entries on a node as there are packets, and one more
-  pub feeder_pool : (node : ℕ) → Pool weight_of (FeederPays feeder node) (length packets + 1)
-  feeder_pool node = feeder_pool_at node (slice_get feeder.passes node) refl
+  pub feeder_pool : (node : ℕ) → Pool weight_of (FeederPays m.feeder node) (length m.packets + 1)
+  feeder_pool node = feeder_pool_at node (slice_get m.feeder.passes node) refl
 
-  client_pool_at : (c d : ℕ) → d < length books → (same : Bool) → nat_eq d c ≡ same → Pool weight_of (ClientPays books c d) (if same then 0 else firsts lines d)
+  client_pool_at : (c d : ℕ) → d < length m.books → (same : Bool) → nat_eq d c ≡ same → Pool weight_of (ClientPays m.books c d) (if same then 0 else firsts m.lines d)
   client_pool_at c d lt true yea = record {
     tokens = [];
     within = omega arith;
     all = λ t pays. absurd (pays.5 (grind (arith, nat_tests, yea)));
   }
   client_pool_at c d lt false nay =
-      let client : Client lines most may packets behind feeder feeding others books r d = client_at lines most may packets behind feeder feeding others books r d lt in
+      let client : Client m d = client_at m d lt in
       record {
         tokens = map quiet_token client.log;
-        within = omega (arith, quiet_weigh client.log, quiet_calls lines d client.log client.called.events);
+        within = omega (arith, quiet_weigh client.log, quiet_calls m.lines d client.log client.called.events);
         all = λ t pays. one client t pays.0 pays.1 pays.2 pays.3 pays.4 pays.6;
       } where
-        one : (client : Client lines most may packets behind feeder feeding others books r d) (t : Token) (log : List LogEntry) (i : ℕ) (e : LogEntry) → slice_get books d ≡ Some log → slice_get log i ≡ Some e → t ≡ quiet_token e
+        one : (client : Client m d) (t : Token) (log : List LogEntry) (i : ℕ) (e : LogEntry) → slice_get m.books d ≡ Some log → slice_get log i ≡ Some e → t ≡ quiet_token e
             → Has (map quiet_token client.log) t
         one client t log i e book is eq =
             let same : log ≡ client.log = (let k : Some log ≡ Some client.log = sym book ∙ client.book in cc k) in
             subst (λ u. Has (map quiet_token client.log) u) (sym eq) (has_map quiet_token client.log e (subst (λ l. Has l e) same (has_got log i e is)))
 
-  pub client_pool : (c d : ℕ) → d < length books → Pool weight_of (ClientPays books c d) (but c (firsts lines) d)
+  pub client_pool : (c d : ℕ) → d < length m.books → Pool weight_of (ClientPays m.books c d) (but c (firsts m.lines) d)
   client_pool c d lt = client_pool_at c d lt (nat_eq d c) refl
