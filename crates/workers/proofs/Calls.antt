@@ -1,8 +1,7 @@
 -- What a client's log and a node's history say of each other.
 use Rattle.std.proofs.Common.{◌≡◌, refl, sym, ap, subst, ◌∙◌, ℕ, suc, ◌+◌, ◌<◌, ◌≤◌, Bool, true, false, nat_lt, List, [], ◌∷◌, ◌++◌, Some, length, slice_get, take, inl, inr, arith}
-use Rattle.std.specs.Prelude.{◌≢◌, ◌⊎◌}
+use Rattle.std.specs.Prelude.{◌⊎◌}
 use Rattle.std.proofs.lemmas.Bool.Decides.{nat_tests}
-use Rattle.std.proofs.lemmas.Option.{get_or_from_slice_get}
 use mathlib.Core.Option.{some, some-injective}
 use lib.ListN.{get_elem?}
 use Rattle.atomic_table.specs.Seated.{TableId}
@@ -11,7 +10,6 @@ use Rattle.node_lock.specs.Lists.{Has}
 use Rattle.dmx_calls.specs.declared.histories.Fed.{Fed}
 use Rattle.dmx_calls.specs.Invocation.{Invocation, Open, Close, SetFilter, SetPes, AddPid, RemovePid, Start, Stop, SetSize, Read, Poll, Pass, End, Attach, Detach, brought}
 use Rattle.dmx_calls.specs.Log.{Act, PassAct, ReadAct, LogEntry, act_of}
-use Rattle.dmx_calls.specs.Response.{NoMemory}
 use Rattle.dmx_calls.specs.History.{Entry}
 use Rattle.client_script.specs.declared.line.Line.{Line}
 use Rattle.client_core.specs.declared.event.Want.{Want}
@@ -96,11 +94,6 @@ module _ (lines : List Line) (may : ℕ → Bool) (client : ℕ) (c : Caller) (l
 
   pub has_number : (i : ℕ) (e : LogEntry) (x : Entry) → slice_get log i ≡ Some e → Tells e x → x.who ≡ client + 1
   has_number i e x is tells = sym tells.who ∙ (called.logged.steps i e is).1 ∙ called.who
-
-  pub memory_found : (i : ℕ) (e : LogEntry) (x : Entry) → slice_get log i ≡ Some e → Tells e x → x.response ≢ NoMemory
-  memory_found i e x is tells none =
-      let same : e ≡ _ = sym (get_or_from_slice_get log i e e is) in
-      called.found i e (place_below log i e is) (ap (λ (y : LogEntry). y.response) (sym same) ∙ tells.response ∙ none)
 
   -- a place between two calls that follow one another isn't that of a call on the node
   pub none_between : (i k : ℕ) (e f g : LogEntry) → slice_get log i ≡ Some e → slice_get log (suc i) ≡ Some f → slice_get log k ≡ Some g
@@ -225,4 +218,4 @@ module _ (m : Moment) where
     reply_there d c i e is on now count read =
         let x = logged_there d c i e is on in
         subst IsReadReply (sym x.2.response)
-        (read_there node h e.place x.0 now count history.legal x.1 (read_of x.0.invocation now count (sym x.2.act ∙ read)) (memory_found m.lines m.may d c.caller c.log c.called i e x.0 is x.2))
+        (read_there node h e.place x.0 now count history.legal x.1 (read_of x.0.invocation now count (sym x.2.act ∙ read)))

@@ -65,17 +65,18 @@ module _ (node : Rules) (names : OverflowNamesAByte node) where
       unless_reads (refusal_to node.kind (facts node h) who (call.Read now count)) _
       (ledger_read h (facts node h) (node.capture h) (expired_of (facts node (with_call h who (call.Read now count))).ledger) count legal)
 
-  may_read : (h : History) (who now count : ℕ) (r : Response) → IsLegalFor node h → r ≢ NoMemory → May node h who (call.Read now count) r → IsReadReply r
-  may_read h who now count r legal found (inl same) = subst IsReadReply (sym same) (answer_read h who now count legal)
-  may_read h who now count r legal found (inr no_memory) = absurd (found no_memory.0)
+  -- a read takes no memory
+  may_read : (h : History) (who now count : ℕ) (r : Response) → IsLegalFor node h → May node h who (call.Read now count) r → IsReadReply r
+  may_read h who now count r legal (inl same) = subst IsReadReply (sym same) (answer_read h who now count legal)
+  may_read h who now count r legal (inr (no_memory, done, takes)) = absurd (cc takes)
 
 module _ (node : ℕ) where
-  reads : (h : History) (who now count : ℕ) (r : Response) → IsLegalFor (rules_at node) h → r ≢ NoMemory → May (rules_at node) h who (call.Read now count) r → IsReadReply r
+  reads : (h : History) (who now count : ℕ) (r : Response) → IsLegalFor (rules_at node) h → May (rules_at node) h who (call.Read now count) r → IsReadReply r
   unfolding rules_at
-  reads h who now count r legal found may = go (nat_lt node DEMUX_NODES) legal may where
+  reads h who now count r legal may = go (nat_lt node DEMUX_NODES) legal may where
     go : (b : Bool) → IsLegalFor (if b then demux else dvr) h → May (if b then demux else dvr) h who (call.Read now count) r → IsReadReply r
-    go true l m = may_read demux (names_a_byte demux demux_keeps) h who now count r l found m
-    go false l m = may_read dvr (names_a_byte dvr dvr_keeps) h who now count r l found m
+    go true l m = may_read demux (names_a_byte demux demux_keeps) h who now count r l m
+    go false l m = may_read dvr (names_a_byte dvr dvr_keeps) h who now count r l m
 
   legal_behind : (later h : History) → IsLegalFor (rules_at node) (later ++ h) → IsLegalFor (rules_at node) h
   legal_behind [] h legal = legal
@@ -107,12 +108,12 @@ module _ (node : ℕ) where
   legal_to front back e legal = legal_behind (reverse back) (e ∷ reverse front) (subst (λ h. IsLegalFor (rules_at node) h) (turned front back e) legal)
 
   -- the response to a read in a legal history
-  pub read_there : (h : List Entry) (i : ℕ) (e : Entry) (now count : ℕ) → IsLegalFor (rules_at node) (reverse h) → get_elem? h i ≡ some e → e.invocation ≡ call.Read now count → e.response ≢ NoMemory
+  pub read_there : (h : List Entry) (i : ℕ) (e : Entry) (now count : ℕ) → IsLegalFor (rules_at node) (reverse h) → get_elem? h i ≡ some e → e.invocation ≡ call.Read now count
       → IsReadReply e.response
-  read_there h i e now count legal is read found =
+  read_there h i e now count legal is read =
       let s : Split h i e = split h i e is in
       let to : IsLegalFor (rules_at node) (e ∷ reverse s.front) = legal_to s.front s.back e (subst (λ l. IsLegalFor (rules_at node) (reverse l)) s.whole legal) in
-      reads (reverse s.front) e.who now count e.response to.0 found (subst (λ c. May (rules_at node) (reverse s.front) e.who c e.response) read to.1)
+      reads (reverse s.front) e.who now count e.response to.0 (subst (λ c. May (rules_at node) (reverse s.front) e.who c e.response) read to.1)
 
   behind_it : (back front : List Entry) (e x : Entry) → IsLegalFor (rules_at node) (reverse (front ++ e ∷ back)) → get_elem? back 0 ≡ some x → IsLegalFor (rules_at node) (x ∷ e ∷ reverse front)
   behind_it [] front e x legal is = absurd (cc is)
