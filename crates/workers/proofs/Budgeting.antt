@@ -20,7 +20,7 @@ use Rattle.workers.specs.Budget.{CallsAreWithinBudget, FewBytesAreFewCalls, Many
 use Rattle.workers.proofs.Counting.{total, total_le, total_add, total_same, total_33, but, total_but, one_at, total_one, Pool, HaveTokens, counts_fit, both, all_pools}
 use Rattle.workers.proofs.HistoryBytes.{bytes_in, Token, token, weight_of}
 use Rattle.workers.proofs.Repeating.{grows, but_one, calls_and_repeats, by_bytes, by_again, both_kinds, bytes_pay, IsWaiting, waiting}
-use Rattle.workers.proofs.Calls.{Moment, Client, client_with, reply_there}
+use Rattle.workers.proofs.LogCalls.{Moment, Client, client_with, reply_there}
 use Rattle.workers.proofs.Fitting.{byte_token, IsAnswered, bytes_pool}
 use Rattle.workers.proofs.Gaps.{FeederPays, OtherPays, ClientPays, gap_is_paid, feeder_pool, firsts, client_pool}
 

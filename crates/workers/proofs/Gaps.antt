@@ -25,7 +25,7 @@ use Rattle.workers.proofs.Counting.{weigh, Pool, but}
 use Rattle.workers.proofs.HistoryBytes.{Token, token, weight_of}
 use Rattle.workers.proofs.ReadReplies.{next_is_refused}
 use Rattle.workers.proofs.Repeating.{adds, quiet, IsGoing, going, quiet_calls}
-use Rattle.workers.proofs.Calls.{Moment, Client, client_at, ByFeeder, ByClient, whose, logged_there, has_number, none_between, read_of}
+use Rattle.workers.proofs.LogCalls.{Moment, Client, client_at, ByFeeder, ByClient, whose, logged_there, has_number, none_between, read_of}
 use Rattle.workers.proofs.Fitting.{feeder_at}
 
 -- ------ lists of tokens

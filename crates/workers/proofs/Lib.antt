@@ -3,9 +3,9 @@ pub mod HistoryBytes
 pub mod ReadReplies
 pub mod FirstCalls
 pub mod Repeating
-pub mod Columns
-pub mod Feeders
-pub mod Calls
+pub mod MadeCalls
+pub mod FeederPasses
+pub mod LogCalls
 pub mod Fitting
 pub mod Gaps
 pub mod Budgeting

@@ -23,7 +23,7 @@ use Rattle.adapter.specs.Ends.{IsHistory, rows_of}
 use Rattle.adapter.proofs.Lists.{at_place, at_before, at_last, at_either, place_below, one_value}
 use Rattle.workers.specs.Logged.{Tells, HasCalled, calls_on}
 use Rattle.workers.specs.Budget.{IsRunning}
-use Rattle.workers.proofs.Columns.{Made, made_by, seen_there, LoggedCall, logged_call}
+use Rattle.workers.proofs.MadeCalls.{Made, made_by, seen_there, LoggedCall, logged_call}
 use Rattle.workers.proofs.Repeating.{Asked, asked_by}
 use Rattle.workers.proofs.ReadReplies.{IsReadReply, read_there}
 
