@@ -6,3 +6,14 @@ pub mod Columns
 pub mod Owning
 pub mod Batches
 pub mod Ended
+pub mod Counting
+pub mod HistoryBytes
+pub mod ReadReplies
+pub mod FirstCalls
+pub mod Repeating
+pub mod MadeCalls
+pub mod FeederPasses
+pub mod LogCalls
+pub mod Fitting
+pub mod Gaps
+pub mod Budgeting

@@ -1,3 +1,4 @@
 pub mod Logged
 pub mod Feeding
 pub mod Worked
+pub mod Budget
