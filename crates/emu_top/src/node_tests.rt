@@ -2,7 +2,9 @@
 use crate::Status;
 use crate::tests::{Part, input_of, told, without_rows};
 use std::alloc::Global;
+use std::sync::Wait;
 use std::test::Fail;
+use std::thread::Threads;
 
 // The packets of the sessions: PID 256 with the counters 0 and 1, and PID 257.
 const FIRST: Part = (b"\x47\x01\x00\x10", 184, 0);
@@ -351,7 +353,7 @@ const TAPS: [Case; 2] = [
 ];
 
 // Whether a session in batches of one packet gives this report.
-fn gives(rt: &HostRuntime, case: Case) -> Result<bool, Fail> {
+fn gives<R: AllocGlobal + Threads + Wait + Sync>(rt: &R, case: Case) -> Result<bool, Fail> {
     let alloc = rt.alloc();
     let (parts, report) = case;
     let (status, written) = told(rt, &["steps", "--batch", "1"], parts)?;

@@ -2,7 +2,9 @@
 use crate::Status;
 use crate::tests::{Part, input_of, told};
 use std::alloc::Global;
+use std::sync::Wait;
 use std::test::Fail;
+use std::thread::Threads;
 
 // A session: its script and its packets, and the replies of its last commands.
 type Case = (&'static [Part], &'static [Part]);
@@ -545,7 +547,11 @@ fn replies_in(alloc: Global, report: &str) -> Result<Vec<&str>, Fail> {
 }
 
 // Whether the replies of a session's last commands are these.
-fn ends_with(rt: &HostRuntime, session: &[Part], wanted: &[Part]) -> Result<bool, Fail> {
+fn ends_with<R: AllocGlobal + Threads + Wait + Sync>(
+    rt: &R,
+    session: &[Part],
+    wanted: &[Part],
+) -> Result<bool, Fail> {
     let alloc = rt.alloc();
     let (status, written) = told(rt, &["steps", "--batch", "1"], session)?;
     let report = String::from_utf8(written)?;

@@ -3,7 +3,9 @@ use crate::{Status, emulate};
 use client_script::FaultKind;
 use emu_io::{FixedClock, MemSink, MemSource, NoGate};
 use std::alloc::Global;
+use std::sync::Wait;
 use std::test::Fail;
+use std::thread::Threads;
 
 const WORDS: [&str; 3] = ["steps", "--batch", "1"];
 
@@ -32,8 +34,8 @@ fn words_of(alloc: Global, words: &[&str]) -> Result<Vec<String>, Fail> {
 }
 
 // What `emulate` answers and writes for an input, without faults.
-pub fn told(
-    rt: &HostRuntime,
+pub fn told<R: AllocGlobal + Threads + Wait + Sync>(
+    rt: &R,
     words: &[&str],
     parts: &[Part],
 ) -> Result<(Status, Vec<u8>), Fail> {
@@ -173,8 +175,8 @@ fn words_are_accepted_or_usage(rt: HostRuntime) -> Result<(), Fail> {
 type Faults = (&'static [u64], usize, &'static [u64], Status, &'static [u8]);
 
 // What `emulate` answers and writes over reads of at most 188 bytes and writes of at most 10.
-fn told_with(
-    rt: &HostRuntime,
+fn told_with<R: AllocGlobal + Threads + Wait + Sync>(
+    rt: &R,
     parts: &[Part],
     reads: &[u64],
     capacity: usize,
@@ -308,8 +310,8 @@ fn a_write_fault_leaves_the_front(rt: HostRuntime) -> Result<(), Fail> {
 }
 
 // What `emulate` answers and writes for words that read nothing. The first read of the source would fail.
-fn told_unread(
-    rt: &HostRuntime,
+fn told_unread<R: AllocGlobal + Threads + Wait + Sync>(
+    rt: &R,
     words: &[&str],
     capacity: usize,
 ) -> Result<(Status, Vec<u8>), Fail> {
@@ -346,7 +348,7 @@ fn the_session_of_the_greatest_number_is_written(rt: HostRuntime) -> Result<(), 
 fn a_made_session_is_cut_off_where_the_sink_is_full(rt: HostRuntime) -> Result<(), Fail> {
     let (status, written) = told_unread(&rt, &["make", "7"], 12)?;
     assert!(rt; status == Status::WriteFault);
-    assert_eq!(rt; written.as_slice(), b"c0 open n0\nc");
+    assert_eq!(rt; written.as_slice(), b"c0 open n0\nc".as_slice());
     Ok(())
 }
 
