@@ -25,7 +25,7 @@ pub fn input_of(alloc: Global, parts: &[Part]) -> Result<Vec<u8>, Fail> {
     Ok(input)
 }
 
-fn words_of(alloc: Global, words: &[&str]) -> Result<Vec<String>, Fail> {
+pub fn words_of(alloc: Global, words: &[&str]) -> Result<Vec<String>, Fail> {
     let mut all = Vec::new(alloc);
     for word in words {
         all.push(String::from_str(alloc, word)?)?;

@@ -1,0 +1,635 @@
+// Runs by threads: what the order of their calls may be, clocks that go on, gates that hold one thread until another has come
+// to a step, and the session of a number.
+ghost use Rattle.std.specs.Prelude.{true};
+
+use crate::tests::{Part, input_of, words_of};
+use crate::{Status, emulate};
+use emu_io::{Clock, FixedClock, Gate, MemSink, MemSource, NoGate};
+use std::alloc::Global;
+use std::sync::Wait;
+use std::sync::atomic::AtomicU64;
+use std::sync::atomic::Ordering::SeqCst;
+use std::test::Fail;
+use std::thread::Threads;
+
+// How long one thread is held for another, in turns.
+const TURNS: u64 = 100_000_000;
+
+// What a report has room for.
+const ROOM: usize = 60_000_000;
+
+// What `emulate` answers and writes for an input, with this clock and this gate.
+fn ran<R: AllocGlobal + Threads + Wait + Sync, C: Clock + Sync, G: Gate + Sync>(
+    rt: &R,
+    words: &[&str],
+    input: Vec<u8>,
+    clock: &C,
+    gate: &G,
+) -> Result<(Status, String), Fail> {
+    let alloc = rt.alloc();
+    let words = words_of(alloc, words)?;
+    let mut source = MemSource::new(input, 65536, Vec::new(alloc));
+    let mut sink = MemSink::new(alloc, ROOM, 65536, Vec::new(alloc))?;
+    let status = emulate(rt, alloc, &words, &mut source, &mut sink, clock, gate);
+    Ok((status, String::from_utf8(sink.bytes().to_vec(alloc)?)?))
+}
+
+// A line of a node in a report.
+#[derive(Clone, Copy)]
+struct Told<'a> {
+    place: u64,
+    who: &'a str,
+    step: u64,
+    act: &'a str,
+    reply: &'a str,
+}
+
+// What a line `PLACE WHO STEP ACT = REPLY` tells.
+fn told_in(line: &str) -> Option<Told<'_>> {
+    let (call, reply) = line.split_once(" = ")?;
+    let (place, call) = call.split_once(" ")?;
+    let (who, call) = call.split_once(" ")?;
+    let (step, act) = call.split_once(" ")?;
+    Some(Told {
+        place: place.parse::<u64>().ok()?,
+        who,
+        step: step.parse::<u64>().ok()?,
+        act,
+        reply,
+    })
+}
+
+// The number behind a name in a line.
+fn number_in(line: &str, name: &str) -> Option<u64> {
+    let (_, behind) = line.split_once(name)?;
+    let digits = match behind.split_once(" ") {
+        Some((digits, _)) => digits,
+        None => behind,
+    };
+    digits.parse::<u64>().ok()
+}
+
+// The reply to a client's call of this step.
+fn reply_to<'a>(report: &'a str, who: &str, step: u64) -> Option<&'a str> {
+    for line in report.lines() {
+        if let Some(told) = told_in(line) {
+            if told.who == who && told.step == step {
+                return Some(told.reply);
+            }
+        }
+    }
+    None
+}
+
+// A script of one call, the clock's moment, and the two reports that may come.
+type Either = (&'static [Part], u64, &'static str, &'static str);
+
+static EITHER: [Either; 2] = [
+    (
+        &[(b"c0 open n0\nstream\n", 0, 0)],
+        0,
+        "dvbemu 1\n\
+        packets=0 skipped=0 rest=0\n\
+        client 0\n\
+        line 1 steps 0..1 done\n\
+        node 0\n\
+        0 c0 0 open = done drop=0..0 tap=keep\n\
+        1 feed 0 end = passed\n\
+        end\n",
+        "dvbemu 1\n\
+        packets=0 skipped=0 rest=0\n\
+        client 0\n\
+        line 1 steps 0..1 done\n\
+        node 0\n\
+        0 feed 0 end = passed\n\
+        1 c0 0 open = done drop=0..0 tap=keep\n\
+        end\n",
+    ),
+    (
+        &[(b"c0 poll n0\nstream\n", 0, 0)],
+        7,
+        "dvbemu 1\n\
+        packets=0 skipped=0 rest=0\n\
+        client 0\n\
+        line 1 steps 0..1 done\n\
+        node 0\n\
+        0 c0 0 poll at=7 = EBADF\n\
+        1 feed 0 end = passed\n\
+        end\n",
+        "dvbemu 1\n\
+        packets=0 skipped=0 rest=0\n\
+        client 0\n\
+        line 1 steps 0..1 done\n\
+        node 0\n\
+        0 feed 0 end = passed\n\
+        1 c0 0 poll at=7 = EBADF\n\
+        end\n",
+    ),
+];
+
+// That a run by threads ends, with its report: no clause says that a thread runs, or that it ends.
+#[test]
+fn the_end_passes_before_or_behind_a_call(rt: HostRuntime) -> Result<(), Fail> {
+    let alloc = rt.alloc();
+    for (case, (parts, moment, one, other)) in EITHER.iter().enumerate() {
+        let clock = FixedClock::new(*moment);
+        let input = input_of(alloc, parts)?;
+        let (status, report) = ran(&rt, &["run"], input, &clock, &NoGate::new())?;
+        assert!(rt; status == Status::Ok, "case {case}");
+        let report = report.as_str();
+        assert!(rt; report == *one || report == *other, "case {case}");
+    }
+    Ok(())
+}
+
+// A clock that gives how often it was asked before.
+#[derive(Drop)]
+struct CountingClock {
+    asked: AtomicU64,
+}
+
+impl Clock for CountingClock {
+    ghost may_give = { λ c n. true };
+
+    fn now(&self) -> u64 {
+        self.asked.fetch_add(1, SeqCst)
+    }
+}
+
+// That each moment is a reading of its own: the clauses allow a run that reads the clock once, and the read of that run
+// would not come too late.
+#[test]
+fn each_moment_is_a_reading_of_its_own(rt: HostRuntime) -> Result<(), Fail> {
+    let clock = CountingClock {
+        asked: AtomicU64::new(0),
+    };
+    let script: [Part; 1] = [(
+        b"c0 open n0\nc0 section n0 256 1 0\nc0 start n0\nc0 readw n0 1\nstream\n",
+        0,
+        0,
+    )];
+    let input = input_of(rt.alloc(), &script)?;
+    let (status, report) = ran(&rt, &["run"], input, &clock, &NoGate::new())?;
+    assert!(rt; status == Status::Ok);
+    let late = report.lines().find(|line| line.contains(" = timedout "));
+    let Some(line) = late else {
+        panic!(rt; "no read came too late");
+    };
+    let started = number_in(line, " started=");
+    assert!(rt; started.is_some() && number_in(line, " now=") > started);
+    assert!(rt; number_in(line, " timeout=") == Some(1));
+    Ok(())
+}
+
+// Caller `who` is held before its step `step` until caller `other` is at its step `there`.
+#[derive(Clone, Copy)]
+struct Hold {
+    who: u32,
+    step: u64,
+    other: u32,
+    there: u64,
+}
+
+// A gate that holds the feeder and two clients.
+#[derive(Drop)]
+struct HoldingGate {
+    holds: Vec<Hold>,
+    // One more than the step that each is at; 0 before its first.
+    come: [AtomicU64; 3],
+    // How many holds ended because the other had come.
+    kept: AtomicU64,
+}
+
+impl HoldingGate {
+    fn new(alloc: Global, holds: &[Hold]) -> Result<HoldingGate, Fail> {
+        Ok(HoldingGate {
+            holds: holds.to_vec(alloc)?,
+            come: [AtomicU64::new(0), AtomicU64::new(0), AtomicU64::new(0)],
+            kept: AtomicU64::new(0),
+        })
+    }
+
+    // Whether a caller is at this step or behind it.
+    fn has_come(&self, who: u32, step: u64) -> bool {
+        match self.come.get(who as usize) {
+            Some(word) => word.load(SeqCst) > step,
+            None => false,
+        }
+    }
+
+    fn keep(&self, hold: Hold) {
+        for _ in 0..TURNS {
+            if self.has_come(hold.other, hold.there) {
+                self.kept.fetch_add(1, SeqCst);
+                return;
+            }
+            std::thread::yield_now();
+        }
+    }
+
+    // Whether each hold was kept, and none ran out.
+    fn has_kept_all(&self) -> bool {
+        self.kept.load(SeqCst) == self.holds.len() as u64
+    }
+}
+
+impl Gate for HoldingGate {
+    fn at(&self, who: u32, step: u64) {
+        if let Some(word) = self.come.get(who as usize) {
+            word.store(step.saturating_add(1), SeqCst);
+        }
+        for hold in &self.holds {
+            if hold.who == who && hold.step == step {
+                self.keep(*hold);
+            }
+        }
+    }
+}
+
+// That two clients run beside each other and either may come first: the clauses allow a run that does one client after
+// another, and here the second comes before the first is done, or the other way round.
+#[test]
+fn the_client_that_comes_first_owns_the_node(rt: HostRuntime) -> Result<(), Fail> {
+    let alloc = rt.alloc();
+    // The client that is held, the one that it is held for, and the reply to the one that is held.
+    let cases = [
+        (2, 1, "c1", "c0", "busy owner=c0"),
+        (1, 2, "c0", "c1", "busy owner=c1"),
+    ];
+    for (who, other, held, first, busy) in cases {
+        let hold = Hold {
+            who,
+            step: 0,
+            other,
+            there: 1,
+        };
+        let gate = HoldingGate::new(alloc, &[hold])?;
+        let input = input_of(alloc, &[(b"c0 open n0\nc1 open n0\nstream\n", 0, 0)])?;
+        let (status, report) = ran(&rt, &["run"], input, &FixedClock::new(0), &gate)?;
+        assert!(rt; status == Status::Ok && gate.has_kept_all(), "{held} is held");
+        let done = reply_to(report.as_str(), first, 0);
+        assert!(rt; done == Some("done drop=0..0 tap=keep"), "{held} is held");
+        assert!(rt; reply_to(report.as_str(), held, 0) == Some(busy), "{held} is held");
+        assert!(rt; is_judged(alloc, report.as_str(), 0)?, "{held} is held");
+    }
+    Ok(())
+}
+
+// That the feeder and a client run beside each other: the read comes between two batches, which neither a run that passes the
+// stream first nor one that makes the client's calls first can have.
+#[test]
+fn a_read_comes_between_two_batches(rt: HostRuntime) -> Result<(), Fail> {
+    let alloc = rt.alloc();
+    let hold = |who, step, other, there| Hold {
+        who,
+        step,
+        other,
+        there,
+    };
+    let gate = HoldingGate::new(alloc, &[hold(0, 0, 1, 3), hold(1, 3, 0, 1), hold(0, 1, 1, 4)])?;
+    let parts: [Part; 3] = [
+        (
+            b"c0 open n0\n\
+            c0 pes n0 256 frontend tsdemux_tap 20 0\n\
+            c0 start n0\n\
+            c0 read n0 188\n\
+            stream\n",
+            0,
+            0,
+        ),
+        (b"\x47\x01\x00\x10", 184, 0),
+        (b"\x47\x01\x00\x11", 184, 0),
+    ];
+    let input = input_of(alloc, &parts)?;
+    let clock = FixedClock::new(0);
+    let (status, report) = ran(&rt, &["run", "--batch", "1"], input, &clock, &gate)?;
+    assert!(rt; status == Status::Ok && gate.has_kept_all());
+    let want = input_of(alloc, &[(b"data 47010010", 368, b'0')])?;
+    let reply = reply_to(report.as_str(), "c0", 3);
+    assert!(rt; reply.is_some_and(|reply| reply.as_bytes() == want.as_slice()));
+    assert!(rt; is_judged(alloc, report.as_str(), 2)?);
+    Ok(())
+}
+
+// What a judge has seen of a report.
+#[derive(Drop)]
+struct Judge {
+    // The packets of the stream.
+    stream: u64,
+    // On the node that is looked at: its entries, the packets that passed, its ends, and for the feeder and each client one
+    // more than its last step.
+    places: u64,
+    packets: u64,
+    ends: u64,
+    come: [u64; 9],
+    // Whether a node was begun.
+    begun: bool,
+    // The step behind each client's last call, by the lines of its commands.
+    calls: Vec<u64>,
+    // The clients' steps on all nodes, each with its client.
+    steps: Vec<u64>,
+}
+
+// A step with its client, as one number.
+fn stamped(client: usize, step: u64) -> u64 {
+    (client as u64).wrapping_mul(1 << 32).wrapping_add(step)
+}
+
+impl Judge {
+    fn new(alloc: Global, stream: u64) -> Judge {
+        Judge {
+            stream,
+            places: 0,
+            packets: 0,
+            ends: 0,
+            come: [0; 9],
+            begun: false,
+            calls: Vec::new(alloc),
+            steps: Vec::new(alloc),
+        }
+    }
+
+    // Whether the whole stream and one end have passed the node that was looked at, if one was.
+    fn is_node_whole(&self) -> bool {
+        !self.begun || (self.packets == self.stream && self.ends == 1)
+    }
+
+    fn begin_node(&mut self) {
+        self.begun = true;
+        self.places = 0;
+        self.packets = 0;
+        self.ends = 0;
+        self.come = [0; 9];
+    }
+
+    // Whether a caller's steps rise on the node.
+    fn takes_step(&mut self, caller: usize, step: u64) -> bool {
+        match self.come.get_mut(caller) {
+            Some(come) => {
+                let rises = *come <= step;
+                *come = step.saturating_add(1);
+                rises
+            }
+            None => false,
+        }
+    }
+
+    // Whether a call of the feeder is what comes next on the node: the packets behind those before, or the end behind all.
+    fn takes_turn(&mut self, act: &str) -> bool {
+        if act == "end" {
+            self.ends = self.ends.saturating_add(1);
+            return self.ends == 1 && self.packets == self.stream;
+        }
+        let first = self.packets;
+        let Some(count) = number_in(act, " count=") else {
+            return false;
+        };
+        self.packets = self.packets.saturating_add(count);
+        self.ends == 0 && number_in(act, " first=") == Some(first)
+    }
+
+    // Whether a line of a node may stand there.
+    fn takes_entry(&mut self, told: Told<'_>) -> Result<bool, Fail> {
+        let place = self.places;
+        self.places = self.places.saturating_add(1);
+        if told.place != place || told.reply.starts_with("overflow") {
+            return Ok(false);
+        }
+        if told.who == "feed" {
+            return Ok(self.takes_turn(told.act) && self.takes_step(0, told.step));
+        }
+        let Some(client) = number_in(told.who, "c") else {
+            return Ok(false);
+        };
+        let client = client as usize;
+        self.steps.push(stamped(client, told.step))?;
+        Ok(self.takes_step(client.saturating_add(1), told.step))
+    }
+
+    // Whether a command's line begins with the step where the last one ended.
+    fn takes_command(&mut self, line: &str) -> bool {
+        let Some((from, to)) = steps_in(line) else {
+            return false;
+        };
+        match self.calls.last_mut() {
+            Some(calls) => {
+                let follows = *calls == from && from <= to;
+                *calls = to;
+                follows
+            }
+            None => false,
+        }
+    }
+
+    // Whether a line of a report may stand there.
+    fn takes(&mut self, line: &str) -> Result<bool, Fail> {
+        if line.starts_with("client ") {
+            self.calls.push(0)?;
+            return Ok(true);
+        }
+        if line.starts_with("line ") {
+            return Ok(self.takes_command(line));
+        }
+        if line.starts_with("node ") || line == "end" {
+            let whole = self.is_node_whole();
+            self.begin_node();
+            return Ok(whole);
+        }
+        match told_in(line) {
+            Some(told) => self.takes_entry(told),
+            None => Ok(!self.begun),
+        }
+    }
+}
+
+// The steps A and B of a line `line L steps A..B done`.
+fn steps_in(line: &str) -> Option<(u64, u64)> {
+    let (_, behind) = line.split_once(" steps ")?;
+    let (from, behind) = behind.split_once("..")?;
+    let (to, _) = behind.split_once(" ")?;
+    Some((from.parse::<u64>().ok()?, to.parse::<u64>().ok()?))
+}
+
+// The steps below so many of each client, each with its client.
+fn all_steps(alloc: Global, calls: &[u64]) -> Result<Vec<u64>, Fail> {
+    let mut steps = Vec::new(alloc);
+    for (client, count) in calls.iter().enumerate() {
+        for step in 0..*count {
+            steps.push(stamped(client, step))?;
+        }
+    }
+    Ok(steps)
+}
+
+// Whether a report of a run over so many packets is in order: on each node the places are 0, 1, 2 and so on, the batches are
+// the stream with one end behind it, and each caller's steps rise; over all nodes each step of a client stands once; nothing
+// overflowed.
+fn is_judged(alloc: Global, report: &str, stream: u64) -> Result<bool, Fail> {
+    let mut judge = Judge::new(alloc, stream);
+    for line in report.lines() {
+        if !judge.takes(line)? {
+            return Ok(false);
+        }
+    }
+    judge.steps.sort()?;
+    let all = all_steps(alloc, &judge.calls)?;
+    Ok(report.ends_with("\nend\n") && judge.steps.as_slice() == all.as_slice())
+}
+
+// A clock that goes back by one each time that it is asked.
+#[derive(Drop)]
+struct BackwardsClock {
+    asked: AtomicU64,
+}
+
+impl Clock for BackwardsClock {
+    ghost may_give = { λ c n. true };
+
+    fn now(&self) -> u64 {
+        u64::MAX - self.asked.fetch_add(1, SeqCst)
+    }
+}
+
+const EIGHT: Part = (
+    b"c0 open n0\nc1 open n0\nc2 open n0\nc3 open n0\nc4 open n0\nc5 open n0\nc6 open n0\nc7 open n0\n\
+    c0 poll n0\nc1 poll n0\nc2 poll n0\nc3 poll n0\nc4 poll n0\nc5 poll n0\nc6 poll n0\nc7 poll n0\n\
+    c0 close n0\nc1 close n0\nc2 close n0\nc3 close n0\nc4 close n0\nc5 close n0\nc6 close n0\nc7 close n0\n\
+    stream\n",
+    0,
+    0,
+);
+
+// That eight clients get through one node's lock, each with all its calls, and that moments may fall: no clause says that a
+// run ends.
+#[test]
+fn eight_clients_share_a_node(rt: HostRuntime) -> Result<(), Fail> {
+    let alloc = rt.alloc();
+    for turn in 0..20 {
+        let clock = BackwardsClock {
+            asked: AtomicU64::new(0),
+        };
+        let input = input_of(alloc, &[EIGHT, (b"\x47\x01\x00\x10", 184, 0)])?;
+        let (status, report) = ran(&rt, &["run"], input, &clock, &NoGate::new())?;
+        assert!(rt; status == Status::Ok, "turn {turn}");
+        assert!(rt; is_judged(alloc, report.as_str(), 1)?, "turn {turn}");
+        assert!(rt; report.lines().filter(|line| line.ends_with(" done")).count() == 24, "turn {turn}");
+    }
+    Ok(())
+}
+
+// A gate that lets each caller wait for some turns, which the caller, its step and the gate's number choose.
+#[derive(Drop)]
+struct ShufflingGate {
+    number: u64,
+}
+
+impl Gate for ShufflingGate {
+    fn at(&self, who: u32, step: u64) {
+        let mixed = stamped(who as usize, step) ^ self.number;
+        let turns = mixed.wrapping_mul(0x9e37_79b9_7f4a_7c15) >> 54;
+        for _ in 0..turns {
+            std::thread::yield_now();
+        }
+    }
+}
+
+// The value of a hexadecimal digit in lower case.
+fn digit(letter: u8) -> Option<u8> {
+    match letter {
+        b'0'..=b'9' => Some(letter - b'0'),
+        b'a'..=b'f' => Some(letter - b'a' + 10),
+        _ => None,
+    }
+}
+
+// Appends the bytes of hexadecimal digits, two for each.
+fn put_bytes(bytes: &mut Vec<u8>, digits: &str) -> Result<bool, Fail> {
+    for pair in digits.as_bytes().chunks(2) {
+        let [high, low] = pair else {
+            return Ok(false);
+        };
+        match (digit(*high), digit(*low)) {
+            (Some(high), Some(low)) => bytes.push(high * 16 + low)?,
+            _ => return Ok(false),
+        }
+    }
+    Ok(true)
+}
+
+// How many packets had passed node 7 when it was started, and the bytes that were read of it.
+fn read_on_seven(alloc: Global, report: &str) -> Result<(u64, Vec<u8>), Fail> {
+    let (mut here, mut passed, mut first) = (false, 0u64, 0u64);
+    let mut bytes = Vec::new(alloc);
+    for line in report.lines() {
+        if line.starts_with("node ") {
+            here = line == "node 7";
+        }
+        let Some(told) = told_in(line) else { continue };
+        if !here {
+            continue;
+        }
+        if told.act.starts_with("start ") {
+            first = passed;
+        }
+        passed = passed.saturating_add(number_in(told.act, " count=").unwrap_or(0));
+        if let Some(digits) = told.reply.strip_prefix("data ") {
+            put_bytes(&mut bytes, digits)?;
+        }
+    }
+    Ok((first, bytes))
+}
+
+// The packets of the PIDs 0 and 512 of a stream, from this one on.
+fn tapped(alloc: Global, stream: &[u8], first: u64) -> Result<Vec<u8>, Fail> {
+    let mut bytes = Vec::new(alloc);
+    for packet in stream.chunks(188).skip(first as usize) {
+        if let [_, high, low, ..] = packet {
+            let pid = u16::from(*high & 0x1f) * 256 + u16::from(*low);
+            if pid == 0 || pid == 512 {
+                bytes.extend_from_slice(packet)?;
+            }
+        }
+    }
+    Ok(bytes)
+}
+
+// The script of a made session has 656 bytes.
+const SCRIPT: usize = 656;
+
+// Whether a run of the session of the number 7 is in order, and client 7 read the packets of its PIDs.
+fn runs_made<R: AllocGlobal + Threads + Wait + Sync, G: Gate + Sync>(
+    rt: &R,
+    gate: &G,
+) -> Result<bool, Fail> {
+    let alloc = rt.alloc();
+    let input = ts_make::session(alloc, 7)?;
+    let kept = input.as_slice().to_vec(alloc)?;
+    let clock = CountingClock {
+        asked: AtomicU64::new(0),
+    };
+    let (status, report) = ran(rt, &["run"], input, &clock, gate)?;
+    let (first, bytes) = read_on_seven(alloc, report.as_str())?;
+    let stream = kept.get(SCRIPT..).unwrap_or(&[]);
+    let whole = tapped(alloc, stream, first)?;
+    Ok(status == Status::Ok
+        && is_judged(alloc, report.as_str(), 65536)?
+        && bytes.as_slice() == whole.as_slice())
+}
+
+// That nine threads over 65,536 packets come to an end with all that was asked, in whatever order they run.
+#[test]
+fn a_made_session_runs(rt: HostRuntime) -> Result<(), Fail> {
+    for turn in 0..10 {
+        assert!(rt; runs_made(&rt, &NoGate::new())?, "turn {turn}");
+    }
+    Ok(())
+}
+
+// The same in an order that the gate makes another one.
+#[test]
+fn a_made_session_runs_in_a_shuffled_order(rt: HostRuntime) -> Result<(), Fail> {
+    for number in 0..3 {
+        assert!(rt; runs_made(&rt, &ShufflingGate { number })?, "number {number}");
+    }
+    Ok(())
+}
