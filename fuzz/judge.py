@@ -78,8 +78,10 @@ class Told(second.Run):
 def feeder(entries, packets, batch):
     """The batches of the feeder's entries: all packets, all batches but the last full, and then the end."""
     fed = [(step, act) for who, step, act, _ in entries if who == "feed"]
-    want([step for step, _ in fed] == list(range(len(fed))) and fed[-1][1] == "end", "the feeder's steps")
-    batches = [tuple(map(int, PASS.fullmatch(act).groups())) for _, act in fed[:-1]]
+    want(fed and [step for step, _ in fed] == list(range(len(fed))) and fed[-1][1] == "end", "the feeder's steps")
+    found = [PASS.fullmatch(act) for _, act in fed[:-1]]
+    want(all(found), "the feeder's calls")
+    batches = [tuple(map(int, match.groups())) for match in found]
     given = 0
     for place, (first, count, _) in enumerate(batches):
         last = place + 1 == len(batches)
