@@ -346,7 +346,7 @@ fn the_session_of_the_greatest_number_is_written(rt: HostRuntime) -> Result<(), 
 fn a_made_session_is_cut_off_where_the_sink_is_full(rt: HostRuntime) -> Result<(), Fail> {
     let (status, written) = told_unread(&rt, &["make", "7"], 12)?;
     assert!(rt; status == Status::WriteFault);
-    assert_eq!(rt; written.as_slice(), b"c0 open n0\nc");
+    assert_eq!(rt; written.as_slice(), b"c0 open n0\nc".as_slice());
     Ok(())
 }
 
