@@ -1,0 +1,5 @@
+mod Drawing
+mod Feeding
+mod FeederWork
+mod Logging
+mod Working

@@ -1,3 +1,5 @@
 pub mod Logged
 pub mod Feeding
 pub mod Worked
+pub mod Working
+pub mod FeederWork
