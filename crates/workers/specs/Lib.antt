@@ -3,3 +3,4 @@ pub mod Feeding
 pub mod Worked
 pub mod Working
 pub mod FeederWork
+pub mod Begun

@@ -3,9 +3,11 @@
 
 mod client_worker;
 mod ending;
+mod done;
 mod feeder_worker;
 mod moment;
 mod reply;
+mod threads;
 mod worked;
 
 pub use ending::histories_of_run;
