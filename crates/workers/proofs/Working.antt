@@ -25,10 +25,13 @@ use Rattle.client_core.specs.Core.{Core, IsAfter, next_of, coming}
 use Rattle.client_core.specs.Events.{next_event, progress, Progress}
 
 -- the next call of a core that stands after these replies is the one that the script asks for
-pub event_now : (lines : List Line) (client : ℕ) (rs : List Response) (c : Core) (e : Event) → IsAfter client lines rs c → next_of c ≡ Some e → next_event client lines rs ≡ Some e
-event_now lines client rs c e after is =
+pub next_is : (lines : List Line) (client : ℕ) (rs : List Response) (c : Core) → IsAfter client lines rs c → next_event client lines rs ≡ next_of c
+next_is lines client rs c after =
     let same : progress client lines rs ≡ coming c [] = ap (progress client lines) (sym (append-nil rs)) ∙ after.goes_on [] in
-    ap (λ (p : Progress). option_map (λ s. s.event) p.standing) same ∙ is
+    ap (λ (p : Progress). option_map (λ s. s.event) p.standing) same
+
+pub event_now : (lines : List Line) (client : ℕ) (rs : List Response) (c : Core) (e : Event) → IsAfter client lines rs c → next_of c ≡ Some e → next_event client lines rs ≡ Some e
+event_now lines client rs c e after is = next_is lines client rs c after ∙ is
 
 pub logs_one : (es : List ToldEntry) (e : ToldEntry) (now : List ToldEntry) → now ≡ es ++ e ∷ [] → map told_entry now ≡ map told_entry es ++ told_entry e ∷ []
 logs_one es e now is = ap (map told_entry) is ∙ map-append told_entry es (e ∷ [])

@@ -4,3 +4,4 @@ pub mod Worked
 pub mod Working
 pub mod FeederWork
 pub mod Begun
+pub mod Leaving

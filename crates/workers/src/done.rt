@@ -1,5 +1,6 @@
 // The clients' workers before their first calls, and what is left of them.
-ghost use Rattle.std.specs.Prelude.{◌≡◌, IfOk};
+ghost use Rattle.std.specs.Prelude.{◌≡◌, length, IfOk};
+ghost use Rattle.client_script.specs.Script.{clients_in};
 ghost use Rattle.workers.specs.Begun.{AreBegun, IsLeft};
 
 use crate::client_worker::ClientWorker;
@@ -23,11 +24,12 @@ pub fn workers_of(
     clients: Vec<Client>,
     script: &Script,
 ) -> Result<Vec<ClientWorker>, NoMemory>
+    requires { length clients.items ≡ clients_in script.now }
     ensures { IfOk result (λ workers. AreBegun script.now clients.items workers.items) }
 {
-    let mut workers = Vec::with_capacity(alloc, clients.len())?;
+    let mut workers = Vec::with_capacity(alloc, script.clients() as usize)?;
     let mut number = 0u32;
-    'clients: for client in clients {
+    'callers: for client in clients {
         let core = ClientCore::new(alloc, script, number)?;
         number += 1;
         workers.push(ClientWorker {
@@ -59,7 +61,10 @@ pub fn done_of(alloc: Global, workers: Vec<ClientWorker>) -> Result<Done, NoMemo
     let mut outcomes = Vec::new(alloc);
     'workers: for worker in workers {
         let ClientWorker {
-            client, core, log, ..
+            client,
+            core,
+            log,
+            ..
         } = worker;
         outcomes.push(copied(alloc, core.outcomes())?)?;
         clients.push(client)?;

@@ -2,13 +2,15 @@
 #![tactic(auto)]
 
 mod client_worker;
-mod ending;
 mod done;
+mod ending;
 mod feeder_worker;
 mod moment;
 mod reply;
+mod run;
 mod threads;
 mod worked;
 
 pub use ending::histories_of_run;
+pub use run::work;
 pub use worked::Worked;

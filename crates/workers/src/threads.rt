@@ -22,10 +22,10 @@ fn work_each<R: Threads + Wait + Sync, C: Clock + Sync, G: Gate + Sync>(
     adapter: &Adapter,
     clock: &C,
     gate: &G,
-    clients: &mut [ClientWorker],
+    clients: &mut Vec<ClientWorker>,
 )
-    requires fit { All (λ w. IsFit adapter.now w × (w.core.step ≤ 549755813888)) clients.old }
-    ensures { HaveCome (C.may_give clock.now) adapter.now clients.old clients.new }
+    requires fit { All (λ w. IsFit adapter.now w × (w.core.step ≤ 549755813888)) clients.old.items }
+    ensures { HaveCome (C.may_give clock.now) adapter.now clients.old.items clients.new.items }
 {
     let call = |_: usize, worker: &mut ClientWorker|
         requires { IsFit adapter.now worker.old × (worker.old.core.step ≤ 549755813888) }
@@ -41,7 +41,7 @@ pub fn work_all<R: Threads + Wait + Sync, S: Source + Send, C: Clock + Sync, G: 
     alloc: Global,
     adapter: &Adapter,
     feeder: &mut FeederWorker,
-    clients: &mut [ClientWorker],
+    clients: &mut Vec<ClientWorker>,
     source: &mut S,
     batch: u32,
     clock: &C,
@@ -52,9 +52,9 @@ pub fn work_all<R: Threads + Wait + Sync, S: Source + Send, C: Clock + Sync, G: 
     requires faults { feeder.old.puller.reading ≡ Going → S.faults source.old < 2 ^ 64 - 1 }
     requires feeder { IsFitFeeder adapter.now feeder.old }
     requires begun { HasPassed batch (C.may_give clock.now) (S.left source.old) (S.left source.old) (S.faults source.old) (S.faults source.old) feeder.old.puller feeder.old }
-    requires clients { All (λ w. IsFit adapter.now w × (w.core.step ≤ 549755813888)) clients.old }
+    requires clients { All (λ w. IsFit adapter.now w × (w.core.step ≤ 549755813888)) clients.old.items }
     ensures feeder { HasFedToEnd batch (C.may_give clock.now) (S.left source.old) (S.left source.new) (S.faults source.old) (S.faults source.new) feeder.old feeder.new }
-    ensures clients { HaveCome (C.may_give clock.now) adapter.now clients.old clients.new }
+    ensures clients { HaveCome (C.may_give clock.now) adapter.now clients.old.items clients.new.items }
 {
     let mut first = ||
         requires some { 1 ≤ batch }
@@ -65,8 +65,8 @@ pub fn work_all<R: Threads + Wait + Sync, S: Source + Send, C: Clock + Sync, G: 
         ensures { HasFedToEnd batch (C.may_give clock.entry.now) (S.left source.entry.now) (S.left source.exit.now) (S.faults source.entry.now) (S.faults source.exit.now) feeder.entry.now feeder.exit.now }
     { feeder.work(rt, adapter, source, batch, clock, gate) };
     let mut others = ||
-        requires { IsSync R.row × IsSync C.row × IsSync G.row × All (λ w. IsFit adapter.now w × (w.core.step ≤ 549755813888)) clients.now }
-        ensures { HaveCome (C.may_give clock.entry.now) adapter.entry.now clients.entry.now clients.exit.now }
+        requires { IsSync R.row × IsSync C.row × IsSync G.row × All (λ w. IsFit adapter.now w × (w.core.step ≤ 549755813888)) clients.now.items }
+        ensures { HaveCome (C.may_give clock.entry.now) adapter.entry.now clients.entry.now.items clients.exit.now.items }
     { work_each(rt, alloc, adapter, clock, gate, clients) };
     join_mut(rt, &mut first, &mut others);
 }
