@@ -1,7 +1,7 @@
 """What the scripts of this folder share: a stream, and the times that programs take over it."""
-import os
 import random
 import subprocess
+import sys
 import time
 
 # Of 16 packets ten are of PID 256, three of PID 257, and one each of the others, on average.
@@ -56,12 +56,22 @@ def least_times(ways, path, repeats):
     return least
 
 
+# Starts the words as a child of its own and prints the most memory, in KiB, that it held. The system counts what a process held
+# before it became the program as well, so what starts it must be small: this is run by an interpreter of its own.
+STARTER = """
+import os, sys
+child = os.fork()
+if child == 0:
+    os.dup2(os.open(os.devnull, os.O_WRONLY), 1)
+    os.execvp(sys.argv[1], sys.argv[1:])
+_, status, used = os.wait4(child, 0)
+print(used.ru_maxrss)
+sys.exit(status != 0)
+"""
+
+
 def peak_memory(words, path):
-    """The most bytes of memory that a run held, by the system's count."""
+    """The most bytes of memory that a run held; no less than what STARTER holds, which a run of `true` shows."""
     with open(path, "rb") as source:
-        child = subprocess.Popen(words, stdin=source, stdout=subprocess.DEVNULL)
-        _, status, used = os.wait4(child.pid, 0)
-    child.returncode = os.waitstatus_to_exitcode(status)
-    if child.returncode:
-        raise subprocess.CalledProcessError(child.returncode, words)
-    return used.ru_maxrss * 1024
+        told = subprocess.run([sys.executable, "-I", "-S", "-c", STARTER, *words], stdin=source, stdout=subprocess.PIPE, check=True)
+    return int(told.stdout) * 1024

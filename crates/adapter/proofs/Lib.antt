@@ -14,3 +14,4 @@ pub mod Growing
 pub mod Everybody
 pub mod Pairs
 pub mod TwoCallers
+pub mod Beside

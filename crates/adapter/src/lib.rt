@@ -16,8 +16,11 @@
 //! history has. After `gather` or `finish` each node has one legal history, with just the calls of the feeder and the
 //! clients, each at the place that was told, and it begins with what each of them had seen; `finish` tells the lengths.
 //!
-//! What is neither proved nor tested here: that a wait ends, fairness, time, in which order calls of two callers come, and
-//! that threads run beside each other.
+//! What is only tested: the feeder and two clients on threads of their own, each of whose replies is replayed by plain code
+//! in the order of the places; and that a batch comes to the dvr node behind all others.
+//!
+//! What is neither proved nor tested: that a wait ends, fairness, time, in which order calls of two callers come, and that
+//! threads do run beside each other.
 //!
 //! Limits: 8 clients; 2^44 calls of the feeder and 2^40 of each client. `new` takes memory, and so do the nodes for an Open
 //! or a SetSize; nothing else does. The adapter knows nothing of scripts and reports. It is this project's own design.
@@ -35,5 +38,9 @@ pub use adapter::{Adapter, Finished};
 pub use client::Client;
 pub use feeder::Feeder;
 
+#[cfg(test)]
+mod beside_tests;
+#[cfg(test)]
+mod replay_tests;
 #[cfg(test)]
 mod tests;

@@ -43,7 +43,7 @@ fn owner_in(reply: &Reply) -> u32 {
 }
 
 // The two clients of an adapter that has two.
-fn pair(adapter: &Adapter, feeder: &Feeder, mut clients: Vec<Client>) -> (Client, Client)
+pub(crate) fn pair(adapter: &Adapter, feeder: &Feeder, mut clients: Vec<Client>) -> (Client, Client)
     requires fresh { AreFreshCallers adapter.now 2 feeder.now clients.items }
     requires all { AreAllCallers adapter.now (clients.items ++ feeder.now ∷ []) }
     ensures { Fits adapter.now result.0.passes × Fits adapter.now result.1.passes × Fits adapter.now feeder.now.passes × (result.0.left ≡ 2 ^ 40) × (result.1.left ≡ 2 ^ 40) × (feeder.now.left ≡ 2 ^ 44) × AreAllCallers adapter.now (result.0 ∷ result.1 ∷ feeder.now ∷ []) }

@@ -1,9 +1,8 @@
 -- A number before the option of `selftest`, or behind it.
-use Rattle.std.proofs.Common.{◌≡◌, ◌≤◌, ◌<◌, ◌-◌, ◌+◌, ◌∙◌, refl, sym, ap, ℕ, suc, List, [], ◌∷◌, map, length, take, drop, Bool, true, false, Option, Some, None, slice_index_or, arith}
+use Rattle.std.proofs.Common.{◌≡◌, ◌≤◌, ◌<◌, ◌-◌, ◌∙◌, refl, sym, ap, ℕ, suc, List, [], ◌∷◌, map, length, take, drop, true, false, Option, Some, None, slice_index_or, arith}
 use Rattle.std.proofs.lemmas.List.{take_all}
-use Rattle.std.specs.Option.{is_some, option_or, option_and_then, option_map}
+use Rattle.std.specs.Option.{is_some}
 use Rattle.command_words.specs.declared.Command.{Command}
-use Rattle.command_words.specs.declared.Command.TheVariants.{SelfTest}
 use Rattle.command_words.specs.Meant.{batch_of, self_test_by, self_test_of, session_number}
 
 -- without a batch there is no command

@@ -1,18 +1,18 @@
 //! The words of the command line: which command they name.
 //!
-//! `steps` or `run` stands alone, or before the two words `--batch` and B, or before the one word `--batch=B`; `make` before a
-//! number N; `selftest` before N alone, or with the same option before or behind N. B is a number from 1 to 64 and N one below
-//! 2^64, in decimal digits, without sign and without a leading zero; without `--batch`, B is 64. A repeated option, the word
-//! `--`, `--help`, `-h` and all other words are refused.
+//! `steps` or `run` stands alone, or before the two words `--batch` and B, or before the one word `--batch=B`. `make` stands before
+//! a number N alone. `selftest` stands before N, alone or with `--batch` and B or `--batch=B` before or behind N. B is a number
+//! from 1 to 64 and N one from 0 to 18446744073709551615, in decimal digits, without sign and without a leading zero; without
+//! `--batch` B is 64. A repeated option, the word `--`, `--help`, `-h` and all other words are refused.
 //!
 //! What a contract sees: the words as lists of bytes. `meant` in specs/Meant.antt says which command they name, by plain
 //! cases, and knows nothing of a parser.
 //!
 //! What is proved: `read_words` answers what `meant` says, and a batch has 1 to 64 packets. Where memory is refused it says
-//! so, and takes no words for others. The first word is read here, and the one or two behind it by the crate `clap`: the
-//! proof walks over them by clap's own definitions of what it finds (`matches_of`) and of what it refuses (`fault_of`).
-//! Before clap sees them, the code refuses more than two words behind the first, and the word `--`, behind which clap takes
-//! no word for an option.
+//! so, and takes no words for others. The first word and N are read here, and the one or two words of the option by the crate
+//! `clap`: the proof walks over them by clap's own definitions of what it finds (`matches_of`) and of what it refuses
+//! (`fault_of`). Before clap sees them, the code refuses more than two words, and the word `--`, behind which clap takes no
+//! word for an option.
 //!
 //! What is only tested: that memory isn't refused where there is enough.
 //!

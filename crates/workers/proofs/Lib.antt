@@ -17,3 +17,11 @@ pub mod LogCalls
 pub mod Fitting
 pub mod Gaps
 pub mod Budgeting
+mod Beginning
+mod Drawing
+mod Feeding
+mod FeederWork
+mod Leaving
+mod Lists
+mod Logging
+mod Working

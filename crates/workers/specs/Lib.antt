@@ -2,3 +2,7 @@ pub mod Logged
 pub mod Feeding
 pub mod Worked
 pub mod Budget
+pub mod Working
+pub mod FeederWork
+pub mod Begun
+pub mod Leaving

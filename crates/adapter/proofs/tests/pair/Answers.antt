@@ -1,4 +1,4 @@
-use Rattle.std.proofs.Common.{rules, ◌≡◌, ◌++◌, ◌∙◌, ap}
+use Rattle.std.proofs.Common.{◌++◌, ◌∙◌, ap}
 use Rattle.std.specs.Option.{option_to_list}
 use Rattle.adapter.proofs.TwoCallers.{two_members, two_ready}
 use Rattle.adapter.proofs.tests.pair.Goals as goal

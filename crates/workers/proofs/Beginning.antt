@@ -1,0 +1,108 @@
+-- The workers before the first call.
+use Rattle.std.proofs.Common.{◌≡◌, ◌≢◌, inr, ℕ, Bool, ◌+◌, ◌<◌, ◌≤◌, ◌^◌, List, [], ◌∷◌, ◌++◌, length, map, Some, refl, ap, sym, ◌∙◌, subst, arith}
+use Rattle.std.specs.Prelude.{slice_get, option_map, All, IsTrue}
+use Rattle.std.specs.declared.option.Option.{Option}
+use Rattle.std.proofs.lemmas.Option.{slice_get-map}
+use Rattle.std.proofs.lemmas.List.Elements.{All-nil}
+use Rattle.atomic_table.specs.Seated.{TableId}
+use Rattle.node_lock.specs.declared.view.View.{View}
+use Rattle.dmx_calls.specs.History.{Entry}
+use Rattle.dmx_calls.specs.Calls.{told_entry}
+use Rattle.dmx_calls.specs.Log.{LogEntry}
+use Rattle.dmx_calls.specs.Response.{NoMemory}
+use Rattle.dmx_calls.specs.declared.histories.Fed.{Fed}
+use Rattle.dmx_calls.specs.declared.log.Entry.{Entry as ToldEntry}
+use Rattle.client_script.specs.declared.line.Line.{Line}
+use Rattle.client_core.specs.Core.{IsAfter}
+use Rattle.client_core.specs.IsRun.{replies}
+use Rattle.client_core.specs.WholeRun.{IsGiven}
+use Rattle.feed_pull.specs.Pulling.{Pulling}
+use Rattle.adapter.specs.Callers.{Caller, IsFreshCaller, AreFreshCallers, AreAllCallers}
+use Rattle.adapter.specs.Rows.{Fits}
+use Rattle.adapter.proofs.Lists.{at_place, place_below, at_before, at_last}
+use Rattle.trace_merge.specs.Merging.{AreOnNodes}
+use Rattle.workers.specs.declared.client_worker.ClientWorker.{ClientWorker}
+use Rattle.workers.specs.declared.feeder_worker.FeederWorker.{FeederWorker}
+use Rattle.workers.specs.Logged.{IsLogged, HasCalled}
+use Rattle.workers.specs.Working.{IsFit, IsWorking}
+use Rattle.workers.specs.Begun.{IsBegun, AreBegun}
+use Rattle.workers.specs.Feeding.{AreFullBatches, HasFed}
+use Rattle.workers.specs.FeederWork.{IsFitFeeder, HasPassed}
+use Rattle.workers.proofs.Drawing.{draws_none}
+
+module _ (locks : List TableId) (callers who left : ℕ) (c : Caller) (f : IsFreshCaller locks callers who left c) where
+  -- a pass that has made no call
+  pub fresh_pass : (i : ℕ) (p : TableId × View Entry) → slice_get c.passes i ≡ Some p → (p.1.number ≡ who) × (p.1.own ≡ [])
+  fresh_pass i p at =
+      let low = place_below c.passes i p at in let long = f.row.0 in let l = at_place locks i (omega arith) in
+      let e = f.row.1 i l.0 p l.1 at in (ap (λ (z : TableId × View Entry). z.1.number) e, ap (λ (z : TableId × View Entry). z.1.own) e)
+
+  logged_none : IsLogged c []
+  logged_none = record {
+    mine = λ node p at. (fresh_pass node p at).0 ∙ sym f.number;
+    steps = λ i e at. absurd (cc at);
+    tells = λ i e at. absurd (cc at);
+    rises = λ i j e g low at more same. absurd (cc at);
+    just = λ node p at. (fresh_pass node p at).1;
+  }
+
+  pub called_none : (lines : List Line) (client : ℕ) (may : ℕ → Bool) → who ≡ client + 1 → HasCalled lines client may c []
+  called_none lines client may is = record {
+    who = f.number ∙ is;
+    logged = logged_none;
+    events = λ i e at. absurd (cc at);
+    found = All-nil (λ (e : LogEntry). e.response ≢ NoMemory);
+    moments = All-nil (λ (e : LogEntry). IsGiven may e.act);
+    paid = λ i e g at next waits. absurd (cc at);
+  }
+
+  pub fed_none : (most : ℕ) (may : ℕ → Bool) → who ≡ 0 → HasFed most may [] [] c []
+  fed_none most may is = record {
+    who = f.number ∙ is;
+    tiles = refl;
+    moments = All-nil (λ (x : Fed). IsTrue (may x.now));
+    made = λ node p at. record { places = []; number = (fresh_pass node p at).0 ∙ is; own = (fresh_pass node p at).1; stand = tt; rise = λ i j a b low first second. absurd (cc first) };
+  }
+
+module _ (lines : List Line) (locks : List TableId) (n : ℕ) (feeder : Caller) (clients : List Caller) (fresh : AreFreshCallers locks n feeder clients) (all : AreAllCallers locks (clients ++ feeder ∷ [])) where
+  -- a client's worker before its first call
+  module _ (workers : List ClientWorker) (b : AreBegun lines clients workers) (c : ℕ) (w : ClientWorker) (at : slice_get workers c ≡ Some w) where
+    its_client : slice_get clients c ≡ Some w.client
+    its_client = ap (λ (l : List Caller). slice_get l c) (sym b.are) ∙ (slice_get-map (λ (v : ClientWorker). v.client) workers c ∙ ap (λ o. option_map (λ (v : ClientWorker). v.client) o) at)
+
+    pub begun_fit : IsFit locks w
+    begun_fit = let f = fresh.each c w.client its_client in let k = b.each c w at in record {
+      fits = all.fits c w.client (at_before clients (feeder ∷ []) c w.client its_client);
+      who = k.who ∙ sym f.number;
+      left = let size = ap length k.log in let calls = f.calls in omega (arith, size, calls);
+      steps = k.core.steps ∙ ap length (sym k.log);
+      nodes = subst AreOnNodes (sym k.log) (All-nil (λ (e : ToldEntry). e.node ≤ 32));
+    }
+
+    pub begun_works : (may : ℕ → Bool) → IsWorking lines c may w
+    begun_works may = let f = fresh.each c w.client its_client in let k = b.each c w at in record {
+      called = subst (λ (es : List ToldEntry). HasCalled lines c may w.client (map told_entry es)) (sym k.log) (called_none locks (n + 1) (c + 1) (2 ^ 40) w.client f lines c may refl);
+      after = subst (λ (es : List ToldEntry). IsAfter c lines (replies (map told_entry es)) w.core) (sym k.log) k.core;
+    }
+
+    pub begun_few : w.core.step ≤ 549755813888
+    begun_few = let k = b.each c w at in let none = k.core.steps in omega (arith, none)
+
+  -- the feeder before its first call
+  module _ (f : FeederWorker) (is : f.feeder ≡ feeder) (none : f.feeding.items ≡ []) (given : f.puller.given ≡ 0) where
+    pub begun_feeder : IsFitFeeder locks f
+    begun_feeder = record {
+      fits = subst (λ (x : Caller). Fits locks x.passes) (sym is) (all.fits (length clients) feeder (at_last clients feeder));
+      left = let size = ap length none in let calls = ap (λ (x : Caller). x.left) is ∙ fresh.first.calls in omega (arith, size, calls);
+      few = let size = ap length none in omega (arith, size);
+      given = omega (arith, given);
+    }
+
+    pub begun_passed : (most : ℕ) (may : ℕ → Bool) (x : Option (List ℕ)) (k : ℕ) → HasPassed most may x x k k f.puller f
+    begun_passed most may x k = record {
+      packets = [];
+      draws = draws_none x k f.puller;
+      given = given;
+      fed = subst (λ (y : Caller). HasFed most may [] [] y f.feeding.items) (sym is) (subst (HasFed most may [] [] feeder) (sym none) (fed_none locks (n + 1) 0 (2 ^ 44) feeder fresh.first most may refl));
+      full = λ ahead taken given pulls. (subst (AreFullBatches most) (sym none) tt, inr (subst (All (λ fed. fed.count ≡ most)) (sym none) (All-nil (λ (fed : Fed). fed.count ≡ most))));
+    }

@@ -1,0 +1,207 @@
+-- The workers at their end.
+use Rattle.std.proofs.Common.{◌≡◌, ◌≢◌, ◌⊎◌, inl, inr, ⊎_elim, ℕ, zero, suc, Bool, true, false, ◌+◌, ◌<◌, ◌≤◌, List, [], ◌∷◌, ◌++◌, length, map, Vec, Global, Option, Some, None, refl, ap, sym, ◌∙◌, subst, arith, length-append, append-nil, Result, Ok, Err, OnErr}
+use Rattle.std.specs.Prelude.{slice_get, slice_index_or, option_map, All, IsTrue, ◌↔◌}
+use Rattle.std.specs.Io.KnownBytes.{IsAtEnd}
+use Rattle.std.proofs.lemmas.Option.{slice_get-map, slice_get-get_or, get_or_from_slice_get}
+use Rattle.std.proofs.lemmas.List.{length-map}
+use Rattle.atomic_table.specs.Seated.{TableId}
+use Rattle.ts_packet.specs.Cut.{cut}
+use Rattle.dmx_calls.specs.Calls.{told_entry}
+use Rattle.dmx_calls.specs.Log.{LogEntry}
+use Rattle.dmx_calls.specs.declared.log.Entry.{Entry as ToldEntry}
+use Rattle.dmx_calls.specs.declared.histories.Fed.{Fed}
+use Rattle.dmx_calls.specs.declared.outcome.Outcome.{Outcome}
+use Rattle.client_script.specs.declared.line.Line.{Line}
+use Rattle.client_script.specs.Script.{clients_in}
+use Rattle.client_core.specs.Core.{IsAfter, next_of}
+use Rattle.client_core.specs.IsRun.{replies}
+use Rattle.client_core.specs.Budget.{IsTooLong}
+use Rattle.client_core.specs.declared.stop.Stop.{Stop}
+use Rattle.client_core.specs.declared.stop.Stop.TheVariants.{NoMemory, TooLong}
+use Rattle.feed_pull.specs.declared.fault.Reading.{Reading}
+use Rattle.feed_pull.specs.declared.fault.Reading.TheVariants.{Going, Ended, Failed, TooMany}
+use Rattle.feed_pull.specs.Pulling.{Pulling, Pulls, has_failed}
+use Rattle.feed_pull.specs.Steps.{Follows}
+use Rattle.feed_pull.specs.Streams.{Draws, OfStream}
+use Rattle.feed_pull.proofs.PullLemmas.{Pulls-done}
+use Rattle.adapter.specs.Callers.{Caller, IsSameCaller, AreFreshCallers, AreAllCallers}
+use Rattle.adapter.specs.Nodes.{ended}
+use Rattle.adapter.proofs.Everybody.{AreSameCallers, still_all}
+use Rattle.adapter.proofs.Lists.{at_place, place_below, at_end, at_last, at_before, one_value}
+use Rattle.trace_merge.specs.Merging.{AreOnNodes}
+use Rattle.workers.specs.declared.client_worker.ClientWorker.{ClientWorker}
+use Rattle.workers.specs.declared.feeder_worker.FeederWorker.{FeederWorker}
+use Rattle.workers.specs.declared.worked.Worked.{Worked}
+use Rattle.workers.specs.Working.{log_of, IsFit, IsWorking, HasCome}
+use Rattle.workers.specs.Begun.{AreBegun, HaveCome, AreOutcomesOf}
+use Rattle.workers.specs.Feeding.{HasFed, HasFedAll}
+use Rattle.workers.specs.FeederWork.{HasPassedAll, HasFedToEnd}
+use Rattle.workers.specs.Leaving.{GoesFirst, StopsBy, IsLeftBehind}
+use Rattle.workers.specs.Worked.{HasWorked, AreWorked}
+use Rattle.workers.proofs.Lists.{mapped}
+use Rattle.workers.proofs.Working.{next_is}
+use Rattle.workers.proofs.Beginning.{begun_fit, begun_works}
+
+-- ------ why a run stops
+
+pub stops_none : (feeder : Option Stop) → StopsBy feeder [] feeder
+stops_none feeder = record { none = λ is. (is, λ k w at. absurd (cc at)); memory = λ found. (found, λ k w at. absurd (cc at)); one = inl refl }
+
+pub stops_more : (feeder : Option Stop) (ws : List ClientWorker) (w : ClientWorker) (a b : Option Stop) → StopsBy feeder ws a → GoesFirst a w.stop b → StopsBy feeder (ws ++ w ∷ []) b
+stops_more feeder ws w a b s g = record {
+  none = λ is. let k = g.none is in let before = s.none k.0 in (before.0, λ i v at. ⊎_elim (λ old. before.1 i v old) (λ last. subst (λ (z : ClientWorker). z.stop ≡ None) last.1 k.1) (at_end ws w v i at));
+  memory = λ found. let k = g.memory found in let before = s.memory k.0 in (before.0, λ i v at. ⊎_elim (λ old. before.1 i v old) (λ last. subst (λ (z : ClientWorker). z.stop ≢ Some NoMemory) last.1 k.1) (at_end ws w v i at));
+  one = ⊎_elim (λ e. ⊎_elim (λ f. inl (e ∙ f)) (λ m. inr (m.0, m.1, at_before ws (w ∷ []) m.0 m.1 m.2, e ∙ m.3)) s.one) (λ e. inr (length ws, w, at_last ws w, e)) g.one;
+}
+
+pub no_stop : (stop : Option Stop) → stop ≡ None → stop ≢ Some NoMemory
+no_stop stop is e = absurd (cc (sym is ∙ e))
+
+-- ------ one client
+
+module _ (may : ℕ → Bool) (locks : List TableId) where
+  pub come_at : (old new : List ClientWorker) → HaveCome may locks old new → (k : ℕ) (w : ClientWorker) → slice_get new k ≡ Some w → (v : ClientWorker) × (slice_get old k ≡ Some v) × HasCome may locks v w
+  come_at old new h k w at =
+      let low = place_below new k w at in let long = h.long in let v = at_place old k (omega arith) in
+      let come = h.each k w (omega arith) in
+      (v.0, v.1, subst (λ (z : ClientWorker). HasCome may locks z w) (get_or_from_slice_get old k v.0 w v.1) (subst (λ (z : ClientWorker). HasCome may locks (slice_index_or old k w) z) (get_or_from_slice_get new k w w at) come))
+
+  worked_one : (lines : List Line) (c : ℕ) (v w : ClientWorker) (told : List Outcome) → IsWorking lines c may v → HasCome may locks v w → w.stop ≡ None → AreOutcomesOf w.core told → HasWorked lines c may w.client (log_of w) told
+  worked_one lines c v w told is come none outcomes =
+      let g = come.goes_on (no_stop w.stop none) lines c is in record {
+        called = g.called;
+        ends = next_is lines c (replies (log_of w)) w.core g.after ∙ come.ends none;
+        outcomes = outcomes c lines (replies (log_of w)) g.after;
+      }
+
+-- ------ the feeder
+
+-- all packets of the stream that was taken have passed
+pub worked_feeder : (most : ℕ) (may : ℕ → Bool) (x y : Option (List ℕ)) (l m : ℕ) (first : Pulling) (f : FeederWorker) (k : HasPassedAll most may x y l m first f) (ahead : List ℕ) → Pulls ahead [] [] first
+    → HasFedAll most may (cut (ahead ++ k.draws.carries.more)).packets f.feeder f.feeding.items
+worked_feeder most may x y l m first f k ahead pulls =
+    let more = k.draws.carries.more in
+    let now : Pulls ahead more k.packets f.puller = k.draws.carries.pulls ahead [] [] pulls in
+    record {
+      fed = subst (λ (ps : List (List ℕ)). HasFed most may ps (ended ∷ []) f.feeder f.feeding.items) (sym (Pulls-done ahead more k.packets f.puller now k.done).packets) k.fed;
+      full = k.full ahead [] [] pulls;
+    }
+
+-- ------ all of them
+
+books_are : (logs : List (Vec ToldEntry Global)) (ws : List ClientWorker) → map (λ (log : Vec ToldEntry Global). log.items) logs ≡ map (λ (w : ClientWorker). w.log.items) ws → map (λ (log : Vec ToldEntry Global). map told_entry log.items) logs ≡ map log_of ws
+books_are logs ws e = out logs ∙ (ap (map (map told_entry)) e ∙ back ws) where
+  out : (xs : List (Vec ToldEntry Global)) → map (λ (log : Vec ToldEntry Global). map told_entry log.items) xs ≡ map (map told_entry) (map (λ (log : Vec ToldEntry Global). log.items) xs)
+  out [] = refl
+  out (x ∷ xs) = ap (λ l. map told_entry x.items ∷ l) (out xs)
+
+  back : (ws : List ClientWorker) → map (map told_entry) (map (λ (w : ClientWorker). w.log.items) ws) ≡ map log_of ws
+  back [] = refl
+  back (w ∷ ws) = ap (λ l. log_of w ∷ l) (back ws)
+
+module _ (lines : List Line) (locks : List TableId) (n : ℕ) (feeder : Caller) (clients : List Caller) (fresh : AreFreshCallers locks n feeder clients) (all : AreAllCallers locks (clients ++ feeder ∷ []))
+    (may : ℕ → Bool) (old new : List ClientWorker) (b : AreBegun lines clients old) (h : HaveCome may locks old new) where
+  many : length new ≡ n
+  many = h.long ∙ (sym (length-map old (λ (v : ClientWorker). v.client)) ∙ (ap length b.are ∙ fresh.long))
+
+  module _ (f : FeederWorker) (w : Worked) (left : IsLeftBehind f new w) (none : (k : ℕ) (v : ClientWorker) → slice_get new k ≡ Some v → v.stop ≡ None) where
+    -- each client has done its commands
+    pub worked_each : (c : ℕ) (client : Caller) (log : List LogEntry) (told : List Outcome) → slice_get w.clients.items c ≡ Some client → slice_get (map (λ (log : Vec ToldEntry Global). map told_entry log.items) w.logs.items) c ≡ Some log → slice_get (map (λ (those : Vec Outcome Global). those.items) w.outcomes.items) c ≡ Some told
+        → HasWorked lines c may client log told
+    worked_each c client log told at_client at_log at_told =
+        let v = mapped (λ (x : ClientWorker). x.client) new c client (ap (λ (l : List Caller). slice_get l c) (sym left.clients) ∙ at_client) in
+        let u = come_at may locks old new h c v.0 v.1 in
+        let one : log_of v.0 ≡ log = one_value (map log_of new) c (log_of v.0) log (slice_get-map log_of new c ∙ ap (option_map log_of) v.1) (ap (λ (l : List (List LogEntry)). slice_get l c) (sym (books_are w.logs.items new left.logs)) ∙ at_log) in
+        subst (λ (x : Caller). HasWorked lines c may x log told) v.2 (subst (λ (x : List LogEntry). HasWorked lines c may v.0.client x told) one
+        (worked_one may locks lines c u.0 v.0 told (begun_works lines locks n feeder clients fresh all old b c u.0 u.1 may) u.2 (none c v.0 v.1) (left.each c v.0 told v.1 at_told)))
+
+    pub all_worked : (most : ℕ) (stream : List (List ℕ)) → n ≡ clients_in lines → HasFedAll most may stream f.feeder f.feeding.items
+        → AreWorked lines most may stream w.feeder w.feeding.items w.clients.items (map (λ (log : Vec ToldEntry Global). map told_entry log.items) w.logs.items) (map (λ (those : Vec Outcome Global). those.items) w.outcomes.items)
+    all_worked most stream is fed = record {
+      fed = subst (λ (es : Vec Fed Global). HasFedAll most may stream w.feeder es.items) (sym left.feeding) (subst (λ (x : Caller). HasFedAll most may stream x f.feeding.items) (sym left.feeder) fed);
+      clients = ap length left.clients ∙ (length-map new (λ (v : ClientWorker). v.client) ∙ (many ∙ is));
+      logs = ap length (books_are w.logs.items new left.logs) ∙ (length-map new log_of ∙ (many ∙ is));
+      outcomes = length-map w.outcomes.items (λ (those : Vec Outcome Global). those.items) ∙ (left.outcomes ∙ (many ∙ is));
+      each = worked_each;
+    }
+
+    -- they are the same callers
+    pub all_same : IsSameCaller feeder f.feeder → AreAllCallers locks (w.clients.items ++ w.feeder ∷ [])
+    all_same same = still_all locks (clients ++ feeder ∷ []) (w.clients.items ++ w.feeder ∷ []) all (size, each) where
+      count : length w.clients.items ≡ length clients
+      count = ap length left.clients ∙ (length-map new (λ (v : ClientWorker). v.client) ∙ (many ∙ sym fresh.long))
+
+      size : length (w.clients.items ++ w.feeder ∷ []) ≡ length (clients ++ feeder ∷ [])
+      size = length-append w.clients.items (w.feeder ∷ []) ∙ (ap (λ (k : ℕ). k + 1) count ∙ sym (length-append clients (feeder ∷ [])))
+
+      client_same : (k : ℕ) (c d : Caller) → slice_get clients k ≡ Some c → slice_get w.clients.items k ≡ Some d → IsSameCaller c d
+      client_same k c d at now =
+          let v = mapped (λ (x : ClientWorker). x.client) new k d (ap (λ (l : List Caller). slice_get l k) (sym left.clients) ∙ now) in
+          let u = come_at may locks old new h k v.0 v.1 in
+          let one : u.0.client ≡ c = one_value clients k u.0.client c (ap (λ (l : List Caller). slice_get l k) (sym b.are) ∙ (slice_get-map (λ (x : ClientWorker). x.client) old k ∙ ap (option_map (λ (x : ClientWorker). x.client)) u.1)) at in
+          subst (λ (x : Caller). IsSameCaller x d) one (subst (IsSameCaller u.0.client) v.2 u.2.same)
+
+      each : (k : ℕ) (c d : Caller) → slice_get (clients ++ feeder ∷ []) k ≡ Some c → slice_get (w.clients.items ++ w.feeder ∷ []) k ≡ Some d → IsSameCaller c d
+      each k c d at now = ⊎_elim
+          (λ before. ⊎_elim (λ after. client_same k c d before after) (λ last. let low = place_below clients k c before in let e = last.0 in absurd (omega (arith, count))) (at_end w.clients.items w.feeder d k now))
+          (λ here. ⊎_elim (λ after. let low = place_below w.clients.items k d after in let e = here.0 in absurd (omega (arith, count)))
+          (λ last. subst (λ (x : Caller). IsSameCaller x d) here.1 (subst (IsSameCaller feeder) (sym left.feeder ∙ last.1) same)) (at_end w.clients.items w.feeder d k now))
+          (at_end clients feeder c k at)
+
+    -- each entry is on a node
+    pub all_on_nodes : All (λ (log : Vec ToldEntry Global). AreOnNodes log.items) w.logs.items
+    all_on_nodes k d low =
+        let x = slice_index_or w.logs.items k d in
+        let at : slice_get w.logs.items k ≡ Some x = slice_get-get_or w.logs.items k d low in
+        let v = mapped (λ (z : ClientWorker). z.log.items) new k x.items (ap (λ (l : List (List ToldEntry)). slice_get l k) (sym left.logs) ∙ (slice_get-map (λ (log : Vec ToldEntry Global). log.items) w.logs.items k ∙ ap (option_map (λ (log : Vec ToldEntry Global). log.items)) at)) in
+        let u = come_at may locks old new h k v.0 v.1 in
+        subst AreOnNodes v.2 (u.2.fit (no_stop v.0.stop (none k v.0 v.1))).nodes
+
+-- ------ the source
+
+failed_by : (r : Reading) → has_failed r ≡ true → r ≡ Failed
+failed_by Going is = absurd (cc)
+failed_by Ended is = absurd (cc)
+failed_by Failed is = refl
+failed_by TooMany is = absurd (cc)
+
+ended_by : (r : Reading) → r ≢ Going → r ≢ TooMany → has_failed r ≡ false → r ≡ Ended
+ended_by Going stopped few is = absurd (stopped refl)
+ended_by Ended stopped few is = refl
+ended_by Failed stopped few is = absurd (cc)
+ended_by TooMany stopped few is = absurd (few refl)
+
+-- the source failed just where its count rose
+pub rose_by : (b : Bool) (old new : Reading) (x y : Option (List ℕ)) (l m : ℕ) → Follows old new x y l m → old ≡ Going → b ≡ has_failed new → IsTrue b ↔ (l < m)
+rose_by b old new x y l m f going is = (
+  λ t. f.fails going (failed_by new (sym is ∙ t)),
+  λ lt. is ∙ ap has_failed (f.rose lt),
+)
+
+-- else it has nothing left
+pub end_by : (b : Bool) (old new : Reading) (x y : Option (List ℕ)) (l m : ℕ) → Follows old new x y l m → old ≡ Going → b ≡ has_failed new → new ≢ Going → new ≢ TooMany → b ≡ false → IsAtEnd y
+end_by b old new x y l m f going is stopped few unfailed = f.ends going (ended_by new stopped few (sym is ∙ unfailed))
+
+-- so many reads were made
+pub reads_by : (lines : List Line) (x y : Option (List ℕ)) (l n turns : ℕ) (old new : Pulling) (packets : List (List ℕ)) → Draws x y l n old new packets
+    → turns ≡ 4294967296 → 4294967296 ≤ new.start + new.taken → OfStream x y old (IsTooLong lines old.start turns)
+reads_by lines x y l n turns old new packets draws is many = (
+  draws.carries.more,
+  draws.carries.consumes,
+  λ ahead pulls.
+      let p : Pulls ahead ([] ++ draws.carries.more) ([] ++ packets) new = draws.carries.pulls ahead [] [] pulls in
+      inl (is, omega (arith, many, draws.start, p.size)),
+)
+
+pub on_err : {T E : Type 0} (r : Result T E) (P : Type 0) → P → OnErr r P
+on_err (Ok x) P p = tt
+on_err (Err e) P p = p
+
+-- the feeder has made too many reads, or a client too many calls
+pub one_of_both : (may : ℕ → Bool) (locks : List TableId) (old new : List ClientWorker) → HaveCome may locks old new → (feeder stop : Option Stop) (turns : ℕ) → StopsBy feeder new stop → stop ≡ Some (TooLong turns)
+    → (feeder ≡ Some (TooLong turns)) ⊎ ((turns ≡ 549755813888) × ((k : ℕ) × (w : ClientWorker) × (slice_get new k ≡ Some w) × (w.core.step ≡ 549755813888)))
+one_of_both may locks old new h feeder stop turns s is = ⊎_elim (λ first. inl (sym first ∙ is))
+    (λ one. let u = come_at may locks old new h one.0 one.1 one.2 in let k = u.2.too_long turns (sym one.3 ∙ is) in inr (k.0, (one.0, one.1, one.2, k.1))) s.one
+
+pub feeders_stop : (may : ℕ → Bool) (locks : List TableId) (old new : List ClientWorker) → HaveCome may locks old new → (feeder stop : Option Stop) (turns : ℕ) → StopsBy feeder new stop → stop ≡ Some (TooLong turns) → turns ≢ 549755813888 → feeder ≡ Some (TooLong turns)
+feeders_stop may locks old new h feeder stop turns s is other = ⊎_elim (λ first. first) (λ many. absurd (other many.0)) (one_of_both may locks old new h feeder stop turns s is)

@@ -1,0 +1,61 @@
+-- The steps of a client at work.
+use Rattle.std.proofs.Common.{◌≡◌, ◌+◌, ℕ, List, [], ◌∷◌, ◌++◌, length, map, Option, Some, refl, ap, sym, ◌∙◌, subst, arith}
+use Rattle.std.specs.Prelude.{option_map, slice_get}
+use Rattle.std.proofs.lemmas.Option.{slice_get-map}
+use Rattle.atomic_table.specs.Seated.{TableId}
+use Rattle.node_lock.specs.declared.view.View.{View}
+use Rattle.node_lock.specs.Passes.{IsSamePass}
+use Rattle.dmx_calls.specs.History.{Entry}
+use Rattle.dmx_calls.specs.Entries.{caller_of}
+use Rattle.adapter.specs.Callers.{Caller, IsSameCaller}
+use Rattle.adapter.specs.Rows.{Fits, OneLooks}
+use Rattle.adapter.proofs.Everybody.{same_trans}
+use Rattle.adapter.proofs.Lists.{one_value}
+use Rattle.workers.specs.declared.client_worker.ClientWorker.{ClientWorker}
+use Rattle.workers.specs.Working.{log_of, HasLooked, IsFit}
+use Rattle.workers.proofs.Logging.{called_looked}
+use Rattle.std.proofs.lemmas.List.{map-append, append-nil}
+use Rattle.dmx_calls.specs.Calls.{told_entry}
+use Rattle.dmx_calls.specs.declared.log.Entry.{Entry as ToldEntry}
+use Rattle.dmx_calls.specs.Log.{LogEntry}
+use Rattle.dmx_calls.specs.Response.{Response}
+use Rattle.client_script.specs.declared.line.Line.{Line}
+use Rattle.client_core.specs.declared.event.Event.{Event}
+use Rattle.client_core.specs.Core.{Core, IsAfter, next_of, coming}
+use Rattle.client_core.specs.Events.{next_event, progress, Progress}
+
+-- the next call of a core that stands after these replies is the one that the script asks for
+pub next_is : (lines : List Line) (client : ℕ) (rs : List Response) (c : Core) → IsAfter client lines rs c → next_event client lines rs ≡ next_of c
+next_is lines client rs c after =
+    let same : progress client lines rs ≡ coming c [] = ap (progress client lines) (sym (append-nil rs)) ∙ after.goes_on [] in
+    ap (λ (p : Progress). option_map (λ s. s.event) p.standing) same
+
+pub event_now : (lines : List Line) (client : ℕ) (rs : List Response) (c : Core) (e : Event) → IsAfter client lines rs c → next_of c ≡ Some e → next_event client lines rs ≡ Some e
+event_now lines client rs c e after is = next_is lines client rs c after ∙ is
+
+pub logs_one : (es : List ToldEntry) (e : ToldEntry) (now : List ToldEntry) → now ≡ es ++ e ∷ [] → map told_entry now ≡ map told_entry es ++ told_entry e ∷ []
+logs_one es e now is = ap (map told_entry) is ∙ map-append told_entry es (e ∷ [])
+
+pub same_self : (c : Caller) → IsSameCaller c c
+same_self c = (refl, (refl, λ i p q a b. subst (λ (z : TableId × View Entry). IsSamePass p z) (one_value c.passes i p q a b) (refl, refl, refl, refl)))
+
+-- ------ looks
+
+pub looked_none : (locks : List TableId) (w : ClientWorker) → HasLooked locks w w
+looked_none locks w = record { same = same_self w.client; fit = λ f. f; core = refl; log = refl; goes_on = λ may lines client h. h }
+
+-- one look more
+pub looked_on : (locks : List TableId) (v w : ClientWorker) (d : Caller) (S : List Entry → Type 0) (node len : ℕ) → HasLooked locks v w → OneLooks caller_of S node len w.client.passes d.passes → d.left ≡ w.client.left → IsSameCaller w.client d → Fits locks d.passes
+    → HasLooked locks v (record w { client = d })
+looked_on locks v w d S node len h o left same fits = record {
+  same = same_trans v.client w.client d h.same same;
+  fit = λ f. let k = h.fit f in record { fits = fits; who = k.who ∙ sym same.0; left = let now = k.left in omega arith; steps = k.steps; nodes = k.nodes };
+  core = h.core;
+  log = h.log;
+  goes_on = λ may lines client is. let k = h.goes_on may lines client is in
+      record { called = called_looked w.client d S node len o same.0 lines client may (log_of w) k.called; after = k.after };
+}
+
+-- the last of a list
+pub last_of : (xs : List ToldEntry) (i : ℕ) (e : LogEntry) (x : ToldEntry) → slice_get (map told_entry xs) i ≡ Some e → i + 1 ≡ length xs → slice_get xs i ≡ Some x → e ≡ told_entry x
+last_of xs i e x at long is = let same : Some e ≡ Some (told_entry x) = sym at ∙ (slice_get-map told_entry xs i ∙ ap (option_map told_entry) is) in cc same

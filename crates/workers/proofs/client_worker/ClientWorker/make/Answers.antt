@@ -1,0 +1,49 @@
+use Rattle.std.proofs.Common.{rules, ◌+◌, Option, ◌≡◌, ℕ, List, [], ◌∷◌, ◌++◌, length, map, subst, sym, ap, ◌∙◌, refl}
+use Rattle.std.proofs.lemmas.List.{map-append, length-map}
+use Rattle.dmx_calls.specs.Calls.{told_entry, told_act, response_of, invocation_of}
+use Rattle.dmx_calls.specs.Entries.{told}
+use Rattle.dmx_calls.specs.Log.{LogEntry, Act, act_of}
+use Rattle.dmx_calls.specs.Response.{Response}
+use Rattle.dmx_calls.specs.declared.log.Entry.{Entry as ToldEntry}
+use Rattle.client_core.specs.declared.event.Event.{Event}
+use Rattle.client_core.specs.Commands.{call_of as call_at}
+use Rattle.client_core.specs.Core.{IsAfter}
+use Rattle.client_core.specs.Events.{next_event}
+use Rattle.client_core.specs.IsRun.{IsEvent, replies}
+use Rattle.client_core.specs.WholeRun.{IsGiven}
+use Rattle.adapter.specs.Nodes.{IsLegalAt}
+use Rattle.workers.specs.Working.{log_of}
+use Rattle.workers.proofs.Logging.{called_more, past}
+use Rattle.workers.proofs.Working.{event_now, logs_one}
+use Rattle.workers.proofs.client_worker.ClientWorker.make.Goals as goal
+
+pub returns-clause-works : goal.returns-clause-works
+returns-clause-works g c may lines client given turn works =
+    let w = c.args.self.now in let k = w.client in let d = c.call-place.new.self in
+    let event = c.args.event in let node = event.node in
+    let e = c.call-place.ensures in let place = c.call-place.result.0 in let answer = c.call-place.result.1 in
+    let call = c.in_ok-call.call in
+    let entry : ToldEntry = record { node = node; place = place; step = event.step; who = w.who; act = c.of-act.result; reply = c.in_ok-fitted.field-0 } in
+    let response : response_of c.in_ok-fitted.field-0 ≡ response_of answer.reply = search rules in
+    let items : c.push_reserved.new.self.items ≡ w.log.items ++ entry ∷ [] = search rules in
+    let logs = logs_one w.log.items entry c.push_reserved.new.self.items items in
+    let told_act_is = c.of-act.ensures in
+    let is_next = event_now lines client (replies (log_of w)) w.core event works.after c.requires.next in
+    let after : IsAfter client lines (replies (log_of w) ++ response_of c.in_ok-reply.reply ∷ []) c.take.new.self = c.take.ensures.after client lines (replies (log_of w)) works.after in
+    let act_is : told_act c.of-act.result ≡ act_of (call_at event.want c.args.now) = told_act_is ∙ ap act_of c.in_ok-call.ensures.call in
+    let kept : response_of c.in_ok-fitted.field-0 ≡ response_of c.in_ok-reply.reply = c.in_ok-fitted.ensures in
+    let one : replies (log_of w ++ told_entry entry ∷ []) ≡ replies (log_of w) ++ response_of c.in_ok-reply.reply ∷ [] =
+    map-append (λ (x : LogEntry). x.response) (log_of w) (told_entry entry ∷ []) ∙ ap (λ r. replies (log_of w) ++ r ∷ []) kept in
+    record {
+      called = rw logs (called_more k d (IsLegalAt node) node place (told k.who call answer) e.entry e.same.0 lines client may (log_of w) (told_entry entry)
+          works.called refl refl
+          (c.requires.step ∙ (c.requires.fit.steps ∙ sym (length-map w.log.items told_entry)))
+          c.requires.fit.who
+          record { who = c.requires.fit.who; act = told_act_is; response = response }
+          (subst (λ (o : Option Event). IsEvent o (told_entry entry)) (sym is_next) (refl, (c.args.now, act_is)))
+          (λ none. c.in_ok-reply.ensures.some (sym kept ∙ none))
+          (subst (IsGiven may) (sym act_is) given)
+          (λ waits last i at long. past k d (IsLegalAt node) node place (told k.who call answer) e.entry e.same.0 (last.place + 1)
+          (turn waits last i e.entry.first at (long ∙ length-map w.log.items told_entry) e.entry.was)));
+      after = rw (logs, one) after;
+    }

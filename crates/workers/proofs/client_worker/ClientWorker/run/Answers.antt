@@ -1,0 +1,21 @@
+use Rattle.std.proofs.Common.{rules, ◌≡◌, ◌+◌, ◌≤◌, ◌<◌, arith}
+use Rattle.adapter.proofs.Everybody.{same_trans}
+use Rattle.workers.proofs.client_worker.ClientWorker.run.Goals as goal
+
+pub calls-preserved : goal.calls-preserved
+calls-preserved g c =
+    let i = c.calls.invariant in
+    let waited = same_trans c.args.self.now.client c.calls.self.client c.wait.new.self.client i.same c.wait.ensures.looked.same in
+    let may = g.C.Clock.may_give c.args.clock.now in
+    record {
+      same = same_trans c.args.self.now.client c.wait.new.self.client c.make.new.self.client waited c.make.ensures.same;
+      fit = c.in_ok-make.ensures.fit;
+      few = search rules;
+      goes_on = λ lines client works. let k = i.goes_on lines client works in
+          c.in_ok-make.ensures.works may lines client c.moment_of-now.ensures (c.wait.ensures.may may lines client k) (c.wait.ensures.looked.goes_on may lines client k);
+    }
+
+pub returns-in_err-make-clause-same : goal.returns-in_err-make-clause-same
+returns-in_err-make-clause-same g c =
+    same_trans c.args.self.now.client c.wait.new.self.client c.make.new.self.client
+    (same_trans c.args.self.now.client c.calls.self.client c.wait.new.self.client c.calls.invariant.same c.wait.ensures.looked.same) c.make.ensures.same

@@ -1,0 +1,15 @@
+use Rattle.std.proofs.Common.{◌≡◌, ◌≤◌, ◌-◌, ℕ}
+use Rattle.adapter.specs.Callers.{IsSameCaller}
+use Rattle.workers.specs.Working.{IsFit, GoesOn}
+use Rattle.workers.proofs.client_worker.ClientWorker.run.Given as goal
+
+abbrev pub invariant-calls : goal.invariant-calls
+invariant-calls g l = record {
+  same : IsSameCaller l.fn.self.client l.self.client;
+  fit : IsFit l.adapter l.self;
+  few : l.self.core.step ≤ 549755813888;
+  goes_on : GoesOn (g.C.Clock.may_give l.clock) l.fn.self l.self;
+}
+
+abbrev pub decreases-calls : goal.decreases-calls
+decreases-calls g l = 549755813888 - l.self.core.step

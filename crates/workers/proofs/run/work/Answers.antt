@@ -1,0 +1,94 @@
+use Rattle.std.proofs.Common.{rules, ◌≡◌, ◌≢◌, ◌⊎◌, inl, inr, ⊎_elim, ℕ, ◌+◌, ◌<◌, ◌≤◌, List, [], ◌∷◌, ◌++◌, length, None, Some, refl, sym, ap, ◌∙◌, subst, arith}
+use Rattle.std.specs.Prelude.{slice_index_or, slice_get}
+use Rattle.std.proofs.lemmas.Option.{slice_get-get_or}
+use Rattle.client_core.specs.declared.stop.Stop.TheVariants.{TooLong}
+use Rattle.workers.specs.declared.client_worker.ClientWorker.{ClientWorker}
+use Rattle.workers.specs.Begun.{AreBegun, HaveCome}
+use Rattle.workers.specs.Leaving.{IsLeftBehind, StopsBy}
+use Rattle.workers.proofs.Drawing.{draws_none}
+use Rattle.workers.proofs.Beginning.{begun_fit, begun_few, begun_feeder, begun_passed}
+use Rattle.workers.proofs.Leaving.{all_worked, all_same, all_on_nodes, worked_feeder, reads_by, no_stop, feeders_stop, one_of_both, on_err}
+use Rattle.workers.proofs.run.work.Goals as goal
+
+pub workers_of-requires : goal.workers_of-requires
+workers_of-requires g c = c.requires.fresh.long
+
+pub returns-in_err-workers-clause-draws : goal.returns-in_err-workers-clause-draws
+returns-in_err-workers-clause-draws g c = on_err c.from_residual.result _ ([], (c.args.puller, draws_none _ _ c.args.puller))
+
+pub work_all-requires-clause-feeder : goal.work_all-requires-clause-feeder
+work_all-requires-clause-feeder g c κs within =
+    let r = c.requires in
+    begun_feeder c.args.script.now c.args.adapter.now _ c.args.feeder c.args.clients.items r.fresh r.all
+    (record { feeder = c.args.feeder; puller = c.args.puller; feeding = c.new.result; stop = None }) refl c.new.ensures.items r.given
+
+pub work_all-requires-clause-begun : goal.work_all-requires-clause-begun
+work_all-requires-clause-begun g c κs within =
+    let r = c.requires in
+    begun_passed c.args.script.now c.args.adapter.now _ c.args.feeder c.args.clients.items r.fresh r.all
+    (record { feeder = c.args.feeder; puller = c.args.puller; feeding = c.new.result; stop = None }) refl c.new.ensures.items r.given
+    c.args.batch (g.C.Clock.may_give c.args.clock.now) _ _
+
+pub work_all-requires-clause-clients : goal.work_all-requires-clause-clients
+work_all-requires-clause-clients g c κs within k d low =
+    let r = c.requires in let ws = c.in_ok-workers.workers.items in
+    let b = c.in_ok-workers.ensures in
+    let at = slice_get-get_or ws k d low in (
+      begun_fit c.args.script.now c.args.adapter.now _ c.args.feeder c.args.clients.items r.fresh r.all ws b k (slice_index_or ws k d) at,
+      begun_few c.args.script.now c.args.adapter.now _ c.args.feeder c.args.clients.items r.fresh r.all ws b k (slice_index_or ws k d) at,
+    )
+
+pub returns-in-Some-clause-too_long : goal.returns-in-Some-clause-too_long
+returns-in-Some-clause-too_long g c turns is other =
+    let f = c.work_all.ensures.feeder in
+    let stop : c.stop_of.result ≡ Some (TooLong turns) = c.in-Some.is ∙ ap Some cc in
+    let s : StopsBy c.work_all.new.feeder.stop c.work_all.new.clients.items c.stop_of.result = rw (← c.deref.ensures.value) c.stop_of.ensures in
+    let k = f.too_long turns (feeders_stop _ _ c.in_ok-workers.workers.items c.work_all.new.clients.items c.work_all.ensures.clients c.work_all.new.feeder.stop c.stop_of.result turns s stop other) in
+    reads_by c.args.script.now _ _ _ _ turns c.args.puller c.work_all.new.feeder.puller f.draws.0 f.draws.1 k.0 k.1
+
+pub returns-in-Some-clause-too_many_calls : goal.returns-in-Some-clause-too_many_calls
+returns-in-Some-clause-too_many_calls g c turns is =
+    let f = c.work_all.ensures.feeder in
+    let stop : c.stop_of.result ≡ Some (TooLong turns) = c.in-Some.is ∙ ap Some cc in
+    let s : StopsBy c.work_all.new.feeder.stop c.work_all.new.clients.items c.stop_of.result = rw (← c.deref.ensures.value) c.stop_of.ensures in
+    ⊎_elim (λ first. inl (f.too_long turns first).0) (λ many. inr many.0)
+    (one_of_both _ _ c.in_ok-workers.workers.items c.work_all.new.clients.items c.work_all.ensures.clients c.work_all.new.feeder.stop c.stop_of.result turns s stop)
+
+pub returns-clause-worked : goal.returns-clause-worked
+returns-clause-worked g c =
+    let r = c.requires in let ws = c.in_ok-workers.workers.items in let vs = c.work_all.new.clients.items in
+    let f = c.work_all.new.feeder in let fed = c.work_all.ensures.feeder in
+    let may = g.C.Clock.may_give c.args.clock.now in
+    let b = c.in_ok-workers.ensures in
+    let stop : c.stop_of.result ≡ None = search rules in
+    let s : StopsBy f.stop vs c.stop_of.result = rw (← c.deref.ensures.value) c.stop_of.ensures in
+    let none = s.none stop in
+    let left : IsLeftBehind f vs c.in_ok-worked_of.field-0 = c.in_ok-worked_of.ensures in
+    let all = fed.all (no_stop f.stop none.0) in
+    let more = all.draws.carries.more in (
+      more,
+      all.draws.carries.consumes,
+      λ ahead pulls. (
+        all_worked c.args.script.now c.args.adapter.now _ c.args.feeder c.args.clients.items r.fresh r.all may ws vs b c.work_all.ensures.clients f c.in_ok-worked_of.field-0 left none.1
+            c.args.batch _ refl (worked_feeder c.args.batch may _ _ _ _ c.args.puller f all ahead pulls),
+        left.head ahead more all.packets (all.draws.carries.pulls ahead [] [] pulls),
+      ),
+    )
+
+pub returns-clause-all : goal.returns-clause-all
+returns-clause-all g c =
+    let r = c.requires in let ws = c.in_ok-workers.workers.items in let vs = c.work_all.new.clients.items in let f = c.work_all.new.feeder in
+    let may = g.C.Clock.may_give c.args.clock.now in
+    let b = c.in_ok-workers.ensures in
+    let stop : c.stop_of.result ≡ None = search rules in
+    let s : StopsBy f.stop vs c.stop_of.result = rw (← c.deref.ensures.value) c.stop_of.ensures in
+    all_same c.args.script.now c.args.adapter.now _ c.args.feeder c.args.clients.items r.fresh r.all may ws vs b c.work_all.ensures.clients f c.in_ok-worked_of.field-0 c.in_ok-worked_of.ensures (s.none stop).1 c.work_all.ensures.feeder.same
+
+pub returns-clause-nodes : goal.returns-clause-nodes
+returns-clause-nodes g c =
+    let r = c.requires in let ws = c.in_ok-workers.workers.items in let vs = c.work_all.new.clients.items in let f = c.work_all.new.feeder in
+    let may = g.C.Clock.may_give c.args.clock.now in
+    let b = c.in_ok-workers.ensures in
+    let stop : c.stop_of.result ≡ None = search rules in
+    let s : StopsBy f.stop vs c.stop_of.result = rw (← c.deref.ensures.value) c.stop_of.ensures in
+    all_on_nodes c.args.script.now c.args.adapter.now _ c.args.feeder c.args.clients.items r.fresh r.all may ws vs b c.work_all.ensures.clients f c.in_ok-worked_of.field-0 c.in_ok-worked_of.ensures (s.none stop).1

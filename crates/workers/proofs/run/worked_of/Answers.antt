@@ -1,0 +1,18 @@
+use Rattle.std.proofs.Common.{rules, ◌≡◌, ◌++◌, refl, sym, ap, ◌∙◌}
+use Rattle.dmx_calls.specs.Head.{head_of}
+use Rattle.workers.proofs.run.worked_of.Goals as goal
+
+pub returns : goal.returns
+returns c =
+    let d = c.in_ok-clients.ensures in
+    let h = c.in_ok-head.ensures in
+    record {
+      feeder = refl;
+      feeding = refl;
+      head = λ ahead taken given p. h.head ahead taken given p ∙ ap (head_of (ahead ++ taken)) (sym h.fault);
+      fault = h.fault;
+      clients = d.clients;
+      logs = d.logs;
+      outcomes = d.outcomes;
+      each = d.each;
+    }

@@ -1,0 +1,41 @@
+-- The workers before the first call, and what is left of them.
+use Rattle.std.specs.Prelude.{◌≡◌, ◌+◌, ◌<◌, ℕ, Bool, List, [], length, map, slice_get, slice_index_or, Some, None}
+use Rattle.atomic_table.specs.Seated.{TableId}
+use Rattle.dmx_calls.specs.declared.outcome.Outcome.{Outcome}
+use Rattle.dmx_calls.specs.Response.{Response}
+use Rattle.client_script.specs.declared.line.Line.{Line}
+use Rattle.client_core.specs.Core.{Core, IsAfter}
+use Rattle.client_core.specs.Events.{outcomes}
+use Rattle.client_core.specs.declared.stop.Stop.{Stop}
+use Rattle.client_core.specs.declared.stop.Stop.TheVariants.{NoMemory, TooLong}
+use Rattle.adapter.specs.Callers.{Caller}
+use Rattle.workers.specs.declared.client_worker.ClientWorker.{ClientWorker}
+use Rattle.workers.specs.declared.done.Done.{Done}
+use Rattle.workers.specs.Working.{HasCome}
+
+-- the worker of a client of a script that has made no call
+pub record IsBegun (lines : List Line) (client : ℕ) (w : ClientWorker) : Type 0 where
+  pub who : w.who ≡ client + 1
+  pub core : IsAfter client lines [] w.core
+  pub log : w.log.items ≡ []
+
+-- a worker for each of these clients, which has made no call
+pub record AreBegun (lines : List Line) (clients : List Caller) (workers : List ClientWorker) : Type 0 where
+  pub are : map (λ w. w.client) workers ≡ clients
+  pub each : (c : ℕ) (w : ClientWorker) → slice_get workers c ≡ Some w → IsBegun lines c w
+
+-- each of the workers has worked to its end
+pub record HaveCome (may : ℕ → Bool) (locks : List TableId) (old new : List ClientWorker) : Type 0 where
+  pub long : length new ≡ length old
+  pub each : (i : ℕ) (d : ClientWorker) → i < length old → HasCome may locks (slice_index_or old i d) (slice_index_or new i d)
+
+-- these are the outcomes of a core's commands that are through, whatever script it stands for
+abbrev pub AreOutcomesOf : Core → List Outcome → Type 0
+AreOutcomesOf core told = (client : ℕ) (lines : List Line) (replies : List Response) → IsAfter client lines replies core → told ≡ outcomes client lines replies
+
+-- what is left of the workers: the clients, their logs and the outcomes of their commands, in their order
+pub record IsLeft (workers : List ClientWorker) (done : Done) : Type 0 where
+  pub clients : done.clients.items ≡ map (λ w. w.client) workers
+  pub logs : map (λ log. log.items) done.logs.items ≡ map (λ w. w.log.items) workers
+  pub outcomes : length done.outcomes.items ≡ length workers
+  pub each : (c : ℕ) (w : ClientWorker) (told : List Outcome) → slice_get workers c ≡ Some w → slice_get (map (λ those. those.items) done.outcomes.items) c ≡ Some told → AreOutcomesOf w.core told

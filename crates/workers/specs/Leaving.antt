@@ -1,0 +1,34 @@
+-- How workers that came to their end are left.
+use Rattle.std.specs.Prelude.{◌≡◌, ◌≢◌, ◌⊎◌, ◌++◌, ℕ, List, length, map, slice_get, Option, Some, None}
+use Rattle.dmx_calls.specs.Head.{told_head, head_of}
+use Rattle.dmx_calls.specs.declared.outcome.Outcome.{Outcome}
+use Rattle.client_core.specs.declared.stop.Stop.{Stop}
+use Rattle.client_core.specs.declared.stop.Stop.TheVariants.{NoMemory, TooLong}
+use Rattle.feed_pull.specs.Pulling.{Pulls, has_failed}
+use Rattle.workers.specs.declared.client_worker.ClientWorker.{ClientWorker}
+use Rattle.workers.specs.declared.feeder_worker.FeederWorker.{FeederWorker}
+use Rattle.workers.specs.declared.worked.Worked.{Worked}
+use Rattle.workers.specs.Begun.{AreOutcomesOf}
+
+-- of two stops, if they are any: none comes of none, want of memory of either, and else it is one of them
+pub record GoesFirst (first other stop : Option Stop) : Type 0 where
+  pub none : stop ≡ None → (first ≡ None) × (other ≡ None)
+  pub memory : stop ≢ Some NoMemory → (first ≢ Some NoMemory) × (other ≢ Some NoMemory)
+  pub one : (stop ≡ first) ⊎ (stop ≡ other)
+
+-- the stop of the feeder or of a client: no worker stopped where it is none, and where it isn't want of memory none lacked it
+pub record StopsBy (feeder : Option Stop) (clients : List ClientWorker) (stop : Option Stop) : Type 0 where
+  pub none : stop ≡ None → (feeder ≡ None) × ((k : ℕ) (w : ClientWorker) → slice_get clients k ≡ Some w → w.stop ≡ None)
+  pub memory : stop ≢ Some NoMemory → (feeder ≢ Some NoMemory) × ((k : ℕ) (w : ClientWorker) → slice_get clients k ≡ Some w → w.stop ≢ Some NoMemory)
+  pub one : (stop ≡ feeder) ⊎ ((k : ℕ) × (w : ClientWorker) × (slice_get clients k ≡ Some w) × (stop ≡ w.stop))
+
+-- the feeder with its batches and the stream's head, and the clients with their logs and outcomes
+pub record IsLeftBehind (f : FeederWorker) (workers : List ClientWorker) (w : Worked) : Type 0 where
+  pub feeder : w.feeder ≡ f.feeder
+  pub feeding : w.feeding ≡ f.feeding
+  pub head : (ahead taken : List ℕ) (given : List (List ℕ)) → Pulls ahead taken given f.puller → told_head w.head ≡ head_of (ahead ++ taken) w.head.read_fault
+  pub fault : w.head.read_fault ≡ has_failed f.puller.reading
+  pub clients : w.clients.items ≡ map (λ v. v.client) workers
+  pub logs : map (λ log. log.items) w.logs.items ≡ map (λ v. v.log.items) workers
+  pub outcomes : length w.outcomes.items ≡ length workers
+  pub each : (c : ℕ) (v : ClientWorker) (told : List Outcome) → slice_get workers c ≡ Some v → slice_get (map (λ those. those.items) w.outcomes.items) c ≡ Some told → AreOutcomesOf v.core told

@@ -1,0 +1,184 @@
+// A client of a script at its work.
+ghost use Rattle.std.specs.Prelude.{◌≡◌, ◌≢◌, ℕ, ◌+◌, ◌<◌, ◌≤◌, ◌^◌, Bool, List, [], ◌∷◌, ◌++◌, length, slice_get, Some, None, IsSome, OnOk, IsErrOf};
+ghost use Rattle.atomic_table.specs.Seated.{TableId};
+ghost use Rattle.node_lock.specs.declared.view.View.{View};
+ghost use Rattle.dmx_calls.specs.History.{Entry as HistoryEntry};
+ghost use Rattle.dmx_calls.specs.Log.{act_of};
+ghost use Rattle.dmx_calls.specs.declared.limits.TheConstants.{DEMUX_NODES as nodes};
+ghost use Rattle.client_script.specs.declared.line.Line.{Line};
+ghost use Rattle.client_core.specs.Commands.{IsWantInRange, call_of as call_at};
+ghost use Rattle.client_core.specs.Core.{next_of};
+ghost use Rattle.client_core.specs.Events.{next_event};
+ghost use Rattle.client_core.specs.IsRun.{replies};
+ghost use Rattle.client_core.specs.WholeRun.{IsGiven};
+ghost use Rattle.adapter.specs.Callers.{IsSameCaller};
+ghost use Rattle.workers.specs.Working.{IsFit, IsWorking, MayCallNow, GoesOn, HasLooked, HasCome};
+
+use crate::moment::moment_of;
+use crate::reply::{fitted, settled};
+use adapter::{Adapter, Client};
+use client_core::{ClientCore, Event, Stop, call_of};
+use dmx_calls::{Act, Entry};
+use emu_io::{Clock, Gate};
+use std::alloc::{AllocError as NoMemory, Global};
+use std::marker::Brand;
+use std::sync::Wait;
+use std::sync::ledger::{Blank, Ledger};
+use std::thread;
+use steps::Steps;
+
+// The most calls of one client.
+const MOST_CALLS: u64 = 549_755_813_888;
+
+// A client with the machine that says what it calls next, its calls so far, and why it stopped, if it did.
+#[derive(Drop)]
+pub struct ClientWorker {
+    pub client: Client,
+    // Its number as a caller.
+    pub who: u32,
+    pub core: ClientCore,
+    pub log: Vec<Entry>,
+    pub stop: Option<Stop>,
+}
+
+impl ClientWorker {
+    // Makes the client's next call, takes the reply, and keeps both in its log, which has room before the call.
+    fn make<L: Ledger, R: Wait>(
+        &mut self,
+        rt: &R,
+        alloc: Global,
+        adapter: &Adapter,
+        event: Event,
+        now: u64,
+        steps: &mut Steps<L>,
+    ) -> Result<(), NoMemory>
+        requires fit { IsFit adapter.now self.old }
+        requires few { self.old.core.step < 549755813888 }
+        requires next { next_of self.old.core ≡ Some event }
+        requires some { IsSome self.old.core.current }
+        requires node { event.node ≤ nodes }
+        requires step { event.step ≡ self.old.core.step }
+        requires range { IsWantInRange event.want }
+        ensures same { IsSameCaller self.old.client self.new.client }
+        ensures fit { OnOk result (IsFit adapter.now self.new) }
+        ensures works { OnOk result ((may : ℕ → Bool) (lines : List Line) (client : ℕ) → IsGiven may (act_of (call_at event.want now)) → MayCallNow lines client event.node self.old
+            → IsWorking lines client may self.old → IsWorking lines client may self.new) }
+        ensures step { OnOk result (self.new.core.step ≡ self.old.core.step + 1) }
+    {
+        self.log.reserve(1)?;
+        let Event { step, node, want } = event;
+        let call = call_of(alloc, &want, now)?;
+        let act = Act::of(&call);
+        let (place, answer) = self.client.call(rt, adapter, node, call, steps);
+        let reply = settled(answer.reply)?;
+        self.core.take(&reply);
+        self.log.push_reserved(Entry {
+            node,
+            place,
+            step,
+            who: self.who,
+            act,
+            reply: fitted(alloc, reply)?,
+        });
+        Ok(())
+    }
+
+    // Looks at a node until an entry stands behind the one at this place.
+    fn look_past<R: Wait>(&mut self, rt: &R, adapter: &Adapter, node: u32, place: u64)
+        requires fit { IsFit adapter.now self.old }
+        requires node { node ≤ nodes }
+        ensures looked { HasLooked adapter.now self.old self.new }
+        ensures past { (p : TableId × View HistoryEntry) → slice_get self.new.client.passes node ≡ Some p → place + 1 < length p.1.seen }
+    {
+        'looks: for _ in rt.forever() {
+            if self.client.len(adapter, node) > place.saturating_add(1) {
+                return;
+            }
+            thread::yield_now();
+        }
+        unreachable!()
+    }
+
+    // Where the client waits, a read is repeated once an entry of another stands behind its last one.
+    fn wait<R: Wait>(&mut self, rt: &R, adapter: &Adapter, node: u32)
+        requires fit { IsFit adapter.now self.old }
+        requires node { node ≤ nodes }
+        ensures looked { HasLooked adapter.now self.old self.new }
+        ensures may { (may : ℕ → Bool) (lines : List Line) (client : ℕ) → IsWorking lines client may self.old → MayCallNow lines client node self.new }
+    {
+        if self.core.waits().is_none() {
+            return;
+        }
+        if let Some(last) = self.log.last() {
+            let place = last.place;
+            self.look_past(rt, adapter, node, place);
+        }
+    }
+
+    // Makes the client's calls, one after another, until its commands are through.
+    fn run<L: Ledger, R: Wait, C: Clock, G: Gate>(
+        &mut self,
+        rt: &R,
+        alloc: Global,
+        adapter: &Adapter,
+        clock: &C,
+        gate: &G,
+        steps: &mut Steps<L>,
+    ) -> Result<(), Stop>
+        requires fit { IsFit adapter.now self.old }
+        requires few { self.old.core.step ≤ 549755813888 }
+        ensures same { IsSameCaller self.old.client self.new.client }
+        ensures fit { OnOk result (IsFit adapter.now self.new) }
+        ensures works { OnOk result (GoesOn (C.may_give clock.now) self.old self.new) }
+        ensures ends { OnOk result (next_of self.new.core ≡ None) }
+        ensures too_long { (turns : ℕ) → IsErrOf result (Stop.TooLong turns) → (turns ≡ 549755813888) × (self.new.core.step ≡ 549755813888)
+            × IsFit adapter.now self.new × GoesOn (C.may_give clock.now) self.old self.new }
+    {
+        'calls: while let Some(event) = self.core.next() {
+            if event.step >= MOST_CALLS {
+                return Err(Stop::TooLong { turns: MOST_CALLS });
+            }
+            gate.at(self.who, event.step);
+            self.wait(rt, adapter, event.node);
+            let now = moment_of(clock, &event.want);
+            self.make(rt, alloc, adapter, event, now, steps)?;
+        }
+        Ok(())
+    }
+
+    // The same with a counter of steps of its own; the gate is told once more behind the last call.
+    fn work_counted<L: Ledger, R: Wait, C: Clock, G: Gate>(
+        &mut self,
+        rt: &R,
+        alloc: Global,
+        adapter: &Adapter,
+        clock: &C,
+        gate: &G,
+        blank: Blank,
+    )
+        requires ledger { (blank.name ≡ L.name) × (blank.parts ≡ L.parts) × (0 < L.parts) }
+        requires fit { IsFit adapter.now self.old }
+        requires few { self.old.core.step ≤ 549755813888 }
+        ensures { HasCome (C.may_give clock.now) adapter.now self.old self.new }
+    {
+        let mut steps: Steps<L> = Steps::new(blank);
+        self.stop = self.run(rt, alloc, adapter, clock, gate, &mut steps).err();
+        gate.at(self.who, self.core.steps());
+    }
+
+    // Does the client's commands to their end, unless memory is refused or it has made the most calls.
+    pub fn work<R: Wait, C: Clock, G: Gate>(
+        &mut self,
+        rt: &R,
+        alloc: Global,
+        adapter: &Adapter,
+        clock: &C,
+        gate: &G,
+    )
+        requires fit { IsFit adapter.now self.old }
+        requires few { self.old.core.step ≤ 549755813888 }
+        ensures { HasCome (C.may_give clock.now) adapter.now self.old self.new }
+    {
+        self.work_counted::<Brand, R, C, G>(rt, alloc, adapter, clock, gate, Blank::new(1))
+    }
+}

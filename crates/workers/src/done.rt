@@ -1,0 +1,78 @@
+// The clients' workers before their first calls, and what is left of them.
+ghost use Rattle.std.specs.Prelude.{◌≡◌, length, IfOk};
+ghost use Rattle.client_script.specs.Script.{clients_in};
+ghost use Rattle.workers.specs.Begun.{AreBegun, IsLeft};
+
+use crate::client_worker::ClientWorker;
+use adapter::Client;
+use client_core::ClientCore;
+use client_script::Script;
+use dmx_calls::{Entry, Outcome};
+use std::alloc::{AllocError as NoMemory, Global};
+
+// What is left of the clients' workers, in the clients' order.
+#[derive(Drop)]
+pub struct Done {
+    pub clients: Vec<Client>,
+    pub logs: Vec<Vec<Entry>>,
+    pub outcomes: Vec<Vec<Outcome>>,
+}
+
+// A worker for each client of the script, before its first call.
+pub fn workers_of(
+    alloc: Global,
+    clients: Vec<Client>,
+    script: &Script,
+) -> Result<Vec<ClientWorker>, NoMemory>
+    requires { length clients.items ≡ clients_in script.now }
+    ensures { IfOk result (λ workers. AreBegun script.now clients.items workers.items) }
+{
+    let mut workers = Vec::with_capacity(alloc, script.clients() as usize)?;
+    let mut number = 0u32;
+    'callers: for client in clients {
+        let core = ClientCore::new(alloc, script, number)?;
+        number += 1;
+        workers.push(ClientWorker {
+            client,
+            who: number,
+            core,
+            log: Vec::new(alloc),
+            stop: None,
+        })?;
+    }
+    Ok(workers)
+}
+
+// These outcomes, copied.
+fn copied(alloc: Global, from: &[Outcome]) -> Result<Vec<Outcome>, NoMemory>
+    ensures { IfOk result (λ copy. copy.items ≡ from.now) }
+{
+    let mut copy = Vec::with_capacity(alloc, from.len())?;
+    copy.extend_from_slice(from)?;
+    Ok(copy)
+}
+
+// The clients, their logs and the outcomes of their commands.
+pub fn done_of(alloc: Global, workers: Vec<ClientWorker>) -> Result<Done, NoMemory>
+    ensures { IfOk result (IsLeft workers.items) }
+{
+    let mut clients = Vec::new(alloc);
+    let mut logs = Vec::new(alloc);
+    let mut outcomes = Vec::new(alloc);
+    'workers: for worker in workers {
+        let ClientWorker {
+            client,
+            core,
+            log,
+            ..
+        } = worker;
+        outcomes.push(copied(alloc, core.outcomes())?)?;
+        clients.push(client)?;
+        logs.push(log)?;
+    }
+    Ok(Done {
+        clients,
+        logs,
+        outcomes,
+    })
+}

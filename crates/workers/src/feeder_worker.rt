@@ -1,0 +1,170 @@
+// The feeder at its work.
+ghost use Rattle.std.specs.Prelude.{◌≡◌, ◌≢◌, true, false, ℕ, ◌+◌, ◌-◌, ◌<◌, ◌≤◌, ◌^◌, List, None, Some, IsOk, IfOk, OnOk};
+ghost use Rattle.std.specs.declared.option.Option.{Option};
+ghost use Rattle.client_core.specs.declared.stop.Stop.TheVariants.{NoMemory as WantOfMemory};
+ghost use Rattle.adapter.specs.Callers.{IsSameCaller};
+ghost use Rattle.feed_pull.specs.declared.fault.Reading.TheVariants.{Going, TooMany};
+ghost use Rattle.feed_pull.specs.Pulling.{Pulling, IsDone};
+ghost use Rattle.feed_pull.specs.Streams.{Draws};
+ghost use Rattle.workers.specs.FeederWork.{IsFitFeeder, HasPassed, HasFedToEnd};
+
+use adapter::{Adapter, Feeder};
+use client_core::Stop;
+use dmx_calls::Fed;
+use emu_io::{Clock, Gate, Source};
+use feed_pull::{PullFault, Puller};
+use std::alloc::AllocError as NoMemory;
+use std::marker::Brand;
+use std::sync::ledger::{Blank, Ledger};
+use std::sync::{Arc, Wait};
+use steps::Steps;
+use ts_batch::Batch;
+
+// The caller number of the feeder.
+const FEEDER: u32 = 0;
+
+// The feeder with the stream that it passes, its batches so far, and why it stopped, if it did.
+#[derive(Drop)]
+pub struct FeederWorker {
+    pub feeder: Feeder,
+    pub puller: Puller,
+    pub feeding: Vec<Fed>,
+    pub stop: Option<Stop>,
+}
+
+impl FeederWorker {
+    // The next batch passes all nodes, at a moment of the clock, and is kept among the batches; or none is left.
+    fn turn<S: Source, L: Ledger, R: Wait, C: Clock, G: Gate>(
+        &mut self,
+        rt: &R,
+        adapter: &Adapter,
+        source: &mut S,
+        most: u32,
+        clock: &C,
+        gate: &G,
+        steps: &mut Steps<L>,
+    ) -> Result<bool, NoMemory>
+        requires some { 1 ≤ most }
+        requires few { most ≤ 64 }
+        requires faults { self.old.puller.reading ≡ Going → S.faults source.old < 2 ^ 64 - 1 }
+        requires fit { IsFitFeeder adapter.now self.old }
+        ensures fit { IsFitFeeder adapter.now self.new }
+        ensures same { IsSameCaller self.old.feeder self.new.feeder }
+        ensures draws { (packets : List (List ℕ)) × Draws (S.left source.old) (S.left source.new) (S.faults source.old) (S.faults source.new) self.old.puller self.new.puller packets }
+        ensures passed { OnOk result ((content : Option (List ℕ)) (before : ℕ) (first : Pulling) → HasPassed most (C.may_give clock.now) content (S.left source.old) before (S.faults source.old) first self.old
+            → HasPassed most (C.may_give clock.now) content (S.left source.new) before (S.faults source.new) first self.new) }
+        ensures done { IfOk result (λ some. some ≡ false → IsDone self.new.puller) }
+        ensures rises { IfOk result (λ some. some ≡ true → self.old.puller.given < self.new.puller.given) }
+    {
+        gate.at(FEEDER, self.feeding.len() as u64);
+        self.feeding.reserve(1)?;
+        let Some(batch) = self.puller.pull(source, most)? else {
+            return Ok(false);
+        };
+        let now = clock.now();
+        let fed = Fed {
+            first: batch.first(),
+            count: batch.count(),
+            now,
+        };
+        self.feeder.feed(rt, adapter, batch, now, steps);
+        self.feeding.push_reserved(fed);
+        Ok(true)
+    }
+
+    // The whole stream passes, batch by batch.
+    fn pass_all<S: Source, L: Ledger, R: Wait, C: Clock, G: Gate>(
+        &mut self,
+        rt: &R,
+        adapter: &Adapter,
+        source: &mut S,
+        most: u32,
+        clock: &C,
+        gate: &G,
+        steps: &mut Steps<L>,
+    ) -> Result<(), NoMemory>
+        requires some { 1 ≤ most }
+        requires few { most ≤ 64 }
+        requires faults { self.old.puller.reading ≡ Going → S.faults source.old < 2 ^ 64 - 1 }
+        requires fit { IsFitFeeder adapter.now self.old }
+        ensures fit { IsFitFeeder adapter.now self.new }
+        ensures same { IsSameCaller self.old.feeder self.new.feeder }
+        ensures draws { (packets : List (List ℕ)) × Draws (S.left source.old) (S.left source.new) (S.faults source.old) (S.faults source.new) self.old.puller self.new.puller packets }
+        ensures passed { OnOk result ((content : Option (List ℕ)) (before : ℕ) (first : Pulling) → HasPassed most (C.may_give clock.now) content (S.left source.old) before (S.faults source.old) first self.old
+            → HasPassed most (C.may_give clock.now) content (S.left source.new) before (S.faults source.new) first self.new) }
+        ensures done { OnOk result (IsDone self.new.puller) }
+    {
+        'batches: while self.turn(rt, adapter, source, most, clock, gate, steps)? {}
+        Ok(())
+    }
+
+    // Why the feeder stops that has passed the stream or not: want of memory goes before too many reads.
+    fn stop_of(&self, passed: Result<(), NoMemory>) -> Option<Stop>
+        ensures memory { result ≢ Some WantOfMemory → IsOk passed }
+        ensures none { result ≡ None → self.now.puller.reading ≢ TooMany }
+        ensures too_long { (turns : ℕ) → result ≡ Some (Stop.TooLong turns) → (turns ≡ 4294967296) × (4294967296 ≤ self.now.puller.start + self.now.puller.taken) }
+    {
+        if passed.is_err() {
+            return Some(Stop::NoMemory);
+        }
+        match self.puller.fault() {
+            Some(PullFault::TooLong { turns }) => Some(Stop::TooLong { turns }),
+            _ => None,
+        }
+    }
+
+    // The stream passes and then its end, with a counter of steps of its own. The end passes too where memory was refused,
+    // so that clients which wait for bytes go on.
+    fn work_counted<S: Source, L: Ledger, R: Wait, C: Clock, G: Gate>(
+        &mut self,
+        rt: &R,
+        adapter: &Adapter,
+        source: &mut S,
+        most: u32,
+        clock: &C,
+        gate: &G,
+        blank: Blank,
+    )
+        requires ledger { (blank.name ≡ L.name) × (blank.parts ≡ L.parts) × (0 < L.parts) }
+        requires some { 1 ≤ most }
+        requires few { most ≤ 64 }
+        requires faults { self.old.puller.reading ≡ Going → S.faults source.old < 2 ^ 64 - 1 }
+        requires fit { IsFitFeeder adapter.now self.old }
+        requires begun { HasPassed most (C.may_give clock.now) (S.left source.old) (S.left source.old) (S.faults source.old) (S.faults source.old) self.old.puller self.old }
+        ensures { HasFedToEnd most (C.may_give clock.now) (S.left source.old) (S.left source.new) (S.faults source.old) (S.faults source.new) self.old self.new }
+    {
+        let mut steps: Steps<L> = Steps::new(blank);
+        let passed = self.pass_all(rt, adapter, source, most, clock, gate, &mut steps);
+        self.feeder.end(rt, adapter, &mut steps);
+        gate.at(FEEDER, self.feeding.len() as u64 + 1);
+        self.stop = self.stop_of(passed);
+    }
+
+    // Passes the stream in batches of so many packets, the last one with what is left, and then its end.
+    pub fn work<S: Source, R: Wait, C: Clock, G: Gate>(
+        &mut self,
+        rt: &R,
+        adapter: &Adapter,
+        source: &mut S,
+        most: u32,
+        clock: &C,
+        gate: &G,
+    )
+        requires some { 1 ≤ most }
+        requires few { most ≤ 64 }
+        requires faults { self.old.puller.reading ≡ Going → S.faults source.old < 2 ^ 64 - 1 }
+        requires fit { IsFitFeeder adapter.now self.old }
+        requires begun { HasPassed most (C.may_give clock.now) (S.left source.old) (S.left source.old) (S.faults source.old) (S.faults source.old) self.old.puller self.old }
+        ensures { HasFedToEnd most (C.may_give clock.now) (S.left source.old) (S.left source.new) (S.faults source.old) (S.faults source.new) self.old self.new }
+    {
+        self.work_counted::<S, Brand, R, C, G>(
+            rt,
+            adapter,
+            source,
+            most,
+            clock,
+            gate,
+            Blank::new(1),
+        )
+    }
+}

@@ -1,0 +1,159 @@
+// The run of a script by threads.
+ghost use Rattle.std.specs.Prelude.{◌≡◌, ◌≢◌, ◌⊎◌, false, ℕ, ◌-◌, ◌<◌, ◌≤◌, ◌^◌, ◌↔◌, List, [], ◌∷◌, ◌++◌, map, All, IfOk, OnErr, IsErrOf, IsTrue};
+ghost use Rattle.std.specs.Io.KnownBytes.{IsAtEnd};
+ghost use Rattle.ts_packet.specs.Cut.{cut};
+ghost use Rattle.dmx_calls.specs.Calls.{told_entry};
+ghost use Rattle.dmx_calls.specs.Head.{head_of, told_head};
+ghost use Rattle.client_script.specs.Script.{clients_in};
+ghost use Rattle.client_core.specs.Budget.{IsTooLong};
+ghost use Rattle.feed_pull.specs.declared.fault.Reading.TheVariants.{Going};
+ghost use Rattle.feed_pull.specs.Pulling.{Pulling, IsDone};
+ghost use Rattle.feed_pull.specs.Streams.{Draws, OfStream};
+ghost use Rattle.adapter.specs.Callers.{AreAllCallers, AreFreshCallers};
+ghost use Rattle.trace_merge.specs.Merging.{AreOnNodes};
+ghost use Rattle.workers.specs.Leaving.{GoesFirst, StopsBy, IsLeftBehind};
+ghost use Rattle.workers.specs.Worked.{AreWorked};
+
+use crate::client_worker::ClientWorker;
+use crate::done::{Done, done_of, workers_of};
+use crate::feeder_worker::FeederWorker;
+use crate::threads::work_all;
+use crate::worked::Worked;
+use adapter::{Adapter, Client, Feeder};
+use client_core::Stop;
+use client_script::Script;
+use emu_io::{Clock, Gate, Source};
+use feed_pull::Puller;
+use std::alloc::{AllocError as NoMemory, Global};
+use std::sync::Wait;
+use std::thread::Threads;
+
+// Want of memory goes before too many calls or reads, and the first before the other.
+fn graver(first: Option<Stop>, other: Option<Stop>) -> Option<Stop>
+    ensures { GoesFirst first other result }
+{
+    match (first, other) {
+        (None, _) | (_, Some(Stop::NoMemory)) => other,
+        _ => first,
+    }
+}
+
+// Why a run stops whose feeder stopped for this reason, if it did.
+fn stop_of(feeder: Option<Stop>, clients: &[ClientWorker]) -> Option<Stop>
+    ensures { StopsBy feeder clients.now result }
+{
+    let mut stop = feeder;
+    'clients: for client in clients {
+        stop = graver(stop, client.stop);
+    }
+    stop
+}
+
+// What is left of workers that came to their end.
+fn worked_of(
+    alloc: Global,
+    feeder: FeederWorker,
+    clients: Vec<ClientWorker>,
+) -> Result<Worked, NoMemory>
+    requires { IsDone feeder.puller }
+    ensures { IfOk result (IsLeftBehind feeder clients.items) }
+{
+    let FeederWorker {
+        feeder,
+        puller,
+        feeding,
+        ..
+    } = feeder;
+    let head = puller.head(alloc)?;
+    let Done {
+        clients,
+        logs,
+        outcomes,
+    } = done_of(alloc, clients)?;
+    Ok(Worked {
+        feeding,
+        logs,
+        outcomes,
+        head,
+        feeder,
+        clients,
+    })
+}
+
+/// Does the commands of a script by a thread for each client, while one for the feeder passes the stream of the puller
+/// through all nodes, in batches of `batch` packets, 1 to 64, the last with what is left, and then its end. No pull of the
+/// puller was made before, and it reads from this source. The feeder and the clients are the adapter's, and none of them
+/// has made a call.
+///
+/// Lines `feed` and `tick` are passed over. A client whose read is repeated looks at the node until another caller's entry
+/// stands behind its own last one; it may wait for ever, and so may each call. Before each of its calls a worker calls
+/// `gate.at` with its caller number, 0 for the feeder and `c + 1` for client c, and the call's step; and once more behind
+/// its last with the step after it. Each call that carries a moment reads the clock anew. Where a thread can't be made its
+/// work is done behind that of another.
+///
+/// Where a read of the source fails the stream ends there, and the head says so.
+///
+/// # Errors
+///
+/// `NoMemory` where memory was refused; else `TooLong` where the puller stopped after 4,294,967,296 reads, or where a client
+/// has made 549,755,813,888 calls. The feeder and the clients are gone then.
+pub fn work<R: Threads + Wait + Sync, S: Source + Send, C: Clock + Sync, G: Gate + Sync>(
+    rt: &R,
+    alloc: Global,
+    adapter: &Adapter,
+    feeder: Feeder,
+    clients: Vec<Client>,
+    script: &Script,
+    source: &mut S,
+    puller: Puller,
+    batch: u32,
+    clock: &C,
+    gate: &G,
+) -> Result<Worked, Stop>
+    requires fresh { AreFreshCallers adapter.now (clients_in script.now) feeder clients.items }
+    requires all { AreAllCallers adapter.now (clients.items ++ feeder ∷ []) }
+    requires some { 1 ≤ batch }
+    requires few { batch ≤ 64 }
+    requires going { puller.reading ≡ Going }
+    requires given { puller.given ≡ 0 }
+    requires faults { S.faults source.old < 2 ^ 64 - 1 }
+    // The whole stream has passed, and each client has done just its commands; the head is that of the stream.
+    ensures worked { IfOk result (λ w. OfStream (S.left source.old) (S.left source.new) puller (λ ahead taken.
+        AreWorked script.now batch (C.may_give clock.now) (cut (ahead ++ taken)).packets w.feeder w.feeding.items w.clients.items (map (λ log. map told_entry log.items) w.logs.items) (map (λ those. those.items) w.outcomes.items)
+        × (told_head w.head ≡ head_of (ahead ++ taken) w.head.read_fault))) }
+    // They are still the adapter's callers.
+    ensures all { IfOk result (λ w. AreAllCallers adapter.now (w.clients.items ++ w.feeder ∷ [])) }
+    ensures nodes { IfOk result (λ w. All (λ log. AreOnNodes log.items) w.logs.items) }
+    // The source failed exactly where its count rose; else it has nothing left.
+    ensures rose { IfOk result (λ w. IsTrue w.head.read_fault ↔ (S.faults source.old < S.faults source.new)) }
+    ensures later { IfOk result (λ _. S.faults source.old ≤ S.faults source.new) }
+    ensures end { IfOk result (λ w. w.head.read_fault ≡ false → IsAtEnd (S.left source.new)) }
+    ensures too_long { (turns : ℕ) → IsErrOf result (Stop.TooLong turns) → turns ≢ 549755813888 → OfStream (S.left source.old) (S.left source.new) puller (IsTooLong script.now puller.start turns) }
+    // The bound by the budget, that the commands and the bytes allow a client so many calls, isn't proved yet.
+    ensures too_many_calls { (turns : ℕ) → IsErrOf result (Stop.TooLong turns) → (turns ≡ 4294967296) ⊎ (turns ≡ 549755813888) }
+    // What was taken of the source where the run stopped, as the puller's pulls tell it.
+    ensures draws { OnErr result ((packets : List (List ℕ)) × ((last : Pulling) × Draws (S.left source.old) (S.left source.new) (S.faults source.old) (S.faults source.new) puller last packets)) }
+{
+    let mut workers = workers_of(alloc, clients, script)?;
+    let mut feeder = FeederWorker {
+        feeder,
+        puller,
+        feeding: Vec::new(alloc),
+        stop: None,
+    };
+    work_all(
+        rt,
+        alloc,
+        adapter,
+        &mut feeder,
+        &mut workers,
+        source,
+        batch,
+        clock,
+        gate,
+    );
+    if let Some(stop) = stop_of(feeder.stop, &workers) {
+        return Err(stop);
+    }
+    Ok(worked_of(alloc, feeder, workers)?)
+}
