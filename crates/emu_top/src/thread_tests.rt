@@ -266,10 +266,16 @@ fn the_client_that_comes_first_owns_the_node(rt: HostRuntime) -> Result<(), Fail
         let gate = HoldingGate::new(alloc, &[hold])?;
         let input = input_of(alloc, &[(b"c0 open n0\nc1 open n0\nstream\n", 0, 0)])?;
         let (status, report) = ran(&rt, &["run"], input, &FixedClock::new(0), &gate)?;
-        assert!(rt; status == Status::Ok && gate.has_kept_all(), "{held} is held");
+        assert!(rt;
+            status == Status::Ok && gate.has_kept_all(),
+            "{held} is held"
+        );
         let done = reply_to(report.as_str(), first, 0);
         assert!(rt; done == Some("done drop=0..0 tap=keep"), "{held} is held");
-        assert!(rt; reply_to(report.as_str(), held, 0) == Some(busy), "{held} is held");
+        assert!(rt;
+            reply_to(report.as_str(), held, 0) == Some(busy),
+            "{held} is held"
+        );
         assert!(rt; is_judged(alloc, report.as_str(), 0)?, "{held} is held");
     }
     Ok(())
@@ -286,7 +292,10 @@ fn a_read_comes_between_two_batches(rt: HostRuntime) -> Result<(), Fail> {
         other,
         there,
     };
-    let gate = HoldingGate::new(alloc, &[hold(0, 0, 1, 3), hold(1, 3, 0, 1), hold(0, 1, 1, 4)])?;
+    let gate = HoldingGate::new(
+        alloc,
+        &[hold(0, 0, 1, 3), hold(1, 3, 0, 1), hold(0, 1, 1, 4)],
+    )?;
     let parts: [Part; 3] = [
         (
             b"c0 open n0\n\
@@ -512,7 +521,14 @@ fn eight_clients_share_a_node(rt: HostRuntime) -> Result<(), Fail> {
         let (status, report) = ran(&rt, &["run"], input, &clock, &NoGate::new())?;
         assert!(rt; status == Status::Ok, "turn {turn}");
         assert!(rt; is_judged(alloc, report.as_str(), 1)?, "turn {turn}");
-        assert!(rt; report.lines().filter(|line| line.ends_with(" done")).count() == 24, "turn {turn}");
+        assert!(rt;
+            report
+                .lines()
+                .filter(|line| line.ends_with(" done"))
+                .count()
+                == 24,
+            "turn {turn}"
+        );
     }
     Ok(())
 }
@@ -611,9 +627,11 @@ fn runs_made<R: AllocGlobal + Threads + Wait + Sync, G: Gate + Sync>(
     let (first, bytes) = read_on_seven(alloc, report.as_str())?;
     let stream = kept.get(SCRIPT..).unwrap_or(&[]);
     let whole = tapped(alloc, stream, first)?;
-    Ok(status == Status::Ok
-        && is_judged(alloc, report.as_str(), 65536)?
-        && bytes.as_slice() == whole.as_slice())
+    Ok(
+        status == Status::Ok
+            && is_judged(alloc, report.as_str(), 65536)?
+            && bytes.as_slice() == whole.as_slice(),
+    )
 }
 
 // That nine threads over 65,536 packets come to an end with all that was asked, in whatever order they run.
@@ -629,7 +647,10 @@ fn a_made_session_runs(rt: HostRuntime) -> Result<(), Fail> {
 #[test]
 fn a_made_session_runs_in_a_shuffled_order(rt: HostRuntime) -> Result<(), Fail> {
     for number in 0..3 {
-        assert!(rt; runs_made(&rt, &ShufflingGate { number })?, "number {number}");
+        assert!(rt;
+            runs_made(&rt, &ShufflingGate { number })?,
+            "number {number}"
+        );
     }
     Ok(())
 }
