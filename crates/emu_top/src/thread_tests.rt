@@ -565,7 +565,7 @@ fn put_bytes(bytes: &mut Vec<u8>, digits: &str) -> Result<bool, Fail> {
             return Ok(false);
         };
         match (digit(*high), digit(*low)) {
-            (Some(high), Some(low)) => bytes.push(high * 16 + low)?,
+            (Some(high), Some(low)) => bytes.push(high << 4 | low)?,
             _ => return Ok(false),
         }
     }
