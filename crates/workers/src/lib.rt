@@ -8,6 +8,8 @@ mod feeder_worker;
 mod moment;
 mod reply;
 mod run;
+#[cfg(test)]
+mod tests;
 mod threads;
 mod worked;
 
