@@ -32,6 +32,8 @@ mod laws;
 mod moment;
 mod reply;
 mod run;
+#[cfg(test)]
+mod tests;
 mod threads;
 mod worked;
 
