@@ -5,3 +5,4 @@ pub mod Working
 pub mod FeederWork
 pub mod Begun
 pub mod Leaving
+pub mod Budget

@@ -1,10 +1,35 @@
-//! The threads of a run: one for the feeder, and one for each client.
+//! Runs of a script by threads, over the adapter's 33 locked nodes.
+//!
+//! `work` does each client's commands on a thread of its own, while the feeder passes a stream through all nodes on another, in
+//! batches, and then its end. Each of them keeps what it has called. `histories_of_run` ends the adapter, and brings all calls
+//! together in the order of their places.
+//!
+//! What a contract sees: a client's log as the list of its calls. `IsLogged` ties it to what the client's passes know: they
+//! have just these calls, each at the place that it was told. `HasCalled` says of a log that its calls are those that the
+//! script's commands ask for, by the replies before them, and `HasFed` of the feeder's batches that they are the packets of a
+//! stream, in their order; `AreWorked` says both of all callers, at the end of a run.
+//!
+//! What is proved, whatever the order in which the threads act: `work` leaves all that `AreWorked` says, over the stream that
+//! stood ahead in the puller and the bytes that were taken, in full batches but for the last, each moment one that the clock may
+//! give; the head is that of the stream. A client repeats a read only where an entry of another caller stands behind its own
+//! last one. The source failed just where its count rose, and else it has nothing left. `TooLong` comes only where so many
+//! reads were made, or where the commands and the bytes allow a client so many calls: at each moment of a run no client makes
+//! more calls than that (`calls_are_within_budget`). Where the run stops early, what was taken of the source is told as the
+//! puller's pulls tell it.
+//!
+//! What is only tested: that the threads run beside each other, that each moment is a reading of its own, that the gate is told
+//! of each step, and that memory isn't refused where there is enough. Nothing is claimed of the order in which callers come, of
+//! fairness, or of the end of a wait.
+//!
+//! Limits: 8 clients, batches of 1 to 64 packets, and 549,755,813,888 calls of a client. How threads share the work is this
+//! project's own.
 #![tactic(auto)]
 
 mod client_worker;
 mod done;
 mod ending;
 mod feeder_worker;
+mod laws;
 mod moment;
 mod reply;
 mod run;
@@ -14,5 +39,6 @@ mod threads;
 mod worked;
 
 pub use ending::histories_of_run;
+pub use laws::{calls_are_within_budget, few_bytes_are_few_calls, many_calls_are_too_long};
 pub use run::work;
 pub use worked::Worked;

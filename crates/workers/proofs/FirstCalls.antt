@@ -1,0 +1,228 @@
+-- A client makes at most 33 first calls a command, the next call counted too; and a read that is repeated stays on its node.
+use Rattle.std.proofs.Common.{◌≡◌, refl, sym, ap, subst, ◌∙◌, ℕ, ◌+◌, ◌-◌, ◌*◌, ◌<◌, ◌≤◌, Bool, true, false, List, [], ◌∷◌, ◌++◌, Option, Some, None, length, arith}
+use Rattle.std.specs.Prelude.{nat_lt, if◌then◌else◌, slice_index_or}
+use Rattle.std.specs.Option.{MatchOption}
+use Rattle.std.proofs.lemmas.Bool.Decides.{nat_tests}
+use Rattle.dmx_calls.specs.declared.limits.TheConstants.{DEMUX_NODES}
+use Rattle.dmx_calls.specs.Response.{TapChange, KeepTap, AttachTap, DetachTap, Response, Done, Busy, Refused, NoMemory, Data, Again, Overflow, TimedOut, Ready, Passed}
+use Rattle.client_script.specs.declared.line.Line.{Line}
+use Rattle.client_script.specs.declared.line.Target.{Target}
+use Rattle.client_script.specs.declared.line.Target.TheVariants.{Node, Slot, Dvr}
+use Rattle.client_script.specs.declared.line.Verb.{Verb}
+use Rattle.client_script.specs.declared.line.Verb.TheVariants as verb
+use Rattle.client_core.specs.declared.command.Command.{Command}
+use Rattle.client_core.specs.declared.event.Event.{Event}
+use Rattle.client_core.specs.declared.event.Want.{Want}
+use Rattle.client_core.specs.declared.event.Want.TheVariants.{Read}
+use Rattle.client_core.specs.declared.task.Ending.{Ending}
+use Rattle.client_core.specs.declared.task.Ending.TheVariants.{Made, Bound, AllBusy}
+use Rattle.client_core.specs.Commands.{Slots, Doing, stands, through, once, told, called, opened, read_until, done_on, done_at, done_by_slot, done, ends_wait, ends_drain, commands_of}
+use Rattle.client_core.specs.Events.{Standing, Progress, with_outcome, kind_of, slots_after, progress_from, progress, no_slots}
+use Rattle.client_core.specs.Budget.{repeated, repeats_on, repeats_at, repeats_in, repeats_from, repeats}
+use Rattle.client_core.proofs.More.{Onward, done_on_more, repeats_none}
+
+-- the reply after which a read may be repeated
+abbrev again : Response
+again = Again false
+
+-- where it still stands, it stands on the same node
+abbrev StaysOn : Event → Doing → Type 0
+StaysOn e (stands f) = f.node ≡ e.node
+StaysOn e (through ending next left) = Unit {0}
+
+-- Of these replies a command uses at most so many, and fewer where it stands; then after Again it still stands on its node.
+abbrev IsTight : (most : ℕ) → List Response → Doing → Doing → Type 0
+IsTight most rs (stands e) f = (length rs < most) × StaysOn e f
+IsTight most rs (through ending next left) f = length rs ≤ most + length left
+
+more_tight : (m n : ℕ) (rs : List Response) (d f : Doing) → m ≤ n → IsTight m rs d f → IsTight n rs d f
+more_tight m n rs (stands e) f le few = (omega (arith, le, few.0), few.1)
+more_tight m n rs (through ending next left) f le few = omega (arith, le, few)
+
+-- one reply before
+after_one : (m : ℕ) (r : Response) (rs : List Response) (d f : Doing) → IsTight m rs d f → IsTight (m + 1) (r ∷ rs) d f
+after_one m r rs (stands e) f few = (omega (arith, few.0), few.1)
+after_one m r rs (through ending next left) f few = omega (arith, few)
+
+if_tight : (b : Bool) (m : ℕ) (rs : List Response) (c d f g : Doing) → IsTight m rs c f → IsTight m rs d g → IsTight m rs (if b then c else d) (if b then f else g)
+if_tight true m rs c d f g x y = x
+if_tight false m rs c d f g x y = y
+
+once_tight : (ending : Ending) (node : ℕ) (w : Want) (step : ℕ) (rs : List Response) → IsTight 1 rs (once ending node w step rs) (once ending node w step (rs ++ again ∷ []))
+once_tight ending node w step [] = (omega arith, tt)
+once_tight ending node w step (r ∷ rs) = omega arith
+
+told_tight : (ending : Ending) (node : ℕ) (tap : TapChange) (step : ℕ) (rs : List Response) → IsTight 1 rs (told ending node tap step rs) (told ending node tap step (rs ++ again ∷ []))
+told_tight ending node KeepTap step rs = omega arith
+told_tight ending node (AttachTap pids) step rs = once_tight ending _ _ step rs
+told_tight ending node DetachTap step rs = once_tight ending _ _ step rs
+
+called_tight : (node : ℕ) (w : Want) (step : ℕ) (rs : List Response) → IsTight 2 rs (called node w step rs) (called node w step (rs ++ again ∷ []))
+called_tight node w step [] = (omega arith, tt)
+called_tight node w step (Done from to tap ∷ rs) =
+    if_tight (nat_lt node DEMUX_NODES) 2 (Done from to tap ∷ rs) (told Made node tap (step + 1) rs) (through Made (step + 1) rs) (told Made node tap (step + 1) (rs ++ again ∷ [])) (through Made (step + 1) (rs ++ again ∷ []))
+    (after_one 1 (Done from to tap) rs (told Made node tap (step + 1) rs) (told Made node tap (step + 1) (rs ++ again ∷ [])) (told_tight Made node tap (step + 1) rs)) (omega arith)
+called_tight node w step (Busy x ∷ rs) = omega arith
+called_tight node w step (Refused x ∷ rs) = omega arith
+called_tight node w step (NoMemory ∷ rs) = omega arith
+called_tight node w step (Data x ∷ rs) = omega arith
+called_tight node w step (Again x ∷ rs) = omega arith
+called_tight node w step (Overflow a b c d e ∷ rs) = omega arith
+called_tight node w step (TimedOut a b c ∷ rs) = omega arith
+called_tight node w step (Ready a b c d ∷ rs) = omega arith
+called_tight node w step (Passed ∷ rs) = omega arith
+
+-- a busy node: the next is tried
+busy_tight : (slot node step x : ℕ) (rs : List Response) → node < 32 → (node + 1 < 32 → IsTight (33 - (node + 1)) rs (opened slot (node + 1) (step + 1) rs) (opened slot (node + 1) (step + 1) (rs ++ again ∷ [])))
+    → (b : Bool) → nat_lt (node + 1) DEMUX_NODES ≡ b
+    → IsTight (33 - node) (Busy x ∷ rs) (if b then opened slot (node + 1) (step + 1) rs else through AllBusy (step + 1) rs)
+    (if b then opened slot (node + 1) (step + 1) (rs ++ again ∷ []) else through AllBusy (step + 1) (rs ++ again ∷ []))
+busy_tight slot node step x rs lt deeper true yea =
+    let more : node + 1 < 32 = grind (arith, nat_tests, yea) in
+    more_tight (33 - (node + 1) + 1) (33 - node) (Busy x ∷ rs) (opened slot (node + 1) (step + 1) rs) (opened slot (node + 1) (step + 1) (rs ++ again ∷ [])) (omega (arith, more))
+    (after_one (33 - (node + 1)) (Busy x) rs (opened slot (node + 1) (step + 1) rs) (opened slot (node + 1) (step + 1) (rs ++ again ∷ [])) (deeper more))
+busy_tight slot node step x rs lt deeper false nay = omega (arith, lt)
+
+opened_tight : (slot node step : ℕ) (rs : List Response) → node < 32 → IsTight (33 - node) rs (opened slot node step rs) (opened slot node step (rs ++ again ∷ []))
+opened_tight slot node step [] lt = (omega (arith, lt), tt)
+opened_tight slot node step (Busy x ∷ rs) lt = busy_tight slot node step x rs lt (λ more. opened_tight slot (node + 1) (step + 1) rs more) (nat_lt (node + 1) DEMUX_NODES) refl
+opened_tight slot node step (Done from to tap ∷ rs) lt =
+    more_tight 2 (33 - node) (Done from to tap ∷ rs) (told (Bound slot node) node tap (step + 1) rs) (told (Bound slot node) node tap (step + 1) (rs ++ again ∷ [])) (omega (arith, lt))
+    (after_one 1 (Done from to tap) rs (told (Bound slot node) node tap (step + 1) rs) (told (Bound slot node) node tap (step + 1) (rs ++ again ∷ [])) (told_tight (Bound slot node) node tap (step + 1) rs))
+opened_tight slot node step (Refused x ∷ rs) lt = omega (arith, lt)
+opened_tight slot node step (NoMemory ∷ rs) lt = omega (arith, lt)
+opened_tight slot node step (Data x ∷ rs) lt = omega (arith, lt)
+opened_tight slot node step (Again x ∷ rs) lt = omega (arith, lt)
+opened_tight slot node step (Overflow a b c d e ∷ rs) lt = omega (arith, lt)
+opened_tight slot node step (TimedOut a b c ∷ rs) lt = omega (arith, lt)
+opened_tight slot node step (Ready a b c d ∷ rs) lt = omega (arith, lt)
+opened_tight slot node step (Passed ∷ rs) lt = omega (arith, lt)
+
+read_tight : (ends : Response → Bool) (node count step : ℕ) (rs : List Response)
+    → IsTight (1 + repeated ends rs) rs (read_until ends node count step rs) (read_until ends node count step (rs ++ again ∷ []))
+read_tight ends node count step [] = (omega arith, go (ends again)) where
+  go : (b : Bool) → StaysOn (record { step = step; node = node; want = Read count }) (if b then through Made (step + 1) [] else read_until ends node count (step + 1) [])
+  go true = tt
+  go false = refl
+read_tight ends node count step (r ∷ rs) = go (ends r) (read_tight ends node count (step + 1) rs) where
+  go : (b : Bool) → IsTight (1 + repeated ends rs) rs (read_until ends node count (step + 1) rs) (read_until ends node count (step + 1) (rs ++ again ∷ []))
+      → IsTight (1 + (if b then 0 else 1 + repeated ends rs)) (r ∷ rs) (if b then through Made (step + 1) rs else read_until ends node count (step + 1) rs)
+      (if b then through Made (step + 1) (rs ++ again ∷ []) else read_until ends node count (step + 1) (rs ++ again ∷ []))
+  go true deeper = omega arith
+  go false deeper =
+      more_tight (1 + repeated ends rs + 1) (1 + (1 + repeated ends rs)) (r ∷ rs) (read_until ends node count (step + 1) rs) (read_until ends node count (step + 1) (rs ++ again ∷ [])) (omega arith)
+      (after_one (1 + repeated ends rs) r rs (read_until ends node count (step + 1) rs) (read_until ends node count (step + 1) (rs ++ again ∷ [])) deeper)
+
+-- ------ a command
+
+call_tight : (node : ℕ) (w : Want) (step : ℕ) (rs : List Response) → IsTight (33 + 0) rs (called node w step rs) (called node w step (rs ++ again ∷ []))
+call_tight node w step rs = more_tight 2 33 rs (called node w step rs) (called node w step (rs ++ again ∷ [])) (omega arith) (called_tight node w step rs)
+
+reads_tight : (ends : Response → Bool) (node count step : ℕ) (rs : List Response)
+    → IsTight (33 + repeated ends rs) rs (read_until ends node count step rs) (read_until ends node count step (rs ++ again ∷ []))
+reads_tight ends node count step rs =
+    more_tight (1 + repeated ends rs) (33 + repeated ends rs) rs (read_until ends node count step rs) (read_until ends node count step (rs ++ again ∷ [])) (omega arith) (read_tight ends node count step rs)
+
+on_tight : (node : ℕ) (v : Verb) (step : ℕ) (rs : List Response) → IsTight (33 + repeats_on v rs) rs (done_on node v step rs) (done_on node v step (rs ++ again ∷ []))
+on_tight node (verb.ReadWait count) step rs = reads_tight ends_wait node count step rs
+on_tight node (verb.Drain count) step rs = reads_tight ends_drain node count step rs
+on_tight node verb.Open step rs = call_tight node _ step rs
+on_tight node verb.Close step rs = call_tight node _ step rs
+on_tight node (verb.Section p) step rs = call_tight node _ step rs
+on_tight node (verb.Pes p) step rs = call_tight node _ step rs
+on_tight node (verb.Add p) step rs = call_tight node _ step rs
+on_tight node (verb.Remove p) step rs = call_tight node _ step rs
+on_tight node verb.Start step rs = call_tight node _ step rs
+on_tight node verb.Stop step rs = call_tight node _ step rs
+on_tight node (verb.Size p) step rs = call_tight node _ step rs
+on_tight node (verb.Read p) step rs = call_tight node _ step rs
+on_tight node verb.Poll step rs = call_tight node _ step rs
+
+at_tight : (o : Option ℕ) (v : Verb) (step : ℕ) (rs : List Response) → IsTight (33 + repeats_at o v rs) rs (done_at o v step rs) (done_at o v step (rs ++ again ∷ []))
+at_tight None v step rs = omega arith
+at_tight (Some node) v step rs = on_tight node v step rs
+
+open_slot_tight : (slot step : ℕ) (o : Option ℕ) (rs : List Response) → IsTight (33 + repeats_at o verb.Open rs) rs (opened slot 0 step rs) (opened slot 0 step (rs ++ again ∷ []))
+open_slot_tight slot step o rs = more_tight 33 (33 + repeats_at o verb.Open rs) rs (opened slot 0 step rs) (opened slot 0 step (rs ++ again ∷ [])) (omega arith) (opened_tight slot 0 step rs (omega arith))
+
+slot_tight : (slot : ℕ) (slots : Slots) (v : Verb) (step : ℕ) (rs : List Response)
+    → IsTight (33 + repeats_at (slice_index_or slots slot None) v rs) rs (done_by_slot slot slots v step rs) (done_by_slot slot slots v step (rs ++ again ∷ []))
+slot_tight slot slots verb.Open step rs = open_slot_tight slot step (slice_index_or slots slot None) rs
+slot_tight slot slots (verb.ReadWait n) step rs = at_tight (slice_index_or slots slot None) (verb.ReadWait n) step rs
+slot_tight slot slots (verb.Drain n) step rs = at_tight (slice_index_or slots slot None) (verb.Drain n) step rs
+slot_tight slot slots verb.Close step rs = at_tight (slice_index_or slots slot None) verb.Close step rs
+slot_tight slot slots (verb.Section p) step rs = at_tight (slice_index_or slots slot None) (verb.Section p) step rs
+slot_tight slot slots (verb.Pes p) step rs = at_tight (slice_index_or slots slot None) (verb.Pes p) step rs
+slot_tight slot slots (verb.Add p) step rs = at_tight (slice_index_or slots slot None) (verb.Add p) step rs
+slot_tight slot slots (verb.Remove p) step rs = at_tight (slice_index_or slots slot None) (verb.Remove p) step rs
+slot_tight slot slots verb.Start step rs = at_tight (slice_index_or slots slot None) verb.Start step rs
+slot_tight slot slots verb.Stop step rs = at_tight (slice_index_or slots slot None) verb.Stop step rs
+slot_tight slot slots (verb.Size p) step rs = at_tight (slice_index_or slots slot None) (verb.Size p) step rs
+slot_tight slot slots (verb.Read p) step rs = at_tight (slice_index_or slots slot None) (verb.Read p) step rs
+slot_tight slot slots verb.Poll step rs = at_tight (slice_index_or slots slot None) verb.Poll step rs
+
+done_tight : (slots : Slots) (t : Target) (v : Verb) (step : ℕ) (rs : List Response) → IsTight (33 + repeats_in slots t v rs) rs (done slots t v step rs) (done slots t v step (rs ++ again ∷ []))
+done_tight slots (Node node) v step rs = on_tight node v step rs
+done_tight slots (Slot slot) v step rs = slot_tight slot slots v step rs
+done_tight slots Dvr v step rs = on_tight DEMUX_NODES v step rs
+
+-- ------ all commands
+
+none_stands : (s : Standing) → ◌≡◌ {A = Option Standing} None (Some s) → ⊥
+none_stands s is = subst (λ o. MatchOption o (Unit {0}) (λ x. ⊥)) is tt
+
+same_some : (s t : Standing) → ◌≡◌ {A = Option Standing} (Some s) (Some t) → s ≡ t
+same_some s t is = cc
+
+abbrev rest_of : (slots : Slots) (cs : List Command) → Doing → ℕ
+rest_of slots cs d = elim d [ stands event ↦ 0 | through ending next left ↦ repeats_from (slots_after ending slots) next cs left ]
+
+abbrev progress_of : (slots : Slots) (step : ℕ) (c : Command) (cs : List Command) → Doing → Progress
+progress_of slots step c cs d = elim d [
+  | stands event ↦ record { outcomes = []; standing = Some (record { line = c.line; from = step; event = event }) }
+  | through ending next left ↦ with_outcome (record { line = c.line; from = step; to = next; kind = kind_of ending }) (progress_from (slots_after ending slots) next cs left)
+]
+
+-- after n replies, which allow m repeats; where Again allows one more, the client stands there, if it does, on the node on which it stood
+record Tight (commands n m more : ℕ) (s : Standing) (now : Option Standing) : Type 0 where
+  few : n < 33 * commands + m
+  stays : m < more → (t : Standing) → now ≡ Some t → t.event.node ≡ s.event.node
+
+all_tight : (slots : Slots) (step : ℕ) (cs : List Command) (rs : List Response) (s : Standing) → (progress_from slots step cs rs).standing ≡ Some s
+    → Tight (length cs) (length rs) (repeats_from slots step cs rs) (repeats_from slots step cs (rs ++ again ∷ [])) s (progress_from slots step cs (rs ++ again ∷ [])).standing
+all_tight slots step [] rs s is = absurd (none_stands s is)
+all_tight slots step (c ∷ cs) rs s is =
+    go (λ ending next left there. all_tight (slots_after ending slots) next cs left s there) (done slots c.target c.verb step rs) (done slots c.target c.verb step (rs ++ again ∷ []))
+    (repeats_in slots c.target c.verb rs) (repeats_in slots c.target c.verb (rs ++ again ∷ [])) (done_tight slots c.target c.verb step rs) (done_on_more slots c.target c.verb step rs again) is where
+      go : ((ending : Ending) (next : ℕ) (left : List Response) → (progress_from (slots_after ending slots) next cs left).standing ≡ Some s
+          → Tight (length cs) (length left) (repeats_from (slots_after ending slots) next cs left) (repeats_from (slots_after ending slots) next cs (left ++ again ∷ [])) s (progress_from (slots_after ending slots) next cs (left ++ again ∷ [])).standing)
+          → (d f : Doing) (m n : ℕ) → IsTight (33 + m) rs d f → Onward step again m n d f → (progress_of slots step c cs d).standing ≡ Some s
+          → Tight (length (c ∷ cs)) (length rs) (m + rest_of slots cs d) (n + rest_of slots cs f) s (progress_of slots step c cs f).standing
+      go deeper (stands e) (stands f) m n tight on there =
+          let same : e ≡ s.event = ap (λ t. t.event) (same_some (record { line = c.line; from = step; event = e }) s there) in
+          record {
+            few = omega (arith, tight.0);
+            stays = λ grows t is. sym (ap (λ x. x.event.node) (same_some (record { line = c.line; from = step; event = f }) t is)) ∙ tight.1 ∙ ap (λ x. x.node) same;
+          }
+      go deeper (stands e) (through ending next left) m n tight on there =
+          let nil : repeats_from (slots_after ending slots) next cs left ≡ 0 = ap (λ l. repeats_from (slots_after ending slots) next cs l) on.0 ∙ repeats_none (slots_after ending slots) next cs in
+          record { few = omega (arith, tight.0); stays = λ grows t is. absurd (omega (arith, grows, on.1, nil)) }
+      go deeper (through ending next left) f m n tight on there =
+          let later = deeper ending next left there in
+          let kept : rest_of slots cs f ≡ repeats_from (slots_after ending slots) next cs (left ++ again ∷ []) = ap (λ x. rest_of slots cs x) on.0 in
+          let stood : (progress_of slots step c cs f).standing ≡ (progress_from (slots_after ending slots) next cs (left ++ again ∷ [])).standing = ap (λ x. (progress_of slots step c cs x).standing) on.0 in
+          record {
+            few = omega (arith, tight, later.few);
+            stays = λ grows t is. later.stays (omega (arith, grows, on.1, kept)) t (sym stood ∙ is);
+          }
+
+pub first_calls : (client : ℕ) (lines : List Line) (replies : List Response) (s : Standing) → (progress client lines replies).standing ≡ Some s
+    → length replies < 33 * length (commands_of client lines) + repeats client lines replies
+unfolding progress repeats
+first_calls client lines replies s is = (all_tight no_slots 0 (commands_of client lines) replies s is).few
+
+pub stays_on : (client : ℕ) (lines : List Line) (replies : List Response) (s : Standing) → (progress client lines replies).standing ≡ Some s
+    → repeats client lines replies < repeats client lines (replies ++ Again false ∷ []) → (t : Standing) → (progress client lines (replies ++ Again false ∷ [])).standing ≡ Some t
+    → t.event.node ≡ s.event.node
+unfolding progress repeats
+stays_on client lines replies s is grows t now = (all_tight no_slots 0 (commands_of client lines) replies s is).stays grows t now
