@@ -1,5 +1,6 @@
 """What the scripts of this folder share: a stream, and the times that programs take over it."""
 import random
+import resource
 import subprocess
 import sys
 import time
@@ -45,6 +46,12 @@ def run(words, path):
         begun = time.perf_counter()
         written = subprocess.run(words, stdin=source, stdout=subprocess.PIPE, check=True).stdout
         return written, time.perf_counter() - begun
+
+
+def processor_time():
+    """The seconds of processors that the programs run so far have taken."""
+    used = resource.getrusage(resource.RUSAGE_CHILDREN)
+    return used.ru_utime + used.ru_stime
 
 
 def least_times(ways, path, repeats):

@@ -1,6 +1,7 @@
 -- The report of a run by threads.
-use Rattle.std.proofs.Common.{◌≡◌, ℕ, Bool, List, ◌++◌, sym}
-use Rattle.std.specs.Prelude.{Option}
+use Rattle.std.proofs.Common.{◌≡◌, ◌<◌, ◌≤◌, ℕ, Bool, false, List, ◌++◌, sym, IsTrue}
+use Rattle.std.specs.Prelude.{◌↔◌, Option}
+use Rattle.std.specs.Io.KnownBytes.{Consumes, IsAtEnd}
 use Rattle.ts_packet.specs.Cut.{cut}
 use Rattle.dmx_calls.specs.declared.head.Head.{Head}
 use Rattle.dmx_calls.specs.declared.histories.Fed.{Fed}
@@ -14,7 +15,8 @@ use Rattle.feed_pull.specs.Streams.{OfStream}
 use Rattle.adapter.specs.Callers.{Caller}
 use Rattle.workers.specs.Worked.{AreWorked}
 use Rattle.report_text.specs.Report.{report_of}
-use Rattle.emu_top.specs.Session.{IsThreadOutput}
+use Rattle.emu_top.specs.Session.{Holds, IsThreadOutput, Makes}
+use Rattle.emu_top.proofs.Outputs.{made_of}
 
 module _ (batch : ℕ) (may : ℕ → Bool) (lines : List Line) (head : Head) (feeder : Caller) (feeding : List Fed) (others : List Caller) (books : List (List LogEntry)) (became : List (List Outcome)) where
   -- what the threads have left, over a stream
@@ -34,3 +36,15 @@ module _ (batch : ℕ) (may : ℕ → Bool) (lines : List Line) (head : Head) (f
         whole = whole (cut (ahead ++ of.0)).packets w.0;
         report = rw (← w.1) e;
       })
+
+  -- and so the output for the session
+  pub threads_made : (content mid left : Option (List ℕ)) (before after : ℕ) (first : List ℕ) (puller : Pulling) (histories : List (List LogEntry)) (failed : Bool) (told : List (List Outcome)) (text : List ℕ)
+      → Consumes content mid first → Holds first lines puller
+      → OfStream mid left puller (λ ahead taken. HaveLeft (ahead ++ taken))
+      → ((stream : List (List ℕ)) → AreWorked lines batch may stream feeder feeding others books became → IsWholeRun lines batch may stream became histories)
+      → (IsTrue head.read_fault ↔ (before < after)) → before ≤ after → (head.read_fault ≡ false → IsAtEnd left)
+      → failed ≡ head.read_fault → told ≡ became → text ≡ report_of (told_head head) told histories
+      → Makes (IsThreadOutput batch may) content left before after failed text
+  threads_made content mid left before after first puller histories failed told text con h of whole rose later end fault same e =
+      let report : text ≡ report_of (told_head head) became histories = rw (← same) e in
+      rw fault (made_of (IsThreadOutput batch may) lines puller content mid left before after first head.read_fault text con h (thread_output mid left puller histories text of whole report) rose later end)

@@ -101,8 +101,34 @@ books_are logs ws e = out logs ∙ (ap (map (map told_entry)) e ∙ back ws) whe
 
 module _ (lines : List Line) (locks : List TableId) (n : ℕ) (feeder : Caller) (clients : List Caller) (fresh : AreFreshCallers locks n feeder clients) (all : AreAllCallers locks (clients ++ feeder ∷ []))
     (may : ℕ → Bool) (old new : List ClientWorker) (b : AreBegun lines clients old) (h : HaveCome may locks old new) where
-  many : length new ≡ n
+  pub many : length new ≡ n
   many = h.long ∙ (sym (length-map old (λ (v : ClientWorker). v.client)) ∙ (ap length b.are ∙ fresh.long))
+
+  -- they are the same callers
+  pub still_callers : (g : Caller) → IsSameCaller feeder g → AreAllCallers locks (map (λ (w : ClientWorker). w.client) new ++ g ∷ [])
+  still_callers g same = still_all locks (clients ++ feeder ∷ []) (now ++ g ∷ []) all (size, each) where
+    now : List Caller
+    now = map (λ (w : ClientWorker). w.client) new
+
+    count : length now ≡ length clients
+    count = length-map new (λ (v : ClientWorker). v.client) ∙ (many ∙ sym fresh.long)
+
+    size : length (now ++ g ∷ []) ≡ length (clients ++ feeder ∷ [])
+    size = length-append now (g ∷ []) ∙ (ap (λ (k : ℕ). k + 1) count ∙ sym (length-append clients (feeder ∷ [])))
+
+    client_same : (k : ℕ) (c d : Caller) → slice_get clients k ≡ Some c → slice_get now k ≡ Some d → IsSameCaller c d
+    client_same k c d at there =
+        let v = mapped (λ (x : ClientWorker). x.client) new k d there in
+        let u = come_at may locks old new h k v.0 v.1 in
+        let one : u.0.client ≡ c = one_value clients k u.0.client c (ap (λ (l : List Caller). slice_get l k) (sym b.are) ∙ (slice_get-map (λ (x : ClientWorker). x.client) old k ∙ ap (option_map (λ (x : ClientWorker). x.client)) u.1)) at in
+        subst (λ (x : Caller). IsSameCaller x d) one (subst (IsSameCaller u.0.client) v.2 u.2.same)
+
+    each : (k : ℕ) (c d : Caller) → slice_get (clients ++ feeder ∷ []) k ≡ Some c → slice_get (now ++ g ∷ []) k ≡ Some d → IsSameCaller c d
+    each k c d at there = ⊎_elim
+        (λ before. ⊎_elim (λ after. client_same k c d before after) (λ last. let low = place_below clients k c before in let e = last.0 in absurd (omega (arith, count))) (at_end now g d k there))
+        (λ here. ⊎_elim (λ after. let low = place_below now k d after in let e = here.0 in absurd (omega (arith, count)))
+        (λ last. subst (λ (x : Caller). IsSameCaller x d) here.1 (subst (IsSameCaller feeder) last.1 same)) (at_end now g d k there))
+        (at_end clients feeder c k at)
 
   module _ (f : FeederWorker) (w : Worked) (left : IsLeftBehind f new w) (none : (k : ℕ) (v : ClientWorker) → slice_get new k ≡ Some v → v.stop ≡ None) where
     -- each client has done its commands
@@ -125,28 +151,8 @@ module _ (lines : List Line) (locks : List TableId) (n : ℕ) (feeder : Caller) 
       each = worked_each;
     }
 
-    -- they are the same callers
     pub all_same : IsSameCaller feeder f.feeder → AreAllCallers locks (w.clients.items ++ w.feeder ∷ [])
-    all_same same = still_all locks (clients ++ feeder ∷ []) (w.clients.items ++ w.feeder ∷ []) all (size, each) where
-      count : length w.clients.items ≡ length clients
-      count = ap length left.clients ∙ (length-map new (λ (v : ClientWorker). v.client) ∙ (many ∙ sym fresh.long))
-
-      size : length (w.clients.items ++ w.feeder ∷ []) ≡ length (clients ++ feeder ∷ [])
-      size = length-append w.clients.items (w.feeder ∷ []) ∙ (ap (λ (k : ℕ). k + 1) count ∙ sym (length-append clients (feeder ∷ [])))
-
-      client_same : (k : ℕ) (c d : Caller) → slice_get clients k ≡ Some c → slice_get w.clients.items k ≡ Some d → IsSameCaller c d
-      client_same k c d at now =
-          let v = mapped (λ (x : ClientWorker). x.client) new k d (ap (λ (l : List Caller). slice_get l k) (sym left.clients) ∙ now) in
-          let u = come_at may locks old new h k v.0 v.1 in
-          let one : u.0.client ≡ c = one_value clients k u.0.client c (ap (λ (l : List Caller). slice_get l k) (sym b.are) ∙ (slice_get-map (λ (x : ClientWorker). x.client) old k ∙ ap (option_map (λ (x : ClientWorker). x.client)) u.1)) at in
-          subst (λ (x : Caller). IsSameCaller x d) one (subst (IsSameCaller u.0.client) v.2 u.2.same)
-
-      each : (k : ℕ) (c d : Caller) → slice_get (clients ++ feeder ∷ []) k ≡ Some c → slice_get (w.clients.items ++ w.feeder ∷ []) k ≡ Some d → IsSameCaller c d
-      each k c d at now = ⊎_elim
-          (λ before. ⊎_elim (λ after. client_same k c d before after) (λ last. let low = place_below clients k c before in let e = last.0 in absurd (omega (arith, count))) (at_end w.clients.items w.feeder d k now))
-          (λ here. ⊎_elim (λ after. let low = place_below w.clients.items k d after in let e = here.0 in absurd (omega (arith, count)))
-          (λ last. subst (λ (x : Caller). IsSameCaller x d) here.1 (subst (IsSameCaller feeder) (sym left.feeder ∙ last.1) same)) (at_end w.clients.items w.feeder d k now))
-          (at_end clients feeder c k at)
+    all_same same = subst (λ (x : Caller). AreAllCallers locks (w.clients.items ++ x ∷ [])) (sym left.feeder) (subst (λ (l : List Caller). AreAllCallers locks (l ++ f.feeder ∷ [])) (sym left.clients) (still_callers f.feeder same))
 
     -- each entry is on a node
     pub all_on_nodes : All (λ (log : Vec ToldEntry Global). AreOnNodes log.items) w.logs.items
@@ -202,6 +208,3 @@ pub one_of_both : (may : ℕ → Bool) (locks : List TableId) (old new : List Cl
     → (feeder ≡ Some (TooLong turns)) ⊎ ((turns ≡ 549755813888) × ((k : ℕ) × (w : ClientWorker) × (slice_get new k ≡ Some w) × (w.core.step ≡ 549755813888)))
 one_of_both may locks old new h feeder stop turns s is = ⊎_elim (λ first. inl (sym first ∙ is))
     (λ one. let u = come_at may locks old new h one.0 one.1 one.2 in let k = u.2.too_long turns (sym one.3 ∙ is) in inr (k.0, (one.0, one.1, one.2, k.1))) s.one
-
-pub feeders_stop : (may : ℕ → Bool) (locks : List TableId) (old new : List ClientWorker) → HaveCome may locks old new → (feeder stop : Option Stop) (turns : ℕ) → StopsBy feeder new stop → stop ≡ Some (TooLong turns) → turns ≢ 549755813888 → feeder ≡ Some (TooLong turns)
-feeders_stop may locks old new h feeder stop turns s is other = ⊎_elim (λ first. first) (λ many. absurd (other many.0)) (one_of_both may locks old new h feeder stop turns s is)

@@ -6,6 +6,15 @@ pub mod Columns
 pub mod Owning
 pub mod Batches
 pub mod Ended
+mod Beginning
+mod Drawing
+mod Feeding
+mod FeederWork
+mod Leaving
+mod Lists
+mod Logging
+mod TooLong
+mod Working
 pub mod Counting
 pub mod HistoryBytes
 pub mod ReadReplies
@@ -17,11 +26,3 @@ pub mod LogCalls
 pub mod Fitting
 pub mod Gaps
 pub mod Budgeting
-mod Beginning
-mod Drawing
-mod Feeding
-mod FeederWork
-mod Leaving
-mod Lists
-mod Logging
-mod Working

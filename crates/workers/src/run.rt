@@ -1,5 +1,5 @@
 // The run of a script by threads.
-ghost use Rattle.std.specs.Prelude.{◌≡◌, ◌≢◌, ◌⊎◌, false, ℕ, ◌-◌, ◌<◌, ◌≤◌, ◌^◌, ◌↔◌, List, [], ◌∷◌, ◌++◌, map, All, IfOk, OnErr, IsErrOf, IsTrue};
+ghost use Rattle.std.specs.Prelude.{◌≡◌, false, ℕ, ◌-◌, ◌<◌, ◌≤◌, ◌^◌, ◌↔◌, List, [], ◌∷◌, ◌++◌, map, All, IfOk, OnOk, OnErr, IsErrOf, IsTrue};
 ghost use Rattle.std.specs.Io.KnownBytes.{IsAtEnd};
 ghost use Rattle.ts_packet.specs.Cut.{cut};
 ghost use Rattle.dmx_calls.specs.Calls.{told_entry};
@@ -10,6 +10,7 @@ ghost use Rattle.feed_pull.specs.declared.fault.Reading.TheVariants.{Going};
 ghost use Rattle.feed_pull.specs.Pulling.{Pulling, IsDone};
 ghost use Rattle.feed_pull.specs.Streams.{Draws, OfStream};
 ghost use Rattle.adapter.specs.Callers.{AreAllCallers, AreFreshCallers};
+ghost use Rattle.adapter.specs.Ends.{HaveHistories};
 ghost use Rattle.trace_merge.specs.Merging.{AreOnNodes};
 ghost use Rattle.workers.specs.Leaving.{GoesFirst, StopsBy, IsLeftBehind};
 ghost use Rattle.workers.specs.Worked.{AreWorked};
@@ -47,6 +48,21 @@ fn stop_of(feeder: Option<Stop>, clients: &[ClientWorker]) -> Option<Stop>
         stop = graver(stop, client.stop);
     }
     stop
+}
+
+// Brings together what all callers of a run that is too long have seen: their calls then stand in histories.
+fn gather(
+    alloc: Global,
+    adapter: &Adapter,
+    feeder: FeederWorker,
+    clients: Vec<ClientWorker>,
+) -> Result<(), NoMemory>
+    requires { AreAllCallers adapter.now (map (λ w. w.client) clients.items ++ feeder.feeder ∷ []) }
+    ensures { OnOk result (HaveHistories (map (λ w. w.client) clients.items ++ feeder.feeder ∷ [])) }
+{
+    let Done { clients, .. } = done_of(alloc, clients)?;
+    adapter.gather(feeder.feeder, clients);
+    Ok(())
 }
 
 // What is left of workers that came to their end.
@@ -128,9 +144,8 @@ pub fn work<R: Threads + Wait + Sync, S: Source + Send, C: Clock + Sync, G: Gate
     ensures rose { IfOk result (λ w. IsTrue w.head.read_fault ↔ (S.faults source.old < S.faults source.new)) }
     ensures later { IfOk result (λ _. S.faults source.old ≤ S.faults source.new) }
     ensures end { IfOk result (λ w. w.head.read_fault ≡ false → IsAtEnd (S.left source.new)) }
-    ensures too_long { (turns : ℕ) → IsErrOf result (Stop.TooLong turns) → turns ≢ 549755813888 → OfStream (S.left source.old) (S.left source.new) puller (IsTooLong script.now puller.start turns) }
-    // The bound by the budget, that the commands and the bytes allow a client so many calls, isn't proved yet.
-    ensures too_many_calls { (turns : ℕ) → IsErrOf result (Stop.TooLong turns) → (turns ≡ 4294967296) ⊎ (turns ≡ 549755813888) }
+    // So many reads were made, or the commands and the bytes allow a client so many calls.
+    ensures too_long { (turns : ℕ) → IsErrOf result (Stop.TooLong turns) → OfStream (S.left source.old) (S.left source.new) puller (IsTooLong script.now puller.start turns) }
     // What was taken of the source where the run stopped, as the puller's pulls tell it.
     ensures draws { OnErr result ((packets : List (List ℕ)) × ((last : Pulling) × Draws (S.left source.old) (S.left source.new) (S.faults source.old) (S.faults source.new) puller last packets)) }
 {
@@ -152,8 +167,12 @@ pub fn work<R: Threads + Wait + Sync, S: Source + Send, C: Clock + Sync, G: Gate
         clock,
         gate,
     );
-    if let Some(stop) = stop_of(feeder.stop, &workers) {
-        return Err(stop);
+    match stop_of(feeder.stop, &workers) {
+        None => Ok(worked_of(alloc, feeder, workers)?),
+        Some(Stop::NoMemory) => Err(Stop::NoMemory),
+        Some(stop) => {
+            gather(alloc, adapter, feeder, workers)?;
+            Err(stop)
+        }
     }
-    Ok(worked_of(alloc, feeder, workers)?)
 }

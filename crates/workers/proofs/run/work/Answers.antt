@@ -1,13 +1,15 @@
 use Rattle.std.proofs.Common.{rules, ◌≡◌, ◌≢◌, ◌⊎◌, inl, inr, ⊎_elim, ℕ, ◌+◌, ◌<◌, ◌≤◌, List, [], ◌∷◌, ◌++◌, length, None, Some, refl, sym, ap, ◌∙◌, subst, arith}
 use Rattle.std.specs.Prelude.{slice_index_or, slice_get}
 use Rattle.std.proofs.lemmas.Option.{slice_get-get_or}
-use Rattle.client_core.specs.declared.stop.Stop.TheVariants.{TooLong}
+use Rattle.client_core.specs.declared.stop.Stop.TheVariants.{NoMemory, TooLong}
 use Rattle.workers.specs.declared.client_worker.ClientWorker.{ClientWorker}
 use Rattle.workers.specs.Begun.{AreBegun, HaveCome}
 use Rattle.workers.specs.Leaving.{IsLeftBehind, StopsBy}
 use Rattle.workers.proofs.Drawing.{draws_none}
 use Rattle.workers.proofs.Beginning.{begun_fit, begun_few, begun_feeder, begun_passed}
-use Rattle.workers.proofs.Leaving.{all_worked, all_same, all_on_nodes, worked_feeder, reads_by, no_stop, feeders_stop, one_of_both, on_err}
+use Rattle.workers.proofs.Leaving.{all_worked, all_same, all_on_nodes, worked_feeder, reads_by, no_stop, one_of_both, still_callers, on_err}
+use Rattle.workers.proofs.TooLong.{calls_by}
+use Rattle.workers.proofs.Budgeting.{many_calls}
 use Rattle.workers.proofs.run.work.Goals as goal
 
 pub workers_of-requires : goal.workers_of-requires
@@ -38,24 +40,8 @@ work_all-requires-clause-clients g c κs within k d low =
       begun_few c.args.script.now c.args.adapter.now _ c.args.feeder c.args.clients.items r.fresh r.all ws b k (slice_index_or ws k d) at,
     )
 
-pub returns-in-Some-clause-too_long : goal.returns-in-Some-clause-too_long
-returns-in-Some-clause-too_long g c turns is other =
-    let f = c.work_all.ensures.feeder in
-    let stop : c.stop_of.result ≡ Some (TooLong turns) = c.in-Some.is ∙ ap Some cc in
-    let s : StopsBy c.work_all.new.feeder.stop c.work_all.new.clients.items c.stop_of.result = rw (← c.deref.ensures.value) c.stop_of.ensures in
-    let k = f.too_long turns (feeders_stop _ _ c.in_ok-workers.workers.items c.work_all.new.clients.items c.work_all.ensures.clients c.work_all.new.feeder.stop c.stop_of.result turns s stop other) in
-    reads_by c.args.script.now _ _ _ _ turns c.args.puller c.work_all.new.feeder.puller f.draws.0 f.draws.1 k.0 k.1
-
-pub returns-in-Some-clause-too_many_calls : goal.returns-in-Some-clause-too_many_calls
-returns-in-Some-clause-too_many_calls g c turns is =
-    let f = c.work_all.ensures.feeder in
-    let stop : c.stop_of.result ≡ Some (TooLong turns) = c.in-Some.is ∙ ap Some cc in
-    let s : StopsBy c.work_all.new.feeder.stop c.work_all.new.clients.items c.stop_of.result = rw (← c.deref.ensures.value) c.stop_of.ensures in
-    ⊎_elim (λ first. inl (f.too_long turns first).0) (λ many. inr many.0)
-    (one_of_both _ _ c.in_ok-workers.workers.items c.work_all.new.clients.items c.work_all.ensures.clients c.work_all.new.feeder.stop c.stop_of.result turns s stop)
-
-pub returns-clause-worked : goal.returns-clause-worked
-returns-clause-worked g c =
+pub returns-in_ok-worked_of-in-None-clause-worked : goal.returns-in_ok-worked_of-in-None-clause-worked
+returns-in_ok-worked_of-in-None-clause-worked g c =
     let r = c.requires in let ws = c.in_ok-workers.workers.items in let vs = c.work_all.new.clients.items in
     let f = c.work_all.new.feeder in let fed = c.work_all.ensures.feeder in
     let may = g.C.Clock.may_give c.args.clock.now in
@@ -63,32 +49,54 @@ returns-clause-worked g c =
     let stop : c.stop_of.result ≡ None = search rules in
     let s : StopsBy f.stop vs c.stop_of.result = rw (← c.deref.ensures.value) c.stop_of.ensures in
     let none = s.none stop in
-    let left : IsLeftBehind f vs c.in_ok-worked_of.field-0 = c.in_ok-worked_of.ensures in
+    let left : IsLeftBehind f vs c.in_ok-worked_of-in-None.field-0 = c.in_ok-worked_of-in-None.ensures in
     let all = fed.all (no_stop f.stop none.0) in
     let more = all.draws.carries.more in (
       more,
       all.draws.carries.consumes,
       λ ahead pulls. (
-        all_worked c.args.script.now c.args.adapter.now _ c.args.feeder c.args.clients.items r.fresh r.all may ws vs b c.work_all.ensures.clients f c.in_ok-worked_of.field-0 left none.1
+        all_worked c.args.script.now c.args.adapter.now _ c.args.feeder c.args.clients.items r.fresh r.all may ws vs b c.work_all.ensures.clients f c.in_ok-worked_of-in-None.field-0 left none.1
             c.args.batch _ refl (worked_feeder c.args.batch may _ _ _ _ c.args.puller f all ahead pulls),
         left.head ahead more all.packets (all.draws.carries.pulls ahead [] [] pulls),
       ),
     )
 
-pub returns-clause-all : goal.returns-clause-all
-returns-clause-all g c =
+pub returns-in_ok-worked_of-in-None-clause-all : goal.returns-in_ok-worked_of-in-None-clause-all
+returns-in_ok-worked_of-in-None-clause-all g c =
     let r = c.requires in let ws = c.in_ok-workers.workers.items in let vs = c.work_all.new.clients.items in let f = c.work_all.new.feeder in
     let may = g.C.Clock.may_give c.args.clock.now in
     let b = c.in_ok-workers.ensures in
     let stop : c.stop_of.result ≡ None = search rules in
     let s : StopsBy f.stop vs c.stop_of.result = rw (← c.deref.ensures.value) c.stop_of.ensures in
-    all_same c.args.script.now c.args.adapter.now _ c.args.feeder c.args.clients.items r.fresh r.all may ws vs b c.work_all.ensures.clients f c.in_ok-worked_of.field-0 c.in_ok-worked_of.ensures (s.none stop).1 c.work_all.ensures.feeder.same
+    all_same c.args.script.now c.args.adapter.now _ c.args.feeder c.args.clients.items r.fresh r.all may ws vs b c.work_all.ensures.clients f c.in_ok-worked_of-in-None.field-0 c.in_ok-worked_of-in-None.ensures (s.none stop).1 c.work_all.ensures.feeder.same
 
-pub returns-clause-nodes : goal.returns-clause-nodes
-returns-clause-nodes g c =
+pub returns-in_ok-worked_of-in-None-clause-nodes : goal.returns-in_ok-worked_of-in-None-clause-nodes
+returns-in_ok-worked_of-in-None-clause-nodes g c =
     let r = c.requires in let ws = c.in_ok-workers.workers.items in let vs = c.work_all.new.clients.items in let f = c.work_all.new.feeder in
     let may = g.C.Clock.may_give c.args.clock.now in
     let b = c.in_ok-workers.ensures in
     let stop : c.stop_of.result ≡ None = search rules in
     let s : StopsBy f.stop vs c.stop_of.result = rw (← c.deref.ensures.value) c.stop_of.ensures in
-    all_on_nodes c.args.script.now c.args.adapter.now _ c.args.feeder c.args.clients.items r.fresh r.all may ws vs b c.work_all.ensures.clients f c.in_ok-worked_of.field-0 c.in_ok-worked_of.ensures (s.none stop).1
+    all_on_nodes c.args.script.now c.args.adapter.now _ c.args.feeder c.args.clients.items r.fresh r.all may ws vs b c.work_all.ensures.clients f c.in_ok-worked_of-in-None.field-0 c.in_ok-worked_of-in-None.ensures (s.none stop).1
+
+pub gather-requires : goal.gather-requires
+gather-requires g c =
+    let r = c.requires in
+    still_callers c.args.script.now c.args.adapter.now _ c.args.feeder c.args.clients.items r.fresh r.all (g.C.Clock.may_give c.args.clock.now) c.in_ok-workers.workers.items c.work_all.new.clients.items c.in_ok-workers.ensures c.work_all.ensures.clients
+    c.work_all.new.feeder.feeder c.work_all.ensures.feeder.same
+
+pub returns-in_ok-gather-in-Some-clause-too_long : goal.returns-in_ok-gather-in-Some-clause-too_long
+returns-in_ok-gather-in-Some-clause-too_long g c turns is =
+    let r = c.requires in let ws = c.in_ok-workers.workers.items in let vs = c.work_all.new.clients.items in
+    let f = c.work_all.new.feeder in let fed = c.work_all.ensures.feeder in
+    let may = g.C.Clock.may_give c.args.clock.now in
+    let stop : c.stop_of.result ≡ Some (TooLong turns) = c.in-Some.is ∙ ap Some cc in
+    let s : StopsBy f.stop vs c.stop_of.result = rw (← c.deref.ensures.value) c.stop_of.ensures in
+    let found : c.stop_of.result ≢ Some NoMemory = λ e. absurd (cc (stop, e)) in
+    let memory = s.memory found in
+    let all = fed.all memory.0 in
+    ⊎_elim
+    (λ first. let k = fed.too_long turns first in reads_by c.args.script.now _ _ _ _ turns c.args.puller f.puller fed.draws.0 fed.draws.1 k.0 k.1)
+    (λ many. calls_by c.args.script.now c.args.adapter.now _ c.args.feeder c.args.clients.items r.fresh r.all may ws vs c.in_ok-workers.ensures c.work_all.ensures.clients
+    c.args.batch _ _ _ _ c.args.puller f all memory.1 refl c.in_ok-gather-in-Some.ensures many_calls turns many.1.0 many.1.1 many.1.2 many.1.3 many.0)
+    (one_of_both may c.args.adapter.now ws vs c.work_all.ensures.clients f.stop c.stop_of.result turns s stop)

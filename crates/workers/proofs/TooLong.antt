@@ -1,0 +1,105 @@
+-- Why a client has made too many calls.
+use Rattle.std.proofs.Common.{take, nat_le, if◌then◌else◌, ◌==◌, ◌≡◌, ◌≢◌, inr, refl, sym, ap, subst, ◌∙◌, ℕ, zero, suc, ◌*◌, ◌+◌, ◌≤◌, ◌<◌, Bool, true, false, List, [], ◌∷◌, ◌++◌, length, map, Some, arith}
+use Rattle.std.specs.Prelude.{All, slice_get, option_map, slice_index_or}
+use Rattle.std.specs.declared.option.Option.{Option}
+use Rattle.std.proofs.lemmas.Bool.Decides.{nat_tests}
+use Rattle.std.proofs.lemmas.List.{length-take-le, length-map}
+use Rattle.std.proofs.lemmas.List.Elements.{All-nil, All-cons, All-tail}
+use Rattle.std.proofs.lemmas.Option.{slice_get-map, slice_get-get_or}
+use Rattle.atomic_table.specs.Seated.{TableId}
+use Rattle.ts_packet.specs.Fields.{IsPacket}
+use Rattle.ts_packet.specs.Cut.{cut, cut_after, packet_before, only_rest, skip_before}
+use Rattle.dmx_calls.specs.Calls.{told_entry}
+use Rattle.dmx_calls.specs.Log.{LogEntry}
+use Rattle.dmx_calls.specs.declared.limits.TheConstants.{DEMUX_NODES}
+use Rattle.dmx_calls.specs.declared.log.Entry.{Entry as ToldEntry}
+use Rattle.client_script.specs.declared.line.Line.{Line}
+use Rattle.client_script.specs.Script.{clients_in}
+use Rattle.client_core.specs.Budget.{IsTooLong}
+use Rattle.client_core.specs.declared.stop.Stop.TheVariants.{NoMemory}
+use Rattle.feed_pull.specs.Pulling.{Pulling, Pulls}
+use Rattle.feed_pull.specs.Streams.{OfStream}
+use Rattle.feed_pull.proofs.PullLemmas.{Pulls-done, Pulls-size}
+use Rattle.adapter.specs.Callers.{Caller, AreFreshCallers, AreAllCallers}
+use Rattle.adapter.specs.Ends.{HaveHistories}
+use Rattle.adapter.specs.Nodes.{ended}
+use Rattle.adapter.proofs.Lists.{one_value}
+use Rattle.trace_merge.specs.Merging.{AreOnNodes}
+use Rattle.workers.specs.declared.client_worker.ClientWorker.{ClientWorker}
+use Rattle.workers.specs.declared.feeder_worker.FeederWorker.{FeederWorker}
+use Rattle.workers.specs.Working.{log_of}
+use Rattle.workers.specs.Begun.{AreBegun, HaveCome}
+use Rattle.workers.specs.Budget.{IsRunning, ManyCallsAreTooLong}
+use Rattle.workers.specs.Logged.{HasCalled}
+use Rattle.workers.specs.FeederWork.{HasPassedAll}
+use Rattle.workers.proofs.Lists.{mapped}
+use Rattle.workers.proofs.Beginning.{begun_works}
+use Rattle.workers.proofs.Leaving.{come_at, many}
+
+-- ------ what is cut of a stream are packets
+
+cut_packets : (inside : ℕ) (bytes : List ℕ) → All IsPacket (cut_after inside bytes).packets
+unfolding cut_after
+cut_packets inside [] = All-nil IsPacket
+cut_packets (suc inside) (byte ∷ bytes) = cut_packets inside bytes
+cut_packets zero (byte ∷ bytes) = go (byte == 71) refl (nat_le 187 (length bytes)) refl (cut_packets 187 bytes) (cut_packets 0 bytes) where
+  go : (b : Bool) → (byte == 71) ≡ b → (c : Bool) → nat_le 187 (length bytes) ≡ c → All IsPacket (cut_after 187 bytes).packets → All IsPacket (cut_after 0 bytes).packets
+      → All IsPacket (if b then (if c then packet_before (take 188 (byte ∷ bytes)) (cut_after 187 bytes) else only_rest (byte ∷ bytes)) else skip_before (cut_after 0 bytes)).packets
+  go true first true long behind later =
+      let e : byte ≡ 71 = grind (arith, nat_tests) in
+      let n : 187 ≤ length bytes = grind (arith, nat_tests) in
+      All-cons IsPacket (take 188 (byte ∷ bytes)) (cut_after 187 bytes).packets (record { size = length-take-le 188 (byte ∷ bytes) (omega (arith, n)); sync = e }) behind
+  go true first false short behind later = All-nil IsPacket
+  go false other c is behind later = later
+
+are_packets : (bytes : List ℕ) → All IsPacket (cut bytes).packets
+unfolding cut
+are_packets bytes = cut_packets 0 bytes
+
+-- ------ the moment at which the workers have come to their ends
+
+module _ (lines : List Line) (locks : List TableId) (n : ℕ) (feeder : Caller) (clients : List Caller) (fresh : AreFreshCallers locks n feeder clients) (all : AreAllCallers locks (clients ++ feeder ∷ []))
+    (may : ℕ → Bool) (old new : List ClientWorker) (b : AreBegun lines clients old) (h : HaveCome may locks old new)
+    (most : ℕ) (x y : Option (List ℕ)) (l m : ℕ) (first : Pulling) (f : FeederWorker) (k : HasPassedAll most may x y l m first f)
+    (found : (i : ℕ) (w : ClientWorker) → slice_get new i ≡ Some w → w.stop ≢ Some NoMemory) (is : n ≡ clients_in lines) (histories : HaveHistories (map (λ (w : ClientWorker). w.client) new ++ f.feeder ∷ [])) where
+  now_pulls : (ahead : List ℕ) → Pulls ahead [] [] first → Pulls ahead k.draws.carries.more k.packets f.puller
+  now_pulls ahead pulls = k.draws.carries.pulls ahead [] [] pulls
+
+  count : length new ≡ clients_in lines
+  count = many lines locks n feeder clients fresh all may old new b h ∙ is
+
+  told_nodes : (es : List ToldEntry) → AreOnNodes es → All (λ (e : LogEntry). e.node ≤ DEMUX_NODES) (map told_entry es)
+  told_nodes [] on = All-nil (λ (e : LogEntry). e.node ≤ DEMUX_NODES)
+  told_nodes (e ∷ es) on = All-cons (λ (e : LogEntry). e.node ≤ DEMUX_NODES) (told_entry e) (map told_entry es) (on 0 e (omega arith)) (told_nodes es (All-tail (λ (e : ToldEntry). e.node ≤ DEMUX_NODES) e es on))
+
+  running : (ahead : List ℕ) → Pulls ahead [] [] first → IsRunning lines most may k.packets (ended ∷ []) f.feeder f.feeding.items (map (λ (w : ClientWorker). w.client) new) (map log_of new)
+  running ahead pulls = record {
+    are_packets = subst (All IsPacket) (Pulls-done ahead k.draws.carries.more k.packets f.puller (now_pulls ahead pulls) k.done).packets (are_packets (ahead ++ k.draws.carries.more));
+    end = inr refl;
+    fed = k.fed;
+    clients = length-map new (λ (w : ClientWorker). w.client) ∙ count;
+    logs = length-map new log_of ∙ count;
+    called = λ c client log at_client at_log.
+        let v = mapped (λ (w : ClientWorker). w.client) new c client at_client in
+        let u = come_at may locks old new h c v.0 v.1 in
+        let one : log_of v.0 ≡ log = one_value (map log_of new) c (log_of v.0) log (slice_get-map log_of new c ∙ ap (option_map log_of) v.1) at_log in
+        let w = u.2.goes_on (found c v.0 v.1) lines c (begun_works lines locks n feeder clients fresh all old b c u.0 u.1 may) in
+        subst (λ (z : Caller). HasCalled lines c may z log) v.2 (subst (λ (z : List LogEntry). HasCalled lines c may v.0.client z) one w.called);
+    nodes = λ c log at_log.
+        let v = mapped log_of new c log at_log in
+        let u = come_at may locks old new h c v.0 v.1 in
+        subst (All (λ (e : LogEntry). e.node ≤ DEMUX_NODES)) v.2 (told_nodes v.0.log.items (u.2.fit (found c v.0 v.1)).nodes);
+    histories = histories;
+  }
+
+  -- a client has made so many calls
+  pub calls_by : ManyCallsAreTooLong → (turns i : ℕ) (w : ClientWorker) → slice_get new i ≡ Some w → w.core.step ≡ 549755813888 → turns ≡ 549755813888 → OfStream x y first (IsTooLong lines first.start turns)
+  calls_by law turns i w at calls turns_is =
+      let u = come_at may locks old new h i w at in
+      let size : length (log_of w) ≡ 549755813888 = length-map w.log.items told_entry ∙ (sym (u.2.fit (found i w at)).steps ∙ calls) in (
+        k.draws.carries.more,
+        k.draws.carries.consumes,
+        λ ahead pulls. subst (λ (t : ℕ). IsTooLong lines first.start t ahead k.draws.carries.more) (size ∙ sym turns_is)
+            (law lines most may k.packets (ended ∷ []) f.feeder f.feeding.items (map (λ (z : ClientWorker). z.client) new) (map log_of new) (running ahead pulls) first.start ahead k.draws.carries.more
+            (Pulls-size ahead k.draws.carries.more k.packets f.puller (now_pulls ahead pulls)) i (log_of w) (slice_get-map log_of new i ∙ ap (option_map log_of) at) size),
+      )
