@@ -1,10 +1,32 @@
-//! A run of a script by threads: one passes the stream, and each client has one of its own.
+//! Runs of a script by threads, over the adapter's 33 locked nodes.
 //!
-//! `work` takes an adapter with its feeder and clients, a script and a stream, and does all that they ask: the feeder passes the
-//! stream's batches through the 33 nodes and then its end, and each client does its commands, one call after another, by the
-//! replies that it gets. A client that waits repeats its read when another caller has called that node since. Before each event,
-//! and once more behind its last, a worker calls the gate, never under a lock. `histories_of_run` ends the adapter and brings the
-//! logs together.
+//! `work` does each client's commands on a thread of its own, while the feeder passes a stream through all nodes on another, in
+//! batches, and then its end. Each of them keeps what it has called. A client that waits repeats its read when another caller has
+//! called that node since. Before each event, and once more behind its last, a worker calls the gate, never under a lock.
+//! `histories_of_run` ends the adapter, and brings all calls together in the order of their places.
+//!
+//! What a contract sees: a client's log as the list of its calls. `IsLogged` ties it to what the client's passes know: they
+//! have just these calls, each at the place that it was told. `HasCalled` says of a log that its calls are those that the
+//! script's commands ask for, by the replies before them, and `HasFed` of the feeder's batches that they are the packets of a
+//! stream, in their order; `AreWorked` says both of all callers, at the end of a run.
+//!
+//! What is proved, whatever the order in which the threads act: `work` leaves all that `AreWorked` says, over the stream that
+//! stood ahead in the puller and the bytes that were taken, in full batches but for the last, each moment one that the clock may
+//! give; the head is that of the stream. The source failed just where its count rose, and else it has nothing left. `TooLong`
+//! comes only where so many reads were made, or where the commands and the bytes allow a client so many calls: at each moment of
+//! a run no client makes more calls than that (`calls_are_within_budget`), since each repeated read is paid for by another
+//! caller's entry or by a byte. Where the run stops early, what was taken of the source is told as the puller's pulls tell it.
+//! `histories_of_run` gives the 33 histories of a run of the script (`IsWholeRun` of `client_core`): they are the locks' own
+//! histories, entry by entry.
+//!
+//! What is only tested: that the threads run beside each other, that each moment is a reading of its own, that the gate is told
+//! of each step, and that memory isn't refused where there is enough.
+//!
+//! What is neither: that a wait ends, who comes first, and how long anything takes. Where a thread can't be made its work is done
+//! behind that of another, and a waiting client may then wait for ever.
+//!
+//! Limits: 8 clients, batches of 1 to 64 packets, and 549,755,813,888 calls of a client. How threads share the work is this
+//! project's own.
 #![tactic(auto)]
 
 mod client_worker;
