@@ -28,14 +28,18 @@ module _ (batch : ℕ) (may : ℕ → Bool) (lines : List Line) (head : Head) (f
       → ((stream : List (List ℕ)) → AreWorked lines batch may stream feeder feeding others books became → IsWholeRun lines batch may stream became histories)
       → text ≡ report_of (told_head head) became histories
       → OfStream mid left puller (λ ahead taken. IsThreadOutput batch may lines (ahead ++ taken) head.read_fault text)
-  thread_output mid left puller histories text of whole e = (of.0, of.1, λ ahead pulls.
-      let w : HaveLeft (ahead ++ of.0) = of.2 ahead pulls in
-      record {
-        histories = histories;
-        outcomes = became;
-        whole = whole (cut (ahead ++ of.0)).packets w.0;
-        report = rw (← w.1) e;
-      })
+  thread_output mid left puller histories text of whole e = (
+    of.0,
+    of.1,
+    λ ahead pulls.
+        let w : HaveLeft (ahead ++ of.0) = of.2 ahead pulls in
+        record {
+          histories = histories;
+          outcomes = became;
+          whole = whole (cut (ahead ++ of.0)).packets w.0;
+          report = rw (← w.1) e;
+        },
+  )
 
   -- and so the output for the session
   pub threads_made : (content mid left : Option (List ℕ)) (before after : ℕ) (first : List ℕ) (puller : Pulling) (histories : List (List LogEntry)) (failed : Bool) (told : List (List Outcome)) (text : List ℕ)

@@ -59,14 +59,12 @@ fn run_threads<R: Threads + Wait + Sync, S: Source + Send, C: Clock + Sync, G: G
 }
 
 // What is to be written for the session of a source that threads run, in batches of this size.
-pub fn output_of_threads<R: Threads + Wait + Sync, S: Source + Send, C: Clock + Sync, G: Gate + Sync>(
-    rt: &R,
-    alloc: Global,
-    source: &mut S,
-    batch: u32,
-    clock: &C,
-    gate: &G,
-) -> Result<Output, Status>
+pub fn output_of_threads<
+    R: Threads + Wait + Sync,
+    S: Source + Send,
+    C: Clock + Sync,
+    G: Gate + Sync,
+>(rt: &R, alloc: Global, source: &mut S, batch: u32, clock: &C, gate: &G) -> Result<Output, Status>
     requires some { 1 ≤ batch }
     requires few { batch ≤ 64 }
     requires faults { S.faults source.old < 2 ^ 64 - 1 }

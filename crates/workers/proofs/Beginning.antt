@@ -1,5 +1,5 @@
 -- The workers before the first call.
-use Rattle.std.proofs.Common.{◌≡◌, ◌≢◌, inr, ℕ, Bool, ◌+◌, ◌<◌, ◌≤◌, ◌^◌, List, [], ◌∷◌, ◌++◌, length, map, Some, refl, ap, sym, ◌∙◌, subst, arith}
+use Rattle.std.proofs.Common.{◌≡◌, ◌≢◌, inr, ℕ, Bool, ◌+◌, ◌≤◌, ◌^◌, List, [], ◌∷◌, ◌++◌, length, map, Some, refl, ap, sym, ◌∙◌, subst, arith}
 use Rattle.std.specs.Prelude.{slice_get, option_map, All, IsTrue}
 use Rattle.std.specs.declared.option.Option.{Option}
 use Rattle.std.proofs.lemmas.Option.{slice_get-map}
@@ -16,7 +16,6 @@ use Rattle.client_script.specs.declared.line.Line.{Line}
 use Rattle.client_core.specs.Core.{IsAfter}
 use Rattle.client_core.specs.IsRun.{replies}
 use Rattle.client_core.specs.WholeRun.{IsGiven}
-use Rattle.feed_pull.specs.Pulling.{Pulling}
 use Rattle.adapter.specs.Callers.{Caller, IsFreshCaller, AreFreshCallers, AreAllCallers}
 use Rattle.adapter.specs.Rows.{Fits}
 use Rattle.adapter.proofs.Lists.{at_place, place_below, at_before, at_last}
@@ -25,7 +24,7 @@ use Rattle.workers.specs.declared.client_worker.ClientWorker.{ClientWorker}
 use Rattle.workers.specs.declared.feeder_worker.FeederWorker.{FeederWorker}
 use Rattle.workers.specs.Logged.{IsLogged, HasCalled}
 use Rattle.workers.specs.Working.{IsFit, IsWorking}
-use Rattle.workers.specs.Begun.{IsBegun, AreBegun}
+use Rattle.workers.specs.Begun.{AreBegun}
 use Rattle.workers.specs.Feeding.{AreFullBatches, HasFed}
 use Rattle.workers.specs.FeederWork.{IsFitFeeder, HasPassed}
 use Rattle.workers.proofs.Drawing.{draws_none}

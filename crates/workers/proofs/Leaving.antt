@@ -1,5 +1,5 @@
 -- The workers at their end.
-use Rattle.std.proofs.Common.{◌≡◌, ◌≢◌, ◌⊎◌, inl, inr, ⊎_elim, ℕ, zero, suc, Bool, true, false, ◌+◌, ◌<◌, ◌≤◌, List, [], ◌∷◌, ◌++◌, length, map, Vec, Global, Option, Some, None, refl, ap, sym, ◌∙◌, subst, arith, length-append, append-nil, Result, Ok, Err, OnErr}
+use Rattle.std.proofs.Common.{◌≡◌, ◌≢◌, ◌⊎◌, inl, inr, ⊎_elim, ℕ, Bool, true, false, ◌+◌, ◌<◌, ◌≤◌, List, [], ◌∷◌, ◌++◌, length, map, Vec, Global, Option, Some, None, refl, ap, sym, ◌∙◌, subst, arith, length-append, Result, Ok, Err, OnErr}
 use Rattle.std.specs.Prelude.{slice_get, slice_index_or, option_map, All, IsTrue, ◌↔◌}
 use Rattle.std.specs.Io.KnownBytes.{IsAtEnd}
 use Rattle.std.proofs.lemmas.Option.{slice_get-map, slice_get-get_or, get_or_from_slice_get}
@@ -13,7 +13,6 @@ use Rattle.dmx_calls.specs.declared.histories.Fed.{Fed}
 use Rattle.dmx_calls.specs.declared.outcome.Outcome.{Outcome}
 use Rattle.client_script.specs.declared.line.Line.{Line}
 use Rattle.client_script.specs.Script.{clients_in}
-use Rattle.client_core.specs.Core.{IsAfter, next_of}
 use Rattle.client_core.specs.IsRun.{replies}
 use Rattle.client_core.specs.Budget.{IsTooLong}
 use Rattle.client_core.specs.declared.stop.Stop.{Stop}
@@ -26,21 +25,21 @@ use Rattle.feed_pull.specs.Streams.{Draws, OfStream}
 use Rattle.feed_pull.proofs.PullLemmas.{Pulls-done}
 use Rattle.adapter.specs.Callers.{Caller, IsSameCaller, AreFreshCallers, AreAllCallers}
 use Rattle.adapter.specs.Nodes.{ended}
-use Rattle.adapter.proofs.Everybody.{AreSameCallers, still_all}
+use Rattle.adapter.proofs.Everybody.{still_all}
 use Rattle.adapter.proofs.Lists.{at_place, place_below, at_end, at_last, at_before, one_value}
 use Rattle.trace_merge.specs.Merging.{AreOnNodes}
 use Rattle.workers.specs.declared.client_worker.ClientWorker.{ClientWorker}
 use Rattle.workers.specs.declared.feeder_worker.FeederWorker.{FeederWorker}
 use Rattle.workers.specs.declared.worked.Worked.{Worked}
-use Rattle.workers.specs.Working.{log_of, IsFit, IsWorking, HasCome}
+use Rattle.workers.specs.Working.{log_of, IsWorking, HasCome}
 use Rattle.workers.specs.Begun.{AreBegun, HaveCome, AreOutcomesOf}
 use Rattle.workers.specs.Feeding.{HasFed, HasFedAll}
-use Rattle.workers.specs.FeederWork.{HasPassedAll, HasFedToEnd}
+use Rattle.workers.specs.FeederWork.{HasPassedAll}
 use Rattle.workers.specs.Leaving.{GoesFirst, StopsBy, IsLeftBehind}
 use Rattle.workers.specs.Worked.{HasWorked, AreWorked}
 use Rattle.workers.proofs.Lists.{mapped}
 use Rattle.workers.proofs.Working.{next_is}
-use Rattle.workers.proofs.Beginning.{begun_fit, begun_works}
+use Rattle.workers.proofs.Beginning.{begun_works}
 
 -- ------ why a run stops
 

@@ -1,5 +1,5 @@
 -- One call more in a client's log, and one look more.
-use Rattle.std.proofs.Common.{append_assoc, ◌≡◌, ◌≢◌, ◌⊎◌, inl, inr, ⊎_elim, ℕ, zero, suc, nat_eq, Bool, eqb, eq-eqb, ne_eqb, ◌+◌, ◌<◌, ◌≤◌, true, false, List, [], ◌∷◌, ◌++◌, length, take, slice_get, set, Some, refl, ap, sym, ◌∙◌, subst, arith, length-append}
+use Rattle.std.proofs.Common.{append_assoc, ◌≡◌, ◌≢◌, ⊎_elim, ℕ, nat_eq, Bool, eq-eqb, ne_eqb, ◌+◌, ◌<◌, ◌≤◌, true, false, List, [], ◌∷◌, ◌++◌, length, take, slice_get, set, Some, refl, ap, sym, ◌∙◌, subst, arith, length-append}
 use Rattle.std.specs.Prelude.{if◌then◌else◌, IsSome}
 use Rattle.std.proofs.lemmas.List.{take-append-le}
 use Rattle.std.proofs.Math.Seq.{take-append_seam}
@@ -15,7 +15,7 @@ use Rattle.node_lock.specs.declared.view.View.{View}
 use Rattle.node_lock.proofs.Views.{at_below, prefix_at}
 use Rattle.dmx_calls.specs.History.{Entry}
 use Rattle.dmx_calls.specs.Log.{LogEntry}
-use Rattle.dmx_calls.specs.Response.{Response, NoMemory}
+use Rattle.dmx_calls.specs.Response.{NoMemory}
 use Rattle.dmx_calls.specs.Entries.{caller_of}
 use Rattle.client_script.specs.declared.line.Line.{Line}
 use Rattle.client_core.specs.Events.{next_event, waits_on}

@@ -1,11 +1,11 @@
 -- Why a client has made too many calls.
-use Rattle.std.proofs.Common.{take, nat_le, if◌then◌else◌, ◌==◌, ◌≡◌, ◌≢◌, inr, refl, sym, ap, subst, ◌∙◌, ℕ, zero, suc, ◌*◌, ◌+◌, ◌≤◌, ◌<◌, Bool, true, false, List, [], ◌∷◌, ◌++◌, length, map, Some, arith}
-use Rattle.std.specs.Prelude.{All, slice_get, option_map, slice_index_or}
+use Rattle.std.proofs.Common.{take, nat_le, if◌then◌else◌, ◌==◌, ◌≡◌, ◌≢◌, inr, refl, sym, ap, subst, ◌∙◌, ℕ, zero, suc, ◌≤◌, Bool, true, false, List, [], ◌∷◌, ◌++◌, length, map, Some, arith}
+use Rattle.std.specs.Prelude.{All, slice_get, option_map}
 use Rattle.std.specs.declared.option.Option.{Option}
 use Rattle.std.proofs.lemmas.Bool.Decides.{nat_tests}
 use Rattle.std.proofs.lemmas.List.{length-take-le, length-map}
 use Rattle.std.proofs.lemmas.List.Elements.{All-nil, All-cons, All-tail}
-use Rattle.std.proofs.lemmas.Option.{slice_get-map, slice_get-get_or}
+use Rattle.std.proofs.lemmas.Option.{slice_get-map}
 use Rattle.atomic_table.specs.Seated.{TableId}
 use Rattle.ts_packet.specs.Fields.{IsPacket}
 use Rattle.ts_packet.specs.Cut.{cut, cut_after, packet_before, only_rest, skip_before}

@@ -1,5 +1,5 @@
 -- The steps of a client at work.
-use Rattle.std.proofs.Common.{◌≡◌, ◌+◌, ℕ, List, [], ◌∷◌, ◌++◌, length, map, Option, Some, refl, ap, sym, ◌∙◌, subst, arith}
+use Rattle.std.proofs.Common.{◌≡◌, ◌+◌, ℕ, List, [], ◌∷◌, ◌++◌, length, map, Some, refl, ap, sym, ◌∙◌, subst, arith}
 use Rattle.std.specs.Prelude.{option_map, slice_get}
 use Rattle.std.proofs.lemmas.Option.{slice_get-map}
 use Rattle.atomic_table.specs.Seated.{TableId}
@@ -12,7 +12,7 @@ use Rattle.adapter.specs.Rows.{Fits, OneLooks}
 use Rattle.adapter.proofs.Everybody.{same_trans}
 use Rattle.adapter.proofs.Lists.{one_value}
 use Rattle.workers.specs.declared.client_worker.ClientWorker.{ClientWorker}
-use Rattle.workers.specs.Working.{log_of, HasLooked, IsFit}
+use Rattle.workers.specs.Working.{log_of, HasLooked}
 use Rattle.workers.proofs.Logging.{called_looked}
 use Rattle.std.proofs.lemmas.List.{map-append, append-nil}
 use Rattle.dmx_calls.specs.Calls.{told_entry}

@@ -1,13 +1,11 @@
 -- The workers before the first call, and what is left of them.
-use Rattle.std.specs.Prelude.{◌≡◌, ◌+◌, ◌<◌, ℕ, Bool, List, [], length, map, slice_get, slice_index_or, Some, None}
+use Rattle.std.specs.Prelude.{◌≡◌, ◌+◌, ◌<◌, ℕ, Bool, List, [], length, map, slice_get, slice_index_or, Some}
 use Rattle.atomic_table.specs.Seated.{TableId}
 use Rattle.dmx_calls.specs.declared.outcome.Outcome.{Outcome}
 use Rattle.dmx_calls.specs.Response.{Response}
 use Rattle.client_script.specs.declared.line.Line.{Line}
 use Rattle.client_core.specs.Core.{Core, IsAfter}
 use Rattle.client_core.specs.Events.{outcomes}
-use Rattle.client_core.specs.declared.stop.Stop.{Stop}
-use Rattle.client_core.specs.declared.stop.Stop.TheVariants.{NoMemory, TooLong}
 use Rattle.adapter.specs.Callers.{Caller}
 use Rattle.workers.specs.declared.client_worker.ClientWorker.{ClientWorker}
 use Rattle.workers.specs.declared.done.Done.{Done}

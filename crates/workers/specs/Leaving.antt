@@ -3,7 +3,7 @@ use Rattle.std.specs.Prelude.{◌≡◌, ◌≢◌, ◌⊎◌, ◌++◌, ℕ, Li
 use Rattle.dmx_calls.specs.Head.{told_head, head_of}
 use Rattle.dmx_calls.specs.declared.outcome.Outcome.{Outcome}
 use Rattle.client_core.specs.declared.stop.Stop.{Stop}
-use Rattle.client_core.specs.declared.stop.Stop.TheVariants.{NoMemory, TooLong}
+use Rattle.client_core.specs.declared.stop.Stop.TheVariants.{NoMemory}
 use Rattle.feed_pull.specs.Pulling.{Pulls, has_failed}
 use Rattle.workers.specs.declared.client_worker.ClientWorker.{ClientWorker}
 use Rattle.workers.specs.declared.feeder_worker.FeederWorker.{FeederWorker}

@@ -1,11 +1,6 @@
-use Rattle.std.proofs.Common.{rules, ◌≡◌, ◌+◌, ℕ, List, [], ◌∷◌, ◌++◌, length, map, Some, Vec, Global, refl, sym, ap, ◌∙◌, arith, length-append}
-use Rattle.std.specs.Prelude.{slice_get}
+use Rattle.std.proofs.Common.{rules, ◌≡◌, ◌+◌, ℕ, [], ◌∷◌, ◌++◌, length, Vec, Global, refl, sym, ap, ◌∙◌, length-append}
 use Rattle.dmx_calls.specs.declared.log.Entry.{Entry}
-use Rattle.dmx_calls.specs.declared.outcome.Outcome.{Outcome}
-use Rattle.adapter.proofs.Lists.{at_end}
-use Rattle.adapter.specs.Callers.{Caller}
 use Rattle.workers.specs.declared.client_worker.ClientWorker.{ClientWorker}
-use Rattle.workers.specs.Begun.{AreOutcomesOf}
 use Rattle.workers.proofs.Lists.{maps_more, gives_more, outcomes_more}
 use Rattle.workers.proofs.done.done_of.Goals as goal
 

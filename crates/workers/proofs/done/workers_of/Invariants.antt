@@ -1,4 +1,4 @@
-use Rattle.std.proofs.Common.{◌≡◌, ◌≤◌, ◌+◌, ◌++◌, ℕ, length, map, Some}
+use Rattle.std.proofs.Common.{◌≡◌, ℕ, length, map, Some}
 use Rattle.std.specs.Prelude.{slice_get}
 use Rattle.workers.specs.declared.client_worker.ClientWorker.{ClientWorker}
 use Rattle.workers.specs.Begun.{IsBegun}

@@ -1,6 +1,5 @@
-use Rattle.std.proofs.Common.{rules, ◌≡◌, refl, ℕ, ◌+◌, ◌<◌, length, arith}
+use Rattle.std.proofs.Common.{arith}
 use Rattle.adapter.specs.Nodes.{IsLegalAt}
-use Rattle.workers.specs.Working.{HasLooked}
 use Rattle.workers.proofs.Logging.{seen_there}
 use Rattle.workers.proofs.Working.{looked_none, looked_on}
 use Rattle.workers.proofs.client_worker.ClientWorker.look_past.Goals as goal

@@ -1,4 +1,3 @@
-use Rattle.std.proofs.Common.{◌≡◌, ℕ}
 use Rattle.workers.specs.Working.{HasLooked, IsFit}
 use Rattle.workers.proofs.client_worker.ClientWorker.look_past.Given as goal
 

@@ -1,14 +1,12 @@
-use Rattle.std.proofs.Common.{rules, ◌+◌, Option, ◌≡◌, ℕ, List, [], ◌∷◌, ◌++◌, length, map, subst, sym, ap, ◌∙◌, refl}
+use Rattle.std.proofs.Common.{rules, ◌+◌, Option, ◌≡◌, [], ◌∷◌, ◌++◌, subst, sym, ap, ◌∙◌, refl}
 use Rattle.std.proofs.lemmas.List.{map-append, length-map}
-use Rattle.dmx_calls.specs.Calls.{told_entry, told_act, response_of, invocation_of}
+use Rattle.dmx_calls.specs.Calls.{told_entry, told_act, response_of}
 use Rattle.dmx_calls.specs.Entries.{told}
-use Rattle.dmx_calls.specs.Log.{LogEntry, Act, act_of}
-use Rattle.dmx_calls.specs.Response.{Response}
+use Rattle.dmx_calls.specs.Log.{LogEntry, act_of}
 use Rattle.dmx_calls.specs.declared.log.Entry.{Entry as ToldEntry}
 use Rattle.client_core.specs.declared.event.Event.{Event}
 use Rattle.client_core.specs.Commands.{call_of as call_at}
 use Rattle.client_core.specs.Core.{IsAfter}
-use Rattle.client_core.specs.Events.{next_event}
 use Rattle.client_core.specs.IsRun.{IsEvent, replies}
 use Rattle.client_core.specs.WholeRun.{IsGiven}
 use Rattle.adapter.specs.Nodes.{IsLegalAt}

@@ -1,4 +1,4 @@
-use Rattle.std.proofs.Common.{◌≡◌, ◌≤◌, ◌-◌, ℕ}
+use Rattle.std.proofs.Common.{◌≤◌, ◌-◌}
 use Rattle.adapter.specs.Callers.{IsSameCaller}
 use Rattle.workers.specs.Working.{IsFit, GoesOn}
 use Rattle.workers.proofs.client_worker.ClientWorker.run.Given as goal

@@ -1,4 +1,4 @@
-use Rattle.std.proofs.Common.{rules, ◌≡◌, ℕ, ◌++◌, List, []}
+use Rattle.std.proofs.Common.{◌++◌, []}
 use Rattle.adapter.proofs.Everybody.{same_trans}
 use Rattle.workers.proofs.Drawing.{draws_none, draws_then, still_counts}
 use Rattle.workers.proofs.Working.{same_self}

@@ -1,4 +1,4 @@
-use Rattle.std.proofs.Common.{◌≡◌, ◌≤◌, ◌-◌, ℕ, List}
+use Rattle.std.proofs.Common.{◌-◌, ℕ, List}
 use Rattle.std.specs.declared.option.Option.{Option}
 use Rattle.adapter.specs.Callers.{IsSameCaller}
 use Rattle.feed_pull.specs.Pulling.{Pulling}

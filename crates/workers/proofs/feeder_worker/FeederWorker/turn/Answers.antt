@@ -1,7 +1,6 @@
-use Rattle.std.proofs.Common.{rules, ◌≡◌, ◌≢◌, ℕ, ◌+◌, ◌<◌, ◌≤◌, List, [], ◌∷◌, ◌++◌, length, refl, sym, ◌∙◌, arith}
+use Rattle.std.proofs.Common.{rules, ◌≡◌, ◌<◌, ◌≤◌, [], ◌∷◌, ◌++◌, length}
 use Rattle.dmx_calls.specs.declared.histories.Fed.{Fed}
 use Rattle.feed_pull.specs.Pulling.{IsDone, given_by}
-use Rattle.feed_pull.specs.Streams.{Draws}
 use Rattle.workers.proofs.Drawing.{draws_none}
 use Rattle.workers.proofs.FeederWork.{passed_none, passed_batch}
 use Rattle.workers.proofs.feeder_worker.FeederWorker.turn.Goals as goal

@@ -1,4 +1,4 @@
-use Rattle.std.proofs.Common.{rules, ◌≡◌, ◌≢◌, ℕ, refl}
+use Rattle.std.proofs.Common.{refl}
 use Rattle.adapter.proofs.Everybody.{same_trans}
 use Rattle.workers.proofs.FeederWork.{on_ok, passed_all}
 use Rattle.workers.proofs.feeder_worker.FeederWorker.work_counted.Goals as goal
