@@ -1,0 +1,434 @@
+"""Reads the reports of `dvbemu steps` and `dvbemu run`, for the tools beside it.
+
+The form is that of docs/BEHAVIOUR.md, 'The report'. Only the form is looked at: whether the replies are right is not.
+"""
+import sys
+from typing import NamedTuple
+
+DVR = 32
+CLIENTS = 8
+LARGEST_PID = 0x1FFF
+HEX_DIGITS = b"0123456789abcdef"
+
+
+class NotAReport(Exception):
+    """A text that is no report: the number of the line, from 1, and what was expected there."""
+
+    def __init__(self, line, what):
+        super().__init__(f"line {line}: {what}")
+        self.line, self.what = line, what
+
+
+class PidRow(NamedTuple):
+    """What the report counts of one PID."""
+
+    pid: int
+    packets: int
+    breaks: int
+    duplicates: int
+    errors: int
+
+
+class Outcome(NamedTuple):
+    """What became of one command: its line, its first step, the step after its last, and `done`, `EMFILE` or `unbound`."""
+
+    line: int
+    first: int
+    after: int
+    kind: str
+
+
+class Entry(NamedTuple):
+    """One entry of a node's history; who is `feed` or `c0` to `c7`, act and reply are texts."""
+
+    place: int
+    who: str
+    step: int
+    act: str
+    reply: str
+
+
+class Report(NamedTuple):
+    """A whole report. Clients is a list of lists of outcomes, nodes has the entries of each printed node by its number."""
+
+    packets: int
+    skipped: int
+    rest: int
+    pids: list
+    clients: list
+    nodes: dict
+    read_fault: bool
+
+
+# ------ words
+
+
+class Wrong(Exception):
+    """A word or a group of words that isn't of its form; the text is what was expected."""
+
+
+def number(word, most=2**64 - 1):
+    """The number that a word is."""
+    digits = word.isascii() and word.isdecimal() and len(word) <= 20
+    if not digits or (word[0] == "0" and word != "0") or int(word) > most:
+        raise Wrong(f"a number from 0 to {most}")
+    return int(word)
+
+
+def span(word):
+    """Both ends of a span `A..B`, or of steps."""
+    first, dots, after = word.partition("..")
+    if not dots or number(first) > number(after):
+        raise Wrong("a span `A..B` with A at most B")
+    return int(first), int(after)
+
+
+def pids(word):
+    """The PIDs of a list `P,P,P`."""
+    listed = [] if word == "-" else [number(part, 0xFFFF) for part in word.split(",")]
+    if listed != sorted(set(listed)):
+        raise Wrong("PIDs in ascending order")
+    return listed
+
+
+def tap(word):
+    """What a Done says of the tap: `keep`, `detach`, or the list of PIDs that are attached."""
+    if word in ("keep", "detach"):
+        return word
+    if not word.startswith("attach:"):
+        raise Wrong("a tap `keep`, `detach` or `attach:PIDS`")
+    return pids(word[7:])
+
+
+def one_of(*names):
+    """A reader of a word that is one of these names."""
+
+    def read_name(word):
+        if word not in names:
+            raise Wrong("one of " + ", ".join(f"`{name}`" for name in names))
+        return word
+
+    return read_name
+
+
+def at_most(most):
+    """A reader of a number up to this one."""
+    return lambda word: number(word, most)
+
+
+def client_name(word):
+    """`c0` to `c7`."""
+    if len(word) != 2 or word[0] != "c" or word[1] not in "01234567":
+        raise Wrong("a client `c0` to `c7`")
+    return word
+
+
+# Places that have a form of their own; all others are numbers.
+PLACES = {
+    "pid": at_most(0xFFFF),
+    "node": at_most(DVR - 1),
+    "ended": at_most(1),
+    "readable": at_most(1),
+    "input": one_of("frontend", "dvr"),
+    "output": one_of("decoder", "tap", "ts_tap", "tsdemux_tap"),
+    "error": one_of("none", "overflow", "timedout"),
+    "owner": client_name,
+    "pids": pids,
+    "tap": tap,
+    "drop": span,
+    "span": span,
+}
+
+# What stands behind the first word; a place with `=` is written with its name, the others without.
+ACTS = {
+    "open": (),
+    "close": (),
+    "stop": (),
+    "end": (),
+    "section": ("pid=", "timeout=", "flags=", "at="),
+    "pes": ("pid=", "input=", "output=", "type=", "flags=", "at="),
+    "add": ("pid",),
+    "remove": ("pid",),
+    "start": ("at=",),
+    "size": ("size",),
+    "read": ("count", "at="),
+    "poll": ("at=",),
+    "pass": ("input=", "first=", "count=", "at="),
+    "attach": ("node=", "pids="),
+    "detach": ("node=",),
+}
+REPLIES = {
+    "done": ("drop=", "tap="),
+    "busy": ("owner=",),
+    "EBADF": (),
+    "EBUSY": (),
+    "EINVAL": (),
+    "ENOSPC": (),
+    "again": ("ended=",),
+    "overflow": ("span", "item=", "need=", "room="),
+    "timedout": ("started=", "now=", "timeout="),
+    "ready": ("readable=", "error=", "at=", "ended="),
+    "passed": (),
+}
+REFUSALS = ("EBADF", "EBUSY", "EINVAL", "ENOSPC")
+ANSWERS = {
+    "open": ("done", "busy"),
+    "read": ("data", "again", "overflow", "timedout", *REFUSALS),
+    "poll": ("ready", *REFUSALS),
+    "pass": ("passed",),
+    "end": ("passed",),
+    "attach": ("done",),
+    "detach": ("done",),
+}
+OTHER_ANSWERS = ("done", *REFUSALS)
+
+
+def form_of(name, places):
+    """A form as it is written, for a message."""
+    return " ".join([name, *(place + ".." if place.endswith("=") else place.upper() for place in places)])
+
+
+def read_places(name, places, words):
+    """What stands at each place, by the place's name, and the first word as `name`."""
+    if len(words) != len(places):
+        raise Wrong(f"`{form_of(name, places)}`")
+    found = {"name": name}
+    for place, word in zip(places, words):
+        if place.endswith("="):
+            if not word.startswith(place):
+                raise Wrong(f"`{form_of(name, places)}`")
+            word, place = word[len(place) :], place[:-1]
+        found[place] = PLACES.get(place, number)(word)
+    return found
+
+
+def filter_bytes(words):
+    """The filter, mask and mode byte of each place that is named, as three numbers by the place."""
+    found, last = {}, -1
+    for word in words:
+        place, sign, values = word.partition("=")
+        parts = values.split("/")
+        hexadecimal = all(len(part) == 2 and is_hexadecimal(part) for part in parts)
+        if not sign or len(parts) != 3 or not hexadecimal or not last < number(place, 15):
+            raise Wrong("filter bytes `I=FF/MM/DD` in ascending order")
+        last = int(place)
+        found[last] = tuple(int(part, 16) for part in parts)
+    return found
+
+
+def is_hexadecimal(text):
+    """Whether all characters are lower-case hexadecimal digits."""
+    return not text.encode(errors="replace").translate(None, HEX_DIGITS)
+
+
+def read_act(text):
+    """An act as a dict: `name` is its first word, the rest by the names of ACTS; `bytes` are the filter bytes of a section."""
+    name, *words = text.split(" ")
+    if name not in ACTS:
+        raise Wrong("an act: " + ", ".join(ACTS))
+    if name != "section":
+        return read_places(name, ACTS[name], words)
+    act = read_places(name, ACTS[name], words[:4])
+    act["bytes"] = filter_bytes(words[4:])
+    return act
+
+
+def read_reply(text):
+    """A reply as a dict: `name` is its first word, the rest by the names of REPLIES; `data` has its `length` in bytes."""
+    if text.startswith("data "):
+        if text == "data -":
+            return {"name": "data", "length": 0}
+        digits = text[5:]
+        if not digits or len(digits) % 2 or not is_hexadecimal(digits):
+            raise Wrong("two lower-case hexadecimal digits a byte")
+        return {"name": "data", "length": len(digits) // 2}
+    name, *words = text.split(" ")
+    if name not in REPLIES:
+        raise Wrong("a reply: data, " + ", ".join(REPLIES))
+    return read_places(name, REPLIES[name], words)
+
+
+# ------ what is asked of an entry
+
+
+def act_of(entry):
+    """The entry's act, as `read_act` gives it."""
+    return read_act(entry.act)
+
+
+def reply_of(entry):
+    """The entry's reply, as `read_reply` gives it."""
+    return read_reply(entry.reply)
+
+
+def moment(entry):
+    """The moment that the entry's call carries, or None."""
+    before, sign, after = entry.act.partition(" at=")
+    return int(after.partition(" ")[0]) if sign else None
+
+
+def node_name(node):
+    """The node's name in a script: `n0` to `n31`, or `dvr`."""
+    return "dvr" if node == DVR else f"n{node}"
+
+
+# ------ lines
+
+
+def shown(text):
+    """A line's beginning for a message."""
+    if text is None:
+        return "the end of the text"
+    return ascii(text if len(text) <= 60 else text[:57] + "...")
+
+
+class Lines:
+    """The lines of a text; `text` is the one in hand without its line feed, or None behind the last."""
+
+    def __init__(self, file):
+        self.file, self.line, self.text = file, 0, None
+        self.go_on()
+
+    def go_on(self):
+        """Goes to the next line."""
+        line = self.file.readline()
+        self.line += 1
+        if line and not line.endswith("\n"):
+            raise NotAReport(self.line, "expected a line feed at the end of the line")
+        self.text = line[:-1] if line else None
+
+    def starts(self, beginning):
+        """Whether the line in hand begins with this."""
+        return self.text is not None and self.text.startswith(beginning)
+
+    def wrong(self, what):
+        """The exception for the line in hand."""
+        return NotAReport(self.line, f"expected {what}, found {shown(self.text)}")
+
+    def want(self, holds, what):
+        """Raises where it doesn't hold."""
+        if not holds:
+            raise self.wrong(what)
+
+
+def head_of(lines):
+    """The numbers of the stream's cutting."""
+    lines.want(lines.text == "dvbemu 1", "`dvbemu 1`")
+    lines.go_on()
+    lines.want(lines.text is not None, "`packets=.. skipped=.. rest=..`")
+    found = read_places("", ("packets=", "skipped=", "rest="), lines.text.split(" "))
+    lines.go_on()
+    return found["packets"], found["skipped"], found["rest"]
+
+
+def pid_rows(lines):
+    """The rows of the PIDs."""
+    rows, last = [], -1
+    while lines.starts("pid "):
+        row = read_places("pid", ("pid", "packets=", "breaks=", "duplicates=", "errors="), lines.text[4:].split(" "))
+        del row["name"]
+        lines.want(last < row["pid"] <= LARGEST_PID, f"a PID above {last}, at most {LARGEST_PID}")
+        last = row["pid"]
+        rows.append(PidRow(**row))
+        lines.go_on()
+    return rows
+
+
+def outcomes_of(lines):
+    """The outcomes of one client's commands."""
+    found = []
+    while lines.starts("line "):
+        words = lines.text.split(" ")
+        lines.want(len(words) == 5 and words[2] == "steps", "`line L steps A..B OUTCOME`")
+        first, after = span(words[3])
+        found.append(Outcome(number(words[1]), first, after, one_of("done", "EMFILE", "unbound")(words[4])))
+        lines.go_on()
+    return found
+
+
+def clients_of(lines):
+    """The outcomes of each client, from client 0 on."""
+    found = []
+    while lines.starts("client "):
+        right = len(found) < CLIENTS and lines.text == f"client {len(found)}"
+        lines.want(right, f"`client {len(found)}`" if len(found) < CLIENTS else "a node or the end, behind client 7")
+        lines.go_on()
+        found.append(outcomes_of(lines))
+    return found
+
+
+def entry_of(text, place):
+    """The entry that a line is, at this place of its node."""
+    words = text.split(" ", 3)
+    if len(words) < 4 or words[0] != str(place):
+        raise Wrong(f"`{place} WHO STEP ACT = REPLY`")
+    if words[1] != "feed":
+        client_name(words[1])
+    act, sign, reply = words[3].partition(" = ")
+    if not sign:
+        raise Wrong(f"`{place} WHO STEP ACT = REPLY`")
+    asked, answer = read_act(act)["name"], read_reply(reply)["name"]
+    if (words[1] == "feed") != (asked in ("pass", "end")):
+        raise Wrong("`pass` and `end` of `feed` alone, all other acts of clients")
+    if asked == "pass" and not act.startswith("pass input=frontend "):
+        raise Wrong("`pass input=frontend`")
+    answers = ANSWERS.get(asked, OTHER_ANSWERS)
+    if answer not in answers:
+        raise Wrong(f"a reply to `{asked}`: " + ", ".join(answers))
+    return Entry(place, words[1], number(words[2]), act, reply)
+
+
+def entries_of(lines):
+    """The entries of one node."""
+    found = []
+    while lines.text is not None and lines.text[:1].isdigit():
+        found.append(entry_of(lines.text, len(found)))
+        lines.go_on()
+    return found
+
+
+def nodes_of(lines):
+    """The entries of each printed node, by its number."""
+    found = {}
+    while lines.starts("node "):
+        name = lines.text[5:]
+        node = DVR if name == "dvr" else number(name, DVR - 1)
+        lines.want(not found or node > max(found), f"a node behind {node_name(max(found, default=0))}")
+        lines.go_on()
+        found[node] = entries_of(lines)
+    return found
+
+
+def read(file):
+    """The report that an open text file holds. Raises NotAReport where it holds none."""
+    lines = Lines(file)
+    try:
+        packets, skipped, rest = head_of(lines)
+        rows = pid_rows(lines)
+        clients = clients_of(lines)
+        nodes = nodes_of(lines)
+    except Wrong as wrong:
+        raise lines.wrong(str(wrong)) from None
+    last = lines.text
+    lines.want(last in ("end", "fault read"), what_follows(rows, clients, nodes))
+    lines.go_on()
+    lines.want(lines.text is None, "nothing behind the last line")
+    return Report(packets, skipped, rest, rows, clients, nodes, last == "fault read")
+
+
+def what_follows(rows, clients, nodes):
+    """What may stand behind these parts, for a message."""
+    if nodes:
+        entry = f"`{len(nodes[max(nodes)])} WHO STEP ACT = REPLY`"
+        return f"{entry}, `node ..`, `end` or `fault read`"
+    if clients:
+        return "`line ..`, `client ..`, `node ..`, `end` or `fault read`"
+    return "`pid ..`, `client ..`, `node ..`, `end` or `fault read`"
+
+
+def open_text(name):
+    """The named file, or standard input for None, opened so that each byte is a character and only 0x0A ends a line."""
+    if name is None:
+        sys.stdin.reconfigure(encoding="latin-1", newline="\n")
+        return sys.stdin
+    return open(name, encoding="latin-1", newline="\n")
