@@ -3,6 +3,7 @@
 The form is that of docs/BEHAVIOUR.md, 'The report'. Only the form is looked at: whether the replies are right is not.
 """
 import sys
+from functools import lru_cache
 from typing import NamedTuple
 
 DVR = 32
@@ -221,8 +222,12 @@ def is_hexadecimal(text):
     return not text.encode(errors="replace").translate(None, HEX_DIGITS)
 
 
+@lru_cache(65536)
 def read_act(text):
-    """An act as a dict: `name` is its first word, the rest by the names of ACTS; `bytes` are the filter bytes of a section."""
+    """An act as a dict: `name` is its first word, the rest by the names of ACTS; `bytes` are the filter bytes of a section.
+
+    The same text gives the same dict, which isn't to be changed.
+    """
     name, *words = text.split(" ")
     if name not in ACTS:
         raise Wrong("an act: " + ", ".join(ACTS))
@@ -234,14 +239,26 @@ def read_act(text):
 
 
 def read_reply(text):
-    """A reply as a dict: `name` is its first word, the rest by the names of REPLIES; `data` has its `length` in bytes."""
-    if text.startswith("data "):
-        if text == "data -":
-            return {"name": "data", "length": 0}
-        digits = text[5:]
-        if not digits or len(digits) % 2 or not is_hexadecimal(digits):
-            raise Wrong("two lower-case hexadecimal digits a byte")
-        return {"name": "data", "length": len(digits) // 2}
+    """A reply as a dict: `name` is its first word, the rest by the names of REPLIES; `data` has its `length` in bytes.
+
+    The dict isn't to be changed.
+    """
+    return read_data(text) if text.startswith("data ") else read_other_reply(text)
+
+
+def read_data(text):
+    """The dict of a reply `data`."""
+    if text == "data -":
+        return {"name": "data", "length": 0}
+    digits = text[5:]
+    if not digits or len(digits) % 2 or not is_hexadecimal(digits):
+        raise Wrong("two lower-case hexadecimal digits a byte")
+    return {"name": "data", "length": len(digits) // 2}
+
+
+@lru_cache(65536)
+def read_other_reply(text):
+    """The dict of every other reply."""
     name, *words = text.split(" ")
     if name not in REPLIES:
         raise Wrong("a reply: data, " + ", ".join(REPLIES))
