@@ -85,9 +85,10 @@ class Capture:
             self.clear = len(self.steps) - 1
 
     def lose(self, place, reply):
-        """Keeps an overflow span; `first` is the number of the last step behind which none was pending."""
+        """Keeps an overflow span with the number of the last step behind which none was pending, and that of the read's."""
         begin, end = reply["span"]
-        self.losses.append((self.clear, len(self.steps), Loss(place, place, begin, end, reply["item"], reply["need"], reply["room"])))
+        loss = Loss(place, place, begin, end, reply["item"], reply["need"], reply["room"])
+        self.losses.append((self.clear, len(self.steps), loss))
 
 
 class History:

@@ -1,0 +1,98 @@
+"""Writes shapes and words as the text of an SVG, for tools/picture."""
+from xml.sax.saxutils import escape
+
+LEFT, RIGHT, WIDTH, LEAST_WIDTH = 92, 24, 1314, 720
+
+# Colours of Okabe and Ito, which colour-blind readers tell apart.
+BLACK, GREY, PALE, WHITE = "#000000", "#666666", "#e4e4e4", "#ffffff"
+BLUE, SKY, GREEN, YELLOW = "#0072b2", "#56b4e9", "#009e73", "#f0e442"
+RED, ORANGE, PURPLE = "#d55e00", "#e69f00", "#cc79a7"
+
+
+def fixed(value):
+    """A number with at most one digit behind the point."""
+    digits = f"{value:.1f}"
+    return digits[:-2] if digits.endswith(".0") else digits
+
+
+def titled(shape, words):
+    """A shape, without its end, with words that a viewer shows where it is pointed at."""
+    return shape + (f"><title>{escape(words)}</title></{shape[1:shape.index(' ')]}>" if words else "/>")
+
+
+def rect(x, y, width, height, look, words=""):
+    """A rectangle; look is its attributes."""
+    return titled(f'<rect x="{fixed(x)}" y="{fixed(y)}" width="{fixed(width)}" height="{fixed(height)}" {look}', words)
+
+
+def circle(x, y, radius, look, words=""):
+    """A circle."""
+    return titled(f'<circle cx="{fixed(x)}" cy="{fixed(y)}" r="{fixed(radius)}" {look}', words)
+
+
+def path(steps, look, words=""):
+    """A path through `M x y`, `L x y` and `Z`, given as a list of tuples."""
+    text = " ".join(" ".join([step[0], *map(fixed, step[1:])]) for step in steps)
+    return titled(f'<path d="{text}" {look}', words)
+
+
+def line(x, y, to_x, to_y, look):
+    """A straight line."""
+    return path([("M", x, y), ("L", to_x, to_y)], look)
+
+
+def text(x, y, words, size=10, look=""):
+    """Words, by default from x on."""
+    return f'<text x="{fixed(x)}" y="{fixed(y)}" font-size="{size}" {look}>{escape(words)}</text>'
+
+
+def heading(x, y, words):
+    """The name of a part."""
+    return text(x, y, words, 13, 'font-weight="bold"')
+
+
+def side(y, words, size=9):
+    """The name of a row, at the picture's left."""
+    return text(LEFT - 8, y, words, size, f'{END} fill="{GREY}"')
+
+
+MIDDLE, END = 'text-anchor="middle"', 'text-anchor="end"'
+
+
+def grouped(shapes, words):
+    """Shapes with words that a viewer shows where one of them is pointed at."""
+    return ["<g>", f"<title>{escape(words)}</title>", *shapes, "</g>"]
+
+
+def width_of(words, size):
+    """About how wide words are."""
+    return len(words) * size * 0.56
+
+
+def counted(number, name):
+    """A number of things in words."""
+    return f"{number} {name}" + ("" if number == 1 else "s")
+
+
+def short_number(value):
+    """A number in at most four characters, rounded down."""
+    for unit, letter in ((10**9, "G"), (10**6, "M"), (10**3, "k")):
+        if value >= unit:
+            return f"{value // unit}{letter}" if value < 1000 * unit else "lots"
+    return str(value)
+
+
+class Labels:
+    """Words side by side on one line between two edges, each only where it doesn't touch the one before."""
+
+    def __init__(self, y, left, right, look=""):
+        self.y, self.left, self.right, self.look = y, left, right, look
+
+    def at(self, x, words):
+        """The words centred about x or near it, or nothing where they don't fit."""
+        half = len(words) * (3.3 if "bold" in self.look else 3)
+        middle = max(min(x, self.right - half), self.left + half)
+        if abs(middle - x) > half or middle + half > self.right:
+            return []
+        self.left = middle + half + 8
+        return [text(middle, self.y, words, 9, f"{MIDDLE} {self.look}")]
