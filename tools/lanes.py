@@ -260,7 +260,7 @@ class Lane:
         self.scale = Scale(len(entries))
         self.rows = rows_of(entries)
         self.most = max((level for level in self.history.unread if level is not None), default=0)
-        self.has_chart = any(level != 0 for level in self.history.unread)
+        self.has_chart = any(level != 0 for level in self.history.unread) or bool(self.history.losses())
         self.chart_y = y + 32
         self.rows_y = self.chart_y + (CHART + 6 if self.has_chart else 0)
         self.band_y = self.rows_y + ROW * len(self.rows)
@@ -269,13 +269,13 @@ class Lane:
 
     def top_of_scale(self):
         """The number of bytes at the chart's upper edge: above the sizes where they aren't far above the fill."""
-        sizes = [size for size, level in zip(self.history.sizes, self.history.unread) if size and level]
-        largest = max(sizes, default=0)
-        return largest * 1.15 if largest <= 3 * self.most else self.most * 1.4
+        sizes = [size for size, level in zip(self.history.sizes, self.history.unread) if size and (level or not self.most)]
+        largest = max(sizes, default=1)
+        return largest * 1.15 if largest <= 3 * self.most or not self.most else self.most * 1.4
 
     def draw(self):
         """All of it."""
-        self.top = max(self.top_of_scale(), 1)
+        self.top = self.top_of_scale()
         found = self.head()
         if self.has_chart:
             found += self.axis_of_bytes() + self.area() + self.unknown() + self.losses() + self.size_line()
@@ -472,11 +472,15 @@ def round_step(least):
 
 def loss_label(loss):
     """An overflow in a few words."""
+    if isinstance(loss, unread.Untold):
+        return "overflow that no read tells"
     return f"lost {loss.begin}..{loss.end}: item {loss.item} needs {loss.need}, room {loss.room}"
 
 
 def loss_words(loss):
     """An overflow in the words of its reply."""
+    if isinstance(loss, unread.Untold):
+        return f"overflow that no read tells, from place {loss.first} on at the latest"
     return f"overflow {loss.begin}..{loss.end} item={loss.item} need={loss.need} room={loss.room}, told at place {loss.told}"
 
 

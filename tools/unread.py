@@ -25,6 +25,13 @@ class Loss(NamedTuple):
     room: int
 
 
+class Untold(NamedTuple):
+    """An overflow that no read tells: the place where a poll or a drop shows it, and the last place of its capture."""
+
+    first: int
+    told: int
+
+
 class Step(NamedTuple):
     """What is known behind an entry of a capture: packets offered, bytes answered, bytes that have arrived at least."""
 
@@ -67,7 +74,7 @@ class Capture:
         self.due, self.expiry, self.losses = None, None, []
         self.packets, self.told_packets, self.answered = 0, 0, 0
         self.known, self.steps = [Known(begin, 0, 0)], [Step(begin, 0, 0, 0)]
-        self.clear = 0
+        self.clear, self.pending = 0, None
 
     def keep(self, place, least=0):
         """Keeps what is known behind an entry."""
@@ -89,6 +96,7 @@ class Capture:
         begin, end = reply["span"]
         loss = Loss(place, place, begin, end, reply["item"], reply["need"], reply["room"])
         self.losses.append((self.clear, len(self.steps), loss))
+        self.pending = None
 
 
 class History:
@@ -106,7 +114,7 @@ class History:
             self.fill(capture)
 
     def losses(self):
-        """All overflow spans."""
+        """All overflow spans, and the overflows that no read tells."""
         return [loss for capture in self.captures for loss in capture.losses]
 
     def expiries(self):
@@ -167,6 +175,8 @@ class History:
         self.note_moment(entry, act)
         if reply["error"] == "timedout":
             self.expire(entry)
+        if reply["error"] == "overflow" and capture.pending is None:
+            capture.pending = entry.place
         if reply["readable"] == 0:
             capture.know(entry.place, capture.answered)
         is_clear = reply["error"] != "overflow"
@@ -225,6 +235,8 @@ class History:
         if end > begin:
             self.drops.append(Drop(entry.place, begin, end))
         if self.capture:
+            if end - begin >= (self.size or 1) and self.capture.pending is None:
+                self.capture.pending = entry.place
             self.capture.know(entry.place, end)
             self.capture.told_packets = self.capture.packets
             self.capture.end = entry.place
@@ -237,6 +249,8 @@ class History:
         last = len(self.entries) if capture.end is None else capture.end
         levels = [max(arrived, step.least) - step.answered for arrived, step in zip(arrived_at(capture), capture.steps)]
         capture.losses = [self.fill_before(loss, capture, levels) for loss in capture.losses]
+        if capture.pending is not None:
+            capture.losses.append(Untold(capture.pending, min(last, len(self.entries) - 1)))
         places = [step.place for step in capture.steps] + [last]
         for number, step in enumerate(capture.steps):
             is_told = step.packets <= capture.told_packets or capture.kind == "ts_tap"
