@@ -80,37 +80,45 @@ def entry_words(entry):
 
 
 def data_mark(x, y):
+    """A filled dot."""
     return [circle(x, y, 4, f'fill="{BLUE}"')]
 
 
 def again_mark(x, y):
+    """A hollow dot."""
     return [circle(x, y, 3.5, f'fill="{WHITE}" stroke="{BLUE}" stroke-width="1.5"')]
 
 
 def overflow_mark(x, y):
+    """A diamond."""
     return [path([("M", x, y - 6), ("L", x + 6, y), ("L", x, y + 6), ("L", x - 6, y), ("Z",)], f'fill="{RED}"')]
 
 
 def timeout_mark(x, y):
+    """An hourglass."""
     steps = [("M", x - 5, y - 5), ("L", x + 5, y - 5), ("L", x - 5, y + 5), ("L", x + 5, y + 5), ("Z",)]
     return [path(steps, f'fill="{PURPLE}" stroke="{BLACK}" stroke-width="0.7"')]
 
 
 def drop_mark(x, y):
+    """A triangle that points down."""
     steps = [("M", x - 5, y - 4), ("L", x + 5, y - 4), ("L", x, y + 5), ("Z",)]
     return [path(steps, f'fill="{ORANGE}" stroke="{BLACK}" stroke-width="0.7"')]
 
 
 def refused_mark(x, y):
+    """A cross."""
     look = f'stroke="{BLACK}" stroke-width="2" fill="none"'
     return [path([("M", x - 4, y - 4), ("L", x + 4, y + 4), ("M", x - 4, y + 4), ("L", x + 4, y - 4)], look)]
 
 
 def ready_mark(x, y):
+    """A filled square."""
     return [rect(x - 3.5, y - 3.5, 7, 7, f'fill="{GREEN}"')]
 
 
 def not_ready_mark(x, y):
+    """A hollow square."""
     return [rect(x - 3, y - 3, 6, 6, f'fill="{WHITE}" stroke="{GREEN}" stroke-width="1.5"')]
 
 
@@ -151,6 +159,7 @@ class RefusedRow(Row):
         super().__init__("refused", entries, refused_mark, (WHITE, BLACK, BLACK))
 
     def draw(self, scale, y):
+        """The words of the refusals in boxes, or crosses."""
         if scale.cell_width() < 27:
             return super().draw(scale, y)
         found = self.beginning(y)
@@ -166,9 +175,10 @@ class CallRow(Row):
     """The row of calls: each a box with its name, or its letter where there is no room."""
 
     def __init__(self, entries):
-        super().__init__("calls", entries, None, (PALE, GREY, BLACK))
+        super().__init__("calls", entries, None, None)
 
     def draw(self, scale, y):
+        """The boxes of the calls."""
         found = self.beginning(y)
         for cell, entries in scale.gather(self.entries, lambda entry: entry.place):
             x, wide = scale.cell_middle(cell), scale.cell_width() - 1.5
@@ -186,6 +196,7 @@ class PassRow(Row):
         super().__init__("packets", entries, None, None)
 
     def draw(self, scale, y):
+        """The boxes of the batches."""
         found = self.beginning(y)
         for cell, entries in scale.gather(self.entries, lambda entry: entry.place):
             x, wide = scale.cell_middle(cell), scale.cell_width() - 1.5
