@@ -1,0 +1,99 @@
+"""Hints for a receiver's writer, for tools/explain: each with what the report shows and the rule that it comes from.
+
+RULES has for each kind of stumble the heading or paragraph of docs/BEHAVIOUR.md and words that stand there; tools/check looks
+for them.
+"""
+from sentences import NAMES, lines_text, many, node_name, node_text, pid_text
+
+RULES = {
+    "no capture": ("Read", "without a capture: Data of no bytes"),
+    "never started": ("Calls", "without it the filter waits for a Start"),
+    "timed out": ("Timeouts", "A section that doesn't match is no item and stops no timeout"),
+    "larger": ("The ledger", "A buffer of n bytes holds n - 1."),
+    "first size": ("Calls", "makes the caller the owner, with a buffer size of 8192 and no filter"),
+    "first size of dvr": ("The dvr node", "Done; the buffer size is 1,925,120"),
+    "break of sections": ("Segments", "The end of a run ends the open segment, and a run begins with none."),
+    "break of packets": ("Items of a PES filter", "Packets are taken as they are"),
+    "duplicate of sections": ("Clean packets", "those that have a payload and error bit 0, without duplicates"),
+    "duplicate of packets": (
+        "Items of a PES filter",
+        "error bit, scrambling bits and duplicates make no difference, and no PES header is looked at",
+    ),
+    "dropped": ("What is dropped", "A set call, Start, Close and SetSize to another size drop what is unread."),
+    "busy": ("Refusals", "the node is Free, or the caller isn't its owner."),
+    "free tap": ("The dvr node", "A capture begins with each accepted Open and with each SetSize to another size"),
+    "part": ("Read", "So a read of a section filter gives one section or a part of one"),
+    "no packet": ("Captures", "Its items are what the filter selects from these packets"),
+    "unbound": ("What a client's commands do", "A command other than `open` on a slot that is bound to no node makes no call"),
+}
+
+
+def size_words(stumble):
+    """The words of the two stumbles over a buffer's size."""
+    facts = stumble.facts
+    if stumble.kind == "larger":
+        item = f"item {facts['item']} has {many(facts['need'], 'byte')}, and the buffer size is {facts['size']}"
+        return f"an Overflow that no reading in time avoids: {item}"
+    default = "the one that Open gives; a read in time or SetSize before the Start avoids it"
+    return f"an Overflow at the buffer size {facts['size']}, {default}"
+
+
+def pid_words(stumble):
+    """The words of the stumbles over a filtered PID."""
+    facts = stumble.facts
+    of = f"{many(facts.get('count', 0), stumble.kind.partition(' ')[0])} of {pid_text(facts['pid'])} in the stream"
+    if stumble.kind == "break of sections":
+        return f"{of}, which the section filter asks for; a section across a break is lost"
+    if stumble.kind == "break of packets":
+        return f"{of}, which the PES filter asks for; its packets come with that break, and no reply tells it"
+    if stumble.kind == "duplicate of sections":
+        return f"{of}, which the section filter asks for; it leaves duplicates out, a section comes once"
+    if stumble.kind == "duplicate of packets":
+        return f"{of}, which the PES filter asks for; it gives them too, so the reader must leave them out"
+    return f"the filter asks for {pid_text(facts['pid'])}, of which the stream has no packet"
+
+
+def words(stumble):
+    """What the report shows of a stumble."""
+    facts = stumble.facts
+    if stumble.kind == "no capture":
+        return f"a read gives no bytes: {facts['why']}"
+    if stumble.kind == "never started":
+        return "the filter that this line sets is never started"
+    if stumble.kind == "timed out":
+        shown = f"though the stream has {many(facts['packets'], 'packet')} of its PID, {facts['pid']}"
+        return f"the section filter timed out, {shown}; they came before the Start or too late, or no section was selected"
+    if stumble.kind in ("larger", "first size"):
+        return size_words(stumble)
+    if stumble.kind == "dropped":
+        return f"{NAMES[facts['act']]} drops {many(facts['bytes'], 'byte')} that the client hadn't read"
+    if stumble.kind == "busy":
+        return f"EBADF: line {facts['opened']} opened the node in vain, it was Busy, and the client calls it all the same"
+    if stumble.kind == "free tap":
+        passed = many(facts["packets"], "packet")
+        return f"the tap of {node_name(facts['tapped'])} is attached while the dvr node is Free, and {passed} of the stream passed"
+    if stumble.kind == "part":
+        of = f"of the {many(facts['of'], 'byte')} of a section" if facts["of"] else "of a section"
+        return f"a read of {facts['count']} bytes gives a part {of}; the next read goes on behind it"
+    if stumble.kind == "unbound":
+        return "the command names a slot that no open has bound, so it makes no call"
+    return pid_words(stumble)
+
+
+def hint_text(stumble):
+    """A hint in words, without its rule."""
+    where = f"Client {stumble.client}, {lines_text(stumble.lines)}"
+    if stumble.node is not None:
+        where += f", {node_text(stumble.node)}"
+    more = len(stumble.lines) - 1
+    first = ", at first" if more and stumble.kind in ("dropped", "larger", "first size", "part") else ""
+    return f"{where}{first}: {words(stumble)}."
+
+
+def rule_text(stumble):
+    """The rule of a hint, as it is quoted."""
+    kind = stumble.kind
+    if kind == "first size" and node_name(stumble.node) == "dvr":
+        kind = "first size of dvr"
+    heading, quoted = RULES[kind]
+    return f"Rule: '{heading}': \"{quoted}\""
