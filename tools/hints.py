@@ -3,7 +3,7 @@
 RULES has for each kind of stumble the heading or paragraph of docs/BEHAVIOUR.md and words that stand there; tools/check looks
 for them.
 """
-from sentences import NAMES, lines_text, many, node_name, node_text, pid_text
+from sentences import NAMES, lines_text, many, node_name, node_text, pids_text
 
 RULES = {
     "no capture": ("Read", "without a capture: Data of no bytes"),
@@ -22,6 +22,7 @@ RULES = {
     "dropped": ("What is dropped", "A set call, Start, Close and SetSize to another size drop what is unread."),
     "busy": ("Refusals", "the node is Free, or the caller isn't its owner."),
     "free tap": ("The dvr node", "A capture begins with each accepted Open and with each SetSize to another size"),
+    "read of ts_tap": ("Items of a PES filter", "none: the packet goes to the dvr node, below"),
     "part": ("Read", "So a read of a section filter gives one section or a part of one"),
     "no packet": ("Captures", "Its items are what the filter selects from these packets"),
     "unbound": ("What a client's commands do", "A command other than `open` on a slot that is bound to no node makes no call"),
@@ -33,24 +34,23 @@ def size_words(stumble):
     facts = stumble.facts
     if stumble.kind == "larger":
         item = f"item {facts['item']} has {many(facts['need'], 'byte')}, and the buffer size is {facts['size']}"
-        return f"an Overflow that no reading in time avoids: {item}"
-    default = "the one that Open gives; a read in time or SetSize before the Start avoids it"
-    return f"an Overflow at the buffer size {facts['size']}, {default}"
+        return f"an Overflow that no reading in time avoids, only a greater size: {item}"
+    return f"an Overflow at the buffer size {facts['size']}, which is the one that Open gives; SetSize takes others up to 16,777,216"
 
 
 def pid_words(stumble):
     """The words of the stumbles over a filtered PID."""
     facts = stumble.facts
-    of = f"{many(facts.get('count', 0), stumble.kind.partition(' ')[0])} of {pid_text(facts['pid'])} in the stream"
-    if stumble.kind == "break of sections":
-        return f"{of}, which the section filter asks for; a section across a break is lost"
-    if stumble.kind == "break of packets":
-        return f"{of}, which the PES filter asks for; its packets come with that break, and no reply tells it"
-    if stumble.kind == "duplicate of sections":
-        return f"{of}, which the section filter asks for; it leaves duplicates out, a section comes once"
-    if stumble.kind == "duplicate of packets":
-        return f"{of}, which the PES filter asks for; it gives them too, so the reader must leave them out"
-    return f"the filter asks for {pid_text(facts['pid'])}, of which the stream has no packet"
+    if stumble.kind == "no packet":
+        return f"the filter asks for {pids_text(facts['pids'])}, of which the stream has no packet"
+    of = f"{many(facts['count'], stumble.kind.partition(' ')[0])} of {pids_text([facts['pid']])} in the stream"
+    rules = {
+        "break of sections": "a section filter loses a section that goes on across a break",
+        "break of packets": "a PES filter gives the packets before and behind a break, and no reply tells the break",
+        "duplicate of sections": "a section filter leaves duplicates out",
+        "duplicate of packets": "a PES filter gives duplicates too, so the reader has to leave them out",
+    }
+    return f"{of}; {rules[stumble.kind]}"
 
 
 def words(stumble):
@@ -62,19 +62,22 @@ def words(stumble):
         return "the filter that this line sets is never started"
     if stumble.kind == "timed out":
         shown = f"though the stream has {many(facts['packets'], 'packet')} of its PID, {facts['pid']}"
-        return f"the section filter timed out, {shown}; they came before the Start or too late, or no section was selected"
+        return f"the section filter timed out, {shown}; they came before the capture or too late, or brought no section that is selected"
     if stumble.kind in ("larger", "first size"):
         return size_words(stumble)
     if stumble.kind == "dropped":
         return f"{NAMES[facts['act']]} drops {many(facts['bytes'], 'byte')} that the client hadn't read"
     if stumble.kind == "busy":
-        return f"EBADF: line {facts['opened']} opened the node in vain, it was Busy, and the client calls it all the same"
+        return f"EBADF, since the Open in line {facts['opened']} was answered Busy and the client calls the node all the same"
     if stumble.kind == "free tap":
         passed = many(facts["packets"], "packet")
-        return f"the tap of {node_name(facts['tapped'])} is attached while the dvr node is Free, and {passed} of the stream passed"
+        tap = f"the tap of {node_name(facts['tapped'])} is attached while the dvr node is Free"
+        return f"{tap}, and {passed} of the stream passed it then, which nobody can read there"
     if stumble.kind == "part":
         of = f"of the {many(facts['of'], 'byte')} of a section" if facts["of"] else "of a section"
         return f"a read of {facts['count']} bytes gives a part {of}; the next read goes on behind it"
+    if stumble.kind == "read of ts_tap":
+        return "a read finds nothing on a node whose filter has the output TS_TAP"
     if stumble.kind == "unbound":
         return "the command names a slot that no open has bound, so it makes no call"
     return pid_words(stumble)

@@ -46,7 +46,7 @@ def pids_text(pids):
     pids = sorted(pids)
     if not pids:
         return "no PID"
-    return ("PID " if len(pids) == 1 else "PIDs ") + joined("0x2000 (every packet)" if pid == ALL_PACKETS else pid for pid in pids)
+    return ("PID " if len(pids) == 1 else "PIDs ") + joined(f"{pid} (every packet)" if pid == ALL_PACKETS else pid for pid in pids)
 
 
 def pid_text(pid):
@@ -82,7 +82,7 @@ def bytes_text(places):
 def section_text(act, on):
     """A SetFilter in words."""
     timeout = f"timeout {act['timeout']}" if act["timeout"] else "no timeout"
-    filtered = f"{pid_text(act['pid'])}, {bytes_text(act['bytes'])}"
+    filtered = f"PID {act['pid']}, {bytes_text(act['bytes'])}"
     return f"sets a section filter on {on} ({filtered}, {timeout}, {flags_text(act['flags'])})"
 
 
@@ -148,10 +148,10 @@ def reply_text(call):
     if call.reply == "done":
         return done_text(call, reply)
     if call.reply == "busy":
-        return "Busy, " + ("the node is its own" if call.reason == "its own" else call.reason)
+        return f"Busy, {call.reason}"
     if call.reply == "data":
         length = call.length()
-        return f"Data of {many(length, 'byte')}" if length else "Data of no bytes" + (f", {call.reason}" if call.reason else "")
+        return f"Data of {many(length, 'byte') if length else 'no bytes'}" + (f", {call.reason}" if call.reason else "")
     if call.reply == "again":
         return "Again, nothing is unread" + (" and the stream has ended" if reply["ended"] else "")
     if call.reply == "overflow":
@@ -297,14 +297,14 @@ def lost_text(line, call, span):
 def waits_text(number, waits):
     """How often a client waited on a node, in words."""
     times = waits.passes + waits.ends + waits.others
-    parts = []
-    if waits.passes:
-        parts.append(f"{waits.passes:,} until the feeder had passed a batch")
-    if waits.ends:
-        parts.append(f"{waits.ends:,} until End had passed")
-    if waits.others:
-        parts.append(f"{waits.others:,} until another client had called the node")
-    return f"{lines_text(waits.lines)}, {node_text(number)}: {many(times, 'wait')}, {joined(parts)}"
+    parts = [
+        (waits.passes, "until the feeder had passed a batch"),
+        (waits.ends, "until End had passed"),
+        (waits.others, "until another client had called the node"),
+    ]
+    parts = [(count, until) for count, until in parts if count]
+    texts = [f"{count:,} {until}" if len(parts) > 1 else until for count, until in parts]
+    return f"{lines_text(waits.lines)}, {node_text(number)}: {many(times, 'wait')}, {joined(texts)}"
 
 
 def timed_text(line, call, pid):
@@ -315,9 +315,15 @@ def timed_text(line, call, pid):
     return f"line {line}, {node_text(call.node)}: the section filter{of}, {moments}"
 
 
-def refused_text(line, call):
-    """A refusal in words."""
-    reason = call.reason or "the report alone doesn't say why"
-    if call.reply == "busy":
-        return f"line {line}: {act_text(call)}: Busy, {'the node is its own' if reason == 'its own' else reason}"
-    return f"line {line}: {act_text(call)}: {call.reply}, {reason}"
+def refused_texts(refused):
+    """The refusals of a client in words, those with the same reason on the same node together."""
+    groups = {}
+    for line, call in refused:
+        lines = groups.setdefault((call.reply, call.reason, call.node), [])
+        if line not in lines[-1:]:
+            lines.append(line)
+    found = []
+    for (error, reason, number), lines in groups.items():
+        name = "Busy" if error == "busy" else error
+        found.append(f"{lines_text(lines)}, {node_text(number)}: {name}, {reason or 'for which the report alone has no reason'}")
+    return found

@@ -257,7 +257,7 @@ class Story:
         """An Open, accepted or Busy."""
         if call.reply == "busy":
             owner = int(reply_of(call.entry)["owner"][1])
-            call.reason = "its own" if owner == client.number else f"client {owner} is its owner"
+            call.reason = "it is the owner itself" if owner == client.number else f"client {owner} is its owner"
             if owner != client.number:
                 node.busy[client.number] = line
             client.refused.append((line, call))
@@ -289,31 +289,38 @@ class Story:
         act, span = act_of(call.entry), reply_of(call.entry)["drop"]
         if span[1] > span[0]:
             self.take_drop(node, client, call, line, span)
-        name = call.act
-        if name in ("section", "pes"):
+        if call.act in ("section", "pes"):
             self.leave_capture(node)
             self.leave_filter(node)
             node.filter, node.ended_by = Filter(act, line), ""
-            node.runs = act["flags"] & IMMEDIATE != 0
-        elif name == "start":
-            self.leave_capture(node)
-            node.runs = True
-        elif name == "stop":
-            node.runs = False
-        elif name in ("add", "remove") and node.filter:
-            self.change_pids(node, name, act["pid"])
-        elif name == "size" and act["size"] != node.size:
-            if node.capture:
-                node.ended_by = "SetSize to another size has ended the capture"
-            self.leave_capture(node)
-            node.size = act["size"]
-            node.capture = Capture() if node.number == DVR else None
-        elif name == "close":
+            self.change_runs(node, act["flags"] & IMMEDIATE != 0)
+        elif call.act in ("start", "stop"):
+            self.change_runs(node, call.act == "start")
+        elif call.act in ("add", "remove") and node.filter:
+            self.change_pids(node, call.act, act["pid"])
+        elif call.act == "size" and act["size"] != node.size:
+            self.change_size(node, act["size"])
+        elif call.act == "close":
             self.leave_capture(node)
             self.leave_filter(node)
             node.owner, node.runs = None, False
-        if node.runs and name in ("section", "pes", "start"):
-            self.begin_capture(node, client.number)
+
+    def change_runs(self, node, runs):
+        """A filter is started, which begins a capture, or doesn't run from here on."""
+        node.runs = runs
+        if runs:
+            self.leave_capture(node)
+            node.capture = Capture()
+        if runs and node.filter:
+            node.filter.started = True
+
+    def change_size(self, node, size):
+        """An accepted SetSize to another size."""
+        if node.capture:
+            node.ended_by = "SetSize to another size has ended the capture"
+        self.leave_capture(node)
+        node.size = size
+        node.capture = Capture() if node.number == DVR else None
 
     def change_pids(self, node, name, pid):
         """An accepted AddPid or RemovePid."""
@@ -322,12 +329,6 @@ class Story:
             node.filter.ever.add(pid)
         else:
             node.filter.pids.discard(pid)
-
-    def begin_capture(self, node, client):
-        """A started filter's capture begins."""
-        node.capture = Capture()
-        if node.filter:
-            node.filter.started = True
 
     def take_drop(self, node, client, call, line, span):
         """A Done that names unread bytes."""
@@ -345,26 +346,25 @@ class Story:
         if not used.started:
             self.stumble("never started", node.owner, node, used.line)
             return
+        absent = tuple(pid for pid in sorted(used.ever) if not self.rows_of(pid))
+        if absent:
+            self.stumble("no packet", node.owner, node, used.line, absent, pids=absent)
         for pid in sorted(used.ever):
             self.look_at_pid(node, used, pid)
 
-    def look_at_pid(self, node, used, pid):
-        """Notes what the stream has of a PID of a filter that ran."""
+    def rows_of(self, pid):
+        """The rows of the stream's PIDs that a filter's PID names."""
         if pid == ALL_PACKETS:
-            rows = self.report.pids
-        else:
-            rows = [self.packets[pid]] if pid in self.packets else []
-        section = used.kind == "section"
-        if not rows:
-            self.stumble("no packet", node.owner, node, used.line, pid, pid=pid)
-            return
-        breaks, duplicates = sum(row.breaks for row in rows), sum(row.duplicates for row in rows)
-        if breaks:
-            kind = "break of sections" if section else "break of packets"
-            self.stumble(kind, node.owner, node, used.line, pid, pid=pid, count=breaks)
-        if duplicates:
-            kind = "duplicate of sections" if section else "duplicate of packets"
-            self.stumble(kind, node.owner, node, used.line, pid, pid=pid, count=duplicates)
+            return self.report.pids
+        return [self.packets[pid]] if pid in self.packets else []
+
+    def look_at_pid(self, node, used, pid):
+        """Notes the breaks and duplicates in the stream of a PID of a filter that ran."""
+        for name in ("break", "duplicate"):
+            count = sum(getattr(row, name + "s") for row in self.rows_of(pid))
+            if count:
+                kind = f"{name} of {'sections' if used.kind == 'section' else 'packets'}"
+                self.stumble(kind, node.owner, node, used.line, pid, pid=pid, count=count)
 
     def leave_capture(self, node):
         """A capture's time is over; a timeout that a poll told and no read is noted now."""
@@ -390,6 +390,8 @@ class Story:
         if node.filter and len(node.filter.ever) > len(got.pids):
             got.pids |= node.filter.ever
         if call.reply == "again":
+            if node.filter and node.filter.output == "ts_tap":
+                self.stumble("read of ts_tap", client.number, node, line)
             if call.entry.reply == "again ended=0":
                 node.waiting[client.number] = (call.entry.step, node.passes, node.ends, node.calls)
         elif call.reply == "overflow":
@@ -417,8 +419,10 @@ class Story:
         if node.number == DVR or (node.filter and node.filter.output == "tsdemux_tap"):
             got.items += capture.answered // PACKET - before
         elif node.filter and node.filter.kind == "section":
+            begun = capture.have > 0
             of, whole = capture.take_section(call.entry.reply[5:])
             got.items += whole
+            call.reason = ("the end of a section" if begun else "a section") if whole else "a part of a section"
             if not whole:
                 self.stumble("part", client.number, node, line, count=act_of(call.entry)["count"], of=of)
 
