@@ -1,0 +1,272 @@
+"""What the entries of one node tell of its captures, its buffer and its unread bytes.
+
+A report doesn't say how many bytes a pass brings. What is told, some entries later, is how many bytes of the capture have
+arrived: by reads, by polls that find nothing, by overflow spans and by what a call drops. Between two such entries the bytes
+are spread evenly over the packets that passed. Before an overflow that a read tells, the fill is the one that the first lost
+item found.
+"""
+from typing import NamedTuple
+
+import reports
+
+SIZE, DVR_SIZE = 8192, 1925120
+NOW_FLAG = 4
+
+
+class Loss(NamedTuple):
+    """An overflow span: the place from which it is drawn, the place of the read that tells it, and the reply's numbers."""
+
+    first: int
+    told: int
+    begin: int
+    end: int
+    item: int
+    need: int
+    room: int
+
+
+class Step(NamedTuple):
+    """What is known behind an entry of a capture: packets offered, bytes answered, bytes that have arrived at least."""
+
+    place: int
+    packets: int
+    answered: int
+    least: int
+
+
+class Known(NamedTuple):
+    """An entry behind which the bytes that have arrived are known."""
+
+    place: float
+    packets: int
+    arrived: int
+
+
+class Expiry(NamedTuple):
+    """A timeout: the place where it is over, and the place where a read or a poll tells it."""
+
+    place: int
+    told: int
+
+
+class Drop(NamedTuple):
+    """Unread bytes that a call drops: its place and the span."""
+
+    place: int
+    begin: int
+    end: int
+
+
+class Capture:
+    """A capture: its first place and, where it has ended, the place of the call that ended it; `quiet` is where it takes no
+    further packets, by a stop or a timeout."""
+
+    def __init__(self, begin, moment, words, label, by_sections, timeout):
+        self.begin, self.end, self.quiet, self.words, self.label = begin, None, None, words, label
+        self.by_sections, self.started, self.timeout = by_sections, moment, timeout
+        self.due, self.expiry, self.losses = None, None, []
+        self.packets, self.told_packets, self.answered = 0, 0, 0
+        self.known, self.steps = [Known(begin, 0, 0)], [Step(begin, 0, 0, 0)]
+        self.clear = 0
+
+    def keep(self, place, least=0):
+        """Keeps what is known behind an entry."""
+        self.steps.append(Step(place, self.packets, self.answered, max(least, self.answered)))
+
+    def know(self, place, arrived):
+        """Keeps that just so many bytes have arrived."""
+        self.known.append(Known(place, self.packets, arrived))
+
+    def tell(self, place, least=0, is_clear=True):
+        """Keeps what a read or a poll tells; it is clear where no overflow is pending behind it."""
+        self.keep(place, least)
+        self.told_packets = self.packets
+        if is_clear:
+            self.clear = len(self.steps) - 1
+
+    def lose(self, place, reply):
+        """Keeps an overflow span; `first` is the number of the last step behind which none was pending."""
+        begin, end = reply["span"]
+        self.losses.append((self.clear, len(self.steps), Loss(place, place, begin, end, reply["item"], reply["need"], reply["room"])))
+
+
+class History:
+    """A node's captures, its size behind each entry, and the bytes unread behind each entry (None where nothing tells them)."""
+
+    def __init__(self, node, entries):
+        self.node, self.entries = node, entries
+        self.size, self.filter, self.capture = None, None, None
+        self.sizes, self.captures, self.drops = [], [], []
+        for entry in entries:
+            self.take(entry, reports.act_of(entry), reports.reply_of(entry))
+            self.sizes.append(self.size)
+        self.unread = [0] * len(entries)
+        for capture in self.captures:
+            self.fill(capture)
+
+    def losses(self):
+        """All overflow spans."""
+        return [loss for capture in self.captures for loss in capture.losses]
+
+    def expiries(self):
+        """All timeouts that are told."""
+        return [capture.expiry for capture in self.captures if capture.expiry]
+
+    def take(self, entry, act, reply):
+        """Takes the next entry."""
+        name = act["name"]
+        if name == "pass":
+            self.take_pass(entry, act)
+        elif name == "read":
+            self.take_read(entry, act, reply)
+        elif name == "poll":
+            self.take_poll(entry, act, reply)
+        elif reply["name"] == "done":
+            self.take_done(entry, act, reply)
+
+    def note_moment(self, entry, act):
+        """Notes the first entry at which the timeout may be over."""
+        capture = self.capture
+        if capture.timeout and capture.due is None and capture.quiet is None:
+            if act["at"] >= capture.started + capture.timeout:
+                capture.due = entry.place
+
+    def take_pass(self, entry, act):
+        """A batch passes."""
+        if self.capture and self.capture.quiet is None:
+            self.note_moment(entry, act)
+            self.capture.packets += act["count"]
+            self.capture.keep(entry.place)
+
+    def take_read(self, entry, act, reply):
+        """A read and what it tells."""
+        capture, name = self.capture, reply["name"]
+        if capture is None or name in reports.REFUSALS:
+            return
+        self.note_moment(entry, act)
+        if name == "overflow":
+            capture.know(entry.place, reply["span"][1])
+            capture.lose(entry.place, reply)
+            capture.answered = reply["span"][1]
+        elif name == "timedout":
+            self.expire(entry)
+        elif name == "data":
+            capture.answered += reply["length"]
+            if not capture.by_sections and reply["length"] < act["count"]:
+                capture.know(entry.place, capture.answered)
+        else:
+            capture.know(entry.place, capture.answered)
+        capture.tell(entry.place)
+
+    def take_poll(self, entry, act, reply):
+        """A poll and what it tells."""
+        capture = self.capture
+        if capture is None or reply["name"] != "ready":
+            return
+        self.note_moment(entry, act)
+        if reply["error"] == "timedout":
+            self.expire(entry)
+        if reply["readable"] == 0:
+            capture.know(entry.place, capture.answered)
+        is_clear = reply["error"] != "overflow"
+        has_more = reply["readable"] == 1 and reply["error"] == "none"
+        capture.tell(entry.place, capture.answered + has_more, is_clear)
+
+    def expire(self, entry):
+        """The timeout is told here."""
+        capture = self.capture
+        if capture.expiry is None:
+            place = entry.place if capture.due is None else capture.due
+            capture.expiry = Expiry(place, entry.place)
+            capture.quiet = capture.quiet or place
+
+    def take_done(self, entry, act, reply):
+        """A call that is done: captures end and begin."""
+        name = act["name"]
+        if name == "open":
+            self.size, self.filter = DVR_SIZE if self.node == reports.DVR else SIZE, None
+            self.begin_on_dvr(entry)
+        elif name == "close":
+            self.end_capture(entry, reply)
+            self.size, self.filter = None, None
+        elif name in ("section", "pes"):
+            self.end_capture(entry, reply)
+            self.filter = act
+            if act["flags"] & NOW_FLAG:
+                self.begin(entry, act["at"])
+        elif name == "start" and self.filter:
+            self.end_capture(entry, reply)
+            self.begin(entry, act["at"])
+        elif name == "stop" and self.capture:
+            self.capture.quiet = self.capture.quiet or entry.place
+        elif name == "size" and act["size"] != self.size:
+            self.end_capture(entry, reply)
+            self.size = act["size"]
+            self.begin_on_dvr(entry)
+
+    def begin(self, entry, moment):
+        """A capture of the filter begins."""
+        name, pid = self.filter["name"], self.filter["pid"]
+        kind = "sections" if name == "section" else self.filter["output"]
+        timeout = self.filter.get("timeout", 0)
+        label = f"{kind} of PID {pid}"
+        self.capture = Capture(entry.place, moment, entry.act, label, name == "section", timeout)
+        self.captures.append(self.capture)
+
+    def begin_on_dvr(self, entry):
+        """On the dvr node a capture begins without a filter."""
+        if self.node == reports.DVR:
+            self.capture = Capture(entry.place, 0, entry.act, "tapped packets", False, 0)
+            self.captures.append(self.capture)
+
+    def end_capture(self, entry, reply):
+        """The capture ends, where there is one, and its unread bytes are dropped."""
+        begin, end = reply["drop"]
+        if end > begin:
+            self.drops.append(Drop(entry.place, begin, end))
+        if self.capture:
+            self.capture.know(entry.place, end)
+            self.capture.told_packets = self.capture.packets
+            self.capture.end = entry.place
+        self.capture = None
+
+    # ------ the bytes unread
+
+    def fill(self, capture):
+        """Fills in the bytes unread behind each entry of a capture, and where its overflow spans are drawn from."""
+        last = len(self.entries) if capture.end is None else capture.end
+        levels = [max(arrived, step.least) - step.answered for arrived, step in zip(arrived_at(capture), capture.steps)]
+        capture.losses = [self.fill_before(loss, capture, levels) for loss in capture.losses]
+        places = [step.place for step in capture.steps] + [last]
+        for number, step in enumerate(capture.steps):
+            level = None if step.packets > capture.told_packets else self.within(levels[number], step.place)
+            place, until = places[number : number + 2]
+            self.unread[place:until] = [level] * (until - place)
+
+    def within(self, level, place):
+        """A level that the buffer can have at this place."""
+        return max(0, min(level, (self.sizes[place] or 1) - 1))
+
+    def fill_before(self, kept, capture, levels):
+        """The overflow span from the place where the buffer first is as full as it says; from there on it stays so."""
+        clear, told, loss = kept
+        most = (self.sizes[loss.told] or 1) - 1 - loss.room
+        full = [number for number in range(clear + 1, told) if levels[number] > most]
+        first = full[0] if full else max(clear + 1, told - 1)
+        levels[first:told] = [most] * (told - first)
+        return loss._replace(first=capture.steps[min(first, told)].place)
+
+
+def arrived_at(capture):
+    """The bytes that have arrived at each step: where they aren't known they rise evenly with the packets."""
+    known = [*capture.known, Known(float("inf"), capture.told_packets, capture.answered)]
+    found, here = [], 0
+    for step in capture.steps:
+        while known[here + 1].place <= step.place:
+            here += 1
+        before, after = known[here], known[here + 1]
+        packets = after.packets - before.packets
+        passed = min(step.packets, after.packets) - before.packets
+        bytes_between = after.arrived - before.arrived
+        found.append(before.arrived + (bytes_between * passed // packets if packets > 0 else 0))
+    return found
