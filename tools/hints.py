@@ -59,7 +59,7 @@ def words(stumble):
     if stumble.kind == "no capture":
         return f"a read gives no bytes: {facts['why']}"
     if stumble.kind == "never started":
-        return "the filter that this line sets is never started"
+        return "the filter that is set there is never started"
     if stumble.kind == "timed out":
         shown = f"though the stream has {many(facts['packets'], 'packet')} of its PID, {facts['pid']}"
         return f"the section filter timed out, {shown}; they came before the capture or too late, or brought no section that is selected"

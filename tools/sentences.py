@@ -49,11 +49,6 @@ def pids_text(pids):
     return ("PID " if len(pids) == 1 else "PIDs ") + joined(f"{pid} (every packet)" if pid == ALL_PACKETS else pid for pid in pids)
 
 
-def pid_text(pid):
-    """A PID in words."""
-    return pids_text([pid])
-
-
 def node_text(number):
     """A node in words."""
     return "the dvr node" if number == DVR else node_name(number)
@@ -89,7 +84,7 @@ def section_text(act, on):
 def pes_text(act, on):
     """A SetPes in words."""
     where = f"output {act['output'].upper()}" + (", input DVR" if act["input"] == "dvr" else "")
-    return f"sets a PES filter on {on} ({pid_text(act['pid'])}, {where}, PES type {act['type']}, {flags_text(act['flags'])})"
+    return f"sets a PES filter on {on} ({pids_text([act['pid']])}, {where}, PES type {act['type']}, {flags_text(act['flags'])})"
 
 
 def act_text(call):
@@ -291,7 +286,8 @@ def lost_text(line, call, span):
     if call.reply != "overflow":
         return head + f"unread when {NAMES.get(call.act, call.act)} dropped them"
     room = f"item {reply['item']} needs {reply['need']:,} and found room for {reply['room']:,}"
-    return head + f"by an Overflow: {room}, in a buffer of size {call.reason}, which holds {int(call.reason) - 1}"
+    buffer = f"in a buffer of size {call.reason}, which holds {int(call.reason) - 1}"
+    return head + f"all that was unread at an Overflow: {room}, {buffer}"
 
 
 def waits_text(number, waits):
@@ -310,7 +306,7 @@ def waits_text(number, waits):
 def timed_text(line, call, pid):
     """A TimedOut in words."""
     reply = reply_of(call.entry)
-    of = f" of {pid_text(pid)}" if pid is not None else ""
+    of = f" of PID {pid}" if pid is not None else ""
     moments = f"started at {reply['started']} with timeout {reply['timeout']}, expired at {reply['now']}"
     return f"line {line}, {node_text(call.node)}: the section filter{of}, {moments}"
 

@@ -5,7 +5,7 @@ accepted so far are kept beside them.
 """
 from bisect import bisect_right
 
-from reports import DVR, act_of, moment, reply_of
+from reports import DVR, act_of, reply_of
 
 DEMUX_SIZE, DVR_SIZE = 8192, 1925120
 SMALLEST_SIZE, LARGEST_SIZE = 2, 16777216
@@ -185,12 +185,20 @@ class Story:
                 self.leave_tap(node, tapped)
         for client in self.clients.values():
             client.calls.sort(key=lambda call: call.entry.step)
+            self.look_at_slots(client)
+
+    def look_at_slots(self, client):
+        """Notes the commands on a slot that is bound to no node."""
+        for outcome in client.outcomes:
+            if outcome.kind == "unbound":
+                self.stumble("unbound", client.number, None, outcome.line)
 
     def stumble(self, kind, client, node, line, subject=None, **facts):
-        """Notes that a client stumbles at this line; what is the same but for the line is gathered."""
-        key = (kind, client, node.number, subject)
+        """Notes that a client stumbles at this line, on a node or none; what is the same but for the line is gathered."""
+        number = None if node is None else node.number
+        key = (kind, client, number, subject)
         if key not in self.stumbles:
-            self.stumbles[key] = Stumble(kind, client, node.number, facts)
+            self.stumbles[key] = Stumble(kind, client, number, facts)
         if line not in self.stumbles[key].lines[-1:]:
             self.stumbles[key].lines.append(line)
 
@@ -448,9 +456,3 @@ class Story:
             self.stumble("larger", client.number, node, line, **facts)
         if node.size == (DVR_SIZE if node.number == DVR else DEMUX_SIZE):
             self.stumble("first size", client.number, node, line, **facts)
-
-
-def last_moment(report):
-    """The greatest moment that a client's call carries."""
-    found = (moment(entry) for entries in report.nodes.values() for entry in entries if entry.who != "feed")
-    return max((at for at in found if at is not None), default=0)
