@@ -70,10 +70,11 @@ class Wrong(Exception):
 
 def number(word, most=2**64 - 1):
     """The number that a word is."""
-    digits = word.isascii() and word.isdecimal() and len(word) <= 20
-    if not digits or (word[0] == "0" and word != "0") or int(word) > most:
-        raise Wrong(f"a number from 0 to {most}")
-    return int(word)
+    if word.isdecimal() and word.isascii() and len(word) <= 20 and (word[0] != "0" or word == "0"):
+        value = int(word)
+        if value <= most:
+            return value
+    raise Wrong(f"a number from 0 to {most}")
 
 
 def span(word):
@@ -186,20 +187,31 @@ OTHER_ANSWERS = ("done", *REFUSALS)
 
 def form_of(name, places):
     """A form as it is written, for a message."""
-    return " ".join([name, *(place + ".." if place.endswith("=") else place.upper() for place in places)])
+    return " ".join([name, *(place + ".." if place.endswith("=") else place.upper() for place in places)]).strip()
+
+
+def readers_of(places):
+    """For each place what is written before it, its name, and the reader of its word."""
+    found = []
+    for place in places:
+        name = place.rstrip("=")
+        found.append((place if place.endswith("=") else "", name, PLACES.get(name, number)))
+    return found
+
+
+READERS = {places: readers_of(places) for places in [*ACTS.values(), *REPLIES.values()]}
 
 
 def read_places(name, places, words):
     """What stands at each place, by the place's name, and the first word as `name`."""
+    readers = READERS.get(places) or readers_of(places)
     if len(words) != len(places):
         raise Wrong(f"`{form_of(name, places)}`")
     found = {"name": name}
-    for place, word in zip(places, words):
-        if place.endswith("="):
-            if not word.startswith(place):
-                raise Wrong(f"`{form_of(name, places)}`")
-            word, place = word[len(place) :], place[:-1]
-        found[place] = PLACES.get(place, number)(word)
+    for word, (before, place, reader) in zip(words, readers):
+        if not word.startswith(before):
+            raise Wrong(f"`{form_of(name, places)}`")
+        found[place] = reader(word[len(before) :])
     return found
 
 

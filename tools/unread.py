@@ -61,9 +61,9 @@ class Capture:
     """A capture: its first place and, where it has ended, the place of the call that ended it; `quiet` is where it takes no
     further packets, by a stop or a timeout."""
 
-    def __init__(self, begin, moment, words, label, by_sections, timeout):
-        self.begin, self.end, self.quiet, self.words, self.label = begin, None, None, words, label
-        self.by_sections, self.started, self.timeout = by_sections, moment, timeout
+    def __init__(self, begin, moment, words, kind, label, timeout):
+        self.begin, self.end, self.quiet, self.words, self.kind, self.label = begin, None, None, words, kind, label
+        self.started, self.timeout = moment, timeout
         self.due, self.expiry, self.losses = None, None, []
         self.packets, self.told_packets, self.answered = 0, 0, 0
         self.known, self.steps = [Known(begin, 0, 0)], [Step(begin, 0, 0, 0)]
@@ -152,7 +152,7 @@ class History:
             self.expire(entry)
         elif name == "data":
             capture.answered += reply["length"]
-            if not capture.by_sections and reply["length"] < act["count"]:
+            if capture.kind != "section" and reply["length"] < act["count"]:
                 capture.know(entry.place, capture.answered)
         else:
             capture.know(entry.place, capture.answered)
@@ -207,16 +207,15 @@ class History:
     def begin(self, entry, moment):
         """A capture of the filter begins."""
         name, pid = self.filter["name"], self.filter["pid"]
-        kind = "sections" if name == "section" else self.filter["output"]
+        kind = name if name == "section" else self.filter["output"]
         timeout = self.filter.get("timeout", 0)
-        label = f"{kind} of PID {pid}"
-        self.capture = Capture(entry.place, moment, entry.act, label, name == "section", timeout)
+        self.capture = Capture(entry.place, moment, entry.act, kind, f"{kind} of PID {pid}", timeout)
         self.captures.append(self.capture)
 
     def begin_on_dvr(self, entry):
         """On the dvr node a capture begins without a filter."""
         if self.node == reports.DVR:
-            self.capture = Capture(entry.place, 0, entry.act, "tapped packets", False, 0)
+            self.capture = Capture(entry.place, 0, entry.act, "dvr", "tapped packets", 0)
             self.captures.append(self.capture)
 
     def end_capture(self, entry, reply):
@@ -239,7 +238,8 @@ class History:
         capture.losses = [self.fill_before(loss, capture, levels) for loss in capture.losses]
         places = [step.place for step in capture.steps] + [last]
         for number, step in enumerate(capture.steps):
-            level = None if step.packets > capture.told_packets else self.within(levels[number], step.place)
+            is_told = step.packets <= capture.told_packets or capture.kind == "ts_tap"
+            level = self.within(levels[number], step.place) if is_told else None
             place, until = places[number : number + 2]
             self.unread[place:until] = [level] * (until - place)
 
