@@ -3,12 +3,15 @@
 RULES has for each kind of stumble the heading or paragraph of docs/BEHAVIOUR.md and words that stand there; tools/check looks
 for them.
 """
+from reports import DVR
+
 from sentences import NAMES, lines_text, many, node_name, node_text, pids_text
 
 RULES = {
     "no capture": ("Read", "without a capture: Data of no bytes"),
     "never started": ("Calls", "without it the filter waits for a Start"),
     "timed out": ("Timeouts", "A section that doesn't match is no item and stops no timeout"),
+    "timed out in a pass": ("Timeouts", "a pass that expires a filter offers it nothing, and a section in that very pass is lost"),
     "larger": ("The ledger", "A buffer of n bytes holds n - 1."),
     "first size": ("Calls", "makes the caller the owner, with a buffer size of 8192 and no filter"),
     "first size of dvr": ("The dvr node", "Done; the buffer size is 1,925,120"),
@@ -93,10 +96,11 @@ def hint_text(stumble):
     return f"{where}{first}: {words(stumble)}."
 
 
-def rule_text(stumble):
-    """The rule of a hint, as it is quoted."""
-    kind = stumble.kind
-    if kind == "first size" and node_name(stumble.node) == "dvr":
-        kind = "first size of dvr"
-    heading, quoted = RULES[kind]
-    return f"Rule: '{heading}': \"{quoted}\""
+def rule_texts(stumble):
+    """The rules of a hint, as they are quoted."""
+    kinds = [stumble.kind]
+    if stumble.kind == "first size" and stumble.node == DVR:
+        kinds = ["first size of dvr"]
+    if stumble.kind == "timed out":
+        kinds.append("timed out in a pass")
+    return [f"Rule: '{heading}': \"{quoted}\"" for heading, quoted in (RULES[kind] for kind in kinds)]

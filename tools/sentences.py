@@ -8,6 +8,7 @@ GATHERED = 5
 FLAGS = {1: "DMX_CHECK_CRC", 2: "DMX_ONESHOT", 4: "DMX_IMMEDIATE_START"}
 NAMES = {"section": "SetFilter", "pes": "SetPes", "start": "Start", "size": "SetSize", "close": "Close"}
 LOOKS = ("read", "poll")
+GIVEN = "gave data"
 
 
 def wrapped(text, indent):
@@ -95,7 +96,7 @@ def act_text(call):
     if call.act == "pes":
         return pes_text(act, on)
     if call.act == "read":
-        return f"reads at most {act['count']} bytes of {on}"
+        return f"reads at most {act['count']} bytes from {on}"
     if call.act == "size":
         return f"sets the buffer size of {on} to {act['size']}"
     if call.act in ("add", "remove"):
@@ -170,9 +171,9 @@ def call_text(call):
 def kind_of_reply(call):
     """What the replies of gathered reads and polls are counted by."""
     if call.reply == "data":
-        return "gave data" if call.length() else "gave no bytes"
+        return GIVEN if call.length() else "gave no bytes"
     if call.reply == "again":
-        return "found nothing and the stream ended" if call.entry.reply.endswith("1") else "found nothing"
+        return "found nothing and the stream had ended" if call.entry.reply.endswith("1") else "found nothing"
     if call.reply == "ready":
         if "error=none" not in call.entry.reply:
             return "told of an Overflow or a TimedOut"
@@ -197,9 +198,9 @@ def group_text(calls):
         counted[kind] = counted.get(kind, 0) + 1
         given += call.length()
     on = node_text(first.node)
-    asked = f"of {act_of(first.entry)['count']} bytes of {on}" if first.act == "read" else f"of {on}"
-    text = f"{many(len(calls), first.act)} {asked}: " + joined(f"{count:,} {kind}" for kind, count in counted.items())
-    return text + (f", {many(given, 'byte')} in all" if given else "")
+    asked = f"of at most {act_of(first.entry)['count']} bytes from {on}" if first.act == "read" else f"of {on}"
+    counts = [f"{count:,} {kind}" + (f" ({many(given, 'byte')} in all)" if kind == GIVEN else "") for kind, count in counted.items()]
+    return f"{many(len(calls), first.act)} {asked}: {joined(counts)}"
 
 
 def calls_text(calls):

@@ -342,7 +342,7 @@ class Story:
         """A Done that names unread bytes."""
         client.lost.append((line, call, span))
         if call.act in ("section", "pes", "start", "size"):
-            self.stumble("dropped", client.number, node, line, act=call.act, bytes=span[1] - span[0])
+            self.stumble("dropped", client.number, node, line, call.act, act=call.act, bytes=span[1] - span[0])
 
     # ------ ends
 
