@@ -38,7 +38,8 @@ def size_words(stumble):
     if stumble.kind == "larger":
         item = f"item {facts['item']} has {many(facts['need'], 'byte')}, and the buffer size is {facts['size']}"
         return f"an Overflow that no reading in time avoids, only a greater size: {item}"
-    return f"an Overflow at the buffer size {facts['size']}, which is the one that Open gives; SetSize takes others up to 16,777,216"
+    given = "which is the one that Open gives; SetSize takes others up to 16,777,216"
+    return f"an Overflow at the buffer size {facts['size']}, {given}"
 
 
 def pid_words(stumble):
@@ -65,7 +66,8 @@ def words(stumble):
         return "the filter that is set there is never started"
     if stumble.kind == "timed out":
         shown = f"though the stream has {many(facts['packets'], 'packet')} of its PID, {facts['pid']}"
-        return f"the section filter timed out, {shown}; they came before the capture or too late, or brought no section that is selected"
+        why = "they came before the capture or too late, or brought no section that is selected"
+        return f"the section filter timed out, {shown}; {why}"
     if stumble.kind in ("larger", "first size"):
         return size_words(stumble)
     if stumble.kind == "dropped":

@@ -199,7 +199,8 @@ def group_text(calls):
         given += call.length()
     on = node_text(first.node)
     asked = f"of at most {act_of(first.entry)['count']} bytes from {on}" if first.act == "read" else f"of {on}"
-    counts = [f"{count:,} {kind}" + (f" ({many(given, 'byte')} in all)" if kind == GIVEN else "") for kind, count in counted.items()]
+    sums = {GIVEN: f" ({many(given, 'byte')} in all)"}
+    counts = [f"{count:,} {kind}{sums.get(kind, '')}" for kind, count in counted.items()]
     return f"{many(len(calls), first.act)} {asked}: {joined(counts)}"
 
 
