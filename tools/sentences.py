@@ -4,7 +4,7 @@ from reports import act_of, moment, node_name, reply_of
 from story import ALL_PACKETS, DVR, PACKET
 
 WIDTH = 100
-GATHERED = 5
+GATHERED = 9
 FLAGS = {1: "DMX_CHECK_CRC", 2: "DMX_ONESHOT", 4: "DMX_IMMEDIATE_START"}
 NAMES = {"section": "SetFilter", "pes": "SetPes", "start": "Start", "size": "SetSize", "close": "Close"}
 LOOKS = ("read", "poll")
@@ -187,7 +187,7 @@ def looks_text(calls):
     for call in calls:
         asked = call.entry.act.partition(" at=")[0]
         groups.setdefault((call.node, asked), []).append(call)
-    return "; ".join(group_text(group) for group in groups.values())
+    return "; ".join(group_text(group) if len(group) > 1 else call_text(group[0]) for group in groups.values())
 
 
 def group_text(calls):
