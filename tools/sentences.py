@@ -1,0 +1,327 @@
+"""Calls and replies of a report in plain words, for tools/explain."""
+from reports import act_of, moment, node_name, reply_of
+
+from story import ALL_PACKETS, DVR, PACKET
+
+WIDTH = 100
+GATHERED = 9
+FLAGS = {1: "DMX_CHECK_CRC", 2: "DMX_ONESHOT", 4: "DMX_IMMEDIATE_START"}
+NAMES = {"section": "SetFilter", "pes": "SetPes", "start": "Start", "size": "SetSize", "close": "Close"}
+LOOKS = ("read", "poll")
+GIVEN = "gave data"
+
+
+def wrapped(text, indent):
+    """A text in lines of at most 100 columns, those behind the first with a further indent of two."""
+    lines, line = [], " " * indent
+    for word in text.split(" "):
+        if len(line) + 1 + len(word) > WIDTH and line.strip():
+            lines.append(line)
+            line = " " * (indent + 2)
+        line += word if not line.strip() else " " + word
+    return [*lines, line]
+
+
+def joined(parts):
+    """A list in words: `a`, `a and b`, `a, b and c`."""
+    parts = list(map(str, parts))
+    return " and ".join([", ".join(parts[:-1]), parts[-1]] if len(parts) > 1 else parts)
+
+
+def many(count, one, more=None):
+    """A number of things: `1 read`, `2,000 reads`."""
+    return f"{count:,} {one if count == 1 else more or one + 's'}"
+
+
+def lines_text(lines):
+    """Lines of the script, at most six of them by number: `line 4`, `lines 4, 6 and 9`."""
+    if len(lines) == 1:
+        return f"line {lines[0]}"
+    if len(lines) <= 6:
+        return f"lines {joined(lines)}"
+    return f"lines {', '.join(map(str, lines[:5]))} and {len(lines) - 5:,} more up to {lines[-1]}"
+
+
+def pids_text(pids):
+    """PIDs in words."""
+    pids = sorted(pids)
+    if not pids:
+        return "no PID"
+    return ("PID " if len(pids) == 1 else "PIDs ") + joined(f"{pid} (every packet)" if pid == ALL_PACKETS else pid for pid in pids)
+
+
+def node_text(number):
+    """A node in words."""
+    return "the dvr node" if number == DVR else node_name(number)
+
+
+# ------ acts
+
+
+def flags_text(flags):
+    """The flags of a set call in words."""
+    names = [FLAGS.get(1 << bit, str(1 << bit)) for bit in range(flags.bit_length()) if flags >> bit & 1]
+    return "no flag" if not names else ("flag " if len(names) == 1 else "flags ") + joined(names)
+
+
+def bytes_text(places):
+    """The filter bytes of a section filter in words."""
+    words = []
+    for place, (value, mask, mode) in places.items():
+        if place == 0 and (mask, mode) == (0xFF, 0):
+            words.append(f"table_id 0x{value:02X}")
+        else:
+            words.append(f"filter byte {place} {value:02x}/{mask:02x}/{mode:02x}")
+    return ", ".join(words) or "every section"
+
+
+def section_text(act, on):
+    """A SetFilter in words."""
+    timeout = f"timeout {act['timeout']}" if act["timeout"] else "no timeout"
+    filtered = f"PID {act['pid']}, {bytes_text(act['bytes'])}"
+    return f"sets a section filter on {on} ({filtered}, {timeout}, {flags_text(act['flags'])})"
+
+
+def pes_text(act, on):
+    """A SetPes in words."""
+    where = f"output {act['output'].upper()}" + (", input DVR" if act["input"] == "dvr" else "")
+    return f"sets a PES filter on {on} ({pids_text([act['pid']])}, {where}, PES type {act['type']}, {flags_text(act['flags'])})"
+
+
+def act_text(call):
+    """What a call asks, in words."""
+    act, on = act_of(call.entry), node_text(call.node)
+    if call.act == "section":
+        return section_text(act, on)
+    if call.act == "pes":
+        return pes_text(act, on)
+    if call.act == "read":
+        return f"reads at most {act['count']} bytes from {on}"
+    if call.act == "size":
+        return f"sets the buffer size of {on} to {act['size']}"
+    if call.act in ("add", "remove"):
+        return f"{'adds PID' if call.act == 'add' else 'removes PID'} {act['pid']} on {on}"
+    if call.act == "attach":
+        return f"attaches the tap of {node_name(act['node'])} to the dvr node ({pids_text(act['pids'])})"
+    if call.act == "detach":
+        return f"detaches the tap of {node_name(act['node'])} from the dvr node"
+    return {"open": "opens", "close": "closes", "start": "starts", "stop": "stops", "poll": "polls"}[call.act] + " " + on
+
+
+def moment_text(call):
+    """The moment of a call, where it carries one above 0."""
+    at = moment(call.entry)
+    return f" at moment {at}" if at else ""
+
+
+# ------ replies
+
+
+def done_text(call, reply):
+    """A Done in words."""
+    first, after = reply["drop"]
+    text = "Done"
+    if call.act == "start" or (call.act in ("section", "pes") and act_of(call.entry)["flags"] & 4):
+        text += ", a capture begins"
+    elif call.act in ("section", "pes"):
+        text += ", the filter waits for a Start"
+    if after > first:
+        text += f"; what is unread is dropped, {many(after - first, 'byte')}, {first}..{after}"
+    return text
+
+
+def ready_text(reply):
+    """A Ready in words."""
+    if reply["error"] != "none":
+        return "Ready, " + ("an Overflow" if reply["error"] == "overflow" else "a TimedOut") + " is to be told"
+    text = "Ready, bytes can be read" if reply["readable"] else "Ready, nothing can be read"
+    return text + ("; the stream has ended" if reply["ended"] else "")
+
+
+def reply_text(call):
+    """What a call was answered, in words."""
+    reply = reply_of(call.entry)
+    if call.reply == "done":
+        return done_text(call, reply)
+    if call.reply == "busy":
+        return f"Busy, {call.reason}"
+    if call.reply == "data":
+        length = call.length()
+        return f"Data of {many(length, 'byte') if length else 'no bytes'}" + (f", {call.reason}" if call.reason else "")
+    if call.reply == "again":
+        return "Again, nothing is unread" + (" and the stream has ended" if reply["ended"] else "")
+    if call.reply == "overflow":
+        first, after = reply["span"]
+        return f"Overflow, {many(after - first, 'byte')} are lost"
+    if call.reply == "timedout":
+        return f"TimedOut, started at {reply['started']}, expired at {reply['now']}, timeout {reply['timeout']}"
+    if call.reply == "ready":
+        return ready_text(reply)
+    return call.reply + (f", {call.reason}" if call.reason else "")
+
+
+def call_text(call):
+    """A call and its reply in words."""
+    return f"{act_text(call)}{moment_text(call)}: {reply_text(call)}"
+
+
+# ------ rows of like calls
+
+
+def kind_of_reply(call):
+    """What the replies of gathered reads and polls are counted by."""
+    if call.reply == "data":
+        return GIVEN if call.length() else "gave no bytes"
+    if call.reply == "again":
+        return "found nothing and the stream had ended" if call.entry.reply.endswith("1") else "found nothing"
+    if call.reply == "ready":
+        if "error=none" not in call.entry.reply:
+            return "told of an Overflow or a TimedOut"
+        return "found bytes" if " readable=1 " in call.entry.reply else "found nothing"
+    return {"overflow": "answered Overflow", "timedout": "answered TimedOut"}.get(call.reply, f"answered {call.reply}")
+
+
+def looks_text(calls):
+    """Reads and polls of one node, gathered by what they ask."""
+    groups = {}
+    for call in calls:
+        asked = call.entry.act.partition(" at=")[0]
+        groups.setdefault((call.node, asked), []).append(call)
+    return "; ".join(group_text(group) if len(group) > 1 else call_text(group[0]) for group in groups.values())
+
+
+def group_text(calls):
+    """Reads or polls that ask the same."""
+    first, counted, given = calls[0], {}, 0
+    for call in calls:
+        kind = kind_of_reply(call)
+        counted[kind] = counted.get(kind, 0) + 1
+        given += call.length()
+    on = node_text(first.node)
+    asked = f"of at most {act_of(first.entry)['count']} bytes from {on}" if first.act == "read" else f"of {on}"
+    sums = {GIVEN: f" ({many(given, 'byte')} in all)"}
+    counts = [f"{count:,} {kind}{sums.get(kind, '')}" for kind, count in counted.items()]
+    return f"{many(len(calls), first.act)} {asked}: {joined(counts)}"
+
+
+def calls_text(calls):
+    """The calls of one command in words; several reads are gathered."""
+    if not calls:
+        return "makes no call"
+    if len(calls) > 1 and all(call.act in LOOKS for call in calls):
+        return looks_text(calls)
+    return "; ".join(map(call_text, calls))
+
+
+def likeness(calls):
+    """What makes commands alike, so that a long row of them is gathered; None where nothing does."""
+    if calls and all(call.act in LOOKS for call in calls):
+        return "looks", calls[0].node
+    if len(calls) != 1:
+        return None
+    return calls[0].entry.act.partition(" at=")[0], calls[0].node, calls[0].reply
+
+
+def command_text(outcome, calls):
+    """What one command did, in words."""
+    if outcome.kind == "unbound":
+        return "names a slot that is bound to no node, so it makes no call"
+    text = calls_text(calls)
+    return f"{text}; no node is free (EMFILE)" if outcome.kind == "EMFILE" else text
+
+
+def asked_texts(commands):
+    """The commands of a client, pairs of an outcome and its calls, in words; long rows of like ones are gathered."""
+    found, place = [], 0
+    while place < len(commands):
+        like, after = likeness(commands[place][1]), place + 1
+        while like is not None and after < len(commands) and likeness(commands[after][1]) == like:
+            after += 1
+        if after - place < GATHERED:
+            after = place + 1
+            found.append(f"line {commands[place][0].line}: {command_text(*commands[place])}")
+        else:
+            row = commands[place:after]
+            head = f"lines {row[0][0].line} to {row[-1][0].line}, {len(row):,} commands: "
+            found.append(head + row_text(like, [call for _, calls in row for call in calls]))
+        place = after
+    return found
+
+
+def row_text(like, calls):
+    """A row of like commands in words."""
+    if like[0] == "looks":
+        return looks_text(calls)
+    dropped = 0
+    if calls[0].reply == "done":
+        dropped = sum(after - first for first, after in (reply_of(call.entry)["drop"] for call in calls))
+    end = f"; {many(dropped, 'unread byte')} dropped in all" if dropped else ""
+    return f"{len(calls):,} times {act_text(calls[0])}: {calls[0].reply if calls[0].reply != 'done' else 'Done'}{end}"
+
+
+# ------ what a client got
+
+
+def got_text(key, got):
+    """What the reads of a node through one filter gave, in words."""
+    number, kind, output, _ = key
+    if kind:
+        of = pids_text(got.pids)
+        through = f"section filter of {of}" if kind == "section" else f"PES filter {output.upper()} of {of}"
+        head = f"{node_name(number)}, {through}: "
+    else:
+        head = f"{node_text(number)}: " if number == DVR else f"{node_text(number)} without a filter: "
+    if not got.with_data:
+        return head + f"no bytes by {many(got.reads, 'read')}"
+    text = head + f"{many(got.bytes, 'byte')} by {got.with_data:,} of {many(got.reads, 'read')}"
+    if kind == "section":
+        return text + f", {many(got.items, 'section')} read to the end"
+    if number == DVR or output == "tsdemux_tap":
+        return text + f", {many(got.items, 'whole packet')} of {PACKET} bytes"
+    return text + ", payloads"
+
+
+def lost_text(line, call, span):
+    """A span that the client never got, in words."""
+    reply, length = reply_of(call.entry), many(span[1] - span[0], "byte")
+    head = f"line {line}, {node_text(call.node)}: {length}, {span[0]}..{span[1]} of the capture, "
+    if call.reply != "overflow":
+        return head + f"unread when {NAMES.get(call.act, call.act)} dropped them"
+    room = f"item {reply['item']} needs {reply['need']:,} and found room for {reply['room']:,}"
+    buffer = f"in a buffer of size {call.reason}, which holds {int(call.reason) - 1}"
+    return head + f"all that was unread at an Overflow: {room}, {buffer}"
+
+
+def waits_text(number, waits):
+    """How often a client waited on a node, in words."""
+    times = waits.passes + waits.ends + waits.others
+    parts = [
+        (waits.passes, "until the feeder had passed a batch"),
+        (waits.ends, "until End had passed"),
+        (waits.others, "until another client had called the node"),
+    ]
+    parts = [(count, until) for count, until in parts if count]
+    texts = [f"{count:,} {until}" if len(parts) > 1 else until for count, until in parts]
+    return f"{lines_text(waits.lines)}, {node_text(number)}: {many(times, 'wait')}, {joined(texts)}"
+
+
+def timed_text(line, call, pid):
+    """A TimedOut in words."""
+    reply = reply_of(call.entry)
+    of = f" of PID {pid}" if pid is not None else ""
+    moments = f"started at {reply['started']} with timeout {reply['timeout']}, expired at {reply['now']}"
+    return f"line {line}, {node_text(call.node)}: the section filter{of}, {moments}"
+
+
+def refused_texts(refused):
+    """The refusals of a client in words, those with the same reason on the same node together."""
+    groups = {}
+    for line, call in refused:
+        lines = groups.setdefault((call.reply, call.reason, call.node), [])
+        if line not in lines[-1:]:
+            lines.append(line)
+    found = []
+    for (error, reason, number), lines in groups.items():
+        name = "Busy" if error == "busy" else error
+        found.append(f"{lines_text(lines)}, {node_text(number)}: {name}, {reason or 'for which the report alone has no reason'}")
+    return found

@@ -1,0 +1,458 @@
+"""What a report tells of each client: each node's history gone through once, by the rules of docs/BEHAVIOUR.md.
+
+Nothing here works out a reply anew: what a node does is taken from its replies, and only the states that follow from the calls
+accepted so far are kept beside them.
+"""
+from bisect import bisect_right
+
+from reports import DVR, act_of, reply_of
+
+DEMUX_SIZE, DVR_SIZE = 8192, 1925120
+SMALLEST_SIZE, LARGEST_SIZE = 2, 16777216
+PACKET, MOST_PIDS, ALL_PACKETS, LARGEST_PID = 188, 32, 0x2000, 0x1FFF
+CRC, ONESHOT, IMMEDIATE = 1, 2, 4
+
+
+class Filter:
+    """A filter of a demux node: what its set call asked, the PIDs that it has, and whether it was ever started."""
+
+    def __init__(self, act, line):
+        self.kind, self.pid, self.line = act["name"], act["pid"], line
+        self.output = act.get("output", "")
+        self.pids, self.ever, self.started = {self.pid}, {self.pid}, False
+
+
+class Capture:
+    """What is known of a capture: how many bytes were answered, and where in a section the reader stands."""
+
+    def __init__(self):
+        self.answered, self.polled = 0, None
+        self.have, self.head = 0, ""
+
+    def take_section(self, digits):
+        """Takes a read of a section filter; gives the section's length where it is known, and whether the section is whole."""
+        if self.have < 3:
+            self.head += digits[: 6 - 2 * self.have]
+        self.have += len(digits) // 2
+        length = (int(self.head[2:6], 16) & 0x0FFF) + 3 if self.have >= 3 else None
+        whole = length is not None and self.have >= length
+        if whole:
+            self.have, self.head = 0, ""
+        return length, whole
+
+    def skip_to(self, answered):
+        """Takes an Overflow, behind which an item begins."""
+        self.answered, self.have, self.head = answered, 0, ""
+
+
+class Node:
+    """The state of a node that follows from the calls accepted so far, and counts of what came by."""
+
+    def __init__(self, number):
+        self.number, self.owner, self.size = number, None, 0
+        self.filter, self.runs, self.capture, self.ended_by = None, False, None, ""
+        self.passes, self.ends, self.calls = 0, 0, 0
+        self.waiting, self.busy = {}, {}
+        self.taps, self.free_packets = {}, 0
+
+
+class Call:
+    """A call of a client: its node, its entry, the names of its act and its reply, and a reason that the entry hasn't."""
+
+    __slots__ = ("node", "entry", "act", "reply", "reason")
+
+    def __init__(self, node, entry):
+        self.node, self.entry, self.reason = node, entry, ""
+        self.act = entry.act.partition(" ")[0]
+        self.reply = entry.reply.partition(" ")[0]
+
+    def length(self):
+        """How many bytes a read gave."""
+        return 0 if self.reply != "data" or self.entry.reply == "data -" else (len(self.entry.reply) - 5) // 2
+
+
+class Got:
+    """What the reads of a node through one kind of filter gave."""
+
+    def __init__(self):
+        self.reads, self.with_data, self.bytes, self.items, self.pids = 0, 0, 0, 0, set()
+
+
+class Waits:
+    """How often a client waited on a node, and until what."""
+
+    def __init__(self):
+        self.lines, self.passes, self.ends, self.others = [], 0, 0, 0
+
+
+class Client:
+    """What one client asked and got."""
+
+    def __init__(self, number, outcomes):
+        self.number, self.outcomes = number, outcomes
+        calling = [outcome for outcome in outcomes if outcome.first < outcome.after]
+        self.firsts, self.lines = [outcome.first for outcome in calling], [outcome.line for outcome in calling]
+        self.begins = set(self.firsts)
+        self.calls, self.got, self.waits = [], {}, {}
+        self.lost, self.timed, self.refused = [], [], []
+
+    def line_of(self, step):
+        """The line of the command that made this call, or 0 where no command did."""
+        place = bisect_right(self.firsts, step) - 1
+        return self.lines[place] if place >= 0 else 0
+
+
+class Stumble:
+    """Something that a receiver's writer would stumble over: its kind, where it is, and the facts of its first time."""
+
+    def __init__(self, kind, client, node, facts):
+        self.kind, self.client, self.node, self.facts, self.lines = kind, client, node, facts, []
+
+
+# ------ refusals
+
+
+def wrong_argument(act):
+    """Why a call is refused by its arguments alone, or nothing."""
+    name = act["name"]
+    most = LARGEST_PID if name == "section" else ALL_PACKETS
+    if act.get("pid", 0) > most:
+        return f"a PID above 0x{most:X}"
+    if name == "size" and not SMALLEST_SIZE <= act["size"] <= LARGEST_SIZE:
+        return "a size below 2 or above 16,777,216"
+    if name not in ("section", "pes"):
+        return ""
+    if act["flags"] & ~(CRC | ONESHOT | IMMEDIATE):
+        return "a flag bit other than 1, 2 and 4"
+    if act.get("type", 0) > 20:
+        return "a PES type above 20"
+    if act.get("output") == "decoder":
+        return "output DECODER"
+    return "input DVR" if act.get("input") == "dvr" else ""
+
+
+def wrong_pids(node, act):
+    """Why an AddPid or RemovePid is refused by the node's state: the error and the reason, or None."""
+    if node.filter is None:
+        return "EINVAL", f"{'AddPid' if act['name'] == 'add' else 'RemovePid'} without a filter"
+    if node.filter.kind == "section":
+        return "EINVAL", f"{'AddPid' if act['name'] == 'add' else 'RemovePid'} on a section filter"
+    if act["name"] == "remove" or act["pid"] in node.filter.pids:
+        return None
+    if node.filter.output != "tsdemux_tap" and node.filter.pids:
+        return "EINVAL", "only TSDEMUX_TAP takes more than one PID"
+    return ("ENOSPC", "32 PIDs are in the set") if len(node.filter.pids) >= MOST_PIDS else None
+
+
+def refusal(node, client, act):
+    """The error that the rules give for a call in the node's state, and its reason; None where they give none."""
+    if node.owner is None:
+        return "EBADF", "the node is Free"
+    if node.owner != client:
+        return "EBADF", f"client {node.owner} is its owner"
+    wrong, name = wrong_argument(act), act["name"]
+    if node.number == DVR and name in ("section", "pes", "add", "remove", "start", "stop"):
+        return "EINVAL", "the dvr node takes no such call"
+    if wrong:
+        return "EINVAL", wrong
+    if name in ("add", "remove"):
+        return wrong_pids(node, act)
+    if name == "start" and node.filter is None:
+        return "EINVAL", "Start without a filter"
+    if name == "size" and act["size"] != node.size and node.runs:
+        return "EBUSY", "SetSize to another size while the filter is started and not stopped"
+    return None
+
+
+# ------ the nodes gone through
+
+
+class Story:
+    """A report gone through: its clients by number, and the stumbles."""
+
+    def __init__(self, report):
+        self.report = report
+        self.clients = {number: Client(number, outcomes) for number, outcomes in enumerate(report.clients)}
+        self.packets = {row.pid: row for row in report.pids}
+        self.stumbles = {}
+        for number, entries in sorted(report.nodes.items()):
+            node = Node(number)
+            for entry in entries:
+                self.take(node, entry)
+            self.leave_capture(node)
+            self.leave_filter(node)
+            for tapped in list(node.taps):
+                self.leave_tap(node, tapped)
+        for client in self.clients.values():
+            client.calls.sort(key=lambda call: call.entry.step)
+            self.look_at_slots(client)
+
+    def look_at_slots(self, client):
+        """Notes the commands on a slot that is bound to no node."""
+        for outcome in client.outcomes:
+            if outcome.kind == "unbound":
+                self.stumble("unbound", client.number, None, outcome.line)
+
+    def stumble(self, kind, client, node, line, subject=None, **facts):
+        """Notes that a client stumbles at this line, on a node or none; what is the same but for the line is gathered."""
+        number = None if node is None else node.number
+        key = (kind, client, number, subject)
+        if key not in self.stumbles:
+            self.stumbles[key] = Stumble(kind, client, number, facts)
+        if line not in self.stumbles[key].lines[-1:]:
+            self.stumbles[key].lines.append(line)
+
+    def take(self, node, entry):
+        """Goes over one entry of a node."""
+        if entry.who == "feed":
+            self.take_feed(node, entry)
+            return
+        number = int(entry.who[1])
+        client = self.clients.setdefault(number, Client(number, []))
+        call, line = Call(node.number, entry), client.line_of(entry.step)
+        client.calls.append(call)
+        self.end_wait(node, client, call, line)
+        node.calls += 1
+        if call.reply[0] == "E":
+            self.take_refused(node, client, call, line)
+        elif call.act == "read":
+            self.take_read(node, client, call, line)
+        elif call.act == "poll":
+            if "error=timedout" in entry.reply and node.capture:
+                node.capture.polled = line
+        elif call.act == "open":
+            self.take_open(node, client, call, line)
+        elif call.act in ("attach", "detach"):
+            self.take_tap(node, client, call, line)
+        else:
+            self.take_change(node, client, call, line)
+
+    def take_feed(self, node, entry):
+        """A batch or End passes a node."""
+        if entry.act == "end":
+            node.ends += 1
+            return
+        node.passes += 1
+        if node.taps and node.owner is None:
+            node.free_packets += act_of(entry)["count"]
+
+    def end_wait(self, node, client, call, line):
+        """Where the call before was a wait of the same command, notes what came in between."""
+        step, passes, ends, calls = node.waiting.pop(client.number, (None, 0, 0, 0))
+        if step is None or call.entry.step != step + 1 or call.entry.step in client.begins:
+            return
+        waits = client.waits.setdefault(node.number, Waits())
+        if line not in waits.lines[-1:]:
+            waits.lines.append(line)
+        if node.ends > ends:
+            waits.ends += 1
+        elif node.passes > passes:
+            waits.passes += 1
+        elif node.calls > calls:
+            waits.others += 1
+
+    # ------ replies
+
+    def take_refused(self, node, client, call, line):
+        """A call that the node refused."""
+        found = refusal(node, client.number, act_of(call.entry))
+        call.reason = found[1] if found and found[0] == call.reply else ""
+        client.refused.append((line, call))
+        if call.reply == "EBADF" and client.number in node.busy:
+            self.stumble("busy", client.number, node, line, opened=node.busy[client.number])
+
+    def take_open(self, node, client, call, line):
+        """An Open, accepted or Busy."""
+        if call.reply == "busy":
+            owner = int(reply_of(call.entry)["owner"][1])
+            call.reason = "it is the owner itself" if owner == client.number else f"client {owner} is its owner"
+            if owner != client.number:
+                node.busy[client.number] = line
+            client.refused.append((line, call))
+            return
+        node.busy.pop(client.number, None)
+        node.owner, node.filter, node.runs, node.ended_by = client.number, None, False, ""
+        node.size = DVR_SIZE if node.number == DVR else DEMUX_SIZE
+        node.capture = Capture() if node.number == DVR else None
+        for tapped in list(node.taps):
+            self.leave_tap(node, tapped)
+
+    def take_tap(self, node, client, call, line):
+        """An Attach or a Detach of the dvr node; what passes while it is free is counted for the taps attached then."""
+        tapped = act_of(call.entry)["node"]
+        mine = tapped in node.taps and node.taps[tapped][0] == client.number
+        if tapped in node.taps and mine == (call.act == "detach"):
+            self.leave_tap(node, tapped)
+        if call.act == "attach" and node.owner is None and not mine:
+            node.taps[tapped] = (client.number, line, node.free_packets)
+
+    def leave_tap(self, node, tapped):
+        """A tap that was attached while the dvr node was free is removed, or the dvr node is opened."""
+        client, line, before = node.taps.pop(tapped)
+        if node.free_packets > before:
+            self.stumble("free tap", client, node, line, tapped, tapped=tapped, packets=node.free_packets - before)
+
+    def take_change(self, node, client, call, line):
+        """An accepted call that changes a node's filter, capture or size."""
+        act, span = act_of(call.entry), reply_of(call.entry)["drop"]
+        if span[1] > span[0]:
+            self.take_drop(node, client, call, line, span)
+        if call.act in ("section", "pes"):
+            self.leave_capture(node)
+            self.leave_filter(node)
+            node.filter, node.ended_by = Filter(act, line), ""
+            self.change_runs(node, act["flags"] & IMMEDIATE != 0)
+        elif call.act in ("start", "stop"):
+            self.change_runs(node, call.act == "start")
+        elif call.act in ("add", "remove") and node.filter:
+            self.change_pids(node, call.act, act["pid"])
+        elif call.act == "size" and act["size"] != node.size:
+            self.change_size(node, act["size"])
+        elif call.act == "close":
+            self.leave_capture(node)
+            self.leave_filter(node)
+            node.owner, node.runs = None, False
+
+    def change_runs(self, node, runs):
+        """A filter is started, which begins a capture, or doesn't run from here on."""
+        node.runs = runs
+        if runs:
+            self.leave_capture(node)
+            node.capture = Capture()
+        if runs and node.filter:
+            node.filter.started = True
+
+    def change_size(self, node, size):
+        """An accepted SetSize to another size."""
+        if node.capture:
+            node.ended_by = "SetSize to another size has ended the capture"
+        self.leave_capture(node)
+        node.size = size
+        node.capture = Capture() if node.number == DVR else None
+
+    def change_pids(self, node, name, pid):
+        """An accepted AddPid or RemovePid."""
+        if name == "add":
+            node.filter.pids.add(pid)
+            node.filter.ever.add(pid)
+        else:
+            node.filter.pids.discard(pid)
+
+    def take_drop(self, node, client, call, line, span):
+        """A Done that names unread bytes."""
+        client.lost.append((line, call, span))
+        if call.act in ("section", "pes", "start", "size"):
+            self.stumble("dropped", client.number, node, line, call.act, act=call.act, bytes=span[1] - span[0])
+
+    # ------ ends
+
+    def leave_filter(self, node):
+        """A filter's time is over: by another set call, by Close, or at the end of the report."""
+        used, node.filter = node.filter, None
+        if used is None or node.owner is None:
+            return
+        if not used.started:
+            self.stumble("never started", node.owner, node, used.line)
+            return
+        absent = tuple(pid for pid in sorted(used.ever) if not self.rows_of(pid))
+        if absent:
+            self.stumble("no packet", node.owner, node, used.line, absent, pids=absent)
+        for pid in sorted(used.ever):
+            self.look_at_pid(node, used, pid)
+
+    def rows_of(self, pid):
+        """The rows of the stream's PIDs that a filter's PID names."""
+        if pid == ALL_PACKETS:
+            return self.report.pids
+        return [self.packets[pid]] if pid in self.packets else []
+
+    def look_at_pid(self, node, used, pid):
+        """Notes the breaks and duplicates in the stream of a PID of a filter that ran."""
+        for name in ("break", "duplicate"):
+            count = sum(getattr(row, name + "s") for row in self.rows_of(pid))
+            if count:
+                kind = f"{name} of {'sections' if used.kind == 'section' else 'packets'}"
+                self.stumble(kind, node.owner, node, used.line, pid, pid=pid, count=count)
+
+    def leave_capture(self, node):
+        """A capture's time is over; a timeout that a poll told and no read is noted now."""
+        capture, node.capture = node.capture, None
+        if capture and capture.polled is not None and node.owner is not None:
+            self.note_timeout(node, node.owner, capture.polled)
+
+    def note_timeout(self, node, client, line):
+        """Notes a timeout of a section filter whose PID has packets in the stream."""
+        if node.filter and node.filter.pid in self.packets:
+            pid = node.filter.pid
+            self.stumble("timed out", client, node, line, pid, pid=pid, packets=self.packets[pid].packets)
+
+    # ------ reads
+
+    def take_read(self, node, client, call, line):
+        """A read that wasn't refused."""
+        key = (node.number, node.filter.kind, node.filter.output, node.filter.pid) if node.filter else (node.number, "", "", 0)
+        got = client.got.get(key)
+        if got is None:
+            got = client.got[key] = Got()
+        got.reads += 1
+        if node.filter and len(node.filter.ever) > len(got.pids):
+            got.pids |= node.filter.ever
+        if call.reply == "again":
+            if node.filter and node.filter.output == "ts_tap":
+                self.stumble("read of ts_tap", client.number, node, line)
+            if call.entry.reply == "again ended=0":
+                node.waiting[client.number] = (call.entry.step, node.passes, node.ends, node.calls)
+        elif call.reply == "overflow":
+            self.take_overflow(node, client, call, line)
+        elif call.reply == "timedout":
+            client.timed.append((line, call, node.filter.pid if node.filter else None))
+            if node.capture:
+                node.capture.polled = None
+            self.note_timeout(node, client.number, line)
+        else:
+            self.take_data(node, client, call, line, got)
+
+    def take_data(self, node, client, call, line, got):
+        """Data, with bytes or none."""
+        length, capture = call.length(), node.capture
+        if length == 0:
+            self.take_no_bytes(node, client, call, line)
+            return
+        got.with_data += 1
+        got.bytes += length
+        if capture is None:
+            return
+        before = capture.answered // PACKET
+        capture.answered += length
+        if node.number == DVR or (node.filter and node.filter.output == "tsdemux_tap"):
+            got.items += capture.answered // PACKET - before
+        elif node.filter and node.filter.kind == "section":
+            begun = capture.have > 0
+            of, whole = capture.take_section(call.entry.reply[5:])
+            got.items += whole
+            call.reason = ("the end of a section" if begun else "a section") if whole else "a part of a section"
+            if not whole:
+                self.stumble("part", client.number, node, line, count=act_of(call.entry)["count"], of=of)
+
+    def take_no_bytes(self, node, client, call, line):
+        """Data of no bytes: why, as far as the state says."""
+        if node.capture is None:
+            without = "no capture has begun" if node.filter else "no filter is set"
+            call.reason = node.ended_by or without
+            if act_of(call.entry)["count"]:
+                self.stumble("no capture", client.number, node, line, call.reason, why=call.reason)
+        elif not act_of(call.entry)["count"]:
+            call.reason = "a count of 0"
+
+    def take_overflow(self, node, client, call, line):
+        """An Overflow that a read answered."""
+        reply = reply_of(call.entry)
+        client.lost.append((line, call, reply["span"]))
+        call.reason = str(node.size)
+        if node.capture:
+            node.capture.skip_to(reply["span"][1])
+        facts = {"item": reply["item"], "need": reply["need"], "size": node.size}
+        if reply["need"] > node.size - 1:
+            self.stumble("larger", client.number, node, line, **facts)
+        if node.size == (DVR_SIZE if node.number == DVR else DEMUX_SIZE):
+            self.stumble("first size", client.number, node, line, **facts)
