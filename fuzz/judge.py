@@ -4,12 +4,14 @@ The order in which threads come is open, so a report of `run` isn't worked out b
 anew with the replies that the report has for it, and must ask for just the calls that stand there; each node is then played
 again in the order of its entries, and must give just these replies.
 """
-import re
+import io
+import os
+import sys
 
-import second
+sys.path.insert(1, os.path.join(os.path.dirname(os.path.realpath(__file__)), "..", "tools"))
 
-MOMENT = re.compile(r" at=(\d+)")
-PASS = re.compile(r"pass input=frontend first=(\d+) count=(\d+) at=(\d+)")
+import reports  # noqa: E402
+import second  # noqa: E402
 
 
 class Bad(Exception):
@@ -21,28 +23,22 @@ def want(holds, what):
         raise Bad(what)
 
 
-def parts(report):
-    """The head, the clients' outcomes, the nodes' entries, the last line."""
-    lines = report.decode().split("\n")
-    want(lines.pop() == "" and lines[0] == "dvbemu 1", "ends of the report")
-    head, outcomes, nodes = [], [], {}
-    here = head
-    for line in lines[1:-1]:
-        if re.fullmatch(r"client \d", line):
-            want(int(line[7:]) == len(outcomes), "order of clients")
-            outcomes.append([])
-            here = outcomes[-1]
-        elif line.startswith("node "):
-            number = second.DVR if line == "node dvr" else int(line[5:])
-            want(not nodes or number > max(nodes), "order of nodes")
-            here = nodes[number] = []
-        elif nodes:
-            match = re.fullmatch(r"(\d+) (feed|c\d) (\d+) (.*) = (.*)", line)
-            want(match and int(match[1]) == len(here), f"place: {line}")
-            here.append((match[2], int(match[3]), match[4], match[5]))
-        else:
-            here.append(line)
-    return head, outcomes, nodes, lines[-1]
+def read(text):
+    """The parts of a report."""
+    try:
+        return reports.read(io.StringIO(text))
+    except reports.NotAReport as wrong:
+        raise Bad(f"no report: {wrong}") from None
+
+
+def head(packets, skipped, rest):
+    """The report's first lines, by the stream alone."""
+    return ["dvbemu 1", f"packets={len(packets)} skipped={skipped} rest={rest}", *second.pid_rows(packets)]
+
+
+def outcome_text(outcome):
+    """An outcome as the second program tells it."""
+    return f"line {outcome.line} steps {outcome.first}..{outcome.after} {outcome.kind}"
 
 
 class Told(second.Run):
@@ -53,10 +49,10 @@ class Told(second.Run):
         self.acts = {}
         self.told = {}
         for node, entries in nodes.items():
-            for who, step, act, reply in entries:
-                if who != "feed":
-                    want((who, step) not in self.told, f"step {step} of {who} stands twice")
-                    self.told[who, step] = (node, act, reply)
+            for entry in entries:
+                if entry.who != "feed":
+                    want((entry.who, entry.step) not in self.told, f"step {entry.step} of {entry.who} stands twice")
+                    self.told[entry.who, entry.step] = (node, entry)
 
     def run_pass(self, most):
         return 0
@@ -67,21 +63,21 @@ class Told(second.Run):
     def event(self, client, node, act):
         key = (f"c{client}", self.steps[client])
         want(key in self.told, f"{key} is missing")
-        on, text, reply = self.told[key]
-        match = MOMENT.search(text)
-        want(on == node and text == second.act_text(act, match[1] if match else 0), f"{key} is {text}, on {on}")
+        on, entry = self.told[key]
+        asked = second.act_text(act, reports.moment(entry) or 0)
+        want(on == node and entry.act == asked, f"{key} is {entry.act}, on {on}")
         self.acts[key] = act
         self.steps[client] += 1
-        return reply
+        return entry.reply
 
 
 def feeder(entries, packets, batch):
     """The batches of the feeder's entries: all packets, all batches but the last full, and then the end."""
-    fed = [(step, act) for who, step, act, _ in entries if who == "feed"]
-    want(fed and [step for step, _ in fed] == list(range(len(fed))) and fed[-1][1] == "end", "the feeder's steps")
-    found = [PASS.fullmatch(act) for _, act in fed[:-1]]
-    want(all(found), "the feeder's calls")
-    batches = [tuple(map(int, match.groups())) for match in found]
+    fed = [entry for entry in entries if entry.who == "feed"]
+    want(fed and [entry.step for entry in fed] == list(range(len(fed))) and fed[-1].act == "end", "the feeder's steps")
+    acts = [reports.act_of(entry) for entry in fed[:-1]]
+    want(all(act["name"] == "pass" for act in acts), "the feeder's calls")
+    batches = [(act["first"], act["count"], act["at"]) for act in acts]
     given = 0
     for place, (first, count, _) in enumerate(batches):
         last = place + 1 == len(batches)
@@ -95,38 +91,39 @@ def play(number, entries, packets, acts):
     """A node, in the order of its entries."""
     node = second.Dvr() if number == second.DVR else second.Demux()
     last = {}
-    for who, step, text, reply in entries:
+    for _, who, step, text, reply in entries:
         want(step > last.get(who, -1), f"the order of {who}'s steps")
         last[who] = step
-        match = MOMENT.search(text)
-        moment = int(match[1]) if match else 0
+        act = reports.read_act(text)
+        moment = act.get("at", 0)
         if who != "feed":
             own = node.call(int(who[1:]), acts[who, step], moment)
         elif text == "end":
             node.ended, own = True, "passed"
         else:
-            first, count, _ = map(int, PASS.fullmatch(text).groups())
-            node.run_pass(packets[first : first + count], moment)
+            node.run_pass(packets[act["first"] : act["first"] + act["count"]], moment)
             own = "passed"
         want(own == reply, f"node {number}, {who} {step} {text}: {reply}, not {own}")
 
 
-def judge(session, batch, report):
+def judge(session, batch, written):
     """None, or what is wrong with a report of a session's `run`."""
     try:
         lines, stream = second.read_script(session)
         packets, skipped, rest = second.cut(stream)
-        head, outcomes, nodes, end = parts(report)
-        want(end == "end", "the last line")
-        tally = f"packets={len(packets)} skipped={skipped} rest={rest}"
-        want(head == [tally, *second.pid_rows(packets)], "the head")
-        told = Told(lines, packets, batch, nodes)
+        text = written.decode("latin-1")
+        report = read(text)
+        want(not report.read_fault, "the last line")
+        first = head(packets, skipped, rest)
+        want(text.split("\n")[: len(first)] == first and len(report.pids) == len(first) - 2, "the head")
+        told = Told(lines, packets, batch, report.nodes)
         told.run()
-        want(told.outcomes == outcomes, "the outcomes")
+        want(told.outcomes == [list(map(outcome_text, outcomes)) for outcomes in report.clients], "the outcomes")
         want(len(told.acts) == len(told.told), "a call that no command asks for")
-        all_batches = {tuple(feeder(entries, packets, batch)) for entries in nodes.values()}
+        all_batches = {tuple(feeder(entries, packets, batch)) for entries in report.nodes.values()}
         want(len(all_batches) <= 1, "the batches of two nodes")
-        for number, entries in nodes.items():
+        for number, entries in report.nodes.items():
+            want(any(entry.who != "feed" for entry in entries), f"node {number}, which no client called")
             play(number, entries, packets, told.acts)
     except Bad as bad:
         return str(bad)
