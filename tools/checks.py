@@ -1,0 +1,56 @@
+"""What the checks of this repository share: the count of what was tried, and the sessions of examples/ with their reports."""
+import glob
+import os
+from typing import NamedTuple
+
+ROOT = os.path.dirname(os.path.dirname(os.path.realpath(__file__)))
+PROGRAM = os.path.join(ROOT, "dvbemu")
+EXAMPLES = os.path.join(ROOT, "examples")
+
+
+class Tally:
+    """Counts what is tried."""
+
+    def __init__(self):
+        self.passed, self.failed = 0, 0
+
+    def count(self, holds, told):
+        """Counts a case; where it doesn't hold, it is told."""
+        if holds:
+            self.passed += 1
+        else:
+            self.failed += 1
+            print(told)
+
+    def end(self):
+        """Prints the last line of a check, and gives its exit status: 1 where a case failed or none was tried."""
+        print(f"{self.passed} passed, {self.failed} failed")
+        return 1 if self.failed or not self.passed else 0
+
+
+class Example(NamedTuple):
+    """A session of examples/, with the words of its command line and the report that it must give."""
+
+    name: str
+    words: list
+    session: bytes
+    report: bytes
+
+
+def bytes_of(path):
+    """The bytes of a file."""
+    with open(path, "rb") as file:
+        return file.read()
+
+
+def example(name):
+    """The example of this name, as `rules/one-tap`. Without a file NAME.words the words are `steps --batch 1`."""
+    path = os.path.join(EXAMPLES, name)
+    words = bytes_of(path + ".words").decode().split() if os.path.exists(path + ".words") else ["steps", "--batch", "1"]
+    return Example(name, words, bytes_of(path + ".session"), bytes_of(path + ".report"))
+
+
+def files(ending):
+    """The files of examples/ with this ending, without it: `rules/one-tap`, .."""
+    paths = glob.glob(os.path.join(glob.escape(EXAMPLES), "*", "*" + ending))
+    return sorted(os.path.relpath(path, EXAMPLES)[: -len(ending)] for path in paths)
