@@ -6,11 +6,11 @@ accepted so far are kept beside them.
 from bisect import bisect_right
 
 from reports import DVR, act_of, reply_of
+from walk import IMMEDIATE, Walk
 
-DEMUX_SIZE, DVR_SIZE = 8192, 1925120
 SMALLEST_SIZE, LARGEST_SIZE = 2, 16777216
 PACKET, MOST_PIDS, ALL_PACKETS, LARGEST_PID = 188, 32, 0x2000, 0x1FFF
-CRC, ONESHOT, IMMEDIATE = 1, 2, 4
+CRC, ONESHOT = 1, 2
 
 
 class Filter:
@@ -45,15 +45,40 @@ class Capture:
         self.answered, self.have, self.head = answered, 0, ""
 
 
-class Node:
+class Node(Walk):
     """The state of a node that follows from the calls accepted so far, and counts of what came by."""
 
-    def __init__(self, number):
-        self.number, self.owner, self.size = number, None, 0
-        self.filter, self.runs, self.capture, self.ended_by = None, False, None, ""
+    def __init__(self, number, story):
+        super().__init__(number)
+        self.story, self.runs, self.ended_by = story, False, ""
         self.passes, self.ends, self.calls = 0, 0, 0
         self.waiting, self.busy = {}, {}
         self.taps, self.free_packets = {}, 0
+
+    def begin_capture(self, entry):
+        """A capture begins; on a demux node the filter runs from here on."""
+        self.capture = Capture()
+        if self.filter:
+            self.runs, self.filter.started = True, True
+
+    def end_capture(self, entry, reply):
+        """The capture ends, where there is one."""
+        if self.capture and entry.act.startswith("size "):
+            self.ended_by = "SetSize to another size has ended the capture"
+        self.story.leave_capture(self)
+
+    def set_filter(self, entry, act):
+        """Another filter, which doesn't run yet."""
+        self.filter, self.runs, self.ended_by = Filter(act, self.story.line_of(entry)), False, ""
+
+    def end_filter(self):
+        """The filter's time is over."""
+        self.story.leave_filter(self)
+        self.runs = False
+
+    def stop(self, entry):
+        """The filter runs no longer."""
+        self.runs = False
 
 
 class Call:
@@ -176,7 +201,7 @@ class Story:
         self.packets = {row.pid: row for row in report.pids}
         self.stumbles = {}
         for number, entries in sorted(report.nodes.items()):
-            node = Node(number)
+            node = Node(number, self)
             for entry in entries:
                 self.take(node, entry)
             self.leave_capture(node)
@@ -186,6 +211,10 @@ class Story:
         for client in self.clients.values():
             client.calls.sort(key=lambda call: call.entry.step)
             self.look_at_slots(client)
+
+    def line_of(self, entry):
+        """The line of the command that made this entry's call."""
+        return self.clients[int(entry.who[1])].line_of(entry.step)
 
     def look_at_slots(self, client):
         """Notes the commands on a slot that is bound to no node."""
@@ -271,9 +300,8 @@ class Story:
             client.refused.append((line, call))
             return
         node.busy.pop(client.number, None)
-        node.owner, node.filter, node.runs, node.ended_by = client.number, None, False, ""
-        node.size = DVR_SIZE if node.number == DVR else DEMUX_SIZE
-        node.capture = Capture() if node.number == DVR else None
+        node.runs, node.ended_by, node.capture = False, "", None
+        node.accept(call.entry, act_of(call.entry), reply_of(call.entry))
         for tapped in list(node.taps):
             self.leave_tap(node, tapped)
 
@@ -294,41 +322,13 @@ class Story:
 
     def take_change(self, node, client, call, line):
         """An accepted call that changes a node's filter, capture or size."""
-        act, span = act_of(call.entry), reply_of(call.entry)["drop"]
-        if span[1] > span[0]:
-            self.take_drop(node, client, call, line, span)
-        if call.act in ("section", "pes"):
-            self.leave_capture(node)
-            self.leave_filter(node)
-            node.filter, node.ended_by = Filter(act, line), ""
-            self.change_runs(node, act["flags"] & IMMEDIATE != 0)
-        elif call.act in ("start", "stop"):
-            self.change_runs(node, call.act == "start")
-        elif call.act in ("add", "remove") and node.filter:
+        act, reply = act_of(call.entry), reply_of(call.entry)
+        if reply["drop"][1] > reply["drop"][0]:
+            self.take_drop(node, client, call, line, reply["drop"])
+        if call.act in ("add", "remove") and node.filter:
             self.change_pids(node, call.act, act["pid"])
-        elif call.act == "size" and act["size"] != node.size:
-            self.change_size(node, act["size"])
-        elif call.act == "close":
-            self.leave_capture(node)
-            self.leave_filter(node)
-            node.owner, node.runs = None, False
-
-    def change_runs(self, node, runs):
-        """A filter is started, which begins a capture, or doesn't run from here on."""
-        node.runs = runs
-        if runs:
-            self.leave_capture(node)
-            node.capture = Capture()
-        if runs and node.filter:
-            node.filter.started = True
-
-    def change_size(self, node, size):
-        """An accepted SetSize to another size."""
-        if node.capture:
-            node.ended_by = "SetSize to another size has ended the capture"
-        self.leave_capture(node)
-        node.size = size
-        node.capture = Capture() if node.number == DVR else None
+        else:
+            node.accept(call.entry, act, reply)
 
     def change_pids(self, node, name, pid):
         """An accepted AddPid or RemovePid."""
@@ -452,7 +452,7 @@ class Story:
         if node.capture:
             node.capture.skip_to(reply["span"][1])
         facts = {"item": reply["item"], "need": reply["need"], "size": node.size}
-        if reply["need"] > node.size - 1:
+        if node.size and reply["need"] > node.size - 1:
             self.stumble("larger", client.number, node, line, **facts)
-        if node.size == (DVR_SIZE if node.number == DVR else DEMUX_SIZE):
+        if node.size == node.first_size():
             self.stumble("first size", client.number, node, line, **facts)

@@ -8,9 +8,7 @@ item found.
 from typing import NamedTuple
 
 import reports
-
-SIZE, DVR_SIZE = 8192, 1925120
-NOW_FLAG = 4
+from walk import Walk
 
 
 class Loss(NamedTuple):
@@ -99,12 +97,12 @@ class Capture:
         self.pending = None
 
 
-class History:
+class History(Walk):
     """A node's captures, its size behind each entry, and the bytes unread behind each entry (None where nothing tells them)."""
 
     def __init__(self, node, entries):
-        self.node, self.entries = node, entries
-        self.size, self.filter, self.capture = None, None, None
+        super().__init__(node)
+        self.entries = entries
         self.sizes, self.captures, self.drops = [], [], []
         for entry in entries:
             self.take(entry, reports.act_of(entry), reports.reply_of(entry))
@@ -131,7 +129,7 @@ class History:
         elif name == "poll":
             self.take_poll(entry, act, reply)
         elif reply["name"] == "done":
-            self.take_done(entry, act, reply)
+            self.accept(entry, act, reply)
 
     def note_moment(self, entry, act):
         """Notes the first entry at which the timeout may be over."""
@@ -191,43 +189,20 @@ class History:
             capture.expiry = Expiry(place, entry.place)
             capture.quiet = capture.quiet or place
 
-    def take_done(self, entry, act, reply):
-        """A call that is done: captures end and begin."""
-        name = act["name"]
-        if name == "open":
-            self.size, self.filter = DVR_SIZE if self.node == reports.DVR else SIZE, None
-            self.begin_on_dvr(entry)
-        elif name == "close":
-            self.end_capture(entry, reply)
-            self.size, self.filter = None, None
-        elif name in ("section", "pes"):
-            self.end_capture(entry, reply)
-            self.filter = act
-            if act["flags"] & NOW_FLAG:
-                self.begin(entry, act["at"])
-        elif name == "start" and self.filter:
-            self.end_capture(entry, reply)
-            self.begin(entry, act["at"])
-        elif name == "stop" and self.capture:
-            self.capture.quiet = self.capture.quiet or entry.place
-        elif name == "size" and act["size"] != self.size:
-            self.end_capture(entry, reply)
-            self.size = act["size"]
-            self.begin_on_dvr(entry)
-
-    def begin(self, entry, moment):
-        """A capture of the filter begins."""
-        name, pid = self.filter["name"], self.filter["pid"]
-        kind = name if name == "section" else self.filter["output"]
-        timeout = self.filter.get("timeout", 0)
-        self.capture = Capture(entry.place, moment, entry.act, kind, f"{kind} of PID {pid}", timeout)
+    def begin_capture(self, entry):
+        """A capture begins: of the filter, or on the dvr node of what the taps name."""
+        kind, label, moment, timeout = "dvr", "tapped packets", 0, 0
+        if self.number != reports.DVR:
+            kind = self.filter["name"] if self.filter["name"] == "section" else self.filter["output"]
+            label, moment = f"{kind} of PID {self.filter['pid']}", reports.moment(entry)
+            timeout = self.filter.get("timeout", 0)
+        self.capture = Capture(entry.place, moment, entry.act, kind, label, timeout)
         self.captures.append(self.capture)
 
-    def begin_on_dvr(self, entry):
-        """On the dvr node a capture begins without a filter."""
-        if self.node == reports.DVR:
-            self.capture = Capture(entry.place, 0, entry.act, "dvr", "tapped packets", 0)
-            self.captures.append(self.capture)
+    def stop(self, entry):
+        """The capture takes no further packets."""
+        if self.capture:
+            self.capture.quiet = self.capture.quiet or entry.place
 
     def end_capture(self, entry, reply):
         """The capture ends, where there is one, and its unread bytes are dropped."""
