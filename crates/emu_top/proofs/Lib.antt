@@ -3,3 +3,4 @@ pub mod Outputs
 pub mod Answering
 pub mod Numbers
 pub mod Threading
+pub mod Alone

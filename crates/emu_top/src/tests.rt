@@ -1,4 +1,4 @@
-// Sessions and their reports, wrong words, and faults of reading and writing.
+// Sessions and their reports, scripts with a fault, words, and the session of a number.
 use crate::{Status, emulate};
 use client_script::FaultKind;
 use emu_io::{FixedClock, MemSink, MemSource, NoGate};
@@ -33,15 +33,24 @@ pub fn words_of(alloc: Global, words: &[&str]) -> Result<Vec<String>, Fail> {
     Ok(all)
 }
 
-// What `emulate` answers and writes for an input, without faults.
+// What `emulate` answers and writes for the parts of an input, without faults.
 pub fn told<R: AllocGlobal + Threads + Wait + Sync>(
     rt: &R,
     words: &[&str],
     parts: &[Part],
 ) -> Result<(Status, Vec<u8>), Fail> {
+    told_of(rt, words, input_of(rt.alloc(), parts)?)
+}
+
+// The same for an input that is whole.
+pub fn told_of<R: AllocGlobal + Threads + Wait + Sync>(
+    rt: &R,
+    words: &[&str],
+    input: Vec<u8>,
+) -> Result<(Status, Vec<u8>), Fail> {
     let alloc = rt.alloc();
     let words = words_of(alloc, words)?;
-    let mut source = MemSource::new(input_of(alloc, parts)?, 1000, Vec::new(alloc));
+    let mut source = MemSource::new(input, 1000, Vec::new(alloc));
     let mut sink = MemSink::new(alloc, 100000, 1000, Vec::new(alloc))?;
     let status = emulate(
         rt,
@@ -167,144 +176,6 @@ fn words_are_accepted_or_usage(rt: HostRuntime) -> Result<(), Fail> {
             written.is_empty() == (want == Status::Usage),
             "case {case}"
         );
-    }
-    Ok(())
-}
-
-// Which reads fail, how much the sink may hold, which writes fail; the status, and what was written.
-type Faults = (&'static [u64], usize, &'static [u64], Status, &'static [u8]);
-
-// What `emulate` answers and writes over reads of at most 188 bytes and writes of at most 10.
-fn told_with<R: AllocGlobal + Threads + Wait + Sync>(
-    rt: &R,
-    parts: &[Part],
-    reads: &[u64],
-    capacity: usize,
-    writes: &[u64],
-) -> Result<(Status, Vec<u8>), Fail> {
-    let alloc = rt.alloc();
-    let words = words_of(alloc, &WORDS)?;
-    let mut source = MemSource::new(input_of(alloc, parts)?, 188, reads.to_vec(alloc)?);
-    let mut sink = MemSink::new(alloc, capacity, 10, writes.to_vec(alloc)?)?;
-    let status = emulate(
-        rt,
-        alloc,
-        &words,
-        &mut source,
-        &mut sink,
-        &FixedClock::new(0),
-        &NoGate::new(),
-    );
-    Ok((status, sink.bytes().to_vec(alloc)?))
-}
-
-// Three times the packet of PID 256 with the counter 0 and the payload 00, behind the line `stream`.
-const THREE: [Part; 4] = [
-    (b"stream\n", 0, 0),
-    (b"\x47\x01\x00\x10", 184, 0),
-    (b"\x47\x01\x00\x10", 184, 0),
-    (b"\x47\x01\x00\x10", 184, 0),
-];
-
-static READ_FAULTS: [Faults; 7] = [
-    (&[0], 1000, &[], Status::ReadFault, b""),
-    (
-        &[1],
-        1000,
-        &[],
-        Status::ReadFault,
-        b"dvbemu 1\npackets=0 skipped=0 rest=181\nfault read\n",
-    ),
-    (
-        &[2],
-        1000,
-        &[],
-        Status::ReadFault,
-        b"dvbemu 1\npackets=1 skipped=0 rest=181\npid 256 packets=1 breaks=0 duplicates=0 errors=0\nfault read\n",
-    ),
-    (
-        &[3],
-        1000,
-        &[],
-        Status::ReadFault,
-        b"dvbemu 1\npackets=2 skipped=0 rest=181\npid 256 packets=2 breaks=0 duplicates=1 errors=0\nfault read\n",
-    ),
-    (
-        &[4],
-        1000,
-        &[],
-        Status::ReadFault,
-        b"dvbemu 1\npackets=3 skipped=0 rest=0\npid 256 packets=3 breaks=0 duplicates=2 errors=0\nfault read\n",
-    ),
-    (
-        &[5],
-        1000,
-        &[],
-        Status::Ok,
-        b"dvbemu 1\npackets=3 skipped=0 rest=0\npid 256 packets=3 breaks=0 duplicates=2 errors=0\nend\n",
-    ),
-    (&[2], 1000, &[0], Status::WriteFault, b""),
-];
-
-#[test]
-fn a_read_fault_ends_the_stream(rt: HostRuntime) -> Result<(), Fail> {
-    for (case, (reads, capacity, writes, want, output)) in READ_FAULTS.iter().enumerate() {
-        let (status, written) = told_with(&rt, &THREE, reads, *capacity, writes)?;
-        assert!(rt; status == *want, "case {case}");
-        assert_eq!(rt; written.as_slice(), *output, "case {case}");
-    }
-    Ok(())
-}
-
-#[test]
-fn a_faulty_script_is_told_without_a_look_behind_it(rt: HostRuntime) -> Result<(), Fail> {
-    let parts: [Part; 2] = [(b"c0 open\nstream\n", 0, 0), (b"", 1000, 0x47)];
-    let (status, written) = told_with(&rt, &parts, &[1], 1000, &[])?;
-    let want = Status::Script {
-        line: 1,
-        kind: FaultKind::Count,
-    };
-    assert!(rt; status == want);
-    assert!(rt; written.is_empty());
-    Ok(())
-}
-
-#[test]
-fn a_write_fault_leaves_the_front(rt: HostRuntime) -> Result<(), Fail> {
-    // The report has 40 bytes, so there are four writes.
-    let parts: [Part; 1] = [(b"stream\n", 0, 0)];
-    let cases: [Faults; 8] = [
-        (&[], 1000, &[0], Status::WriteFault, b""),
-        (&[], 1000, &[1], Status::WriteFault, b"dvbemu 1\np"),
-        (
-            &[],
-            1000,
-            &[2],
-            Status::WriteFault,
-            b"dvbemu 1\npackets=0 s",
-        ),
-        (
-            &[],
-            1000,
-            &[3],
-            Status::WriteFault,
-            b"dvbemu 1\npackets=0 skipped=0 r",
-        ),
-        (&[], 1000, &[4], Status::Ok, EMPTY),
-        (
-            &[],
-            39,
-            &[],
-            Status::WriteFault,
-            b"dvbemu 1\npackets=0 skipped=0 rest=0\nend",
-        ),
-        (&[], 40, &[], Status::Ok, EMPTY),
-        (&[], 0, &[], Status::WriteFault, b""),
-    ];
-    for (case, (reads, capacity, writes, want, output)) in cases.into_iter().enumerate() {
-        let (status, written) = told_with(&rt, &parts, reads, capacity, writes)?;
-        assert!(rt; status == want, "case {case}");
-        assert_eq!(rt; written.as_slice(), output, "case {case}");
     }
     Ok(())
 }

@@ -2,6 +2,7 @@
 // to a step, and the session of a number.
 ghost use Rattle.std.specs.Prelude.{true};
 
+use crate::report_lines::{Told, number_in, reply_to, steps_in, told_in};
 use crate::tests::{Part, input_of, words_of};
 use crate::{Status, emulate};
 use emu_io::{Clock, FixedClock, Gate, MemSink, MemSource, NoGate};
@@ -32,53 +33,6 @@ fn ran<R: AllocGlobal + Threads + Wait + Sync, C: Clock + Sync, G: Gate + Sync>(
     let mut sink = MemSink::new(alloc, ROOM, 65536, Vec::new(alloc))?;
     let status = emulate(rt, alloc, &words, &mut source, &mut sink, clock, gate);
     Ok((status, String::from_utf8(sink.bytes().to_vec(alloc)?)?))
-}
-
-// A line of a node in a report.
-#[derive(Clone, Copy)]
-struct Told<'a> {
-    place: u64,
-    who: &'a str,
-    step: u64,
-    act: &'a str,
-    reply: &'a str,
-}
-
-// What a line `PLACE WHO STEP ACT = REPLY` tells.
-fn told_in(line: &str) -> Option<Told<'_>> {
-    let (call, reply) = line.split_once(" = ")?;
-    let (place, call) = call.split_once(" ")?;
-    let (who, call) = call.split_once(" ")?;
-    let (step, act) = call.split_once(" ")?;
-    Some(Told {
-        place: place.parse::<u64>().ok()?,
-        who,
-        step: step.parse::<u64>().ok()?,
-        act,
-        reply,
-    })
-}
-
-// The number behind a name in a line.
-fn number_in(line: &str, name: &str) -> Option<u64> {
-    let (_, behind) = line.split_once(name)?;
-    let digits = match behind.split_once(" ") {
-        Some((digits, _)) => digits,
-        None => behind,
-    };
-    digits.parse::<u64>().ok()
-}
-
-// The reply to a client's call of this step.
-fn reply_to<'a>(report: &'a str, who: &str, step: u64) -> Option<&'a str> {
-    for line in report.lines() {
-        if let Some(told) = told_in(line) {
-            if told.who == who && told.step == step {
-                return Some(told.reply);
-            }
-        }
-    }
-    None
 }
 
 // A script of one call, the clock's moment, and the two reports that may come.
@@ -449,14 +403,6 @@ impl Judge {
             None => Ok(!self.begun),
         }
     }
-}
-
-// The steps A and B of a line `line L steps A..B done`.
-fn steps_in(line: &str) -> Option<(u64, u64)> {
-    let (_, behind) = line.split_once(" steps ")?;
-    let (from, behind) = behind.split_once("..")?;
-    let (to, _) = behind.split_once(" ")?;
-    Some((from.parse::<u64>().ok()?, to.parse::<u64>().ok()?))
 }
 
 // The steps below so many of each client, each with its client.
