@@ -1,2 +1,5 @@
 pub mod HeadLemmas
 pub mod PullLemmas
+pub mod Drawing
+pub mod Stopping
+pub mod CutPackets

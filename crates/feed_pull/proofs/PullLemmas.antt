@@ -194,6 +194,7 @@ Follows-none r x n = record {
   still = λ _. (refl, refl);
   ends = λ g e. absurd cc;
   later = omega arith;
+  once = omega arith;
   fails = λ g e. absurd cc;
   rose = λ h. absurd (omega arith);
   went = λ e. (e, refl);
@@ -220,6 +221,13 @@ Follows-rose a b c x y z l m n f g lt =
       | inr not ↦ g.rose (omega arith)
     ]
 
+Follows-once : (a b c : Reading) (x y z : Option (List ℕ)) (l m n : ℕ) → Follows a b x y l m → Follows b c y z m n → n ≤ l + 1
+Follows-once a b c x y z l m n f g =
+    elim (going-cases b) [
+      | inl goes ↦ omega (arith, g.once, (f.went goes).1)
+      | inr stopped ↦ omega (arith, f.once, (g.still stopped).1)
+    ]
+
 pub Follows-then : (a b c : Reading) (x y z : Option (List ℕ)) (l m n : ℕ) → Follows a b x y l m → Follows b c y z m n → Follows a c x z l n
 Follows-then a b c x y z l m n f g =
     let stopped : a ≢ Going → b ≢ Going = λ s e. s (sym (f.stays s) ∙ e) in
@@ -228,6 +236,7 @@ Follows-then a b c x y z l m n f g =
       still = λ s. ((g.still (stopped s)).0 ∙ (f.still s).0, (g.still (stopped s)).1 ∙ (f.still s).1);
       ends = Follows-ends a b c x y z l m n f g;
       later = omega (arith, f.later, g.later);
+      once = Follows-once a b c x y z l m n f g;
       fails = Follows-fails a b c x y z l m n f g;
       rose = Follows-rose a b c x y z l m n f g;
       went = λ e. ((f.went (g.went e).0).0, (g.went e).1 ∙ (f.went (g.went e).0).1);

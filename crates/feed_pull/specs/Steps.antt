@@ -47,13 +47,14 @@ pub record Gathers (before after : Option (List ℕ)) (old new : Pulling) : Type
   pub goes : Goes old more new
 
 -- How reading goes before and after, and a source's content and its count of faults before and after. Once stopped it
--- stays so, and the source is left alone. It ends where nothing is left. It fails where the count rose, and only there.
--- While it goes on the count stands.
+-- stays so, and the source is left alone. It ends where nothing is left. It fails where the count rose, and only there, and
+-- the count rises at most by one: after a failed read nothing more is read. While it goes on the count stands.
 pub record Follows (old new : Reading) (content left : Option (List ℕ)) (before after : ℕ) : Type 0 where
   pub stays : old ≢ Going → new ≡ old
   pub still : old ≢ Going → (left ≡ content) × (after ≡ before)
   pub ends : old ≡ Going → new ≡ Ended → IsAtEnd left
   pub later : before ≤ after
+  pub once : after ≤ before + 1
   pub fails : old ≡ Going → new ≡ Failed → before < after
   pub rose : before < after → new ≡ Failed
   pub went : new ≡ Going → (old ≡ Going) × (after ≡ before)
