@@ -5,7 +5,7 @@ ghost use Rattle.dmx_calls.specs.declared.limits.TheConstants.{DEMUX_NODES as no
 ghost use Rattle.dmx_calls.specs.Taps.{detached_by, tap_names};
 ghost use Rattle.dvr_core.specs.Tapped.{attached, detached, some_names};
 
-use dmx_calls::limits::{ALL_PACKETS, DEMUX_NODES};
+use dmx_calls::limits::DEMUX_NODES;
 use pid_set::Pids;
 use std::marker::Model;
 use ts_packet::Packet;
@@ -98,7 +98,7 @@ fn names_packet(tap: &Option<Tap>, packet: &Packet) -> bool
     ensures { result ≡ tap_names packet.now tap.now }
 {
     match tap {
-        Some(tap) => tap.pids.has(ALL_PACKETS) || tap.pids.has(packet.pid()),
+        Some(tap) => tap.pids.names(packet.pid()),
         None => false,
     }
 }
