@@ -6,7 +6,7 @@ use Rattle.std.proofs.lemmas.Bool.{cases_lt}
 use Rattle.std.proofs.lemmas.Bool.Decides.{nat_tests}
 use Rattle.filter_match.specs.declared.filter.SectionFilter.{SectionFilter}
 use Rattle.filter_match.specs.Match.{place_of, below, reaches_at, differences, equals_at, differs_at, negates_at, matches}
-use Rattle.filter_match.specs.Compiling.{IsCompiled}
+use Rattle.filter_match.specs.Inside.Compiling.{IsCompiled}
 
 and-true : (b : Bool) → (b && true) ≡ b
 and-true true = refl

@@ -1,3 +1,3 @@
 pub mod Match
 pub mod Meaning
-pub mod Compiling
+pub mod Inside

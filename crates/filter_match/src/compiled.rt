@@ -22,7 +22,7 @@ impl Model for Compiled {
 
     ghost Value = { SectionFilter };
 
-    ghost use Rattle.filter_match.specs.Compiling.{IsCompiled};
+    ghost use Rattle.filter_match.specs.Inside.Compiling.{IsCompiled};
 
     ghost view = { λ c. c.filter };
 

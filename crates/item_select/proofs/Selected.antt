@@ -9,7 +9,7 @@ use Rattle.ts_packet.specs.Fields.{payload_of, payload_start, has_payload, has_a
 use Rattle.ts_packet.specs.Clean.{clean, without_repeats_after, carried}
 use Rattle.section_parse.specs.Segments.{runs}
 use Rattle.section_parse.specs.Sections.{sections}
-use Rattle.section_parse.specs.Keeping.{Assembly, after_packet, all_given as all_taken, kept as kept_after_all, length_of}
+use Rattle.section_parse.specs.Inside.Keeping.{Assembly, after_packet, all_given as all_taken, kept as kept_after_all, length_of}
 use Rattle.section_parse.proofs.Assembled.{goes, kept-stands, kept-append, Assembled-push}
 use Rattle.section_parse.proofs.WholeLists.{stay}
 use Rattle.item_select.specs.Items.{Choice, Nothing, Sections, Packets, Offered, is_selected, is_named, first_if, given_by, items_of}

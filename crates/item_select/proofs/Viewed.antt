@@ -1,7 +1,7 @@
 -- What the fields of a selector say after a step.
 use Rattle.std.proofs.Common.{◌≡◌, ℕ, ◌+◌, ◌≤◌, ◌||◌, Bool, true, false, List, [], ◌∷◌, length, filter, Option, Some, None, refl, arith}
 use Rattle.ts_packet.specs.Fields.{payload_of}
-use Rattle.section_parse.specs.Keeping.{Assembly, cleared, after_packet, all_given as all_taken, bytes_kept}
+use Rattle.section_parse.specs.Inside.Keeping.{Assembly, cleared, after_packet, all_given as all_taken, bytes_kept}
 use Rattle.filter_match.specs.declared.filter.SectionFilter.{SectionFilter}
 use Rattle.item_select.specs.declared.selector.Wanted.{Wanted}
 use Rattle.item_select.specs.declared.selector.Wanted.TheVariants.{Nothing as NothingWanted, Sections as SectionsWanted, Packets as PacketsWanted}

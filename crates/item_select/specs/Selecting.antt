@@ -2,7 +2,7 @@
 -- These are the words of the machine. No definition of an item rests on them.
 use Rattle.std.specs.Prelude.{ℕ, ◌+◌, ◌≡◌, ◌≢◌, ◌≤◌, MatchOption, Bool, true, false, not, ◌&&◌, ◌||◌, List, [], ◌∷◌, ◌++◌, map, drop, filter, length, Option, Some, None, if◌then◌else◌}
 use Rattle.std.specs.List.{sum_by}
-use Rattle.section_parse.specs.Keeping.{Assembly, cleared, after_packet, all_given as all_taken, kept as kept_after_all, length_of}
+use Rattle.section_parse.specs.Inside.Keeping.{Assembly, cleared, after_packet, all_given as all_taken, kept as kept_after_all, length_of}
 use Rattle.item_select.specs.Items.{Choice, Nothing, Sections, Packets, Offered, is_selected, first_if, given_by, items_of}
 
 -- What is selected; the PIDs of a filter of packets; what the assembler of a section filter keeps, apart from its sections; whether a one-shot filter has given its section; the items found and not given yet.

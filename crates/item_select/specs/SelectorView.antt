@@ -1,7 +1,7 @@
 -- What a selector keeps, from its fields.
 use Rattle.std.specs.Prelude.{ℕ, Bool, List, [], filter, if◌then◌else◌, Option, Some}
 use Rattle.ts_packet.specs.Fields.{payload_of}
-use Rattle.section_parse.specs.Keeping.{Assembly, all_given as all_taken}
+use Rattle.section_parse.specs.Inside.Keeping.{Assembly, all_given as all_taken}
 use Rattle.item_select.specs.declared.selector.Wanted.{Wanted}
 use Rattle.item_select.specs.declared.selector.Wanted.TheVariants.{Nothing as NothingWanted, Sections as SectionsWanted, Packets as PacketsWanted}
 use Rattle.item_select.specs.Items.{Choice, Nothing, Sections, Packets, is_selected, first_if}

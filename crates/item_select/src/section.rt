@@ -1,6 +1,6 @@
 // The sections of a section filter.
 ghost use Rattle.std.specs.Prelude.{◌≡◌, ℕ, ◌≤◌, ◌<◌, List, [], ◌∷◌, length, true, filter, vec_capacity, MatchBool};
-ghost use Rattle.section_parse.specs.Keeping.{all_given};
+ghost use Rattle.section_parse.specs.Inside.Keeping.{all_given};
 ghost use Rattle.item_select.specs.Items.{is_selected as selected};
 
 use filter_match::Compiled;

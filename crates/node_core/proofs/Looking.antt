@@ -9,7 +9,7 @@ use Rattle.ts_packet.specs.Fields.{pid_of, unit_start}
 use Rattle.ts_packet.specs.Clean.{is_usable, carried}
 use Rattle.pid_set.specs.declared.set.TheConstants.{ALL_PACKETS}
 use Rattle.ts_batch.specs.Places.{names}
-use Rattle.section_parse.specs.Keeping.{Assembly, after_packet, all_given as all_taken, repeats_last, joins_last, taken, opened, longer}
+use Rattle.section_parse.specs.Inside.Keeping.{Assembly, after_packet, all_given as all_taken, repeats_last, joins_last, taken, opened, longer}
 use Rattle.section_parse.specs.Segments.{pointed}
 use Rattle.item_select.specs.Items.{Choice, Nothing, Sections, Packets, is_selected, first_if, given_by}
 use Rattle.item_select.specs.Selecting.{Selecting, after_offer, after_offer_by, all_given, items_found, kept_after, section_pid, is_once, is_none, offered_now, listed}

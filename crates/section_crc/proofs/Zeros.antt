@@ -6,7 +6,7 @@ use Rattle.std.proofs.lemmas.Nat.{xor_lt}
 use Rattle.std.proofs.lemmas.List.{take_more, take-append-drop}
 use Rattle.std.proofs.lemmas.Grind.{flat_map-append, fold-append}
 use Rattle.section_crc.specs.Crc.{after_bit, bits_of}
-use Rattle.section_crc.specs.Tables.{entry_of}
+use Rattle.section_crc.specs.Inside.Tables.{entry_of}
 use Rattle.section_crc.proofs.Bits.{shifted_by, shifted_by-lt, shifted_by-xor, shifted_by-low, eight-bits, split-sum, top-xor}
 
 -- the register after so many bytes of 0

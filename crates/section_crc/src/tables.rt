@@ -2,7 +2,7 @@
 ghost use Rattle.std.specs.Prelude.{◌≡◌, ◌<◌, length, fold};
 ghost use Rattle.std.specs.List.{flat_map};
 ghost use Rattle.section_crc.specs.Crc.{crc, after_bit, bits_of};
-ghost use Rattle.section_crc.specs.Tables.{entry_of, IsRow, AreRows};
+ghost use Rattle.section_crc.specs.Inside.Tables.{entry_of, IsRow, AreRows};
 
 use crate::bitwise::after_byte;
 

@@ -7,7 +7,7 @@ use Rattle.ts_packet.specs.Fields.{unit_start}
 use Rattle.ts_packet.specs.Clean.{carried, is_usable, without_repeats_after, clean}
 use Rattle.section_parse.specs.Segments.{runs, pointer_field, is_pointed, pointed}
 use Rattle.section_parse.specs.Sections.{sections}
-use Rattle.section_parse.specs.Keeping.{Assembly, Assembled, cleared, without_first, all_given, sections_of_open, longer, opened, repeats_last, joins_last, taken, after_packet, kept, length_of, bytes_kept, sections_from, sections_to_come}
+use Rattle.section_parse.specs.Inside.Keeping.{Assembly, Assembled, cleared, without_first, all_given, sections_of_open, longer, opened, repeats_last, joins_last, taken, after_packet, kept, length_of, bytes_kept, sections_from, sections_to_come}
 use Rattle.section_parse.proofs.Reading.{open-left, open-bytes}
 use Rattle.section_parse.proofs.Steps.{to_come-taken, first-step, repeat-step, break-step, unit-step, more-step, kept-unusable, kept-repeat, kept-break, kept-unit, kept-more}
 

@@ -4,8 +4,8 @@ use Rattle.std.proofs.Common.{◌≡◌, ℕ, ◌+◌, true, List, [], ◌∷◌
 use Rattle.std.proofs.lemmas.List.{append-nil}
 use Rattle.std.proofs.lemmas.List.Sums.{sum_by-cons}
 use Rattle.section_parse.specs.Sections.{section_length, read_sections, sections, IsSection}
-use Rattle.section_parse.specs.Keeping.{Assembly, Assembled, without_first, sections_of_open, left_of_open, bytes_kept}
-use Rattle.section_parse.specs.Held.{Advances, is_drained}
+use Rattle.section_parse.specs.Inside.Keeping.{Assembly, Assembled, without_first, sections_of_open, left_of_open, bytes_kept}
+use Rattle.section_parse.specs.Inside.Held.{Advances, is_drained}
 use Rattle.section_parse.proofs.Reading.{read-first, left-first, first-is, open-drained}
 use Rattle.section_parse.proofs.Assembled.{Assembled-next}
 

@@ -5,7 +5,7 @@ use Rattle.ts_packet.specs.Fields.{unit_start}
 use Rattle.ts_packet.specs.Clean.{carried, joins}
 use Rattle.section_parse.specs.Segments.{in_front, pointed, is_pointed, rest_of_segment, segments}
 use Rattle.section_parse.specs.Sections.{sections_of_run}
-use Rattle.section_parse.specs.Keeping.{sections_of_open, longer, opened, sections_of_runs, sections_behind}
+use Rattle.section_parse.specs.Inside.Keeping.{sections_of_open, longer, opened, sections_of_runs, sections_behind}
 
 longer-append : (o : Option (List ℕ)) (xs ys : List ℕ) → longer o (xs ++ ys) ≡ longer (longer o xs) ys
 longer-append None xs ys = refl

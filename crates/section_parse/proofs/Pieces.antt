@@ -11,8 +11,8 @@ use Rattle.std.specs.Prelude.{IfSome, MatchOption}
 use Rattle.ts_packet.specs.Fields.{payload_start}
 use Rattle.ts_packet.specs.Clean.{carried}
 use Rattle.section_parse.specs.Segments.{pointed}
-use Rattle.section_parse.specs.Keeping.{Assembly, is_stopped, sections_of_open, left_of_open, longer, opened, taken}
-use Rattle.section_parse.specs.Held.{Held, unread, between, Advances}
+use Rattle.section_parse.specs.Inside.Keeping.{Assembly, is_stopped, sections_of_open, left_of_open, longer, opened, taken}
+use Rattle.section_parse.specs.Inside.Held.{Held, unread, between, Advances}
 use Rattle.section_parse.proofs.Reading.{HasSection-from, has_section-from, section_length-append, stopped-none}
 
 -- the bytes between two places, cut

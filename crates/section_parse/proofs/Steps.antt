@@ -7,7 +7,7 @@ use Rattle.ts_packet.specs.Fields.{unit_start}
 use Rattle.ts_packet.specs.Clean.{carried, is_usable, repeats, without_repeats_after, joins}
 use Rattle.ts_packet.proofs.CleanLemmas.{without-repeat}
 use Rattle.section_parse.specs.Segments.{runs, pointed, rest_of_segment}
-use Rattle.section_parse.specs.Keeping.{Assembly, sections_of_open, left_of_open, longer, opened, repeats_last, joins_last, taken, after_packet, sections_of_runs, sections_behind, sections_to_come}
+use Rattle.section_parse.specs.Inside.Keeping.{Assembly, sections_of_open, left_of_open, longer, opened, repeats_last, joins_last, taken, after_packet, sections_of_runs, sections_behind, sections_to_come}
 use Rattle.section_parse.proofs.Reading.{open-append, open-left}
 use Rattle.section_parse.proofs.Machine.{sections-front, sections-break, sections-unit, sections-more}
 

@@ -10,7 +10,7 @@ use Rattle.ts_packet.specs.Clean.{carried, is_usable, without_repeats_after, cle
 use Rattle.ts_packet.proofs.CleanLemmas.{clean-append, last-clean, clean-apart}
 use Rattle.section_parse.specs.Segments.{in_front, runs, segments}
 use Rattle.section_parse.specs.Sections.{section_length, has_section, read_sections, sections_of_run, sections, IsSection}
-use Rattle.section_parse.specs.Keeping.{sections_to_come, cleared}
+use Rattle.section_parse.specs.Inside.Keeping.{sections_to_come, cleared}
 use Rattle.section_parse.specs.Laws.{SectionsLieEndToEnd, SectionsStay, IsApart, SectionsRecover, SectionsAreWhole, SectionsFitThePackets}
 use Rattle.section_parse.proofs.Reading.{read-first, read-none, each-is}
 use Rattle.section_parse.proofs.Assembled.{AreFew, next_kept, keeps-all}

@@ -1,5 +1,4 @@
-pub mod Held
-pub mod Keeping
 pub mod Laws
 pub mod Sections
 pub mod Segments
+pub mod Inside

@@ -6,8 +6,8 @@ ghost use Rattle.ts_packet.specs.Fields.{has_payload, payload_start};
 ghost use Rattle.ts_packet.specs.Clean.{carried, is_usable};
 ghost use Rattle.section_parse.specs.Segments.{pointed, is_pointed, pointer_field};
 ghost use Rattle.section_parse.specs.Sections.{sections, IsSection};
-ghost use Rattle.section_parse.specs.Held.{bytes_of};
-ghost use Rattle.section_parse.specs.Keeping.{Assembly, Assembled, Gave, cleared, after_packet, bytes_kept, opened, repeats_last as repeated, joins_last as joined};
+ghost use Rattle.section_parse.specs.Inside.Held.{bytes_of};
+ghost use Rattle.section_parse.specs.Inside.Keeping.{Assembly, Assembled, Gave, cleared, after_packet, bytes_kept, opened, repeats_last as repeated, joins_last as joined};
 
 use crate::segment::{Found, Segment};
 use std::alloc::{AllocError as NoMemory, Global};
@@ -28,11 +28,11 @@ pub struct Assembler {
 
 impl Model for Assembler {
     ghost use Rattle.std.specs.Prelude.{◌++◌};
-    ghost use Rattle.section_parse.specs.Keeping.{Assembly, sections_of_open, left_of_open};
+    ghost use Rattle.section_parse.specs.Inside.Keeping.{Assembly, sections_of_open, left_of_open};
 
     ghost Value = { Assembly };
 
-    ghost use Rattle.section_parse.specs.Held.{unread, bytes_of};
+    ghost use Rattle.section_parse.specs.Inside.Held.{unread, bytes_of};
 
     ghost view = { λ a. record {
       pid = a.pid;

@@ -6,7 +6,7 @@ use Rattle.rand_pcg.specs.Pcg.{pcg32, multiplier_64}
 use Rattle.ts_make.specs.declared.kind.Kind.{Kind}
 use Rattle.ts_make.specs.declared.kind.Kind.TheVariants.{Association, Video, Audio, Service, Null}
 use Rattle.ts_make.specs.Made.{kind_of, pid_of, generator, word, packets_of, packets, packet, packet_at, payload}
-use Rattle.ts_make.specs.Counting.{AreSmall, counter_in, risen, counters_of, all_zero}
+use Rattle.ts_make.specs.Inside.Counting.{AreSmall, counter_in, risen, counters_of, all_zero}
 
 pub generator-next : (number n : ℕ) → generator number (n + 1) ≡ (pcg32 (generator number n)).1
 unfolding generator

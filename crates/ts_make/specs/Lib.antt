@@ -1,3 +1,3 @@
-pub mod Counting
 pub mod Made
 pub mod Script
+pub mod Inside

@@ -1,10 +1,10 @@
 // The continuity counters of the PIDs.
 ghost use Rattle.std.specs.Prelude.{◌≡◌, ◌+◌, ◌%◌, ◌<◌};
-ghost use Rattle.ts_make.specs.Counting.{AreSmall, counter_in, risen, all_zero};
+ghost use Rattle.ts_make.specs.Inside.Counting.{AreSmall, counter_in, risen, all_zero};
 
 use crate::kind::Kind;
 
-// The counter of the next packet of each kind, 0 to 15.
+/// The counter of the next packet of each kind, 0 to 15.
 #[derive(Drop)]
 pub struct Counters {
     pub association: u8,
@@ -26,7 +26,7 @@ fn rise(counter: &mut u8) -> u8
 }
 
 impl Counters {
-    // All at 0.
+    /// All at 0.
     pub fn new() -> Counters
         ensures { result ≡ all_zero }
     {
@@ -39,7 +39,7 @@ impl Counters {
         }
     }
 
-    // The counter of the next packet of this kind.
+    /// The counter of the next packet of this kind.
     pub fn next(&mut self, kind: Kind) -> u8
         requires { AreSmall self.old }
         ensures was { result ≡ counter_in self.old kind }

@@ -14,7 +14,7 @@ pub enum Kind {
 }
 
 impl Kind {
-    // What a word chooses.
+    /// What a word chooses.
     pub fn of(word: u32) -> Kind
         ensures { result ≡ kind_of word }
     {
@@ -27,7 +27,7 @@ impl Kind {
         }
     }
 
-    // Its PID.
+    /// Its PID.
     pub fn pid(self) -> u16
         ensures value { result ≡ pid_of self }
         ensures fits { result < 8192 }
@@ -41,7 +41,7 @@ impl Kind {
         }
     }
 
-    // The table_id of its section, where it carries one.
+    /// The table_id of its section, where it carries one.
     pub fn table_id(self) -> Option<u8>
         ensures { result ≡ table_of self }
     {

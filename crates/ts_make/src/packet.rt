@@ -93,7 +93,7 @@ fn put_plain_packet(
     Ok(())
 }
 
-// Appends a packet of this kind in this place.
+/// Appends a packet of this kind in this place.
 pub fn put_packet(
     out: &mut Vec<u8>,
     kind: Kind,

@@ -1,7 +1,7 @@
 // The script of a session.
 
-// Eight clients: section filters of the PIDs 0 and 512, payloads of video and audio, both recorded through the dvr node, and
-// packets of the PIDs 0 and 512.
+/// Eight clients: section filters of the PIDs 0 and 512, payloads of video and audio, both recorded through the dvr node, and
+/// packets of the PIDs 0 and 512.
 pub const SCRIPT: &str = "\
 c0 open n0\n\
 c0 size n0 16777216\n\

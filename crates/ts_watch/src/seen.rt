@@ -19,7 +19,7 @@ pub struct WatchRow {
 // The PID of null packets.
 const NULL_PID: u16 = 0x1fff;
 
-// The counts of a PID, and its last clean packet.
+/// The counts of a PID, and its last clean packet.
 #[derive(Drop)]
 pub struct Seen {
     pub pid: u16,
@@ -28,7 +28,7 @@ pub struct Seen {
 }
 
 impl Seen {
-    // No packet of the PID was seen.
+    /// No packet of the PID was seen.
     pub fn new(pid: u16) -> Seen
         ensures { result ≡ nothing pid }
     {
@@ -44,7 +44,7 @@ impl Seen {
         }
     }
 
-    // Counts a packet of the PID.
+    /// Counts a packet of the PID.
     #[tactic(auto, unfolding(crate::specs::Watching::after))]
     pub fn take(&mut self, packet: &Packet)
         requires few { self.old.row.packets < 2 ^ 63 }

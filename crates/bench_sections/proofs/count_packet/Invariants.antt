@@ -1,4 +1,4 @@
-use Rattle.section_parse.specs.Keeping.{bytes_kept}
+use Rattle.section_parse.specs.Inside.Keeping.{bytes_kept}
 use Rattle.bench_sections.proofs.count_packet.Given as goal
 
 abbrev pub decreases-sections : goal.decreases-sections

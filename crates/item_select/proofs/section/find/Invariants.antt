@@ -1,5 +1,5 @@
 use Rattle.std.proofs.Common.{◌≡◌, ◌≤◌, filter, vec_capacity}
-use Rattle.section_parse.specs.Keeping.{all_given, bytes_kept}
+use Rattle.section_parse.specs.Inside.Keeping.{all_given, bytes_kept}
 use Rattle.item_select.specs.Items.{is_selected}
 use Rattle.item_select.proofs.section.find.Given as goal
 

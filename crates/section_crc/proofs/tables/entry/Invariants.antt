@@ -1,5 +1,5 @@
 use Rattle.std.proofs.Common.{◌≡◌}
-use Rattle.section_crc.specs.Tables.{entry_of}
+use Rattle.section_crc.specs.Inside.Tables.{entry_of}
 use Rattle.section_crc.proofs.tables.entry.Given as goal
 
 abbrev pub invariant-zeros : goal.invariant-zeros

@@ -1,7 +1,7 @@
 use Rattle.std.proofs.Common.{◌≡◌, ◌++◌}
 use Rattle.ts_make.specs.Script.{script}
 use Rattle.ts_make.specs.Made.{generator, packets}
-use Rattle.ts_make.specs.Counting.{counters_of}
+use Rattle.ts_make.specs.Inside.Counting.{counters_of}
 use Rattle.ts_make.proofs.making.session.Given as goal
 
 abbrev pub invariant-packets : goal.invariant-packets

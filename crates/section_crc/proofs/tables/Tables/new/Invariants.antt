@@ -1,5 +1,5 @@
 use Rattle.std.proofs.Common.{◌≡◌, ℕ, ◌<◌, [], length, slice_index_or}
-use Rattle.section_crc.specs.Tables.{IsRow}
+use Rattle.section_crc.specs.Inside.Tables.{IsRow}
 use Rattle.section_crc.proofs.tables.Tables.new.Given as goal
 
 abbrev pub invariant-rows : goal.invariant-rows
