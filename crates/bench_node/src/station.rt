@@ -108,13 +108,6 @@ fn tap_of(pid: u16, output: Output) -> Call {
     }
 }
 
-// The set of this PID alone.
-fn only(pid: u16) -> Pids {
-    let mut pids = Pids::new();
-    let _ = pids.add(pid);
-    pids
-}
-
 impl<L: Ledger> Station<L> {
     /// A node without an owner.
     pub fn new(alloc: Global, blank: Blank) -> Station<L>
@@ -168,7 +161,7 @@ impl<L: Ledger> Station<L> {
     // Attaches the taps of the demux nodes from this one on: the last two name the PIDs 256 and 257.
     fn attach_from(&mut self, first: u32) -> Result<(), NoMemory> {
         'nodes: for node in first..DEMUX_NODES {
-            let pids = only(226 + node as u16);
+            let pids = Pids::of(226 + node as u16);
             self.ask(Call::Attach { node, pids })?;
         }
         Ok(())

@@ -6,14 +6,14 @@ use Rattle.ts_packet.specs.Fields.{bit, pid_of, payload_of}
 use Rattle.section_parse.specs.Sections.{sections}
 use Rattle.section_crc.specs.Crc.{crc}
 use Rattle.filter_match.specs.Match.{matches}
-use Rattle.pid_set.specs.Pids.{has_pid}
+use Rattle.pid_set.specs.Pids.{names_pid}
 use Rattle.dmx_calls.specs.declared.params.Input.{Input}
 use Rattle.dmx_calls.specs.declared.params.Input.TheVariants.{Frontend, Dvr}
 use Rattle.dmx_calls.specs.declared.params.Output.{Output}
 use Rattle.dmx_calls.specs.declared.params.Output.TheVariants.{Decoder, Tap, TsTap, TsdemuxTap}
 use Rattle.dmx_calls.specs.declared.params.SectionParams.{SectionParams}
 use Rattle.dmx_calls.specs.declared.params.PesParams.{PesParams}
-use Rattle.dmx_calls.specs.declared.limits.TheConstants.{CHECK_CRC, ONESHOT, ALL_PACKETS}
+use Rattle.dmx_calls.specs.declared.limits.TheConstants.{CHECK_CRC, ONESHOT}
 use Rattle.dmx_calls.specs.Invocation.{Read, Poll, Pass}
 use Rattle.dmx_calls.specs.History.{Event, History}
 use Rattle.dmx_calls.specs.Tenure.{Params, Empty, Section, Pes, params, pids}
@@ -56,7 +56,7 @@ section_items p evs =
 
 -- a packet has one of these PIDs, or PID 0x2000 among them names every packet
 abbrev pub is_named : List ℕ → List ℕ → Bool
-is_named names packet = has_pid ALL_PACKETS names || has_pid (pid_of packet) names
+is_named names packet = names_pid names (pid_of packet)
 
 -- what a named packet gives to the demux node: its payload, the whole packet, or nothing
 abbrev pub item_of : Output → List ℕ → Option (List ℕ)

@@ -2,6 +2,7 @@
 -- Source: the errors of the Linux media API, chapter Digital TV demux; their order is this project's rule: EINVAL by argument, then EINVAL or EBUSY by state, then ENOSPC.
 use Rattle.std.specs.Prelude.{ℕ, ◌+◌, Bool, true, false, not, ◌&&◌, ◌||◌, nat_lt, nat_le, List, [], ◌∷◌, length, Option, Some, None, if◌then◌else◌}
 use Rattle.pid_set.specs.Pids.{has_pid}
+use Rattle.pid_set.specs.declared.set.TheConstants.{ALL_PACKETS}
 use Rattle.dmx_calls.specs.declared.node.NodeKind.{NodeKind}
 use Rattle.dmx_calls.specs.declared.node.NodeKind.TheVariants.{Demux, Dvr}
 use Rattle.dmx_calls.specs.declared.node.State.{State}
@@ -13,7 +14,7 @@ use Rattle.dmx_calls.specs.declared.params.Output.TheVariants.{Decoder, TsdemuxT
 use Rattle.dmx_calls.specs.declared.params.PesParams.{PesParams}
 use Rattle.dmx_calls.specs.declared.reply.Errno.{Errno}
 use Rattle.dmx_calls.specs.declared.reply.Errno.TheVariants.{Ebusy, Einval, Enospc}
-use Rattle.dmx_calls.specs.declared.limits.TheConstants.{CHECK_CRC, ONESHOT, IMMEDIATE_START, LARGEST_PID, ALL_PACKETS, LARGEST_PES_TYPE, MOST_PIDS, SMALLEST_SIZE, LARGEST_SIZE}
+use Rattle.dmx_calls.specs.declared.limits.TheConstants.{CHECK_CRC, ONESHOT, IMMEDIATE_START, LARGEST_PID, LARGEST_PES_TYPE, MOST_PIDS, SMALLEST_SIZE, LARGEST_SIZE}
 use Rattle.dmx_calls.specs.Invocation.{Invocation, SetFilter, SetPes, AddPid, RemovePid, Start, Stop, SetSize, Attach, Detach}
 use Rattle.dmx_calls.specs.Tenure.{Params, Pes}
 

@@ -1,4 +1,4 @@
-//! The numbers of the device, each once: code and definitions both name them from here.
+//! The numbers of the device, each once: code and definitions both name them from here. PID 0x2000 is `pid_set`'s.
 
 /// The section flag DMX_CHECK_CRC: a section with a CRC is selected only where the CRC is right.
 pub const CHECK_CRC: u32 = 1;
@@ -11,9 +11,6 @@ pub const IMMEDIATE_START: u32 = 4;
 
 /// The largest PID of a packet, and so of a section filter.
 pub const LARGEST_PID: u16 = 0x1FFF;
-
-/// The PID that names every packet in a PES filter and in a tap.
-pub const ALL_PACKETS: u16 = 0x2000;
 
 /// The largest PES type, DMX_PES_OTHER.
 pub const LARGEST_PES_TYPE: u32 = 20;

@@ -8,13 +8,13 @@ ghost use Rattle.dmx_calls.specs.declared.node.State.TheVariants.{Set as SetStat
 
 use crate::call::Call;
 use crate::limits::{
-    ALL_PACKETS, CHECK_CRC, IMMEDIATE_START, LARGEST_PES_TYPE, LARGEST_PID, LARGEST_SIZE,
-    MOST_PIDS, ONESHOT, SMALLEST_SIZE,
+    CHECK_CRC, IMMEDIATE_START, LARGEST_PES_TYPE, LARGEST_PID, LARGEST_SIZE, MOST_PIDS, ONESHOT,
+    SMALLEST_SIZE,
 };
 use crate::node::{NodeKind, State};
 use crate::params::{Input, Output, Params, PesParams};
 use crate::reply::Errno;
-use pid_set::Pids;
+use pid_set::{ALL_PACKETS, Pids};
 
 // A line for each call, with a column for each state of a demux node that is open, and one for the dvr node.
 macro_rules! table {

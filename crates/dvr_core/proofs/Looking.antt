@@ -7,6 +7,7 @@ use Rattle.std.proofs.lemmas.Bool.{cases_eq}
 use Rattle.std.proofs.lemmas.Bool.Decides.{nat_tests}
 use Rattle.std.proofs.lemmas.Option.{unwrap_or-slice_get}
 use Rattle.ts_packet.specs.Fields.{pid_of}
+use Rattle.pid_set.specs.declared.set.TheConstants.{ALL_PACKETS}
 use Rattle.ts_batch.specs.Places.{names}
 use Rattle.dmx_calls.specs.Items.{is_named}
 
@@ -35,8 +36,8 @@ or-false false = refl
 pub named-by : (packet pids : List ℕ) → list_any (λ pid. names pid packet) pids ≡ is_named pids packet
 named-by packet [] = refl
 named-by packet (pid ∷ pids) =
-    rw (named-by packet pids, same-eq pid 0x2000)
-    (both-or (nat_eq 0x2000 pid) (nat_eq (pid_of packet) pid) (list_any (nat_eq 0x2000) pids) (list_any (nat_eq (pid_of packet)) pids))
+    rw (named-by packet pids, same-eq pid ALL_PACKETS)
+    (both-or (nat_eq ALL_PACKETS pid) (nat_eq (pid_of packet) pid) (list_any (nat_eq ALL_PACKETS) pids) (list_any (nat_eq (pid_of packet)) pids))
 
 -- ------ the packet in a place
 

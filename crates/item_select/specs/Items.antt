@@ -6,8 +6,7 @@ use Rattle.section_parse.specs.Sections.{sections}
 use Rattle.section_crc.specs.Crc.{crc}
 use Rattle.filter_match.specs.declared.filter.SectionFilter.{SectionFilter}
 use Rattle.filter_match.specs.Match.{matches}
-use Rattle.pid_set.specs.Pids.{has_pid}
-use Rattle.item_select.specs.declared.selector.TheConstants.{ALL_PACKETS}
+use Rattle.pid_set.specs.Pids.{names_pid}
 
 -- What is selected: nothing; the sections of a PID that a filter lets through, with a right CRC or without one where `check`, and the first alone where `once`; or packets, whole or their payloads alone.
 pub data Choice : Type 0 where
@@ -29,9 +28,9 @@ is_selected wanted check section =
 abbrev pub first_if : (once : Bool) → List (List ℕ) → List (List ℕ)
 first_if once items = if once then take 1 items else items
 
--- one of the PIDs names the packet; PID 0x2000 names every packet
+-- its PIDs name the packet; PID 0x2000 among them names every packet
 abbrev pub is_named : Offered → Bool
-is_named o = has_pid ALL_PACKETS o.pids || has_pid (pid_of o.packet) o.pids
+is_named o = names_pid o.pids (pid_of o.packet)
 
 -- what a packet gives: itself, or its payload where it has one; and nothing where it isn't named
 unfoldable pub given_by : (whole : Bool) → Offered → Option (List ℕ)

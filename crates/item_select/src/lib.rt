@@ -26,4 +26,4 @@ mod selector;
 mod tests;
 
 pub use laws::{all_items_are_given, one_shot_gives_no_more, one_shot_is_spent};
-pub use selector::{ALL_PACKETS, Selector};
+pub use selector::Selector;

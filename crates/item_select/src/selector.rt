@@ -2,7 +2,7 @@
 ghost use Rattle.std.specs.Prelude.{◌≡◌, ℕ, ◌+◌, ◌<◌, ◌≤◌, ◌↔◌, true, List, [], ◌∷◌, ◌++◌, length, slice_get, Some, None, IfOk, IfSome, IsNone};
 ghost use Rattle.std.specs.Option.{option_map};
 ghost use Rattle.std.specs.Borrow.{sem};
-ghost use Rattle.item_select.specs.Items.{Choice, Nothing, Sections, Packets, Offered, items_of, is_named as named};
+ghost use Rattle.item_select.specs.Items.{Choice, Nothing, Sections, Packets, Offered, items_of};
 ghost use Rattle.item_select.specs.Selecting.{Selecting, Selects, Gave, begun, begun_again, with_pids, after_offer, offered_now, bytes_held, is_of_packets, section_pid as sections_of};
 ghost use Rattle.item_select.specs.SelectorView.{choice_of};
 
@@ -13,10 +13,6 @@ use section_parse::Assembler;
 use std::alloc::{AllocError as NoMemory, Global};
 use std::marker::Model;
 use ts_packet::Packet;
-
-/// The PID that names every packet in a filter of packets (Linux media API, Digital TV demux, struct
-/// dmx_pes_filter_params).
-pub const ALL_PACKETS: u16 = 0x2000;
 
 // The length of the longest section.
 const ROOM: usize = 4096;
@@ -72,13 +68,6 @@ fn section_pid(wanted: &Wanted) -> u16
         Wanted::Sections { pid, .. } => *pid,
         Wanted::Nothing | Wanted::Packets { .. } => 0,
     }
-}
-
-// Whether one of these PIDs names a packet.
-fn is_named(pids: &Pids, packet: &Packet) -> bool
-    ensures { result ≡ named (record { packet = packet.now; pids = pids.now }) }
-{
-    pids.has(ALL_PACKETS) || pids.has(packet.pid())
 }
 
 impl Selector {
@@ -182,7 +171,7 @@ impl Selector {
             Wanted::Packets { pids, .. } => {
                 // Its type says that it has 188 bytes.
                 let _ = packet.bytes();
-                self.waits = is_named(pids, packet);
+                self.waits = pids.names(packet.pid());
                 self.last = *packet;
             }
         }

@@ -7,6 +7,7 @@ use Rattle.std.proofs.lemmas.Bool.Decides.{nat_tests}
 use Rattle.std.proofs.lemmas.Bool.{cases_eq}
 use Rattle.ts_packet.specs.Fields.{pid_of, unit_start}
 use Rattle.ts_packet.specs.Clean.{is_usable, carried}
+use Rattle.pid_set.specs.declared.set.TheConstants.{ALL_PACKETS}
 use Rattle.ts_batch.specs.Places.{names}
 use Rattle.section_parse.specs.Keeping.{Assembly, after_packet, all_given as all_taken, repeats_last, joins_last, taken, opened, longer}
 use Rattle.section_parse.specs.Segments.{pointed}
@@ -39,8 +40,8 @@ both-or false false c d = refl
 pub named-by : (packet pids : List ℕ) → list_any (λ pid. names pid packet) pids ≡ is_named pids packet
 named-by packet [] = refl
 named-by packet (pid ∷ pids) =
-    rw (named-by packet pids, same-eq pid 0x2000)
-    (both-or (nat_eq 0x2000 pid) (nat_eq (pid_of packet) pid) (list_any (nat_eq 0x2000) pids) (list_any (nat_eq (pid_of packet)) pids))
+    rw (named-by packet pids, same-eq pid ALL_PACKETS)
+    (both-or (nat_eq ALL_PACKETS pid) (nat_eq (pid_of packet) pid) (list_any (nat_eq ALL_PACKETS) pids) (list_any (nat_eq (pid_of packet)) pids))
 
 -- ------ the assembler
 
@@ -106,7 +107,7 @@ module _ (s : Selecting) (given : s.ready ≡ []) (pid : s.kept.pid ≡ section_
   unfolding after_offer
   unnamed EmptySet choice looks h = ap (λ c. after_offer_by c s packet) choice
   unnamed (SectionSet p) choice looks h =
-      let differs : nat_eq (pid_of packet) p.pid ≡ false = or-parts (nat_eq 0x2000 p.pid) (nat_eq (pid_of packet) p.pid) h in
+      let differs : nat_eq (pid_of packet) p.pid ≡ false = or-parts (nat_eq ALL_PACKETS p.pid) (nat_eq (pid_of packet) p.pid) h in
       ap (λ c. after_offer_by c s packet) choice ∙ (other-section p.pid (is_oneshot p) (is_selected p.filter (has_flag CHECK_CRC p.flags)) (pid ∙ ap section_pid choice) differs s.is_spent)
   unnamed (PesSet p pids) choice looks h = by-output p.output pids choice looks h
 

@@ -70,18 +70,6 @@ fn done(dropped: Span, tap: Tap) -> Reply
     Reply::Done { dropped, tap }
 }
 
-/// The set of this PID alone.
-#[tactic(auto, unfolding(pid_set::specs::Pids::with_pid))]
-fn only(pid: u16) -> Pids
-    ensures { result ≡ pid ∷ [] }
-{
-    let mut pids = Pids::new();
-    match pids.add(pid) {
-        Ok(_) => pids,
-        Err(_) => unreachable!(),
-    }
-}
-
 impl Tenure {
     /// A node that was just opened: it has the default size and no filter.
     fn new(alloc: Global, owner: u32) -> Result<Tenure, NoMemory>
@@ -206,7 +194,7 @@ impl Kept {
         match &mut self.tenure {
             None => unreachable!(),
             Some(tenure) => {
-                let pids = only(params.pid);
+                let pids = Pids::of(params.pid);
                 tenure.set(Params::Pes { params, pids }, params.flags, now)
             }
         }

@@ -1,11 +1,16 @@
 -- Sets of PIDs, seen as ascending lists without repeats. DMX_ADD_PID and DMX_REMOVE_PID of the Linux media API (Digital
 -- TV demux) give a filter several PIDs; the order is this project's.
-use Rattle.std.specs.Prelude.{ℕ, ◌<◌, ◌^◌, Bool, not, nat_eq, nat_lt, List, ◌∷◌, ◌++◌, length, slice_index}
+use Rattle.std.specs.Prelude.{ℕ, ◌<◌, ◌^◌, Bool, not, ◌||◌, nat_eq, nat_lt, List, ◌∷◌, ◌++◌, length, slice_index}
 use Rattle.std.specs.List.{list_any, filter}
+use Rattle.pid_set.specs.declared.set.TheConstants.{ALL_PACKETS}
 
 -- the PID is in the set
 abbrev pub has_pid : ℕ → List ℕ → Bool
 has_pid pid pids = list_any (nat_eq pid) pids
+
+-- the set names the packets of a PID: that PID is in it, or PID 0x2000, which names every packet
+abbrev pub names_pid : List ℕ → ℕ → Bool
+names_pid pids pid = has_pid ALL_PACKETS pids || has_pid pid pids
 
 -- the set with this PID: the PIDs below it, itself, the PIDs above it
 unfoldable pub with_pid : ℕ → List ℕ → List ℕ

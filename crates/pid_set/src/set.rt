@@ -1,12 +1,16 @@
 // A set of at most N PIDs.
-ghost use Rattle.std.specs.Prelude.{◌≡◌, ◌<◌, ◌≤◌, ◌↔◌, ℕ, List, [], length, true, false, not, IsTrue, IsErr, IfOk, OnOk, OnErr, IfSome, IsNone, IfErr, slice_index, insert, remove};
-ghost use Rattle.pid_set.specs.Pids.{has_pid, with_pid, without_pid, IsAscending, ArePids};
+ghost use Rattle.std.specs.Prelude.{◌≡◌, ◌<◌, ◌≤◌, ◌↔◌, ℕ, List, [], ◌∷◌, length, true, false, not, IsTrue, IsErr, IfOk, OnOk, OnErr, IfSome, IsNone, IfErr, slice_index, insert, remove};
+ghost use Rattle.pid_set.specs.Pids.{has_pid, with_pid, without_pid, names_pid, IsAscending, ArePids};
 ghost use Rattle.pid_set.specs.Sets.{IsAdded, IsRemoved};
 
 use arrayvec::ArrayVec;
 use std::alloc::AllocError;
 use std::marker::Model;
 use thiserror::Error;
+
+/// The PID that names every packet in a filter of packets and in a tap (Linux media API, Digital TV demux, struct
+/// dmx_pes_filter_params).
+pub const ALL_PACKETS: u16 = 0x2000;
 
 /// The refusal of a PID that would be one too many for a set.
 #[derive(Clone, Copy, Debug, PartialEq, Eq, Drop, Error)]
@@ -42,6 +46,19 @@ impl<const N: usize> PidSet<N> {
     {
         PidSet {
             pids: ArrayVec::new(),
+        }
+    }
+
+    /// The set of this PID alone.
+    #[tactic(auto, unfolding(crate::specs::Pids::with_pid))]
+    pub fn of(pid: u16) -> PidSet<N>
+        requires { 0 < N }
+        ensures { result ≡ pid ∷ [] }
+    {
+        let mut pids = PidSet::new();
+        match pids.add(pid) {
+            Ok(_) => pids,
+            Err(_) => unreachable!(),
         }
     }
 
@@ -83,6 +100,13 @@ impl<const N: usize> PidSet<N> {
         ensures { result ≡ has_pid pid self.now }
     {
         find(&self.pids, pid).is_ok()
+    }
+
+    /// Whether the set names the packets of a PID: that PID is in it, or PID 0x2000, which names every packet.
+    pub fn names(&self, pid: u16) -> bool
+        ensures { result ≡ names_pid self.now pid }
+    {
+        self.has(ALL_PACKETS) || self.has(pid)
     }
 
     /// The same set once more. It takes no memory, so unlike `clone` it has no refusal in its type.

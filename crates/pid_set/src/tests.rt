@@ -1,6 +1,6 @@
 //! Sets against lists worked out by hand.
 
-use crate::{PidSet, Pids, PidsFull};
+use crate::{ALL_PACKETS, PidSet, Pids, PidsFull};
 use std::alloc::AllocError as NoMemory;
 
 /// One call of a set, its answer, and the members that the set then has.
@@ -94,6 +94,32 @@ fn the_pids_of_a_filter_are_32(rt: HostRuntime) {
     assert!(rt; set.remove(2000));
     assert_eq!(rt; set.add(5), Ok(true));
     assert_eq!(rt; set.len(), 32);
+}
+
+// PID 0x2000 alone names a PID that isn't in the set.
+#[test]
+fn pid_0x2000_names_every_pid(rt: HostRuntime) {
+    assert_eq!(rt; ALL_PACKETS, 0x2000);
+    let mut set = PidSet::<2>::of(256);
+    assert!(rt; has_just(&set, &[256]));
+    for (pid, is_named) in [
+        (0, false),
+        (255, false),
+        (256, true),
+        (257, false),
+        (0x1fff, false),
+        (0x2000, false),
+    ] {
+        assert_eq!(rt; set.names(pid), is_named, "{pid}");
+    }
+    assert_eq!(rt; set.add(0x2000), Ok(true));
+    for pid in [0u16, 255, 256, 257, 0x1fff, 0x2000] {
+        assert!(rt; set.names(pid), "{pid}");
+    }
+    assert!(rt; set.remove(0x2000));
+    assert!(rt; !set.names(257));
+    assert!(rt; set.names(256));
+    assert!(rt; !PidSet::<2>::new().names(0));
 }
 
 #[test]

@@ -9,6 +9,7 @@ use Rattle.std.proofs.lemmas.List.Elements.{All-append, All-get_or}
 use Rattle.std.proofs.lemmas.Bool.Decides.{nat_tests}
 use Rattle.std.proofs.lemmas.Bool.{cases_eq}
 use Rattle.ts_packet.specs.Fields.{pid_of}
+use Rattle.pid_set.specs.declared.set.TheConstants.{ALL_PACKETS}
 use Rattle.ts_batch.specs.declared.index.Run.{Run}
 use Rattle.ts_batch.specs.declared.index.Index.{Index}
 use Rattle.ts_batch.specs.Places.{names, places_from, places_of}
@@ -30,7 +31,7 @@ unfolding places_from
 places-end test items packets i h = ap (λ l. items ++ places_from i test l) (drop_all i packets h) ∙ append-nil items
 
 -- no packet has the PID
-none-from : (k pid : ℕ) (packets : List (List ℕ)) (runs : List Run) → nat_eq pid 0x2000 ≡ false → has_run pid runs ≡ false
+none-from : (k pid : ℕ) (packets : List (List ℕ)) (runs : List Run) → nat_eq pid ALL_PACKETS ≡ false → has_run pid runs ≡ false
     → All (λ packet. has_run (pid_of packet) runs ≡ true) packets → places_from k (names pid) packets ≡ []
 unfolding places_from
 none-from k pid [] runs other none all = refl
@@ -43,7 +44,7 @@ none-from k pid (packet ∷ packets) runs other none all =
 
 pub none-named : (pid : ℕ) (packets : List (List ℕ)) (index : Index) → IsIndex packets index → has_run pid index.runs.items ≡ false → places_of pid packets ≡ []
 none-named pid packets index h none =
-    let other : nat_eq pid 0x2000 ≡ false = elim (cases_eq pid 0x2000) [
+    let other : nat_eq pid ALL_PACKETS ≡ false = elim (cases_eq pid ALL_PACKETS) [
       | inl e ↦ absurd (let y : has_run pid index.runs.items ≡ true = rw (← e) at h.all in cc)
       | inr d ↦ grind (arith, nat_tests)
     ] in

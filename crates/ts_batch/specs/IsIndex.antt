@@ -2,6 +2,7 @@
 use Rattle.std.specs.Prelude.{◌≡◌, ℕ, ◌<◌, ◌≤◌, Bool, true, nat_eq, List, length, slice_range, slice_get, Some, All}
 use Rattle.std.specs.List.{list_any}
 use Rattle.ts_packet.specs.Fields.{pid_of}
+use Rattle.pid_set.specs.declared.set.TheConstants.{ALL_PACKETS}
 use Rattle.ts_batch.specs.declared.index.Run.{Run}
 use Rattle.ts_batch.specs.declared.index.Index.{Index}
 use Rattle.ts_batch.specs.Places.{places_of}
@@ -19,5 +20,5 @@ pub record IsRun (packets : List (List ℕ)) (places : List ℕ) (r : Run) : Typ
 -- each run is right, and there is one for PID 0x2000 and for the PID of each packet
 pub record IsIndex (packets : List (List ℕ)) (index : Index) : Type 0 where
   pub runs : All (IsRun packets index.places.items) index.runs.items
-  pub all : has_run 0x2000 index.runs.items ≡ true
+  pub all : has_run ALL_PACKETS index.runs.items ≡ true
   pub each : All (λ packet. has_run (pid_of packet) index.runs.items ≡ true) packets

@@ -1,10 +1,11 @@
 -- Which packets a PID names, and where they stand.
 use Rattle.std.specs.Prelude.{ℕ, ◌+◌, Bool, false, ◌||◌, nat_eq, List, [], ◌∷◌, slice_index_or, if◌then◌else◌}
 use Rattle.ts_packet.specs.Fields.{pid_of}
+use Rattle.pid_set.specs.declared.set.TheConstants.{ALL_PACKETS}
 
 -- A PID names the packets that have it; PID 0x2000 names every packet (Linux media API, Digital TV demux, struct dmx_pes_filter_params).
 abbrev pub names : ℕ → List ℕ → Bool
-names pid packet = nat_eq pid 0x2000 || nat_eq (pid_of packet) pid
+names pid packet = nat_eq pid ALL_PACKETS || nat_eq (pid_of packet) pid
 
 -- the places of the packets that pass a test, ascending, where the first packet stands in place k
 unfoldable pub places_from : (k : ℕ) → (List ℕ → Bool) → List (List ℕ) → List ℕ

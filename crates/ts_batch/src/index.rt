@@ -4,12 +4,9 @@ ghost use Rattle.std.specs.List.{list_any};
 ghost use Rattle.ts_batch.specs.Places.{places_of, names};
 ghost use Rattle.ts_batch.specs.IsIndex.{IsIndex, has_run};
 
+use pid_set::ALL_PACKETS;
 use std::alloc::{AllocError as NoMemory, Global};
 use ts_packet::Packet;
-
-/// The PID that names every packet in a filter of packets (Linux media API, Digital TV demux, struct
-/// dmx_pes_filter_params).
-pub const ALL_PACKETS: u16 = 0x2000;
 
 /// The places of a batch's packets. Those of each PID that a packet has stand together, ascending, and so do those of
 /// PID 0x2000.

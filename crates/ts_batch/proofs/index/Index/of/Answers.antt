@@ -3,6 +3,7 @@ use Rattle.std.specs.Prelude.{All}
 use Rattle.std.proofs.lemmas.List.{take_all}
 use Rattle.std.proofs.lemmas.List.Elements.{All-more}
 use Rattle.ts_packet.specs.Fields.{pid_of}
+use Rattle.pid_set.specs.declared.set.TheConstants.{ALL_PACKETS}
 use Rattle.ts_batch.specs.IsIndex.{has_run}
 use Rattle.ts_batch.proofs.Places.{listed}
 use Rattle.ts_batch.proofs.index.Index.of.Goals.{then-not-has+in_ok-list-2, else-not-has}
@@ -21,7 +22,7 @@ packets-preserved c =
           let l = listed packets c.packets.index c.pid-pid.result w.list-then-not-has.new.self e.places e.runs h.runs in
           rw w.index-is (record {
             runs = l.runs;
-            all = l.kept 0x2000 h.all;
+            all = l.kept ALL_PACKETS h.all;
             each = All-more (λ p. has_run (pid_of p) w.list-then-not-has.new.self.runs.items ≡ true) packets i packet c.packets-test.true (λ k d b. l.kept _ (h.each k d b)) (rw is l.here);
           })
       | else-not-has w ↦ rw w.index-is (record {
