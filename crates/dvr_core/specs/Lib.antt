@@ -1,4 +1,6 @@
 pub mod Tapped
+pub mod Looks
+pub mod Examples
 pub mod Step
 pub mod Gives
 pub mod Stands

@@ -2,7 +2,6 @@
 
 ghost use Rattle.std.specs.Prelude.{◌≡◌, ◌≤◌, ◌<◌, ◌+◌, ◌^◌, ◌∷◌, [], None};
 ghost use Rattle.dmx_calls.specs.declared.node.NodeKind.TheVariants.{Dvr};
-ghost use Rattle.dmx_calls.specs.Invocation.{packets_of_call};
 ghost use Rattle.dmx_calls.specs.History.{History, entry_of};
 ghost use Rattle.dmx_calls.specs.Rules.{dvr};
 ghost use Rattle.dmx_calls.specs.Legal.{May};
@@ -11,6 +10,7 @@ ghost use Rattle.dmx_calls.specs.Back.{GivesBack};
 ghost use Rattle.node_buffer.specs.Coherent.{CoherentIn};
 ghost use Rattle.node_buffer.specs.Causes.{Causes};
 ghost use Rattle.dvr_core.specs.Gives.{Gives};
+ghost use Rattle.dvr_core.specs.Looks.{named_packets};
 ghost use Rattle.dvr_core.specs.Step.{next};
 ghost use Rattle.dvr_core.specs.KeptView.{knows_of, bytes_in};
 ghost use Rattle.dvr_core.specs.Stands.{StandsFor};
@@ -61,7 +61,7 @@ fn act<L: Ledger>(
     ensures back { GivesBack call result }
     ensures sound { CoherentIn (knows_of kept.new).facts.ledger }
     ensures bytes { bytes_in (knows_of kept.new) ≤ bytes_in (knows_of kept.old) + 12032 }
-    ensures cost { steps.new ≤ steps.old + packets_of_call (invocation_of call) }
+    ensures cost { steps.new ≤ steps.old + named_packets (knows_of kept.old).taps (invocation_of call) }
     ensures idle { (knows_of kept.old).facts.owner ≡ None → steps.new ≡ steps.old }
 {
     if let Some(errno) = kept.refusal(who, &call) {
@@ -136,7 +136,7 @@ impl DvrCore {
         ensures causes { (h : History) → StandsFor self.old h → Causes Dvr self.old.facts self.new.facts who (invocation_of call) (response_of result.reply) }
         ensures back { GivesBack call result }
         ensures rises { self.new.entries ≡ self.old.entries + 1 }
-        ensures cost { steps.new ≤ steps.old + packets_of_call (invocation_of call) }
+        ensures cost { steps.new ≤ steps.old + named_packets self.old.taps (invocation_of call) }
         ensures idle { self.old.facts.owner ≡ None → steps.new ≡ steps.old }
     {
         let answer = act(&mut self.kept, self.alloc, who, call, steps);

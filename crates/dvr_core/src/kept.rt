@@ -4,7 +4,7 @@
 // that it gives, `after` how it goes on, `sound` what holds of its capture, and `bytes` bounds the bytes of that. Only Open,
 // Attach and Detach look at their caller, and no call looks at its moment: 0 stands for those that play no part.
 
-ghost use Rattle.std.specs.Prelude.{◌≡◌, ◌≤◌, ◌<◌, ◌+◌, ◌^◌, false, length, IfOk, Some, None};
+ghost use Rattle.std.specs.Prelude.{◌≡◌, ◌≤◌, ◌<◌, ◌+◌, ◌^◌, false, count_by, IfOk, Some, None};
 ghost use Rattle.dmx_calls.specs.declared.node.NodeKind.TheVariants.{Dvr};
 ghost use Rattle.dmx_calls.specs.declared.limits.TheConstants.{DVR_SIZE as size_of_open};
 ghost use Rattle.dmx_calls.specs.Invocation.{Open, Close, SetSize, Read, Poll, Pass, End, Attach, Detach};
@@ -16,6 +16,7 @@ ghost use Rattle.node_buffer.specs.Capturing.{begun};
 ghost use Rattle.node_buffer.specs.Coherent.{CoherentIn};
 ghost use Rattle.dvr_core.specs.Gives.{Gives};
 ghost use Rattle.dvr_core.specs.Step.{next};
+ghost use Rattle.dvr_core.specs.Tapped.{some_names};
 ghost use Rattle.dvr_core.specs.KeptView.{knows_of, bytes_in, IsTaken, reply_to, Replies};
 
 use crate::record::record_all;
@@ -194,7 +195,7 @@ impl Kept {
         ensures after { knows_of self.new ≡ next (knows_of self.old) 0 (Pass input batch.now.first batch.now.packets 0) Passed }
         ensures sound { CoherentIn (knows_of self.new).facts.ledger }
         ensures bytes { bytes_in (knows_of self.new) ≤ bytes_in (knows_of self.old) + 12032 }
-        ensures cost { steps.new ≤ steps.old + length batch.now.packets }
+        ensures cost { steps.new ≤ steps.old + count_by (some_names self.old.taps) batch.now.packets }
         ensures idle { (knows_of self.old).facts.owner ≡ None → steps.new ≡ steps.old }
     {
         if let (Some(tenure), Input::Frontend) = (&mut self.tenure, input) {

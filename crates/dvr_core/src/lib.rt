@@ -12,10 +12,10 @@
 //! when `Causes` says. So a packet is recorded once however many taps name it; a Detach removes only its own client's tap;
 //! taps outlast the owner; another size ends the capture and begins another, and the reply names what was unread. `apply`
 //! hands back the buffer of a Read unless the reply holds it, and the batch of a Pass always. A Pass takes at most a step for
-//! each packet, and none while the node is free; no other call takes one.
+//! each packet that a tap names (`named_packets`), and none while the node is free; no other call takes one.
 //!
-//! What is only tested: that the rules are those meant, on replies worked by hand. What isn't proved: time. Each packet of a
-//! Pass is compared with each of the 32 taps.
+//! What is only tested: that the rules are those meant, on replies worked by hand. What isn't proved: time. A Pass asks the
+//! batch for the places of each PID of each of the 32 taps.
 //!
 //! Limits: fewer than 2^50 calls come before a call. Only Open and SetSize to another size take memory.
 //!

@@ -1,6 +1,7 @@
 //! The dvr node driven by calls. The expected replies were worked by hand from the rules.
 
 ghost use Rattle.std.specs.Prelude.{◌≡◌, ◌<◌, ◌^◌};
+ghost use Rattle.dvr_core.specs.Examples.{ThreeOf64, EachOnce, All64, NoLook};
 
 use crate::DvrCore;
 use dmx_calls::{
@@ -541,4 +542,56 @@ const POLLS: &[Row] = &[
 #[test]
 fn a_poll_says_what_a_read_would_find(rt: HostRuntime) -> Result<(), NoMemory> {
     check(&rt, rt.alloc(), POLLS)
+}
+
+// 64 packets, of which those in the places 0, 31 and 63 have PID 256.
+const N: Cell = (17, 0);
+
+const MANY: &[Cell] = &[
+    P0, N, N, N, N, N, N, N, N, N, N, N, N, N, N, N, N, N, N, N, N, N, N, N, N, N, N, N, N, N, N,
+    P1, N, N, N, N, N, N, N, N, N, N, N, N, N, N, N, N, N, N, N, N, N, N, N, N, N, N, N, N, N, N,
+    N, P2,
+];
+
+const THREE: Want = Want::Data(&[(P0, 0, 188), (P1, 0, 188), (P2, 0, 188)]);
+
+const FEW_OF_MANY: &[Row] = &[
+    (1, Step::Attach(0, &[256]), DONE),
+    // the node is free
+    (0, Step::Feed(MANY), Want::Passed),
+    OPEN,
+    (1, Step::Read(65_536), Want::Again(false)),
+    (0, Step::Feed(MANY), Want::Passed),
+    (1, Step::Read(65_536), THREE),
+    // two taps name them, each is recorded once
+    (2, Step::Attach(31, &[17, 256]), DONE),
+    (2, Step::Attach(31, &[256, 257]), DONE),
+    (0, Step::Feed(MANY), Want::Passed),
+    (1, Step::Read(65_536), THREE),
+    // the tap of the last demux node alone
+    (1, Step::Detach(0), DONE),
+    (0, Step::Feed(MANY), Want::Passed),
+    (1, Step::Read(65_536), THREE),
+    // no tap
+    (2, Step::Detach(31), DONE),
+    (0, Step::Feed(MANY), Want::Passed),
+    (1, Step::Read(65_536), Want::Again(false)),
+];
+
+#[test]
+fn few_packets_of_many_are_recorded(rt: HostRuntime) -> Result<(), NoMemory> {
+    check(&rt, rt.alloc(), FEW_OF_MANY)
+}
+
+/// How many of these 64 packets a pass looks at, at most. The clauses are computed by the check: it has nothing to do.
+fn looks_at_64_packets()
+    ensures three { ThreeOf64 }
+    ensures once { EachOnce }
+    ensures all { All64 }
+    ensures none { NoLook }
+{}
+
+#[test]
+fn packets_that_a_tap_names_are_looked_at(_rt: HostRuntime) {
+    looks_at_64_packets();
 }

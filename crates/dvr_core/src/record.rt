@@ -1,7 +1,6 @@
 // The packets of a pass: those that some tap names go into the buffer, whole and once.
 
-ghost use Rattle.std.specs.Prelude.{◌≡◌, ◌≤◌, ◌<◌, ◌+◌, ◌-◌, ◌^◌, false, [], ◌∷◌, filter, length, option_map};
-ghost use Rattle.ts_packet.specs.Fields.{IsPacket};
+ghost use Rattle.std.specs.Prelude.{◌≡◌, ◌≤◌, ◌<◌, ◌+◌, ◌-◌, ◌^◌, false, count_by, filter, option_map};
 ghost use Rattle.node_buffer.specs.Capturing.{with_items};
 ghost use Rattle.node_buffer.specs.Coherent.{CoherentIn, total_of};
 ghost use Rattle.dvr_core.specs.Tapped.{some_names};
@@ -11,32 +10,23 @@ use node_buffer::Buffer;
 use std::sync::ledger::Ledger;
 use steps::Steps;
 use ts_batch::Batch;
-use ts_packet::Packet;
 
-/// A packet is recorded where some tap names it.
-fn record(buffer: &mut Buffer, taps: &Taps, packet: &Packet)
-    requires bytes { total_of buffer.old.ledger + 188 < 2 ^ 64 }
-    requires sound { CoherentIn buffer.old.ledger }
-    requires packet { IsPacket packet.now }
-    ensures after { buffer.new ≡ record { size = buffer.old.size; ledger = option_map (λ l. with_items false (buffer.old.size - 1) l (filter (some_names taps.now) (packet.now ∷ []))) buffer.old.ledger } }
-    ensures sound { CoherentIn buffer.new.ledger }
-    ensures bytes { total_of buffer.new.ledger ≤ total_of buffer.old.ledger + 188 }
-{
-    if taps.names(packet) {
-        buffer.put(false, packet.bytes());
-    }
-}
-
-/// The packets of a batch are looked at, each for one step.
+/// The packets of a batch that some tap names are recorded, each for one step.
 pub fn record_all<L: Ledger>(buffer: &mut Buffer, taps: &Taps, batch: &Batch, steps: &mut Steps<L>)
     requires bytes { total_of buffer.old.ledger + 12032 < 2 ^ 64 }
     requires sound { CoherentIn buffer.old.ledger }
     ensures after { buffer.new ≡ record { size = buffer.old.size; ledger = option_map (λ l. with_items false (buffer.old.size - 1) l (filter (some_names taps.now) batch.now.packets)) buffer.old.ledger } }
     ensures sound { CoherentIn buffer.new.ledger }
     ensures bytes { total_of buffer.new.ledger ≤ total_of buffer.old.ledger + 12032 }
-    ensures cost { steps.new ≤ steps.old + length batch.now.packets }
+    ensures cost { steps.new ≤ steps.old + count_by (some_names taps.now) batch.now.packets }
 {
+    let places = taps.places(batch);
+    if places.is_empty() {
+        return;
+    }
     for i in 0..batch.count() {
-        record(buffer, taps, batch.packet(i, steps));
+        if places.has(i) {
+            buffer.put(false, batch.packet(i, steps).bytes());
+        }
     }
 }

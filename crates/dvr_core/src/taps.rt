@@ -1,14 +1,16 @@
 // The taps of the dvr node: at most one for each demux node.
 
-ghost use Rattle.std.specs.Prelude.{◌≡◌, true, false, None, replicate};
+ghost use Rattle.std.specs.Prelude.{◌≡◌, ◌||◌, ℕ, List, true, false, Some, None, replicate, slice_get};
 ghost use Rattle.dmx_calls.specs.declared.limits.TheConstants.{DEMUX_NODES as nodes};
-ghost use Rattle.dmx_calls.specs.Taps.{detached_by, tap_names};
+ghost use Rattle.dmx_calls.specs.Items.{is_named};
+ghost use Rattle.dmx_calls.specs.Taps.{detached_by};
+ghost use Rattle.ts_batch.specs.Places.{is_in};
 ghost use Rattle.dvr_core.specs.Tapped.{attached, detached, some_names};
 
 use dmx_calls::limits::DEMUX_NODES;
 use pid_set::Pids;
 use std::marker::Model;
-use ts_packet::Packet;
+use ts_batch::{Batch, PlaceSet};
 
 /// A demux node's tap: the client that attached it, and the PIDs that it names.
 #[derive(Drop)]
@@ -74,11 +76,17 @@ impl Taps {
         }
     }
 
-    /// Whether some tap names a packet.
-    pub fn names(&self, packet: &Packet) -> bool
-        ensures { result ≡ some_names self.now packet.now }
+    /// The places of the packets of a batch that some tap names, each once.
+    pub fn places(&self, batch: &Batch) -> PlaceSet
+        ensures { (i : ℕ) (packet : List ℕ) → slice_get batch.now.packets i ≡ Some packet → is_in i result ≡ some_names self.now packet }
     {
-        self.taps.iter().any(|tap| names_packet(tap, packet))
+        let mut places = PlaceSet::new();
+        'taps: for tap in &self.taps {
+            if let Some(tap) = tap {
+                add_all(&mut places, &tap.pids, batch);
+            }
+        }
+        places
     }
 }
 
@@ -93,12 +101,14 @@ fn is_of(tap: &Option<Tap>, who: u32) -> bool
     }
 }
 
-/// Whether this tap names a packet: one of its PIDs is the packet's, or names every packet.
-fn names_packet(tap: &Option<Tap>, packet: &Packet) -> bool
-    ensures { result ≡ tap_names packet.now tap.now }
+/// Adds the places of the packets that these PIDs name.
+fn add_all(places: &mut PlaceSet, pids: &Pids, batch: &Batch)
+    ensures { (i : ℕ) (packet : List ℕ) → slice_get batch.now.packets i ≡ Some packet → is_in i places.new ≡ (is_in i places.old || is_named pids.now packet) }
 {
-    match tap {
-        Some(tap) => tap.pids.names(packet.pid()),
-        None => false,
+    'pids: for i in 0..pids.len() {
+        match pids.get(i) {
+            Some(pid) => places.add(batch, pid),
+            None => unreachable!(),
+        }
     }
 }

@@ -2,7 +2,11 @@
 
 use crate::taps::Taps;
 use pid_set::Pids;
-use ts_packet::Packet;
+use std::alloc::{AllocError as NoMemory, Global};
+use std::sync::Arc;
+use std::test::Fail;
+use ts_batch::Batch;
+use ts_packet::{Packet, PacketBuf};
 
 /// One step with the taps: the client, the number of the demux node and, of an attach, the PIDs.
 #[derive(Clone, Copy)]
@@ -96,8 +100,24 @@ fn packet_of(pid: u16) -> Packet {
     Packet::of(bytes).unwrap_or_default()
 }
 
+// A batch of the packets that are asked for.
+fn asked(alloc: Global) -> Result<Option<Arc<Batch>>, NoMemory> {
+    let mut packets = PacketBuf::new();
+    for pid in ASKED {
+        if packets.len() < 64 {
+            packets.push(packet_of(pid));
+        }
+    }
+    if packets.len() == 0 {
+        return Ok(None);
+    }
+    Ok(Some(Batch::of(alloc, 0, &packets)?))
+}
+
 #[test]
-fn taps_name_packets(rt: HostRuntime) {
+fn taps_name_packets(rt: HostRuntime) -> Result<(), Fail> {
+    let batch = asked(rt.alloc())?.ok_or("no batch")?;
+    assert_eq!(rt; batch.count(), 4);
     for (name, steps) in CASES {
         let mut taps = Taps::new();
         for (i, (step, wanted)) in steps.iter().enumerate() {
@@ -105,13 +125,16 @@ fn taps_name_packets(rt: HostRuntime) {
                 Attach(who, node, pids) => taps.attach(who, node, pids_of(pids)),
                 Detach(who, node) => taps.detach(who, node),
             }
-            for (pid, named) in ASKED.iter().zip(wanted) {
+            let places = taps.places(&batch);
+            assert_eq!(rt; places.is_empty(), *wanted == NONE, "{name}, step {i}");
+            for place in 0..4u32 {
                 assert_eq!(rt;
-                    taps.names(&packet_of(*pid)),
-                    *named,
-                    "{name}, step {i}, PID {pid}"
+                    places.has(place),
+                    wanted[place as usize],
+                    "{name}, step {i}, place {place}"
                 );
             }
         }
     }
+    Ok(())
 }

@@ -1,5 +1,5 @@
-use Rattle.std.proofs.Common.{◌≡◌, ◌≤◌, ◌+◌, ◌-◌, ◌*◌, false, drop}
-use Rattle.std.specs.Prelude.{filter, option_map}
+use Rattle.std.proofs.Common.{◌≡◌, ◌≤◌, ◌+◌, ◌-◌, ◌*◌, false, drop, take}
+use Rattle.std.specs.Prelude.{count_by, filter, option_map}
 use Rattle.node_buffer.specs.Capturing.{with_items}
 use Rattle.node_buffer.specs.Coherent.{CoherentIn, total_of}
 use Rattle.dvr_core.specs.Tapped.{some_names}
@@ -13,5 +13,5 @@ invariant-loop-i g l = record {
       ≡ option_map (λ x. with_items false (l.fn.buffer.size - 1) x (filter (some_names l.taps) l.batch.packets)) l.fn.buffer.ledger;
   sound : CoherentIn l.buffer.ledger;
   bytes : total_of l.buffer.ledger ≤ total_of l.fn.buffer.ledger + 188 * l.i;
-  cost : l.steps ≤ l.fn.steps + l.i;
+  cost : l.steps ≤ l.fn.steps + count_by (some_names l.taps) (take l.i l.batch.packets);
 }

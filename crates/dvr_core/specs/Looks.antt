@@ -1,0 +1,10 @@
+-- Which packets of a call the dvr node looks at.
+use Rattle.std.specs.Prelude.{ℕ, List, Option, count_by}
+use Rattle.dmx_calls.specs.Invocation.{Invocation, Pass}
+use Rattle.dmx_calls.specs.Taps.{Tap}
+use Rattle.dvr_core.specs.Tapped.{some_names}
+
+-- how many packets of a call some tap names; only a Pass has any
+abbrev pub named_packets : List (Option Tap) → Invocation → ℕ
+named_packets taps (Pass input first packets now) = count_by (some_names taps) packets
+named_packets taps _ = 0
