@@ -2,7 +2,7 @@
 // of a function that does nothing, so the check computes it.
 
 ghost use Rattle.dmx_calls.specs.Examples.Reads.{FirstBytesOfAPacket, PacketsInTheirOrder, ReadOverTwoPackets, NothingFromBeforeTheStart, StartAgainDropsTheUnread, StopKeepsTheUnread, FlagStartsAtOnce, ReadOfNoBytes, AgainAfterTheEnd, PayloadTap, AllPackets, PidsOfTheMoment};
-ghost use Rattle.dmx_calls.specs.Examples.Overflows.{OverflowOfPackets, OverflowAfterAPartRead, ItemLargerThanTheRing, ExactFitIsKept, LaterItemThatFitsIsLost, OverflowBehindWhatWasRead, SecondOverflow, PendingOverflow, StartAgainClearsTheOverflow};
+ghost use Rattle.dmx_calls.specs.Examples.Overflows.{OverflowOfPackets, OverflowAfterAPartRead, ItemLargerThanTheRing, ExactFitIsKept, LaterItemThatFitsIsLost, OverflowBehindWhatWasRead, SecondOverflow, PendingOverflow, StartAgainClearsTheOverflow, WalkAfter, WalkBy, WalkItems, WalkTotal, WalkAnswered, WalkOver, WalkAnswer, WalkAnsweredAfter, WalkOverAfter, WalkAnswerAfter};
 ghost use Rattle.dmx_calls.specs.Examples.Sections.{SectionASection, SectionByPieces, SectionOverTwoPackets, SectionBegunBeforeTheStart, DuplicatePacket, BrokenCounter, NegativeFilter, MaskedByteBeyondTheEnd, CheckedCrc, UncheckedCrc, OneShot, SectionFilterStartedAtOnce, SectionThatDoesNotFit, OtherPackets};
 ghost use Rattle.dmx_calls.specs.Examples.Timeouts.{NoSectionInTime, SectionInTime, SectionTooLate, PollExpires, NotExpired, StartAgainWaitsAnew, StartedNearTheLastMoment, NoTimeout};
 ghost use Rattle.dmx_calls.specs.Examples.Taps.{TapOfAStart, PidsOfATap, TapOfASetCall};
@@ -37,6 +37,16 @@ pub fn overflows()
     ensures second_overflow { SecondOverflow }
     ensures pending_overflow { PendingOverflow }
     ensures start_again_clears_the_overflow { StartAgainClearsTheOverflow }
+    ensures walk_after { WalkAfter }
+    ensures walk_by { WalkBy }
+    ensures walk_items { WalkItems }
+    ensures walk_total { WalkTotal }
+    ensures walk_answered { WalkAnswered }
+    ensures walk_over { WalkOver }
+    ensures walk_answer { WalkAnswer }
+    ensures walk_answered_after { WalkAnsweredAfter }
+    ensures walk_over_after { WalkOverAfter }
+    ensures walk_answer_after { WalkAnswerAfter }
 {}
 
 /// Section filters.

@@ -50,3 +50,43 @@ returns-clause-pending_overflow c = refl
 pub returns-clause-start_again_clears_the_overflow : goal.returns-clause-start_again_clears_the_overflow
 unfolding with_pid without_pid tenure owner size_or size dvr_size setting params pids has_ended capture started is_stopped live dvr_capture selects section_items expiry offered items tap_of is_tapped dvr_items is_told expired joined total answered over facts answer clean without_repeats_after runs rest_of_segment segments sections_after read_sections sections after_bit crc reaches_at differences equals_at differs_at negates_at matches below
 returns-clause-start_again_clears_the_overflow c = refl
+
+pub returns-clause-walk_after : goal.returns-clause-walk_after
+unfolding with_pid without_pid tenure owner size_or size dvr_size setting params pids has_ended capture started is_stopped live dvr_capture selects section_items expiry offered items tap_of is_tapped dvr_items is_told expired joined total answered over facts answer clean without_repeats_after runs rest_of_segment segments sections_after read_sections sections after_bit crc reaches_at differences equals_at differs_at negates_at matches below
+returns-clause-walk_after c = refl
+
+pub returns-clause-walk_by : goal.returns-clause-walk_by
+unfolding with_pid without_pid tenure owner size_or size dvr_size setting params pids has_ended capture started is_stopped live dvr_capture selects section_items expiry offered items tap_of is_tapped dvr_items is_told expired joined total answered over facts answer clean without_repeats_after runs rest_of_segment segments sections_after read_sections sections after_bit crc reaches_at differences equals_at differs_at negates_at matches below
+returns-clause-walk_by c = refl
+
+pub returns-clause-walk_items : goal.returns-clause-walk_items
+unfolding with_pid without_pid tenure owner size_or size dvr_size setting params pids has_ended capture started is_stopped live dvr_capture selects section_items expiry offered items tap_of is_tapped dvr_items is_told expired joined total answered over facts answer clean without_repeats_after runs rest_of_segment segments sections_after read_sections sections after_bit crc reaches_at differences equals_at differs_at negates_at matches below
+returns-clause-walk_items c = refl
+
+pub returns-clause-walk_total : goal.returns-clause-walk_total
+unfolding with_pid without_pid tenure owner size_or size dvr_size setting params pids has_ended capture started is_stopped live dvr_capture selects section_items expiry offered items tap_of is_tapped dvr_items is_told expired joined total answered over facts answer clean without_repeats_after runs rest_of_segment segments sections_after read_sections sections after_bit crc reaches_at differences equals_at differs_at negates_at matches below
+returns-clause-walk_total c = refl
+
+pub returns-clause-walk_answered : goal.returns-clause-walk_answered
+unfolding with_pid without_pid tenure owner size_or size dvr_size setting params pids has_ended capture started is_stopped live dvr_capture selects section_items expiry offered items tap_of is_tapped dvr_items is_told expired joined total answered over facts answer clean without_repeats_after runs rest_of_segment segments sections_after read_sections sections after_bit crc reaches_at differences equals_at differs_at negates_at matches below
+returns-clause-walk_answered c = refl
+
+pub returns-clause-walk_over : goal.returns-clause-walk_over
+unfolding with_pid without_pid tenure owner size_or size dvr_size setting params pids has_ended capture started is_stopped live dvr_capture selects section_items expiry offered items tap_of is_tapped dvr_items is_told expired joined total answered over facts answer clean without_repeats_after runs rest_of_segment segments sections_after read_sections sections after_bit crc reaches_at differences equals_at differs_at negates_at matches below
+returns-clause-walk_over c = refl
+
+pub returns-clause-walk_answer : goal.returns-clause-walk_answer
+unfolding with_pid without_pid tenure owner size_or size dvr_size setting params pids has_ended capture started is_stopped live dvr_capture selects section_items expiry offered items tap_of is_tapped dvr_items is_told expired joined total answered over facts answer clean without_repeats_after runs rest_of_segment segments sections_after read_sections sections after_bit crc reaches_at differences equals_at differs_at negates_at matches below
+returns-clause-walk_answer c = refl
+
+pub returns-clause-walk_answered_after : goal.returns-clause-walk_answered_after
+unfolding with_pid without_pid tenure owner size_or size dvr_size setting params pids has_ended capture started is_stopped live dvr_capture selects section_items expiry offered items tap_of is_tapped dvr_items is_told expired joined total answered over facts answer clean without_repeats_after runs rest_of_segment segments sections_after read_sections sections after_bit crc reaches_at differences equals_at differs_at negates_at matches below
+returns-clause-walk_answered_after c = refl
+
+pub returns-clause-walk_over_after : goal.returns-clause-walk_over_after
+unfolding with_pid without_pid tenure owner size_or size dvr_size setting params pids has_ended capture started is_stopped live dvr_capture selects section_items expiry offered items tap_of is_tapped dvr_items is_told expired joined total answered over facts answer clean without_repeats_after runs rest_of_segment segments sections_after read_sections sections after_bit crc reaches_at differences equals_at differs_at negates_at matches below
+returns-clause-walk_over_after c = refl
+
+pub returns-clause-walk_answer_after : goal.returns-clause-walk_answer_after
+unfolding with_pid without_pid tenure owner size_or size dvr_size setting params pids has_ended capture started is_stopped live dvr_capture selects section_items expiry offered items tap_of is_tapped dvr_items is_told expired joined total answered over facts answer clean without_repeats_after runs rest_of_segment segments sections_after read_sections sections after_bit crc reaches_at differences equals_at differs_at negates_at matches below
+returns-clause-walk_answer_after c = refl
