@@ -30,6 +30,9 @@ const OLD: [u8; 8] = [0x42, 0x00, 0x05, 0x00, 0x01, 0xc1, 0x00, 0x00];
 // Byte i of this section is i.
 const COUNTED: [u8; 18] = [0, 1, 2, 3, 4, 5, 6, 7, 8, 9, 10, 11, 12, 13, 14, 15, 16, 17];
 
+// The same without its last byte.
+const SHORTER: [u8; 17] = [0, 1, 2, 3, 4, 5, 6, 7, 8, 9, 10, 11, 12, 13, 14, 15, 16];
+
 #[test]
 fn each_case_of_a_masked_bit(rt: HostRuntime) {
     // mask, mode, filter and section bit
@@ -67,99 +70,103 @@ fn each_case_of_a_masked_bit(rt: HostRuntime) {
     }
 }
 
+// A filter's places, a section, and whether it matches.
+type Match = (&'static [Place], &'static [u8], bool);
+
+static MATCHES: [Match; 46] = [
+    // nothing masked
+    (&[], &[], true),
+    (&[], &NEW, true),
+    (&[(0, 0xff, 0x00, 0x00)], &NEW, true),
+    (&[(15, 0xff, 0x00, 0xff)], &NEW, true),
+    // the table alone
+    (&[(0, 0x42, 0xff, 0x00)], &[0x42], true),
+    (&[(0, 0x42, 0xff, 0x00)], &[0x43], false),
+    (&[(0, 0x42, 0xff, 0x00)], &[], false),
+    (&[(0, 0x4f, 0xf0, 0x00)], &NEW, true),
+    (&[(0, 0x4f, 0xf8, 0x00)], &NEW, false),
+    // any version but 0 of the table
+    (&[(0, 0x42, 0xff, 0x00), (3, 0xc1, 0xff, 0xff)], &NEW, true),
+    (&[(0, 0x42, 0xff, 0x00), (3, 0xc1, 0xff, 0xff)], &OLD, false),
+    (&[(0, 0x43, 0xff, 0x00), (3, 0xc1, 0xff, 0xff)], &NEW, false),
+    // the same by the five bits of the version, the others equal
+    (&[(3, 0xc1, 0xff, 0x3e)], &NEW, true),
+    (&[(3, 0xc1, 0xff, 0x3e)], &OLD, false),
+    (&[(3, 0xc1, 0xff, 0x3e)], &[0x42, 0, 5, 0, 1, 0xc2], false),
+    (&[(3, 0xc1, 0xff, 0x3e)], &[0x42, 0, 5, 0, 1, 0x83], false),
+    (&[(3, 0xc1, 0xff, 0x3e)], &[0x42, 0, 5, 0, 1, 0xff], true),
+    // one masked bit of mode 1 among unmasked bits of mode 1
+    (&[(3, 0xc1, 0x02, 0xff)], &NEW, true),
+    (&[(3, 0xc1, 0x02, 0xff)], &OLD, false),
+    (&[(3, 0xc1, 0x02, 0xff)], &[0x42, 0, 5, 0, 1, 0xc5], false),
+    // one bit that differs is enough
+    (&[(0, 0x42, 0xff, 0xff)], &[0x42], false),
+    (&[(0, 0x42, 0xff, 0xff)], &[0x43], true),
+    (&[(0, 0x42, 0xff, 0xff)], &[0xbd], true),
+    // .. in one of two bytes
+    (
+        &[(0, 0x42, 0xff, 0xff), (1, 0x00, 0xff, 0xff)],
+        &[0x42, 0, 0, 0x00],
+        false,
+    ),
+    (
+        &[(0, 0x42, 0xff, 0xff), (1, 0x00, 0xff, 0xff)],
+        &[0x42, 0, 0, 0x01],
+        true,
+    ),
+    (
+        &[(0, 0x42, 0xff, 0xff), (1, 0x00, 0xff, 0xff)],
+        &[0x43, 0, 0, 0x00],
+        true,
+    ),
+    (
+        &[(0, 0x42, 0xff, 0xff), (1, 0x00, 0xff, 0xff)],
+        &[0x43],
+        false,
+    ),
+    // mode bits that aren't masked ask for nothing
+    (&[(0, 0x42, 0xff, 0x00), (1, 0x00, 0x00, 0xff)], &NEW, true),
+    (
+        &[(0, 0x42, 0xff, 0x00), (1, 0xff, 0x00, 0xff)],
+        &[0x42],
+        true,
+    ),
+    // byte i stands against byte i + 2
+    (&[(1, 3, 0xff, 0x00), (2, 4, 0xff, 0x00)], &COUNTED, true),
+    (&[(1, 1, 0xff, 0x00)], &COUNTED, false),
+    (&[(1, 2, 0xff, 0x00)], &COUNTED, false),
+    (&[(0, 2, 0xff, 0x00)], &COUNTED, false),
+    (&[(0, 0, 0xff, 0x00), (15, 17, 0xff, 0x00)], &COUNTED, true),
+    (
+        &[(14, 16, 0xff, 0x00), (15, 15, 0xff, 0x00)],
+        &COUNTED,
+        false,
+    ),
+    // at the section's end
+    (&[(5, 0x00, 0xff, 0x00)], &NEW, true),
+    (&[(6, 0x00, 0xff, 0x00)], &NEW, false),
+    (&[(6, 0x00, 0x01, 0x00)], &NEW, false),
+    (&[(6, 0x00, 0xff, 0xff)], &NEW, false),
+    (&[(15, 0x00, 0xff, 0x00)], &NEW, false),
+    (&[(15, 0x00, 0xff, 0xff)], &NEW, false),
+    (
+        &[(0, 0x42, 0xff, 0xff), (15, 0x00, 0xff, 0xff)],
+        &[0x43],
+        false,
+    ),
+    (&[(15, 17, 0xff, 0x00)], &SHORTER, false),
+    (&[(15, 16, 0xff, 0xff)], &SHORTER, false),
+    (&[(15, 17, 0xff, 0x00)], &COUNTED, true),
+    (&[(15, 17, 0xff, 0xff)], &COUNTED, false),
+];
+
 #[test]
 fn filters_match_as_worked_out_by_hand(rt: HostRuntime) {
-    let cases: [(&[Place], &[u8], bool); 46] = [
-        // nothing masked
-        (&[], &[], true),
-        (&[], &NEW, true),
-        (&[(0, 0xff, 0x00, 0x00)], &NEW, true),
-        (&[(15, 0xff, 0x00, 0xff)], &NEW, true),
-        // the table alone
-        (&[(0, 0x42, 0xff, 0x00)], &[0x42], true),
-        (&[(0, 0x42, 0xff, 0x00)], &[0x43], false),
-        (&[(0, 0x42, 0xff, 0x00)], &[], false),
-        (&[(0, 0x4f, 0xf0, 0x00)], &NEW, true),
-        (&[(0, 0x4f, 0xf8, 0x00)], &NEW, false),
-        // any version but 0 of the table
-        (&[(0, 0x42, 0xff, 0x00), (3, 0xc1, 0xff, 0xff)], &NEW, true),
-        (&[(0, 0x42, 0xff, 0x00), (3, 0xc1, 0xff, 0xff)], &OLD, false),
-        (&[(0, 0x43, 0xff, 0x00), (3, 0xc1, 0xff, 0xff)], &NEW, false),
-        // the same by the five bits of the version, the others equal
-        (&[(3, 0xc1, 0xff, 0x3e)], &NEW, true),
-        (&[(3, 0xc1, 0xff, 0x3e)], &OLD, false),
-        (&[(3, 0xc1, 0xff, 0x3e)], &[0x42, 0, 5, 0, 1, 0xc2], false),
-        (&[(3, 0xc1, 0xff, 0x3e)], &[0x42, 0, 5, 0, 1, 0x83], false),
-        (&[(3, 0xc1, 0xff, 0x3e)], &[0x42, 0, 5, 0, 1, 0xff], true),
-        // one masked bit of mode 1 among unmasked bits of mode 1
-        (&[(3, 0xc1, 0x02, 0xff)], &NEW, true),
-        (&[(3, 0xc1, 0x02, 0xff)], &OLD, false),
-        (&[(3, 0xc1, 0x02, 0xff)], &[0x42, 0, 5, 0, 1, 0xc5], false),
-        // one bit that differs is enough
-        (&[(0, 0x42, 0xff, 0xff)], &[0x42], false),
-        (&[(0, 0x42, 0xff, 0xff)], &[0x43], true),
-        (&[(0, 0x42, 0xff, 0xff)], &[0xbd], true),
-        // .. in one of two bytes
-        (
-            &[(0, 0x42, 0xff, 0xff), (1, 0x00, 0xff, 0xff)],
-            &[0x42, 0, 0, 0x00],
-            false,
-        ),
-        (
-            &[(0, 0x42, 0xff, 0xff), (1, 0x00, 0xff, 0xff)],
-            &[0x42, 0, 0, 0x01],
-            true,
-        ),
-        (
-            &[(0, 0x42, 0xff, 0xff), (1, 0x00, 0xff, 0xff)],
-            &[0x43, 0, 0, 0x00],
-            true,
-        ),
-        (
-            &[(0, 0x42, 0xff, 0xff), (1, 0x00, 0xff, 0xff)],
-            &[0x43],
-            false,
-        ),
-        // mode bits that aren't masked ask for nothing
-        (&[(0, 0x42, 0xff, 0x00), (1, 0x00, 0x00, 0xff)], &NEW, true),
-        (
-            &[(0, 0x42, 0xff, 0x00), (1, 0xff, 0x00, 0xff)],
-            &[0x42],
-            true,
-        ),
-        // byte i stands against byte i + 2
-        (&[(1, 3, 0xff, 0x00), (2, 4, 0xff, 0x00)], &COUNTED, true),
-        (&[(1, 1, 0xff, 0x00)], &COUNTED, false),
-        (&[(1, 2, 0xff, 0x00)], &COUNTED, false),
-        (&[(0, 2, 0xff, 0x00)], &COUNTED, false),
-        (&[(0, 0, 0xff, 0x00), (15, 17, 0xff, 0x00)], &COUNTED, true),
-        (
-            &[(14, 16, 0xff, 0x00), (15, 15, 0xff, 0x00)],
-            &COUNTED,
-            false,
-        ),
-        // at the section's end
-        (&[(5, 0x00, 0xff, 0x00)], &NEW, true),
-        (&[(6, 0x00, 0xff, 0x00)], &NEW, false),
-        (&[(6, 0x00, 0x01, 0x00)], &NEW, false),
-        (&[(6, 0x00, 0xff, 0xff)], &NEW, false),
-        (&[(15, 0x00, 0xff, 0x00)], &NEW, false),
-        (&[(15, 0x00, 0xff, 0xff)], &NEW, false),
-        (
-            &[(0, 0x42, 0xff, 0xff), (15, 0x00, 0xff, 0xff)],
-            &[0x43],
-            false,
-        ),
-        (&[(15, 17, 0xff, 0x00)], &COUNTED[..17], false),
-        (&[(15, 16, 0xff, 0xff)], &COUNTED[..17], false),
-        (&[(15, 17, 0xff, 0x00)], &COUNTED, true),
-        (&[(15, 17, 0xff, 0xff)], &COUNTED, false),
-    ];
-    for (places, section, is_match) in cases {
+    for (places, section, is_match) in MATCHES.iter() {
         let compiled = Compiled::of(&filter_of(places));
         assert_eq!(rt;
             compiled.selects(section),
-            is_match,
+            *is_match,
             "{places:?} {section:?}"
         );
     }

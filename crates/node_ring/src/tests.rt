@@ -51,34 +51,35 @@ fn packets_fit_up_to_one_byte_less_than_the_size(rt: HostRuntime) -> Result<(), 
 }
 
 // A ring of size 6 holds five bytes, in a block of five that is used round and round.
+static STEPS: [Step; 22] = [
+    Step::Take(4, &[]),
+    Step::Put(&[1, 2, 3], true),
+    Step::Take(2, &[1, 2]),
+    Step::Put(&[4, 5, 6, 7], true),
+    Step::Put(&[8], false),
+    Step::Put(&[], true),
+    Step::Take(1, &[3]),
+    Step::Put(&[8], true),
+    Step::Take(3, &[4, 5, 6]),
+    Step::Put(&[9, 10, 11, 12], false),
+    Step::Put(&[9, 10, 11], true),
+    Step::Skip(1, &[8, 9, 10, 11]),
+    Step::Take(0, &[]),
+    Step::Put(&[12], true),
+    Step::Take(9, &[8, 9, 10, 11, 12]),
+    Step::Put(&[13, 14, 15, 16, 17], true),
+    Step::Flush(5),
+    Step::Flush(0),
+    Step::Put(&[18], true),
+    Step::Skip(1, &[]),
+    Step::Put(&[19, 20], true),
+    Step::Take(2, &[19, 20]),
+];
+
 #[test]
 fn bytes_come_in_the_order_in_which_they_were_put(rt: HostRuntime) -> Result<(), NoMemory> {
     let mut ring = Ring::new(rt.alloc(), 6)?;
-    let steps = [
-        Step::Take(4, &[]),
-        Step::Put(&[1, 2, 3], true),
-        Step::Take(2, &[1, 2]),
-        Step::Put(&[4, 5, 6, 7], true),
-        Step::Put(&[8], false),
-        Step::Put(&[], true),
-        Step::Take(1, &[3]),
-        Step::Put(&[8], true),
-        Step::Take(3, &[4, 5, 6]),
-        Step::Put(&[9, 10, 11, 12], false),
-        Step::Put(&[9, 10, 11], true),
-        Step::Skip(1, &[8, 9, 10, 11]),
-        Step::Take(0, &[]),
-        Step::Put(&[12], true),
-        Step::Take(9, &[8, 9, 10, 11, 12]),
-        Step::Put(&[13, 14, 15, 16, 17], true),
-        Step::Flush(5),
-        Step::Flush(0),
-        Step::Put(&[18], true),
-        Step::Skip(1, &[]),
-        Step::Put(&[19, 20], true),
-        Step::Take(2, &[19, 20]),
-    ];
-    for (number, step) in steps.iter().enumerate() {
+    for (number, step) in STEPS.iter().enumerate() {
         match *step {
             Step::Put(item, fits) => assert_eq!(rt; ring.put(item), fits, "step {number}"),
             Step::Take(count, bytes) => {

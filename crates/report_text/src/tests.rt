@@ -122,6 +122,28 @@ fn an_empty_script_and_an_empty_stream(rt: HostRuntime) -> Result<(), Fail> {
     Ok(())
 }
 
+const READ_AND_POLLED: &[u8] = b"dvbemu 1\n\
+    packets=3 skipped=0 rest=0\n\
+    pid 256 packets=2 breaks=0 duplicates=0 errors=0\n\
+    pid 257 packets=1 breaks=0 duplicates=0 errors=0\n\
+    client 0\n\
+    line 1 steps 0..1 done\n\
+    line 2 steps 1..2 done\n\
+    line 3 steps 2..3 done\n\
+    line 5 steps 3..4 done\n\
+    line 6 steps 4..5 done\n\
+    node 0\n\
+    0 c0 0 open = done drop=0..0 tap=keep\n\
+    1 c0 1 pes pid=256 input=frontend output=tsdemux_tap type=20 flags=0 at=0 = done drop=0..0 tap=keep\n\
+    2 c0 2 start at=0 = done drop=0..0 tap=keep\n\
+    3 feed 0 pass input=frontend first=0 count=1 at=0 = passed\n\
+    4 feed 1 pass input=frontend first=1 count=1 at=0 = passed\n\
+    5 feed 2 pass input=frontend first=2 count=1 at=0 = passed\n\
+    6 c0 3 read 4 at=0 = data 47010010\n\
+    7 c0 4 poll at=0 = ready readable=1 error=none at=4 ended=0\n\
+    8 feed 3 end = passed\n\
+    end\n";
+
 #[test]
 fn a_read_and_a_poll_of_three_packets(rt: HostRuntime) -> Result<(), Fail> {
     let alloc = rt.alloc();
@@ -149,28 +171,7 @@ fn a_read_and_a_poll_of_three_packets(rt: HostRuntime) -> Result<(), Fail> {
     let feeding = vec![in alloc; fed(0), fed(1), fed(2)]?;
     let all = histories(alloc, feeding, calls, Vec::new(alloc))?;
     let text = report(alloc, &head(3, 0, rows, false), &[outcomes], &all)?;
-    let want = b"dvbemu 1\n\
-        packets=3 skipped=0 rest=0\n\
-        pid 256 packets=2 breaks=0 duplicates=0 errors=0\n\
-        pid 257 packets=1 breaks=0 duplicates=0 errors=0\n\
-        client 0\n\
-        line 1 steps 0..1 done\n\
-        line 2 steps 1..2 done\n\
-        line 3 steps 2..3 done\n\
-        line 5 steps 3..4 done\n\
-        line 6 steps 4..5 done\n\
-        node 0\n\
-        0 c0 0 open = done drop=0..0 tap=keep\n\
-        1 c0 1 pes pid=256 input=frontend output=tsdemux_tap type=20 flags=0 at=0 = done drop=0..0 tap=keep\n\
-        2 c0 2 start at=0 = done drop=0..0 tap=keep\n\
-        3 feed 0 pass input=frontend first=0 count=1 at=0 = passed\n\
-        4 feed 1 pass input=frontend first=1 count=1 at=0 = passed\n\
-        5 feed 2 pass input=frontend first=2 count=1 at=0 = passed\n\
-        6 c0 3 read 4 at=0 = data 47010010\n\
-        7 c0 4 poll at=0 = ready readable=1 error=none at=4 ended=0\n\
-        8 feed 3 end = passed\n\
-        end\n";
-    assert_eq!(rt; text.as_slice(), want.as_slice());
+    assert_eq!(rt; text.as_slice(), READ_AND_POLLED);
     Ok(())
 }
 

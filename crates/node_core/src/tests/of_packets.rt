@@ -2,10 +2,10 @@
 
 ghost use Rattle.std.specs.Prelude.{◌≡◌, ◌<◌};
 
-use super::{
-    Cell, EBADF, EBUSY, EINVAL, OPEN, OTHER, P0, P1, P2, P3, Row, START, Step, WHOLE, Want, ask,
-    check, is_wanted,
+use super::acting::{
+    EBADF, EBUSY, EINVAL, OPEN, Row, START, Step, WHOLE, Want, ask, check, is_wanted,
 };
+use super::packets::{Cell, OTHER, P0, P1, P2, P3};
 use crate::NodeCore;
 use dmx_calls::{Errno, PollError};
 use std::alloc::{AllocError as NoMemory, Global};

@@ -1,6 +1,7 @@
 //! What Done tells of the tap of a node whose packets go to the dvr node.
 
-use super::{EBADF, EBUSY, EINVAL, OPEN, OTHER, P0, Row, Step, Want, check};
+use super::acting::{EBADF, EBUSY, EINVAL, OPEN, Row, Step, Want, check};
+use super::packets::{OTHER, P0};
 use dmx_calls::PollError;
 use std::alloc::AllocError as NoMemory;
 

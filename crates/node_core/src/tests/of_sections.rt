@@ -2,7 +2,8 @@
 
 ghost use Rattle.std.specs.Prelude.{◌≡◌, ◌<◌};
 
-use super::{A, Cell, EBADF, EBUSY, EINVAL, OPEN, OTHER, P0, Row, START, Step, Want, check};
+use super::acting::{EBADF, EBUSY, EINVAL, OPEN, Row, START, Step, Want, check};
+use super::packets::{A, Cell, OTHER, P0};
 use dmx_calls::{PollError, SectionParams};
 use filter_match::SectionFilter;
 use std::alloc::AllocError as NoMemory;

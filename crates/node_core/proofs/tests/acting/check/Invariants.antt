@@ -1,4 +1,4 @@
-use Rattle.node_core.proofs.tests.check.Given as goal
+use Rattle.node_core.proofs.tests.acting.check.Given as goal
 
 -- a ledger of its own
 abbrev pub ghosts-run : goal.ghosts-run
