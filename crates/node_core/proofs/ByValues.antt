@@ -12,7 +12,9 @@ use Rattle.node_buffer.specs.Capturing.{is_section, read_by, is_due, expiring, w
 use Rattle.node_buffer.proofs.Accepted.{read_accepted}
 use Rattle.node_buffer.proofs.Answering.{read_is}
 use Rattle.node_buffer.proofs.Readings.{expired_at, then_answered}
+use Rattle.node_buffer.specs.Coherent.{CoherentIn}
 use Rattle.node_core.specs.Step.{Knows, next, moved}
+use Rattle.node_core.specs.Sound.{IsSoundBy}
 use Rattle.node_core.specs.KeptView.{reply_to}
 
 -- ------ a Read
@@ -35,6 +37,17 @@ read-after k now count mid left r is said after =
     let ok : is_accepted r ≡ true =
     ap is_accepted (read-said k now count mid r is said) ∙ read_accepted k.facts k.facts.ledger (expired_of (moved k 0 (Read now count) Passed).facts.ledger) count in
     rw (ok, after, is, then_answered (is_section k.facts.params) r (timeout_of k.facts.params) now k.facts.ledger) refl
+
+-- what is sound stays so
+none-read : (by_section : Bool) (r : Response) (timeout now : ℕ) (o mid left : Option Ledger) → mid ≡ option_map (expiring timeout now) o → left ≡ option_map (with_response by_section r) mid
+    → o ≡ None → left ≡ None
+none-read by_section r timeout now o mid left is after none = rw (after, is, none) refl
+
+pub read-sound : (set : Params) (r : Response) (now : ℕ) (o mid left : Option Ledger) → mid ≡ option_map (expiring (timeout_of set) now) o → left ≡ option_map (with_response (is_section set) r) mid
+    → IsSoundBy set o → CoherentIn left → IsSoundBy set left
+read-sound Empty r now o mid left is after sound holds = none-read false r 0 now o mid left is after sound
+read-sound (Section p) r now o mid left is after sound holds = holds
+read-sound (Pes p) r now o mid left is after sound holds = holds
 
 -- ------ a Pass
 

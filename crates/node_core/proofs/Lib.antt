@@ -13,3 +13,4 @@ pub mod Standing
 pub mod Causing
 pub mod ByValues
 pub mod LastReply
+pub mod Owners

@@ -1,8 +1,8 @@
 -- What a node knows, from what it keeps.
-use Rattle.std.specs.Prelude.{ℕ, ◌≡◌, ◌+◌, ◌⊎◌, Bool, true, false, [], Option, Some, None, if◌then◌else◌}
+use Rattle.std.specs.Prelude.{ℕ, ◌≡◌, ◌≤◌, ◌+◌, ◌⊎◌, Bool, true, false, [], Option, Some, None, if◌then◌else◌}
 use Rattle.dmx_calls.specs.declared.node.NodeKind.TheVariants.{Demux}
 use Rattle.dmx_calls.specs.declared.limits.TheConstants.{DEMUX_SIZE}
-use Rattle.dmx_calls.specs.Invocation.{Invocation}
+use Rattle.dmx_calls.specs.Invocation.{Invocation, Close}
 use Rattle.dmx_calls.specs.Tenure.{Empty}
 use Rattle.dmx_calls.specs.Calls.{params_of, pids_of}
 use Rattle.dmx_calls.specs.Response.{TapChange, KeepTap, AttachTap, DetachTap, Response, NoMemory, Passed}
@@ -10,10 +10,11 @@ use Rattle.dmx_calls.specs.Answer.{is_recording, response_to}
 use Rattle.dmx_calls.specs.Legal.{is_done, takes_memory}
 use Rattle.item_select.specs.Selecting.{bytes_held}
 use Rattle.node_core.specs.declared.kept.Kept.{Kept}
-use Rattle.node_core.specs.declared.kept.Tenure.{Tenure}
+use Rattle.node_core.specs.declared.tenure.Tenure.{Tenure}
 use Rattle.node_buffer.specs.Coherent.{total_of}
-use Rattle.node_buffer.specs.Gives.{IsTakenBy}
-use Rattle.node_core.specs.Step.{Knows, unset, moved}
+use Rattle.node_buffer.specs.Gives.{owner_refusal}
+use Rattle.node_core.specs.Step.{Knows, unset, moved, next}
+use Rattle.node_core.specs.Sound.{IsSound}
 
 -- a free node has the default size, no filter, and nothing to select
 abbrev pub knows_in : (has_ended : Bool) → Option Tenure → Knows
@@ -50,9 +51,17 @@ tap_told recorded renews tenure =
 abbrev pub bytes_in : Knows → ℕ
 bytes_in k = total_of k.facts.ledger + bytes_held k.selecting
 
--- the node has an owner, who isn't refused this call
-abbrev pub IsTaken : Knows → Invocation → Type 0
-IsTaken k call = IsTakenBy Demux k.facts.owner k.facts call
+-- its owner isn't refused this call
+abbrev pub IsGranted : Tenure → Invocation → Type 0
+IsGranted tenure call = owner_refusal Demux (knows_in true (Some tenure)).facts call ≡ None
+
+-- it is sound in this tenure, whether or not an End came
+abbrev pub IsSoundIn : Tenure → Type 0
+IsSoundIn tenure = IsSound (knows_in true (Some tenure))
+
+abbrev pub is_close : Invocation → Bool
+is_close Close = true
+is_close _ = false
 
 -- what its owner is answered to a call that isn't refused
 abbrev pub reply_to : Knows → Invocation → Response
@@ -61,3 +70,10 @@ reply_to k call = response_to k.facts (moved k 0 call Passed).facts call
 -- that, or want of memory
 abbrev pub Replies : Knows → Invocation → Response → Type 0
 Replies k call r = (r ≡ reply_to k call) ⊎ (r ≡ NoMemory) × (is_done (reply_to k call) ≡ true) × (takes_memory k.facts call ≡ true)
+
+-- What a call of the owner does that isn't refused: what is answered, and what the node then knows; that is sound, and no byte arrives.
+pub record Does (before : Knows) (call : Invocation) (r : Response) (later : Knows) : Type 0 where
+  pub said : Replies before call r
+  pub after : later ≡ next before 0 call r
+  pub sound : IsSound later
+  pub bytes : bytes_in later ≤ bytes_in before

@@ -27,6 +27,7 @@ mod kept;
 mod node;
 mod offer;
 mod tap;
+mod tenure;
 #[cfg(test)]
 mod tests;
 

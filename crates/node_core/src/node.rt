@@ -20,7 +20,7 @@ ghost use Rattle.node_core.specs.Stands.{StandsFor};
 use crate::kept::Kept;
 use dmx_calls::{Answer, Call, Reply, State, Told};
 use machine::Machine;
-use node_buffer::{plain, refused};
+use node_buffer::plain;
 use std::alloc::Global;
 use std::marker::Model;
 use std::sync::ledger::Ledger;
@@ -66,28 +66,11 @@ fn act<L: Ledger>(
     ensures cost { steps.new ≤ steps.old + named_packets (knows_of kept.old).facts (invocation_of call) }
     ensures idle { state_of (knows_of kept.old).facts ≢ State.Go → steps.new ≡ steps.old }
 {
-    if let Some(errno) = kept.refusal(who, &call) {
-        return refused(errno, call);
+    if !matches!(call, Call::Open | Call::Pass { .. } | Call::End) {
+        return kept.act_for_owner(alloc, who, call);
     }
     match call {
         Call::Open => plain(kept.open(alloc, who)),
-        Call::Close => plain(kept.close()),
-        Call::SetFilter { params, now } => plain(kept.set_filter(params, now)),
-        Call::SetPes { params, now } => plain(kept.set_pes(params, now)),
-        Call::AddPid(pid) => plain(kept.add_pid(pid)),
-        Call::RemovePid(pid) => plain(kept.remove_pid(pid)),
-        Call::Start { now } => plain(kept.start(now)),
-        Call::Stop => plain(kept.stop()),
-        Call::SetSize(size) => plain(kept.set_size(alloc, size)),
-        Call::Read { now, buf } => {
-            let (reply, back) = kept.read(now, buf);
-            Answer {
-                reply,
-                back,
-                batch: None,
-            }
-        }
-        Call::Poll { now } => plain(kept.poll(now)),
         Call::Pass { input, batch, now } => {
             kept.pass(input, &batch, now, steps);
             Answer {
@@ -96,11 +79,10 @@ fn act<L: Ledger>(
                 batch: Some(batch),
             }
         }
-        Call::End => {
+        _ => {
             kept.end();
             plain(Reply::Passed)
         }
-        Call::Attach { .. } | Call::Detach { .. } => unreachable!(),
     }
 }
 

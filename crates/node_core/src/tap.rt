@@ -8,7 +8,7 @@ ghost use Rattle.dmx_calls.specs.Response.{KeepTap, DetachTap};
 ghost use Rattle.dmx_calls.specs.Calls.{tap_change_of};
 ghost use Rattle.node_core.specs.KeptView.{is_recording_for, tap_told};
 
-use crate::kept::Tenure;
+use crate::tenure::Tenure;
 use dmx_calls::{Output, Params, State, Tap};
 
 impl Tenure {

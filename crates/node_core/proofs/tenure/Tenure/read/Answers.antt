@@ -1,0 +1,36 @@
+use Rattle.std.proofs.Common.{◌≡◌, ◌∙◌, ap, arith, inl, Some}
+use Rattle.std.specs.Prelude.{option_map}
+use Rattle.dmx_calls.specs.Calls.{params_of, response_of}
+use Rattle.dmx_calls.specs.Items.{timeout_of}
+use Rattle.node_buffer.specs.Capturing.{is_section, expiring}
+use Rattle.node_core.specs.Step.{Knows}
+use Rattle.node_core.specs.KeptView.{knows_in}
+use Rattle.node_buffer.proofs.Readings.{total-read}
+use Rattle.node_core.proofs.ByValues.{read-said, read-after, read-sound}
+use Rattle.node_core.proofs.tenure.Tenure.read.Goals as goal
+
+pub returns-clause-does : goal.returns-clause-does
+returns-clause-does c =
+    let t = c.args.self.now in
+    let k : Knows = knows_in c.args.ended (Some t) in
+    let r = response_of c.read.result.0 in
+    let left = c.read.new.self.ledger in
+    let mid : c.expire.new.self.ledger ≡ option_map (expiring (timeout_of (params_of t.params)) c.args.now) t.buffer.ledger = rw (← c.timeout_of.ensures) (ap (λ b. b.ledger) c.expire.ensures.after) in
+    let after = ap (λ b. b.ledger) c.read.ensures.after in
+    let size : c.read.new.self.size ≡ t.buffer.size = ap (λ b. b.size) c.read.ensures.after ∙ ap (λ b. b.size) c.expire.ensures.after in
+    let same = total-read (is_section (params_of t.params)) r (timeout_of (params_of t.params)) c.args.now t.buffer.ledger c.expire.new.self.ledger left mid after in
+    record {
+      said = inl (read-said k c.args.now c.args.buf.count c.expire.new.self.ledger r mid c.read.ensures.said);
+      after = rw size (read-after k c.args.now c.args.buf.count c.expire.new.self.ledger left r mid c.read.ensures.said after);
+      sound = record {
+        facts = read-sound (params_of t.params) r c.args.now t.buffer.ledger c.expire.new.self.ledger left mid after c.requires.sound.facts c.read.ensures.holds;
+        selecting = record {
+          choice = c.requires.sound.selecting.choice;
+          pids = c.requires.sound.selecting.pids;
+          given = c.requires.sound.selecting.given;
+          pid = c.requires.sound.selecting.pid;
+          sections = c.requires.sound.selecting.sections;
+        };
+      };
+      bytes = omega (arith, same);
+    }

@@ -1,0 +1,257 @@
+// What a node keeps for its owner, and what each call of the owner does to it.
+//
+// A call comes here only where it isn't refused. `Does` says what the owner is answered, how the node goes on, and what then
+// holds; it does so for a stream that has ended and for one that hasn't.
+
+ghost use Rattle.std.specs.Prelude.{◌≡◌, [], Bool, true, false, IfOk, Some, None, if◌then◌else◌};
+ghost use Rattle.dmx_calls.specs.declared.node.NodeKind.TheVariants.{Demux};
+ghost use Rattle.dmx_calls.specs.declared.limits.TheConstants.{DEMUX_SIZE, IMMEDIATE_START};
+ghost use Rattle.dmx_calls.specs.Invocation.{Close, SetFilter, SetPes, AddPid, RemovePid, Start, Stop, SetSize, Read, Poll};
+ghost use Rattle.dmx_calls.specs.Capture.{has_flag};
+ghost use Rattle.dmx_calls.specs.Answer.{is_for_anybody, done_dropping};
+ghost use Rattle.dmx_calls.specs.Calls.{invocation_of, response_of, params_of, pids_of};
+ghost use Rattle.dmx_calls.specs.Back.{BackOfRead, GivesBack};
+ghost use Rattle.item_select.specs.Selecting.{begun as begun_selecting};
+ghost use Rattle.node_buffer.specs.Capturing.{begun};
+ghost use Rattle.node_buffer.specs.Gives.{owner_refusal};
+ghost use Rattle.node_core.specs.Offers.{choice_of, names_of};
+ghost use Rattle.node_core.specs.Step.{unset};
+ghost use Rattle.node_core.specs.KeptView.{is_close, knows_in, is_recording_for, tap_told, IsSoundIn, IsGranted, reply_to, Does};
+
+use crate::filter::{rename, select, starts_at_once};
+use crate::tap::tap_of_idle;
+use dmx_calls::limits::DEMUX_SIZE;
+use dmx_calls::{
+    Answer, ByteBuf, Call, Errno, NodeKind, Params, PesParams, Reply, SectionParams, Span, Tap,
+    refusal,
+};
+use item_select::Selector;
+use node_buffer::{Buffer, plain, timeout_of};
+use pid_set::Pids;
+use std::alloc::{AllocError as NoMemory, Global};
+
+/// What a node keeps for its owner.
+#[derive(Drop)]
+pub struct Tenure {
+    /// The caller that opened it.
+    pub owner: u32,
+    /// The filter of the last set call, with its PIDs.
+    pub params: Params,
+    /// What finds the filter's items.
+    pub selector: Selector,
+    /// The bytes and the ledger of its capture.
+    pub buffer: Buffer,
+}
+
+/// Of a call that drops nothing.
+pub const NOTHING: Span = Span { from: 0, to: 0 };
+
+/// The call was done, and what the dvr node is to be told.
+pub fn done(dropped: Span, tap: Tap) -> Reply
+    ensures { result ≡ Reply.Done dropped tap }
+{
+    Reply::Done { dropped, tap }
+}
+
+impl Tenure {
+    /// A node that was just opened: it has the default size and no filter.
+    pub fn new(alloc: Global, owner: u32) -> Result<Tenure, NoMemory>
+        ensures { IfOk result (λ t. t ≡ record { owner = owner; params = Params.Empty; selector = unset; buffer = record { size = DEMUX_SIZE; ledger = None } }) }
+    {
+        Ok(Tenure {
+            owner,
+            params: Params::Empty,
+            selector: Selector::new(alloc)?,
+            buffer: Buffer::new(alloc, DEMUX_SIZE)?,
+        })
+    }
+
+    /// A filter is set. It starts at once where DMX_IMMEDIATE_START is among its flags.
+    fn set(&mut self, params: Params, flags: u32, now: u64) -> Reply
+        ensures said { response_of result ≡ done_dropping self.old.buffer.ledger (tap_told (is_recording_for self.old) true self.new) }
+        ensures after { self.new ≡ record {
+          owner = self.old.owner;
+          params = params;
+          selector = begun_selecting (choice_of (params_of params)) (names_of (choice_of (params_of params)) (pids_of params));
+          buffer = record { size = self.old.buffer.size; ledger = if has_flag IMMEDIATE_START flags then Some (begun now) else None };
+        } }
+    {
+        let recorded = self.is_recording();
+        let dropped = self.buffer.unread();
+        self.buffer.renew(starts_at_once(flags), now);
+        select(&mut self.selector, &params);
+        self.params = params;
+        done(dropped, self.tap(recorded, true))
+    }
+
+    /// Why a call of the owner is refused, if it is: by the table of calls and states. A SetSize to the size that the node has
+    /// is never refused.
+    pub fn refusal(&self, call: &Call) -> Option<Errno>
+        ensures { result ≡ owner_refusal Demux (knows_in true (Some self.now)).facts (invocation_of call.now) }
+    {
+        match call {
+            Call::SetSize(size) if *size == self.buffer.size() => None,
+            _ => {
+                let state = self.buffer.state(&self.params);
+                refusal(NodeKind::Demux, state, call, &self.params)
+            }
+        }
+    }
+
+    /// Makes a call of the owner, but for Close. `ended` says that the stream has ended.
+    pub fn act(&mut self, alloc: Global, ended: bool, call: Call) -> Answer
+        requires sound { IsSoundIn self.old }
+        requires granted { IsGranted self.old (invocation_of call) }
+        requires own { is_for_anybody Demux (invocation_of call) ≡ false }
+        requires stays { is_close (invocation_of call) ≡ false }
+        ensures does { Does (knows_in ended (Some self.old)) (invocation_of call) (response_of result.reply) (knows_in ended (Some self.new)) }
+        ensures back { GivesBack call result }
+    {
+        match call {
+            Call::SetFilter { params, now } => plain(self.set_filter(params, now)),
+            Call::SetPes { params, now } => plain(self.set_pes(params, now)),
+            Call::AddPid(pid) => plain(self.add_pid(pid)),
+            Call::RemovePid(pid) => plain(self.remove_pid(pid)),
+            Call::Start { now } => plain(self.start(now)),
+            Call::Stop => plain(self.stop()),
+            Call::SetSize(size) => plain(self.set_size(alloc, size)),
+            Call::Read { now, buf } => {
+                let (reply, back) = self.read(ended, now, buf);
+                Answer {
+                    reply,
+                    back,
+                    batch: None,
+                }
+            }
+            Call::Poll { now } => plain(self.poll(ended, now)),
+            Call::Open
+            | Call::Close
+            | Call::Pass { .. }
+            | Call::End
+            | Call::Attach { .. }
+            | Call::Detach { .. } => unreachable!(),
+        }
+    }
+
+    /// close(): what is dropped with the tenure. The node becomes free, and its filter, size and unread bytes are gone.
+    pub fn close(&self) -> Reply
+        ensures { (ended : Bool) → response_of result ≡ reply_to (knows_in ended (Some self.now)) Close }
+    {
+        done(self.buffer.unread(), tap_of_idle(self.is_recording()))
+    }
+
+    /// DMX_SET_FILTER: a section filter is set.
+    fn set_filter(&mut self, params: SectionParams, now: u64) -> Reply
+        requires sound { IsSoundIn self.old }
+        requires granted { IsGranted self.old (SetFilter params now) }
+        ensures does { (ended : Bool) → Does (knows_in ended (Some self.old)) (SetFilter params now) (response_of result) (knows_in ended (Some self.new)) }
+    {
+        self.set(Params::Section(params), params.flags, now)
+    }
+
+    /// DMX_SET_PES_FILTER: a filter of packets is set.
+    fn set_pes(&mut self, params: PesParams, now: u64) -> Reply
+        requires sound { IsSoundIn self.old }
+        requires granted { IsGranted self.old (SetPes params now) }
+        ensures does { (ended : Bool) → Does (knows_in ended (Some self.old)) (SetPes params now) (response_of result) (knows_in ended (Some self.new)) }
+    {
+        let pids = Pids::of(params.pid);
+        self.set(Params::Pes { params, pids }, params.flags, now)
+    }
+
+    /// DMX_ADD_PID: a PID is added, from the next packet on.
+    fn add_pid(&mut self, pid: u16) -> Reply
+        requires sound { IsSoundIn self.old }
+        requires granted { IsGranted self.old (AddPid pid) }
+        ensures does { (ended : Bool) → Does (knows_in ended (Some self.old)) (AddPid pid) (response_of result) (knows_in ended (Some self.new)) }
+    {
+        let recorded = self.is_recording();
+        match &mut self.params {
+            Params::Pes { params, pids } => {
+                // a full set was refused
+                let added = matches!(pids.add(pid), Ok(true));
+                rename(&mut self.selector, params, pids);
+                done(NOTHING, self.tap(recorded, added))
+            }
+            Params::Empty | Params::Section(_) => unreachable!(),
+        }
+    }
+
+    /// DMX_REMOVE_PID: a PID is removed, from the next packet on.
+    fn remove_pid(&mut self, pid: u16) -> Reply
+        requires sound { IsSoundIn self.old }
+        requires granted { IsGranted self.old (RemovePid pid) }
+        ensures does { (ended : Bool) → Does (knows_in ended (Some self.old)) (RemovePid pid) (response_of result) (knows_in ended (Some self.new)) }
+    {
+        let recorded = self.is_recording();
+        match &mut self.params {
+            Params::Pes { params, pids } => {
+                let removed = pids.remove(pid);
+                rename(&mut self.selector, params, pids);
+                done(NOTHING, self.tap(recorded, removed))
+            }
+            Params::Empty | Params::Section(_) => unreachable!(),
+        }
+    }
+
+    /// DMX_START: a capture begins, and the selector begins anew with it.
+    fn start(&mut self, now: u64) -> Reply
+        requires sound { IsSoundIn self.old }
+        requires granted { IsGranted self.old (Start now) }
+        ensures does { (ended : Bool) → Does (knows_in ended (Some self.old)) (Start now) (response_of result) (knows_in ended (Some self.new)) }
+    {
+        let recorded = self.is_recording();
+        let dropped = self.buffer.unread();
+        self.selector.restart();
+        self.buffer.begin(now);
+        done(dropped, self.tap(recorded, true))
+    }
+
+    /// DMX_STOP: the capture goes on without packets.
+    fn stop(&mut self) -> Reply
+        requires sound { IsSoundIn self.old }
+        requires granted { IsGranted self.old (Stop) }
+        ensures does { (ended : Bool) → Does (knows_in ended (Some self.old)) (Stop) (response_of result) (knows_in ended (Some self.new)) }
+    {
+        let recorded = self.is_recording();
+        self.buffer.stop();
+        done(NOTHING, tap_of_idle(recorded))
+    }
+
+    /// DMX_SET_BUFFER_SIZE: another size ends the capture. The size that the node has changes nothing.
+    fn set_size(&mut self, alloc: Global, size: u32) -> Reply
+        requires sound { IsSoundIn self.old }
+        requires granted { IsGranted self.old (SetSize size) }
+        ensures does { (ended : Bool) → Does (knows_in ended (Some self.old)) (SetSize size) (response_of result) (knows_in ended (Some self.new)) }
+    {
+        if self.buffer.size() == size {
+            return done(NOTHING, Tap::Keep);
+        }
+        let dropped = self.buffer.unread();
+        match self.buffer.resize(alloc, size) {
+            Ok(()) => done(dropped, Tap::Keep),
+            Err(_) => Reply::NoMemory,
+        }
+    }
+
+    /// read(): the reply, with its buffer where the reply doesn't hold it. The filter may expire first.
+    fn read(&mut self, ended: bool, now: u64, buf: ByteBuf) -> (Reply, Option<ByteBuf>)
+        requires sound { IsSoundIn self.old }
+        requires granted { IsGranted self.old (Read now buf.count) }
+        ensures does { Does (knows_in ended (Some self.old)) (Read now buf.count) (response_of result.0) (knows_in ended (Some self.new)) }
+        ensures back { BackOfRead buf result.0 result.1 }
+    {
+        self.buffer.expire(timeout_of(&self.params), now);
+        self.buffer.read(&self.params, ended, buf)
+    }
+
+    /// poll(): the reply. The filter may expire first.
+    fn poll(&mut self, ended: bool, now: u64) -> Reply
+        requires sound { IsSoundIn self.old }
+        requires granted { IsGranted self.old (Poll now) }
+        ensures does { Does (knows_in ended (Some self.old)) (Poll now) (response_of result) (knows_in ended (Some self.new)) }
+    {
+        self.buffer.expire(timeout_of(&self.params), now);
+        self.buffer.poll(&self.params, ended)
+    }
+}
