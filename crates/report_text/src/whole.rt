@@ -8,6 +8,7 @@ ghost use Rattle.report_text.specs.Report.{tally_text, row_text, kind_text, outc
 use crate::acts::add_field;
 use crate::entries::add_history;
 use crate::replies::add_word;
+use crate::room::room_for_nodes;
 use dmx_calls::limits::DEMUX_NODES;
 use dmx_calls::{Head, Histories, Outcome, OutcomeKind, PidRow};
 use std::alloc::{AllocError as NoMemory, Global};
@@ -143,7 +144,7 @@ pub fn report(
 ) -> Result<Vec<u8>, NoMemory>
     ensures { IfOk result (λ text. text.items ≡ report_of (told_head head.now) (map (λ o. o.items) outcomes.now) histories.now) }
 {
-    let mut out = Vec::new(alloc);
+    let mut out = Vec::with_capacity(alloc, room_for_nodes(histories))?;
     add_head(&mut out, head)?;
     add_clients(&mut out, outcomes)?;
     add_histories(&mut out, histories)?;
