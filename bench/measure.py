@@ -48,10 +48,10 @@ def run(words, path):
         return written, time.perf_counter() - begun
 
 
-def repeated(session, times):
-    """The session with its stream so many times over. Its script is the bytes up to and with the line `stream`."""
+def quarter_of(session):
+    """The session with the first quarter of its stream. Its script is the bytes up to and with the line `stream`."""
     end = session.index(b"\nstream\n") + len(b"\nstream\n")
-    return session[:end] + session[end:] * times
+    return session[:end + (len(session) - end) // 4 // 188 * 188]
 
 
 def write_stream(path, session, size):
