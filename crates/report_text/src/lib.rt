@@ -15,11 +15,13 @@
 //!
 //! The cost is linear in the length of the text and the number of batches. Room for the whole text is asked for at its
 //! beginning by a guess, so that mostly the text isn't copied while it grows, and no number goes through a general formatter.
-//! All memory is that of the text.
+//! What the feeder's lines have in common on all nodes is written once and then copied. All memory is that of the text and of
+//! these lines, which are made only where a client made a call.
 #![tactic(auto)]
 
 mod acts;
 mod entries;
+mod feeder_line;
 #[cfg(test)]
 mod line_tests;
 mod replies;

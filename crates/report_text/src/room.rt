@@ -8,6 +8,9 @@ use dmx_calls::{Entry, Histories};
 // The room for a line of the feeder, in bytes: most have 60 to 75.
 const FEEDER_LINE: usize = 80;
 
+// The same without its place.
+pub const ROOM_BEHIND_PLACE: usize = 64;
+
 // The room for a line of a client beside the digits of its data, in bytes: most have 40 to 60.
 const CLIENT_LINE: usize = 64;
 
@@ -28,7 +31,9 @@ pub fn room_for_nodes(histories: &Histories) -> usize {
         let (feeding, calls) = histories.node(node);
         if !calls.is_empty() {
             let turns = feeding.len().saturating_mul(FEEDER_LINE);
-            room = room.saturating_add(turns).saturating_add(room_for_calls(calls));
+            room = room
+                .saturating_add(turns)
+                .saturating_add(room_for_calls(calls));
         }
     }
     room
