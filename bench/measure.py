@@ -48,6 +48,22 @@ def run(words, path):
         return written, time.perf_counter() - begun
 
 
+def quarter_of(session):
+    """The session with the first quarter of its stream. Its script is the bytes up to and with the line `stream`."""
+    end = session.index(b"\nstream\n") + len(b"\nstream\n")
+    return session[:end + (len(session) - end) // 4 // 188 * 188]
+
+
+def write_stream(path, session, size):
+    """Writes a session without clients, whose stream is that of this session over and over, up to this size."""
+    stream = session[session.index(b"\nstream\n") + len(b"\nstream\n"):]
+    with open(path, "wb") as out:
+        out.write(b"stream\n")
+        for _ in range(size // len(stream)):
+            out.write(stream)
+        out.write(stream[:size % len(stream) // 188 * 188])
+
+
 def processor_time():
     """The seconds of processors that the programs run so far have taken."""
     used = resource.getrusage(resource.RUSAGE_CHILDREN)

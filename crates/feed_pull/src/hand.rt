@@ -1,9 +1,10 @@
 // The packets that were found and not given yet.
-ghost use Rattle.std.specs.Prelude.{◌≡◌, ℕ, ◌+◌, ◌<◌, ◌≤◌, ◌^◌, List, [], ◌++◌, length, take, drop};
+ghost use Rattle.std.specs.Prelude.{◌≡◌, ℕ, ◌+◌, ◌<◌, ◌≤◌, ◌^◌, List, [], ◌++◌, length, take, drop, All};
+ghost use Rattle.ts_packet.specs.Fields.{IsPacket};
 ghost use Rattle.ts_packet.specs.Cutting.{Cuts, bytes_taken};
 
 use std::marker::Model;
-use ts_packet::{Cutter, PacketBuf};
+use ts_packet::{Cutter, Packet, PacketBuf};
 
 // Up to 64 packets that were found and wait to be given: those of `found` from place `from` on. A contract sees these.
 #[derive(Drop)]
@@ -22,18 +23,30 @@ impl Model for Hand {
     ghost invariant = { λ h. h.from ≤ length h.found };
 }
 
-// So many of the packets, from place `from` on.
-fn stretch(packets: &PacketBuf, from: u32, count: u32) -> PacketBuf
-    requires { from + count ≤ length packets.now }
-    ensures { result ≡ take count (drop from packets.now) }
+// The packets from this place on.
+fn packets_from(packets: &PacketBuf, from: u32) -> PacketBuf
+    requires { from ≤ length packets.now }
+    ensures { result ≡ drop from packets.now }
 {
-    let mut some = PacketBuf::new();
+    let mut behind = PacketBuf::new();
     let all = packets.as_slice();
-    let part = &all[from as usize..][..count as usize];
+    let part = &all[from as usize..];
     'copying: for packet in part {
-        some.push(*packet);
+        behind.push(*packet);
     }
-    some
+    behind
+}
+
+// Drops so many packets in front. None is copied where all are dropped, or none.
+fn drop_front(packets: &mut PacketBuf, count: u32)
+    requires { count ≤ length packets.old }
+    ensures { packets.new ≡ drop count packets.old }
+{
+    if count == packets.len() {
+        packets.clear();
+    } else if count > 0 {
+        *packets = packets_from(packets, count);
+    }
 }
 
 impl Hand {
@@ -56,11 +69,13 @@ impl Hand {
     }
 
     // The packets that wait in front.
-    pub fn front(&self, count: u32) -> PacketBuf
+    pub fn front(&self, count: u32) -> &[Packet]
         requires { count ≤ length self.now }
-        ensures { result ≡ take count self.now }
+        ensures value { result.now ≡ take count self.now }
+        ensures packets { All IsPacket result.now }
     {
-        stretch(&self.found, self.from, count)
+        let all = self.found.as_slice();
+        &all[self.from as usize..][..count as usize]
     }
 
     // So many packets in front are given.
@@ -83,7 +98,7 @@ impl Hand {
         ensures taken { bytes_taken cutter.new ≡ bytes_taken cutter.old + result }
         ensures fits { length self.new ≤ 64 }
     {
-        self.found = stretch(&self.found, self.from, self.found.len() - self.from);
+        drop_front(&mut self.found, self.from);
         self.from = 0;
         let count = cutter.push(bytes, &mut self.found);
         let _ = self.found.len();

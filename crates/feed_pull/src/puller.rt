@@ -18,7 +18,7 @@ use std::alloc::{AllocError as NoMemory, Global};
 use std::marker::Model;
 use std::sync::Arc;
 use ts_batch::Batch;
-use ts_packet::{Cutter, PacketBuf, Tally};
+use ts_packet::{Cutter, Packet, Tally};
 use ts_watch::Watch;
 
 // The most reads of one stream.
@@ -56,12 +56,12 @@ impl Model for Puller {
 }
 
 // Counts these packets.
-fn watch_all(watch: &mut Watch, packets: &PacketBuf)
+fn watch_all(watch: &mut Watch, packets: &[Packet])
     requires { watch.old.watched + length packets.now < 2 ^ 63 }
     ensures watched { watch.new.watched ≡ watch.old.watched + length packets.now }
     ensures stands { (before : List (List ℕ)) → Watched before watch.old → Watched (before ++ packets.now) watch.new }
 {
-    'packets: for packet in packets.as_slice() {
+    'packets: for packet in packets {
         watch.watch(packet);
     }
 }
@@ -207,10 +207,10 @@ impl Puller {
             return Ok(None);
         }
         let front = self.hand.front(count);
-        let batch = Batch::of(self.alloc, self.given, &front)?;
+        let batch = Batch::of_slice(self.alloc, self.given, front)?;
+        watch_all(&mut self.watch, front);
         self.hand.pass(count);
         self.given += count as u64;
-        watch_all(&mut self.watch, &front);
         Ok(Some(batch))
     }
 

@@ -8,9 +8,23 @@ use Rattle.dmx_calls.specs.declared.log.Entry.{Entry as ToldEntry}
 use Rattle.dmx_calls.specs.Calls.{told_entry}
 use Rattle.dmx_calls.specs.Log.{Act, LogEntry}
 use Rattle.dmx_calls.specs.Histories.{feeder_acts, feeder_entry, feeder_entries, before_entry, woven_from, woven}
-use Rattle.text_forms.specs.Names.{node_text}
-use Rattle.report_text.specs.Entries.{entry_text, is_of_client, history_text}
-use Rattle.report_text.specs.Turns.{turn, Told}
+use Rattle.std.specs.Fmt.{decimal}
+use Rattle.dmx_calls.specs.Response.{Passed}
+use Rattle.text_forms.specs.Names.{node_text, who_text}
+use Rattle.report_text.specs.Acts.{act_text}
+use Rattle.report_text.specs.Replies.{response_text}
+use Rattle.report_text.specs.Entries.{caller_text, entry_text, is_of_client, history_text}
+use Rattle.report_text.specs.Turns.{tail_text, turn, Told}
+
+-- ------ a line of the feeder
+
+-- its place, and what stands behind it
+pub line-is : (place step : ℕ) (act : Act) → decimal place ++ tail_text step act ≡ entry_text (feeder_entry 0 place step act)
+unfolding caller_text who_text
+line-is place step act =
+    let behind_step = act_text act ++ (codes " = " ++ (response_text Passed ++ codes "\n")) in
+    sym (append_assoc (decimal place) (codes " feed " ++ (decimal step ++ codes " ")) behind_step
+    ∙ ap (λ l. decimal place ++ (codes " feed " ++ l)) (append_assoc (decimal step) (codes " ") behind_step))
 
 -- ------ the feeder's calls from a step on
 

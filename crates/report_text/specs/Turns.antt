@@ -1,10 +1,14 @@
 -- How far the lines of a node are told.
-use Rattle.std.specs.Prelude.{◌≡◌, ◌+◌, ℕ, suc, List, ◌∷◌, ◌++◌, drop, Option, Some, None}
+use Rattle.std.specs.Prelude.{◌≡◌, ◌+◌, ℕ, suc, List, ◌∷◌, ◌++◌, drop, Option, Some, None, codes}
 use Rattle.std.specs.List.{flat_map, slice_get}
+use Rattle.std.specs.Fmt.{decimal}
+use Rattle.dmx_calls.specs.Response.{Passed}
 use Rattle.dmx_calls.specs.declared.histories.Fed.{Fed}
 use Rattle.dmx_calls.specs.Log.{Act, EndAct, LogEntry}
 use Rattle.dmx_calls.specs.Histories.{pass_act, feeder_acts, before_entry}
+use Rattle.report_text.specs.Acts.{act_text}
 use Rattle.report_text.specs.Entries.{entry_text}
+use Rattle.report_text.specs.Replies.{response_text}
 
 abbrev pub turn_of : Option Fed → Act
 turn_of (Some fed) = pass_act fed
@@ -13,6 +17,10 @@ turn_of None = EndAct
 -- the feeder's call of this step: a batch that passes, or behind the last one the end of the stream
 abbrev pub turn : List Fed → (step : ℕ) → Act
 turn feeding step = turn_of (slice_get feeding step)
+
+-- what stands behind the place in the line of a call of the feeder: its caller, its step, the call, and that it passed
+abbrev pub tail_text : (step : ℕ) → Act → List ℕ
+tail_text step act = codes " feed " ++ (decimal step ++ (codes " " ++ (act_text act ++ (codes " = " ++ (response_text Passed ++ codes "\n")))))
 
 -- From `step` up to and without `next` the feeder's calls are told that stand before a client's entry at this place, where `told` entries of clients stand before it: with that entry and all that follows, the text is what it was to be.
 abbrev pub Told : List Fed → (told place step next : ℕ) → (before after : List ℕ) → Type 0

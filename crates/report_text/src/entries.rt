@@ -4,13 +4,14 @@ ghost use Rattle.std.specs.List.{flat_map, list_any};
 ghost use Rattle.dmx_calls.specs.Calls.{told_entry};
 ghost use Rattle.dmx_calls.specs.Histories.{feeder_acts, feeder_entry, feeder_entries, woven};
 ghost use Rattle.text_forms.specs.Names.{node_text};
-ghost use Rattle.report_text.specs.Acts.{act_text};
+ghost use Rattle.dmx_calls.specs.Log.{EndAct};
 ghost use Rattle.report_text.specs.Entries.{caller_text, entry_text, is_of_client, history_text};
-ghost use Rattle.report_text.specs.Turns.{turn, Told};
+ghost use Rattle.report_text.specs.Turns.{tail_text, turn, Told};
 
-use crate::acts::{add_act, add_pass};
-use crate::replies::{add_reply, add_word};
-use dmx_calls::{Entry, Fed, Input};
+use crate::acts::{add_act, add_field};
+use crate::feeder_line::{FeederLine, add_pass_tail};
+use crate::replies::add_reply;
+use dmx_calls::{Entry, Fed};
 use std::alloc::AllocError as NoMemory;
 use text_forms::{write_decimal, write_node, write_who};
 
@@ -38,24 +39,43 @@ pub fn add_entry(out: &mut Vec<u8>, entry: &Entry) -> Result<(), NoMemory>
     out.extend_from_slice(b"\n")
 }
 
-// A call of the feeder: a batch that passes, or behind the last one the end of the stream.
-#[tactic(auto, unfolding(crate::specs::Acts::act_text))]
-fn add_turn_act(out: &mut Vec<u8>, feeding: &[Fed], step: usize) -> Result<(), NoMemory>
-    ensures { OnOk result (out.new.items ≡ out.old.items ++ act_text (turn feeding.now step)) }
+// What stands behind the place in the line that tells the end of the stream.
+#[tactic(auto, unfolding(crate::specs::Acts::act_text, crate::specs::Replies::response_text))]
+fn add_end_tail(out: &mut Vec<u8>, step: usize) -> Result<(), NoMemory>
+    ensures { OnOk result (out.new.items ≡ out.old.items ++ tail_text step EndAct) }
+{
+    add_field(out, b" feed ", step as u64)?;
+    out.extend_from_slice(b" end = passed\n")
+}
+
+// What stands behind the place in the line of a call of the feeder: a batch that passes, or behind the last one the end of
+// the stream.
+fn add_turn_tail(
+    out: &mut Vec<u8>,
+    feeding: &[Fed],
+    lines: &[FeederLine],
+    step: usize,
+) -> Result<(), NoMemory>
+    ensures { OnOk result (out.new.items ≡ out.old.items ++ tail_text step (turn feeding.now step)) }
 {
     match feeding.get(step) {
-        Some(fed) => add_pass(out, Input::Frontend, fed.first, fed.count, fed.now),
-        None => out.extend_from_slice(b"end"),
+        Some(fed) => add_pass_tail(out, lines, step, *fed),
+        None => add_end_tail(out, step),
     }
 }
 
 // The line of a call of the feeder.
-fn add_turn(out: &mut Vec<u8>, feeding: &[Fed], place: u64, step: usize) -> Result<(), NoMemory>
+fn add_turn(
+    out: &mut Vec<u8>,
+    feeding: &[Fed],
+    lines: &[FeederLine],
+    place: u64,
+    step: usize,
+) -> Result<(), NoMemory>
     ensures { OnOk result (out.new.items ≡ out.old.items ++ entry_text (feeder_entry 0 place step (turn feeding.now step))) }
 {
-    add_caller(out, place, 0, step as u64)?;
-    add_turn_act(out, feeding, step)?;
-    add_word(out, b" = passed", "\n")
+    write_decimal(out, place)?;
+    add_turn_tail(out, feeding, lines, step)
 }
 
 // The feeder's calls from this step on that stand before a client's entry at this place, where so many entries of
@@ -63,6 +83,7 @@ fn add_turn(out: &mut Vec<u8>, feeding: &[Fed], place: u64, step: usize) -> Resu
 fn add_turns_before(
     out: &mut Vec<u8>,
     feeding: &[Fed],
+    lines: &[FeederLine],
     told: usize,
     place: u64,
     step: usize,
@@ -74,7 +95,7 @@ fn add_turns_before(
 {
     let mut next = step;
     'turns: while next <= feeding.len() && told as u64 + (next as u64) < place {
-        add_turn(out, feeding, told as u64 + next as u64, next)?;
+        add_turn(out, feeding, lines, told as u64 + next as u64, next)?;
         next += 1;
     }
     Ok(next)
@@ -84,6 +105,7 @@ fn add_turns_before(
 fn add_turns_behind(
     out: &mut Vec<u8>,
     feeding: &[Fed],
+    lines: &[FeederLine],
     told: usize,
     step: usize,
 ) -> Result<(), NoMemory>
@@ -93,23 +115,28 @@ fn add_turns_behind(
 {
     let mut next = step;
     'turns: while next <= feeding.len() {
-        add_turn(out, feeding, told as u64 + next as u64, next)?;
+        add_turn(out, feeding, lines, told as u64 + next as u64, next)?;
         next += 1;
     }
     Ok(())
 }
 
 // The lines of a node.
-fn add_entries(out: &mut Vec<u8>, feeding: &[Fed], calls: &[Entry]) -> Result<(), NoMemory>
+fn add_entries(
+    out: &mut Vec<u8>,
+    feeding: &[Fed],
+    lines: &[FeederLine],
+    calls: &[Entry],
+) -> Result<(), NoMemory>
     ensures { OnOk result ((node : ℕ) → out.new.items ≡ out.old.items ++ flat_map entry_text (woven node (feeder_acts feeding.now) (map told_entry calls.now))) }
 {
     let mut step = 0;
     'calls: for told in 0..calls.len() {
         let call = &calls[told];
-        step = add_turns_before(out, feeding, told, call.place, step)?;
+        step = add_turns_before(out, feeding, lines, told, call.place, step)?;
         add_entry(out, call)?;
     }
-    add_turns_behind(out, feeding, calls.len(), step)
+    add_turns_behind(out, feeding, lines, calls.len(), step)
 }
 
 // Whether a client made one of these calls.
@@ -128,11 +155,16 @@ fn add_node(out: &mut Vec<u8>, node: u32) -> Result<(), NoMemory>
 }
 
 // A line feed, and the lines of a node.
-fn add_lines(out: &mut Vec<u8>, feeding: &[Fed], calls: &[Entry]) -> Result<(), NoMemory>
+fn add_lines(
+    out: &mut Vec<u8>,
+    feeding: &[Fed],
+    lines: &[FeederLine],
+    calls: &[Entry],
+) -> Result<(), NoMemory>
     ensures { OnOk result ((node : ℕ) → out.new.items ≡ out.old.items ++ (codes "\n" ++ flat_map entry_text (woven node (feeder_acts feeding.now) (map told_entry calls.now)))) }
 {
     out.extend_from_slice(b"\n")?;
-    add_entries(out, feeding, calls)
+    add_entries(out, feeding, lines, calls)
 }
 
 // A node with its entries in order of place; nothing where no client called it.
@@ -140,6 +172,7 @@ pub fn add_history(
     out: &mut Vec<u8>,
     node: u32,
     feeding: &[Fed],
+    lines: &[FeederLine],
     calls: &[Entry],
 ) -> Result<(), NoMemory>
     ensures { OnOk result (out.new.items ≡ out.old.items ++ history_text node (woven node (feeder_acts feeding.now) (map told_entry calls.now))) }
@@ -148,5 +181,5 @@ pub fn add_history(
         return Ok(());
     }
     add_node(out, node)?;
-    add_lines(out, feeding, calls)
+    add_lines(out, feeding, lines, calls)
 }

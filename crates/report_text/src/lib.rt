@@ -13,15 +13,19 @@
 //! What is proved: `report` gives just the bytes of `report_of`, and `summary` just those of `summary_of`, or memory was
 //! refused. What is only tested: that these definitions give the reports that were worked out by hand.
 //!
-//! The cost is linear in the length of the text and the number of batches. The digits of a read are written with room that
-//! is asked for once, and no number goes through a general formatter. All memory is that of the text.
+//! The cost is linear in the length of the text and the number of batches. Room for the whole text is asked for at its
+//! beginning by a guess, so that mostly the text isn't copied while it grows, and no number goes through a general formatter.
+//! What the feeder's lines have in common on all nodes is written once and then copied. All memory is that of the text and of
+//! these lines, which are made only where a client made a call.
 #![tactic(auto)]
 
 mod acts;
 mod entries;
+mod feeder_line;
 #[cfg(test)]
 mod line_tests;
 mod replies;
+mod room;
 mod sums;
 #[cfg(test)]
 mod tests;

@@ -22,7 +22,7 @@ struct Sums {
 }
 
 // How many bytes a reply answers.
-fn data_bytes(reply: &Reply) -> usize
+pub fn data_bytes(reply: &Reply) -> usize
     ensures value { result ≡ bytes_of_response (response_of reply.now) }
     ensures bound { result < 2 ^ 63 }
 {

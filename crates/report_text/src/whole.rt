@@ -7,7 +7,9 @@ ghost use Rattle.report_text.specs.Report.{tally_text, row_text, kind_text, outc
 
 use crate::acts::add_field;
 use crate::entries::add_history;
+use crate::feeder_line::feeder_lines;
 use crate::replies::add_word;
+use crate::room::room_for_nodes;
 use dmx_calls::limits::DEMUX_NODES;
 use dmx_calls::{Head, Histories, Outcome, OutcomeKind, PidRow};
 use std::alloc::{AllocError as NoMemory, Global};
@@ -98,12 +100,13 @@ fn add_clients(out: &mut Vec<u8>, outcomes: &[Vec<Outcome>]) -> Result<(), NoMem
 }
 
 // The nodes that a client called, with their entries.
-fn add_histories(out: &mut Vec<u8>, histories: &Histories) -> Result<(), NoMemory>
+fn add_histories(alloc: Global, out: &mut Vec<u8>, histories: &Histories) -> Result<(), NoMemory>
     ensures { OnOk result (out.new.items ≡ out.old.items ++ histories_text 0 histories.now) }
 {
+    let lines = feeder_lines(alloc, histories)?;
     'nodes: for node in 0..DEMUX_NODES + 1 {
         let (feeding, calls) = histories.node(node);
-        add_history(out, node, feeding, calls)?;
+        add_history(out, node, feeding, &lines, calls)?;
     }
     Ok(())
 }
@@ -143,10 +146,10 @@ pub fn report(
 ) -> Result<Vec<u8>, NoMemory>
     ensures { IfOk result (λ text. text.items ≡ report_of (told_head head.now) (map (λ o. o.items) outcomes.now) histories.now) }
 {
-    let mut out = Vec::new(alloc);
+    let mut out = Vec::with_capacity(alloc, room_for_nodes(histories))?;
     add_head(&mut out, head)?;
     add_clients(&mut out, outcomes)?;
-    add_histories(&mut out, histories)?;
+    add_histories(alloc, &mut out, histories)?;
     add_end(&mut out, head.read_fault)?;
     Ok(out)
 }

@@ -1,8 +1,7 @@
 // Bytes in lower-case hexadecimal digits.
-ghost use Rattle.std.specs.Prelude.{◌≡◌, ◌+◌, ◌<◌, ◌≤◌, ◌++◌, length, IfSome, OnOk, OnErr, vec_len, vec_capacity};
+ghost use Rattle.std.specs.Prelude.{◌≡◌, ◌*◌, ◌<◌, ◌++◌, length, IfSome, OnOk, OnErr};
 ghost use Rattle.text_forms.specs.Hex.{hex_digit as digit_of_byte, hex_byte as byte_of_digits, digit_text, byte_text, hex_text};
 
-use crate::room::put;
 use std::alloc::AllocError as NoMemory;
 
 // What a lower-case hexadecimal digit stands for.
@@ -60,6 +59,18 @@ pub fn write_hex_byte(out: &mut Vec<u8>, byte: u8) -> Result<(), NoMemory>
     out.extend_from_slice(&digits_of(byte))
 }
 
+// Fills `room`, which has two places for each byte, with their digits.
+fn fill_digits(room: &mut [u8], bytes: &[u8])
+    requires { length room.old ≡ 2 * length bytes.now }
+    ensures { room.new ≡ hex_text bytes.now }
+{
+    'bytes: for (i, byte) in bytes.iter().enumerate() {
+        let [high, low] = digits_of(*byte);
+        room[2 * i] = high;
+        room[2 * i + 1] = low;
+    }
+}
+
 /// Appends bytes, each as two lower-case hexadecimal digits. Room is asked for once.
 ///
 /// # Errors
@@ -70,8 +81,8 @@ pub fn write_hex(out: &mut Vec<u8>, bytes: &[u8]) -> Result<(), NoMemory>
     ensures unchanged { OnErr result (out.new.items ≡ out.old.items) }
 {
     out.reserve(2 * bytes.len())?;
-    'bytes: for byte in bytes {
-        put(out, &digits_of(*byte));
-    }
+    let from = out.len();
+    out.resize(from + 2 * bytes.len(), 0)?;
+    fill_digits(&mut out[from..], bytes);
     Ok(())
 }

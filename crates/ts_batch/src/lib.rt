@@ -6,7 +6,7 @@
 //!
 //! What a contract sees: the record of `first` and the list of `packets`, each packet as the list of its bytes.
 //!
-//! What is proved: `Batch::of` gives the batch of these packets, or answers want of memory. `first` and `count` are the
+//! What is proved: `Batch::of` and `Batch::of_slice` give the batch of these packets, or answer want of memory. `first` and `count` are the
 //! first packet's number and the number of packets. `packet` gives the packet in a place and raises the counter of
 //! steps by one. `places` gives the places of the packets that a PID names, ascending: those that have it, and all for PID
 //! 0x2000. It takes no memory and no step. Every batch has 1 to 64 packets, each of 188 bytes with the sync byte in front.
@@ -21,7 +21,7 @@ mod place_set;
 #[cfg(test)]
 mod tests;
 
-ghost use Rattle.std.specs.Prelude.{◌≡◌, ◌<◌, ◌≤◌, ◌+◌, ◌^◌, length, IfOk, slice_get};
+ghost use Rattle.std.specs.Prelude.{◌≡◌, ◌<◌, ◌≤◌, ◌+◌, ◌^◌, length, All, IfOk, slice_get};
 ghost use Rattle.ts_packet.specs.Fields.{IsPacket};
 ghost use Rattle.ts_batch.specs.Batch.{IsBatch};
 ghost use Rattle.ts_batch.specs.Places.{places_of};
@@ -63,13 +63,24 @@ impl Batch {
         requires numbered { first + 64 < 2 ^ 64 }
         ensures { IfOk result (λ batch. batch.value ≡ record { first = first; packets = packets.now }) }
     {
-        let from = packets.as_slice();
-        let mut copied = Vec::with_capacity(alloc, from.len())?;
-        copied.extend_from_slice(from)?;
+        Batch::of_slice(alloc, first, packets.as_slice())
+    }
+
+    /// The batch of these packets, 1 to 64, the first of which has the number `first` in the stream. The numbers fit in 64
+    /// bits. Each packet is copied once.
+    pub fn of_slice(alloc: Global, first: u64, packets: &[Packet]) -> Result<Arc<Batch>, NoMemory>
+        requires some { 0 < length packets.now }
+        requires few { length packets.now ≤ 64 }
+        requires packets { All IsPacket packets.now }
+        requires numbered { first + 64 < 2 ^ 64 }
+        ensures { IfOk result (λ batch. batch.value ≡ record { first = first; packets = packets.now }) }
+    {
+        let mut copied = Vec::with_capacity(alloc, packets.len())?;
+        copied.extend_from_slice(packets)?;
         let batch = Batch {
             first,
             packets: copied,
-            index: Index::of(alloc, from)?,
+            index: Index::of(alloc, packets)?,
         };
         Ok(Arc::new(alloc, batch)?)
     }

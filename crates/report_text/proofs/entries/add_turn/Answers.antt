@@ -1,16 +1,14 @@
+use Rattle.std.proofs.Common.{◌∙◌, ◌++◌, ap}
 use Rattle.std.proofs.lemmas.Result.{on_ok_weaker}
-use Rattle.report_text.specs.Acts.{act_text}
-use Rattle.report_text.specs.Entries.{caller_text}
-use Rattle.report_text.specs.Replies.{response_text}
-use Rattle.report_text.specs.Turns.{turn}
+use Rattle.std.specs.Fmt.{decimal}
+use Rattle.report_text.specs.Turns.{tail_text, turn}
 use Rattle.report_text.proofs.Texts.{behind}
+use Rattle.report_text.proofs.Turning.{line-is}
 use Rattle.report_text.proofs.entries.add_turn.Goals as goal
 
 pub returns : goal.returns
-unfolding response_text
 returns c =
-    on_ok_weaker c.add_word.result
-    (λ last.
-    behind c.args.out.now.items (caller_text c.args.place 0 c.args.step) _ c.in_ok-add_caller.ensures (
-    behind c.add_caller.new.out.items (act_text (turn c.args.feeding.now c.args.step)) _ c.in_ok-add_turn_act.ensures last))
-    c.add_word.ensures
+    on_ok_weaker c.add_turn_tail.result
+    (λ last. behind c.args.out.now.items (decimal c.args.place) (tail_text c.args.step (turn c.args.feeding.now c.args.step)) c.in_ok-write_decimal.ensures.appended last
+    ∙ ap (λ line. c.args.out.now.items ++ line) (line-is c.args.place c.args.step (turn c.args.feeding.now c.args.step)))
+    c.add_turn_tail.ensures
