@@ -66,9 +66,6 @@ fn act<L: Ledger>(
     ensures cost { steps.new ≤ steps.old + named_packets (knows_of kept.old).facts (invocation_of call) }
     ensures idle { state_of (knows_of kept.old).facts ≢ State.Go → steps.new ≡ steps.old }
 {
-    if !matches!(call, Call::Open | Call::Pass { .. } | Call::End) {
-        return kept.act_for_owner(alloc, who, call);
-    }
     match call {
         Call::Open => plain(kept.open(alloc, who)),
         Call::Pass { input, batch, now } => {
@@ -79,10 +76,11 @@ fn act<L: Ledger>(
                 batch: Some(batch),
             }
         }
-        _ => {
+        Call::End => {
             kept.end();
             plain(Reply::Passed)
         }
+        call => kept.act_for_owner(alloc, who, call),
     }
 }
 
