@@ -4,7 +4,7 @@ use Rattle.std.proofs.lemmas.List.{map-append}
 use Rattle.std.specs.Option.{option_to_list}
 use Rattle.atomic_table.specs.Seated.{TableId}
 use Rattle.node_lock.specs.declared.view.View.{View}
-use Rattle.node_lock.specs.Lists.{Has}
+use Rattle.node_lock.specs.Inside.Lists.{Has}
 use Rattle.dmx_calls.specs.History.{Entry}
 use Rattle.node_lock.specs.Passes.{IsSamePass}
 use Rattle.adapter.specs.Rows.{Fits, AreSamePasses, SomeHas, AreAll, AreAllRows, column}

@@ -9,7 +9,7 @@ use Rattle.std.specs.Prelude.{◌==◌, Option, Some, None, IfSome, is_none}
 use Rattle.std.specs.Option.{option_map}
 use Rattle.std.specs.List.{position}
 use Rattle.client_script.specs.Script.{without_last, whole_lines, is_stream, script_len}
-use Rattle.client_script.specs.Part.{FallsInto, HasNoFeed, IsSearched, Passes}
+use Rattle.client_script.specs.Inside.Part.{FallsInto, HasNoFeed, IsSearched, Passes}
 use Rattle.client_script.proofs.Parting.{lacks, parts}
 use Rattle.client_script.proofs.Splitting.{script_len-more, script_len-within}
 use Rattle.client_script.proofs.Cuts.{first-line, position-None}

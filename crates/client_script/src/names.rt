@@ -5,7 +5,7 @@ ghost use Rattle.client_script.specs.Grammar.{numbered_target as target_of_lette
 use crate::line::Target;
 use text_forms::{demux_named, is_word, slot_named};
 
-// What a client asks of a node, by its name alone.
+/// What a client asks of a node, by its name alone.
 #[derive(Clone, Copy, Debug, PartialEq, Eq, Drop)]
 pub enum CommandName {
     Open,
@@ -23,7 +23,7 @@ pub enum CommandName {
     Poll,
 }
 
-// The command of this name.
+/// The command of this name.
 #[tactic(auto, unfolding(crate::specs::Grammar::name_of))]
 pub fn command_named(word: &[u8]) -> Option<CommandName>
     ensures { result ≡ name_of word.now }
@@ -83,7 +83,7 @@ fn numbered_target(word: &[u8]) -> Option<Target>
     Some(Target::Slot(slot))
 }
 
-// The target that a word names.
+/// The target that a word names.
 #[tactic(auto, unfolding(crate::specs::Grammar::target_of))]
 pub fn target_named(word: &[u8]) -> Option<Target>
     ensures value { result ≡ target_of word.now }

@@ -1,7 +1,7 @@
 // The first bytes of an input, searched for the end of its script part.
 ghost use Rattle.std.specs.Prelude.{◌≡◌, ◌≤◌, ◌++◌, [], length, take, drop, true, false, Some, OnOk, OnErr, IfSome, MatchOption};
 ghost use Rattle.client_script.specs.Script.{script_len, whole_lines};
-ghost use Rattle.client_script.specs.Part.{FallsInto, HasNoFeed, Passes};
+ghost use Rattle.client_script.specs.Inside.Part.{FallsInto, HasNoFeed, Passes};
 
 use crate::pieces::place_of;
 use std::alloc::{AllocError as NoMemory, Global};
@@ -21,7 +21,7 @@ pub struct ScriptPart {
 
 impl Model for ScriptPart {
     ghost use Rattle.std.specs.Prelude.{List, ℕ};
-    ghost use Rattle.client_script.specs.Part.{IsSearched};
+    ghost use Rattle.client_script.specs.Inside.Part.{IsSearched};
 
     ghost Value = { List ℕ };
 

@@ -3,7 +3,7 @@ ghost use Rattle.std.specs.Prelude.{◌≡◌, ◌+◌, ◌<◌, ◌==◌, [], �
 ghost use Rattle.std.specs.List.{slice_split, position};
 ghost use Rattle.std.specs.Option.{option_map_or};
 
-// Where the first `mark` stands.
+/// Where the first `mark` stands.
 pub fn place_of(mark: u8, bytes: &[u8]) -> Option<usize>
     ensures place { result ≡ position (λ byte. byte == mark) bytes.now }
     ensures within { IfSome result (λ place. place < length bytes.now) }
@@ -11,7 +11,7 @@ pub fn place_of(mark: u8, bytes: &[u8]) -> Option<usize>
     bytes.iter().position(|byte| *byte == mark)
 }
 
-// The bytes in front of the first `mark`, and those behind it; None where there is no `mark`.
+/// The bytes in front of the first `mark`, and those behind it; None where there is no `mark`.
 pub fn cut_at(mark: u8, bytes: &[u8]) -> (&[u8], Option<&[u8]>)
     ensures pieces { slice_split (λ byte. byte == mark) bytes.now
         ≡ result.0.now ∷ option_map_or (λ behind. slice_split (λ byte. byte == mark) behind.now) result.1 [] }

@@ -12,7 +12,7 @@ use text_forms::{place_named, set_place};
 // How many places a filter has.
 const PLACES: u32 = 16;
 
-// The filter that the words at the front spell.
+/// The filter that the words at the front spell.
 #[tactic(auto, unfolding(crate::specs::Places::filter_in))]
 pub fn read_filter(words: &mut Words<'_>) -> Result<SectionFilter, FaultKind>
     ensures value { Reads result words.new (filter_in words.old) }

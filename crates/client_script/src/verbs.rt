@@ -155,7 +155,7 @@ fn read_command(line: u32, client: u32, words: &mut Words<'_>) -> Result<Line, F
     })
 }
 
-// What the words at the front ask for.
+/// What the words at the front ask for.
 #[tactic(auto, unfolding(crate::specs::Grammar::line_in))]
 pub fn read_words(line: u32, words: &mut Words<'_>) -> Result<Line, FaultKind>
     requires { (1 ≤ line) × (line ≤ 1048576) }

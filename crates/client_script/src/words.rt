@@ -6,7 +6,7 @@ use crate::fault::FaultKind;
 use crate::pieces::cut_at;
 use std::marker::Model;
 
-// The words of a line that are still to be read.
+/// The words of a line that are still to be read.
 #[derive(Drop)]
 pub struct Words<'a> {
     // The bytes from the next word on; None where no word is left.
@@ -24,14 +24,14 @@ impl<'a> Model for Words<'a> {
 }
 
 impl<'a> Words<'a> {
-    // All words of a line.
+    /// All words of a line.
     pub fn of(line: &'a [u8]) -> Words<'a>
         ensures { result ≡ words_of line.now }
     {
         Words { rest: Some(line) }
     }
 
-    // The next word; None where no word is left.
+    /// The next word; None where no word is left.
     pub fn next(&mut self) -> Option<&'a [u8]>
         ensures { MatchOption result ((self.old ≡ []) × (self.new ≡ [])) (λ word. self.old ≡ word.now ∷ self.new) }
     {
@@ -40,7 +40,7 @@ impl<'a> Words<'a> {
         Some(word)
     }
 
-    // The word in the next place.
+    /// The word in the next place.
     #[tactic(auto, unfolding(crate::specs::Words::word_in))]
     pub fn word(&mut self) -> Result<&'a [u8], FaultKind>
         ensures { MatchResult result (λ word. word_in self.old ≡ Ok (word.now, self.new)) (λ kind. word_in self.old ≡ Err kind) }

@@ -8,7 +8,7 @@ use Rattle.clap.specs.declared.error.kind.ErrorKind.{ErrorKind}
 use Rattle.clap.specs.declared.error.kind.ErrorKind.TheVariants.{OutOfMemory}
 use Rattle.clap.specs.declared.parser.matches.ArgMatches.{ArgMatches}
 use Rattle.clap.proofs.WalkLemmas.{first_value-rows}
-use Rattle.command_words.specs.Reader.{answer, batch_by, options, unless}
+use Rattle.command_words.specs.Inside.Reader.{answer, batch_by, options, unless}
 
 simple : is_simple options ≡ true
 simple = refl

@@ -8,7 +8,7 @@ use Rattle.std.proofs.lemmas.List.{length-map}
 use Rattle.clap.proofs.WalkLemmas.{list_any-map}
 use Rattle.clap.specs.Lexer.{long_of, short_of}
 use Rattle.command_words.specs.Meant.{batch_apart, batch_joined, batch_of}
-use Rattle.command_words.specs.Reader.{answer}
+use Rattle.command_words.specs.Inside.Reader.{answer}
 use Rattle.command_words.proofs.Spelled.{bare_is, hyphen_number, joined_is, long_letters, other_name, short_flags, short_hyphen}
 use Rattle.command_words.proofs.Walks.{bare_alone, bare_joined, bare_twice, empty_first, empty_late, empty_second, flag_first, flag_late, flag_second, joined_alone, joined_bare, joined_twice, long_first, long_late, long_second, no_words, plain_first, plain_late, plain_second}
 use Rattle.text_forms.specs.Numbers.{number_between}

@@ -5,7 +5,7 @@ use Rattle.std.specs.Str.{bytes_eq, chars}
 use Rattle.clap.specs.Faults.{defaults_fault, flags_fault, walk_fault}
 use Rattle.clap.specs.Lexer.{long_of, short_of}
 use Rattle.clap.specs.Walk.{bundle_met, walked}
-use Rattle.command_words.specs.Reader.{answer}
+use Rattle.command_words.specs.Inside.Reader.{answer}
 use Rattle.text_forms.specs.Numbers.{number_between}
 
 pub no_words : answer [] ≡ Some 64

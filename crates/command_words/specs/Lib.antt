@@ -1,2 +1,2 @@
 pub mod Meant
-pub mod Reader
+pub mod Inside

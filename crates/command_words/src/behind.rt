@@ -7,7 +7,7 @@ use crate::options::batch_in;
 use std::alloc::{AllocError as NoMemory, Global};
 use text_forms::number_between;
 
-// Behind `steps`.
+/// Behind `steps`.
 #[tactic(auto, unfolding(crate::specs::Meant::steps_of))]
 pub fn steps(alloc: Global, rest: &[String]) -> Result<Option<Command>, NoMemory>
     ensures value { IfOk result (λ command. command ≡ steps_of (map string_bytes rest.now)) }
@@ -19,7 +19,7 @@ pub fn steps(alloc: Global, rest: &[String]) -> Result<Option<Command>, NoMemory
     }
 }
 
-// Behind `run`.
+/// Behind `run`.
 #[tactic(auto, unfolding(crate::specs::Meant::run_of))]
 pub fn run(alloc: Global, rest: &[String]) -> Result<Option<Command>, NoMemory>
     ensures value { IfOk result (λ command. command ≡ run_of (map string_bytes rest.now)) }
@@ -39,7 +39,7 @@ fn session_number(word: &String) -> Option<u64>
     number_between(0, u64::MAX, word.as_bytes())
 }
 
-// Behind `make`.
+/// Behind `make`.
 #[tactic(auto, unfolding(crate::specs::Meant::make_of))]
 pub fn make(rest: &[String]) -> Option<Command>
     ensures value { result ≡ make_of (map string_bytes rest.now) }
@@ -73,7 +73,7 @@ fn self_test_with(
     }
 }
 
-// Behind `selftest`: the number stands before the option or behind it.
+/// Behind `selftest`: the number stands before the option or behind it.
 pub fn self_test(alloc: Global, rest: &[String]) -> Result<Option<Command>, NoMemory>
     ensures value { IfOk result (λ command. command ≡ self_test_of (map string_bytes rest.now)) }
     ensures range { IfOk result (λ command. IfSome command IsInRange) }

@@ -3,7 +3,7 @@ ghost use Rattle.std.specs.Prelude.{◌≡◌, ◌≤◌, IfOk, IfSome, map, str
 ghost use Rattle.std.specs.Str.{bytes_eq};
 ghost use Rattle.std.specs.List.{list_any};
 ghost use Rattle.command_words.specs.Meant.{batch_of};
-ghost use Rattle.command_words.specs.Reader.{options, batch_by, answer};
+ghost use Rattle.command_words.specs.Inside.Reader.{options, batch_by, answer};
 ghost use Rattle.clap.specs.Words.{app_of};
 
 use clap::error::ErrorKind;
@@ -62,8 +62,8 @@ fn ask(alloc: Global, rest: &[String]) -> Result<Option<u32>, NoMemory>
     }
 }
 
-// How many packets a batch has, 1 to 64, by the words behind the first; None where they are refused. Err where memory is
-// refused.
+/// How many packets a batch has, 1 to 64, by the words behind the first; None where they are refused. Err where memory is
+/// refused.
 pub fn batch_in(alloc: Global, rest: &[String]) -> Result<Option<u32>, NoMemory>
     ensures value { IfOk result (λ batch. batch ≡ batch_of (map string_bytes rest.now)) }
     ensures range { IfOk result (λ batch. IfSome batch (λ b. (1 ≤ b) × (b ≤ 64))) }

@@ -7,7 +7,7 @@ use Rattle.item_select.specs.declared.selector.Wanted.{Wanted}
 use Rattle.item_select.specs.declared.selector.Wanted.TheVariants.{Nothing as NothingWanted, Sections as SectionsWanted, Packets as PacketsWanted}
 use Rattle.item_select.specs.Items.{Nothing, Sections, Packets, is_selected, is_named, given_by}
 use Rattle.item_select.specs.Selecting.{Selects, section_pid, after_offer, bytes_held}
-use Rattle.item_select.specs.SelectorView.{choice_of, selecting_of}
+use Rattle.item_select.specs.Inside.SelectorView.{choice_of, selecting_of}
 use Rattle.item_select.proofs.Giving.{Answers, answers-some, answers-none}
 use Rattle.item_select.proofs.Selected.{Selects-begun, sum-selected, sum-packet}
 

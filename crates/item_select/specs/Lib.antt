@@ -1,4 +1,4 @@
 pub mod Items
 pub mod Laws
 pub mod Selecting
-pub mod SelectorView
+pub mod Inside

@@ -17,7 +17,7 @@ fn is_selected(wanted: &Compiled, check: bool, section: &[u8]) -> bool
     wanted.selects(section) && (!check || section[1] >> 7 & 1 == 0 || crc(section) == 0)
 }
 
-// Takes all sections out of an assembler.
+/// Takes all sections out of an assembler.
 pub fn drain(assembler: &mut Assembler)
     ensures { assembler.new ≡ all_given assembler.old }
 {
@@ -37,7 +37,7 @@ fn replace(buffer: &mut Vec<u8>, bytes: &[u8])
     }
 }
 
-// Takes sections out of an assembler up to the first that is selected, and copies that one. Answers false where there is none.
+/// Takes sections out of an assembler up to the first that is selected, and copies that one. Answers false where there is none.
 pub fn find(assembler: &mut Assembler, wanted: &Compiled, check: bool, found: &mut Vec<u8>) -> bool
     requires { 4096 ≤ vec_capacity found.old }
     ensures kept { all_given assembler.new ≡ all_given assembler.old }

@@ -4,7 +4,7 @@ ghost use Rattle.std.specs.Option.{option_map};
 ghost use Rattle.std.specs.Borrow.{sem};
 ghost use Rattle.item_select.specs.Items.{Choice, Nothing, Sections, Packets, Offered, items_of};
 ghost use Rattle.item_select.specs.Selecting.{Selecting, Selects, Gave, begun, begun_again, with_pids, after_offer, offered_now, bytes_held, is_of_packets, section_pid as sections_of};
-ghost use Rattle.item_select.specs.SelectorView.{choice_of};
+ghost use Rattle.item_select.specs.Inside.SelectorView.{choice_of};
 
 use crate::section::{drain, find};
 use filter_match::{Compiled, SectionFilter};
@@ -49,7 +49,7 @@ pub struct Selector {
 
 impl Model for Selector {
     ghost use Rattle.item_select.specs.Selecting.{Selecting};
-    ghost use Rattle.item_select.specs.SelectorView.{selecting_of};
+    ghost use Rattle.item_select.specs.Inside.SelectorView.{selecting_of};
 
     ghost Value = { Selecting };
 

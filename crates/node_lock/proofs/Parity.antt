@@ -4,7 +4,7 @@ use mathlib.Core.Logic.{dite}
 use native.Mathlib.Decide.{ℕ_discrete}
 use Rattle.atomic_table.specs.Seated.{TableId}
 use Rattle.node_lock.specs.declared.view.View.{View}
-use Rattle.node_lock.specs.Lists.{Has}
+use Rattle.node_lock.specs.Inside.Lists.{Has}
 use Rattle.node_lock.specs.Passes.{IsSamePass, IsFresh, AreFresh}
 use Rattle.node_lock.proofs.Views.{has_left, has_right}
 use Rattle.node_lock.proofs.Fresh.{get_last, get_more}

@@ -10,8 +10,8 @@ use Rattle.atomic_table.specs.Table.{State}
 use Rattle.node_lock.specs.declared.view.Stage.TheVariants.{Turn}
 use Rattle.node_lock.specs.declared.view.Miss.{Miss}
 use Rattle.node_lock.specs.declared.view.View.{View}
-use Rattle.node_lock.specs.Lists.{Has, Once}
-use Rattle.node_lock.specs.Seats.{IsLive, HasTicket, out_of, calls_of, lefts}
+use Rattle.node_lock.specs.Inside.Lists.{Has, Once}
+use Rattle.node_lock.specs.Inside.Seats.{IsLive, HasTicket, out_of, calls_of, lefts}
 use Rattle.node_lock.specs.Passes.{Stands, KeptBegins}
 
 -- where the machine is: at home in the slot, or out with a seat

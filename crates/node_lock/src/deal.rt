@@ -1,6 +1,6 @@
 //! How the passes of a new lock are dealt: the first seat gives its numbers away, one by one.
 ghost use Rattle.std.specs.Prelude.{◌≡◌, ℕ, ◌+◌, ◌<◌, ◌≤◌, ◌^◌, [], vec_len, vec_capacity};
-ghost use Rattle.node_lock.specs.Seats.{dealt};
+ghost use Rattle.node_lock.specs.Inside.Seats.{dealt};
 
 use crate::kinds::Deal;
 use crate::lock::NodeLock;

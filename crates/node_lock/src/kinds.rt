@@ -13,7 +13,7 @@ pub struct TicketRule<M> {
 
 impl<M: Machine> TableRule<Option<M>, View<M::Entry>, u64> for TicketRule<M> {
     ghost use Rattle.node_lock.specs.Rule.{LockRule};
-    ghost use Rattle.node_lock.specs.Seats.{starting};
+    ghost use Rattle.node_lock.specs.Inside.Seats.{starting};
 
     ghost holds = { λ callers. LockRule M.stands_for M.who_of callers };
 
@@ -24,7 +24,7 @@ impl<M: Machine> TableRule<Option<M>, View<M::Entry>, u64> for TicketRule<M> {
 pub struct Take;
 
 impl<S, N> Play<S, View<N>> for Take {
-    ghost use Rattle.node_lock.specs.Kinds.{TellsTicket};
+    ghost use Rattle.node_lock.specs.Inside.Kinds.{TellsTicket};
 
     ghost then = { λ st m r n. TellsTicket m r n };
 }
@@ -35,7 +35,7 @@ pub struct Look<M> {
 }
 
 impl<M: Machine> Play<Option<M>, View<M::Entry>> for Look<M> {
-    ghost use Rattle.node_lock.specs.Kinds.{TellsLook};
+    ghost use Rattle.node_lock.specs.Inside.Kinds.{TellsLook};
 
     ghost then = { λ st m r n. TellsLook M.stands_for M.who_of m r n };
 }
@@ -59,7 +59,7 @@ pub struct Done<M, J> {
 }
 
 impl<M: Machine, J: Says<M::Entry>> Play<Option<M>, View<M::Entry>> for Done<M, J> {
-    ghost use Rattle.node_lock.specs.Kinds.{TellsDone};
+    ghost use Rattle.node_lock.specs.Inside.Kinds.{TellsDone};
 
     ghost then = { λ st m r n. TellsDone M.who_of J.said m n };
 }
@@ -70,7 +70,7 @@ pub struct Try<M> {
 }
 
 impl<M: Machine> Play<Option<M>, View<M::Entry>> for Try<M> {
-    ghost use Rattle.node_lock.specs.Kinds.{TellsTry};
+    ghost use Rattle.node_lock.specs.Inside.Kinds.{TellsTry};
 
     ghost then = { λ st m r n. TellsTry M.stands_for M.who_of st m r n };
 }
@@ -81,7 +81,7 @@ pub struct Recall<M> {
 }
 
 impl<M: Machine> Play<Option<M>, View<M::Entry>> for Recall<M> {
-    ghost use Rattle.node_lock.specs.Kinds.{TellsCalls};
+    ghost use Rattle.node_lock.specs.Inside.Kinds.{TellsCalls};
 
     ghost then = { λ st m r n. TellsCalls M.who_of m n };
 }
@@ -90,7 +90,7 @@ impl<M: Machine> Play<Option<M>, View<M::Entry>> for Recall<M> {
 pub struct Deal;
 
 impl<N> Split<View<N>> for Deal {
-    ghost use Rattle.node_lock.specs.Kinds.{split_left, split_right};
+    ghost use Rattle.node_lock.specs.Inside.Kinds.{split_left, split_right};
 
     ghost left = { split_left };
 
@@ -101,8 +101,8 @@ impl<N> Split<View<N>> for Deal {
 pub struct Both;
 
 impl<N> Join<View<N>> for Both {
-    ghost use Rattle.node_lock.specs.Kinds.{joined};
-    ghost use Rattle.node_lock.specs.Seats.{spent};
+    ghost use Rattle.node_lock.specs.Inside.Kinds.{joined};
+    ghost use Rattle.node_lock.specs.Inside.Seats.{spent};
 
     ghost both = { joined };
 

@@ -3,7 +3,7 @@ ghost use Rattle.std.specs.Prelude.{◌≡◌, ℕ, ◌+◌, ◌<◌, ◌≤◌,
 ghost use mathlib.Core.Option.{none};
 ghost use Rattle.atomic_table.specs.Table.{step};
 ghost use Rattle.node_lock.specs.declared.view.Stage.TheVariants.{Free, Drawn, Turn};
-ghost use Rattle.node_lock.specs.Kinds.{drew, made, TellsDone, GetsTurn, Waits, GotTurn, Sees, TellsTry, TellsCalls};
+ghost use Rattle.node_lock.specs.Inside.Kinds.{drew, made, TellsDone, GetsTurn, Waits, GotTurn, Sees, TellsTry, TellsCalls};
 ghost use Rattle.node_lock.specs.Passes.{KnowsItsCalls};
 
 use crate::kinds::{Done, Look, Recall, Says, Take, Try};

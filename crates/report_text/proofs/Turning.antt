@@ -14,7 +14,7 @@ use Rattle.text_forms.specs.Names.{node_text, who_text}
 use Rattle.report_text.specs.Acts.{act_text}
 use Rattle.report_text.specs.Replies.{response_text}
 use Rattle.report_text.specs.Entries.{caller_text, entry_text, is_of_client, history_text}
-use Rattle.report_text.specs.Turns.{tail_text, turn, Told}
+use Rattle.report_text.specs.Inside.Turns.{tail_text, turn, Told}
 
 -- ------ a line of the feeder
 

@@ -10,7 +10,7 @@ use pid_set::Pids;
 use std::alloc::AllocError as NoMemory;
 use text_forms::{write_decimal, write_filter, write_input, write_output};
 
-// A name and a number.
+/// A name and a number.
 pub fn add_field(out: &mut Vec<u8>, name: &[u8], n: u64) -> Result<(), NoMemory>
     ensures { OnOk result (out.new.items ≡ out.old.items ++ (name.now ++ decimal n)) }
 {
@@ -51,7 +51,7 @@ fn add_set(out: &mut Vec<u8>, pids: &Pids) -> Result<(), NoMemory>
     Ok(())
 }
 
-// A name and the PIDs of a set.
+/// A name and the PIDs of a set.
 pub fn add_pids(out: &mut Vec<u8>, name: &[u8], pids: &Pids) -> Result<(), NoMemory>
     ensures { OnOk result (out.new.items ≡ out.old.items ++ (name.now ++ pids_text pids.now)) }
 {
@@ -82,7 +82,7 @@ fn add_pes(out: &mut Vec<u8>, params: &PesParams, now: u64) -> Result<(), NoMemo
     add_field(out, b" at=", now)
 }
 
-// So many packets of the stream from this one on that pass at this moment.
+/// So many packets of the stream from this one on that pass at this moment.
 pub fn add_pass(
     out: &mut Vec<u8>,
     input: Input,
@@ -114,7 +114,7 @@ fn add_attach(out: &mut Vec<u8>, node: u32, pids: &Pids) -> Result<(), NoMemory>
     add_pids(out, b" pids=", pids)
 }
 
-// A call.
+/// A call.
 #[tactic(auto, unfolding(crate::specs::Acts::act_text))]
 pub fn add_act(out: &mut Vec<u8>, act: &Act) -> Result<(), NoMemory>
     ensures { OnOk result (out.new.items ≡ out.old.items ++ act_text (told_act act.now)) }

@@ -6,7 +6,7 @@ ghost use Rattle.dmx_calls.specs.Histories.{feeder_acts, feeder_entry, feeder_en
 ghost use Rattle.text_forms.specs.Names.{node_text};
 ghost use Rattle.dmx_calls.specs.Log.{EndAct};
 ghost use Rattle.report_text.specs.Entries.{caller_text, entry_text, is_of_client, history_text};
-ghost use Rattle.report_text.specs.Turns.{tail_text, turn, Told};
+ghost use Rattle.report_text.specs.Inside.Turns.{tail_text, turn, Told};
 
 use crate::acts::{add_act, add_field};
 use crate::feeder_line::{FeederLine, add_pass_tail};
@@ -28,7 +28,7 @@ fn add_caller(out: &mut Vec<u8>, place: u64, who: u32, step: u64) -> Result<(), 
     out.extend_from_slice(b" ")
 }
 
-// `PLACE WHO STEP ACT = REPLY` and a line feed.
+/// `PLACE WHO STEP ACT = REPLY` and a line feed.
 pub fn add_entry(out: &mut Vec<u8>, entry: &Entry) -> Result<(), NoMemory>
     ensures { OnOk result (out.new.items ≡ out.old.items ++ entry_text (told_entry entry.now)) }
 {
@@ -167,7 +167,7 @@ fn add_lines(
     add_entries(out, feeding, lines, calls)
 }
 
-// A node with its entries in order of place; nothing where no client called it.
+/// A node with its entries in order of place; nothing where no client called it.
 pub fn add_history(
     out: &mut Vec<u8>,
     node: u32,

@@ -1,7 +1,7 @@
 // Lines of the feeder without their places. They are the same on each node, so each is made once.
 ghost use Rattle.std.specs.Prelude.{◌≡◌, ◌++◌, IfSome, OnOk};
 ghost use Rattle.dmx_calls.specs.Histories.{pass_act};
-ghost use Rattle.report_text.specs.Turns.{tail_text};
+ghost use Rattle.report_text.specs.Inside.Turns.{tail_text};
 
 use crate::acts::{add_field, add_pass};
 use crate::replies::add_word;
@@ -10,7 +10,7 @@ use dmx_calls::{Fed, Histories, Input};
 use std::alloc::{AllocError as NoMemory, Global};
 use std::marker::Model;
 
-// The line of a batch that passes, without its place: its step, the batch, and the text. A contract sees the text.
+/// The line of a batch that passes, without its place: its step, the batch, and the text. A contract sees the text.
 #[derive(Drop)]
 pub struct FeederLine {
     step: usize,
@@ -21,7 +21,7 @@ pub struct FeederLine {
 impl Model for FeederLine {
     ghost use Rattle.std.specs.Prelude.{◌≡◌, ℕ, List};
     ghost use Rattle.dmx_calls.specs.Histories.{pass_act};
-    ghost use Rattle.report_text.specs.Turns.{tail_text};
+    ghost use Rattle.report_text.specs.Inside.Turns.{tail_text};
 
     ghost Value = { List ℕ };
 
@@ -66,7 +66,7 @@ impl FeederLine {
     }
 }
 
-// What stands behind the place in the line of a batch that passes: copied where one of these lines has it.
+/// What stands behind the place in the line of a batch that passes: copied where one of these lines has it.
 pub fn add_pass_tail(
     out: &mut Vec<u8>,
     lines: &[FeederLine],
@@ -83,7 +83,7 @@ pub fn add_pass_tail(
     write_tail(out, step, fed)
 }
 
-// The lines of all batches; none where no client made a call.
+/// The lines of all batches; none where no client made a call.
 pub fn feeder_lines(alloc: Global, histories: &Histories) -> Result<Vec<FeederLine>, NoMemory> {
     let mut lines = Vec::new(alloc);
     if room_for_nodes(histories) == 0 {

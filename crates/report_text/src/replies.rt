@@ -40,7 +40,7 @@ fn flag_name(flag: bool) -> &'static str
     if flag { "1" } else { "0" }
 }
 
-// A name and a word.
+/// A name and a word.
 pub fn add_word(out: &mut Vec<u8>, name: &[u8], word: &str) -> Result<(), NoMemory>
     ensures { OnOk result (out.new.items ≡ out.old.items ++ (name.now ++ word.now)) }
 {
@@ -130,7 +130,7 @@ fn add_ready(
     add_word(out, b" ended=", flag_name(ended))
 }
 
-// A reply.
+/// A reply.
 #[tactic(auto, unfolding(crate::specs::Replies::response_text))]
 pub fn add_reply(out: &mut Vec<u8>, reply: &Reply) -> Result<(), NoMemory>
     ensures { OnOk result (out.new.items ≡ out.old.items ++ response_text (response_of reply.now)) }

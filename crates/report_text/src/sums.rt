@@ -4,7 +4,7 @@ ghost use Rattle.std.specs.Fmt.{decimal};
 ghost use Rattle.dmx_calls.specs.declared.limits.TheConstants.{DEMUX_NODES};
 ghost use Rattle.dmx_calls.specs.Calls.{response_of, told_entry};
 ghost use Rattle.dmx_calls.specs.Head.{told_head};
-ghost use Rattle.report_text.specs.Sums.{AreSums, AreAtMost};
+ghost use Rattle.report_text.specs.Inside.Sums.{AreSums, AreAtMost};
 ghost use Rattle.report_text.specs.Summary.{data_bytes as bytes_of_response, is_overflow as tells_overflow, bytes_read as bytes_of_entries, overflows as overflows_of_entries, summary_of};
 
 use crate::acts::add_field;
@@ -21,7 +21,7 @@ struct Sums {
     overflows: u128,
 }
 
-// How many bytes a reply answers.
+/// How many bytes a reply answers.
 pub fn data_bytes(reply: &Reply) -> usize
     ensures value { result ≡ bytes_of_response (response_of reply.now) }
     ensures bound { result < 2 ^ 63 }

@@ -39,7 +39,7 @@ fn digit_of(value: u8) -> u8
     }
 }
 
-// The two digits of a byte.
+/// The two digits of a byte.
 #[inline]
 pub fn digits_of(byte: u8) -> [u8; 2]
     ensures { result ≡ byte_text byte }

@@ -1,2 +1,2 @@
 pub mod Merging
-pub mod Placing
+pub mod Inside

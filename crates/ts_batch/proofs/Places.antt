@@ -13,7 +13,7 @@ use Rattle.pid_set.specs.declared.set.TheConstants.{ALL_PACKETS}
 use Rattle.ts_batch.specs.declared.index.Run.{Run}
 use Rattle.ts_batch.specs.declared.index.Index.{Index}
 use Rattle.ts_batch.specs.Places.{names, places_from, places_of}
-use Rattle.ts_batch.specs.IsIndex.{has_run, IsRun, IsIndex}
+use Rattle.ts_batch.specs.Inside.IsIndex.{has_run, IsRun, IsIndex}
 
 module _ (test : List ℕ → Bool) (items : List ℕ) (packets : List (List ℕ)) (i : ℕ) (d : List ℕ) (within : i < length packets) where
   -- a packet that passes

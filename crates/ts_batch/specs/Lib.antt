@@ -1,5 +1,3 @@
 pub mod Batch
 pub mod Places
-pub mod IsIndex
-pub mod BatchHolds
-pub mod SetHolds
+pub mod Inside

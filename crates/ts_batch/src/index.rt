@@ -2,7 +2,7 @@
 ghost use Rattle.std.specs.Prelude.{◌≡◌, ◌<◌, ◌≤◌, ◌+◌, ◌++◌, ◌∷◌, [], length, nat_eq, IfOk, OnOk};
 ghost use Rattle.std.specs.List.{list_any};
 ghost use Rattle.ts_batch.specs.Places.{places_of, names};
-ghost use Rattle.ts_batch.specs.IsIndex.{IsIndex, has_run};
+ghost use Rattle.ts_batch.specs.Inside.IsIndex.{IsIndex, has_run};
 
 use pid_set::ALL_PACKETS;
 use std::alloc::{AllocError as NoMemory, Global};
@@ -44,14 +44,14 @@ impl Index {
         Ok(index)
     }
 
-    /// Whether the places of a PID are there.
+    // Whether the places of a PID are there.
     fn has(&self, pid: u16) -> bool
         ensures { result ≡ has_run pid self.now.runs.items }
     {
         self.runs.iter().any(|run| run.pid == pid)
     }
 
-    /// Puts the places of the packets that a PID names.
+    // Puts the places of the packets that a PID names.
     fn list(&mut self, pid: u16, packets: &[Packet]) -> Result<(), NoMemory>
         requires { length packets.now ≤ 64 }
         ensures places { OnOk result (self.new.places.items ≡ self.old.places.items ++ places_of pid packets.now) }
@@ -65,7 +65,7 @@ impl Index {
     }
 }
 
-/// Appends the places of the packets that a PID names.
+// Appends the places of the packets that a PID names.
 fn put_places(places: &mut Vec<u8>, pid: u16, packets: &[Packet]) -> Result<(), NoMemory>
     requires { length packets.now ≤ 64 }
     ensures { OnOk result (places.new.items ≡ places.old.items ++ places_of pid packets.now) }
@@ -78,7 +78,7 @@ fn put_places(places: &mut Vec<u8>, pid: u16, packets: &[Packet]) -> Result<(), 
     Ok(())
 }
 
-/// Whether a PID names a packet.
+// Whether a PID names a packet.
 fn is_named(packet: &Packet, pid: u16) -> bool
     ensures { result ≡ names pid packet.now }
 {

@@ -50,7 +50,7 @@ impl Model for Batch {
 
     ghost view = { λ b. record { first = b.first; packets = b.packets.items } };
 
-    ghost use Rattle.ts_batch.specs.BatchHolds.{BatchHolds};
+    ghost use Rattle.ts_batch.specs.Inside.BatchHolds.{BatchHolds};
 
     ghost invariant = { BatchHolds };
 }

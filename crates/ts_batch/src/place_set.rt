@@ -14,7 +14,7 @@ pub struct PlaceSet {
 
 impl Model for PlaceSet {
     ghost use Rattle.std.specs.Prelude.{List, Bool};
-    ghost use Rattle.ts_batch.specs.SetHolds.{SetHolds};
+    ghost use Rattle.ts_batch.specs.Inside.SetHolds.{SetHolds};
 
     ghost Value = { List Bool };
 

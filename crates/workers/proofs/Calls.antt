@@ -10,12 +10,12 @@ use Rattle.std.proofs.lemmas.Map.Keys.{IsDistinct-cons, IsDistinct-IsPermutation
 use Rattle.std.proofs.lemmas.Option.{get_or_from_slice_get, slice_get_within, slice_get-get_or}
 use mathlib.Core.Logic.{dite}
 use native.Mathlib.Decide.{ℕ_discrete}
-use Rattle.node_lock.specs.Lists.{Has, Once}
+use Rattle.node_lock.specs.Inside.Lists.{Has, Once}
 use Rattle.node_lock.proofs.Views.{has_left, has_right, has_either, once_append}
 use Rattle.dmx_calls.specs.declared.log.Entry.{Entry as ToldEntry}
 use Rattle.dmx_calls.specs.Calls.{told_entry}
 use Rattle.trace_merge.specs.Merging.{is_on, all_of}
-use Rattle.trace_merge.specs.Placing.{entries_on}
+use Rattle.trace_merge.specs.Inside.Placing.{entries_on}
 use Rattle.trace_merge.proofs.Standing.{Ascends, ascends}
 use Rattle.workers.proofs.Weaves.{Rises}
 use Rattle.workers.proofs.Members.{at_has, has_at}

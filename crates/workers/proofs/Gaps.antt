@@ -8,7 +8,7 @@ use mathlib.Core.Option.{some}
 use lib.ListN.{get_elem?}
 use Rattle.atomic_table.specs.Seated.{TableId}
 use Rattle.node_lock.specs.declared.view.View.{View}
-use Rattle.node_lock.specs.Lists.{Has}
+use Rattle.node_lock.specs.Inside.Lists.{Has}
 use Rattle.node_lock.proofs.Views.{at_there, at_below}
 use Rattle.dmx_calls.specs.declared.reply.Errno.TheVariants.{Ebadf}
 use Rattle.dmx_calls.specs.Log.{LogEntry}

@@ -6,7 +6,7 @@ use Rattle.std.proofs.lemmas.List.{reverse-append}
 use Rattle.std.proofs.lemmas.List.Elements.{All-nil, All-append}
 use mathlib.Core.Option.{some}
 use lib.ListN.{get_elem?}
-use Rattle.node_lock.specs.Lists.{Has}
+use Rattle.node_lock.specs.Inside.Lists.{Has}
 use Rattle.ts_packet.specs.Fields.{IsPacket}
 use Rattle.dmx_calls.specs.Invocation.{brought}
 use Rattle.dmx_calls.specs.declared.limits.TheConstants.{DEMUX_NODES}

@@ -6,7 +6,7 @@ use mathlib.Core.Option.{some, some-injective}
 use lib.ListN.{get_elem?}
 use Rattle.atomic_table.specs.Seated.{TableId}
 use Rattle.node_lock.specs.declared.view.View.{View}
-use Rattle.node_lock.specs.Lists.{Has}
+use Rattle.node_lock.specs.Inside.Lists.{Has}
 use Rattle.dmx_calls.specs.declared.histories.Fed.{Fed}
 use Rattle.dmx_calls.specs.Invocation.{Invocation, Open, Close, SetFilter, SetPes, AddPid, RemovePid, Start, Stop, SetSize, Read, Poll, Pass, End, Attach, Detach, brought}
 use Rattle.dmx_calls.specs.Log.{Act, PassAct, ReadAct, LogEntry, act_of}

@@ -2,7 +2,7 @@
 use Rattle.std.proofs.Common.{◌≡◌, ◌≢◌, ◌⊎◌, inl, inr, ⊎_elim, ℕ, zero, suc, Bool, true, false, nat_eq, nat_lt, ne_eqb, ◌+◌, List, [], ◌∷◌, ◌++◌, map, filter, slice_get, Some, refl, ap, ◌∙◌}
 use Rattle.std.specs.Prelude.{if◌then◌else◌}
 use Rattle.std.specs.List.{AllByRecursion}
-use Rattle.node_lock.specs.Lists.{Has}
+use Rattle.node_lock.specs.Inside.Lists.{Has}
 use Rattle.dmx_calls.specs.declared.histories.Fed.{Fed}
 use Rattle.dmx_calls.specs.Log.{Act, EndAct, LogEntry}
 use Rattle.dmx_calls.specs.Histories.{pass_act, feeder_acts, feeder_entry, feeder_entries, before_entry, woven_from}

@@ -6,7 +6,7 @@ use mathlib.Core.List.{IsPrefix}
 use native.Mathlib.Decide.{ℕ_discrete}
 use Rattle.atomic_table.specs.Seated.{TableId}
 use Rattle.node_lock.specs.declared.view.View.{View}
-use Rattle.node_lock.specs.Lists.{Has}
+use Rattle.node_lock.specs.Inside.Lists.{Has}
 use Rattle.node_lock.proofs.Views.{prefix_at}
 use Rattle.dmx_calls.specs.declared.histories.Fed.{Fed}
 use Rattle.dmx_calls.specs.declared.outcome.Outcome.{Outcome}

@@ -1,5 +1,5 @@
 use Rattle.std.proofs.Common.{◌≡◌, take, false}
-use Rattle.ts_batch.specs.IsIndex.{has_run}
+use Rattle.ts_batch.specs.Inside.IsIndex.{has_run}
 use Rattle.ts_batch.proofs.Batch.places.Given as goal
 
 abbrev pub invariant-runs : goal.invariant-runs

@@ -2,7 +2,7 @@ use Rattle.std.proofs.Common.{◌≡◌, take, true}
 use Rattle.std.specs.Prelude.{All}
 use Rattle.ts_packet.specs.Fields.{pid_of}
 use Rattle.pid_set.specs.declared.set.TheConstants.{ALL_PACKETS}
-use Rattle.ts_batch.specs.IsIndex.{has_run, IsRun}
+use Rattle.ts_batch.specs.Inside.IsIndex.{has_run, IsRun}
 use Rattle.ts_batch.proofs.index.Index.of.Given as goal
 
 abbrev pub invariant-packets : goal.invariant-packets

@@ -6,7 +6,7 @@ use Rattle.atomic_table.specs.Table.{Me, Step, rest}
 use Rattle.node_lock.specs.declared.view.Stage.{Stage}
 use Rattle.node_lock.specs.declared.view.Stage.TheVariants.{Free, Drawn, Turn, Spent}
 use Rattle.node_lock.specs.declared.view.View.{View}
-use Rattle.node_lock.specs.Lists.{tail, longer}
+use Rattle.node_lock.specs.Inside.Lists.{tail, longer}
 use Rattle.node_lock.specs.Passes.{KnowsItsCalls, KeptBegins}
 
 module _ {N : Type 0} where
