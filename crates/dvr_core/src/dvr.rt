@@ -1,8 +1,9 @@
 // The dvr node, and its one call.
 
-ghost use Rattle.std.specs.Prelude.{◌≡◌, ◌≤◌, ◌<◌, ◌+◌, ◌^◌, ◌∷◌, [], None};
+ghost use Rattle.std.specs.Prelude.{◌≡◌, ◌≤◌, ◌<◌, ◌+◌, ◌^◌, ◌∷◌, [], false, None};
 ghost use Rattle.dmx_calls.specs.declared.node.NodeKind.TheVariants.{Dvr};
 ghost use Rattle.dmx_calls.specs.History.{History, entry_of};
+ghost use Rattle.dmx_calls.specs.Response.{is_accepted};
 ghost use Rattle.dmx_calls.specs.Rules.{dvr};
 ghost use Rattle.dmx_calls.specs.Legal.{May};
 ghost use Rattle.dmx_calls.specs.Calls.{invocation_of, response_of};
@@ -134,6 +135,7 @@ impl DvrCore {
             → May dvr h who (invocation_of call) (response_of result.reply)
             × StandsFor self.new (entry_of who (invocation_of call) (response_of result.reply) ∷ h) }
         ensures causes { (h : History) → StandsFor self.old h → Causes Dvr self.old.facts self.new.facts who (invocation_of call) (response_of result.reply) }
+        ensures unchanged { is_accepted (response_of result.reply) ≡ false → self.new ≡ record self.old { entries = self.old.entries + 1 } }
         ensures back { GivesBack call result }
         ensures rises { self.new.entries ≡ self.old.entries + 1 }
         ensures cost { steps.new ≤ steps.old + named_packets self.old.taps (invocation_of call) }

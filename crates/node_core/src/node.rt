@@ -1,9 +1,10 @@
 // A demux node, and its one call.
 
-ghost use Rattle.std.specs.Prelude.{◌≡◌, ◌≢◌, ◌≤◌, ◌<◌, ◌+◌, ◌^◌, ◌∷◌, []};
+ghost use Rattle.std.specs.Prelude.{◌≡◌, ◌≢◌, ◌≤◌, ◌<◌, ◌+◌, ◌^◌, ◌∷◌, [], false};
 ghost use Rattle.dmx_calls.specs.declared.node.NodeKind.TheVariants.{Demux};
 ghost use Rattle.dmx_calls.specs.declared.limits.TheConstants.{DEMUX_NODES};
 ghost use Rattle.dmx_calls.specs.History.{History, entry_of};
+ghost use Rattle.dmx_calls.specs.Response.{is_accepted};
 ghost use Rattle.dmx_calls.specs.Rules.{demux};
 ghost use Rattle.dmx_calls.specs.Facts.{state_of};
 ghost use Rattle.dmx_calls.specs.Legal.{May};
@@ -117,13 +118,15 @@ impl NodeCore {
     }
 
     /// Makes a call for the caller `who`, and answers what the node's history says to it. Pass and End are taken from
-    /// whoever makes them.
+    /// whoever makes them. A call that is refused, answered Busy or answered want of memory leaves the node as it was, but for the
+    /// number of calls.
     pub fn apply<L: Ledger>(&mut self, who: u32, call: Call, steps: &mut Steps<L>) -> Answer
         requires few { self.old.entries < 2 ^ 50 }
         ensures stands { (h : History) → StandsFor self.old h
             → May demux h who (invocation_of call) (response_of result.reply)
             × StandsFor self.new (entry_of who (invocation_of call) (response_of result.reply) ∷ h) }
         ensures causes { (h : History) → StandsFor self.old h → Causes Demux self.old.facts self.new.facts who (invocation_of call) (response_of result.reply) }
+        ensures unchanged { is_accepted (response_of result.reply) ≡ false → self.new ≡ record self.old { entries = self.old.entries + 1 } }
         ensures back { GivesBack call result }
         ensures rises { self.new.entries ≡ self.old.entries + 1 }
         ensures number { self.new.number ≡ self.old.number }
