@@ -18,7 +18,8 @@ pub trait Sink {
 
     /// Writes the first bytes of `piece`, at least one, and answers how many.
     ///
-    /// `Failed` comes only where the count of faults rose, and writes no byte; an `Ok` leaves the count as it was.
+    /// `Failed` writes no byte, and the count of faults rose by just one, or stands at the end of a u64; an `Ok` leaves the count
+    /// as it was.
     fn write(&mut self, piece: &[u8]) -> Result<usize, Failed>
         requires { 0 < length piece.now }
         ensures bound { IfOk result (λ n. (1 ≤ n) × (n ≤ length piece.now)) }

@@ -18,7 +18,8 @@ pub trait Source {
 
     /// Reads bytes into the front of `into`, and answers how many. 0 is the end of input.
     ///
-    /// `Failed` comes only where the count of faults rose, and takes no byte; an `Ok` leaves the count as it was.
+    /// `Failed` takes no byte, and the count of faults rose by just one, or stands at the end of a u64; an `Ok` leaves the count
+    /// as it was.
     fn read(&mut self, into: &mut [u8]) -> Result<usize, Failed>
         requires { 0 < length into.old }
         ensures bound { ReadsAtMost result into.new }

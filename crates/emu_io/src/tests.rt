@@ -1,6 +1,7 @@
 // Reads and writes in pieces, and where they fail.
 use crate::{
-    Clock, FixedClock, Gate, MemSink, MemSource, NoGate, Sink, Source, StdClock, StdSink, StdSource,
+    Clock, FixedClock, Gate, MemSink, MemSource, Mute, NoGate, Sink, Source, StdClock, StdSink,
+    StdSource,
 };
 use std::alloc::Global;
 use std::test::Fail;
@@ -87,6 +88,21 @@ fn writes_are_taken_in_pieces_and_fail_where_named_or_full(rt: HostRuntime) -> R
         );
         assert_eq!(rt; sink.bytes(), written, "capacity {capacity}, piece {piece}");
     }
+    Ok(())
+}
+
+#[test]
+fn mute_ends_read_and_write_as_the_ones_inside(rt: HostRuntime) -> Result<(), Fail> {
+    let alloc = rt.alloc();
+    let bytes = b"abcdefgh".to_vec(alloc)?;
+    let mut source = Mute::new(MemSource::new(bytes, 3, [1u64].to_vec(alloc)?));
+    assert_eq!(rt;
+        reads(alloc, &mut source, 8)?.as_slice(),
+        b"abc|!def|gh|.".as_slice()
+    );
+    let mut sink = Mute::new(MemSink::new(alloc, 8, 3, [1u64].to_vec(alloc)?)?);
+    assert_eq!(rt; writes(alloc, &mut sink)?.as_slice(), b"3!32".as_slice());
+    assert_eq!(rt; sink.inner.bytes(), b"abcdefgh".as_slice());
     Ok(())
 }
 
