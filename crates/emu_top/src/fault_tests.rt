@@ -3,7 +3,7 @@ use crate::report_lines::replies_in;
 use crate::tests::{Part, input_of, words_of};
 use crate::{Status, emulate};
 use client_script::FaultKind;
-use emu_io::{FixedClock, MemSink, MemSource, NoGate};
+use emu_io::{FixedClock, MemSink, MemSource, Mute, NoGate};
 use std::process::Abort;
 use std::sync::Wait;
 use std::test::Fail;
@@ -42,6 +42,33 @@ fn told_with<R: AllocGlobal + Threads + Wait + Sync>(
         &NoGate::new(),
     );
     Ok((status, sink.bytes().to_vec(alloc)?))
+}
+
+// The same over ends that tell no content, as standard input and output.
+fn told_mute<R: AllocGlobal + Threads + Wait + Sync>(
+    rt: &R,
+    words: &[&str],
+    parts: &[Part],
+    reads: &[u64],
+    capacity: usize,
+    writes: &[u64],
+) -> Result<(Status, Vec<u8>), Fail> {
+    let alloc = rt.alloc();
+    let words = words_of(alloc, words)?;
+    let source = MemSource::new(input_of(alloc, parts)?, 188, reads.to_vec(alloc)?);
+    let mut source = Mute::new(source);
+    let sink = MemSink::new(alloc, capacity, 10, writes.to_vec(alloc)?)?;
+    let mut sink = Mute::new(sink);
+    let status = emulate(
+        rt,
+        alloc,
+        &words,
+        &mut source,
+        &mut sink,
+        &FixedClock::new(0),
+        &NoGate::new(),
+    );
+    Ok((status, sink.inner.bytes().to_vec(alloc)?))
 }
 
 // The packet of PID 256 with the counter 0 and the payload 00, and three times the same behind the line `stream`.
@@ -133,7 +160,8 @@ static WRITE_FAULTS: [Faults; 8] = [
     (&[], 0, &[], Status::WriteFault, b""),
 ];
 
-// Asserts the status and what was written of each row, by each list of words.
+// Asserts the status and what was written of each row, by each list of words, over ends that tell their content and ends that
+// don't.
 fn assert_faults<R: AllocGlobal + Threads + Wait + Sync + Abort>(
     rt: &R,
     parts: &[Part],
@@ -144,6 +172,9 @@ fn assert_faults<R: AllocGlobal + Threads + Wait + Sync + Abort>(
             let (status, written) = told_with(rt, words, parts, reads, *capacity, writes)?;
             assert!(rt; status == *want, "case {case}");
             assert_eq!(rt; written.as_slice(), *output, "case {case}");
+            let (status, written) = told_mute(rt, words, parts, reads, *capacity, writes)?;
+            assert!(rt; status == *want, "case {case}, mute");
+            assert_eq!(rt; written.as_slice(), *output, "case {case}, mute");
         }
     }
     Ok(())
