@@ -1,4 +1,5 @@
 pub mod GoesOn
-pub mod Few
+pub mod FirstCalls
 pub mod More
 pub mod Numbering
+pub mod ReadReplies

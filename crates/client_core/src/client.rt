@@ -201,4 +201,16 @@ impl ClientCore {
     {
         &self.outcomes
     }
+
+    /// A copy of these outcomes.
+    pub fn copied_outcomes(&self, alloc: Global) -> Result<Vec<Outcome>, NoMemory>
+        ensures value { IfOk result (λ copy. copy.items ≡ self.now.outcomes) }
+        ensures tied { (client : ℕ) (lines : List ScriptLine) (replies : List Response) → IsAfter client lines replies self.now
+            → IfOk result (λ copy. copy.items ≡ outcomes_of client lines replies) }
+    {
+        let outcomes = self.outcomes();
+        let mut copy = Vec::with_capacity(alloc, outcomes.len())?;
+        copy.extend_from_slice(outcomes)?;
+        Ok(copy)
+    }
 }

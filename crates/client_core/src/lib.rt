@@ -14,17 +14,20 @@
 //! legal, the feeder's packets pass every node in the same batches, and each client made just the calls that its commands
 //! ask for. `most_calls` (`specs/Budget.antt`) is the most calls of a client.
 //!
-//! What is proved: `new` stands after no replies; `take` carries a core that stands after some replies to one that stands
-//! after one more, and leaves nothing else open (`HasTaken`); `next`, `next_at`, `line`, `waits` and `outcomes` are what
-//! the definitions say of the replies taken. `call_of` makes the call that is asked for, a Read with an empty buffer, and
-//! only a Read can find that memory is wanting. Laws of the definitions: a client makes at most 33 calls a command, beside
-//! the reads that it repeats (`calls_are_few`); one reply more repeats at most one read more (`one_reply_repeats_once`).
-//! The worked examples of `examples` are computed by the check.
+//! What is proved: `new` stands after no replies; `take` carries a core that stands after some replies to one that stands after
+//! one more, and leaves nothing else open (`HasTaken`); `next`, `next_at`, `line`, `waits` and `outcomes` are what the
+//! definitions say of the replies taken, and `copied_outcomes` is a copy of `outcomes`. `call_of` makes the call that is asked
+//! for, a Read with an empty buffer, and only a Read can find that memory is wanting. `settled` keeps a reply that isn't want
+//! of memory, and `fitted` the reply with no more room than its bytes take. Laws of the definitions: a client makes at most 33
+//! calls a command, beside the reads that it repeats (`calls_are_few`); one reply more repeats at most one read more
+//! (`one_reply_repeats_once`). The worked examples of `examples` are computed by the check.
 //!
 //! What is only tested: that memory isn't refused where there is enough.
 //!
-//! Limits: `ClientCore::new` takes all memory of a client, two lists as long as its commands, and `call_of` that of a
-//! Read's buffer. `take` passes over a row of commands on unbound slots in one call; every other call takes constant time.
+//! Limits: `ClientCore::new` takes all memory of a client, two lists as long as its commands, `call_of` that of a Read's
+//! buffer, and `fitted` and `copied_outcomes` that of their copies. `take` passes over a row of commands on unbound slots in
+//! one call; every other call that copies nothing takes constant time. The runs of the crates above stop a client after
+//! `MOST_CALLS` calls.
 #![tactic(auto)]
 
 mod call;
@@ -34,6 +37,7 @@ mod event;
 pub mod examples;
 mod laws;
 mod machine;
+mod reply;
 mod stop;
 mod task;
 #[cfg(test)]
@@ -43,4 +47,5 @@ pub use call::call_of;
 pub use client::ClientCore;
 pub use event::{Event, Want};
 pub use laws::{calls_are_few, one_reply_repeats_once};
-pub use stop::Stop;
+pub use reply::{fitted, settled};
+pub use stop::{MOST_CALLS, Stop};

@@ -4,6 +4,9 @@ ghost use Rattle.std.specs.Prelude.{◌≡◌};
 
 use std::alloc::AllocError as NoMemory;
 
+/// The most calls of one client in a run.
+pub const MOST_CALLS: u64 = 549_755_813_888;
+
 /// Why a run of a script stopped before its end.
 #[derive(Clone, Copy, Debug, PartialEq, Eq, Drop)]
 pub enum Stop {

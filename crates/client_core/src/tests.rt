@@ -1,6 +1,6 @@
 //! Clients of scripts, whose replies and calls were worked out by hand from what the commands do.
 
-use crate::{ClientCore, Event, Stop, Want, call_of};
+use crate::{ClientCore, Event, MOST_CALLS, Stop, Want, call_of, fitted, settled};
 use client_script::{Script, ScriptError};
 use dmx_calls::{ByteBuf, Call, Outcome, OutcomeKind, Reply, Span, Tap};
 use pid_set::Pids;
@@ -228,6 +228,8 @@ fn a_slot_stays_bound_after_close(rt: HostRuntime) -> Result<(), Fail> {
         through(3, 3, 3, OutcomeKind::Unbound),
     ];
     assert_eq!(rt; core.outcomes(), outcomes.as_slice());
+    let copy = core.copied_outcomes(rt.alloc())?;
+    assert_eq!(rt; copy.as_slice(), outcomes.as_slice());
     Ok(())
 }
 
@@ -249,4 +251,36 @@ fn a_read_comes_with_an_empty_buffer(rt: HostRuntime) -> Result<(), Stop> {
 fn want_of_memory_stops_a_run(rt: HostRuntime) {
     assert_eq!(rt; Stop::from(NoMemory), Stop::NoMemory);
     assert_ne!(rt; Stop::TooLong { turns: 7 }, Stop::TooLong { turns: 8 });
+}
+
+#[test]
+fn a_settled_reply_is_not_want_of_memory(rt: HostRuntime) -> Result<(), NoMemory> {
+    assert!(rt; settled(Reply::NoMemory).is_err());
+    assert!(rt;
+        matches!(
+            settled(Reply::Again { ended: true })?,
+            Reply::Again { ended: true }
+        )
+    );
+    Ok(())
+}
+
+#[test]
+fn a_fitted_reply_has_its_bytes_and_room_for_no_more(rt: HostRuntime) -> Result<(), Fail> {
+    let buf = bytes(&rt, rt.alloc(), b"three")?;
+    assert_eq!(rt; buf.count(), 100);
+    match fitted(rt.alloc(), Reply::Data(buf))? {
+        Reply::Data(buf) => {
+            assert_eq!(rt; buf.count(), 5);
+            assert_eq!(rt; buf.bytes(), b"three".as_slice());
+        }
+        _ => assert!(rt; false, "no bytes"),
+    }
+    assert!(rt; matches!(fitted(rt.alloc(), Reply::Passed)?, Reply::Passed));
+    Ok(())
+}
+
+#[test]
+fn a_client_makes_at_most_two_to_the_thirty_nine_calls(rt: HostRuntime) {
+    assert_eq!(rt; MOST_CALLS, 1u64 << 39);
 }

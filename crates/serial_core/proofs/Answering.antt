@@ -1,4 +1,4 @@
--- What a node answers to a read, and which calls leave its packets and its end as they were.
+-- Which calls leave the packets of a node and its end as they were.
 use Rattle.std.proofs.Common.{◌≡◌, refl, ap, ◌∙◌, ℕ, zero, suc, ◌<◌, Bool, true, false, List, [], ◌∷◌, Option, Some, None}
 use Rattle.std.specs.Prelude.{if◌then◌else◌, nat_eq, ◌||◌}
 use Rattle.dmx_calls.specs.declared.reply.Errno.{Errno}
@@ -19,48 +19,6 @@ use Rattle.client_core.specs.declared.event.Want.{Want}
 use Rattle.client_core.specs.declared.event.Want.TheVariants.{Open, Close, Section, Pes, Add, Remove, Start, Stop, Size, Read, Poll, Attach, Detach}
 use Rattle.client_core.specs.Commands.{call_of}
 use Rattle.serial_core.specs.Budget.{bytes_in}
-
--- ------ reads
-
--- a reply to a read, where the stream has ended or not
-abbrev pub IsReadReply : (ended : Bool) → Response → Type 0
-IsReadReply ended (Refused errno) = Unit {0}
-IsReadReply ended (Data bytes) = Unit {0}
-IsReadReply ended (Again has) = has ≡ ended
-IsReadReply ended (Overflow from to item need room) = from < to
-IsReadReply ended (TimedOut started now timeout) = Unit {0}
-IsReadReply ended _ = ⊥
-
-unless_reads : (ended : Bool) (o : Option Errno) (r : Response) → IsReadReply ended r → IsReadReply ended (response_unless o r)
-unless_reads ended None r is = is
-unless_reads ended (Some errno) r is = tt
-
-if_reads : (ended b : Bool) (r q : Response) → IsReadReply ended r → IsReadReply ended q → IsReadReply ended (if b then r else q)
-if_reads ended true r q x y = x
-if_reads ended false r q x y = y
-
-bytes_read : (f : Facts) (l : Ledger) (count : ℕ) → IsReadReply f.has_ended (read_bytes f l count)
-bytes_read f l zero = tt
-bytes_read f l (suc n) = if_reads f.has_ended (nat_eq l.answered l.total) (Again f.has_ended) (Data _) refl tt
-
-timeout_read : (f : Facts) (l : Ledger) (expired : Option ℕ) (count : ℕ) → IsReadReply f.has_ended (read_timeout f l expired count)
-timeout_read f l None count = bytes_read f l count
-timeout_read f l (Some moment) count = if_reads f.has_ended l.is_told (read_bytes f l count) (TimedOut l.started moment _) (bytes_read f l count) tt
-
-over_read : (f : Facts) (l : Ledger) (o : Option Misfit) (expired : Option ℕ) (count : ℕ) → ((x : Misfit) → o ≡ Some x → l.answered < l.total) → IsReadReply f.has_ended (read_over f l o expired count)
-over_read f l None expired count less = timeout_read f l expired count
-over_read f l (Some x) expired count less = less x refl
-
-module _ (node : Rules) (names : OverflowNamesAByte node) where
-  ledger_read : (h : History) (f : Facts) (o : Option Since) (expired : Option ℕ) (count : ℕ) → IsLegalFor node h → IsReadReply f.has_ended (read_response f (ledger_of node h o) expired count)
-  ledger_read h f None expired count legal = tt
-  ledger_read h f (Some s) expired count legal = over_read f (ledger_at node h) (over node h) expired count (λ x is. names h x legal is)
-
-  pub reads : (h : History) (who now count : ℕ) → IsLegalFor node h → IsReadReply (has_ended h) (answer node h who (call.Read now count))
-  unfolding answer facts
-  reads h who now count legal =
-      unless_reads (has_ended h) (refusal_to node.kind (facts node h) who (call.Read now count)) _
-      (ledger_read h (facts node h) (node.capture h) (expired_of (facts node (with_call h who (call.Read now count))).ledger) count legal)
 
 -- ------ calls of the feeder and of clients
 

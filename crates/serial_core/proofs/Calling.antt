@@ -18,12 +18,12 @@ use Rattle.client_core.specs.Commands.{call_of, commands_of, ends_drain}
 use Rattle.client_core.specs.Events.{Standing, progress, next_event, next_of_line, standing_at, waits_on}
 use Rattle.client_core.specs.Budget.{repeats}
 use Rattle.client_core.specs.More.{added_by}
-use Rattle.client_core.proofs.Few.{few}
+use Rattle.client_core.proofs.FirstCalls.{few}
 use Rattle.client_core.proofs.More.{one_reply_more}
 use Rattle.serial_core.specs.Nodes.{Node, history_of}
 use Rattle.serial_core.specs.SerialRun.{Run, ended, replies_of}
 use Rattle.serial_core.specs.Budget.{bytes_in, bytes_to, bytes_by, bytes_by_all, one_if, HasBrought, IsPaid}
-use Rattle.serial_core.proofs.Answering.{IsReadReply, reads}
+use Rattle.client_core.proofs.ReadReplies.{IsReadReply, reads}
 use Rattle.serial_core.proofs.Paid.{Brought}
 
 -- ------ one reply

@@ -13,7 +13,7 @@ use Rattle.serial_core.specs.SerialRun.{Run, replies_of, called, made, reply_to,
 use Rattle.serial_core.specs.Budget.{one_if}
 use Rattle.serial_core.specs.Standing.{IsNodes}
 use Rattle.serial_core.specs.Moving.{Moves, Comes}
-use Rattle.serial_core.proofs.Drawing.{draws_none}
+use Rattle.feed_pull.proofs.Drawing.{draws_none}
 use Rattle.serial_core.proofs.Replies.{waiting_replies}
 use Rattle.serial_core.proofs.Within.{paid_next_of_line}
 

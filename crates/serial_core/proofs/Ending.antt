@@ -1,11 +1,10 @@
 -- What a run leaves.
-use Rattle.std.proofs.Common.{take, nat_le, if◌then◌else◌, ◌==◌, length-append, Option, ◌≡◌, refl, sym, ap, subst, ◌∙◌, ℕ, zero, suc, ◌+◌, ◌≤◌, ◌<◌, Bool, true, false, List, [], ◌∷◌, ◌++◌, length, map, fold, max, add-one, append-nil, arith}
+use Rattle.std.proofs.Common.{length-append, Option, Result, Ok, Err, IfOk, ◌≡◌, refl, sym, ap, subst, ◌∙◌, ℕ, zero, suc, ◌+◌, ◌≤◌, ◌<◌, Bool, true, false, List, [], ◌∷◌, ◌++◌, length, map, fold, max, add-one, append-nil, arith}
 use Rattle.std.specs.Prelude.{All, slice_index_or}
 use Rattle.std.specs.List.{range_with_len}
-use Rattle.std.proofs.lemmas.List.{map-append, get_or-replicate, length-take-le, get_or_append_left}
-use Rattle.std.proofs.lemmas.Bool.Decides.{nat_tests}
+use Rattle.std.proofs.lemmas.List.{map-append, get_or-replicate, get_or_append_left}
 use Rattle.ts_packet.specs.Fields.{IsPacket}
-use Rattle.ts_packet.specs.Cut.{cut, cut_after, packet_before, only_rest, skip_before}
+use Rattle.ts_packet.specs.Cut.{cut}
 use Rattle.std.proofs.lemmas.List.Elements.{All-nil, All-cons}
 use Rattle.std.proofs.lemmas.List.FromFn.{length-range_with_len}
 use Rattle.dmx_calls.specs.declared.limits.TheConstants.{DEMUX_NODES}
@@ -33,6 +32,7 @@ use Rattle.serial_core.specs.Moving.{IsAt, Moves}
 use Rattle.serial_core.specs.Lines.{AreAfter, IsWholeBy, Overruns}
 use Rattle.serial_core.specs.Ran.{IsRanOf, IsBegun, AreFresh, histories_in}
 use Rattle.feed_pull.specs.Streams.{OfStream}
+use Rattle.feed_pull.proofs.CutPackets.{are_packets}
 use Rattle.serial_core.proofs.Lawful.{serial_legal}
 use Rattle.serial_core.proofs.Within.{paid_begun, within, own_commands}
 
@@ -97,24 +97,6 @@ all_woven v r at over legal =
 
 -- ------ the whole run
 
-cut_packets : (inside : ℕ) (bytes : List ℕ) → All IsPacket (cut_after inside bytes).packets
-unfolding cut_after
-cut_packets inside [] = All-nil IsPacket
-cut_packets (suc inside) (byte ∷ bytes) = cut_packets inside bytes
-cut_packets zero (byte ∷ bytes) = go (byte == 71) refl (nat_le 187 (length bytes)) refl (cut_packets 187 bytes) (cut_packets 0 bytes) where
-  go : (b : Bool) → (byte == 71) ≡ b → (c : Bool) → nat_le 187 (length bytes) ≡ c → All IsPacket (cut_after 187 bytes).packets → All IsPacket (cut_after 0 bytes).packets
-      → All IsPacket (if b then (if c then packet_before (take 188 (byte ∷ bytes)) (cut_after 187 bytes) else only_rest (byte ∷ bytes)) else skip_before (cut_after 0 bytes)).packets
-  go true first true long behind later =
-      let e : byte ≡ 71 = grind (arith, nat_tests) in
-      let n : 187 ≤ length bytes = grind (arith, nat_tests) in
-      All-cons IsPacket (take 188 (byte ∷ bytes)) (cut_after 187 bytes).packets (record { size = length-take-le 188 (byte ∷ bytes) (omega (arith, n)); sync = e }) behind
-  go true first false short behind later = All-nil IsPacket
-  go false other c is behind later = later
-
-are_packets : (bytes : List ℕ) → All IsPacket (cut bytes).packets
-unfolding cut
-are_packets bytes = cut_packets 0 bytes
-
 no_replies : (packets : List (List ℕ)) (c : ℕ) → c < 8 → replies_of c (begun packets) ≡ []
 no_replies packets c lt = get_or-replicate 8 c [] [] lt
 
@@ -170,3 +152,10 @@ module _ (lines : List Line) (batch : ℕ) (x y : Option (List ℕ)) (l n : ℕ)
     where
       All-take_front : (xs ys : List (List ℕ)) → All IsPacket (xs ++ ys) → All IsPacket xs
       All-take_front xs ys all k d lt = subst IsPacket (get_or_append_left xs ys d k lt) (all k d (omega (arith, lt, length-append xs ys)))
+
+-- ------ what the answer says
+
+-- three facts of an answer make a fourth
+pub ok_by : {T E : Type 0} (r : Result T E) (P Q R S : T → Type 0) → ((x : T) → P x → Q x → R x → S x) → IfOk r P → IfOk r Q → IfOk r R → IfOk r S
+ok_by (Ok x) P Q R S so p q r = so x p q r
+ok_by (Err e) P Q R S so p q r = tt

@@ -3,7 +3,7 @@ pub mod Pairs
 pub mod Seats
 pub mod FedOn
 pub mod Going
-pub mod Drawing
+pub mod Moving
 pub mod Batches
 pub mod Turning
 pub mod Replies
@@ -25,4 +25,3 @@ pub mod Passing
 pub mod Lining
 pub mod Ending
 pub mod Existing
-pub mod Causes

@@ -15,7 +15,7 @@ use Rattle.serial_core.specs.SerialRun.{Run, replies_of, passed, batch_sizes, al
 use Rattle.serial_core.specs.Moving.{IsAt, Moves, IsDoneBy, ComesBy, Comes as CommandComes}
 use Rattle.feed_pull.specs.Streams.{Draws}
 use Rattle.serial_core.specs.Lines.{AreAfter, calls_by, AreInBudget, Comes, IsLineBy, IsFrontBy, IsWholeBy, Overruns, OverrunsBy}
-use Rattle.serial_core.proofs.Drawing.{draws_none}
+use Rattle.feed_pull.proofs.Drawing.{draws_none}
 use Rattle.serial_core.proofs.Replies.{ended_replies}
 use Rattle.serial_core.proofs.Paid.{paid_fed, paid_ticked}
 

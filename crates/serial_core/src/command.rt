@@ -10,14 +10,11 @@ ghost use Rattle.feed_pull.specs.Streams.{Draws};
 ghost use Rattle.serial_core.specs.SerialRun.{after_waiting, called, replies_of, reply_to};
 
 use crate::runner::Runner;
-use client_core::{ClientCore, Event, Stop};
+use client_core::{ClientCore, Event, MOST_CALLS, Stop};
 use emu_io::Source;
 use std::alloc::AllocError as NoMemory;
 use std::sync::ledger::Ledger;
 use steps::Steps;
-
-// The most calls of one client.
-const MOST_CALLS: u64 = 549_755_813_888;
 
 impl Runner {
     // Where the client waits, the feeder has a turn.

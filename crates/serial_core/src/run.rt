@@ -52,15 +52,6 @@ fn cores_of(alloc: Global, script: &Script) -> Result<Vec<ClientCore>, NoMemory>
     Ok(cores)
 }
 
-// These outcomes, copied.
-fn copied(alloc: Global, from: &[Outcome]) -> Result<Vec<Outcome>, NoMemory>
-    ensures { IfOk result (λ copy. copy.items ≡ from.now) }
-{
-    let mut copy = Vec::with_capacity(alloc, from.len())?;
-    copy.extend_from_slice(from)?;
-    Ok(copy)
-}
-
 // What became of the commands of each client.
 fn outcomes_of(alloc: Global, cores: &[ClientCore]) -> Result<Vec<Vec<Outcome>>, NoMemory>
     ensures { IfOk result (λ all. (lines : List ScriptLine) (r : Run) → AreAfter lines r cores.now
@@ -68,7 +59,7 @@ fn outcomes_of(alloc: Global, cores: &[ClientCore]) -> Result<Vec<Vec<Outcome>>,
 {
     let mut all = Vec::new(alloc);
     'cores: for core in cores {
-        all.push(copied(alloc, core.outcomes())?)?;
+        all.push(core.copied_outcomes(alloc)?)?;
     }
     Ok(all)
 }
@@ -118,6 +109,7 @@ fn run_over<S: Source, L: Ledger>(
     ensures ran { IfOk result (λ ran. OfStream (S.left source.old) (S.left source.new) runner.puller (λ ahead taken. IsRanOf script.now batch (ahead ++ taken) ran)) }
     ensures rose { IfOk result (λ ran. IsTrue ran.head.read_fault ↔ (S.faults source.old < S.faults source.new)) }
     ensures later { IfOk result (λ _. S.faults source.old ≤ S.faults source.new) }
+    ensures once { S.faults source.new ≤ S.faults source.old + 1 }
     ensures end { IfOk result (λ ran. ran.head.read_fault ≡ false → IsAtEnd (S.left source.new)) }
     ensures too_long { (turns : ℕ) → IsErrOf result (Stop.TooLong turns) → OfStream (S.left source.old) (S.left source.new) runner.puller (IsTooLong script.now runner.puller.start turns) }
     ensures draws { OnErr result ((packets : List (List ℕ)) × ((last : Pulling) × Draws (S.left source.old) (S.left source.new) (S.faults source.old) (S.faults source.new) runner.puller last packets)) }
@@ -149,6 +141,7 @@ fn run_counted<S: Source, L: Ledger>(
     ensures ran { IfOk result (λ ran. OfStream (S.left source.old) (S.left source.new) puller (λ ahead taken. IsRanOf script.now batch (ahead ++ taken) ran)) }
     ensures rose { IfOk result (λ ran. IsTrue ran.head.read_fault ↔ (S.faults source.old < S.faults source.new)) }
     ensures later { IfOk result (λ _. S.faults source.old ≤ S.faults source.new) }
+    ensures once { S.faults source.new ≤ S.faults source.old + 1 }
     ensures end { IfOk result (λ ran. ran.head.read_fault ≡ false → IsAtEnd (S.left source.new)) }
     ensures too_long { (turns : ℕ) → IsErrOf result (Stop.TooLong turns) → OfStream (S.left source.old) (S.left source.new) puller (IsTooLong script.now puller.start turns) }
     ensures draws { OnErr result ((packets : List (List ℕ)) × ((last : Pulling) × Draws (S.left source.old) (S.left source.new) (S.faults source.old) (S.faults source.new) puller last packets)) }
@@ -196,6 +189,8 @@ pub fn run_steps<S: Source>(
     // The source failed exactly where its count rose; else it has nothing left.
     ensures rose { IfOk result (λ ran. IsTrue ran.head.read_fault ↔ (S.faults source.old < S.faults source.new)) }
     ensures later { IfOk result (λ _. S.faults source.old ≤ S.faults source.new) }
+    // At most one read has failed: after it nothing more is read, however the run ends.
+    ensures once { S.faults source.new ≤ S.faults source.old + 1 }
     ensures end { IfOk result (λ ran. ran.head.read_fault ≡ false → IsAtEnd (S.left source.new)) }
     ensures too_long { (turns : ℕ) → IsErrOf result (Stop.TooLong turns) → OfStream (S.left source.old) (S.left source.new) puller (IsTooLong script.now puller.start turns) }
     // What was taken of the source where the run stopped, as the puller's pulls tell it.

@@ -1,5 +1,5 @@
 // A node of a run, with the entries of its clients.
-ghost use Rattle.std.specs.Prelude.{◌≡◌, ◌≢◌, ℕ, ◌+◌, ◌<◌, ◌^◌, List, [], ◌∷◌, ◌++◌, length, IfOk, OnOk, IsSome, option_map};
+ghost use Rattle.std.specs.Prelude.{◌≡◌, ℕ, ◌+◌, ◌<◌, ◌^◌, List, [], ◌∷◌, ◌++◌, length, IfOk, OnOk, IsSome, option_map};
 ghost use Rattle.dmx_calls.specs.Answer.{answer};
 ghost use Rattle.dmx_calls.specs.Back.{HandsBackBatch};
 ghost use Rattle.dmx_calls.specs.Calls.{invocation_of, response_of};
@@ -7,7 +7,6 @@ ghost use Rattle.dmx_calls.specs.History.{History, entry_of};
 ghost use Rattle.dmx_calls.specs.Log.{Act as ToldAct, PassAct, act_of};
 ghost use Rattle.dmx_calls.specs.declared.params.Input.TheVariants.{Frontend};
 ghost use Rattle.dmx_calls.specs.Invocation as asks;
-ghost use Rattle.dmx_calls.specs.Response as response;
 ghost use Rattle.dmx_calls.specs.Response.{Response};
 ghost use Rattle.client_script.specs.declared.line.Line.{Line as ScriptLine};
 ghost use Rattle.client_core.specs.Core.{IsAfter};
@@ -15,7 +14,7 @@ ghost use Rattle.serial_core.specs.Nodes.{Node as RunNode, history_of, answered}
 ghost use Rattle.serial_core.specs.Standing.{IsFeeding, IsSeat};
 
 use crate::node::Node;
-use client_core::ClientCore;
+use client_core::{ClientCore, fitted, settled};
 use dmx_calls::{Act, Call, Entry, Input, Reply};
 use std::alloc::{AllocError as NoMemory, Global};
 use std::sync::Arc;
@@ -36,33 +35,6 @@ pub struct Seat<M> {
 pub struct Heard {
     pub reply: Reply,
     pub batch: Option<Arc<Batch>>,
-}
-
-// A reply that isn't want of memory; that one ends the run.
-fn settled(reply: Reply) -> Result<Reply, NoMemory>
-    ensures same { IfOk result (λ kept. kept ≡ reply) }
-    ensures some { IfOk result (λ kept. response_of kept ≢ response.NoMemory) }
-{
-    match reply {
-        Reply::NoMemory => Err(NoMemory),
-        other => Ok(other),
-    }
-}
-
-// The reply with no more room than its bytes take. A buffer that is full is kept as it is.
-fn fitted(alloc: Global, reply: Reply) -> Result<Reply, NoMemory>
-    ensures { IfOk result (λ kept. response_of kept ≡ response_of reply) }
-{
-    match reply {
-        Reply::Data(buf) => {
-            if buf.bytes().len() == buf.count() as usize {
-                Ok(Reply::Data(buf))
-            } else {
-                Ok(Reply::Data(buf.fitted(alloc)?))
-            }
-        }
-        other => Ok(other),
-    }
 }
 
 impl<M: Node> Seat<M> {

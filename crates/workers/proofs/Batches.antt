@@ -8,9 +8,9 @@ use Rattle.std.proofs.lemmas.Option.{slice_get-get_or}
 use Rattle.dmx_calls.specs.declared.histories.Fed.{Fed}
 use Rattle.dmx_calls.specs.Histories.{feeder_acts}
 use Rattle.client_core.specs.IsRun.{Batch}
-use Rattle.client_core.specs.WholeRun.{IsGiven, AreFull}
-use Rattle.workers.specs.Feeding.{Tiles, AreFullBatches}
-use Rattle.workers.proofs.Members.{all_at, batch_of}
+use Rattle.client_core.specs.WholeRun.{IsGiven}
+use Rattle.workers.specs.Feeding.{Tiles, batch_of}
+use Rattle.workers.proofs.Members.{all_at}
 
 sizes_are : (most first end : ℕ) (fs : List Fed) → Tiles most first end fs → AllByRecursion (λ (b : Batch). (1 ≤ b.size) × (b.size ≤ most)) (map batch_of fs)
 sizes_are most first end [] tiles = tt
@@ -28,11 +28,6 @@ total_is most first end (f ∷ fs) tiles =
     let rest = total_is most (first + f.count) end fs tiles.3 in
     let l = map (λ (b : Batch). b.size) (map batch_of fs) in
     let one : sum (f.count ∷ l) ≡ f.count + sum l = sum_by-cons (λ x. x) f.count l in omega (arith, rest, one)
-
-pub full : (most : ℕ) (fs : List Fed) → AreFullBatches most fs → AreFull most (map batch_of fs)
-full most [] is = tt
-full most (f ∷ []) is = tt
-full most (f ∷ g ∷ fs) is = (is.0, full most (g ∷ fs) is.1)
 
 -- each call of the feeder is at a moment that the clock may give
 pub given : (may : ℕ → Bool) (fs : List Fed) → All (λ fed. IsTrue (may fed.now)) fs → AllByRecursion (IsGiven may) (feeder_acts fs)

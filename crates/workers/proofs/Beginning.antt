@@ -27,7 +27,7 @@ use Rattle.workers.specs.Working.{IsFit, IsWorking}
 use Rattle.workers.specs.Begun.{AreBegun}
 use Rattle.workers.specs.Feeding.{AreFullBatches, HasFed}
 use Rattle.workers.specs.FeederWork.{IsFitFeeder, HasPassed}
-use Rattle.workers.proofs.Drawing.{draws_none}
+use Rattle.feed_pull.proofs.Drawing.{draws_none}
 
 module _ (locks : List TableId) (callers who left : ℕ) (c : Caller) (f : IsFreshCaller locks callers who left c) where
   -- a pass that has made no call

@@ -15,8 +15,8 @@ use Rattle.node_lock.proofs.Views.{has_left, has_right, has_either, once_append}
 use Rattle.dmx_calls.specs.declared.log.Entry.{Entry as ToldEntry}
 use Rattle.dmx_calls.specs.Calls.{told_entry}
 use Rattle.trace_merge.specs.Merging.{is_on, all_of}
-use Rattle.trace_merge.specs.Inside.Placing.{entries_on}
-use Rattle.trace_merge.proofs.Standing.{Ascends, ascends}
+use Rattle.trace_merge.specs.Placing.{entries_on}
+use Rattle.trace_merge.proofs.Standing.{Ascends, ascends, flips}
 use Rattle.workers.proofs.Weaves.{Rises}
 use Rattle.workers.proofs.Members.{at_has, has_at}
 
@@ -78,14 +78,6 @@ distinct (k ∷ ks) once = IsDistinct-cons nat_eq k ks (others ks once.0) (disti
   others : (ls : List ℕ) → ¬ Has ls k → AllByRecursion (λ l. nat_eq k l ≡ false) ls
   others [] not = tt
   others (l ∷ ls) not = (ne_eqb k l (λ e. not (inl (sym e))), others ls (λ h. not (inr h)))
-
-flips : (x y : ℕ) → nat_eq x y ≡ nat_eq y x
-flips x y = by_test (nat_eq x y) (nat_eq y x) refl refl where
-  by_test : (b c : Bool) → nat_eq x y ≡ b → nat_eq y x ≡ c → b ≡ c
-  by_test true true p q = refl
-  by_test false false p q = refl
-  by_test true false p q = absurd (grind (arith, nat_tests))
-  by_test false true p q = absurd (grind (arith, nat_tests))
 
 -- the places of a log rise on the node
 abbrev pub RisesOn : (node : ℕ) → List ToldEntry → Type 0

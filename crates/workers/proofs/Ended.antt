@@ -30,9 +30,10 @@ use Rattle.adapter.specs.Ends.{IsHistory, HaveHistories, rows_of}
 use Rattle.adapter.proofs.Lists.{at_place, place_below, one_value}
 use Rattle.workers.specs.Worked.{AreWorked}
 use Rattle.workers.proofs.Weaves.{weaves}
-use Rattle.workers.proofs.Members.{all_at, all_from, at_has, has_at, each_woven, has_woven, feeder_steps, batch_of}
+use Rattle.workers.specs.Feeding.{batch_of}
+use Rattle.workers.proofs.Members.{all_at, all_from, at_has, has_at, each_woven, has_woven, feeder_steps}
 use Rattle.workers.proofs.Calls.{has_all, RisesOn, AreApart, of_some_log, is_merged, merged_rise}
-use Rattle.workers.proofs.Batches.{sizes, total_is, full, given}
+use Rattle.workers.proofs.Batches.{sizes, total_is, given}
 use Rattle.workers.proofs.Owning.{client_of, called, logged_there, history_told}
 
 -- ------ lists that are made of others
@@ -227,7 +228,7 @@ module _ (lines : List Line) (most : ℕ) (may : ℕ → Bool) (stream : List (L
         clients_done = run_done;
       };
       accounted = accounted;
-      full = full most fs w.fed.full;
+      full = w.fed.full;
       moments = λ node place h e at there. (entry_at node place h e at there).moment;
       clients = w.outcomes;
       outcomes = λ c lt. let k = client_of lines most may stream feeder fs others (books_of logs) told w c (log_at c lt).0 (log_at c lt).1 in k.2.1 ∙ ap (λ z. Some z) k.2.2.outcomes;

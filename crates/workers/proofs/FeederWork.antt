@@ -15,7 +15,7 @@ use Rattle.adapter.specs.Nodes.{MakesEachEntry, fed, ended}
 use Rattle.workers.specs.declared.feeder_worker.FeederWorker.{FeederWorker}
 use Rattle.workers.specs.Feeding.{AreFullBatches, HasFed}
 use Rattle.workers.specs.FeederWork.{AreFullSoFar, HasPassed, HasPassedAll}
-use Rattle.workers.proofs.Drawing.{draws_then, none_given}
+use Rattle.feed_pull.proofs.Drawing.{draws_then, none_given}
 use Rattle.workers.proofs.Feeding.{fed_more, fed_end, full_push}
 
 pub on_ok : {T E : Type 0} (r : Result T E) (P : Type 0) → IsOk r → OnOk r P → P

@@ -162,46 +162,6 @@ module _ (lines : List Line) (locks : List TableId) (n : ℕ) (feeder : Caller) 
         let u = come_at may locks old new h k v.0 v.1 in
         subst AreOnNodes v.2 (u.2.fit (no_stop v.0.stop (none k v.0 v.1))).nodes
 
--- ------ the source
-
-failed_by : (r : Reading) → has_failed r ≡ true → r ≡ Failed
-failed_by Going is = absurd (cc)
-failed_by Ended is = absurd (cc)
-failed_by Failed is = refl
-failed_by TooMany is = absurd (cc)
-
-ended_by : (r : Reading) → r ≢ Going → r ≢ TooMany → has_failed r ≡ false → r ≡ Ended
-ended_by Going stopped few is = absurd (stopped refl)
-ended_by Ended stopped few is = refl
-ended_by Failed stopped few is = absurd (cc)
-ended_by TooMany stopped few is = absurd (few refl)
-
--- the source failed just where its count rose
-pub rose_by : (b : Bool) (old new : Reading) (x y : Option (List ℕ)) (l m : ℕ) → Follows old new x y l m → old ≡ Going → b ≡ has_failed new → IsTrue b ↔ (l < m)
-rose_by b old new x y l m f going is = (
-  λ t. f.fails going (failed_by new (sym is ∙ t)),
-  λ lt. is ∙ ap has_failed (f.rose lt),
-)
-
--- else it has nothing left
-pub end_by : (b : Bool) (old new : Reading) (x y : Option (List ℕ)) (l m : ℕ) → Follows old new x y l m → old ≡ Going → b ≡ has_failed new → new ≢ Going → new ≢ TooMany → b ≡ false → IsAtEnd y
-end_by b old new x y l m f going is stopped few unfailed = f.ends going (ended_by new stopped few (sym is ∙ unfailed))
-
--- so many reads were made
-pub reads_by : (lines : List Line) (x y : Option (List ℕ)) (l n turns : ℕ) (old new : Pulling) (packets : List (List ℕ)) → Draws x y l n old new packets
-    → turns ≡ 4294967296 → 4294967296 ≤ new.start + new.taken → OfStream x y old (IsTooLong lines old.start turns)
-reads_by lines x y l n turns old new packets draws is many = (
-  draws.carries.more,
-  draws.carries.consumes,
-  λ ahead pulls.
-      let p : Pulls ahead ([] ++ draws.carries.more) ([] ++ packets) new = draws.carries.pulls ahead [] [] pulls in
-      inl (is, omega (arith, many, draws.start, p.size)),
-)
-
-pub on_err : {T E : Type 0} (r : Result T E) (P : Type 0) → P → OnErr r P
-on_err (Ok x) P p = tt
-on_err (Err e) P p = p
-
 -- the feeder has made too many reads, or a client too many calls
 pub one_of_both : (may : ℕ → Bool) (locks : List TableId) (old new : List ClientWorker) → HaveCome may locks old new → (feeder stop : Option Stop) (turns : ℕ) → StopsBy feeder new stop → stop ≡ Some (TooLong turns)
     → (feeder ≡ Some (TooLong turns)) ⊎ ((turns ≡ 549755813888) × ((k : ℕ) × (w : ClientWorker) × (slice_get new k ≡ Some w) × (w.core.step ≡ 549755813888)))

@@ -7,7 +7,6 @@ pub mod Owning
 pub mod Batches
 pub mod Ended
 mod Beginning
-mod Drawing
 mod Feeding
 mod FeederWork
 mod Leaving
@@ -18,7 +17,6 @@ mod Working
 pub mod Counting
 pub mod HistoryBytes
 pub mod ReadReplies
-pub mod FirstCalls
 pub mod Repeating
 pub mod MadeCalls
 pub mod FeederPasses

@@ -25,7 +25,7 @@ use Rattle.workers.specs.Logged.{Tells, HasCalled, calls_on}
 use Rattle.workers.specs.Budget.{IsRunning}
 use Rattle.workers.proofs.MadeCalls.{Made, made_by, seen_there, LoggedCall, logged_call}
 use Rattle.workers.proofs.Repeating.{Asked, asked_by}
-use Rattle.workers.proofs.ReadReplies.{IsReadReply, read_there}
+use Rattle.workers.proofs.ReadReplies.{IsAnyReadReply, read_there}
 
 -- ------ one call
 
@@ -214,8 +214,8 @@ module _ (m : Moment) where
         by_either place x is made (at_either m.others m.feeder made.caller made.number made.there)
 
     -- a reply to a client's read
-    pub reply_there : (d : ℕ) (c : Client d) (i : ℕ) (e : LogEntry) → slice_get c.log i ≡ Some e → e.node ≡ node → (now count : ℕ) → e.act ≡ ReadAct now count → IsReadReply e.response
+    pub reply_there : (d : ℕ) (c : Client d) (i : ℕ) (e : LogEntry) → slice_get c.log i ≡ Some e → e.node ≡ node → (now count : ℕ) → e.act ≡ ReadAct now count → IsAnyReadReply e.response
     reply_there d c i e is on now count read =
         let x = logged_there d c i e is on in
-        subst IsReadReply (sym x.2.response)
+        subst IsAnyReadReply (sym x.2.response)
         (read_there node h e.place x.0 now count history.legal x.1 (read_of x.0.invocation now count (sym x.2.act ∙ read)))

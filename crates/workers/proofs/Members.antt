@@ -7,7 +7,7 @@ use Rattle.dmx_calls.specs.declared.histories.Fed.{Fed}
 use Rattle.dmx_calls.specs.Log.{Act, EndAct, LogEntry}
 use Rattle.dmx_calls.specs.Histories.{pass_act, feeder_acts, feeder_entry, feeder_entries, before_entry, woven_from}
 use Rattle.client_core.specs.IsRun.{Batch, Step, feeding, steps_of}
-use Rattle.workers.specs.Feeding.{Tiles}
+use Rattle.workers.specs.Feeding.{Tiles, batch_of}
 
 -- ------ each entry
 
@@ -98,9 +98,6 @@ module _ (node : ℕ) (e : LogEntry) (calls : List LogEntry) (not : e.who ≢ 0)
 steps_woven : (node : ℕ) (calls : List LogEntry) → AllByRecursion (λ (e : LogEntry). e.who ≢ 0) calls → (place step : ℕ) (acts : List Act) → steps_of 0 (woven_from node calls place step acts) ≡ steps_from step acts
 steps_woven node [] others place step acts = steps_fed node place step acts
 steps_woven node (e ∷ calls) others place step acts = steps_before node e calls others.0 (λ p s bs. steps_woven node calls others.1 p s bs) place step acts
-
-abbrev pub batch_of : Fed → Batch
-batch_of fed = record { size = fed.count; moment = fed.now }
 
 steps_tile : (most first end step : ℕ) (fs : List Fed) → Tiles most first end fs → steps_from step (map pass_act fs ++ EndAct ∷ []) ≡ feeding first step (map batch_of fs)
 steps_tile most first end step [] tiles = refl

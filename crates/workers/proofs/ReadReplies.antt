@@ -14,6 +14,7 @@ use Rattle.dmx_calls.specs.Rules.{Rules, demux, dvr, rules_at}
 use Rattle.dmx_calls.specs.Ledger.{Misfit, over}
 use Rattle.dmx_calls.specs.Facts.{Ledger, Facts, facts, ledger_of, ledger_at}
 use Rattle.dmx_calls.specs.Answer.{answer, with_call, response_unless, refusal_to, read_response, read_over, read_timeout, read_bytes, expired_of}
+use Rattle.dmx_calls.specs.Tenure.{has_ended}
 use Rattle.dmx_calls.specs.Legal.{May, IsLegalFor}
 use Rattle.dmx_calls.specs.Owning.{HasRead}
 use Rattle.dmx_calls.specs.Bytes.{OverflowNamesAByte}
@@ -21,60 +22,26 @@ use Rattle.dmx_calls.proofs.Nodes.{demux_keeps, dvr_keeps}
 use Rattle.dmx_calls.proofs.Pending.{names_a_byte}
 use Rattle.dmx_calls.proofs.Owning.{readers_call_between}
 use Rattle.client_core.specs.Commands.{ends_drain}
+use Rattle.client_core.proofs.ReadReplies.{IsReadReply, reads as answer_reads}
 use Rattle.workers.proofs.HistoryBytes.{bytes_in}
 
 -- ------ a read
 
--- a reply to a read
-abbrev pub IsReadReply : Response → Type 0
-IsReadReply (Refused errno) = Unit {0}
-IsReadReply (Data bytes) = Unit {0}
-IsReadReply (Again has) = Unit {0}
-IsReadReply (Overflow from to item need room) = from < to
-IsReadReply (TimedOut started now timeout) = Unit {0}
-IsReadReply _ = ⊥
-
-unless_reads : (o : Option Errno) (r : Response) → IsReadReply r → IsReadReply (response_unless o r)
-unless_reads None r is = is
-unless_reads (Some errno) r is = tt
-
-if_reads : (b : Bool) (r q : Response) → IsReadReply r → IsReadReply q → IsReadReply (if b then r else q)
-if_reads true r q x y = x
-if_reads false r q x y = y
-
-bytes_read : (f : Facts) (l : Ledger) (count : ℕ) → IsReadReply (read_bytes f l count)
-bytes_read f l zero = tt
-bytes_read f l (suc n) = if_reads (nat_eq l.answered l.total) (Again f.has_ended) (Data _) tt tt
-
-timeout_read : (f : Facts) (l : Ledger) (expired : Option ℕ) (count : ℕ) → IsReadReply (read_timeout f l expired count)
-timeout_read f l None count = bytes_read f l count
-timeout_read f l (Some moment) count = if_reads l.is_told (read_bytes f l count) (TimedOut l.started moment _) (bytes_read f l count) tt
-
-over_read : (f : Facts) (l : Ledger) (o : Option Misfit) (expired : Option ℕ) (count : ℕ) → ((x : Misfit) → o ≡ Some x → l.answered < l.total) → IsReadReply (read_over f l o expired count)
-over_read f l None expired count less = timeout_read f l expired count
-over_read f l (Some x) expired count less = less x refl
+-- a reply to a read, whether or not the stream has ended
+abbrev pub IsAnyReadReply : Response → Type 0
+IsAnyReadReply r = (ended : Bool) × IsReadReply ended r
 
 module _ (node : Rules) (names : OverflowNamesAByte node) where
-  ledger_read : (h : History) (f : Facts) (o : Option Since) (expired : Option ℕ) (count : ℕ) → IsLegalFor node h → IsReadReply (read_response f (ledger_of node h o) expired count)
-  ledger_read h f None expired count legal = tt
-  ledger_read h f (Some s) expired count legal = over_read f (ledger_at node h) (over node h) expired count (λ x is. names h x legal is)
-
-  answer_read : (h : History) (who now count : ℕ) → IsLegalFor node h → IsReadReply (answer node h who (call.Read now count))
-  unfolding answer facts
-  answer_read h who now count legal =
-      unless_reads (refusal_to node.kind (facts node h) who (call.Read now count)) _
-      (ledger_read h (facts node h) (node.capture h) (expired_of (facts node (with_call h who (call.Read now count))).ledger) count legal)
-
   -- a read takes no memory
-  may_read : (h : History) (who now count : ℕ) (r : Response) → IsLegalFor node h → May node h who (call.Read now count) r → IsReadReply r
-  may_read h who now count r legal (inl same) = subst IsReadReply (sym same) (answer_read h who now count legal)
+  may_read : (h : History) (who now count : ℕ) (r : Response) → IsLegalFor node h → May node h who (call.Read now count) r → IsAnyReadReply r
+  may_read h who now count r legal (inl same) = subst IsAnyReadReply (sym same) (has_ended h, answer_reads node names h who now count legal)
   may_read h who now count r legal (inr (no_memory, done, takes)) = absurd (cc takes)
 
 module _ (node : ℕ) where
-  reads : (h : History) (who now count : ℕ) (r : Response) → IsLegalFor (rules_at node) h → May (rules_at node) h who (call.Read now count) r → IsReadReply r
+  reads : (h : History) (who now count : ℕ) (r : Response) → IsLegalFor (rules_at node) h → May (rules_at node) h who (call.Read now count) r → IsAnyReadReply r
   unfolding rules_at
   reads h who now count r legal may = go (nat_lt node DEMUX_NODES) legal may where
-    go : (b : Bool) → IsLegalFor (if b then demux else dvr) h → May (if b then demux else dvr) h who (call.Read now count) r → IsReadReply r
+    go : (b : Bool) → IsLegalFor (if b then demux else dvr) h → May (if b then demux else dvr) h who (call.Read now count) r → IsAnyReadReply r
     go true l m = may_read demux (names_a_byte demux demux_keeps) h who now count r l m
     go false l m = may_read dvr (names_a_byte dvr dvr_keeps) h who now count r l m
 
@@ -109,7 +76,7 @@ module _ (node : ℕ) where
 
   -- the response to a read in a legal history
   pub read_there : (h : List Entry) (i : ℕ) (e : Entry) (now count : ℕ) → IsLegalFor (rules_at node) (reverse h) → get_elem? h i ≡ some e → e.invocation ≡ call.Read now count
-      → IsReadReply e.response
+      → IsAnyReadReply e.response
   read_there h i e now count legal is read =
       let s : Split h i e = split h i e is in
       let to : IsLegalFor (rules_at node) (e ∷ reverse s.front) = legal_to s.front s.back e (subst (λ l. IsLegalFor (rules_at node) (reverse l)) s.whole legal) in
@@ -135,16 +102,16 @@ module _ (node : ℕ) where
 -- ------ what a reply that ends no drain answers
 
 -- it gives a byte, or names one as lost, or it is Again
-pub not_ended : (r : Response) → IsReadReply r → ends_drain r ≡ false → (0 < bytes_in r) ⊎ (r ≡ Again false)
+pub not_ended : (r : Response) → IsAnyReadReply r → ends_drain r ≡ false → (0 < bytes_in r) ⊎ (r ≡ Again false)
 not_ended (Refused x) is nay = absurd (cc nay)
 not_ended (Data []) is nay = absurd (cc nay)
 not_ended (Data (x ∷ xs)) is nay = inl (omega arith)
 not_ended (Again true) is nay = absurd (cc nay)
 not_ended (Again false) is nay = inr refl
-not_ended (Overflow from to item need room) is nay = inl (omega (arith, is))
+not_ended (Overflow from to item need room) is nay = inl (let less = is.1 in omega (arith, less))
 not_ended (TimedOut a b c) is nay = absurd (cc nay)
-not_ended (Done a b c) is nay = absurd is
-not_ended (Busy a) is nay = absurd is
-not_ended NoMemory is nay = absurd is
-not_ended (Ready a b c d) is nay = absurd is
-not_ended Passed is nay = absurd is
+not_ended (Done a b c) is nay = absurd is.1
+not_ended (Busy a) is nay = absurd is.1
+not_ended NoMemory is nay = absurd is.1
+not_ended (Ready a b c d) is nay = absurd is.1
+not_ended Passed is nay = absurd is.1

@@ -18,8 +18,8 @@ use Rattle.client_core.proofs.More.{one_reply_more, some_of, repeats_none}
 use Rattle.adapter.proofs.Lists.{at_place}
 use Rattle.workers.proofs.Counting.{total, total_le, total_add, weigh}
 use Rattle.workers.proofs.HistoryBytes.{bytes_in, weight_at, weigh_places}
-use Rattle.workers.proofs.ReadReplies.{IsReadReply, not_ended}
-use Rattle.workers.proofs.FirstCalls.{first_calls, stays_on}
+use Rattle.workers.proofs.ReadReplies.{IsAnyReadReply, not_ended}
+use Rattle.client_core.proofs.FirstCalls.{first_calls, stays_on}
 
 -- ------ lists
 
@@ -215,7 +215,7 @@ module _ (lines : List Line) (client : ℕ) (log : List LogEntry) (events : (i :
       let one = one_call i e is in
       (going e.act e.response (omega (arith, more, one.more)), omega (arith, one.more, one_at_most e.act e.response))
 
-  bytes_go : (i : ℕ) (e : LogEntry) → slice_get log i ≡ Some e → ((now count : ℕ) → e.act ≡ ReadAct now count → IsReadReply e.response)
+  bytes_go : (i : ℕ) (e : LogEntry) → slice_get log i ≡ Some e → ((now count : ℕ) → e.act ≡ ReadAct now count → IsAnyReadReply e.response)
       → (b : Bool) → is_again e.response ≡ b → 0 < (if b then 0 else grows i) → (if b then 0 else grows i) ≤ bytes_in e.response
   bytes_go i e is answers true yea more = absurd (omega (arith, more))
   bytes_go i e is answers false nay more =
@@ -226,7 +226,7 @@ module _ (lines : List Line) (client : ℕ) (log : List LogEntry) (events : (i :
         by (inr again) = absurd (let k : is_again (Again false) ≡ false = sym (ap is_again again) ∙ nay in cc k)
 
   -- where no Again adds a repeat, the bytes do
-  pub bytes_pay : (i : ℕ) (e : LogEntry) → slice_get log i ≡ Some e → ((now count : ℕ) → e.act ≡ ReadAct now count → IsReadReply e.response) → 0 < by_bytes i → by_bytes i ≤ bytes_in e.response
+  pub bytes_pay : (i : ℕ) (e : LogEntry) → slice_get log i ≡ Some e → ((now count : ℕ) → e.act ≡ ReadAct now count → IsAnyReadReply e.response) → 0 < by_bytes i → by_bytes i ≤ bytes_in e.response
   bytes_pay i e is answers more =
       let same : again_at (slice_get log i) ≡ is_again e.response = ap again_at is in
       let small : (if is_again e.response then 0 else grows i) ≤ bytes_in e.response =

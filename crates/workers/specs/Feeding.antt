@@ -9,6 +9,8 @@ use Rattle.dmx_calls.specs.declared.params.Input.TheVariants.{Frontend}
 use Rattle.dmx_calls.specs.Invocation.{Pass}
 use Rattle.dmx_calls.specs.Response.{Passed}
 use Rattle.dmx_calls.specs.History.{Entry, entry_of}
+use Rattle.client_core.specs.IsRun.{Batch}
+use Rattle.client_core.specs.WholeRun.{AreFull}
 use Rattle.adapter.specs.Callers.{Caller}
 use Rattle.adapter.specs.Nodes.{ended}
 
@@ -25,11 +27,13 @@ abbrev pub Tiles : (most first end : ℕ) → List Fed → Type 0
 Tiles most first end [] = first ≡ end
 Tiles most first end (fed ∷ feeding) = (fed.first ≡ first) × (1 ≤ fed.count) × (fed.count ≤ most) × Tiles most (first + fed.count) end feeding
 
+-- a batch as a run tells it
+abbrev pub batch_of : Fed → Batch
+batch_of fed = record { size = fed.count; moment = fed.now }
+
 -- every batch but the last has `most` packets
 abbrev pub AreFullBatches : (most : ℕ) → List Fed → Type 0
-AreFullBatches most [] = Unit {0}
-AreFullBatches most (fed ∷ []) = Unit {0}
-AreFullBatches most (fed ∷ next ∷ feeding) = (fed.count ≡ most) × AreFullBatches most (next ∷ feeding)
+AreFullBatches most feeding = AreFull most (map batch_of feeding)
 
 -- these entries stand in the history at these places
 abbrev pub StandAt : List Entry → (entries : List Entry) → (places : List ℕ) → Type 0

@@ -15,9 +15,8 @@ ghost use Rattle.adapter.specs.Callers.{IsSameCaller};
 ghost use Rattle.workers.specs.Working.{IsFit, IsWorking, MayCallNow, GoesOn, HasLooked, HasCome};
 
 use crate::moment::moment_of;
-use crate::reply::{fitted, settled};
 use adapter::{Adapter, Client};
-use client_core::{ClientCore, Event, Stop, call_of};
+use client_core::{ClientCore, Event, MOST_CALLS, Stop, call_of, fitted, settled};
 use dmx_calls::{Act, Entry};
 use emu_io::{Clock, Gate};
 use std::alloc::{AllocError as NoMemory, Global};
@@ -26,9 +25,6 @@ use std::sync::Wait;
 use std::sync::ledger::{Blank, Ledger};
 use std::thread;
 use steps::Steps;
-
-// The most calls of one client.
-const MOST_CALLS: u64 = 549_755_813_888;
 
 // A client with the machine that says what it calls next, its calls so far, and why it stopped, if it did.
 #[derive(Drop)]

@@ -43,15 +43,6 @@ pub fn workers_of(
     Ok(workers)
 }
 
-// These outcomes, copied.
-fn copied(alloc: Global, from: &[Outcome]) -> Result<Vec<Outcome>, NoMemory>
-    ensures { IfOk result (λ copy. copy.items ≡ from.now) }
-{
-    let mut copy = Vec::with_capacity(alloc, from.len())?;
-    copy.extend_from_slice(from)?;
-    Ok(copy)
-}
-
 // The clients, their logs and the outcomes of their commands.
 pub fn done_of(alloc: Global, workers: Vec<ClientWorker>) -> Result<Done, NoMemory>
     ensures { IfOk result (IsLeft workers.items) }
@@ -66,7 +57,7 @@ pub fn done_of(alloc: Global, workers: Vec<ClientWorker>) -> Result<Done, NoMemo
             log,
             ..
         } = worker;
-        outcomes.push(copied(alloc, core.outcomes())?)?;
+        outcomes.push(core.copied_outcomes(alloc)?)?;
         clients.push(client)?;
         logs.push(log)?;
     }

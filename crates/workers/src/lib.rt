@@ -12,7 +12,8 @@
 //!
 //! What is proved, whatever the order in which the threads act: `work` leaves all that `AreWorked` says, over the stream that
 //! stood ahead in the puller and the bytes that were taken, in full batches but for the last, each moment one that the clock may
-//! give; the head is that of the stream. The source failed just where its count rose, and else it has nothing left. `TooLong`
+//! give; the head is that of the stream. The source failed just where its count rose, and else it has nothing left; however the
+//! run ends, at most one read has failed. `TooLong`
 //! comes only where so many reads were made, or where the commands and the bytes allow a client so many calls: at each moment of
 //! a run no client makes more calls than that (`calls_are_within_budget`), since each repeated read is paid for by another
 //! caller's entry or by a byte. Where the run stops early, what was taken of the source is told as the puller's pulls tell it.
@@ -35,7 +36,6 @@ mod ending;
 mod feeder_worker;
 mod laws;
 mod moment;
-mod reply;
 mod run;
 #[cfg(test)]
 mod tests;

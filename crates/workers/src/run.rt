@@ -1,5 +1,5 @@
 // The run of a script by threads.
-ghost use Rattle.std.specs.Prelude.{◌≡◌, false, ℕ, ◌-◌, ◌<◌, ◌≤◌, ◌^◌, ◌↔◌, List, [], ◌∷◌, ◌++◌, map, All, IfOk, OnOk, OnErr, IsErrOf, IsTrue};
+ghost use Rattle.std.specs.Prelude.{◌≡◌, false, ℕ, ◌+◌, ◌-◌, ◌<◌, ◌≤◌, ◌^◌, ◌↔◌, List, [], ◌∷◌, ◌++◌, map, All, IfOk, OnOk, OnErr, IsErrOf, IsTrue};
 ghost use Rattle.std.specs.Io.KnownBytes.{IsAtEnd};
 ghost use Rattle.ts_packet.specs.Cut.{cut};
 ghost use Rattle.dmx_calls.specs.Calls.{told_entry};
@@ -143,6 +143,8 @@ pub fn work<R: Threads + Wait + Sync, S: Source + Send, C: Clock + Sync, G: Gate
     // The source failed exactly where its count rose; else it has nothing left.
     ensures rose { IfOk result (λ w. IsTrue w.head.read_fault ↔ (S.faults source.old < S.faults source.new)) }
     ensures later { IfOk result (λ _. S.faults source.old ≤ S.faults source.new) }
+    // At most one read has failed: after it nothing more is read, however the run ends.
+    ensures once { S.faults source.new ≤ S.faults source.old + 1 }
     ensures end { IfOk result (λ w. w.head.read_fault ≡ false → IsAtEnd (S.left source.new)) }
     // So many reads were made, or the commands and the bytes allow a client so many calls.
     ensures too_long { (turns : ℕ) → IsErrOf result (Stop.TooLong turns) → OfStream (S.left source.old) (S.left source.new) puller (IsTooLong script.now puller.start turns) }

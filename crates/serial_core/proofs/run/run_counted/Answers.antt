@@ -1,5 +1,5 @@
 use Rattle.std.proofs.Common.{refl, []}
-use Rattle.serial_core.proofs.Drawing.{draws_none}
+use Rattle.feed_pull.proofs.Drawing.{draws_none}
 use Rattle.serial_core.proofs.run.run_counted.Goals as goal
 
 pub returns-in-Err-clause-draws : goal.returns-in-Err-clause-draws

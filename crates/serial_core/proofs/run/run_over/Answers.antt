@@ -1,4 +1,4 @@
-use Rattle.std.proofs.Common.{◌≡◌, ◌≢◌, sym, ap, ◌∙◌, ℕ, ◌+◌, ◌≤◌, List, ◌++◌, length, map, Err, inr, true, false, arith}
+use Rattle.std.proofs.Common.{◌≡◌, ◌≢◌, sym, ap, ◌∙◌, ℕ, ◌+◌, ◌≤◌, List, ◌++◌, length, map, Err, inl, inr, true, false, arith}
 use Rattle.std.specs.List.{range_with_len}
 use Rattle.client_script.specs.declared.line.Line.{Line}
 use Rattle.client_core.specs.Events.{outcomes}
@@ -6,16 +6,15 @@ use Rattle.feed_pull.specs.Pulling.{Pulls, has_failed}
 use Rattle.dmx_calls.specs.Head.{told_head, head_of}
 use Rattle.feed_pull.specs.declared.fault.Reading.TheVariants.{TooMany}
 use Rattle.client_core.specs.declared.stop.Stop.TheVariants.{TooLong}
-use Rattle.client_core.specs.Budget.{most_calls, all_commands}
+use Rattle.client_core.specs.Budget.{most_calls, all_commands, IsTooLong}
 use Rattle.serial_core.specs.declared.run.Ran.{Ran}
 use Rattle.serial_core.specs.SerialRun.{Run, replies_of}
 use Rattle.serial_core.specs.Legal.{AreLegal}
 use Rattle.serial_core.specs.Lines.{AreAfter}
 use Rattle.serial_core.specs.Standing.{IsNodes}
 use Rattle.serial_core.specs.Ran.{histories_in}
-use Rattle.serial_core.proofs.Drawing.{on_err}
-use Rattle.serial_core.proofs.Ending.{ran_is, overrun_is, clients_within}
-use Rattle.serial_core.proofs.Causes.{rose_by, end_by, reads_by, calls_by, ok_by}
+use Rattle.serial_core.proofs.Ending.{ran_is, overrun_is, clients_within, ok_by}
+use Rattle.feed_pull.proofs.Stopping.{on_err, rose_by, end_by, many_reads, of_stream}
 use Rattle.serial_core.proofs.run.run_over.Goals as goal
 
 pub returns-in-Ok-clause-ran : goal.returns-in-Ok-clause-ran
@@ -50,7 +49,8 @@ pub returns-in-Ok-clause-too_long : goal.returns-in-Ok-clause-too_long
 returns-in-Ok-clause-too_long g c turns is =
     let m = c.in-Ok.ensures.moves in
     let k = c.ran_of.ensures.too_long turns is in
-    reads_by c.args.script.now _ _ _ _ turns c.args.runner.puller c.whole.new.self.puller m.packets m.draws k.0 k.1
+    of_stream _ _ c.args.runner.puller _ (IsTooLong c.args.script.now c.args.runner.puller.start turns) (λ ahead taken (q : 4294967296 ≤ c.args.runner.puller.start + length taken). inl (k.0, q))
+    (many_reads _ _ _ _ c.args.runner.puller c.whole.new.self.puller m.packets m.draws k.1)
 
 pub returns-in-Ok-clause-draws : goal.returns-in-Ok-clause-draws
 returns-in-Ok-clause-draws g c = let m = c.in-Ok.ensures.moves in on_err c.ran_of.result _ (m.packets, (c.whole.new.self.puller, m.draws))
@@ -59,7 +59,7 @@ pub returns-in-Err-clause-too_long : goal.returns-in-Err-clause-too_long
 returns-in-Err-clause-too_long g c turns is =
     let same : c.in-Err.stop ≡ TooLong turns = cc in
     let k = c.whole.ensures.too_long turns (c.in-Err.is ∙ ap Err same) in
-    calls_by c.args.script.now _ _ c.args.runner.puller.start turns c.args.runner.puller _ (λ ahead taken (q : 549755813888 ≤ most_calls (all_commands c.args.script.now) (length ahead + length taken)). inr (k.0, q))
+    of_stream _ _ c.args.runner.puller _ (IsTooLong c.args.script.now c.args.runner.puller.start turns) (λ ahead taken (q : 549755813888 ≤ most_calls (all_commands c.args.script.now) (length ahead + length taken)). inr (k.0, q))
     (overrun_is c.args.script.now c.args.batch _ _ _ _ c.args.runner c.whole.new.self c.args.cores.now c.requires.begun c.requires.fresh (rw c.lines.ensures.lines at k.1))
 
 pub returns-in-Err-clause-draws : goal.returns-in-Err-clause-draws
@@ -88,3 +88,9 @@ returns-in-Ok-clause-later g c =
     (λ (ran : Ran) (a : ran.head.read_fault ≡ has_failed c.whole.new.self.puller.reading) (b : ran.head.read_fault ≡ has_failed c.whole.new.self.puller.reading) (h : ran.head.read_fault ≡ has_failed c.whole.new.self.puller.reading).
     w.moves.draws.follows.later)
     c.ran_of.ensures.fault c.ran_of.ensures.fault c.ran_of.ensures.fault
+
+pub returns-in-Ok-clause-once : goal.returns-in-Ok-clause-once
+returns-in-Ok-clause-once g c = c.in-Ok.ensures.moves.draws.follows.once
+
+pub returns-in-Err-clause-once : goal.returns-in-Err-clause-once
+returns-in-Err-clause-once g c = c.in-Err.ensures.draws.1.follows.once

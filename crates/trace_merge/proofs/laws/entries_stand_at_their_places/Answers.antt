@@ -1,5 +1,4 @@
 use Rattle.std.proofs.Common.{ℕ, ◌≡◌, ◌≤◌, ◌<◌, ◌+◌, ◌∙◌, refl, sym, ap, subst, Bool, true, false, List, [], ◌∷◌, Some, length, map, get_or, nat_eq, slice_get, option_map, arith, length-append}
-use Rattle.std.proofs.lemmas.Bool.Decides.{nat_tests}
 use Rattle.std.proofs.lemmas.List.{length-map}
 use Rattle.std.proofs.lemmas.List.Sorted.{All-permutation, IsPermutation-map, length_permutation}
 use Rattle.std.proofs.lemmas.Map.Keys.{IsDistinct-IsPermutation}
@@ -12,17 +11,9 @@ use Rattle.dmx_calls.specs.Histories.{pass_act, feeder_acts, histories_of, woven
 use Rattle.dmx_calls.specs.Log.{EndAct, LogEntry}
 use Rattle.dmx_calls.proofs.Weaving.{woven-length, woven_nodes-at}
 use Rattle.trace_merge.specs.Merging.{AreByPlace}
-use Rattle.trace_merge.specs.Inside.Placing.{entries_on, length_on, NameTheirPlaces, StandAtTheirPlaces}
-use Rattle.trace_merge.proofs.Standing.{ascends, in-place}
+use Rattle.trace_merge.specs.Placing.{entries_on, length_on, NameTheirPlaces, StandAtTheirPlaces}
+use Rattle.trace_merge.proofs.Standing.{ascends, flips, in-place}
 use Rattle.trace_merge.proofs.laws.entries_stand_at_their_places.Goals as goal
-
-flips : (x y : ℕ) → nat_eq x y ≡ nat_eq y x
-flips x y = by_test (nat_eq x y) (nat_eq y x) refl refl where
-  by_test : (b c : Bool) → nat_eq x y ≡ b → nat_eq y x ≡ c → b ≡ c
-  by_test true true p q = refl
-  by_test false false p q = refl
-  by_test true false p q = absurd (grind (arith, nat_tests))
-  by_test false true p q = absurd (grind (arith, nat_tests))
 
 stand : StandAtTheirPlaces
 stand feeding logs nodes merged node low names h at =

@@ -8,7 +8,7 @@ pub workers-preserved : goal.workers-preserved
 workers-preserved c =
     let i = c.workers.invariant in
     let w = c.in-Some.worker in
-    let those = c.in_ok-copied.field-0 in
+    let those = c.in_ok-copied_outcomes.field-0 in
     let clients : c.push-in-workers.new.self.items ≡ c.workers.clients.items ++ w.client ∷ [] = search rules in
     let logs : c.push-in-workers-2.new.self.items ≡ c.workers.logs.items ++ w.log ∷ [] = search rules in
     let outcomes : c.push.new.self.items ≡ c.workers.outcomes.items ++ those ∷ [] = search rules in
@@ -17,5 +17,5 @@ workers-preserved c =
       logs = maps_more (λ (log : Vec Entry Global). log.items) (λ (v : ClientWorker). v.log.items) c.workers.logs.items c.push-in-workers-2.new.self.items w.log c.workers.yielded w logs i.logs refl;
       outcomes = ap length outcomes ∙ (length-append c.workers.outcomes.items (those ∷ []) ∙ (ap (λ (n : ℕ). n + 1) i.outcomes ∙ sym (length-append c.workers.yielded (w ∷ []))));
       each = outcomes_more c.workers.yielded w c.workers.outcomes.items c.push.new.self.items those outcomes i.outcomes i.each
-          (λ client lines replies after. c.in_ok-copied.ensures ∙ c.outcomes.ensures.tied client lines replies after);
+          (λ client lines replies after. c.in_ok-copied_outcomes.ensures.tied client lines replies after);
     }

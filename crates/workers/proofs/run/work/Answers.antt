@@ -1,11 +1,13 @@
-use Rattle.std.proofs.Common.{rules, ◌≡◌, ◌≢◌, ⊎_elim, [], None, Some, refl, ap, ◌∙◌}
+use Rattle.std.proofs.Common.{rules, ◌≡◌, ◌≢◌, ◌≤◌, ◌+◌, length, inl, ⊎_elim, [], None, Some, refl, ap, ◌∙◌}
 use Rattle.std.specs.Prelude.{slice_index_or}
 use Rattle.std.proofs.lemmas.Option.{slice_get-get_or}
+use Rattle.client_core.specs.Budget.{IsTooLong}
 use Rattle.client_core.specs.declared.stop.Stop.TheVariants.{NoMemory, TooLong}
 use Rattle.workers.specs.Leaving.{IsLeftBehind, StopsBy}
-use Rattle.workers.proofs.Drawing.{draws_none}
+use Rattle.feed_pull.proofs.Drawing.{draws_none}
 use Rattle.workers.proofs.Beginning.{begun_fit, begun_few, begun_feeder, begun_passed}
-use Rattle.workers.proofs.Leaving.{all_worked, all_same, all_on_nodes, worked_feeder, reads_by, no_stop, one_of_both, still_callers, on_err}
+use Rattle.feed_pull.proofs.Stopping.{on_err, many_reads, of_stream}
+use Rattle.workers.proofs.Leaving.{all_worked, all_same, all_on_nodes, worked_feeder, no_stop, one_of_both, still_callers}
 use Rattle.workers.proofs.TooLong.{calls_by}
 use Rattle.workers.proofs.Budgeting.{many_calls}
 use Rattle.workers.proofs.run.work.Goals as goal
@@ -94,7 +96,8 @@ returns-in_ok-gather-in-Some-clause-too_long g c turns is =
     let memory = s.memory found in
     let all = fed.all memory.0 in
     ⊎_elim
-    (λ first. let k = fed.too_long turns first in reads_by c.args.script.now _ _ _ _ turns c.args.puller f.puller fed.draws.0 fed.draws.1 k.0 k.1)
+    (λ first. let k = fed.too_long turns first in of_stream _ _ c.args.puller _ (IsTooLong c.args.script.now c.args.puller.start turns) (λ ahead taken (q : 4294967296 ≤ c.args.puller.start + length taken). inl (k.0, q))
+    (many_reads _ _ _ _ c.args.puller f.puller fed.draws.0 fed.draws.1 k.1))
     (λ many. calls_by c.args.script.now c.args.adapter.now _ c.args.feeder c.args.clients.items r.fresh r.all may ws vs c.in_ok-workers.ensures c.work_all.ensures.clients
     c.args.batch _ _ _ _ c.args.puller f all memory.1 refl c.in_ok-gather-in-Some.ensures many_calls turns many.1.0 many.1.1 many.1.2 many.1.3 many.0)
     (one_of_both may c.args.adapter.now ws vs c.work_all.ensures.clients f.stop c.stop_of.result turns s stop)

@@ -3,7 +3,9 @@ use Rattle.client_script.specs.declared.line.Line.{Line}
 use Rattle.client_core.specs.Core.{IsAfter}
 use Rattle.serial_core.specs.SerialRun.{Run, called, replies_of, reply_to, after_waiting}
 use Rattle.serial_core.specs.Moving.{ComesBy}
-use Rattle.serial_core.proofs.Drawing.{draws_then, moves_none, moves_then, moves_by, still_counts, on_err}
+use Rattle.feed_pull.proofs.Drawing.{draws_then}
+use Rattle.feed_pull.proofs.Stopping.{still_counts, on_err}
+use Rattle.serial_core.proofs.Moving.{moves_none, moves_then, moves_by}
 use Rattle.serial_core.proofs.Commanding.{comes_none, comes_on, none_by}
 use Rattle.serial_core.proofs.runner.Runner.command.Goals as goal
 

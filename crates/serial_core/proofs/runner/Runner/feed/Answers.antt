@@ -1,6 +1,8 @@
 use Rattle.std.proofs.Common.{◌≡◌, refl, sym, ap, ◌∙◌, ◌-◌, ◌<◌, min, length, arith}
 use Rattle.serial_core.specs.SerialRun.{Run, fed, turned}
-use Rattle.serial_core.proofs.Drawing.{draws_then, moves_none, moves_then, moves_by, still_counts, on_err}
+use Rattle.feed_pull.proofs.Drawing.{draws_then}
+use Rattle.feed_pull.proofs.Stopping.{still_counts, on_err}
+use Rattle.serial_core.proofs.Moving.{moves_none, moves_then, moves_by}
 use Rattle.serial_core.proofs.Batches.{fed_none, fed_end, fed_step}
 use Rattle.serial_core.proofs.runner.Runner.feed.Goals as goal
 

@@ -1,7 +1,9 @@
 use Rattle.std.proofs.Common.{◌≡◌, refl, sym, ap, ◌∙◌, ◌<◌, min, List, length, arith}
 use Rattle.client_script.specs.declared.line.Line.{Line}
 use Rattle.serial_core.specs.SerialRun.{Run, finished, turned}
-use Rattle.serial_core.proofs.Drawing.{draws_then, moves_none, moves_then, still_counts, on_err}
+use Rattle.feed_pull.proofs.Drawing.{draws_then}
+use Rattle.feed_pull.proofs.Stopping.{still_counts, on_err}
+use Rattle.serial_core.proofs.Moving.{moves_none, moves_then}
 use Rattle.serial_core.proofs.Batches.{finished_end, finished_step}
 use Rattle.serial_core.proofs.runner.Runner.finish.Goals as goal
 

@@ -5,7 +5,7 @@ use Rattle.client_core.specs.Core.{Core}
 use Rattle.serial_core.specs.SerialRun.{Run, fed}
 use Rattle.serial_core.specs.Lines.{calls_by}
 use Rattle.serial_core.specs.Moving.{IsDoneBy, ComesBy}
-use Rattle.serial_core.proofs.Drawing.{moves_by, err_and}
+use Rattle.serial_core.proofs.Moving.{moves_by, err_and}
 use Rattle.serial_core.proofs.Lining.{feed_done, tick_done, moves_ticked, command_done, overruns, calls_few, calls_most}
 use Rattle.serial_core.proofs.runner.Runner.line.Goals as goal
 

@@ -4,7 +4,9 @@ use Rattle.client_script.specs.declared.line.Line.TheVariants.{Feed}
 use Rattle.client_core.specs.declared.stop.Stop.TheVariants.{TooLong}
 use Rattle.serial_core.specs.SerialRun.{Run}
 use Rattle.serial_core.specs.Lines.{IsFrontBy, IsLineBy, OverrunsBy}
-use Rattle.serial_core.proofs.Drawing.{draws_then, moves_none, moves_then, still_counts, on_err, err_and}
+use Rattle.feed_pull.proofs.Drawing.{draws_then}
+use Rattle.feed_pull.proofs.Stopping.{still_counts, on_err}
+use Rattle.serial_core.proofs.Moving.{moves_none, moves_then, err_and}
 use Rattle.serial_core.proofs.Lining.{front_more, front_none, front_overruns, calls_most}
 use Rattle.serial_core.proofs.runner.Runner.lines.Goals as goal
 

@@ -1,6 +1,6 @@
 use Rattle.std.proofs.Common.{◌≡◌, refl, ap, ◌∙◌, [], length, arith}
 use Rattle.ts_batch.specs.Batch.{Packets}
-use Rattle.serial_core.proofs.Drawing.{draws_none, none_given}
+use Rattle.feed_pull.proofs.Drawing.{draws_none, none_given}
 use Rattle.serial_core.proofs.Turning.{turn_over, turn_passed}
 use Rattle.serial_core.proofs.runner.Runner.turn.Goals as goal
 

@@ -3,7 +3,9 @@ use Rattle.client_script.specs.declared.line.Line.{Line}
 use Rattle.serial_core.specs.SerialRun.{Run, finished}
 use Rattle.serial_core.specs.Lines.{IsFrontBy}
 use Rattle.feed_pull.specs.Streams.{Draws}
-use Rattle.serial_core.proofs.Drawing.{draws_then, moves_then, still_counts, on_err}
+use Rattle.feed_pull.proofs.Drawing.{draws_then}
+use Rattle.feed_pull.proofs.Stopping.{still_counts, on_err}
+use Rattle.serial_core.proofs.Moving.{moves_then}
 use Rattle.serial_core.proofs.Lining.{whole_by}
 use Rattle.serial_core.proofs.runner.Runner.whole.Goals as goal
 

@@ -1,6 +1,7 @@
 use Rattle.std.proofs.Common.{◌++◌, []}
 use Rattle.adapter.proofs.Everybody.{same_trans}
-use Rattle.workers.proofs.Drawing.{draws_none, draws_then, still_counts}
+use Rattle.feed_pull.proofs.Drawing.{draws_none, draws_then}
+use Rattle.feed_pull.proofs.Stopping.{still_counts}
 use Rattle.workers.proofs.Working.{same_self}
 use Rattle.workers.proofs.feeder_worker.FeederWorker.pass_all.Goals as goal
 

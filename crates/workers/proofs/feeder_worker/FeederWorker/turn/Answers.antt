@@ -1,7 +1,7 @@
 use Rattle.std.proofs.Common.{rules, ◌≡◌, ◌<◌, ◌≤◌, [], ◌∷◌, ◌++◌, length}
 use Rattle.dmx_calls.specs.declared.histories.Fed.{Fed}
 use Rattle.feed_pull.specs.Pulling.{IsDone, given_by}
-use Rattle.workers.proofs.Drawing.{draws_none}
+use Rattle.feed_pull.proofs.Drawing.{draws_none}
 use Rattle.workers.proofs.FeederWork.{passed_none, passed_batch}
 use Rattle.workers.proofs.feeder_worker.FeederWorker.turn.Goals as goal
 

@@ -18,7 +18,7 @@ use Rattle.client_core.specs.declared.task.Ending.{Ending}
 use Rattle.client_core.specs.declared.task.Ending.TheVariants.{Made, Bound, AllBusy}
 use Rattle.client_core.specs.Commands.{Slots, Doing, stands, through, once, told, called, opened, read_until, done_on, done_at, done_by_slot, done, ends_wait, ends_drain, commands_of}
 use Rattle.client_core.specs.Events.{Standing, Progress, with_outcome, kind_of, slots_after, progress_from, progress, no_slots}
-use Rattle.client_core.specs.Budget.{repeated, repeats_on, repeats_at, repeats_in, repeats_from, repeats}
+use Rattle.client_core.specs.Budget.{repeated, repeats_on, repeats_at, repeats_in, repeats_from, repeats, CallsAreFew}
 use Rattle.client_core.proofs.More.{Onward, done_on_more, repeats_none}
 
 -- the reply after which a read may be repeated
@@ -226,3 +226,7 @@ pub stays_on : (client : ℕ) (lines : List Line) (replies : List Response) (s :
     → t.event.node ≡ s.event.node
 unfolding progress repeats
 stays_on client lines replies s is grows t now = (all_tight no_slots 0 (commands_of client lines) replies s is).stays grows t now
+
+-- the law of the budget: of the replies taken
+pub few : CallsAreFew
+few client lines replies s is = let one = first_calls client lines replies s is in omega (arith, one)

@@ -6,7 +6,7 @@ ghost use Rattle.dmx_calls.specs.Response as response;
 use dmx_calls::Reply;
 use std::alloc::{AllocError as NoMemory, Global};
 
-// A reply that isn't want of memory; that one ends the run.
+/// The reply, if it isn't want of memory; that one ends a run.
 pub fn settled(reply: Reply) -> Result<Reply, NoMemory>
     ensures same { IfOk result (λ kept. kept ≡ reply) }
     ensures some { IfOk result (λ kept. response_of kept ≢ response.NoMemory) }
@@ -17,7 +17,7 @@ pub fn settled(reply: Reply) -> Result<Reply, NoMemory>
     }
 }
 
-// The reply with no more room than its bytes take. A buffer that is full is kept as it is.
+/// The reply with no more room than its bytes take. A buffer that is full is kept as it is.
 pub fn fitted(alloc: Global, reply: Reply) -> Result<Reply, NoMemory>
     ensures { IfOk result (λ kept. response_of kept ≡ response_of reply) }
 {

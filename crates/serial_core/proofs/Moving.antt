@@ -1,0 +1,46 @@
+-- Moves one after another.
+use Rattle.std.proofs.Common.{◌≡◌, refl, ap, subst, ◌∙◌, ℕ, List, [], ◌++◌, append_assoc, Result, Ok, Err, IsErrAnd}
+use Rattle.std.specs.declared.option.Option.{Option}
+use Rattle.serial_core.specs.declared.runner.Runner.{Runner}
+use Rattle.serial_core.specs.SerialRun.{Run}
+use Rattle.serial_core.specs.Moving.{Moves}
+use Rattle.feed_pull.proofs.Drawing.{draws_none, draws_then}
+
+pub moves_none : (x : Option (List ℕ)) (n : ℕ) (v : Runner) (goes : Run → Run → Type 0) → ((r : Run) → goes r r) → Moves x x n n v v goes
+moves_none x n v goes same = record {
+  packets = [];
+  draws = draws_none x n v.puller;
+  at = λ ahead taken given later r pulls stops at left. (r, same r, at, left);
+  done = λ ahead taken given pulls done. (done, refl);
+}
+
+pub moves_then : (x y z : Option (List ℕ)) (l m n : ℕ) (a b c : Runner) (G H K : Run → Run → Type 0) → ((r s t : Run) → G r s → H s t → K r t)
+    → Moves x y l m a b G → Moves y z m n b c H → Moves x z l n a c K
+moves_then x y z l m n a b c G H K both g h = record {
+  packets = g.packets ++ h.packets;
+  draws = draws_then x y z l m n a.puller b.puller c.puller g.packets h.packets g.draws h.draws;
+  at = λ ahead taken given later r pulls stops at left.
+      let more = g.draws.carries.pulls ahead taken given pulls in
+      let first = g.at ahead taken given (h.packets ++ later) r pulls
+      (λ done. let k = h.done ahead (taken ++ g.draws.carries.more) (given ++ g.packets) more done in ap (λ ps. ps ++ later) k.1 ∙ stops k.0)
+      at (left ∙ append_assoc g.packets h.packets later) in
+      let next = h.at ahead (taken ++ g.draws.carries.more) (given ++ g.packets) later first.0 more stops first.2 first.3 in
+      (next.0, both r first.0 next.0 first.1 next.1, next.2, next.3);
+  done = λ ahead taken given pulls done.
+      let k = g.done ahead taken given pulls done in
+      let e = h.done ahead (taken ++ g.draws.carries.more) (given ++ g.packets) (g.draws.carries.pulls ahead taken given pulls) k.0 in
+      (e.0, rw (k.1, e.1) refl);
+}
+
+pub moves_by : (x y : Option (List ℕ)) (l m : ℕ) (a b : Runner) (G K : Run → Run → Type 0) → ((r s : Run) → G r s → K r s) → Moves x y l m a b G → Moves x y l m a b K
+moves_by x y l m a b G K so g = record {
+  packets = g.packets;
+  draws = g.draws;
+  at = λ ahead taken given later r pulls stops at left. let k = g.at ahead taken given later r pulls stops at left in (k.0, so r k.0 k.1, k.2, k.3);
+  done = g.done;
+}
+
+-- what is so of an error
+pub err_and : {T E : Type 0} (r : Result T E) (P : E → Type 0) (e : E) → r ≡ Err e → IsErrAnd r P → P e
+err_and (Ok x) P e is h = absurd (cc)
+err_and (Err d) P e is h = let same : d ≡ e = cc in subst P same h
