@@ -8,7 +8,7 @@ use Rattle.node_lock.specs.Passes.{IsSamePass}
 use Rattle.dmx_calls.specs.History.{Entry}
 use Rattle.dmx_calls.specs.Entries.{caller_of}
 use Rattle.adapter.specs.Rows.{Fits, MayCall, MayCallAt, AreSamePasses, OneMore, OneCalls, AllCall}
-use Rattle.adapter.specs.Inside.{AreMine}
+use Rattle.adapter.specs.Inside.Held.{AreMine}
 use Rattle.adapter.proofs.Lists.{at_place, place_below, set_there, set_elsewhere, one_value}
 
 module _ {N : Type 0} where

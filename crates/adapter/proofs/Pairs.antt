@@ -6,8 +6,8 @@ use Rattle.node_lock.specs.Passes.{AreFresh}
 use Rattle.dmx_calls.specs.History.{Entry}
 use Rattle.adapter.specs.Rows.{Fits, IsFreshRow}
 use Rattle.adapter.specs.Callers.{Caller, IsFreshCaller, AreFreshCallers, AreAllCallers, SomeIs}
-use Rattle.adapter.specs.Inside.{AreMine}
-use Rattle.adapter.specs.Making.{AreLastFirst, AreFreshClients}
+use Rattle.adapter.specs.Inside.Held.{AreMine}
+use Rattle.adapter.specs.Inside.Making.{AreLastFirst, AreFreshClients}
 use Rattle.adapter.proofs.Lists.{at_place, place_below, at_last, at_before, at_end}
 use Rattle.adapter.proofs.Deals.{fresh_row}
 

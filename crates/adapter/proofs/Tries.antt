@@ -10,7 +10,7 @@ use Rattle.node_lock.specs.Passes.{KnowsItsCalls, IsSamePass}
 use Rattle.dmx_calls.specs.History.{Entry}
 use Rattle.dmx_calls.specs.Entries.{caller_of}
 use Rattle.adapter.specs.Rows.{AreSamePasses, OneMore, OneCalls, OneMiss, OneMisses}
-use Rattle.adapter.specs.Inside.{AreMine}
+use Rattle.adapter.specs.Inside.Held.{AreMine}
 use Rattle.adapter.proofs.Mine.{mine_after, mine_set, by_me, same_after}
 
 module _ {C A N : Type 0} (who_of : N → ℕ) (stood : List N → Type 0) (entry : (ℕ × A) → N) (cost : (ℕ × A) → List N → Type 0) where

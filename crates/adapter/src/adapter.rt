@@ -35,7 +35,7 @@ impl Model for Adapter {
     ghost invariant = { λ a. length a.demux.items ≡ DEMUX_NODES };
 }
 
-/// How many calls the feeder may make.
+// How many calls the feeder may make.
 const CALLS: u64 = 1 << 44;
 
 /// What is left of an adapter that has ended.

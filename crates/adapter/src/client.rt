@@ -31,7 +31,7 @@ impl Model for Client {
 
     ghost Value = { Caller };
 
-    ghost use Rattle.adapter.specs.Inside.{client_view, ClientHolds};
+    ghost use Rattle.adapter.specs.Inside.Held.{client_view, ClientHolds};
 
     ghost view = { client_view };
 

@@ -24,7 +24,7 @@ impl Model for Feeder {
 
     ghost Value = { Caller };
 
-    ghost use Rattle.adapter.specs.Inside.{feeder_view, FeederHolds};
+    ghost use Rattle.adapter.specs.Inside.Held.{feeder_view, FeederHolds};
 
     ghost view = { feeder_view };
 

@@ -3,7 +3,7 @@ ghost use Rattle.std.specs.Prelude.{◌≡◌, ℕ, ◌++◌, ◌∷◌, [], ◌
 ghost use Rattle.node_lock.specs.Passes.{AreFresh};
 ghost use Rattle.dmx_calls.specs.declared.limits.TheConstants.{DEMUX_NODES as nodes};
 ghost use Rattle.adapter.specs.Rows.{AllDealt, AreFreshRows};
-ghost use Rattle.adapter.specs.Making.{AreLastFirst, AreFreshClients};
+ghost use Rattle.adapter.specs.Inside.Making.{AreLastFirst, AreFreshClients};
 
 use crate::client::Client;
 use crate::passes::NodePasses;
@@ -14,7 +14,7 @@ use node_core::NodeCore;
 use node_lock::{NodeLock, Pass};
 use std::alloc::{AllocError as NoMemory, Global};
 
-/// How many calls a client may make.
+// How many calls a client may make.
 const CALLS: u64 = 1 << 40;
 
 // An empty row for each caller.

@@ -38,7 +38,7 @@ pub enum Filter {
     Recordings,
 }
 
-/// The node that is measured.
+// The node that is measured.
 #[derive(Drop)]
 enum Node {
     Demux(NodeCore),

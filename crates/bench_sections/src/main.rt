@@ -22,7 +22,7 @@ const READ: usize = 65536;
 // More reads than a stream needs: with READ bytes each they give fewer than 2^63 bytes.
 const READS: u64 = 4_294_967_296;
 
-/// What to do with the stream, each with what stands before it.
+// What to do with the stream, each with what stands before it.
 #[derive(Clone, Copy, PartialEq, Eq)]
 enum Work {
     Read,
@@ -30,7 +30,7 @@ enum Work {
     Assemble,
 }
 
-/// How many sections, how many bytes in them, and the sum of their last bytes, each modulo 2^64.
+// How many sections, how many bytes in them, and the sum of their last bytes, each modulo 2^64.
 #[derive(Drop)]
 struct Count {
     sections: u64,

@@ -9,7 +9,7 @@ use Rattle.client_core.specs.declared.task.Ending.{Ending}
 use Rattle.client_core.specs.declared.task.Task.{Task}
 use Rattle.client_core.specs.Commands.{Doing, stands, through, Slots, done}
 use Rattle.client_core.specs.Events.{Standing, Progress, with_outcome, kind_of, slots_after, progress_from, progress, waits_after, standing_at}
-use Rattle.client_core.specs.Tasks.{resumed, node_in, IsTaskInRange}
+use Rattle.client_core.specs.Inside.Tasks.{resumed, node_in, IsTaskInRange}
 use Rattle.client_script.specs.declared.line.Line.{Line}
 use Rattle.std.specs.Option.{IfSome, IfNone, MatchOption}
 use Rattle.client_core.specs.declared.event.Event.{Event}
@@ -17,7 +17,7 @@ use Rattle.client_core.specs.declared.machine.Current.{Current}
 use Rattle.client_core.specs.declared.task.Task.TheVariants.{On, OpenFrom, Attach, Detach}
 use Rattle.client_script.specs.declared.line.Verb.{Verb}
 use Rattle.client_script.specs.declared.line.Verb.TheVariants as verb
-use Rattle.client_core.specs.Core.{ahead, behind, coming_from, coming, Core, IsAfter, HasTaken, waits_with}
+use Rattle.client_core.specs.Inside.Core.{ahead, behind, coming_from, coming, Core, IsAfter, HasTaken, waits_with}
 
 pub first_ahead : (slots : Slots) (step : ℕ) (c : Command) (cs : List Command) (more : List Response)
     → progress_from slots step (c ∷ cs) more ≡ ahead c.line step slots cs (done slots c.target c.verb step more)

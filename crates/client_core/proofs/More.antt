@@ -17,8 +17,8 @@ use Rattle.client_core.specs.declared.task.Ending.TheVariants.{Made, Bound, AllB
 use Rattle.client_core.specs.Commands.{Slots, Doing, stands, through, once, told, called, opened, read_until, done_on, done_at, done_by_slot, done, ends_wait, ends_drain, commands_of}
 use Rattle.client_core.specs.Events.{Standing, Progress, with_outcome, kind_of, slots_after, progress_from, progress, no_slots, waits_after}
 use Rattle.client_core.specs.Budget.{repeated, repeats_on, repeats_at, repeats_in, repeats_from, repeats}
-use Rattle.client_core.specs.Core.{waits_with}
-use Rattle.client_core.specs.More.{added_by, OneReplyMore}
+use Rattle.client_core.specs.Inside.Core.{waits_with}
+use Rattle.client_core.specs.Inside.More.{added_by, OneReplyMore}
 use Rattle.client_core.proofs.GoesOn.{last_counts, waits_still}
 
 -- A command with one reply more: where it was through, it leaves this reply too. Where it stood, it stands at a later step, or is through, and then no read is repeated. So many reads are repeated before and after.

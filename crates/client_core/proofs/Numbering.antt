@@ -22,7 +22,7 @@ use Rattle.client_core.specs.declared.task.Ending.{Ending}
 use Rattle.client_core.specs.declared.task.Ending.TheVariants.{Made, Bound, AllBusy, NoNode}
 use Rattle.client_core.specs.Commands.{Slots, Doing, stands, through, once, told, called, opened, read_until, done_on, done_at, done_by_slot, done, ends_wait, ends_drain, commands_in, commands_of}
 use Rattle.client_core.specs.Events.{Standing, Progress, with_outcome, kind_of, slots_after, progress_from, progress, no_slots, next_event, next_of_line, standing_at}
-use Rattle.client_core.specs.Tasks.{IsEndingInRange, AreSlots}
+use Rattle.client_core.specs.Inside.Tasks.{IsEndingInRange, AreSlots}
 use Rattle.client_core.specs.Budget.{repeats_in}
 use Rattle.client_core.proofs.More.{Onward, done_on_more, some_of}
 

@@ -7,8 +7,8 @@ ghost use Rattle.client_script.specs.declared.line.Line.{Line as ScriptLine};
 ghost use Rattle.client_script.specs.Script.{IsScript};
 ghost use Rattle.client_core.specs.Commands.{commands_of, IsWantInRange};
 ghost use Rattle.client_core.specs.Events.{next_event, outcomes as outcomes_of, waits_on, next_of_line, current_line};
-ghost use Rattle.client_core.specs.Tasks.{resumed, node_in};
-ghost use Rattle.client_core.specs.Core.{coming, one_if_some, IsCommandInRange, IsSound, IsAfter, HasTaken, next_of, waits_with};
+ghost use Rattle.client_core.specs.Inside.Tasks.{resumed, node_in};
+ghost use Rattle.client_core.specs.Inside.Core.{coming, one_if_some, IsCommandInRange, IsSound, IsAfter, HasTaken, next_of, waits_with};
 
 use crate::command::{Command, Commands};
 use crate::event::Event;
@@ -32,7 +32,7 @@ pub struct ClientCore {
 
 impl Model for ClientCore {
     ghost use Rattle.std.specs.Prelude.{◌≤◌, ◌+◌, length, vec_capacity};
-    ghost use Rattle.client_core.specs.Core.{Core, IsSound, one_if_some};
+    ghost use Rattle.client_core.specs.Inside.Core.{Core, IsSound, one_if_some};
 
     ghost Value = { Core };
 

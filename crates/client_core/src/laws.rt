@@ -1,6 +1,6 @@
 // Laws of the definitions.
 ghost use Rattle.client_core.specs.Budget.{CallsAreFew};
-ghost use Rattle.client_core.specs.More.{OneReplyMore};
+ghost use Rattle.client_core.specs.Inside.More.{OneReplyMore};
 
 /// A client makes at most 33 calls a command, beside the reads that it repeats.
 pub fn calls_are_few()

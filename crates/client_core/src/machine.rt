@@ -3,14 +3,14 @@ ghost use Rattle.std.specs.Prelude.{◌≡◌, ◌≢◌, ℕ, ◌+◌, ◌<◌,
 ghost use Rattle.dmx_calls.specs.Calls.{response_of};
 ghost use Rattle.dmx_calls.specs.Response.{Response};
 ghost use Rattle.client_core.specs.Events.{kind_of as kind_by, slots_after, progress_from};
-ghost use Rattle.client_core.specs.Tasks.{IsEndingInRange, IsTaskInRange, AreSlots};
-ghost use Rattle.client_core.specs.Core.{coming_from, behind, one_if_some, IsCommandInRange};
+ghost use Rattle.client_core.specs.Inside.Tasks.{IsEndingInRange, IsTaskInRange, AreSlots};
+ghost use Rattle.client_core.specs.Inside.Core.{coming_from, behind, one_if_some, IsCommandInRange};
 
 use crate::command::Commands;
 use crate::task::{Ending, Next, Task, after, event_of, first};
 use dmx_calls::{Outcome, OutcomeKind, Reply};
 
-// The command that is begun: its line, the step of its first call, and what is left of it.
+/// The command that is begun: its line, the step of its first call, and what is left of it.
 #[derive(Drop)]
 pub struct Current {
     pub line: u32,
@@ -28,7 +28,7 @@ pub fn kind_of(ending: Ending) -> OutcomeKind
     }
 }
 
-// An open of a slot that succeeds binds it.
+/// An open of a slot that succeeds binds it.
 pub fn bind(slots: &mut [Option<u32>; 32], ending: Ending)
     requires range { IsEndingInRange ending }
     requires bound { AreSlots slots.old }
@@ -40,7 +40,7 @@ pub fn bind(slots: &mut [Option<u32>; 32], ending: Ending)
     }
 }
 
-// An outcome joins the others, for which there is room.
+/// An outcome joins the others, for which there is room.
 pub fn add(outcomes: &mut Vec<Outcome>, outcome: Outcome)
     requires room { length outcomes.old.items < vec_capacity outcomes.old }
     ensures added { outcomes.new.items ≡ outcomes.old.items ++ outcome ∷ [] }
@@ -52,7 +52,7 @@ pub fn add(outcomes: &mut Vec<Outcome>, outcome: Outcome)
     }
 }
 
-// Begins the next command that makes a call; those before it are through.
+/// Begins the next command that makes a call; those before it are through.
 pub fn begin(
     left: &mut Commands,
     slots: &mut [Option<u32>; 32],

@@ -5,11 +5,11 @@ use Rattle.dmx_calls.specs.Invocation.{Read}
 use Rattle.dmx_calls.specs.Response.{Response, Passed, is_accepted}
 use Rattle.dmx_calls.specs.Facts.{Ledger}
 use Rattle.dmx_calls.specs.Answer.{read_response, expired_of}
-use Rattle.node_buffer.specs.Capturing.{read_by, with_response}
+use Rattle.node_buffer.specs.Inside.Capturing.{read_by, with_response}
 use Rattle.node_buffer.proofs.Accepted.{read_accepted}
 use Rattle.node_buffer.proofs.Answering.{read_now}
-use Rattle.dvr_core.specs.Step.{Knows, next}
-use Rattle.dvr_core.specs.KeptView.{reply_to}
+use Rattle.dvr_core.specs.Inside.Step.{Knows, next}
+use Rattle.dvr_core.specs.Inside.KeptView.{reply_to}
 
 as_before : (o : Option Ledger) → option_map (with_response false Passed) o ≡ o
 as_before None = refl

@@ -13,9 +13,9 @@ use Rattle.dmx_calls.specs.Rules.{dvr}
 use Rattle.dmx_calls.specs.Facts.{Ledger, Facts, facts}
 use Rattle.dmx_calls.specs.Refusal.{is_bad_argument, is_for_filters}
 use Rattle.dmx_calls.specs.Answer.{is_for_anybody, is_owned_by, is_same_size, refusal_to, done_dropping, response_to, answer}
-use Rattle.node_buffer.specs.Coherent.{CoherentIn}
-use Rattle.dvr_core.specs.Step.{moved, next}
-use Rattle.dvr_core.specs.Gives.{settled}
+use Rattle.node_buffer.specs.Inside.Coherent.{CoherentIn}
+use Rattle.dvr_core.specs.Inside.Step.{moved, next}
+use Rattle.dvr_core.specs.Inside.Gives.{settled}
 use Rattle.dvr_core.proofs.Moves.{known, Moves, known_refused, open_moves, close_moves, Silent, attach_moves, detach_moves, poll_moves, size_moves, end_moves, pass_moves}
 use Rattle.dvr_core.proofs.Reading.{read_moves, answer_fine, gives_nothing}
 

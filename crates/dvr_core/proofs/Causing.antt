@@ -8,12 +8,12 @@ use Rattle.dmx_calls.specs.Tenure.{Params, Empty}
 use Rattle.dmx_calls.specs.Rules.{dvr}
 use Rattle.dmx_calls.specs.Facts.{Ledger, facts}
 use Rattle.dmx_calls.specs.Answer.{expired_of}
-use Rattle.node_buffer.specs.Coherent.{CoherentIn}
+use Rattle.node_buffer.specs.Inside.Coherent.{CoherentIn}
 use Rattle.node_buffer.specs.Causes.{Causes}
 use Rattle.node_buffer.proofs.ReadCausing.{Readable, expired_either}
 use Rattle.node_buffer.proofs.Causing.{causes_for}
-use Rattle.dvr_core.specs.Step.{Knows, moved, next}
-use Rattle.dvr_core.specs.Gives.{Gives}
+use Rattle.dvr_core.specs.Inside.Step.{Knows, moved, next}
+use Rattle.dvr_core.specs.Inside.Gives.{Gives}
 use Rattle.dvr_core.specs.Stands.{CoreValue, StandsFor}
 use Rattle.dvr_core.proofs.Standing.{knows}
 

@@ -13,8 +13,8 @@ use Rattle.dmx_calls.specs.Ledger.{joined, total, answered, over}
 use Rattle.dmx_calls.specs.Facts.{Ledger, ledger_at, ledger_of, facts}
 use Rattle.dmx_calls.proofs.Going.{begun, tenure_opened, tenure_after, tenure_also, has_ended_after, owner_after, size_or_after}
 use Rattle.dmx_calls.proofs.Nodes.{dvr_capture_stays}
-use Rattle.node_buffer.specs.Capturing.{begun as begun_ledger}
-use Rattle.dvr_core.specs.Step.{opened_for, closed}
+use Rattle.node_buffer.specs.Inside.Capturing.{begun as begun_ledger}
+use Rattle.dvr_core.specs.Inside.Step.{opened_for, closed}
 
 -- the ledger of a capture that this event begins
 module _ (g : History) (ev : Event) (is : dvr_capture g ≡ Some (begun ev)) where

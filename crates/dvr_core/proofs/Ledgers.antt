@@ -16,8 +16,8 @@ use Rattle.dmx_calls.specs.Ledger.{Misfit, answered_in, is_overflow, joined, tot
 use Rattle.dmx_calls.specs.Facts.{unread_of, ledger_at}
 use Rattle.dmx_calls.proofs.Going.{more}
 use Rattle.dmx_calls.proofs.Ledgers.{answered_more, over_cleared, total_more, over_more, unread_after, ledger_next}
-use Rattle.node_buffer.specs.Capturing.{with_items}
-use Rattle.node_buffer.specs.Coherent.{Coherent}
+use Rattle.node_buffer.specs.Inside.Capturing.{with_items}
+use Rattle.node_buffer.specs.Inside.Coherent.{Coherent}
 use Rattle.node_buffer.proofs.Arrivals.{Fits, RestFits, with_items-at_once, arrives}
 use Rattle.dvr_core.specs.Tapped.{taps_of, some_names}
 use Rattle.dvr_core.proofs.Tapping.{tapped_are}

@@ -17,9 +17,9 @@ use Rattle.dmx_calls.specs.Rules.{dvr}
 use Rattle.dmx_calls.specs.Ledger.{answered_in, is_overflow}
 use Rattle.dmx_calls.specs.Facts.{Ledger, Facts, ledger_at, facts}
 use Rattle.dmx_calls.proofs.LawsHold.{dvr_facts_refused}
-use Rattle.node_buffer.specs.Coherent.{Coherent, CoherentIn}
+use Rattle.node_buffer.specs.Inside.Coherent.{Coherent, CoherentIn}
 use Rattle.dvr_core.specs.Tapped.{taps_of}
-use Rattle.dvr_core.specs.Step.{Knows, moved}
+use Rattle.dvr_core.specs.Inside.Step.{Knows, moved}
 use Rattle.dvr_core.proofs.Tapping.{taps_refused, taps_attached, taps_detached}
 use Rattle.dvr_core.proofs.Going.{facts_opened, facts_closed, facts_resized, Stays, facts_goes}
 use Rattle.dvr_core.proofs.Ledgers.{ledger_recorded}

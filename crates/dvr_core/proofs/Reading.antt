@@ -9,8 +9,8 @@ use Rattle.dmx_calls.specs.Rules.{dvr}
 use Rattle.dmx_calls.specs.Ledger.{Misfit, total, answered, over}
 use Rattle.dmx_calls.specs.Facts.{ledger_at, ledger_of, facts}
 use Rattle.dmx_calls.specs.Answer.{read_bytes, read_over, read_response, expired_of}
-use Rattle.node_buffer.specs.Capturing.{with_response}
-use Rattle.node_buffer.specs.Coherent.{Coherent, CoherentIn}
+use Rattle.node_buffer.specs.Inside.Capturing.{with_response}
+use Rattle.node_buffer.specs.Inside.Coherent.{Coherent, CoherentIn}
 use Rattle.dvr_core.proofs.Going.{Stays, facts_goes}
 use Rattle.dvr_core.proofs.Ledgers.{ledger_read, ledger_told}
 use Rattle.dvr_core.proofs.Moves.{Moves, known_by, taps_stay, coherent}

@@ -2,7 +2,7 @@
 use Rattle.std.proofs.Common.{ℕ, ◌+◌, ◌≡◌, refl, Bool, true, false, List, ◌∷◌, Option, Some, None, drop}
 use Rattle.std.specs.Prelude.{filter, option_map, slice_get}
 use Rattle.dmx_calls.specs.Facts.{Ledger}
-use Rattle.node_buffer.specs.Capturing.{with_item, with_items}
+use Rattle.node_buffer.specs.Inside.Capturing.{with_item, with_items}
 use Rattle.node_buffer.proofs.Arrivals.{drop-one}
 
 module _ (names : List ℕ → Bool) (capacity : ℕ) where

@@ -6,9 +6,9 @@ use Rattle.dmx_calls.specs.History.{History, entry_of}
 use Rattle.dmx_calls.specs.Rules.{dvr}
 use Rattle.dmx_calls.specs.Facts.{facts}
 use Rattle.dmx_calls.specs.Legal.{May}
-use Rattle.node_buffer.specs.Coherent.{CoherentIn}
-use Rattle.dvr_core.specs.Step.{Knows, next}
-use Rattle.dvr_core.specs.Gives.{Gives}
+use Rattle.node_buffer.specs.Inside.Coherent.{CoherentIn}
+use Rattle.dvr_core.specs.Inside.Step.{Knows, next}
+use Rattle.dvr_core.specs.Inside.Gives.{Gives}
 use Rattle.dvr_core.specs.Stands.{CoreValue, StandsFor}
 use Rattle.dvr_core.proofs.Moves.{known, known_refused}
 use Rattle.dvr_core.proofs.Cases.{agrees}

@@ -1,9 +1,5 @@
 pub mod Tapped
 pub mod Looks
 pub mod Examples
-pub mod Step
-pub mod Gives
 pub mod Stands
-pub mod KeptView
-pub mod CoreView
-pub mod Counts
+pub mod Inside

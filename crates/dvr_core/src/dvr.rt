@@ -8,12 +8,12 @@ ghost use Rattle.dmx_calls.specs.Rules.{dvr};
 ghost use Rattle.dmx_calls.specs.Legal.{May};
 ghost use Rattle.dmx_calls.specs.Calls.{invocation_of, response_of};
 ghost use Rattle.dmx_calls.specs.Back.{GivesBack};
-ghost use Rattle.node_buffer.specs.Coherent.{CoherentIn};
+ghost use Rattle.node_buffer.specs.Inside.Coherent.{CoherentIn};
 ghost use Rattle.node_buffer.specs.Causes.{Causes};
-ghost use Rattle.dvr_core.specs.Gives.{Gives};
+ghost use Rattle.dvr_core.specs.Inside.Gives.{Gives};
 ghost use Rattle.dvr_core.specs.Looks.{named_packets};
-ghost use Rattle.dvr_core.specs.Step.{next};
-ghost use Rattle.dvr_core.specs.KeptView.{knows_of, bytes_in};
+ghost use Rattle.dvr_core.specs.Inside.Step.{next};
+ghost use Rattle.dvr_core.specs.Inside.KeptView.{knows_of, bytes_in};
 ghost use Rattle.dvr_core.specs.Stands.{StandsFor};
 
 use crate::kept::Kept;
@@ -30,7 +30,7 @@ use steps::Steps;
 #[derive(Drop)]
 pub struct DvrCore {
     alloc: Global,
-    /// How many calls were made.
+    // How many calls were made.
     entries: u64,
     kept: Kept,
 }
@@ -40,14 +40,14 @@ impl Model for DvrCore {
 
     ghost Value = { CoreValue };
 
-    ghost use Rattle.dvr_core.specs.CoreView.{core_view, CoreHolds};
+    ghost use Rattle.dvr_core.specs.Inside.CoreView.{core_view, CoreHolds};
 
     ghost view = { core_view };
 
     ghost invariant = { CoreHolds };
 }
 
-/// Makes a call on what the node keeps.
+// Makes a call on what the node keeps.
 fn act<L: Ledger>(
     kept: &mut Kept,
     alloc: Global,
@@ -153,7 +153,7 @@ impl Machine for DvrCore {
     ghost use Rattle.dmx_calls.specs.Back.{GivesBack};
     ghost use Rattle.dmx_calls.specs.Entries.{told, caller_of, packets_of};
     ghost use Rattle.dvr_core.specs.Stands.{StandsFor};
-    ghost use Rattle.dvr_core.specs.Counts.{counted};
+    ghost use Rattle.dvr_core.specs.Inside.Counts.{counted};
 
     type Call = Call;
 

@@ -12,12 +12,12 @@ ghost use Rattle.dmx_calls.specs.Response.{Passed};
 ghost use Rattle.dmx_calls.specs.Answer.{refusal_to, is_for_anybody};
 ghost use Rattle.dmx_calls.specs.Calls.{invocation_of, response_of};
 ghost use Rattle.dmx_calls.specs.Back.{BackOfRead};
-ghost use Rattle.node_buffer.specs.Capturing.{begun};
-ghost use Rattle.node_buffer.specs.Coherent.{CoherentIn};
-ghost use Rattle.dvr_core.specs.Gives.{Gives};
-ghost use Rattle.dvr_core.specs.Step.{next};
+ghost use Rattle.node_buffer.specs.Inside.Capturing.{begun};
+ghost use Rattle.node_buffer.specs.Inside.Coherent.{CoherentIn};
+ghost use Rattle.dvr_core.specs.Inside.Gives.{Gives};
+ghost use Rattle.dvr_core.specs.Inside.Step.{next};
 ghost use Rattle.dvr_core.specs.Tapped.{some_names};
-ghost use Rattle.dvr_core.specs.KeptView.{knows_of, bytes_in, IsTaken, reply_to, Replies};
+ghost use Rattle.dvr_core.specs.Inside.KeptView.{knows_of, bytes_in, IsTaken, reply_to, Replies};
 
 use crate::record::record_all;
 use crate::taps::Taps;
@@ -52,7 +52,7 @@ pub struct Tenure {
 
 const NOTHING: Span = Span { from: 0, to: 0 };
 
-/// The call was done. The dvr node has no tap of its own.
+// The call was done. The dvr node has no tap of its own.
 fn done(dropped: Span) -> Reply
     ensures { result ≡ Reply.Done dropped Tap.Keep }
 {
@@ -63,8 +63,8 @@ fn done(dropped: Span) -> Reply
 }
 
 impl Tenure {
-    /// A node that was just opened: it has the default size, and its capture begins. No filter can expire, so the moment
-    /// plays no part.
+    // A node that was just opened: it has the default size, and its capture begins. No filter can expire, so the moment
+    // plays no part.
     fn new(alloc: Global, owner: u32) -> Result<Tenure, NoMemory>
         ensures { IfOk result (λ t. t ≡ record { owner = owner; buffer = record { size = size_of_open; ledger = Some (begun 0) } }) }
     {

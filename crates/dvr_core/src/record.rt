@@ -1,8 +1,8 @@
 // The packets of a pass: those that some tap names go into the buffer, whole and once.
 
 ghost use Rattle.std.specs.Prelude.{◌≡◌, ◌≤◌, ◌<◌, ◌+◌, ◌-◌, ◌^◌, false, count_by, filter, option_map};
-ghost use Rattle.node_buffer.specs.Capturing.{with_items};
-ghost use Rattle.node_buffer.specs.Coherent.{CoherentIn, total_of};
+ghost use Rattle.node_buffer.specs.Inside.Capturing.{with_items};
+ghost use Rattle.node_buffer.specs.Inside.Coherent.{CoherentIn, total_of};
 ghost use Rattle.dvr_core.specs.Tapped.{some_names};
 
 use crate::taps::Taps;

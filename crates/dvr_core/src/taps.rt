@@ -12,7 +12,7 @@ use pid_set::Pids;
 use std::marker::Model;
 use ts_batch::{Batch, PlaceSet};
 
-/// A demux node's tap: the client that attached it, and the PIDs that it names.
+// A demux node's tap: the client that attached it, and the PIDs that it names.
 #[derive(Drop)]
 struct Tap {
     by: u32,
@@ -90,7 +90,7 @@ impl Taps {
     }
 }
 
-/// Whether the client `who` attached this tap.
+// Whether the client `who` attached this tap.
 fn is_of(tap: &Option<Tap>, who: u32) -> bool
     ensures own { result ≡ true → detached_by who tap.now ≡ None }
     ensures other { result ≡ false → detached_by who tap.now ≡ tap.now }
@@ -101,7 +101,7 @@ fn is_of(tap: &Option<Tap>, who: u32) -> bool
     }
 }
 
-/// Adds the places of the packets that these PIDs name.
+// Adds the places of the packets that these PIDs name.
 fn add_all(places: &mut PlaceSet, pids: &Pids, batch: &Batch)
     ensures { (i : ℕ) (packet : List ℕ) → slice_get batch.now.packets i ≡ Some packet → is_in i places.new ≡ (is_in i places.old || is_named pids.now packet) }
 {

@@ -22,7 +22,7 @@ use Rattle.serial_core.specs.declared.run.Ran.{Ran}
 use Rattle.serial_core.specs.Ran.{IsRanOf}
 use Rattle.serial_core.proofs.Runs.{are_runs}
 use Rattle.report_text.specs.Report.{report_of}
-use Rattle.emu_top.specs.Part.{IsUnended}
+use Rattle.emu_top.specs.Inside.Part.{IsUnended}
 use Rattle.emu_top.specs.Session.{Output, IsSession, IsSerialOutput, Holds, IsFaultIn, Makes, Runs, GivesUp, FailsEarly, Refuses, ReadsTo, status_of_stop}
 use Rattle.emu_top.specs.declared.status.Status.{Status}
 use Rattle.emu_top.specs.declared.status.Status.TheVariants.{Usage, Script, TooLong, ReadFault, WriteFault, NoMemory, Ok as Done}

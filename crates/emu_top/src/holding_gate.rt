@@ -8,7 +8,7 @@ use std::test::Fail;
 // How long one thread is held for another, in turns.
 const TURNS: u64 = 100_000_000;
 
-// Caller `who` is held before its step `step` until caller `other` is at its step `there`.
+/// Caller `who` is held before its step `step` until caller `other` is at its step `there`.
 #[derive(Clone, Copy)]
 pub struct Hold {
     pub who: u32,
@@ -17,7 +17,7 @@ pub struct Hold {
     pub there: u64,
 }
 
-// A gate that holds the feeder and two clients.
+/// A gate that holds the feeder and two clients.
 #[derive(Drop)]
 pub struct HoldingGate {
     holds: Vec<Hold>,
@@ -54,7 +54,7 @@ impl HoldingGate {
         }
     }
 
-    // Whether each hold was kept, and none ran out.
+    /// Whether each hold was kept, and none ran out.
     pub fn has_kept_all(&self) -> bool {
         self.kept.load(SeqCst) == self.holds.len() as u64
     }

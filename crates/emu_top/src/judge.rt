@@ -22,7 +22,7 @@ struct Judge {
     steps: Vec<u64>,
 }
 
-// A step with its client, as one number.
+/// A step with its client, as one number.
 pub fn stamped(client: usize, step: u64) -> u64 {
     (client as u64).wrapping_mul(1 << 32).wrapping_add(step)
 }
@@ -145,9 +145,9 @@ fn all_steps(alloc: Global, calls: &[u64]) -> Result<Vec<u64>, Fail> {
     Ok(steps)
 }
 
-// Whether a report of a run over so many packets is in order: on each node the places are 0, 1, 2 and so on, the batches are
-// the stream with one end behind it, and each caller's steps rise; over all nodes each step of a client stands once; nothing
-// overflowed.
+/// Whether a report of a run over so many packets is in order: on each node the places are 0, 1, 2 and so on, the batches are
+/// the stream with one end behind it, and each caller's steps rise; over all nodes each step of a client stands once; nothing
+/// overflowed.
 pub fn is_judged(alloc: Global, report: &str, stream: u64) -> Result<bool, Fail> {
     let mut judge = Judge::new(alloc, stream);
     for line in report.lines() {

@@ -46,7 +46,7 @@ impl Source for Whole<'_> {
     }
 }
 
-// The line of sums over the run of the session of this number, in batches of this size.
+/// The line of sums over the run of the session of this number, in batches of this size.
 pub fn sums_of(alloc: Global, number: u64, batch: u32) -> Result<Vec<u8>, Status>
     requires some { 1 ≤ batch }
     requires few { batch ≤ 64 }

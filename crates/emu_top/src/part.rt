@@ -2,7 +2,7 @@
 ghost use Rattle.std.specs.Prelude.{◌≡◌, ◌⊎◌, ℕ, ◌+◌, ◌<◌, ◌≤◌, List, length, None, OnErr, IfOk, IfSome, IsErrOf};
 ghost use Rattle.std.specs.Io.KnownBytes.{Consumes, IsAtEnd};
 ghost use Rattle.client_script.specs.Script.{script_len, whole_lines, most_bytes};
-ghost use Rattle.emu_top.specs.Part.{HasReadCause, IsUnended};
+ghost use Rattle.emu_top.specs.Inside.Part.{HasReadCause, IsUnended};
 
 use client_script::{MOST_BYTES, ScriptPart};
 use emu_io::Source;
@@ -11,7 +11,7 @@ use std::alloc::Global;
 // The most bytes of one read.
 const READ: usize = 65536;
 
-// Why a script part isn't read.
+/// Why a script part isn't read.
 #[derive(Debug, Drop)]
 pub enum PartError {
     // A read failed.
@@ -20,15 +20,15 @@ pub enum PartError {
     NoMemory,
 }
 
-// The first bytes of a source, and how many reads took them.
+/// The first bytes of a source, and how many reads took them.
 #[derive(Drop)]
 pub struct Front {
     pub part: ScriptPart,
     pub reads: u64,
 }
 
-// Reads until the line `stream` is whole, until all bytes are read that are searched for it, or until the end of input. No
-// read asks for more than is searched.
+/// Reads until the line `stream` is whole, until all bytes are read that are searched for it, or until the end of input. No
+/// read asks for more than is searched.
 pub fn read_front<S: Source>(alloc: Global, source: &mut S) -> Result<Front, PartError>
     ensures bytes { IfOk result (λ front. Consumes (S.left source.old) (S.left source.new) front.part) }
     ensures fits { IfOk result (λ front. length front.part ≤ most_bytes) }

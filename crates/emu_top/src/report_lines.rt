@@ -2,7 +2,7 @@
 use std::alloc::Global;
 use std::test::Fail;
 
-// A line of a node in a report.
+/// A line of a node in a report.
 #[derive(Clone, Copy)]
 pub struct Told<'a> {
     pub place: u64,
@@ -12,7 +12,7 @@ pub struct Told<'a> {
     pub reply: &'a str,
 }
 
-// What a line `PLACE WHO STEP ACT = REPLY` tells.
+/// What a line `PLACE WHO STEP ACT = REPLY` tells.
 pub fn told_in(line: &str) -> Option<Told<'_>> {
     let (call, reply) = line.split_once(" = ")?;
     let (place, call) = call.split_once(" ")?;
@@ -27,7 +27,7 @@ pub fn told_in(line: &str) -> Option<Told<'_>> {
     })
 }
 
-// The number behind a name in a line.
+/// The number behind a name in a line.
 pub fn number_in(line: &str, name: &str) -> Option<u64> {
     let (_, behind) = line.split_once(name)?;
     let digits = match behind.split_once(" ") {
@@ -37,7 +37,7 @@ pub fn number_in(line: &str, name: &str) -> Option<u64> {
     digits.parse::<u64>().ok()
 }
 
-// The steps A and B of a line `line L steps A..B done`.
+/// The steps A and B of a line `line L steps A..B done`.
 pub fn steps_in(line: &str) -> Option<(u64, u64)> {
     let (_, behind) = line.split_once(" steps ")?;
     let (from, behind) = behind.split_once("..")?;
@@ -45,7 +45,7 @@ pub fn steps_in(line: &str) -> Option<(u64, u64)> {
     Some((from.parse::<u64>().ok()?, to.parse::<u64>().ok()?))
 }
 
-// The reply to a client's call of this step.
+/// The reply to a client's call of this step.
 pub fn reply_to<'a>(report: &'a str, who: &str, step: u64) -> Option<&'a str> {
     for line in report.lines() {
         if let Some(told) = told_in(line) {
@@ -57,7 +57,7 @@ pub fn reply_to<'a>(report: &'a str, who: &str, step: u64) -> Option<&'a str> {
     None
 }
 
-// The replies of the clients' calls in a report, in their order.
+/// The replies of the clients' calls in a report, in their order.
 pub fn replies_in(alloc: Global, report: &str) -> Result<Vec<&str>, Fail> {
     let mut replies = Vec::new(alloc);
     for line in report.lines() {

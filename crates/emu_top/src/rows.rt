@@ -7,8 +7,8 @@ use std::sync::Wait;
 use std::test::Fail;
 use std::thread::Threads;
 
-// A line of a script without its line feed, and the replies to its calls, joined by line feeds. A line that makes no call has
-// no reply.
+/// A line of a script without its line feed, and the replies to its calls, joined by line feeds. A line that makes no call has
+/// no reply.
 pub type Row = (&'static str, &'static [Part]);
 
 pub const NO_CALL: &[Part] = &[];
@@ -62,8 +62,8 @@ fn replies_to(alloc: Global, report: &str, who: &str, number: usize) -> Result<V
     Ok(replies)
 }
 
-// The number of the first line of a session, in batches of this size, that isn't answered as its row says, or 0 where the
-// session has no report.
+/// The number of the first line of a session, in batches of this size, that isn't answered as its row says, or 0 where the
+/// session has no report.
 pub fn odd_line<R: AllocGlobal + Threads + Wait + Sync>(
     rt: &R,
     batch: &str,

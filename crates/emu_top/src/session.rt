@@ -19,18 +19,18 @@ use report_text::report;
 use serial_core::{Ran, run_steps};
 use std::alloc::Global;
 
-// A script, and the stream behind it.
+/// A script, and the stream behind it.
 #[derive(Drop)]
 pub struct Session {
     pub script: Script,
     pub puller: Puller,
 }
 
-// What is to be written for a session.
+/// What is to be written for a session.
 #[derive(Drop)]
 pub struct Output {
     pub text: Vec<u8>,
-    // Reading failed in the stream.
+    /// Reading failed in the stream.
     pub read_fault: bool,
 }
 
@@ -47,7 +47,7 @@ fn status_of_script(error: ScriptError) -> Status
     }
 }
 
-// The status of a run that was given up.
+/// The status of a run that was given up.
 pub fn status_of_run(stop: Stop) -> Status
     ensures { result ≡ status_of_stop stop }
 {
@@ -81,7 +81,7 @@ fn session_of(alloc: Global, front: Front) -> Result<Session, Status>
     }
 }
 
-// Reads the script part of a source: its script, and the stream behind it.
+/// Reads the script part of a source: its script, and the stream behind it.
 pub fn read_session<S: Source>(alloc: Global, source: &mut S) -> Result<Session, Status>
     ensures begins { IfOk result (λ session. (first : List ℕ) × Consumes (S.left source.old) (S.left source.new) first × Holds first session.script session.puller) }
     ensures going { IfOk result (λ session. (session.puller.reading ≡ Going) × (session.puller.given ≡ 0)) }
@@ -119,7 +119,7 @@ fn run_session<S: Source>(
     }
 }
 
-// Reads the session of a source and runs it, in batches of this size.
+/// Reads the session of a source and runs it, in batches of this size.
 pub fn ran_of<S: Source>(alloc: Global, source: &mut S, batch: u32) -> Result<Ran, Status>
     requires some { 1 ≤ batch }
     requires few { batch ≤ 64 }
@@ -133,7 +133,7 @@ pub fn ran_of<S: Source>(alloc: Global, source: &mut S, batch: u32) -> Result<Ra
     }
 }
 
-// The report of a run.
+/// The report of a run.
 pub fn reported(
     alloc: Global,
     head: &Head,
@@ -153,7 +153,7 @@ pub fn reported(
     }
 }
 
-// What is to be written for the session of a source on one thread, in batches of this size.
+/// What is to be written for the session of a source on one thread, in batches of this size.
 pub fn output_of<S: Source>(alloc: Global, source: &mut S, batch: u32) -> Result<Output, Status>
     requires some { 1 ≤ batch }
     requires few { batch ≤ 64 }

@@ -58,7 +58,7 @@ fn run_threads<R: Threads + Wait + Sync, S: Source + Send, C: Clock + Sync, G: G
     }
 }
 
-// What is to be written for the session of a source that threads run, in batches of this size.
+/// What is to be written for the session of a source that threads run, in batches of this size.
 pub fn output_of_threads<
     R: Threads + Wait + Sync,
     S: Source + Send,

@@ -6,7 +6,7 @@ ghost use Rattle.ts_packet.specs.Cutting.{Cuts, bytes_taken};
 use std::marker::Model;
 use ts_packet::{Cutter, Packet, PacketBuf};
 
-// Up to 64 packets that were found and wait to be given: those of `found` from place `from` on. A contract sees these.
+/// Up to 64 packets that were found and wait to be given: those of `found` from place `from` on. A contract sees these.
 #[derive(Drop)]
 pub struct Hand {
     found: PacketBuf,
@@ -50,7 +50,7 @@ fn drop_front(packets: &mut PacketBuf, count: u32)
 }
 
 impl Hand {
-    // No packet waits.
+    /// No packet waits.
     pub fn new() -> Hand
         ensures { result ≡ [] }
     {
@@ -60,7 +60,7 @@ impl Hand {
         }
     }
 
-    // How many packets wait.
+    /// How many packets wait.
     pub fn len(&self) -> u32
         ensures value { result ≡ length self.now }
         ensures fits { result ≤ 64 }
@@ -68,7 +68,7 @@ impl Hand {
         self.found.len() - self.from
     }
 
-    // The packets that wait in front.
+    /// The packets that wait in front.
     pub fn front(&self, count: u32) -> &[Packet]
         requires { count ≤ length self.now }
         ensures value { result.now ≡ take count self.now }
@@ -78,7 +78,7 @@ impl Hand {
         &all[self.from as usize..][..count as usize]
     }
 
-    // So many packets in front are given.
+    /// So many packets in front are given.
     pub fn pass(&mut self, count: u32)
         requires { count ≤ length self.old }
         ensures { self.new ≡ drop count self.old }
@@ -87,7 +87,7 @@ impl Hand {
         self.from += count;
     }
 
-    // Cuts bytes from the front of `bytes`, as many as there are or until 64 packets wait, and answers how many.
+    /// Cuts bytes from the front of `bytes`, as many as there are or until 64 packets wait, and answers how many.
     pub fn fill(&mut self, cutter: &mut Cutter, bytes: &[u8]) -> usize
         requires room { length self.old < 64 }
         requires few { bytes_taken cutter.old + length bytes.now < 2 ^ 63 }

@@ -22,7 +22,7 @@ fn pid_row(row: WatchRow) -> PidRow
     }
 }
 
-// The PIDs that have a packet, ascending, each with its row.
+/// The PIDs that have a packet, ascending, each with its row.
 pub fn rows_of(alloc: Global, watch: &Watch) -> Result<Vec<(u16, PidRow)>, NoMemory>
     ensures { (packets : List (List ℕ)) → Watched packets watch.now → IfOk result (λ rows. rows.items ≡ rows_below 8192 packets) }
 {

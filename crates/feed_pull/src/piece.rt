@@ -10,7 +10,7 @@ use std::marker::Model;
 // The most bytes of one read.
 const READ: usize = 65536;
 
-// The bytes of one read, of which those from `at` to `end` are not used yet. A contract sees these.
+/// The bytes of one read, of which those from `at` to `end` are not used yet. A contract sees these.
 #[derive(Drop)]
 pub struct Piece {
     bytes: Vec<u8>,
@@ -44,7 +44,7 @@ fn put_front(room: &mut [u8], bytes: &[u8])
 }
 
 impl Piece {
-    // A piece of these bytes.
+    /// A piece of these bytes.
     pub fn of(alloc: Global, bytes: &[u8]) -> Result<Piece, NoMemory>
         requires { length bytes.now ≤ 65536 }
         ensures { IfOk result (λ piece. piece ≡ bytes.now) }
@@ -58,7 +58,7 @@ impl Piece {
         })
     }
 
-    // The bytes that are not used yet.
+    /// The bytes that are not used yet.
     pub fn rest(&self) -> &[u8]
         ensures bytes { result.now ≡ self.now }
         ensures fits { length self.now ≤ 65536 }
@@ -66,7 +66,7 @@ impl Piece {
         &self.bytes[self.at..self.end]
     }
 
-    // So many bytes are used.
+    /// So many bytes are used.
     pub fn pass(&mut self, count: usize)
         requires { count ≤ length self.old }
         ensures { self.new ≡ drop count self.old }
@@ -74,7 +74,7 @@ impl Piece {
         self.at += count;
     }
 
-    // Reads a piece where no byte is left.
+    /// Reads a piece where no byte is left.
     pub fn read<S: Source>(&mut self, source: &mut S) -> Result<usize, Failed>
         requires { self.old ≡ [] }
         ensures fits { length self.new ≤ 65536 }

@@ -7,7 +7,7 @@ use Rattle.dmx_calls.specs.Items.{timeout_of}
 use Rattle.dmx_calls.specs.Ledger.{Misfit}
 use Rattle.dmx_calls.specs.Facts.{Ledger, Facts}
 use Rattle.dmx_calls.specs.Answer.{most_bytes, read_bytes, read_timeout, read_over, read_response, expired_of}
-use Rattle.node_buffer.specs.Capturing.{is_section, is_due, expiring, most_read, bytes_read, timeout_read, over_read, read_by, with_response}
+use Rattle.node_buffer.specs.Inside.Capturing.{is_section, is_due, expiring, most_read, bytes_read, timeout_read, over_read, read_by, with_response}
 
 most_is : (set : Params) (l : Ledger) (count : ℕ) → most_read (is_section set) l count ≡ most_bytes set l count
 most_is Empty l count = refl

@@ -9,8 +9,8 @@ use Rattle.dmx_calls.specs.Tenure.{Params, Empty, Section, Pes}
 use Rattle.dmx_calls.specs.Ledger.{Misfit, misfit}
 use Rattle.dmx_calls.specs.Facts.{Ledger, unread_of, rest_of_item, rest_of}
 use Rattle.dmx_calls.proofs.Ledgers.{over_after, ledger_next}
-use Rattle.node_buffer.specs.Capturing.{is_section, rest_with, with_lost, with_misfit, with_kept, with_item_by, with_item, with_items}
-use Rattle.node_buffer.specs.Coherent.{UnreadFits}
+use Rattle.node_buffer.specs.Inside.Capturing.{is_section, rest_with, with_lost, with_misfit, with_kept, with_item_by, with_item, with_items}
+use Rattle.node_buffer.specs.Inside.Coherent.{UnreadFits}
 use Rattle.node_buffer.proofs.Rests.{rest_more}
 
 -- while an overflow is pending nothing is left of a section

@@ -9,7 +9,7 @@ use Rattle.dmx_calls.specs.Response.{Response, Busy, Refused, NoMemory, is_accep
 use Rattle.dmx_calls.specs.Facts.{Facts}
 use Rattle.dmx_calls.specs.Legal.{is_done, takes_memory}
 use Rattle.dmx_calls.specs.Answer.{refusal_to, read_response, expired_of, open_response, response_to, response_unless, answer_by}
-use Rattle.node_buffer.specs.Gives.{GivesBy}
+use Rattle.node_buffer.specs.Inside.Gives.{GivesBy}
 use Rattle.node_buffer.specs.Causes.{ReadCauses, TakesMemory, Causes}
 use Rattle.node_buffer.proofs.Accepted.{read_accepted, opened}
 use Rattle.node_buffer.proofs.ReadCausing.{Readable, read_cause}

@@ -9,8 +9,8 @@ use Rattle.dmx_calls.specs.Items.{timeout_of}
 use Rattle.dmx_calls.specs.Ledger.{Misfit}
 use Rattle.dmx_calls.specs.Facts.{Ledger, Facts, rest_of_item, rest_of}
 use Rattle.dmx_calls.specs.Answer.{most_bytes, read_bytes, read_over, read_response, expired_of}
-use Rattle.node_buffer.specs.Capturing.{with_response}
-use Rattle.node_buffer.specs.Coherent.{Coherent}
+use Rattle.node_buffer.specs.Inside.Capturing.{with_response}
+use Rattle.node_buffer.specs.Inside.Coherent.{Coherent}
 use Rattle.node_buffer.specs.Causes.{gives_no_bytes, gives_bytes, ReadCausesBy, ReadCauses}
 
 -- on a section filter, where something is unread, something is left of the section at the front

@@ -3,8 +3,8 @@ use Rattle.std.proofs.Common.{ℕ, ◌≡◌, refl, ◌∙◌, ap, Bool, true, f
 use Rattle.std.specs.Prelude.{option_map, if◌then◌else◌, not, is_some, ◌||◌}
 use Rattle.dmx_calls.specs.Response.{Response, Data, Overflow, TimedOut}
 use Rattle.dmx_calls.specs.Facts.{Ledger}
-use Rattle.node_buffer.specs.Capturing.{is_due, expiring, with_response}
-use Rattle.node_buffer.specs.Coherent.{total_of}
+use Rattle.node_buffer.specs.Inside.Capturing.{is_due, expiring, with_response}
+use Rattle.node_buffer.specs.Inside.Coherent.{total_of}
 
 -- the ledger with this expiry
 abbrev pub expired_at : Ledger → Option ℕ → Ledger

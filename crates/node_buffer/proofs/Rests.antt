@@ -8,7 +8,7 @@ use Rattle.std.proofs.Math.Seq.{drop-append_seam, drop-nil}
 use Rattle.section_parse.specs.Sections.{section_length, IsSection}
 use Rattle.dmx_calls.specs.Facts.{rest_of_item}
 use Rattle.dmx_calls.proofs.Pieces.{drop_past_first}
-use Rattle.node_buffer.specs.Capturing.{front_length}
+use Rattle.node_buffer.specs.Inside.Capturing.{front_length}
 
 -- ------ items that arrive
 

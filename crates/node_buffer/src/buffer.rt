@@ -7,9 +7,9 @@ ghost use Rattle.dmx_calls.specs.Response.{Data, Ready};
 ghost use Rattle.dmx_calls.specs.Back.{BackOfRead};
 ghost use Rattle.dmx_calls.specs.Facts.{state_of_filter};
 ghost use Rattle.dmx_calls.specs.Answer.{is_readable, pending, answered_of, expired_of};
-ghost use Rattle.node_buffer.specs.Capturing.{begun, is_due as due, expiring, is_section as section_set, with_item, with_stop, with_response, read_by, bytes_read, front_length as front_by};
-ghost use Rattle.node_buffer.specs.Coherent.{CoherentIn, total_of};
-ghost use Rattle.node_buffer.specs.BufferView.{ledger_of};
+ghost use Rattle.node_buffer.specs.Inside.Capturing.{begun, is_due as due, expiring, is_section as section_set, with_item, with_stop, with_response, read_by, bytes_read, front_length as front_by};
+ghost use Rattle.node_buffer.specs.Inside.Coherent.{CoherentIn, total_of};
+ghost use Rattle.node_buffer.specs.Inside.BufferView.{ledger_of};
 
 use crate::filter::{has_had_its_section, is_section, timeout_of};
 use dmx_calls::{ByteBuf, Params, PollError, Reply, Span, State};
@@ -59,11 +59,11 @@ pub struct Buffer {
 }
 
 impl Model for Buffer {
-    ghost use Rattle.node_buffer.specs.BufferValue.{BufferValue};
+    ghost use Rattle.node_buffer.specs.Inside.BufferValue.{BufferValue};
 
     ghost Value = { BufferValue };
 
-    ghost use Rattle.node_buffer.specs.BufferView.{buffer_view, BufferHolds};
+    ghost use Rattle.node_buffer.specs.Inside.BufferView.{buffer_view, BufferHolds};
 
     ghost view = { buffer_view };
 
@@ -265,8 +265,8 @@ impl Buffer {
         self.read_bytes(is_section(params), ended, buf)
     }
 
-    /// The reply to a Read where nothing is pending: no bytes for a count of 0, Again where all is answered, and else as many
-    /// bytes as are asked for and there; on a section filter no more than are left of the section.
+    // The reply to a Read where nothing is pending: no bytes for a count of 0, Again where all is answered, and else as many
+    // bytes as are asked for and there; on a section filter no more than are left of the section.
     fn read_bytes(
         &mut self,
         by_section: bool,
@@ -319,7 +319,7 @@ impl Buffer {
     }
 }
 
-/// The timeout is over and no item came; a timeout of 0 is never over.
+// The timeout is over and no item came; a timeout of 0 is never over.
 fn is_due(capture: &Capture, timeout: u32, now: u64) -> bool
     ensures { result ≡ due timeout now (ledger_of [] capture.now) }
 {
@@ -329,7 +329,7 @@ fn is_due(capture: &Capture, timeout: u32, now: u64) -> bool
     }
 }
 
-/// What is pending: an overflow, or an expiry that no Read was told of.
+// What is pending: an overflow, or an expiry that no Read was told of.
 fn pending_error(capture: &Capture) -> PollError
     ensures { result ≡ pending (Some (ledger_of [] capture.now)) (capture.now.expired) }
 {
@@ -342,7 +342,7 @@ fn pending_error(capture: &Capture) -> PollError
     }
 }
 
-/// Data of no bytes.
+// Data of no bytes.
 fn no_bytes(buf: ByteBuf) -> Reply
     ensures { result ≡ Reply.Data (record { count = buf.count; bytes = [] }) }
 {
@@ -351,7 +351,7 @@ fn no_bytes(buf: ByteBuf) -> Reply
     Reply::Data(empty)
 }
 
-/// Moves this many of the ring's first bytes into the buffer, in place of what it held.
+// Moves this many of the ring's first bytes into the buffer, in place of what it held.
 fn fill(ring: &mut Ring, buf: &mut ByteBuf, most: u64)
     requires there { most ≤ length ring.old.bytes }
     requires fits { most ≤ buf.old.count }
@@ -367,7 +367,7 @@ fn fill(ring: &mut Ring, buf: &mut ByteBuf, most: u64)
     ring.skip(count);
 }
 
-/// How many bytes a Read of this count gives where so many are unread, on a section filter with so many left of its section.
+// How many bytes a Read of this count gives where so many are unread, on a section filter with so many left of its section.
 fn most_bytes(by_section: bool, rest: u64, unread: u64, count: u32) -> u64
     ensures value { result ≡ (if by_section then min (min count unread) rest else min count unread) }
     ensures there { result ≤ unread }
@@ -377,7 +377,7 @@ fn most_bytes(by_section: bool, rest: u64, unread: u64, count: u32) -> u64
     if by_section { most.min(rest) } else { most }
 }
 
-/// What is left of the section at the front, once so many bytes were taken from the ring and so many were left before.
+// What is left of the section at the front, once so many bytes were taken from the ring and so many were left before.
 fn rest_behind(rest: u64, taken: u64, ring: &Ring) -> u64
     ensures { result ≡ (if nat_lt taken rest then rest - taken else front_by ring.now.bytes) }
 {
@@ -388,8 +388,8 @@ fn rest_behind(rest: u64, taken: u64, ring: &Ring) -> u64
     }
 }
 
-/// How long the section at the ring's front is: 3 bytes and as many as its section_length says (ISO/IEC 13818-1, 2.4.4.3).
-/// It is 0 where the ring is empty.
+// How long the section at the ring's front is: 3 bytes and as many as its section_length says (ISO/IEC 13818-1, 2.4.4.3).
+// It is 0 where the ring is empty.
 fn front_length(ring: &Ring) -> u64
     ensures { result ≡ front_by ring.now.bytes }
 {
@@ -401,7 +401,7 @@ fn front_length(ring: &Ring) -> u64
     3 + (high * 256 + u64::from(byte_at(front, back, 2)))
 }
 
-/// The byte in a place of two pieces that lie one behind the other; 0 behind them.
+// The byte in a place of two pieces that lie one behind the other; 0 behind them.
 fn byte_at(front: &[u8], back: &[u8], place: usize) -> u8
     ensures { result ≡ slice_index (front.now ++ back.now) place }
 {

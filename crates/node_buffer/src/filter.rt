@@ -4,7 +4,7 @@ ghost use Rattle.std.specs.Prelude.{◌≡◌};
 ghost use Rattle.dmx_calls.specs.Calls.{params_of};
 ghost use Rattle.dmx_calls.specs.Facts.{has_had_its_section as is_done_by};
 ghost use Rattle.dmx_calls.specs.Items.{is_oneshot as once_by, timeout_of as timeout_by};
-ghost use Rattle.node_buffer.specs.Capturing.{is_section as section_set};
+ghost use Rattle.node_buffer.specs.Inside.Capturing.{is_section as section_set};
 
 use dmx_calls::limits::ONESHOT;
 use dmx_calls::{Params, SectionParams};

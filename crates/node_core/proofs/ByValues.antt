@@ -8,14 +8,14 @@ use Rattle.dmx_calls.specs.Tenure.{Params, Empty, Section, Pes}
 use Rattle.dmx_calls.specs.Items.{timeout_of}
 use Rattle.dmx_calls.specs.Facts.{Ledger, state_of_filter, state_of_ledger}
 use Rattle.dmx_calls.specs.Answer.{expired_of, response_to}
-use Rattle.node_buffer.specs.Capturing.{is_section, read_by, is_due, expiring, with_response}
+use Rattle.node_buffer.specs.Inside.Capturing.{is_section, read_by, is_due, expiring, with_response}
 use Rattle.node_buffer.proofs.Accepted.{read_accepted}
 use Rattle.node_buffer.proofs.Answering.{read_is}
 use Rattle.node_buffer.proofs.Readings.{expired_at, then_answered}
-use Rattle.node_buffer.specs.Coherent.{CoherentIn}
-use Rattle.node_core.specs.Step.{Knows, next, moved}
-use Rattle.node_core.specs.Sound.{IsSoundBy}
-use Rattle.node_core.specs.KeptView.{reply_to}
+use Rattle.node_buffer.specs.Inside.Coherent.{CoherentIn}
+use Rattle.node_core.specs.Inside.Step.{Knows, next, moved}
+use Rattle.node_core.specs.Inside.Sound.{IsSoundBy}
+use Rattle.node_core.specs.Inside.KeptView.{reply_to}
 
 -- ------ a Read
 

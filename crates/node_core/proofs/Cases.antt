@@ -21,10 +21,10 @@ use Rattle.dmx_calls.specs.Answer.{is_for_anybody, is_owned_by, refusal_to, read
 use Rattle.dmx_calls.proofs.Going.{setting_some}
 use Rattle.dmx_calls.proofs.After.{params_refused, capture_refused, offered_refused, items_refused, facts_refused}
 use Rattle.item_select.specs.Selecting.{Selecting}
-use Rattle.node_core.specs.Step.{moved, next}
+use Rattle.node_core.specs.Inside.Step.{moved, next}
 use Rattle.node_core.specs.Offers.{HasSelected}
-use Rattle.node_core.specs.Sound.{IsSound}
-use Rattle.node_core.specs.Gives.{settled}
+use Rattle.node_core.specs.Inside.Sound.{IsSound}
+use Rattle.node_core.specs.Inside.Gives.{settled}
 use Rattle.node_core.proofs.Moves.{known, Moves, Silent, as_done, as_ready, as_passed, accepted_of, stop_moves, poll_moves, same_size_moves, add_moves, remove_moves, end_moves}
 use Rattle.node_core.proofs.Begins.{open_moves, close_moves, start_moves, set_filter_moves, set_pes_moves, resized_moves}
 use Rattle.node_core.proofs.Passes.{pass_moves}

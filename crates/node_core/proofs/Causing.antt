@@ -11,14 +11,14 @@ use Rattle.dmx_calls.specs.Rules.{demux}
 use Rattle.dmx_calls.specs.Ledger.{joined, total, answered, over}
 use Rattle.dmx_calls.specs.Facts.{Ledger, Facts, ledger_of, facts}
 use Rattle.dmx_calls.specs.Answer.{expired_of}
-use Rattle.node_buffer.specs.Capturing.{is_section, expiring}
-use Rattle.node_buffer.specs.Coherent.{CoherentIn}
+use Rattle.node_buffer.specs.Inside.Capturing.{is_section, expiring}
+use Rattle.node_buffer.specs.Inside.Coherent.{CoherentIn}
 use Rattle.node_buffer.specs.Causes.{Causes}
 use Rattle.node_buffer.proofs.ReadCausing.{Readable, still_by, expired_either}
 use Rattle.node_buffer.proofs.Causing.{causes_for}
-use Rattle.node_core.specs.Step.{Knows, moved, next}
-use Rattle.node_core.specs.Sound.{IsSoundFor, IsSound}
-use Rattle.node_core.specs.Gives.{Gives}
+use Rattle.node_core.specs.Inside.Step.{Knows, moved, next}
+use Rattle.node_core.specs.Inside.Sound.{IsSoundFor, IsSound}
+use Rattle.node_core.specs.Inside.Gives.{Gives}
 use Rattle.node_core.specs.Stands.{CoreValue, StandsFor}
 use Rattle.node_core.proofs.Moves.{coherent_by}
 use Rattle.node_core.proofs.Standing.{knows}

@@ -8,7 +8,7 @@ use Rattle.dmx_calls.specs.Items.{timeout_of, expiry}
 use Rattle.dmx_calls.specs.Rules.{expired}
 use Rattle.dmx_calls.specs.Facts.{Ledger}
 use Rattle.dmx_calls.proofs.After.{expired_then}
-use Rattle.node_buffer.specs.Capturing.{expiring}
+use Rattle.node_buffer.specs.Inside.Capturing.{expiring}
 
 -- without a timeout nothing expires
 pub never : (h : History) → nat_eq (timeout_of (params h)) 0 ≡ true → expired h ≡ None

@@ -16,11 +16,11 @@ use Rattle.dmx_calls.specs.Facts.{Ledger, ledger_at, ledger_of, facts}
 use Rattle.dmx_calls.proofs.Going.{Stays, tenure_stays, pids_changed}
 use Rattle.dmx_calls.proofs.After.{expired_then, facts_free, facts_goes, ledger_still, stays_poll, stays_end, stays_stop, stays_add, stays_remove, stays_same_size, pids_stay}
 use Rattle.item_select.specs.Selecting.{Selecting}
-use Rattle.node_buffer.specs.Capturing.{with_stop, expiring}
-use Rattle.node_core.specs.Step.{Knows, moved}
+use Rattle.node_buffer.specs.Inside.Capturing.{with_stop, expiring}
+use Rattle.node_core.specs.Inside.Step.{Knows, moved}
 use Rattle.node_core.specs.Offers.{HasSelected, names_of}
-use Rattle.node_buffer.specs.Coherent.{Coherent}
-use Rattle.node_core.specs.Sound.{IsSoundFor, IsSound}
+use Rattle.node_buffer.specs.Inside.Coherent.{Coherent}
+use Rattle.node_core.specs.Inside.Sound.{IsSoundFor, IsSound}
 use Rattle.node_core.proofs.Expiries.{never, expiring_is, unclocked}
 use Rattle.node_core.proofs.Takings.{selected_goes, selected_none, selected_quiet, selected_renamed}
 

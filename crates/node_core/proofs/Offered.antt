@@ -3,7 +3,7 @@ use Rattle.std.proofs.Common.{ℕ, ◌+◌, ◌≡◌, refl, Bool, List, [], Opt
 use Rattle.std.specs.Prelude.{slice_get, option_map}
 use Rattle.dmx_calls.specs.Facts.{Ledger}
 use Rattle.item_select.specs.Selecting.{Selecting, after_offer, all_given, items_found, kept_after}
-use Rattle.node_buffer.specs.Capturing.{with_items}
+use Rattle.node_buffer.specs.Inside.Capturing.{with_items}
 use Rattle.node_buffer.proofs.Arrivals.{with_items-append, drop-one}
 
 -- the packet in place i, and then those behind it

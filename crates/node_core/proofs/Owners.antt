@@ -10,11 +10,11 @@ use Rattle.dmx_calls.specs.Response.{TapChange, Response, NoMemory, Passed, is_a
 use Rattle.dmx_calls.specs.Facts.{Ledger}
 use Rattle.dmx_calls.specs.Answer.{is_for_anybody, is_owned_by, refusal_to, response_to, response_unless, answer_by, done_dropping}
 use Rattle.dmx_calls.specs.Legal.{is_done, takes_memory}
-use Rattle.node_buffer.specs.Gives.{owner_refusal}
+use Rattle.node_buffer.specs.Inside.Gives.{owner_refusal}
 use Rattle.node_core.specs.declared.tenure.Tenure.{Tenure}
-use Rattle.node_core.specs.Step.{Knows, moved, next}
-use Rattle.node_core.specs.Gives.{Gives, settled}
-use Rattle.node_core.specs.KeptView.{knows_in, reply_to, Replies}
+use Rattle.node_core.specs.Inside.Step.{Knows, moved, next}
+use Rattle.node_core.specs.Inside.Gives.{Gives, settled}
+use Rattle.node_core.specs.Inside.KeptView.{knows_in, reply_to, Replies}
 
 -- of these calls none looks at its caller
 moved_same : (k : Knows) (who : ℕ) (call : Invocation) (r : Response) → is_for_anybody Demux call ≡ false → moved k 0 call r ≡ moved k who call r

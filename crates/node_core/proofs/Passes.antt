@@ -16,11 +16,11 @@ use Rattle.dmx_calls.proofs.Going.{Stays}
 use Rattle.dmx_calls.proofs.Ledgers.{any_more}
 use Rattle.dmx_calls.proofs.After.{expired_is, facts_free, facts_goes, stays_pass, pids_stay}
 use Rattle.item_select.specs.Selecting.{Selecting, items_found, kept_after}
-use Rattle.node_buffer.specs.Capturing.{is_section, with_items, expiring}
-use Rattle.node_core.specs.Step.{is_taking, passed, passed_by}
+use Rattle.node_buffer.specs.Inside.Capturing.{is_section, with_items, expiring}
+use Rattle.node_core.specs.Inside.Step.{is_taking, passed, passed_by}
 use Rattle.node_core.specs.Offers.{HasSelected, choice_of, names_of}
-use Rattle.node_buffer.specs.Coherent.{Coherent}
-use Rattle.node_core.specs.Sound.{IsSound}
+use Rattle.node_buffer.specs.Inside.Coherent.{Coherent}
+use Rattle.node_core.specs.Inside.Sound.{IsSound}
 use Rattle.node_buffer.proofs.Arrivals.{RestFits, Fits, with_items-at_once, arrives}
 use Rattle.node_core.proofs.Expiries.{never, expiring_is}
 use Rattle.node_core.proofs.Takings.{selected_goes, selected_none, is_taken, items_taken, selected_taken}

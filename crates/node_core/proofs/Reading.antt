@@ -16,10 +16,10 @@ use Rattle.dmx_calls.specs.Answer.{most_bytes, read_bytes, read_timeout, read_ov
 use Rattle.dmx_calls.proofs.Going.{Stays}
 use Rattle.dmx_calls.proofs.After.{expired_then, facts_goes, ledger_still, ledger_told, stays_read, pids_stay}
 use Rattle.item_select.specs.Selecting.{Selecting}
-use Rattle.node_buffer.specs.Capturing.{is_section, expiring, front_length, rest_behind, with_response}
+use Rattle.node_buffer.specs.Inside.Capturing.{is_section, expiring, front_length, rest_behind, with_response}
 use Rattle.node_core.specs.Offers.{HasSelected}
-use Rattle.node_buffer.specs.Coherent.{Coherent}
-use Rattle.node_core.specs.Sound.{IsSound}
+use Rattle.node_buffer.specs.Inside.Coherent.{Coherent}
+use Rattle.node_core.specs.Inside.Sound.{IsSound}
 use Rattle.node_buffer.proofs.Rests.{rest_read}
 use Rattle.node_core.proofs.WholeSections.{items_whole}
 use Rattle.node_core.proofs.Expiries.{never, expiring_is}

@@ -9,10 +9,10 @@ use Rattle.dmx_calls.specs.Legal.{May}
 use Rattle.dmx_calls.proofs.After.{facts_refused}
 use Rattle.dmx_calls.proofs.Nodes.{demux_keeps}
 use Rattle.item_select.specs.Selecting.{Selecting}
-use Rattle.node_core.specs.Step.{Knows, next}
+use Rattle.node_core.specs.Inside.Step.{Knows, next}
 use Rattle.node_core.specs.Offers.{HasSelected}
-use Rattle.node_core.specs.Sound.{IsSound}
-use Rattle.node_core.specs.Gives.{Gives}
+use Rattle.node_core.specs.Inside.Sound.{IsSound}
+use Rattle.node_core.specs.Inside.Gives.{Gives}
 use Rattle.node_core.specs.Stands.{CoreValue, StandsFor}
 use Rattle.node_core.proofs.Takings.{selected_none}
 use Rattle.node_core.proofs.Moves.{known}

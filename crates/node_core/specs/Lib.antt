@@ -1,9 +1,4 @@
 pub mod Offers
-pub mod Step
-pub mod Sound
-pub mod Gives
-pub mod KeptView
 pub mod Looks
 pub mod Stands
-pub mod CoreView
-pub mod Counts
+pub mod Inside

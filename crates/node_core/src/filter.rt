@@ -30,7 +30,7 @@ pub fn starts_at_once(flags: u32) -> bool
     flags & IMMEDIATE_START != 0
 }
 
-/// DMX_CHECK_CRC is among its flags.
+// DMX_CHECK_CRC is among its flags.
 fn checks_crc(params: &SectionParams) -> bool
     ensures { result ≡ has_flag CHECK_CRC params.now.flags }
 {

@@ -12,10 +12,10 @@ ghost use Rattle.dmx_calls.specs.Answer.{is_for_anybody};
 ghost use Rattle.dmx_calls.specs.Calls.{invocation_of, response_of};
 ghost use Rattle.dmx_calls.specs.Back.{GivesBack};
 ghost use Rattle.node_core.specs.Looks.{named_packets};
-ghost use Rattle.node_core.specs.Sound.{IsSound};
-ghost use Rattle.node_core.specs.Gives.{Gives};
-ghost use Rattle.node_core.specs.Step.{next};
-ghost use Rattle.node_core.specs.KeptView.{knows_of, bytes_in};
+ghost use Rattle.node_core.specs.Inside.Sound.{IsSound};
+ghost use Rattle.node_core.specs.Inside.Gives.{Gives};
+ghost use Rattle.node_core.specs.Inside.Step.{next};
+ghost use Rattle.node_core.specs.Inside.KeptView.{knows_of, bytes_in};
 
 use crate::filter::takes_from;
 use crate::offer::offer_all;

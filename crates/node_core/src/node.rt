@@ -12,10 +12,10 @@ ghost use Rattle.dmx_calls.specs.Calls.{invocation_of, response_of};
 ghost use Rattle.dmx_calls.specs.Back.{GivesBack};
 ghost use Rattle.node_buffer.specs.Causes.{Causes};
 ghost use Rattle.node_core.specs.Looks.{named_packets};
-ghost use Rattle.node_core.specs.Sound.{IsSound};
-ghost use Rattle.node_core.specs.Gives.{Gives};
-ghost use Rattle.node_core.specs.Step.{next};
-ghost use Rattle.node_core.specs.KeptView.{knows_of, bytes_in};
+ghost use Rattle.node_core.specs.Inside.Sound.{IsSound};
+ghost use Rattle.node_core.specs.Inside.Gives.{Gives};
+ghost use Rattle.node_core.specs.Inside.Step.{next};
+ghost use Rattle.node_core.specs.Inside.KeptView.{knows_of, bytes_in};
 ghost use Rattle.node_core.specs.Stands.{StandsFor};
 
 use crate::kept::Kept;
@@ -32,7 +32,7 @@ use steps::Steps;
 pub struct NodeCore {
     alloc: Global,
     number: u32,
-    /// How many calls were made.
+    // How many calls were made.
     entries: u64,
     kept: Kept,
 }
@@ -42,14 +42,14 @@ impl Model for NodeCore {
 
     ghost Value = { CoreValue };
 
-    ghost use Rattle.node_core.specs.CoreView.{core_view, CoreHolds};
+    ghost use Rattle.node_core.specs.Inside.CoreView.{core_view, CoreHolds};
 
     ghost view = { core_view };
 
     ghost invariant = { CoreHolds };
 }
 
-/// Makes a call on what the node keeps.
+// Makes a call on what the node keeps.
 fn act<L: Ledger>(
     kept: &mut Kept,
     alloc: Global,
@@ -145,7 +145,7 @@ impl Machine for NodeCore {
     ghost use Rattle.dmx_calls.specs.Back.{GivesBack};
     ghost use Rattle.dmx_calls.specs.Entries.{told, caller_of, packets_of};
     ghost use Rattle.node_core.specs.Stands.{StandsFor};
-    ghost use Rattle.node_core.specs.Counts.{counted};
+    ghost use Rattle.node_core.specs.Inside.Counts.{counted};
 
     type Call = Call;
 

@@ -7,8 +7,8 @@ ghost use Rattle.dmx_calls.specs.Calls.{params_of, pids_of};
 ghost use Rattle.node_core.specs.Offers.{choice_of, names_of};
 ghost use Rattle.ts_packet.specs.Fields.{IsPacket};
 ghost use Rattle.item_select.specs.Selecting.{after_offer, all_given, bytes_held, items_found, kept_after, section_pid};
-ghost use Rattle.node_buffer.specs.Coherent.{CoherentIn, total_of};
-ghost use Rattle.node_buffer.specs.Capturing.{with_items};
+ghost use Rattle.node_buffer.specs.Inside.Coherent.{CoherentIn, total_of};
+ghost use Rattle.node_buffer.specs.Inside.Capturing.{with_items};
 
 use dmx_calls::Params;
 use item_select::Selector;
@@ -19,7 +19,7 @@ use steps::Steps;
 use ts_batch::{Batch, PlaceSet};
 use ts_packet::Packet;
 
-/// A packet is offered.
+// A packet is offered.
 fn offer(selector: &mut Selector, buffer: &mut Buffer, by_section: bool, packet: &Packet)
     requires given { selector.old.ready ≡ [] }
     requires bytes { total_of buffer.old.ledger + bytes_held selector.old + 188 < 2 ^ 64 }
@@ -38,7 +38,7 @@ fn offer(selector: &mut Selector, buffer: &mut Buffer, by_section: bool, packet:
     }
 }
 
-/// The places of the packets that a filter's PIDs name.
+// The places of the packets that a filter's PIDs name.
 fn named_places(params: &Params, batch: &Batch) -> PlaceSet
     ensures { (i : ℕ) (packet : List ℕ) → slice_get batch.now.packets i ≡ Some packet → is_in i result ≡ is_named (pids_of params.now) packet }
 {
@@ -51,7 +51,7 @@ fn named_places(params: &Params, batch: &Batch) -> PlaceSet
     places
 }
 
-/// Adds the places of the packets that these PIDs name.
+// Adds the places of the packets that these PIDs name.
 fn add_all(places: &mut PlaceSet, pids: &Pids, batch: &Batch)
     requires { (i : ℕ) → is_in i places.old ≡ false }
     ensures { (i : ℕ) (packet : List ℕ) → slice_get batch.now.packets i ≡ Some packet → is_in i places.new ≡ is_named pids.now packet }

@@ -6,7 +6,7 @@
 ghost use Rattle.std.specs.Prelude.{◌≡◌, if◌then◌else◌};
 ghost use Rattle.dmx_calls.specs.Response.{KeepTap, DetachTap};
 ghost use Rattle.dmx_calls.specs.Calls.{tap_change_of};
-ghost use Rattle.node_core.specs.KeptView.{is_recording_for, tap_told};
+ghost use Rattle.node_core.specs.Inside.KeptView.{is_recording_for, tap_told};
 
 use crate::tenure::Tenure;
 use dmx_calls::{Output, Params, State, Tap};

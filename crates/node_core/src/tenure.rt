@@ -12,11 +12,11 @@ ghost use Rattle.dmx_calls.specs.Answer.{is_for_anybody, done_dropping};
 ghost use Rattle.dmx_calls.specs.Calls.{invocation_of, response_of, params_of, pids_of};
 ghost use Rattle.dmx_calls.specs.Back.{BackOfRead, GivesBack};
 ghost use Rattle.item_select.specs.Selecting.{begun as begun_selecting};
-ghost use Rattle.node_buffer.specs.Capturing.{begun};
-ghost use Rattle.node_buffer.specs.Gives.{owner_refusal};
+ghost use Rattle.node_buffer.specs.Inside.Capturing.{begun};
+ghost use Rattle.node_buffer.specs.Inside.Gives.{owner_refusal};
 ghost use Rattle.node_core.specs.Offers.{choice_of, names_of};
-ghost use Rattle.node_core.specs.Step.{unset};
-ghost use Rattle.node_core.specs.KeptView.{is_close, knows_in, is_recording_for, tap_told, IsSoundIn, IsGranted, reply_to, Does};
+ghost use Rattle.node_core.specs.Inside.Step.{unset};
+ghost use Rattle.node_core.specs.Inside.KeptView.{is_close, knows_in, is_recording_for, tap_told, IsSoundIn, IsGranted, reply_to, Does};
 
 use crate::filter::{rename, select, starts_at_once};
 use crate::tap::tap_of_idle;
@@ -66,7 +66,7 @@ impl Tenure {
         })
     }
 
-    /// A filter is set. It starts at once where DMX_IMMEDIATE_START is among its flags.
+    // A filter is set. It starts at once where DMX_IMMEDIATE_START is among its flags.
     fn set(&mut self, params: Params, flags: u32, now: u64) -> Reply
         ensures said { response_of result ≡ done_dropping self.old.buffer.ledger (tap_told (is_recording_for self.old) true self.new) }
         ensures after { self.new ≡ record {
@@ -140,7 +140,7 @@ impl Tenure {
         done(self.buffer.unread(), tap_of_idle(self.is_recording()))
     }
 
-    /// DMX_SET_FILTER: a section filter is set.
+    // DMX_SET_FILTER: a section filter is set.
     fn set_filter(&mut self, params: SectionParams, now: u64) -> Reply
         requires sound { IsSoundIn self.old }
         requires granted { IsGranted self.old (SetFilter params now) }
@@ -149,7 +149,7 @@ impl Tenure {
         self.set(Params::Section(params), params.flags, now)
     }
 
-    /// DMX_SET_PES_FILTER: a filter of packets is set.
+    // DMX_SET_PES_FILTER: a filter of packets is set.
     fn set_pes(&mut self, params: PesParams, now: u64) -> Reply
         requires sound { IsSoundIn self.old }
         requires granted { IsGranted self.old (SetPes params now) }
@@ -159,7 +159,7 @@ impl Tenure {
         self.set(Params::Pes { params, pids }, params.flags, now)
     }
 
-    /// DMX_ADD_PID: a PID is added, from the next packet on.
+    // DMX_ADD_PID: a PID is added, from the next packet on.
     fn add_pid(&mut self, pid: u16) -> Reply
         requires sound { IsSoundIn self.old }
         requires granted { IsGranted self.old (AddPid pid) }
@@ -177,7 +177,7 @@ impl Tenure {
         }
     }
 
-    /// DMX_REMOVE_PID: a PID is removed, from the next packet on.
+    // DMX_REMOVE_PID: a PID is removed, from the next packet on.
     fn remove_pid(&mut self, pid: u16) -> Reply
         requires sound { IsSoundIn self.old }
         requires granted { IsGranted self.old (RemovePid pid) }
@@ -194,7 +194,7 @@ impl Tenure {
         }
     }
 
-    /// DMX_START: a capture begins, and the selector begins anew with it.
+    // DMX_START: a capture begins, and the selector begins anew with it.
     fn start(&mut self, now: u64) -> Reply
         requires sound { IsSoundIn self.old }
         requires granted { IsGranted self.old (Start now) }
@@ -207,7 +207,7 @@ impl Tenure {
         done(dropped, self.tap(recorded, true))
     }
 
-    /// DMX_STOP: the capture goes on without packets.
+    // DMX_STOP: the capture goes on without packets.
     fn stop(&mut self) -> Reply
         requires sound { IsSoundIn self.old }
         requires granted { IsGranted self.old (Stop) }
@@ -218,7 +218,7 @@ impl Tenure {
         done(NOTHING, tap_of_idle(recorded))
     }
 
-    /// DMX_SET_BUFFER_SIZE: another size ends the capture. The size that the node has changes nothing.
+    // DMX_SET_BUFFER_SIZE: another size ends the capture. The size that the node has changes nothing.
     fn set_size(&mut self, alloc: Global, size: u32) -> Reply
         requires sound { IsSoundIn self.old }
         requires granted { IsGranted self.old (SetSize size) }
@@ -234,7 +234,7 @@ impl Tenure {
         }
     }
 
-    /// read(): the reply, with its buffer where the reply doesn't hold it. The filter may expire first.
+    // read(): the reply, with its buffer where the reply doesn't hold it. The filter may expire first.
     fn read(&mut self, ended: bool, now: u64, buf: ByteBuf) -> (Reply, Option<ByteBuf>)
         requires sound { IsSoundIn self.old }
         requires granted { IsGranted self.old (Read now buf.count) }
@@ -245,7 +245,7 @@ impl Tenure {
         self.buffer.read(&self.params, ended, buf)
     }
 
-    /// poll(): the reply. The filter may expire first.
+    // poll(): the reply. The filter may expire first.
     fn poll(&mut self, ended: bool, now: u64) -> Reply
         requires sound { IsSoundIn self.old }
         requires granted { IsGranted self.old (Poll now) }

@@ -17,7 +17,7 @@ use Rattle.client_core.specs.declared.event.Want.TheVariants.{Open, Close, Secti
 use Rattle.client_core.specs.Commands.{call_of, commands_of, ends_drain}
 use Rattle.client_core.specs.Events.{Standing, progress, next_event, next_of_line, standing_at, waits_on}
 use Rattle.client_core.specs.Budget.{repeats}
-use Rattle.client_core.specs.More.{added_by}
+use Rattle.client_core.specs.Inside.More.{added_by}
 use Rattle.client_core.proofs.FirstCalls.{few}
 use Rattle.client_core.proofs.More.{one_reply_more}
 use Rattle.serial_core.specs.Nodes.{Node, history_of}

@@ -5,14 +5,14 @@ use Rattle.std.proofs.lemmas.List.{get_or-set_same, get_or-set_other, length-set
 use Rattle.dmx_calls.specs.declared.limits.TheConstants.{DEMUX_NODES}
 use Rattle.client_script.specs.declared.line.Line.{Line}
 use Rattle.client_core.specs.declared.event.Event.{Event}
-use Rattle.client_core.specs.Core.{Core, IsAfter}
+use Rattle.client_core.specs.Inside.Core.{Core, IsAfter}
 use Rattle.client_core.specs.Events.{next_of_line, waits_on}
 use Rattle.serial_core.specs.declared.nodes.Nodes.{Nodes}
 use Rattle.serial_core.specs.declared.runner.Runner.{Runner}
 use Rattle.serial_core.specs.SerialRun.{Run, replies_of, called, made, reply_to, after_waiting, turned, calls}
 use Rattle.serial_core.specs.Budget.{one_if}
-use Rattle.serial_core.specs.Standing.{IsNodes}
-use Rattle.serial_core.specs.Moving.{Moves, Comes}
+use Rattle.serial_core.specs.Inside.Standing.{IsNodes}
+use Rattle.serial_core.specs.Inside.Moving.{Moves, Comes}
 use Rattle.feed_pull.proofs.Drawing.{draws_none}
 use Rattle.serial_core.proofs.Replies.{waiting_replies}
 use Rattle.serial_core.proofs.Within.{paid_next_of_line}

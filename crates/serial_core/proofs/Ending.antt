@@ -16,7 +16,7 @@ use Rattle.client_script.specs.Script.{clients_of, clients_in}
 use Rattle.node_core.specs.Stands.{CoreValue as DemuxCore}
 use Rattle.serial_core.specs.declared.seat.Seat.{Seat}
 use Rattle.serial_core.specs.declared.nodes.Nodes.{Nodes}
-use Rattle.client_core.specs.Core.{Core, IsAfter}
+use Rattle.client_core.specs.Inside.Core.{Core, IsAfter}
 use Rattle.client_core.specs.Events.{outcomes}
 use Rattle.client_core.specs.Budget.{most_calls, all_commands}
 use Rattle.dmx_calls.specs.Head.{told_head, head_of}
@@ -26,10 +26,10 @@ use Rattle.serial_core.specs.declared.run.Ran.{Ran}
 use Rattle.serial_core.specs.declared.runner.Runner.{Runner}
 use Rattle.serial_core.specs.Nodes.{Node, log_of}
 use Rattle.serial_core.specs.SerialRun.{Run, begun, replies_of, IsSerialRun}
-use Rattle.serial_core.specs.Standing.{Pairs, IsDemux, IsNodes, acts_on, acts_of}
-use Rattle.serial_core.specs.Legal.{AreLegal}
-use Rattle.serial_core.specs.Moving.{IsAt, Moves}
-use Rattle.serial_core.specs.Lines.{AreAfter, IsWholeBy, Overruns}
+use Rattle.serial_core.specs.Inside.Standing.{Pairs, IsDemux, IsNodes, acts_on, acts_of}
+use Rattle.serial_core.specs.Inside.Legal.{AreLegal}
+use Rattle.serial_core.specs.Inside.Moving.{IsAt, Moves}
+use Rattle.serial_core.specs.Inside.Lines.{AreAfter, IsWholeBy, Overruns}
 use Rattle.serial_core.specs.Ran.{IsRanOf, IsBegun, AreFresh, histories_in}
 use Rattle.feed_pull.specs.Streams.{OfStream}
 use Rattle.feed_pull.proofs.CutPackets.{are_packets}

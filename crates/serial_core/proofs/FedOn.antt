@@ -8,7 +8,7 @@ use Rattle.dmx_calls.specs.Rules as rules
 use Rattle.node_core.specs.Stands.{CoreValue as DemuxCore}
 use Rattle.serial_core.specs.declared.seat.Seat.{Seat}
 use Rattle.serial_core.specs.Nodes.{Node, answered}
-use Rattle.serial_core.specs.Standing.{Pairs, IsDemux, IsUnder, AreUnder}
+use Rattle.serial_core.specs.Inside.Standing.{Pairs, IsDemux, IsUnder, AreUnder}
 use Rattle.serial_core.proofs.Pairs.{map_replicate, same_length}
 
 -- ------ lists of which a front has come to stand in another relation

@@ -12,7 +12,7 @@ use Rattle.dmx_calls.specs.declared.histories.Fed.{Fed}
 use Rattle.serial_core.specs.declared.nodes.Nodes.{Nodes}
 use Rattle.serial_core.specs.Nodes.{Node, answered}
 use Rattle.serial_core.specs.SerialRun.{Run, begun, fed_to_all}
-use Rattle.serial_core.specs.Standing.{Pairs, IsDemux, IsDvr, IsNodes, IsUnder, AreUnder, acts_of, acts_on}
+use Rattle.serial_core.specs.Inside.Standing.{Pairs, IsDemux, IsDvr, IsNodes, IsUnder, AreUnder, acts_of, acts_on}
 use Rattle.serial_core.proofs.Pairs.{pair_at, same_length, same_set, same_weaker}
 
 -- ------ before the first call

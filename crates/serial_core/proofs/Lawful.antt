@@ -17,7 +17,7 @@ use Rattle.client_core.specs.declared.event.Event.{Event}
 use Rattle.client_core.specs.Commands.{call_of}
 use Rattle.client_core.specs.Events.{waits_on}
 use Rattle.serial_core.specs.SerialRun.{Run, begun, fed_to_all, passed, batch_sizes, all_passed, ended, fed, demux_node, made, called, turned, after_waiting, replies_of, IsWorked, through, calls, AreDone, IsSerialRun}
-use Rattle.serial_core.specs.Legal.{AreLegal}
+use Rattle.serial_core.specs.Inside.Legal.{AreLegal}
 
 abbrev pub IsLegalNode : Node → Type 0
 IsLegalNode node = IsLegal (history_of node)

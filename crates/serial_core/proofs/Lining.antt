@@ -8,13 +8,13 @@ use Rattle.client_script.specs.declared.line.Line.{Line}
 use Rattle.client_script.specs.declared.line.Line.TheVariants.{Feed, Tick, Command}
 use Rattle.client_script.specs.declared.line.Target.{Target}
 use Rattle.client_script.specs.declared.line.Verb.{Verb}
-use Rattle.client_core.specs.Core.{Core, IsAfter}
+use Rattle.client_core.specs.Inside.Core.{Core, IsAfter}
 use Rattle.feed_pull.specs.Pulling.{Pulling, IsDone}
 use Rattle.serial_core.specs.declared.runner.Runner.{Runner}
 use Rattle.serial_core.specs.SerialRun.{Run, replies_of, passed, batch_sizes, all_passed, ended, fed, finished, ticked, through, AreDone}
-use Rattle.serial_core.specs.Moving.{IsAt, Moves, IsDoneBy, ComesBy, Comes as CommandComes}
+use Rattle.serial_core.specs.Inside.Moving.{IsAt, Moves, IsDoneBy, ComesBy, Comes as CommandComes}
 use Rattle.feed_pull.specs.Streams.{Draws}
-use Rattle.serial_core.specs.Lines.{AreAfter, calls_by, AreInBudget, Comes, IsLineBy, IsFrontBy, IsWholeBy, Overruns, OverrunsBy}
+use Rattle.serial_core.specs.Inside.Lines.{AreAfter, calls_by, AreInBudget, Comes, IsLineBy, IsFrontBy, IsWholeBy, Overruns, OverrunsBy}
 use Rattle.feed_pull.proofs.Drawing.{draws_none}
 use Rattle.serial_core.proofs.Replies.{ended_replies}
 use Rattle.serial_core.proofs.Paid.{paid_fed, paid_ticked}

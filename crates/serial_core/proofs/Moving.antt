@@ -3,7 +3,7 @@ use Rattle.std.proofs.Common.{◌≡◌, refl, ap, subst, ◌∙◌, ℕ, List, 
 use Rattle.std.specs.declared.option.Option.{Option}
 use Rattle.serial_core.specs.declared.runner.Runner.{Runner}
 use Rattle.serial_core.specs.SerialRun.{Run}
-use Rattle.serial_core.specs.Moving.{Moves}
+use Rattle.serial_core.specs.Inside.Moving.{Moves}
 use Rattle.feed_pull.proofs.Drawing.{draws_none, draws_then}
 
 pub moves_none : (x : Option (List ℕ)) (n : ℕ) (v : Runner) (goes : Run → Run → Type 0) → ((r : Run) → goes r r) → Moves x x n n v v goes

@@ -1,7 +1,7 @@
 -- Lists whose elements are related one by one, and a change of one element of each.
 use Rattle.std.proofs.Common.{ℕ, zero, suc, ◌+◌, ◌<◌, ◌≤◌, ◌≡◌, refl, ap, sym, subst, List, [], ◌∷◌, ◌++◌, set, get_or, map, replicate, length, arith}
 use Rattle.std.proofs.Math.Numerals.{add-one}
-use Rattle.serial_core.specs.Standing.{Pairs}
+use Rattle.serial_core.specs.Inside.Standing.{Pairs}
 
 -- the first so many elements are changed
 abbrev pub changed_front : {Y : Type 0} → (count : ℕ) → (Y → Y) → List Y → List Y

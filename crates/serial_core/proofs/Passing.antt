@@ -22,7 +22,7 @@ use Rattle.client_core.specs.declared.event.Want.TheVariants.{Open, Close, Secti
 use Rattle.client_core.specs.Commands.{call_of}
 use Rattle.client_core.specs.Events.{waits_on}
 use Rattle.serial_core.specs.SerialRun.{Run, begun, fed_to_all, passed, batch_sizes, all_passed, ended, fed, finished, demux_node, made, called, turned, after_waiting, replies_of, IsWorked, through, calls, AreDone, IsSerialRun}
-use Rattle.serial_core.specs.Legal.{packets_through, HavePassed}
+use Rattle.serial_core.specs.Inside.Legal.{packets_through, HavePassed}
 
 -- the same packets have passed all nodes, and are followed by those that are left
 record IsPassing (packets : List (List ℕ)) (r : Run) : Type 0 where

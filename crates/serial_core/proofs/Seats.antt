@@ -16,7 +16,7 @@ use Rattle.dmx_calls.specs.declared.log.Entry.{Entry as CodeEntry}
 use Rattle.dmx_calls.specs.Calls.{told_entry}
 use Rattle.serial_core.specs.declared.seat.Seat.{Seat}
 use Rattle.serial_core.specs.Nodes.{Node, Told, history_in, history_of, uncalled, answered, log_in, log_of}
-use Rattle.serial_core.specs.Standing.{IsFeeding, IsSeat}
+use Rattle.serial_core.specs.Inside.Standing.{IsFeeding, IsSeat}
 
 -- ------ the feeder's calls are answered Passed
 

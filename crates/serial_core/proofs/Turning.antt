@@ -7,8 +7,8 @@ use Rattle.dmx_calls.specs.Invocation.{Pass, End}
 use Rattle.feed_pull.specs.Pulling.{IsDone}
 use Rattle.serial_core.specs.declared.runner.Runner.{Runner}
 use Rattle.serial_core.specs.SerialRun.{Run, fed_to_all, passed, ended, turned}
-use Rattle.serial_core.specs.Standing.{IsNodes}
-use Rattle.serial_core.specs.Moving.{IsAt}
+use Rattle.serial_core.specs.Inside.Standing.{IsNodes}
+use Rattle.serial_core.specs.Inside.Moving.{IsAt}
 use Rattle.serial_core.proofs.Batches.{turned_none, turned_some}
 
 -- as many as a batch has

@@ -1,11 +1,8 @@
 pub mod Nodes
 pub mod SerialRun
-pub mod Legal
 pub mod Laws
 pub mod Examples
-pub mod Standing
-pub mod Moving
 pub mod Budget
-pub mod Lines
 pub mod Ran
 pub mod Runs
+pub mod Inside

@@ -8,12 +8,12 @@ use Rattle.dmx_calls.specs.Log.{LogEntry}
 use Rattle.client_script.specs.declared.line.Line.{Line}
 use Rattle.client_script.specs.Script.{clients_in}
 use Rattle.client_core.specs.Events.{outcomes}
-use Rattle.client_core.specs.Core.{Core, IsAfter}
+use Rattle.client_core.specs.Inside.Core.{Core, IsAfter}
 use Rattle.serial_core.specs.declared.run.Ran.{Ran}
 use Rattle.serial_core.specs.declared.runner.Runner.{Runner}
 use Rattle.serial_core.specs.Nodes.{log_of}
 use Rattle.serial_core.specs.SerialRun.{Run, begun, IsSerialRun, nodes_of, replies_of}
-use Rattle.serial_core.specs.Standing.{IsNodes, AreCounted}
+use Rattle.serial_core.specs.Inside.Standing.{IsNodes, AreCounted}
 
 -- the entries of the 33 nodes, the oldest first, the dvr node last
 abbrev pub histories_in : Run → List (List LogEntry)

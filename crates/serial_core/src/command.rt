@@ -3,9 +3,9 @@ ghost use Rattle.std.specs.Prelude.{◌≡◌, ℕ, ◌+◌, ◌-◌, ◌<◌, �
 ghost use Rattle.dmx_calls.specs.declared.limits.TheConstants.{DEMUX_NODES as nodes};
 ghost use Rattle.client_script.specs.declared.line.Line.{Line as ScriptLine};
 ghost use Rattle.client_core.specs.Commands.{IsWantInRange};
-ghost use Rattle.client_core.specs.Core.{IsAfter};
+ghost use Rattle.client_core.specs.Inside.Core.{IsAfter};
 ghost use Rattle.feed_pull.specs.declared.fault.Reading.TheVariants.{Going};
-ghost use Rattle.serial_core.specs.Moving.{ComesBy, HasMade, IsDoneBy, IsSound, Moves};
+ghost use Rattle.serial_core.specs.Inside.Moving.{ComesBy, HasMade, IsDoneBy, IsSound, Moves};
 ghost use Rattle.feed_pull.specs.Streams.{Draws};
 ghost use Rattle.serial_core.specs.SerialRun.{after_waiting, called, replies_of, reply_to};
 
@@ -77,7 +77,7 @@ impl Runner {
         Ok(())
     }
 
-    // The command of this line is done to its end, or up to the call that the client may not make.
+    /// The command of this line is done to its end, or up to the call that the client may not make.
     pub fn command<S: Source, L: Ledger>(
         &mut self,
         source: &mut S,

@@ -3,8 +3,8 @@ ghost use Rattle.std.specs.Prelude.{◌≡◌, true, ℕ, ◌+◌, ◌*◌, ◌-
 ghost use Rattle.client_script.specs.Script.{clients_of, most_bytes};
 ghost use Rattle.client_script.specs.declared.line.Line.{Line as ScriptLine};
 ghost use Rattle.feed_pull.specs.declared.fault.Reading.TheVariants.{Going};
-ghost use Rattle.serial_core.specs.Lines.{AreAfter, AreInBudget, IsFrontBy, IsLineBy, IsWholeBy, Overruns, OverrunsBy, calls_by};
-ghost use Rattle.serial_core.specs.Moving.{HasMade, IsSound, Moves};
+ghost use Rattle.serial_core.specs.Inside.Lines.{AreAfter, AreInBudget, IsFrontBy, IsLineBy, IsWholeBy, Overruns, OverrunsBy, calls_by};
+ghost use Rattle.serial_core.specs.Inside.Moving.{HasMade, IsSound, Moves};
 ghost use Rattle.feed_pull.specs.Streams.{Draws};
 
 use crate::runner::Runner;
@@ -59,7 +59,7 @@ impl Runner {
         }
     }
 
-    // All lines are done, or up to the call that a client may not make.
+    /// All lines are done, or up to the call that a client may not make.
     pub fn lines<S: Source, L: Ledger>(
         &mut self,
         source: &mut S,
@@ -91,7 +91,7 @@ impl Runner {
         Ok(())
     }
 
-    // All lines are done, and the rest of the stream passes.
+    /// All lines are done, and the rest of the stream passes.
     pub fn whole<S: Source, L: Ledger>(
         &mut self,
         source: &mut S,

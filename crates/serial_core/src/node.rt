@@ -12,7 +12,7 @@ use node_core::NodeCore;
 use std::sync::ledger::Ledger;
 use steps::Steps;
 
-// A node on which calls are made one after another.
+/// A node on which calls are made one after another.
 pub trait Node: Sized + Drop {
     // The rules of its kind.
     ghost rules: { Rules };

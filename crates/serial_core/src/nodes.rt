@@ -11,11 +11,11 @@ ghost use Rattle.dmx_calls.specs.Log.{Act as ToldAct, EndAct, PassAct};
 ghost use Rattle.dmx_calls.specs.Rules as rules;
 ghost use Rattle.client_script.specs.declared.line.Line.{Line as ScriptLine};
 ghost use Rattle.client_core.specs.Commands.{IsWantInRange};
-ghost use Rattle.client_core.specs.Core.{IsAfter};
+ghost use Rattle.client_core.specs.Inside.Core.{IsAfter};
 ghost use Rattle.dmx_calls.specs.Response.{Response};
 ghost use Rattle.serial_core.specs.Nodes.{Node as RunNode, answered, history_of, uncalled};
 ghost use Rattle.serial_core.specs.SerialRun.{Run, begun, demux_node, ended, fed_to_all, made, reply_to};
-ghost use Rattle.serial_core.specs.Standing.{AreCounted, AreUnder, IsDemux, IsNodes, Pairs};
+ghost use Rattle.serial_core.specs.Inside.Standing.{AreCounted, AreUnder, IsDemux, IsNodes, Pairs};
 
 use crate::seat::Seat;
 use client_core::{ClientCore, Event, call_of};
@@ -29,8 +29,8 @@ use std::sync::ledger::Ledger;
 use steps::Steps;
 use ts_batch::Batch;
 
-// The demux nodes 0 to 31 and the dvr node, the batches that passed them, whether End has passed, and how many calls were
-// made, where a call of the feeder on all nodes is one.
+/// The demux nodes 0 to 31 and the dvr node, the batches that passed them, whether End has passed, and how many calls were
+/// made, where a call of the feeder on all nodes is one.
 #[derive(Drop)]
 pub struct Nodes {
     pub alloc: Global,
@@ -104,7 +104,7 @@ fn entries_of(
 }
 
 impl Nodes {
-    // The nodes before the first call.
+    /// The nodes before the first call.
     pub fn new(alloc: Global) -> Result<Nodes, NoMemory>
         ensures at { IfOk result (λ v. (packets : List (List ℕ)) → IsNodes v (begun packets)) }
         ensures counted { IfOk result AreCounted }
@@ -121,7 +121,7 @@ impl Nodes {
         })
     }
 
-    // A batch passes all nodes, at this moment.
+    /// A batch passes all nodes, at this moment.
     pub fn pass<L: Ledger>(
         &mut self,
         batch: Arc<Batch>,
@@ -148,7 +148,7 @@ impl Nodes {
         Ok(())
     }
 
-    // End passes all nodes.
+    /// End passes all nodes.
     pub fn end<L: Ledger>(&mut self, steps: &mut Steps<L>) -> Result<(), NoMemory>
         requires few { self.old.made < 2 ^ 50 - 1 }
         requires counted { AreCounted self.old }
@@ -221,7 +221,7 @@ impl Nodes {
         Ok(())
     }
 
-    // A client makes its next call, at this moment, and takes the reply.
+    /// A client makes its next call, at this moment, and takes the reply.
     pub fn call<L: Ledger>(
         &mut self,
         core: &mut ClientCore,
@@ -254,7 +254,7 @@ impl Nodes {
         }
     }
 
-    // The histories of all nodes. End has passed.
+    /// The histories of all nodes. End has passed.
     pub fn into_histories(self) -> Result<Histories, NoMemory>
         requires counted { AreCounted self }
         ensures { IfOk result (λ all. all ≡ histories_of self.feeding.items (map (λ seat. seat.entries.items) self.demux.items ++ self.dvr.entries.items ∷ [])) }

@@ -2,21 +2,21 @@
 ghost use Rattle.std.specs.Prelude.{◌≡◌, ◌≢◌, true, false, ℕ, ◌+◌, ◌-◌, ◌<◌, ◌≤◌, ◌^◌, ◌↔◌, List, [], ◌∷◌, ◌++◌, length, map, All, IfOk, OnOk, OnErr, IsErrOf, IsTrue, slice_index_or};
 ghost use Rattle.std.specs.Io.KnownBytes.{IsAtEnd};
 ghost use Rattle.client_script.specs.Script.{clients_in};
-ghost use Rattle.client_core.specs.Core.{Core as CoreValue, IsAfter};
+ghost use Rattle.client_core.specs.Inside.Core.{Core as CoreValue, IsAfter};
 ghost use Rattle.dmx_calls.specs.Head.{head_of, told_head};
 ghost use Rattle.feed_pull.specs.Pulling.{Pulling, Pulls, has_failed};
 ghost use Rattle.feed_pull.specs.declared.fault.Reading.TheVariants.{Going, TooMany};
 ghost use Rattle.client_core.specs.Events.{outcomes};
 ghost use Rattle.client_script.specs.declared.line.Line.{Line as ScriptLine};
 ghost use Rattle.std.specs.List.{range_with_len};
-ghost use Rattle.serial_core.specs.Lines.{AreAfter};
-ghost use Rattle.serial_core.specs.Moving.{IsSound};
+ghost use Rattle.serial_core.specs.Inside.Lines.{AreAfter};
+ghost use Rattle.serial_core.specs.Inside.Moving.{IsSound};
 ghost use Rattle.feed_pull.specs.Streams.{Draws, OfStream};
 ghost use Rattle.serial_core.specs.SerialRun.{Run, replies_of};
 ghost use Rattle.serial_core.specs.Ran.{AreFresh, IsBegun, IsRanOf, histories_in};
 ghost use Rattle.client_core.specs.Budget.{IsTooLong};
-ghost use Rattle.serial_core.specs.Legal.{AreLegal};
-ghost use Rattle.serial_core.specs.Standing.{IsNodes};
+ghost use Rattle.serial_core.specs.Inside.Legal.{AreLegal};
+ghost use Rattle.serial_core.specs.Inside.Standing.{IsNodes};
 
 use crate::nodes::Nodes;
 use crate::runner::Runner;

@@ -2,7 +2,7 @@
 ghost use Rattle.std.specs.Prelude.{◌≡◌, true, ℕ, ◌+◌, ◌-◌, ◌<◌, ◌≤◌, ◌^◌, ◌≢◌, List, [], length, min, IfOk, OnOk, OnErr};
 ghost use Rattle.client_script.specs.declared.line.Line.{Line as ScriptLine};
 ghost use Rattle.serial_core.specs.SerialRun.{Run, fed, finished, ticked, turned};
-ghost use Rattle.serial_core.specs.Moving.{HasMade, IsAt, IsSound, Moves};
+ghost use Rattle.serial_core.specs.Inside.Moving.{HasMade, IsAt, IsSound, Moves};
 ghost use Rattle.feed_pull.specs.Streams.{Draws};
 ghost use Rattle.feed_pull.specs.declared.fault.Reading.TheVariants.{Going};
 
@@ -13,7 +13,7 @@ use std::alloc::AllocError as NoMemory;
 use std::sync::ledger::Ledger;
 use steps::Steps;
 
-// The nodes, the packets that haven't passed them yet, and the moment in milliseconds.
+/// The nodes, the packets that haven't passed them yet, and the moment in milliseconds.
 #[derive(Drop)]
 pub struct Runner {
     pub nodes: Nodes,
@@ -22,8 +22,8 @@ pub struct Runner {
 }
 
 impl Runner {
-    // The feeder's next turn: a batch of at most so many packets passes, or End where none is left. It answers how many
-    // packets passed.
+    /// The feeder's next turn: a batch of at most so many packets passes, or End where none is left. It answers how many
+    /// packets passed.
     pub fn turn<S: Source, L: Ledger>(
         &mut self,
         source: &mut S,
@@ -60,7 +60,7 @@ impl Runner {
         }
     }
 
-    // So many packets pass, in batches of at most `batch`; where fewer are left, these pass and then End.
+    /// So many packets pass, in batches of at most `batch`; where fewer are left, these pass and then End.
     pub fn feed<S: Source, L: Ledger>(
         &mut self,
         source: &mut S,
@@ -90,7 +90,7 @@ impl Runner {
         Ok(())
     }
 
-    // The rest of the stream passes, in batches of at most `batch`, and then End.
+    /// The rest of the stream passes, in batches of at most `batch`, and then End.
     pub fn finish<S: Source, L: Ledger>(
         &mut self,
         source: &mut S,
@@ -111,7 +111,7 @@ impl Runner {
         Ok(())
     }
 
-    // So many milliseconds go by.
+    /// So many milliseconds go by.
     pub fn tick(&mut self, time: u32)
         requires late { self.old.moment + 2 ^ 32 ≤ 2 ^ 64 }
         ensures at { (r : Run) → IsAt self.old r → IsAt self.new (ticked time r) }

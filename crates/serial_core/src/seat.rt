@@ -9,9 +9,9 @@ ghost use Rattle.dmx_calls.specs.declared.params.Input.TheVariants.{Frontend};
 ghost use Rattle.dmx_calls.specs.Invocation as asks;
 ghost use Rattle.dmx_calls.specs.Response.{Response};
 ghost use Rattle.client_script.specs.declared.line.Line.{Line as ScriptLine};
-ghost use Rattle.client_core.specs.Core.{IsAfter};
+ghost use Rattle.client_core.specs.Inside.Core.{IsAfter};
 ghost use Rattle.serial_core.specs.Nodes.{Node as RunNode, history_of, answered};
-ghost use Rattle.serial_core.specs.Standing.{IsFeeding, IsSeat};
+ghost use Rattle.serial_core.specs.Inside.Standing.{IsFeeding, IsSeat};
 
 use crate::node::Node;
 use client_core::{ClientCore, fitted, settled};
@@ -22,7 +22,7 @@ use std::sync::ledger::Ledger;
 use steps::Steps;
 use ts_batch::Batch;
 
-// A node, its number, which is 32 for the dvr node, and the entries of its clients, the oldest first.
+/// A node, its number, which is 32 for the dvr node, and the entries of its clients, the oldest first.
 #[derive(Drop)]
 pub struct Seat<M> {
     pub core: M,
@@ -30,7 +30,7 @@ pub struct Seat<M> {
     pub entries: Vec<Entry>,
 }
 
-// What a call leaves: its reply, and the batch of a Pass.
+/// What a call leaves: its reply, and the batch of a Pass.
 #[derive(Drop)]
 pub struct Heard {
     pub reply: Reply,
@@ -38,7 +38,7 @@ pub struct Heard {
 }
 
 impl<M: Node> Seat<M> {
-    // The node of this number with this core, on which no call was made.
+    /// The node of this number with this core, on which no call was made.
     pub fn new(alloc: Global, node: u32, core: M) -> Seat<M>
         ensures core { result.core ≡ core }
         ensures node { result.node ≡ node }
@@ -74,7 +74,7 @@ impl<M: Node> Seat<M> {
         })
     }
 
-    // The feeder makes a call, which hands back the batch of a Pass.
+    /// The feeder makes a call, which hands back the batch of a Pass.
     pub fn feed<L: Ledger>(
         &mut self,
         call: Call,
@@ -91,7 +91,7 @@ impl<M: Node> Seat<M> {
         Ok(heard.batch)
     }
 
-    // A batch passes at this moment, and is handed back.
+    /// A batch passes at this moment, and is handed back.
     pub fn pass<L: Ledger>(
         &mut self,
         batch: Arc<Batch>,
@@ -116,7 +116,7 @@ impl<M: Node> Seat<M> {
         }
     }
 
-    // A client makes a call, and takes its reply, which joins the entries; `step` is its number among the client's.
+    /// A client makes a call, and takes its reply, which joins the entries; `step` is its number among the client's.
     pub fn call<L: Ledger>(
         &mut self,
         alloc: Global,

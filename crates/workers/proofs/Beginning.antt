@@ -13,7 +13,7 @@ use Rattle.dmx_calls.specs.Response.{NoMemory}
 use Rattle.dmx_calls.specs.declared.histories.Fed.{Fed}
 use Rattle.dmx_calls.specs.declared.log.Entry.{Entry as ToldEntry}
 use Rattle.client_script.specs.declared.line.Line.{Line}
-use Rattle.client_core.specs.Core.{IsAfter}
+use Rattle.client_core.specs.Inside.Core.{IsAfter}
 use Rattle.client_core.specs.IsRun.{replies}
 use Rattle.client_core.specs.WholeRun.{IsGiven}
 use Rattle.adapter.specs.Callers.{Caller, IsFreshCaller, AreFreshCallers, AreAllCallers}
@@ -23,10 +23,10 @@ use Rattle.trace_merge.specs.Merging.{AreOnNodes}
 use Rattle.workers.specs.declared.client_worker.ClientWorker.{ClientWorker}
 use Rattle.workers.specs.declared.feeder_worker.FeederWorker.{FeederWorker}
 use Rattle.workers.specs.Logged.{IsLogged, HasCalled}
-use Rattle.workers.specs.Working.{IsFit, IsWorking}
-use Rattle.workers.specs.Begun.{AreBegun}
+use Rattle.workers.specs.Inside.Working.{IsFit, IsWorking}
+use Rattle.workers.specs.Inside.Begun.{AreBegun}
 use Rattle.workers.specs.Feeding.{AreFullBatches, HasFed}
-use Rattle.workers.specs.FeederWork.{IsFitFeeder, HasPassed}
+use Rattle.workers.specs.Inside.FeederWork.{IsFitFeeder, HasPassed}
 use Rattle.feed_pull.proofs.Drawing.{draws_none}
 
 module _ (locks : List TableId) (callers who left : ℕ) (c : Caller) (f : IsFreshCaller locks callers who left c) where

@@ -15,7 +15,7 @@ use Rattle.node_lock.proofs.Views.{has_left, has_right, has_either, once_append}
 use Rattle.dmx_calls.specs.declared.log.Entry.{Entry as ToldEntry}
 use Rattle.dmx_calls.specs.Calls.{told_entry}
 use Rattle.trace_merge.specs.Merging.{is_on, all_of}
-use Rattle.trace_merge.specs.Placing.{entries_on}
+use Rattle.trace_merge.specs.Inside.Placing.{entries_on}
 use Rattle.trace_merge.proofs.Standing.{Ascends, ascends, flips}
 use Rattle.workers.proofs.Weaves.{Rises}
 use Rattle.workers.proofs.Members.{at_has, has_at}

@@ -14,7 +14,7 @@ use Rattle.adapter.specs.Callers.{Caller}
 use Rattle.adapter.specs.Nodes.{MakesEachEntry, fed, ended}
 use Rattle.workers.specs.declared.feeder_worker.FeederWorker.{FeederWorker}
 use Rattle.workers.specs.Feeding.{AreFullBatches, HasFed}
-use Rattle.workers.specs.FeederWork.{AreFullSoFar, HasPassed, HasPassedAll}
+use Rattle.workers.specs.Inside.FeederWork.{AreFullSoFar, HasPassed, HasPassedAll}
 use Rattle.feed_pull.proofs.Drawing.{draws_then, none_given}
 use Rattle.workers.proofs.Feeding.{fed_more, fed_end, full_push}
 

@@ -31,11 +31,11 @@ use Rattle.trace_merge.specs.Merging.{AreOnNodes}
 use Rattle.workers.specs.declared.client_worker.ClientWorker.{ClientWorker}
 use Rattle.workers.specs.declared.feeder_worker.FeederWorker.{FeederWorker}
 use Rattle.workers.specs.declared.worked.Worked.{Worked}
-use Rattle.workers.specs.Working.{log_of, IsWorking, HasCome}
-use Rattle.workers.specs.Begun.{AreBegun, HaveCome, AreOutcomesOf}
+use Rattle.workers.specs.Inside.Working.{log_of, IsWorking, HasCome}
+use Rattle.workers.specs.Inside.Begun.{AreBegun, HaveCome, AreOutcomesOf}
 use Rattle.workers.specs.Feeding.{HasFed, HasFedAll}
-use Rattle.workers.specs.FeederWork.{HasPassedAll}
-use Rattle.workers.specs.Leaving.{GoesFirst, StopsBy, IsLeftBehind}
+use Rattle.workers.specs.Inside.FeederWork.{HasPassedAll}
+use Rattle.workers.specs.Inside.Leaving.{GoesFirst, StopsBy, IsLeftBehind}
 use Rattle.workers.specs.Worked.{HasWorked, AreWorked}
 use Rattle.workers.proofs.Lists.{mapped}
 use Rattle.workers.proofs.Working.{next_is}

@@ -13,7 +13,7 @@ use Rattle.client_core.specs.Commands.{call_of, commands_of, ends_drain}
 use Rattle.client_core.specs.Events.{Standing, progress, next_event, waits_on, no_slots}
 use Rattle.client_core.specs.IsRun.{IsEvent, replies}
 use Rattle.client_core.specs.Budget.{repeats}
-use Rattle.client_core.specs.More.{added_by}
+use Rattle.client_core.specs.Inside.More.{added_by}
 use Rattle.client_core.proofs.More.{one_reply_more, some_of, repeats_none}
 use Rattle.adapter.proofs.Lists.{at_place}
 use Rattle.workers.proofs.Counting.{total, total_le, total_add, weigh}

@@ -28,11 +28,11 @@ use Rattle.adapter.proofs.Lists.{one_value}
 use Rattle.trace_merge.specs.Merging.{AreOnNodes}
 use Rattle.workers.specs.declared.client_worker.ClientWorker.{ClientWorker}
 use Rattle.workers.specs.declared.feeder_worker.FeederWorker.{FeederWorker}
-use Rattle.workers.specs.Working.{log_of}
-use Rattle.workers.specs.Begun.{AreBegun, HaveCome}
+use Rattle.workers.specs.Inside.Working.{log_of}
+use Rattle.workers.specs.Inside.Begun.{AreBegun, HaveCome}
 use Rattle.workers.specs.Budget.{IsRunning, ManyCallsAreTooLong}
 use Rattle.workers.specs.Logged.{HasCalled}
-use Rattle.workers.specs.FeederWork.{HasPassedAll}
+use Rattle.workers.specs.Inside.FeederWork.{HasPassedAll}
 use Rattle.workers.proofs.Lists.{mapped}
 use Rattle.workers.proofs.Beginning.{begun_works}
 use Rattle.workers.proofs.Leaving.{come_at, many}

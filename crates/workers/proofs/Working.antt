@@ -12,7 +12,7 @@ use Rattle.adapter.specs.Rows.{Fits, OneLooks}
 use Rattle.adapter.proofs.Everybody.{same_trans}
 use Rattle.adapter.proofs.Lists.{one_value}
 use Rattle.workers.specs.declared.client_worker.ClientWorker.{ClientWorker}
-use Rattle.workers.specs.Working.{log_of, HasLooked}
+use Rattle.workers.specs.Inside.Working.{log_of, HasLooked}
 use Rattle.workers.proofs.Logging.{called_looked}
 use Rattle.std.proofs.lemmas.List.{map-append, append-nil}
 use Rattle.dmx_calls.specs.Calls.{told_entry}
@@ -21,7 +21,7 @@ use Rattle.dmx_calls.specs.Log.{LogEntry}
 use Rattle.dmx_calls.specs.Response.{Response}
 use Rattle.client_script.specs.declared.line.Line.{Line}
 use Rattle.client_core.specs.declared.event.Event.{Event}
-use Rattle.client_core.specs.Core.{Core, IsAfter, next_of, coming}
+use Rattle.client_core.specs.Inside.Core.{Core, IsAfter, next_of, coming}
 use Rattle.client_core.specs.Events.{next_event, progress, Progress}
 
 -- the next call of a core that stands after these replies is the one that the script asks for

@@ -2,7 +2,4 @@ pub mod Logged
 pub mod Feeding
 pub mod Worked
 pub mod Budget
-pub mod Working
-pub mod FeederWork
-pub mod Begun
-pub mod Leaving
+pub mod Inside

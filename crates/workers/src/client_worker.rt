@@ -7,12 +7,12 @@ ghost use Rattle.dmx_calls.specs.Log.{act_of};
 ghost use Rattle.dmx_calls.specs.declared.limits.TheConstants.{DEMUX_NODES as nodes};
 ghost use Rattle.client_script.specs.declared.line.Line.{Line};
 ghost use Rattle.client_core.specs.Commands.{IsWantInRange, call_of as call_at};
-ghost use Rattle.client_core.specs.Core.{next_of};
+ghost use Rattle.client_core.specs.Inside.Core.{next_of};
 ghost use Rattle.client_core.specs.Events.{next_event};
 ghost use Rattle.client_core.specs.IsRun.{replies};
 ghost use Rattle.client_core.specs.WholeRun.{IsGiven};
 ghost use Rattle.adapter.specs.Callers.{IsSameCaller};
-ghost use Rattle.workers.specs.Working.{IsFit, IsWorking, MayCallNow, GoesOn, HasLooked, HasCome};
+ghost use Rattle.workers.specs.Inside.Working.{IsFit, IsWorking, MayCallNow, GoesOn, HasLooked, HasCome};
 
 use crate::moment::moment_of;
 use adapter::{Adapter, Client};
@@ -26,11 +26,11 @@ use std::sync::ledger::{Blank, Ledger};
 use std::thread;
 use steps::Steps;
 
-// A client with the machine that says what it calls next, its calls so far, and why it stopped, if it did.
+/// A client with the machine that says what it calls next, its calls so far, and why it stopped, if it did.
 #[derive(Drop)]
 pub struct ClientWorker {
     pub client: Client,
-    // Its number as a caller.
+    /// Its number as a caller.
     pub who: u32,
     pub core: ClientCore,
     pub log: Vec<Entry>,
@@ -162,7 +162,7 @@ impl ClientWorker {
         gate.at(self.who, self.core.steps());
     }
 
-    // Does the client's commands to their end, unless memory is refused or it has made the most calls.
+    /// Does the client's commands to their end, unless memory is refused or it has made the most calls.
     pub fn work<R: Wait, C: Clock, G: Gate>(
         &mut self,
         rt: &R,

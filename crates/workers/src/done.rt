@@ -1,7 +1,7 @@
 // The clients' workers before their first calls, and what is left of them.
 ghost use Rattle.std.specs.Prelude.{◌≡◌, length, IfOk};
 ghost use Rattle.client_script.specs.Script.{clients_in};
-ghost use Rattle.workers.specs.Begun.{AreBegun, IsLeft};
+ghost use Rattle.workers.specs.Inside.Begun.{AreBegun, IsLeft};
 
 use crate::client_worker::ClientWorker;
 use adapter::Client;
@@ -10,7 +10,7 @@ use client_script::Script;
 use dmx_calls::{Entry, Outcome};
 use std::alloc::{AllocError as NoMemory, Global};
 
-// What is left of the clients' workers, in the clients' order.
+/// What is left of the clients' workers, in the clients' order.
 #[derive(Drop)]
 pub struct Done {
     pub clients: Vec<Client>,
@@ -18,7 +18,7 @@ pub struct Done {
     pub outcomes: Vec<Vec<Outcome>>,
 }
 
-// A worker for each client of the script, before its first call.
+/// A worker for each client of the script, before its first call.
 pub fn workers_of(
     alloc: Global,
     clients: Vec<Client>,
@@ -43,7 +43,7 @@ pub fn workers_of(
     Ok(workers)
 }
 
-// The clients, their logs and the outcomes of their commands.
+/// The clients, their logs and the outcomes of their commands.
 pub fn done_of(alloc: Global, workers: Vec<ClientWorker>) -> Result<Done, NoMemory>
     ensures { IfOk result (IsLeft workers.items) }
 {

@@ -6,7 +6,7 @@ ghost use Rattle.adapter.specs.Callers.{IsSameCaller};
 ghost use Rattle.feed_pull.specs.declared.fault.Reading.TheVariants.{Going, TooMany};
 ghost use Rattle.feed_pull.specs.Pulling.{Pulling, IsDone};
 ghost use Rattle.feed_pull.specs.Streams.{Draws};
-ghost use Rattle.workers.specs.FeederWork.{IsFitFeeder, HasPassed, HasFedToEnd};
+ghost use Rattle.workers.specs.Inside.FeederWork.{IsFitFeeder, HasPassed, HasFedToEnd};
 
 use adapter::{Adapter, Feeder};
 use client_core::Stop;
@@ -23,7 +23,7 @@ use ts_batch::Batch;
 // The caller number of the feeder.
 const FEEDER: u32 = 0;
 
-// The feeder with the stream that it passes, its batches so far, and why it stopped, if it did.
+/// The feeder with the stream that it passes, its batches so far, and why it stopped, if it did.
 #[derive(Drop)]
 pub struct FeederWorker {
     pub feeder: Feeder,
@@ -140,7 +140,7 @@ impl FeederWorker {
         self.stop = self.stop_of(passed);
     }
 
-    // Passes the stream in batches of so many packets, the last one with what is left, and then its end.
+    /// Passes the stream in batches of so many packets, the last one with what is left, and then its end.
     pub fn work<S: Source, R: Wait, C: Clock, G: Gate>(
         &mut self,
         rt: &R,

@@ -6,7 +6,7 @@ ghost use Rattle.dmx_calls.specs.Log.{act_of};
 use client_core::Want;
 use emu_io::Clock;
 
-// The moment at which a call is made. The clock is read where the call carries one, anew each time.
+/// The moment at which a call is made. The clock is read where the call carries one, anew each time.
 pub fn moment_of<C: Clock>(clock: &C, want: &Want) -> u64
     ensures { IsGiven (C.may_give clock.now) (act_of (call_of want.now result)) }
 {

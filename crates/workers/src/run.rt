@@ -12,7 +12,7 @@ ghost use Rattle.feed_pull.specs.Streams.{Draws, OfStream};
 ghost use Rattle.adapter.specs.Callers.{AreAllCallers, AreFreshCallers};
 ghost use Rattle.adapter.specs.Ends.{HaveHistories};
 ghost use Rattle.trace_merge.specs.Merging.{AreOnNodes};
-ghost use Rattle.workers.specs.Leaving.{GoesFirst, StopsBy, IsLeftBehind};
+ghost use Rattle.workers.specs.Inside.Leaving.{GoesFirst, StopsBy, IsLeftBehind};
 ghost use Rattle.workers.specs.Worked.{AreWorked};
 
 use crate::client_worker::ClientWorker;

@@ -2,9 +2,9 @@
 ghost use Rattle.std.specs.Prelude.{◌≡◌, ◌-◌, ◌<◌, ◌≤◌, ◌^◌, ℕ, All, length, slice_index_or};
 ghost use denote.Param.Send.{IsSync, IsSend};
 ghost use Rattle.feed_pull.specs.declared.fault.Reading.TheVariants.{Going};
-ghost use Rattle.workers.specs.Begun.{HaveCome};
-ghost use Rattle.workers.specs.FeederWork.{IsFitFeeder, HasPassed, HasFedToEnd};
-ghost use Rattle.workers.specs.Working.{IsFit, HasCome};
+ghost use Rattle.workers.specs.Inside.Begun.{HaveCome};
+ghost use Rattle.workers.specs.Inside.FeederWork.{IsFitFeeder, HasPassed, HasFedToEnd};
+ghost use Rattle.workers.specs.Inside.Working.{IsFit, HasCome};
 
 use crate::client_worker::ClientWorker;
 use crate::feeder_worker::FeederWorker;
@@ -35,7 +35,7 @@ fn work_each<R: Threads + Wait + Sync, C: Clock + Sync, G: Gate + Sync>(
     thread::for_each_mut(rt, clients, threads, &call);
 }
 
-// The feeder at work in one thread, and each of the clients in another.
+/// The feeder at work in one thread, and each of the clients in another.
 pub fn work_all<R: Threads + Wait + Sync, S: Source + Send, C: Clock + Sync, G: Gate + Sync>(
     rt: &R,
     alloc: Global,

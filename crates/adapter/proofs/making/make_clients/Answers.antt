@@ -2,7 +2,7 @@ use Rattle.std.proofs.Common.{rules, ◌≡◌, ℕ, ◌+◌, ◌≤◌, ◌^◌
 use Rattle.std.specs.Option.{option_to_list}
 use Rattle.atomic_table.specs.Seated.{TableId}
 use Rattle.adapter.specs.Callers.{Caller}
-use Rattle.adapter.specs.Inside.{AreMine}
+use Rattle.adapter.specs.Inside.Held.{AreMine}
 use Rattle.adapter.proofs.Pairs.{Made, next_row_of, next_made, fresh_mine}
 use Rattle.adapter.proofs.making.make_clients.Goals as goal
 

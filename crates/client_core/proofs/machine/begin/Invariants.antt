@@ -5,8 +5,8 @@ use Rattle.dmx_calls.specs.declared.outcome.Outcome.{Outcome}
 use Rattle.client_core.specs.declared.command.Command.{Command}
 use Rattle.client_core.specs.Commands.{Slots}
 use Rattle.client_core.specs.Events.{progress_from}
-use Rattle.client_core.specs.Tasks.{AreSlots}
-use Rattle.client_core.specs.Core.{behind, IsCommandInRange}
+use Rattle.client_core.specs.Inside.Tasks.{AreSlots}
+use Rattle.client_core.specs.Inside.Core.{behind, IsCommandInRange}
 use Rattle.client_core.proofs.machine.begin.Given as goal
 
 -- the commands that were begun are through, and the client goes on as at first

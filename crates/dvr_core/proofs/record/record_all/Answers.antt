@@ -2,7 +2,7 @@ use Rattle.std.proofs.Common.{rules, ◌≡◌, ◌-◌, ◌<◌, [], drop, get_
 use Rattle.std.specs.Prelude.{filter, option_map}
 use Rattle.std.proofs.lemmas.List.{drop_all, take_all}
 use Rattle.std.proofs.lemmas.List.Sums.{count_by_more_yes, count_by_more_no}
-use Rattle.node_buffer.specs.Capturing.{with_items}
+use Rattle.node_buffer.specs.Inside.Capturing.{with_items}
 use Rattle.dvr_core.specs.Tapped.{some_names}
 use Rattle.dvr_core.proofs.Looking.{at-index, known-at, named-skip, none-named}
 use Rattle.dvr_core.proofs.Recorded.{recorded-next, none-left}

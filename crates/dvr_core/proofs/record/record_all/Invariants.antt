@@ -1,7 +1,7 @@
 use Rattle.std.proofs.Common.{◌≡◌, ◌≤◌, ◌+◌, ◌-◌, ◌*◌, false, drop, take}
 use Rattle.std.specs.Prelude.{count_by, filter, option_map}
-use Rattle.node_buffer.specs.Capturing.{with_items}
-use Rattle.node_buffer.specs.Coherent.{CoherentIn, total_of}
+use Rattle.node_buffer.specs.Inside.Capturing.{with_items}
+use Rattle.node_buffer.specs.Inside.Coherent.{CoherentIn, total_of}
 use Rattle.dvr_core.specs.Tapped.{some_names}
 use Rattle.dvr_core.proofs.record.record_all.Given as goal
 

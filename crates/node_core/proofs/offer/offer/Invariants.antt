@@ -1,8 +1,8 @@
 use Rattle.std.proofs.Common.{◌≡◌, ◌≤◌, ◌+◌, ◌-◌}
 use Rattle.std.specs.Prelude.{option_map}
 use Rattle.item_select.specs.Selecting.{all_given, bytes_held}
-use Rattle.node_buffer.specs.Coherent.{CoherentIn, total_of}
-use Rattle.node_buffer.specs.Capturing.{with_items}
+use Rattle.node_buffer.specs.Inside.Coherent.{CoherentIn, total_of}
+use Rattle.node_buffer.specs.Inside.Capturing.{with_items}
 use Rattle.node_core.proofs.offer.offer.Given as goal
 
 -- what is left and what came so far are together what was there

@@ -6,7 +6,7 @@ use Rattle.std.proofs.lemmas.Option.{slice_get_cases, unwrap_or-slice_get}
 use Rattle.dmx_calls.specs.Calls.{pids_of}
 use Rattle.dmx_calls.specs.Items.{is_named}
 use Rattle.item_select.specs.Selecting.{after_offer, items_found, kept_after, section_pid}
-use Rattle.node_buffer.specs.Capturing.{with_items}
+use Rattle.node_buffer.specs.Inside.Capturing.{with_items}
 use Rattle.node_core.proofs.Looking.{unnamed, assembled, kept-skip, items-skip, none-kept, none-found}
 use Rattle.node_core.proofs.Offered.{kept-next, items-next, none-left}
 use Rattle.node_core.proofs.offer.offer_all.Goals.{then-has, else-has}

@@ -3,8 +3,8 @@ use Rattle.std.specs.Prelude.{option_map, count_by}
 use Rattle.dmx_calls.specs.Calls.{pids_of}
 use Rattle.dmx_calls.specs.Items.{is_named}
 use Rattle.item_select.specs.Selecting.{bytes_held, items_found, kept_after, section_pid}
-use Rattle.node_buffer.specs.Coherent.{CoherentIn, total_of}
-use Rattle.node_buffer.specs.Capturing.{with_items}
+use Rattle.node_buffer.specs.Inside.Coherent.{CoherentIn, total_of}
+use Rattle.node_buffer.specs.Inside.Capturing.{with_items}
 use Rattle.node_core.proofs.offer.offer_all.Given as goal
 
 -- what the packets left will bring and what came so far are together what all packets bring

@@ -4,7 +4,7 @@ use Rattle.std.proofs.lemmas.List.FromFn.{map-range_with_len_more}
 use Rattle.node_core.specs.Stands.{CoreValue, StandsFor}
 use Rattle.dmx_calls.specs.Rules.{demux}
 use Rattle.serial_core.specs.Nodes.{uncalled}
-use Rattle.serial_core.specs.Standing.{IsDemux, IsUnder, Pairs}
+use Rattle.serial_core.specs.Inside.Standing.{IsDemux, IsUnder, Pairs}
 use Rattle.serial_core.proofs.Pairs.{pair_push}
 use Rattle.serial_core.proofs.Seats.{seat_fresh}
 use Rattle.serial_core.proofs.nodes.demux_seats.Goals as goal

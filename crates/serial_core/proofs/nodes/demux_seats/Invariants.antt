@@ -1,7 +1,7 @@
 use Rattle.std.proofs.Common.{map, []}
 use Rattle.std.specs.List.{range_with_len}
 use Rattle.serial_core.specs.Nodes.{uncalled}
-use Rattle.serial_core.specs.Standing.{Pairs, IsDemux, IsUnder}
+use Rattle.serial_core.specs.Inside.Standing.{Pairs, IsDemux, IsUnder}
 use Rattle.serial_core.proofs.nodes.demux_seats.Given as goal
 
 abbrev pub invariant-nodes : goal.invariant-nodes

@@ -5,7 +5,7 @@ use Rattle.std.proofs.lemmas.List.{get_or_append_left}
 use Rattle.std.proofs.Math.Seq.{get_or-append_seam}
 use Rattle.std.proofs.lemmas.List.Elements.{All-push, All-nil}
 use Rattle.client_script.specs.declared.line.Line.{Line}
-use Rattle.client_core.specs.Core.{Core, IsAfter}
+use Rattle.client_core.specs.Inside.Core.{Core, IsAfter}
 use Rattle.serial_core.proofs.run.cores_of.Goals as goal
 
 after_push : (lines : List Line) (cores : List Core) (core : Core) (n : ℕ) → length cores ≡ n → ((c : ℕ) (d : Core) → c < length cores → IsAfter c lines [] (slice_index_or cores c d))

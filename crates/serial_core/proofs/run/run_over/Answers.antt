@@ -9,9 +9,9 @@ use Rattle.client_core.specs.declared.stop.Stop.TheVariants.{TooLong}
 use Rattle.client_core.specs.Budget.{most_calls, all_commands, IsTooLong}
 use Rattle.serial_core.specs.declared.run.Ran.{Ran}
 use Rattle.serial_core.specs.SerialRun.{Run, replies_of}
-use Rattle.serial_core.specs.Legal.{AreLegal}
-use Rattle.serial_core.specs.Lines.{AreAfter}
-use Rattle.serial_core.specs.Standing.{IsNodes}
+use Rattle.serial_core.specs.Inside.Legal.{AreLegal}
+use Rattle.serial_core.specs.Inside.Lines.{AreAfter}
+use Rattle.serial_core.specs.Inside.Standing.{IsNodes}
 use Rattle.serial_core.specs.Ran.{histories_in}
 use Rattle.serial_core.proofs.Ending.{ran_is, overrun_is, clients_within, ok_by}
 use Rattle.feed_pull.proofs.Stopping.{on_err, rose_by, end_by, many_reads, of_stream}

@@ -11,7 +11,7 @@ use Rattle.dmx_calls.specs.Histories.{pass_act, feeder_acts, histories_of, woven
 use Rattle.dmx_calls.specs.Log.{EndAct, LogEntry}
 use Rattle.dmx_calls.proofs.Weaving.{woven-length, woven_nodes-at}
 use Rattle.trace_merge.specs.Merging.{AreByPlace}
-use Rattle.trace_merge.specs.Placing.{entries_on, length_on, NameTheirPlaces, StandAtTheirPlaces}
+use Rattle.trace_merge.specs.Inside.Placing.{entries_on, length_on, NameTheirPlaces, StandAtTheirPlaces}
 use Rattle.trace_merge.proofs.Standing.{ascends, flips, in-place}
 use Rattle.trace_merge.proofs.laws.entries_stand_at_their_places.Goals as goal
 

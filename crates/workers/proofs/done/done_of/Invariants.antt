@@ -2,7 +2,7 @@ use Rattle.std.proofs.Common.{◌≡◌, ℕ, List, length, map, Some}
 use Rattle.std.specs.Prelude.{slice_get}
 use Rattle.dmx_calls.specs.declared.outcome.Outcome.{Outcome}
 use Rattle.workers.specs.declared.client_worker.ClientWorker.{ClientWorker}
-use Rattle.workers.specs.Begun.{AreOutcomesOf}
+use Rattle.workers.specs.Inside.Begun.{AreOutcomesOf}
 use Rattle.workers.proofs.done.done_of.Given as goal
 
 abbrev pub invariant-workers : goal.invariant-workers

@@ -4,7 +4,7 @@ use Rattle.std.proofs.lemmas.Iterator.Consumers.{YieldsList-turn}
 use Rattle.std.proofs.lemmas.Iterator.Adapters.{YieldsList-from_vec}
 use Rattle.adapter.specs.Callers.{Caller}
 use Rattle.workers.specs.declared.client_worker.ClientWorker.{ClientWorker}
-use Rattle.workers.specs.Begun.{IsBegun}
+use Rattle.workers.specs.Inside.Begun.{IsBegun}
 use Rattle.workers.proofs.Lists.{each_more}
 use Rattle.workers.proofs.done.workers_of.Goals as goal
 

@@ -1,7 +1,7 @@
 use Rattle.std.proofs.Common.{◌≡◌, ℕ, length, map, Some}
 use Rattle.std.specs.Prelude.{slice_get}
 use Rattle.workers.specs.declared.client_worker.ClientWorker.{ClientWorker}
-use Rattle.workers.specs.Begun.{IsBegun}
+use Rattle.workers.specs.Inside.Begun.{IsBegun}
 use Rattle.workers.proofs.done.workers_of.Given as goal
 
 abbrev pub invariant-callers : goal.invariant-callers

@@ -3,7 +3,7 @@ use Rattle.std.specs.Prelude.{slice_index_or}
 use Rattle.std.proofs.lemmas.Option.{slice_get-get_or}
 use Rattle.client_core.specs.Budget.{IsTooLong}
 use Rattle.client_core.specs.declared.stop.Stop.TheVariants.{NoMemory, TooLong}
-use Rattle.workers.specs.Leaving.{IsLeftBehind, StopsBy}
+use Rattle.workers.specs.Inside.Leaving.{IsLeftBehind, StopsBy}
 use Rattle.feed_pull.proofs.Drawing.{draws_none}
 use Rattle.workers.proofs.Beginning.{begun_fit, begun_few, begun_feeder, begun_passed}
 use Rattle.feed_pull.proofs.Stopping.{on_err, many_reads, of_stream}

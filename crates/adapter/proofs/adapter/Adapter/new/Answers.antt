@@ -2,7 +2,7 @@ use Rattle.std.proofs.Common.{rules, ◌≡◌, ℕ, ◌+◌, ◌≤◌, ◌^◌
 use Rattle.atomic_table.specs.Seated.{TableId}
 use Rattle.adapter.specs.Rows.{IsFreshRow}
 use Rattle.adapter.specs.Callers.{Caller, AreFreshCallers}
-use Rattle.adapter.specs.Making.{AreLastFirst, AreFreshClients}
+use Rattle.adapter.specs.Inside.Making.{AreLastFirst, AreFreshClients}
 use Rattle.adapter.proofs.Pairs.{fresh_first, fresh_mine, fresh_all}
 use Rattle.adapter.proofs.adapter.Adapter.new.Goals as goal
 

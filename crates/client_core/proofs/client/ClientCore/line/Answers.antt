@@ -1,6 +1,6 @@
 use Rattle.std.proofs.Common.{ap, ◌∙◌, sym, subst, option_map}
-use Rattle.client_core.specs.Core.{IsAfter}
-use Rattle.client_core.specs.Tasks.{resumed}
+use Rattle.client_core.specs.Inside.Core.{IsAfter}
+use Rattle.client_core.specs.Inside.Tasks.{resumed}
 use Rattle.std.proofs.Common.{[]}
 use Rattle.client_core.proofs.GoesOn.{now_is, some_stands, StandsAt, task_stands}
 use Rattle.client_core.proofs.client.ClientCore.line.Goals as goal

@@ -1,8 +1,8 @@
 use Rattle.std.proofs.Common.{◌≡◌, sym, ◌∙◌, ap, Some}
 use Rattle.dmx_calls.specs.Invocation.{Read}
 use Rattle.dmx_calls.specs.Calls.{response_of}
-use Rattle.dvr_core.specs.Step.{Knows, next}
-use Rattle.dvr_core.specs.KeptView.{facts_in, knows_of, reply_to}
+use Rattle.dvr_core.specs.Inside.Step.{Knows, next}
+use Rattle.dvr_core.specs.Inside.KeptView.{facts_in, knows_of, reply_to}
 use Rattle.dvr_core.proofs.ByValues.{read-said, read-after}
 use Rattle.dvr_core.proofs.kept.Kept.read.Goals as goal
 

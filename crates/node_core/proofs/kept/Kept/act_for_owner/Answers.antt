@@ -2,10 +2,10 @@ use Rattle.std.proofs.Common.{rules, ◌≡◌, sym, ◌∙◌, ap, subst, arith
 use Rattle.dmx_calls.specs.declared.node.NodeKind.TheVariants.{Demux}
 use Rattle.dmx_calls.specs.Invocation.{Close}
 use Rattle.dmx_calls.specs.Calls.{invocation_of, response_of}
-use Rattle.node_buffer.specs.Gives.{owner_refusal}
-use Rattle.node_core.specs.Step.{Knows, next}
-use Rattle.node_core.specs.Gives.{Gives}
-use Rattle.node_core.specs.KeptView.{knows_in, knows_of}
+use Rattle.node_buffer.specs.Inside.Gives.{owner_refusal}
+use Rattle.node_core.specs.Inside.Step.{Knows, next}
+use Rattle.node_core.specs.Inside.Gives.{Gives}
+use Rattle.node_core.specs.Inside.KeptView.{knows_in, knows_of}
 use Rattle.node_core.proofs.Owners.{gives-granted, close-after}
 use Rattle.node_core.proofs.kept.Kept.act_for_owner.Goals as goal
 

@@ -1,6 +1,6 @@
 use Rattle.std.proofs.Common.{◌+◌, refl}
 use Rattle.dmx_calls.specs.Calls.{invocation_of, response_of}
-use Rattle.node_core.specs.KeptView.{knows_of}
+use Rattle.node_core.specs.Inside.KeptView.{knows_of}
 use Rattle.node_core.specs.Stands.{CoreValue}
 use Rattle.node_core.proofs.Standing.{stands_on}
 use Rattle.node_core.proofs.Causing.{causes_of}

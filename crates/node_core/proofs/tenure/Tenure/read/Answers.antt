@@ -2,9 +2,9 @@ use Rattle.std.proofs.Common.{◌≡◌, ◌∙◌, ap, arith, inl, Some}
 use Rattle.std.specs.Prelude.{option_map}
 use Rattle.dmx_calls.specs.Calls.{params_of, response_of}
 use Rattle.dmx_calls.specs.Items.{timeout_of}
-use Rattle.node_buffer.specs.Capturing.{is_section, expiring}
-use Rattle.node_core.specs.Step.{Knows}
-use Rattle.node_core.specs.KeptView.{knows_in}
+use Rattle.node_buffer.specs.Inside.Capturing.{is_section, expiring}
+use Rattle.node_core.specs.Inside.Step.{Knows}
+use Rattle.node_core.specs.Inside.KeptView.{knows_in}
 use Rattle.node_buffer.proofs.Readings.{total-read}
 use Rattle.node_core.proofs.ByValues.{read-said, read-after, read-sound}
 use Rattle.node_core.proofs.tenure.Tenure.read.Goals as goal

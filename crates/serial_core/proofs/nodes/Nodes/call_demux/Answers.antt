@@ -2,7 +2,7 @@ use Rattle.std.proofs.Common.{◌≡◌, ◌+◌, ◌-◌, ◌<◌, ◌≤◌, �
 use Rattle.dmx_calls.specs.declared.limits.TheConstants.{DEMUX_NODES}
 use Rattle.serial_core.specs.Nodes.{uncalled}
 use Rattle.serial_core.specs.SerialRun.{demux_node}
-use Rattle.serial_core.specs.Standing.{IsDemux, acts_on}
+use Rattle.serial_core.specs.Inside.Standing.{IsDemux, acts_on}
 use Rattle.serial_core.proofs.Pairs.{pair_at, set_pair}
 use Rattle.serial_core.proofs.Going.{nodes_called_demux, under_more, under_set, seats_count, seat_under}
 use Rattle.serial_core.proofs.nodes.Nodes.call_demux.Goals as goal

@@ -1,5 +1,5 @@
 use Rattle.std.proofs.Common.{◌+◌, arith}
-use Rattle.serial_core.specs.Standing.{acts_on}
+use Rattle.serial_core.specs.Inside.Standing.{acts_on}
 use Rattle.serial_core.proofs.Going.{under_more}
 use Rattle.serial_core.proofs.nodes.Nodes.call_dvr.Goals as goal
 

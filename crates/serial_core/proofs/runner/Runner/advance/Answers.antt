@@ -1,7 +1,7 @@
 use Rattle.std.proofs.Common.{◌≡◌, ap, subst, ◌∙◌, ℕ, List, [], ◌∷◌, ◌++◌, arith}
 use Rattle.dmx_calls.specs.Response.{Response}
 use Rattle.client_script.specs.declared.line.Line.{Line}
-use Rattle.client_core.specs.Core.{IsAfter}
+use Rattle.client_core.specs.Inside.Core.{IsAfter}
 use Rattle.serial_core.specs.SerialRun.{Run, called, replies_of, reply_to, after_waiting}
 use Rattle.serial_core.proofs.Moving.{moves_then}
 use Rattle.serial_core.specs.Budget.{one_if}

@@ -1,8 +1,8 @@
 use Rattle.std.proofs.Common.{◌≡◌, refl, sym, ◌∙◌, ◌+◌, List, [], ◌∷◌, ◌++◌, length, arith}
 use Rattle.client_script.specs.declared.line.Line.{Line}
-use Rattle.client_core.specs.Core.{IsAfter}
+use Rattle.client_core.specs.Inside.Core.{IsAfter}
 use Rattle.serial_core.specs.SerialRun.{Run, called, replies_of, reply_to, after_waiting}
-use Rattle.serial_core.specs.Moving.{ComesBy}
+use Rattle.serial_core.specs.Inside.Moving.{ComesBy}
 use Rattle.feed_pull.proofs.Drawing.{draws_then}
 use Rattle.feed_pull.proofs.Stopping.{still_counts, on_err}
 use Rattle.serial_core.proofs.Moving.{moves_none, moves_then, moves_by}

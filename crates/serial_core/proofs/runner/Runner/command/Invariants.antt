@@ -1,5 +1,5 @@
 use Rattle.std.proofs.Common.{◌≡◌, ℕ, ◌+◌, ◌-◌, ◌≤◌}
-use Rattle.serial_core.specs.Moving.{Moves, IsSound, HasMade, ComesBy}
+use Rattle.serial_core.specs.Inside.Moving.{Moves, IsSound, HasMade, ComesBy}
 use Rattle.serial_core.proofs.runner.Runner.command.Given as goal
 
 abbrev pub invariant-calls : goal.invariant-calls

@@ -1,7 +1,7 @@
 use Rattle.std.proofs.Common.{◌≡◌, ℕ, List, ◌-◌}
 use Rattle.client_script.specs.declared.line.Line.{Line}
 use Rattle.serial_core.specs.SerialRun.{finished}
-use Rattle.serial_core.specs.Moving.{Moves, IsSound, HasMade}
+use Rattle.serial_core.specs.Inside.Moving.{Moves, IsSound, HasMade}
 use Rattle.serial_core.proofs.runner.Runner.finish.Given as goal
 
 abbrev pub invariant-turns : goal.invariant-turns

@@ -3,7 +3,7 @@ use Rattle.std.proofs.Math.Seq.{drop-cons}
 use Rattle.client_script.specs.declared.line.Line.TheVariants.{Feed}
 use Rattle.client_core.specs.declared.stop.Stop.TheVariants.{TooLong}
 use Rattle.serial_core.specs.SerialRun.{Run}
-use Rattle.serial_core.specs.Lines.{IsFrontBy, IsLineBy, OverrunsBy}
+use Rattle.serial_core.specs.Inside.Lines.{IsFrontBy, IsLineBy, OverrunsBy}
 use Rattle.feed_pull.proofs.Drawing.{draws_then}
 use Rattle.feed_pull.proofs.Stopping.{still_counts, on_err}
 use Rattle.serial_core.proofs.Moving.{moves_none, moves_then, err_and}

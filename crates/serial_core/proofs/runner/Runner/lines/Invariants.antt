@@ -1,6 +1,6 @@
 use Rattle.std.proofs.Common.{◌≡◌, ◌*◌, ◌≤◌, ◌^◌, length}
-use Rattle.serial_core.specs.Moving.{Moves, IsSound, HasMade}
-use Rattle.serial_core.specs.Lines.{AreInBudget, IsFrontBy, calls_by}
+use Rattle.serial_core.specs.Inside.Moving.{Moves, IsSound, HasMade}
+use Rattle.serial_core.specs.Inside.Lines.{AreInBudget, IsFrontBy, calls_by}
 use Rattle.serial_core.proofs.runner.Runner.lines.Given as goal
 
 abbrev pub invariant-lines : goal.invariant-lines

@@ -1,7 +1,7 @@
 use Rattle.std.proofs.Common.{◌≡◌, sym, ap, ◌∙◌, ℕ, min, List, length}
 use Rattle.std.specs.Prelude.{is_some}
 use Rattle.client_script.specs.declared.line.Line.{Line}
-use Rattle.client_core.specs.Core.{IsAfter}
+use Rattle.client_core.specs.Inside.Core.{IsAfter}
 use Rattle.serial_core.specs.SerialRun.{Run, replies_of, turned}
 use Rattle.serial_core.proofs.Moving.{moves_by, moves_none}
 use Rattle.serial_core.proofs.Commanding.{wait_turns, wait_none}

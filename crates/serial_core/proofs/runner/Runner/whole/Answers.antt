@@ -1,7 +1,7 @@
 use Rattle.std.proofs.Common.{◌≡◌, ℕ, List, length}
 use Rattle.client_script.specs.declared.line.Line.{Line}
 use Rattle.serial_core.specs.SerialRun.{Run, finished}
-use Rattle.serial_core.specs.Lines.{IsFrontBy}
+use Rattle.serial_core.specs.Inside.Lines.{IsFrontBy}
 use Rattle.feed_pull.specs.Streams.{Draws}
 use Rattle.feed_pull.proofs.Drawing.{draws_then}
 use Rattle.feed_pull.proofs.Stopping.{still_counts, on_err}

@@ -1,4 +1,4 @@
-use Rattle.workers.specs.Working.{HasLooked, IsFit}
+use Rattle.workers.specs.Inside.Working.{HasLooked, IsFit}
 use Rattle.workers.proofs.client_worker.ClientWorker.look_past.Given as goal
 
 abbrev pub invariant-looks : goal.invariant-looks

@@ -6,11 +6,11 @@ use Rattle.dmx_calls.specs.Log.{LogEntry, act_of}
 use Rattle.dmx_calls.specs.declared.log.Entry.{Entry as ToldEntry}
 use Rattle.client_core.specs.declared.event.Event.{Event}
 use Rattle.client_core.specs.Commands.{call_of as call_at}
-use Rattle.client_core.specs.Core.{IsAfter}
+use Rattle.client_core.specs.Inside.Core.{IsAfter}
 use Rattle.client_core.specs.IsRun.{IsEvent, replies}
 use Rattle.client_core.specs.WholeRun.{IsGiven}
 use Rattle.adapter.specs.Nodes.{IsLegalAt}
-use Rattle.workers.specs.Working.{log_of}
+use Rattle.workers.specs.Inside.Working.{log_of}
 use Rattle.workers.proofs.Logging.{called_more, past}
 use Rattle.workers.proofs.Working.{event_now, logs_one}
 use Rattle.workers.proofs.client_worker.ClientWorker.make.Goals as goal

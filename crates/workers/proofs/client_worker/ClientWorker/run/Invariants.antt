@@ -1,6 +1,6 @@
 use Rattle.std.proofs.Common.{◌≤◌, ◌-◌}
 use Rattle.adapter.specs.Callers.{IsSameCaller}
-use Rattle.workers.specs.Working.{IsFit, GoesOn}
+use Rattle.workers.specs.Inside.Working.{IsFit, GoesOn}
 use Rattle.workers.proofs.client_worker.ClientWorker.run.Given as goal
 
 abbrev pub invariant-calls : goal.invariant-calls

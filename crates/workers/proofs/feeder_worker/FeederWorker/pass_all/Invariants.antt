@@ -3,7 +3,7 @@ use Rattle.std.specs.declared.option.Option.{Option}
 use Rattle.adapter.specs.Callers.{IsSameCaller}
 use Rattle.feed_pull.specs.Pulling.{Pulling}
 use Rattle.feed_pull.specs.Streams.{Draws}
-use Rattle.workers.specs.FeederWork.{IsFitFeeder, HasPassed}
+use Rattle.workers.specs.Inside.FeederWork.{IsFitFeeder, HasPassed}
 use Rattle.workers.proofs.feeder_worker.FeederWorker.pass_all.Given as goal
 
 abbrev pub invariant-batches : goal.invariant-batches

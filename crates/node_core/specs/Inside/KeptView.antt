@@ -11,10 +11,10 @@ use Rattle.dmx_calls.specs.Legal.{is_done, takes_memory}
 use Rattle.item_select.specs.Selecting.{bytes_held}
 use Rattle.node_core.specs.declared.kept.Kept.{Kept}
 use Rattle.node_core.specs.declared.tenure.Tenure.{Tenure}
-use Rattle.node_buffer.specs.Coherent.{total_of}
-use Rattle.node_buffer.specs.Gives.{owner_refusal}
-use Rattle.node_core.specs.Step.{Knows, unset, moved, next}
-use Rattle.node_core.specs.Sound.{IsSound}
+use Rattle.node_buffer.specs.Inside.Coherent.{total_of}
+use Rattle.node_buffer.specs.Inside.Gives.{owner_refusal}
+use Rattle.node_core.specs.Inside.Step.{Knows, unset, moved, next}
+use Rattle.node_core.specs.Inside.Sound.{IsSound}
 
 -- a free node has the default size, no filter, and nothing to select
 abbrev pub knows_in : (has_ended : Bool) → Option Tenure → Knows

@@ -8,11 +8,11 @@ use Rattle.dmx_calls.specs.Tenure.{Empty}
 use Rattle.dmx_calls.specs.Facts.{Facts}
 use Rattle.dmx_calls.specs.Answer.{response_to}
 use Rattle.dmx_calls.specs.Legal.{is_done, takes_memory}
-use Rattle.node_buffer.specs.Coherent.{total_of}
-use Rattle.node_buffer.specs.Gives.{IsTakenBy}
+use Rattle.node_buffer.specs.Inside.Coherent.{total_of}
+use Rattle.node_buffer.specs.Inside.Gives.{IsTakenBy}
 use Rattle.dvr_core.specs.declared.kept.Kept.{Kept}
 use Rattle.dvr_core.specs.declared.kept.Tenure.{Tenure}
-use Rattle.dvr_core.specs.Step.{Knows, moved}
+use Rattle.dvr_core.specs.Inside.Step.{Knows, moved}
 
 -- a free node has the default size; no node has a filter
 abbrev pub facts_in : (has_ended : Bool) → Option Tenure → Facts

@@ -6,7 +6,7 @@ use Rattle.dmx_calls.specs.Calls.{told_entry}
 use Rattle.dmx_calls.specs.History.{Entry}
 use Rattle.dmx_calls.specs.Log.{LogEntry}
 use Rattle.client_script.specs.declared.line.Line.{Line}
-use Rattle.client_core.specs.Core.{IsAfter, next_of}
+use Rattle.client_core.specs.Inside.Core.{IsAfter, next_of}
 use Rattle.client_core.specs.declared.stop.Stop.TheVariants.{NoMemory, TooLong}
 use Rattle.client_core.specs.Events.{waits_on}
 use Rattle.client_core.specs.IsRun.{replies}

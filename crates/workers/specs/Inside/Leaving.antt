@@ -8,7 +8,7 @@ use Rattle.feed_pull.specs.Pulling.{Pulls, has_failed}
 use Rattle.workers.specs.declared.client_worker.ClientWorker.{ClientWorker}
 use Rattle.workers.specs.declared.feeder_worker.FeederWorker.{FeederWorker}
 use Rattle.workers.specs.declared.worked.Worked.{Worked}
-use Rattle.workers.specs.Begun.{AreOutcomesOf}
+use Rattle.workers.specs.Inside.Begun.{AreOutcomesOf}
 
 -- of two stops, if they are any: none comes of none, want of memory of either, and else it is one of them
 pub record GoesFirst (first other stop : Option Stop) : Type 0 where

@@ -4,12 +4,12 @@ use Rattle.atomic_table.specs.Seated.{TableId}
 use Rattle.dmx_calls.specs.declared.outcome.Outcome.{Outcome}
 use Rattle.dmx_calls.specs.Response.{Response}
 use Rattle.client_script.specs.declared.line.Line.{Line}
-use Rattle.client_core.specs.Core.{Core, IsAfter}
+use Rattle.client_core.specs.Inside.Core.{Core, IsAfter}
 use Rattle.client_core.specs.Events.{outcomes}
 use Rattle.adapter.specs.Callers.{Caller}
 use Rattle.workers.specs.declared.client_worker.ClientWorker.{ClientWorker}
 use Rattle.workers.specs.declared.done.Done.{Done}
-use Rattle.workers.specs.Working.{HasCome}
+use Rattle.workers.specs.Inside.Working.{HasCome}
 
 -- the worker of a client of a script that has made no call
 pub record IsBegun (lines : List Line) (client : ℕ) (w : ClientWorker) : Type 0 where

@@ -1,8 +1,8 @@
 -- How the dvr node's fields are seen, and what holds of them.
 use Rattle.std.specs.Prelude.{◌≤◌, ◌*◌, ◌^◌}
-use Rattle.node_buffer.specs.Coherent.{CoherentIn}
+use Rattle.node_buffer.specs.Inside.Coherent.{CoherentIn}
 use Rattle.dvr_core.specs.declared.dvr.DvrCore.TheInside.{Inside}
-use Rattle.dvr_core.specs.KeptView.{knows_of, bytes_in}
+use Rattle.dvr_core.specs.Inside.KeptView.{knows_of, bytes_in}
 use Rattle.dvr_core.specs.Stands.{CoreValue}
 
 abbrev pub core_view : Inside → CoreValue

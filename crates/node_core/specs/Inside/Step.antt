@@ -11,7 +11,7 @@ use Rattle.dmx_calls.specs.Items.{is_same_input, timeout_of}
 use Rattle.dmx_calls.specs.Facts.{Ledger, Facts, has_had_its_section}
 use Rattle.item_select.specs.Items.{Nothing}
 use Rattle.item_select.specs.Selecting.{Selecting, begun as begun_selecting, begun_again, with_pids, items_found, kept_after}
-use Rattle.node_buffer.specs.Capturing.{begun, is_section, with_items, expiring, with_response, with_stop}
+use Rattle.node_buffer.specs.Inside.Capturing.{begun, is_section, with_items, expiring, with_response, with_stop}
 use Rattle.node_core.specs.Offers.{choice_of, names_of, input_of}
 
 -- what a node knows: what its history says to the next call, and what its selector keeps

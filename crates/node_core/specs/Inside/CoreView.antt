@@ -1,8 +1,8 @@
 -- How a node's fields are seen, and what holds of them.
 use Rattle.std.specs.Prelude.{◌≤◌, ◌*◌, ◌^◌}
 use Rattle.node_core.specs.declared.node.NodeCore.TheInside.{Inside}
-use Rattle.node_core.specs.KeptView.{knows_of, bytes_in}
-use Rattle.node_core.specs.Sound.{IsSound}
+use Rattle.node_core.specs.Inside.KeptView.{knows_of, bytes_in}
+use Rattle.node_core.specs.Inside.Sound.{IsSound}
 use Rattle.node_core.specs.Stands.{CoreValue}
 
 abbrev pub core_view : Inside → CoreValue

@@ -2,8 +2,8 @@
 use Rattle.std.specs.Prelude.{ℕ, ◌≡◌, ◌≤◌, ◌-◌, List, [], Option, Some, None, option_map}
 use Rattle.dmx_calls.specs.Ledger.{Misfit}
 use Rattle.dmx_calls.specs.Facts.{Ledger}
-use Rattle.node_buffer.specs.Coherent.{UnreadFits}
-use Rattle.node_buffer.specs.BufferValue.{BufferValue}
+use Rattle.node_buffer.specs.Inside.Coherent.{UnreadFits}
+use Rattle.node_buffer.specs.Inside.BufferValue.{BufferValue}
 use Rattle.node_buffer.specs.declared.buffer.Lost.{Lost}
 use Rattle.node_buffer.specs.declared.buffer.Capture.{Capture}
 use Rattle.node_buffer.specs.declared.buffer.Buffer.TheInside.{Inside}

@@ -9,7 +9,7 @@ use Rattle.client_core.specs.declared.event.Event.{Event}
 use Rattle.client_core.specs.declared.machine.Current.{Current}
 use Rattle.client_core.specs.Commands.{Doing, stands, through, Slots}
 use Rattle.client_core.specs.Events.{Progress, with_outcome, kind_of, slots_after, progress_from, waits_after, waits_on, progress}
-use Rattle.client_core.specs.Tasks.{resumed, IsTaskInRange, AreSlots}
+use Rattle.client_core.specs.Inside.Tasks.{resumed, IsTaskInRange, AreSlots}
 
 -- a command that is begun, and the commands behind it
 abbrev pub ahead : (line from : ℕ) → Slots → List Command → Doing → Progress

@@ -3,9 +3,9 @@ use Rattle.std.specs.Prelude.{ℕ, ◌≡◌, List, [], Option, Some, None}
 use Rattle.dmx_calls.specs.Tenure.{Params, Empty, Section, Pes}
 use Rattle.dmx_calls.specs.Facts.{Ledger}
 use Rattle.item_select.specs.Selecting.{Selecting, section_pid}
-use Rattle.node_buffer.specs.Coherent.{CoherentIn}
+use Rattle.node_buffer.specs.Inside.Coherent.{CoherentIn}
 use Rattle.node_core.specs.Offers.{choice_of, names_of}
-use Rattle.node_core.specs.Step.{Knows}
+use Rattle.node_core.specs.Inside.Step.{Knows}
 
 -- a capture has a filter
 abbrev pub IsSoundBy : Params → Option Ledger → Type 0

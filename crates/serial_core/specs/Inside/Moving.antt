@@ -2,14 +2,14 @@
 use Rattle.std.specs.Prelude.{◌≡◌, ◌≢◌, ℕ, ◌+◌, ◌≤◌, true, List, [], ◌++◌, length, None}
 use Rattle.std.specs.declared.option.Option.{Option}
 use Rattle.client_script.specs.declared.line.Line.{Line}
-use Rattle.client_core.specs.Core.{Core, IsAfter}
+use Rattle.client_core.specs.Inside.Core.{Core, IsAfter}
 use Rattle.client_core.specs.Events.{next_of_line}
 use Rattle.feed_pull.specs.Pulling.{Pulls, IsDone}
 use Rattle.feed_pull.specs.Streams.{Draws}
 use Rattle.serial_core.specs.declared.runner.Runner.{Runner}
 use Rattle.serial_core.specs.SerialRun.{Run, replies_of, IsWorked}
 use Rattle.serial_core.specs.Budget.{one_if, IsPaid}
-use Rattle.serial_core.specs.Standing.{IsNodes, AreCounted}
+use Rattle.serial_core.specs.Inside.Standing.{IsNodes, AreCounted}
 
 -- The code is where the run is, whatever is left of the stream.
 pub record IsAt (v : Runner) (r : Run) : Type 0 where

@@ -6,7 +6,7 @@ use Rattle.dmx_calls.specs.Response.{Response, is_accepted}
 use Rattle.dmx_calls.specs.Tenure.{Empty}
 use Rattle.dmx_calls.specs.Taps.{Tap}
 use Rattle.dmx_calls.specs.Facts.{Facts}
-use Rattle.node_buffer.specs.Capturing.{begun, with_items, with_response}
+use Rattle.node_buffer.specs.Inside.Capturing.{begun, with_items, with_response}
 use Rattle.dvr_core.specs.Tapped.{attached, detached, recorded}
 
 -- what the node knows: what its history says to the next call, and its taps
