@@ -186,11 +186,14 @@ same_command : (c other : Command) (m : Option Command) → m ≡ Some c → m �
 same_command c other m a b = cc
 
 -- words that are accepted
-pub serves : (words : List (List ℕ)) (c : Command) (may : ℕ → Bool) (before after : Outside) (status : Status) → meant words ≡ Some c → Obeys c may before after status → Serves words may before after status
-serves words c may before after status is o = record {
+pub serves : (words : List (List ℕ)) (c : Command) (may : ℕ → Bool) (before after : Outside) (status : Status) → meant words ≡ Some c → Obeys c may before after status
+    → after.read_faults ≤ before.read_faults + 1 → after.write_faults ≤ before.write_faults + 1 → Serves words may before after status
+serves words c may before after status is o reads writes = record {
   usage = λ e. absurd (not_usage c may before after status o e);
   refused = λ none. absurd (let e : Some c ≡ None = sym is ∙ none in cc);
   obeys = λ other e. subst (λ x. Obeys x may before after status) (same_command c other (meant words) is e) o;
+  reads_once = reads;
+  writes_once = writes;
 }
 
 -- words that are refused

@@ -4,7 +4,7 @@ use Rattle.std.proofs.lemmas.Bool.{cases_lt}
 use Rattle.std.proofs.KnownBytes.{Consumes-trans}
 use Rattle.std.specs.Prelude.{◌↔◌, min, Option, Some, None, IfSome, Result, Ok, Err}
 use Rattle.std.specs.Io.KnownBytes.{Consumes, IsAtEnd}
-use Rattle.emu_io.specs.Causes.{Rose}
+use Rattle.emu_io.specs.Causes.{raised, Rose}
 use Rattle.ts_packet.specs.Cut.{cut}
 use Rattle.dmx_calls.specs.declared.outcome.Outcome.{Outcome}
 use Rattle.dmx_calls.specs.Head.{told_head, head_of}
@@ -129,14 +129,14 @@ given_up lines puller content mid left before after first (RunTooLong turns) eac
 
 -- ------ a script part that isn't read
 
-pub fails_early : (content left : Option (List ℕ)) (before after : ℕ) → IsUnended content left → Rose before after → FailsEarly content left before after
-fails_early content left before after u rose =
+pub fails_early : (content left : Option (List ℕ)) (before after : ℕ) → IsUnended content left → after ≡ raised before → FailsEarly content left before after
+fails_early content left before after u is =
     let s : split (u.taken ++ []) ≡ record { script = u.taken; stream = None } = split-missing u.taken [] u.searched u.none (inr refl) in
     record {
       bytes = u.taken;
       taken = u.consumes;
       missing = ap (λ bytes. (split bytes).stream) (sym (append-nil u.taken)) ∙ ap (λ p. p.stream) s;
-      rose = rose;
+      rose = omega (arith, is);
     }
 
 -- the script of an input is that of its first bytes

@@ -1,5 +1,5 @@
 -- What a call of the program does: by its words, by what source and sink tell before and after, and by its status.
-use Rattle.std.specs.Prelude.{◌≡◌, ◌⊎◌, ℕ, ◌<◌, Bool, true, false, List, length, take, Option, Some, None, Result, Ok, Err, IfSome}
+use Rattle.std.specs.Prelude.{◌≡◌, ◌⊎◌, ℕ, ◌+◌, ◌<◌, ◌≤◌, Bool, true, false, List, length, take, Option, Some, None, Result, Ok, Err, IfSome}
 use Rattle.std.specs.Io.KnownBytes.{Appends, Keeps}
 use Rattle.emu_io.specs.Causes.{Rose}
 use Rattle.client_script.specs.declared.line.Line.{Line}
@@ -135,8 +135,11 @@ Obeys (Make number) may before after status = Gives (λ text. text ≡ made numb
 Obeys (SelfTest number batch) may before after status = Gives (IsSums number batch) before after status
 
 -- What the program does by the words of its command line. Words that aren't accepted are answered `Usage`, or want of memory,
--- and nothing is then read or written.
+-- and nothing is then read or written. Whatever the words and the status, at most one read fails and at most one write: after a
+-- failed read nothing more is read, and after a failed write nothing more is written.
 pub record Serves (words : List (List ℕ)) (may : ℕ → Bool) (before after : Outside) (status : Status) : Type 0 where
   pub usage : status ≡ Usage → meant words ≡ None
   pub refused : meant words ≡ None → ((status ≡ Usage) ⊎ (status ≡ NoMemory)) × ReadsNothing before after × WritesNothing before after
   pub obeys : (command : Command) → meant words ≡ Some command → Obeys command may before after status
+  pub reads_once : after.read_faults ≤ before.read_faults + 1
+  pub writes_once : after.write_faults ≤ before.write_faults + 1

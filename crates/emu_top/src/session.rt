@@ -87,6 +87,7 @@ pub fn read_session<S: Source>(alloc: Global, source: &mut S) -> Result<Session,
     ensures going { IfOk result (λ session. (session.puller.reading ≡ Going) × (session.puller.given ≡ 0)) }
     ensures steady { IfOk result (λ session. S.faults source.new ≡ S.faults source.old) }
     ensures refuses { IfErr result (λ status. Refuses (S.left source.old) (S.left source.new) (S.faults source.old) (S.faults source.new) status) }
+    ensures once { S.faults source.new ≤ S.faults source.old + 1 }
 {
     match read_front(alloc, source) {
         Ok(front) => session_of(alloc, front),
@@ -111,6 +112,7 @@ fn run_session<S: Source>(
         → Runs batch content (S.left source.new) (S.faults source.old) (S.faults source.new) ran) }
     ensures refuses { IfErr result (λ status. (content : Option (List ℕ)) (first : List ℕ) → Consumes content (S.left source.old) first → Holds first session.script session.puller
         → Refuses content (S.left source.new) (S.faults source.old) (S.faults source.new) status) }
+    ensures once { S.faults source.new ≤ S.faults source.old + 1 }
 {
     let Session { script, puller } = session;
     match run_steps(alloc, &script, source, puller, batch) {
@@ -126,6 +128,7 @@ pub fn ran_of<S: Source>(alloc: Global, source: &mut S, batch: u32) -> Result<Ra
     requires faults { S.faults source.old < 2 ^ 64 - 1 }
     ensures runs { IfOk result (λ ran. Runs batch (S.left source.old) (S.left source.new) (S.faults source.old) (S.faults source.new) ran) }
     ensures refuses { IfErr result (λ status. Refuses (S.left source.old) (S.left source.new) (S.faults source.old) (S.faults source.new) status) }
+    ensures once { S.faults source.new ≤ S.faults source.old + 1 }
 {
     match read_session(alloc, source) {
         Ok(session) => run_session(alloc, source, session, batch),
@@ -160,6 +163,7 @@ pub fn output_of<S: Source>(alloc: Global, source: &mut S, batch: u32) -> Result
     requires faults { S.faults source.old < 2 ^ 64 - 1 }
     ensures makes { IfOk result (λ output. Makes (IsSerialOutput batch) (S.left source.old) (S.left source.new) (S.faults source.old) (S.faults source.new) output.read_fault output.text.items) }
     ensures refuses { IfErr result (λ status. Refuses (S.left source.old) (S.left source.new) (S.faults source.old) (S.faults source.new) status) }
+    ensures once { S.faults source.new ≤ S.faults source.old + 1 }
 {
     match ran_of(alloc, source, batch) {
         Ok(ran) => reported(alloc, &ran.head, &ran.outcomes, &ran.histories),

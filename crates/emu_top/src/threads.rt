@@ -1,5 +1,5 @@
 // The output for a session that threads run.
-ghost use Rattle.std.specs.Prelude.{◌≡◌, ℕ, ◌-◌, ◌^◌, ◌<◌, ◌≤◌, List, IfOk, IfErr};
+ghost use Rattle.std.specs.Prelude.{◌≡◌, ℕ, ◌+◌, ◌-◌, ◌^◌, ◌<◌, ◌≤◌, List, IfOk, IfErr};
 ghost use Rattle.std.specs.declared.option.Option.{Option};
 ghost use Rattle.std.specs.Io.KnownBytes.{Consumes};
 ghost use Rattle.feed_pull.specs.declared.fault.Reading.TheVariants.{Going};
@@ -33,6 +33,7 @@ fn run_threads<R: Threads + Wait + Sync, S: Source + Send, C: Clock + Sync, G: G
         → Makes (IsThreadOutput batch (C.may_give clock.now)) content (S.left source.new) (S.faults source.old) (S.faults source.new) output.read_fault output.text.items) }
     ensures refuses { IfErr result (λ status. (content : Option (List ℕ)) (first : List ℕ) → Consumes content (S.left source.old) first → Holds first session.script session.puller
         → Refuses content (S.left source.new) (S.faults source.old) (S.faults source.new) status) }
+    ensures once { S.faults source.new ≤ S.faults source.old + 1 }
 {
     let Session { script, puller } = session;
     let Ok((adapter, feeder, clients)) = Adapter::new(alloc, script.clients()) else {
@@ -70,6 +71,7 @@ pub fn output_of_threads<
     requires faults { S.faults source.old < 2 ^ 64 - 1 }
     ensures makes { IfOk result (λ output. Makes (IsThreadOutput batch (C.may_give clock.now)) (S.left source.old) (S.left source.new) (S.faults source.old) (S.faults source.new) output.read_fault output.text.items) }
     ensures refuses { IfErr result (λ status. Refuses (S.left source.old) (S.left source.new) (S.faults source.old) (S.faults source.new) status) }
+    ensures once { S.faults source.new ≤ S.faults source.old + 1 }
 {
     let session = read_session(alloc, source)?;
     run_threads(rt, alloc, source, session, batch, clock, gate)

@@ -1,17 +1,17 @@
 -- When a script part is not read.
 use Rattle.std.specs.Prelude.{◌≡◌, ℕ, ◌≤◌, List, length, Option, None, Result, OnOk, IsErrOf}
 use Rattle.std.specs.Io.KnownBytes.{Consumes}
-use Rattle.emu_io.specs.Causes.{Rose}
+use Rattle.emu_io.specs.Causes.{raised}
 use Rattle.client_script.specs.Script.{script_len, whole_lines, most_bytes}
 use Rattle.emu_top.specs.declared.part.PartError.{PartError}
 use Rattle.emu_top.specs.declared.part.PartError.TheVariants.{Failed, NoMemory}
 
--- the count never falls, rose at `Failed`, and else stays as it was
+-- the count rose by one at `Failed`, and else stays as it was
 pub record HasReadCause {T : Type 0} (before now : ℕ) (result : Result T PartError) : Type 0 where
   pub later : before ≤ now
   pub ok : OnOk result (now ≡ before)
   pub no_memory : IsErrOf result NoMemory → now ≡ before
-  pub failed : IsErrOf result Failed → Rose before now
+  pub failed : IsErrOf result Failed → now ≡ raised before
 
 -- the bytes that were taken are searched, and don't hold the line `stream`
 pub record IsUnended (content left : Option (List ℕ)) : Type 0 where

@@ -9,10 +9,10 @@ returns-in-Ok-Some-Run g c =
     let batch = c.in-Ok-Some-Run.batch in
     let done = does (IsThreadOutput batch _) _ _ _ _ _ _ _ _ c.run.result c.requires.source_can_count c.requires.sink_can_count c.run.ensures.says in
     record {
-      serves = serves _ (Run batch) _ _ _ c.run.result (sym c.in-Ok-Some-Run.ensures.value ∙ (c.in-Ok-Some-Run.field-0-is ∙ ap Some c.in-Ok-Some-Run.field-0-0-is)) done;
+      serves = serves _ (Run batch) _ _ _ c.run.result (sym c.in-Ok-Some-Run.ensures.value ∙ (c.in-Ok-Some-Run.field-0-is ∙ ap Some c.in-Ok-Some-Run.field-0-0-is)) done c.run.ensures.reads_once c.run.ensures.writes_once;
     }
 
 pub returns-in-Ok-Some : goal.returns-in-Ok-Some
 returns-in-Ok-Some g c = record {
-  serves = serves _ c.in-Ok-Some.command _ _ _ c.on_one_thread.result (sym c.in-Ok-Some.ensures.value ∙ c.in-Ok-Some.field-0-is) (c.on_one_thread.ensures _);
+  serves = serves _ c.in-Ok-Some.command _ _ _ c.on_one_thread.result (sym c.in-Ok-Some.ensures.value ∙ c.in-Ok-Some.field-0-is) (c.on_one_thread.ensures.obeys _) c.on_one_thread.ensures.reads_once c.on_one_thread.ensures.writes_once;
 }

@@ -3,7 +3,7 @@ use Rattle.emu_top.specs.Session.{IsSums}
 use Rattle.emu_top.proofs.Answering.{told_as}
 use Rattle.emu_top.proofs.top.self_test.Goals as goal
 
-pub returns-in-Ok : goal.returns-in-Ok
-returns-in-Ok g c left faults =
+pub returns-in-Ok-clause-tells : goal.returns-in-Ok-clause-tells
+returns-in-Ok-clause-tells g c left faults =
     told_as (IsSums c.args.number c.args.batch) c.deref.result.now _ _ c.write_text.result
-    (subst (IsSums c.args.number c.args.batch) (sym c.deref.ensures.value) c.in-Ok.ensures.sums) (c.write_text.ensures left faults)
+    (subst (IsSums c.args.number c.args.batch) (sym c.deref.ensures.value) c.in-Ok.ensures.sums) (c.write_text.ensures.tells left faults)
