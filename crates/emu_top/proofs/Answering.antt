@@ -202,6 +202,8 @@ serves_none words may at status is one = record {
   usage = λ e. is;
   refused = λ none. (one, (keeps at.left, refl), (keeps at.written, refl));
   obeys = λ c e. absurd (let x : None ≡ Some c = sym is ∙ e in cc);
+  reads_once = omega arith;
+  writes_once = omega arith;
 }
 
 -- want of memory while the words are read
@@ -226,4 +228,6 @@ serves_unread words may at = record {
   usage = λ e. absurd (cc);
   refused = λ none. (inr refl, (keeps at.left, refl), (keeps at.written, refl));
   obeys = λ c e. unread c may at;
+  reads_once = omega arith;
+  writes_once = omega arith;
 }
