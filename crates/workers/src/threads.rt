@@ -35,7 +35,8 @@ fn work_each<R: Threads + Wait + Sync, C: Clock + Sync, G: Gate + Sync>(
     thread::for_each_mut(rt, clients, threads, &call);
 }
 
-/// The feeder at work in one thread, and each of the clients in another.
+/// The feeder at work in this thread, and each of the clients in another. Where no thread can be made for them, they come behind the
+/// feeder, so that none of them waits for what nobody passes.
 pub fn work_all<R: Threads + Wait + Sync, S: Source + Send, C: Clock + Sync, G: Gate + Sync>(
     rt: &R,
     alloc: Global,
@@ -68,5 +69,5 @@ pub fn work_all<R: Threads + Wait + Sync, S: Source + Send, C: Clock + Sync, G: 
         requires { IsSync R.row × IsSync C.row × IsSync G.row × All (λ w. IsFit adapter.now w × (w.core.step ≤ 549755813888)) clients.now.items }
         ensures { HaveCome (C.may_give clock.entry.now) adapter.entry.now clients.entry.now.items clients.exit.now.items }
     { work_each(rt, alloc, adapter, clock, gate, clients) };
-    join_mut(rt, &mut first, &mut others);
+    join_mut(rt, &mut others, &mut first);
 }
