@@ -4,12 +4,15 @@
 //! `Arc`, and never changed or copied; it holds the memory of its packets, each copied once, and of an index of at most
 //! 128 places by PID.
 //!
-//! What a contract sees: the record of `first` and the list of `packets`, each packet as the list of its bytes.
+//! What a contract sees: the record of `first` and the list of `packets`, each packet as the list of its bytes; a
+//! `PlaceSet` as a list of marks, one for each place.
 //!
-//! What is proved: `Batch::of` and `Batch::of_slice` give the batch of these packets, or answer want of memory. `first` and `count` are the
-//! first packet's number and the number of packets. `packet` gives the packet in a place and raises the counter of
-//! steps by one. `places` gives the places of the packets that a PID names, ascending: those that have it, and all for PID
-//! 0x2000. It takes no memory and no step. Every batch has 1 to 64 packets, each of 188 bytes with the sync byte in front.
+//! What is proved: `Batch::of` and `Batch::of_slice` give the batch of these packets, or answer want of memory. `first`
+//! and `count` are the first packet's number and the number of packets. `packet` gives the packet in a place and raises
+//! the counter of steps by one. `places` gives the places of the packets that a PID names, ascending: those that have it,
+//! and all for PID 0x2000. It takes no memory and no step, and neither do the calls of `PlaceSet`, which collects places:
+//! `add` adds those of the packets that a PID names, and `add_all` those of the packets that some PID of a set names.
+//! Every batch has 1 to 64 packets, each of 188 bytes with the sync byte in front.
 //!
 //! There is no other way to the bytes of a packet than `packet`, so the counter of steps bounds how many were looked at.
 //!

@@ -1,8 +1,11 @@
 // Sets of places of a batch.
 ghost use Rattle.std.specs.Prelude.{◌≡◌, ◌<◌, ℕ, ◌||◌, List, false, slice_get, Some, IsTrue};
+ghost use Rattle.ts_packet.specs.Fields.{pid_of};
+ghost use Rattle.pid_set.specs.Pids.{names_pid};
 ghost use Rattle.ts_batch.specs.Places.{names, is_in};
 
 use crate::Batch;
+use pid_set::Pids;
 use std::marker::Model;
 
 /// A set of places of a batch of at most 64 packets: those that several PIDs name, each once.
@@ -42,6 +45,17 @@ impl PlaceSet {
         'places: for place in places {
             self.marks[usize::from(*place)] = true;
             self.some = true;
+        }
+    }
+
+    /// Adds the places of the packets that these PIDs name, each once.
+    pub fn add_all(&mut self, batch: &Batch, pids: &Pids)
+        ensures { (i : ℕ) (packet : List ℕ) → slice_get batch.now.packets i ≡ Some packet → is_in i self.new ≡ (is_in i self.old || names_pid pids.now (pid_of packet)) }
+    {
+        'pids: for i in 0..pids.len() {
+            if let Some(pid) = pids.get(i) {
+                self.add(batch, pid);
+            }
         }
     }
 

@@ -1,6 +1,7 @@
 ghost use Rattle.std.specs.Prelude.{◌≡◌, ◌<◌, ◌≤◌, length};
 
 use super::*;
+use pid_set::Pids;
 use std::marker::Brand;
 use std::sync::ledger::Blank;
 use std::test::*;
@@ -66,5 +67,49 @@ fn a_pid_has_the_places_of_its_packets(rt: HostRuntime) -> Result<(), Fail> {
     for place in 0..64usize {
         assert_eq!(rt; all[place] as usize, place);
     }
+    Ok(())
+}
+
+// Whether the set has these places and no others.
+fn has_just(set: &PlaceSet, places: &[u32]) -> bool {
+    for i in 0..64u32 {
+        if set.has(i) != places.contains(&i) {
+            return false;
+        }
+    }
+    true
+}
+
+// Of six packets, those in the places 1 and 5 have PID 17, those in 0 and 2 PID 256, that in 3 PID 300 and that in 4 PID 0.
+#[test]
+fn a_set_has_the_places_of_several_pids(rt: HostRuntime) -> Result<(), Fail> {
+    let mut packets = PacketBuf::new();
+    for pid in [256u16, 17, 256, 300, 0, 17] {
+        let mut bytes = [0u8; 188];
+        let [high, low] = pid.to_be_bytes();
+        bytes[0] = 0x47;
+        bytes[1] = high;
+        bytes[2] = low;
+        assert!(rt; packets.len() < 64);
+        packets.push(Packet::of(bytes).ok_or("a sync byte")?);
+    }
+    assert_eq!(rt; packets.len(), 6);
+    let batch = Batch::of(rt.alloc(), 0, &packets)?;
+    let mut set = PlaceSet::new();
+    set.add_all(&batch, &Pids::new());
+    assert!(rt; set.is_empty());
+    let mut pids = Pids::of(17);
+    assert_eq!(rt; pids.add(300), Ok(true));
+    assert_eq!(rt; pids.add(301), Ok(true));
+    for _ in 0..2 {
+        set.add_all(&batch, &pids);
+        assert!(rt; has_just(&set, &[1, 3, 5]));
+    }
+    set.add_all(&batch, &Pids::of(256));
+    assert!(rt; has_just(&set, &[0, 1, 2, 3, 5]));
+    assert!(rt; !set.is_empty());
+    assert_eq!(rt; pids.add(8192), Ok(true));
+    set.add_all(&batch, &pids);
+    assert!(rt; has_just(&set, &[0, 1, 2, 3, 4, 5]));
     Ok(())
 }

@@ -1,5 +1,5 @@
 -- What an index says of a batch's packets.
-use Rattle.std.specs.Prelude.{◌≡◌, ℕ, ◌<◌, ◌≤◌, Bool, true, nat_eq, List, length, slice_range, slice_get, Some, All}
+use Rattle.std.specs.Prelude.{◌≡◌, ℕ, ◌≤◌, Bool, true, nat_eq, List, length, slice_range, All}
 use Rattle.std.specs.List.{list_any}
 use Rattle.ts_packet.specs.Fields.{pid_of}
 use Rattle.pid_set.specs.declared.set.TheConstants.{ALL_PACKETS}

@@ -1,4 +1,4 @@
-use Rattle.std.proofs.Common.{◌≡◌, refl}
+use Rattle.std.proofs.Common.{refl}
 use Rattle.ts_batch.proofs.Members.{none-in}
 use Rattle.ts_batch.proofs.place_set.PlaceSet.new.Goals as goal
 
