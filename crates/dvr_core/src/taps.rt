@@ -1,8 +1,7 @@
 // The taps of the dvr node: at most one for each demux node.
 
-ghost use Rattle.std.specs.Prelude.{◌≡◌, ◌||◌, ℕ, List, true, false, Some, None, replicate, slice_get};
+ghost use Rattle.std.specs.Prelude.{◌≡◌, ℕ, List, true, false, Some, None, replicate, slice_get};
 ghost use Rattle.dmx_calls.specs.declared.limits.TheConstants.{DEMUX_NODES as nodes};
-ghost use Rattle.dmx_calls.specs.Items.{is_named};
 ghost use Rattle.dmx_calls.specs.Taps.{detached_by};
 ghost use Rattle.ts_batch.specs.Places.{is_in};
 ghost use Rattle.dvr_core.specs.Tapped.{attached, detached, some_names};
@@ -83,7 +82,7 @@ impl Taps {
         let mut places = PlaceSet::new();
         'taps: for tap in &self.taps {
             if let Some(tap) = tap {
-                add_all(&mut places, &tap.pids, batch);
+                places.add_all(batch, &tap.pids);
             }
         }
         places
@@ -98,17 +97,5 @@ fn is_of(tap: &Option<Tap>, who: u32) -> bool
     match tap {
         Some(tap) => tap.by == who,
         None => false,
-    }
-}
-
-// Adds the places of the packets that these PIDs name.
-fn add_all(places: &mut PlaceSet, pids: &Pids, batch: &Batch)
-    ensures { (i : ℕ) (packet : List ℕ) → slice_get batch.now.packets i ≡ Some packet → is_in i places.new ≡ (is_in i places.old || is_named pids.now packet) }
-{
-    'pids: for i in 0..pids.len() {
-        match pids.get(i) {
-            Some(pid) => places.add(batch, pid),
-            None => unreachable!(),
-        }
     }
 }

@@ -2,9 +2,10 @@ use Rattle.std.proofs.Common.{rules, ◌≡◌, ◌-◌, ◌<◌, [], drop, get_
 use Rattle.std.specs.Prelude.{filter, option_map}
 use Rattle.std.proofs.lemmas.List.{drop_all, take_all}
 use Rattle.std.proofs.lemmas.List.Sums.{count_by_more_yes, count_by_more_no}
+use Rattle.std.proofs.lemmas.Option.{slice_get-get_or, get_or_from_slice_get}
 use Rattle.node_buffer.specs.Inside.Capturing.{with_items}
 use Rattle.dvr_core.specs.Tapped.{some_names}
-use Rattle.dvr_core.proofs.Looking.{at-index, known-at, named-skip, none-named}
+use Rattle.dvr_core.proofs.Looking.{named-skip, none-named}
 use Rattle.dvr_core.proofs.Recorded.{recorded-next, none-left}
 use Rattle.dvr_core.proofs.record.record_all.Goals.{then-has, else-has}
 use Rattle.dvr_core.proofs.record.record_all.Goals as goal
@@ -20,7 +21,7 @@ loop-i-preserved g c =
       | then-has w ↦
           let p = w.packet.result.now in
           let named : test p ≡ true = sym (c.places-places.ensures n p w.packet.ensures.at) ∙ sym w.if-has.ensures in
-          let yes : test (get_or packets n p) ≡ true = ap test (known-at packets n p w.packet.ensures.at) ∙ named in
+          let yes : test (get_or packets n p) ≡ true = ap test (get_or_from_slice_get packets n p p w.packet.ensures.at) ∙ named in
           rw (w.buffer-is, w.steps-is) (record {
             size = rw w.put.ensures.after i.size;
             ledger = rw (w.put.ensures.after, w.bytes.ensures.bytes, i.size) (recorded-next test (c.args.buffer.now.size - 1) packets n p c.loop-i.buffer.ledger w.packet.ensures.at named ∙ i.ledger);
@@ -30,7 +31,7 @@ loop-i-preserved g c =
           })
       | else-has w ↦
           let p = get_or packets n [] in
-          let no : test p ≡ false = sym (c.places-places.ensures n p (at-index packets n [] within)) ∙ sym w.if-has.ensures in
+          let no : test p ≡ false = sym (c.places-places.ensures n p (slice_get-get_or packets n [] within)) ∙ sym w.if-has.ensures in
           rw (w.buffer-is, w.steps-is) (record {
             size = i.size;
             ledger = ap (λ r. option_map (λ x. with_items false (c.args.buffer.now.size - 1) x r) c.loop-i.buffer.ledger) (named-skip test packets n within no) ∙ i.ledger;
@@ -57,7 +58,7 @@ returns-then-is_empty-clause-after g c =
     let packets = c.args.batch.now.packets in
     let test = some_names c.args.taps.now in
     let none : filter test packets ≡ [] = none-named test packets (λ i l.
-    sym (c.places-places.ensures i (get_or packets i []) (at-index packets i [] l)) ∙ c.is_empty.ensures (search rules) i) in
+    sym (c.places-places.ensures i (get_or packets i []) (slice_get-get_or packets i [] l)) ∙ c.is_empty.ensures (search rules) i) in
     ap (λ o. record { size = c.args.buffer.now.size; ledger = o })
     (none-left c.args.buffer.now.ledger
     ∙ ap (λ r. option_map (λ x. with_items false (c.args.buffer.now.size - 1) x r) c.args.buffer.now.ledger) (sym none))

@@ -1,9 +1,9 @@
 use Rattle.std.proofs.Common.{◌∙◌, ◌||◌, Some, take, ap, sym, arith}
+use Rattle.std.proofs.Math.Bool.{or-false}
 use Rattle.std.specs.List.{list_any}
 use Rattle.std.proofs.lemmas.List.Folds.{list_any_more}
 use Rattle.dmx_calls.specs.Items.{is_named}
 use Rattle.dmx_calls.specs.Taps.{tap_names}
-use Rattle.dvr_core.proofs.Looking.{or-false}
 use Rattle.dvr_core.proofs.taps.Taps.places.Goals.{in-Some, in_default}
 use Rattle.dvr_core.proofs.taps.Taps.places.Goals as goal
 
@@ -16,6 +16,6 @@ taps-preserved c = λ n packet at.
     elim c.match-tap.branch [
       | in-Some w ↦ rw w.places-is (w.add_all.ensures n packet at ∙ ap (λ b. b || is_named w.tap.inside.pids packet) (c.taps.invariant n packet at)
           ∙ ap (λ o. so_far || tap_names packet o) (ap Some w.tap.view_is ∙ sym w.in-Some.is) ∙ one_more)
-      | in_default w ↦ rw w.places-is (c.taps.invariant n packet at ∙ or-false so_far
+      | in_default w ↦ rw w.places-is (c.taps.invariant n packet at ∙ sym (or-false so_far)
           ∙ ap (λ o. so_far || tap_names packet o) (sym w.in_default.is) ∙ one_more)
     ]
