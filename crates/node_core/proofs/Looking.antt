@@ -1,14 +1,11 @@
 -- Packets that no PID of the filter names leave its selector as it was.
-use Rattle.std.proofs.Common.{◌≡◌, ℕ, zero, suc, ◌+◌, ◌<◌, Bool, true, false, not, ◌&&◌, ◌||◌, nat_eq, List, [], ◌∷◌, ◌++◌, None, length, get_or, take, drop, refl, sym, ap, ap₂, ◌∙◌, arith, inl, inr}
-use Rattle.std.specs.Prelude.{if◌then◌else◌, slice_get, option_map}
-use Rattle.std.specs.List.{list_any, filter}
+use Rattle.std.proofs.Common.{◌≡◌, ℕ, suc, ◌+◌, ◌<◌, Bool, true, false, not, ◌&&◌, ◌||◌, nat_eq, List, [], ◌∷◌, ◌++◌, None, length, get_or, drop, refl, sym, ap, ap₂, ◌∙◌, arith}
+use Rattle.std.specs.Prelude.{if◌then◌else◌}
+use Rattle.std.specs.List.{filter}
 use Rattle.std.proofs.lemmas.List.{drop_more}
-use Rattle.std.proofs.lemmas.Bool.Decides.{nat_tests}
-use Rattle.std.proofs.lemmas.Bool.{cases_eq}
 use Rattle.ts_packet.specs.Fields.{pid_of, unit_start}
 use Rattle.ts_packet.specs.Clean.{is_usable, carried}
 use Rattle.pid_set.specs.declared.set.TheConstants.{ALL_PACKETS}
-use Rattle.ts_batch.specs.Places.{names}
 use Rattle.section_parse.specs.Inside.Keeping.{Assembly, after_packet, all_given as all_taken, repeats_last, joins_last, taken, opened, longer}
 use Rattle.section_parse.specs.Segments.{pointed}
 use Rattle.item_select.specs.Items.{Choice, Nothing, Sections, Packets, is_selected, first_if, given_by}
@@ -22,26 +19,6 @@ use Rattle.dmx_calls.specs.declared.params.Params.{Params as SetParams}
 use Rattle.dmx_calls.specs.declared.params.Params.TheVariants.{Empty as EmptySet, Section as SectionSet, Pes as PesSet}
 use Rattle.dmx_calls.specs.Calls.{params_of, pids_of}
 use Rattle.node_core.specs.Offers.{choice_by, choice_of, names_of}
-
--- ------ a packet is named where one of the PIDs names it
-
-same-eq : (a b : ℕ) → nat_eq a b ≡ nat_eq b a
-same-eq a b = elim (cases_eq a b) [
-  | inl e ↦ rw e refl
-  | inr d ↦ let x : nat_eq a b ≡ false = grind (arith, nat_tests) in let y : nat_eq b a ≡ false = grind (arith, nat_tests) in rw (x, y) refl
-]
-
-both-or : (a b c d : Bool) → ((a || b) || (c || d)) ≡ ((a || c) || (b || d))
-both-or true b c d = refl
-both-or false true true d = refl
-both-or false true false d = refl
-both-or false false c d = refl
-
-pub named-by : (packet pids : List ℕ) → list_any (λ pid. names pid packet) pids ≡ is_named pids packet
-named-by packet [] = refl
-named-by packet (pid ∷ pids) =
-    rw (named-by packet pids, same-eq pid ALL_PACKETS)
-    (both-or (nat_eq ALL_PACKETS pid) (nat_eq (pid_of packet) pid) (list_any (nat_eq ALL_PACKETS) pids) (list_any (nat_eq (pid_of packet)) pids))
 
 -- ------ the assembler
 

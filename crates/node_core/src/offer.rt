@@ -1,6 +1,6 @@
 // The packets of a pass: they are offered to the selector, and the items that it finds go into the buffer.
 
-ghost use Rattle.std.specs.Prelude.{[], ◌≡◌, ◌≤◌, ◌<◌, ◌+◌, ◌-◌, ◌^◌, ℕ, List, false, slice_get, count_by, option_map, Some};
+ghost use Rattle.std.specs.Prelude.{[], ◌≡◌, ◌≤◌, ◌<◌, ◌+◌, ◌-◌, ◌^◌, ℕ, List, slice_get, count_by, option_map, Some};
 ghost use Rattle.ts_batch.specs.Places.{is_in};
 ghost use Rattle.dmx_calls.specs.Items.{is_named};
 ghost use Rattle.dmx_calls.specs.Calls.{params_of, pids_of};
@@ -13,7 +13,6 @@ ghost use Rattle.node_buffer.specs.Inside.Capturing.{with_items};
 use dmx_calls::Params;
 use item_select::Selector;
 use node_buffer::Buffer;
-use pid_set::Pids;
 use std::sync::ledger::Ledger;
 use steps::Steps;
 use ts_batch::{Batch, PlaceSet};
@@ -46,22 +45,9 @@ fn named_places(params: &Params, batch: &Batch) -> PlaceSet
     match params {
         Params::Empty => {}
         Params::Section(wanted) => places.add(batch, wanted.pid),
-        Params::Pes { pids, .. } => add_all(&mut places, pids, batch),
+        Params::Pes { pids, .. } => places.add_all(batch, pids),
     }
     places
-}
-
-// Adds the places of the packets that these PIDs name.
-fn add_all(places: &mut PlaceSet, pids: &Pids, batch: &Batch)
-    requires { (i : ℕ) → is_in i places.old ≡ false }
-    ensures { (i : ℕ) (packet : List ℕ) → slice_get batch.now.packets i ≡ Some packet → is_in i places.new ≡ is_named pids.now packet }
-{
-    'pids: for i in 0..pids.len() {
-        match pids.get(i) {
-            Some(pid) => places.add(batch, pid),
-            None => unreachable!(),
-        }
-    }
 }
 
 /// The packets of a batch that the filter's PIDs name are offered, each for one step. `by_section` says that the filter is

@@ -1,8 +1,8 @@
-use Rattle.std.proofs.Common.{rules, ◌≡◌, ◌-◌, ◌+◌, ◌<◌, ◌≤◌, ℕ, zero, suc, List, [], ◌∷◌, drop, take, get_or, length, false, true, arith, refl, ◌∙◌, ap, sym}
-use Rattle.std.specs.Prelude.{unwrap_or, slice_get, option_map, Some, count_by}
+use Rattle.std.proofs.Common.{rules, ◌≡◌, ◌-◌, ◌<◌, ℕ, [], drop, get_or, length, false, true, arith, refl, ◌∙◌, ap, sym}
+use Rattle.std.specs.Prelude.{option_map}
 use Rattle.std.proofs.lemmas.List.{drop_all, take_all}
 use Rattle.std.proofs.lemmas.List.Sums.{count_by_more_yes, count_by_more_no}
-use Rattle.std.proofs.lemmas.Option.{slice_get_cases, unwrap_or-slice_get}
+use Rattle.std.proofs.lemmas.Option.{slice_get-get_or, get_or_from_slice_get}
 use Rattle.dmx_calls.specs.Calls.{pids_of}
 use Rattle.dmx_calls.specs.Items.{is_named}
 use Rattle.item_select.specs.Selecting.{after_offer, items_found, kept_after, section_pid}
@@ -11,14 +11,6 @@ use Rattle.node_core.proofs.Looking.{unnamed, assembled, kept-skip, items-skip, 
 use Rattle.node_core.proofs.Offered.{kept-next, items-next, none-left}
 use Rattle.node_core.proofs.offer.offer_all.Goals.{then-has, else-has}
 use Rattle.node_core.proofs.offer.offer_all.Goals as goal
-
-at-index : (packets : List (List ℕ)) (i : ℕ) (d : List ℕ) → i < length packets → slice_get packets i ≡ Some (get_or packets i d)
-at-index [] i d h = absurd (omega arith)
-at-index (p ∷ ps) zero d h = refl
-at-index (p ∷ ps) (suc i) d h = at-index ps i d (omega arith)
-
-known-at : (packets : List (List ℕ)) (i : ℕ) (p : List ℕ) → slice_get packets i ≡ Some p → get_or packets i p ≡ p
-known-at packets i p at = sym (unwrap_or-slice_get packets i p) ∙ ap (λ o. unwrap_or o p) at
 
 pub loop-i-preserved : goal.loop-i-preserved
 loop-i-preserved g c =
@@ -31,7 +23,7 @@ loop-i-preserved g c =
       | then-has w ↦
           let o = w.offer.ensures in
           let p = w.packet.result.now in
-          let yes : test (get_or packets n p) ≡ true = ap test (known-at packets n p w.packet.ensures.at) ∙ sym (c.named_places-places.ensures n p w.packet.ensures.at) ∙ sym w.if-has.ensures in
+          let yes : test (get_or packets n p) ≡ true = ap test (get_or_from_slice_get packets n p p w.packet.ensures.at) ∙ sym (c.named_places-places.ensures n p w.packet.ensures.at) ∙ sym w.if-has.ensures in
           let a = assembled c.loop-i.selector i.given i.pid i.sections p in
           rw (w.selector-is, w.buffer-is, w.steps-is) (record {
             selector = rw (o.selector, kept-next c.loop-i.selector packets n p w.packet.ensures.at) i.selector;
@@ -48,7 +40,7 @@ loop-i-preserved g c =
           })
       | else-has w ↦
           let p = get_or packets n [] in
-          let no : test p ≡ false = sym (c.named_places-places.ensures n p (at-index packets n [] within)) ∙ sym w.if-has.ensures in
+          let no : test p ≡ false = sym (c.named_places-places.ensures n p (slice_get-get_or packets n [] within)) ∙ sym w.if-has.ensures in
           let quiet = unnamed c.loop-i.selector i.given i.pid i.sections p c.args.params.now (i.choice ∙ c.requires.filter) (i.pids ∙ c.requires.names) no in
           rw (w.selector-is, w.buffer-is, w.steps-is) (record {
             selector = kept-skip c.loop-i.selector packets n within i.given quiet ∙ i.selector;
@@ -89,7 +81,7 @@ returns-then-is_empty-clause-selector g c =
     let packets = c.args.batch.now.packets in
     let quiet : (i : ℕ) → i < length packets → after_offer s (get_or packets i []) ≡ s =
     λ i l. unnamed s c.requires.given c.requires.pid c.requires.sections (get_or packets i []) c.args.params.now c.requires.filter c.requires.names
-    (sym (c.named_places-places.ensures i (get_or packets i []) (at-index packets i [] l)) ∙ c.is_empty.ensures (search rules) i) in
+    (sym (c.named_places-places.ensures i (get_or packets i []) (slice_get-get_or packets i [] l)) ∙ c.is_empty.ensures (search rules) i) in
     sym (none-kept s c.requires.given packets quiet)
 
 pub returns-then-is_empty-clause-buffer : goal.returns-then-is_empty-clause-buffer
@@ -99,7 +91,7 @@ returns-then-is_empty-clause-buffer g c =
     let packets = c.args.batch.now.packets in
     let quiet : (i : ℕ) → i < length packets → after_offer s (get_or packets i []) ≡ s =
     λ i l. unnamed s c.requires.given c.requires.pid c.requires.sections (get_or packets i []) c.args.params.now c.requires.filter c.requires.names
-    (sym (c.named_places-places.ensures i (get_or packets i []) (at-index packets i [] l)) ∙ c.is_empty.ensures (search rules) i) in
+    (sym (c.named_places-places.ensures i (get_or packets i []) (slice_get-get_or packets i [] l)) ∙ c.is_empty.ensures (search rules) i) in
     ap (λ o. record { size = c.args.buffer.now.size; ledger = o })
     (none-left c.args.by_section (c.args.buffer.now.size - 1) s c.args.buffer.now.ledger
     ∙ ap (λ r. option_map (λ x. with_items c.args.by_section (c.args.buffer.now.size - 1) x r) c.args.buffer.now.ledger) (sym (none-found s c.requires.given packets quiet)))
