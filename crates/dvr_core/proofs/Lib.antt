@@ -11,3 +11,4 @@ pub mod Cases
 pub mod Standing
 pub mod Causing
 pub mod LastReply
+pub mod Owners

@@ -20,7 +20,7 @@ use crate::kept::Kept;
 use crate::taps::Taps;
 use dmx_calls::{Answer, Call, Reply, Told};
 use machine::Machine;
-use node_buffer::{plain, refused};
+use node_buffer::plain;
 use std::alloc::Global;
 use std::marker::Model;
 use std::sync::ledger::Ledger;
@@ -65,22 +65,8 @@ fn act<L: Ledger>(
     ensures cost { steps.new ≤ steps.old + named_packets (knows_of kept.old).taps (invocation_of call) }
     ensures idle { (knows_of kept.old).facts.owner ≡ None → steps.new ≡ steps.old }
 {
-    if let Some(errno) = kept.refusal(who, &call) {
-        return refused(errno, call);
-    }
     match call {
         Call::Open => plain(kept.open(alloc, who)),
-        Call::Close => plain(kept.close()),
-        Call::SetSize(size) => plain(kept.set_size(alloc, size)),
-        Call::Read { buf, .. } => {
-            let (reply, back) = kept.read(buf);
-            Answer {
-                reply,
-                back,
-                batch: None,
-            }
-        }
-        Call::Poll { .. } => plain(kept.poll()),
         Call::Pass { input, batch, .. } => {
             kept.pass(input, &batch, steps);
             Answer {
@@ -95,12 +81,7 @@ fn act<L: Ledger>(
         }
         Call::Attach { node, pids } => plain(kept.attach(who, node, pids)),
         Call::Detach { node } => plain(kept.detach(who, node)),
-        Call::SetFilter { .. }
-        | Call::SetPes { .. }
-        | Call::AddPid(_)
-        | Call::RemovePid(_)
-        | Call::Start { .. }
-        | Call::Stop => unreachable!(),
+        call => kept.act_for_owner(alloc, who, call),
     }
 }
 

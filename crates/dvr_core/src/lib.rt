@@ -29,6 +29,7 @@ mod kept;
 mod node_tests;
 mod record;
 mod taps;
+mod tenure;
 #[cfg(test)]
 mod tests;
 

@@ -1,18 +1,19 @@
 -- What the dvr node knows, from what it keeps.
-use Rattle.std.specs.Prelude.{ℕ, ◌≡◌, ◌⊎◌, Bool, true, [], Option, Some, None}
+use Rattle.std.specs.Prelude.{ℕ, ◌≡◌, ◌≤◌, ◌⊎◌, Bool, true, false, List, [], Option, Some, None}
 use Rattle.dmx_calls.specs.declared.node.NodeKind.TheVariants.{Dvr}
 use Rattle.dmx_calls.specs.declared.limits.TheConstants.{DVR_SIZE}
-use Rattle.dmx_calls.specs.Invocation.{Invocation}
+use Rattle.dmx_calls.specs.Invocation.{Invocation, Close}
 use Rattle.dmx_calls.specs.Response.{Response, NoMemory, Passed}
 use Rattle.dmx_calls.specs.Tenure.{Empty}
+use Rattle.dmx_calls.specs.Taps.{Tap}
 use Rattle.dmx_calls.specs.Facts.{Facts}
 use Rattle.dmx_calls.specs.Answer.{response_to}
 use Rattle.dmx_calls.specs.Legal.{is_done, takes_memory}
-use Rattle.node_buffer.specs.Inside.Coherent.{total_of}
-use Rattle.node_buffer.specs.Inside.Gives.{IsTakenBy}
+use Rattle.node_buffer.specs.Inside.Coherent.{CoherentIn, total_of}
+use Rattle.node_buffer.specs.Inside.Gives.{owner_refusal}
 use Rattle.dvr_core.specs.declared.kept.Kept.{Kept}
-use Rattle.dvr_core.specs.declared.kept.Tenure.{Tenure}
-use Rattle.dvr_core.specs.Inside.Step.{Knows, moved}
+use Rattle.dvr_core.specs.declared.tenure.Tenure.{Tenure}
+use Rattle.dvr_core.specs.Inside.Step.{Knows, moved, next}
 
 -- a free node has the default size; no node has a filter
 abbrev pub facts_in : (has_ended : Bool) → Option Tenure → Facts
@@ -20,16 +21,23 @@ facts_in has_ended None = record { has_ended = has_ended; owner = None; size = D
 facts_in has_ended (Some tenure) =
     record { has_ended = has_ended; owner = Some tenure.owner; size = tenure.buffer.size; params = Empty; pids = []; ledger = tenure.buffer.ledger }
 
+abbrev pub knows_in : (has_ended : Bool) → List (Option Tap) → Option Tenure → Knows
+knows_in has_ended taps tenure = record { facts = facts_in has_ended tenure; taps = taps }
+
 abbrev pub knows_of : Kept → Knows
-knows_of kept = record { facts = facts_in kept.has_ended kept.tenure; taps = kept.taps }
+knows_of kept = knows_in kept.has_ended kept.taps kept.tenure
 
 -- the bytes of the capture
 abbrev pub bytes_in : Knows → ℕ
 bytes_in k = total_of k.facts.ledger
 
--- the node has an owner, who isn't refused this call
-abbrev pub IsTaken : Knows → Invocation → Type 0
-IsTaken k call = IsTakenBy Dvr k.facts.owner k.facts call
+-- its owner isn't refused this call
+abbrev pub IsGranted : Tenure → Invocation → Type 0
+IsGranted tenure call = owner_refusal Dvr (facts_in true (Some tenure)) call ≡ None
+
+abbrev pub is_close : Invocation → Bool
+is_close Close = true
+is_close _ = false
 
 -- what its owner is answered to a call that isn't refused
 abbrev pub reply_to : Knows → Invocation → Response
@@ -38,3 +46,10 @@ reply_to k call = response_to k.facts (moved k 0 call Passed).facts call
 -- that, or want of memory
 abbrev pub Replies : Knows → Invocation → Response → Type 0
 Replies k call r = (r ≡ reply_to k call) ⊎ (r ≡ NoMemory) × (is_done (reply_to k call) ≡ true) × (takes_memory k.facts call ≡ true)
+
+-- What a call of the owner does that isn't refused: what is answered, and what the node then knows; that is sound, and no byte arrives.
+pub record Does (before : Knows) (call : Invocation) (r : Response) (later : Knows) : Type 0 where
+  pub said : Replies before call r
+  pub after : later ≡ next before 0 call r
+  pub sound : CoherentIn later.facts.ledger
+  pub bytes : bytes_in later ≤ bytes_in before

@@ -1,0 +1,146 @@
+// What the dvr node keeps for its owner, and what each call of the owner does to it.
+//
+// A call comes here only where it isn't refused. `Does` says what the owner is answered, how the node goes on, and what then
+// holds. No call of the owner looks at the taps, and none at its moment, since nothing expires here: it does so whichever
+// they are.
+
+ghost use Rattle.std.specs.Prelude.{◌≡◌, ℕ, Bool, true, false, List, Option, IfOk, Some};
+ghost use Rattle.dmx_calls.specs.declared.node.NodeKind.TheVariants.{Dvr};
+ghost use Rattle.dmx_calls.specs.declared.limits.TheConstants.{DVR_SIZE as size_of_open};
+ghost use Rattle.dmx_calls.specs.Invocation.{Close, SetSize, Read, Poll};
+ghost use Rattle.dmx_calls.specs.Taps.{Tap as TapValue};
+ghost use Rattle.dmx_calls.specs.Answer.{is_for_anybody};
+ghost use Rattle.dmx_calls.specs.Calls.{invocation_of, response_of};
+ghost use Rattle.dmx_calls.specs.Back.{BackOfRead, GivesBack};
+ghost use Rattle.node_buffer.specs.Inside.Capturing.{begun};
+ghost use Rattle.node_buffer.specs.Inside.Coherent.{CoherentIn};
+ghost use Rattle.node_buffer.specs.Inside.Gives.{owner_refusal};
+ghost use Rattle.dvr_core.specs.Inside.KeptView.{is_close, facts_in, knows_in, IsGranted, reply_to, Does};
+
+use dmx_calls::limits::DVR_SIZE;
+use dmx_calls::{Answer, ByteBuf, Call, Errno, NodeKind, Params, Reply, Span, State, Tap, refusal};
+use node_buffer::{Buffer, plain};
+use std::alloc::{AllocError as NoMemory, Global};
+
+/// What the node keeps for its owner.
+#[derive(Drop)]
+pub struct Tenure {
+    /// The caller that opened it.
+    pub owner: u32,
+    /// The bytes and the ledger of its capture.
+    pub buffer: Buffer,
+}
+
+/// Of a call that drops nothing.
+pub const NOTHING: Span = Span { from: 0, to: 0 };
+
+/// The call was done. The dvr node has no tap of its own.
+pub fn done(dropped: Span) -> Reply
+    ensures { result ≡ Reply.Done dropped Tap.Keep }
+{
+    Reply::Done {
+        dropped,
+        tap: Tap::Keep,
+    }
+}
+
+impl Tenure {
+    /// A node that was just opened: it has the default size, and its capture begins.
+    pub fn new(alloc: Global, owner: u32) -> Result<Tenure, NoMemory>
+        ensures { IfOk result (λ t. t ≡ record { owner = owner; buffer = record { size = size_of_open; ledger = Some (begun 0) } }) }
+    {
+        let mut buffer = Buffer::new(alloc, DVR_SIZE)?;
+        buffer.begin(0);
+        Ok(Tenure { owner, buffer })
+    }
+
+    /// Why a call of the owner is refused, if it is: by the table of calls. A SetSize to the size that the node has is never
+    /// refused.
+    pub fn refusal(&self, call: &Call) -> Option<Errno>
+        ensures { result ≡ owner_refusal Dvr (facts_in true (Some self.now)) (invocation_of call.now) }
+    {
+        match call {
+            Call::SetSize(size) if *size == self.buffer.size() => None,
+            _ => refusal(NodeKind::Dvr, State::Go, call, &Params::Empty),
+        }
+    }
+
+    /// Makes a call of the owner, but for Close. `ended` says that the stream has ended.
+    pub fn act(&mut self, alloc: Global, ended: bool, call: Call) -> Answer
+        requires sound { CoherentIn self.old.buffer.ledger }
+        requires granted { IsGranted self.old (invocation_of call) }
+        requires own { is_for_anybody Dvr (invocation_of call) ≡ false }
+        requires stays { is_close (invocation_of call) ≡ false }
+        ensures does { (taps : List (Option TapValue)) → Does (knows_in ended taps (Some self.old)) (invocation_of call) (response_of result.reply) (knows_in ended taps (Some self.new)) }
+        ensures back { GivesBack call result }
+    {
+        match call {
+            Call::SetSize(size) => plain(self.set_size(alloc, size)),
+            Call::Read { buf, .. } => {
+                let (reply, back) = self.read(ended, buf);
+                Answer {
+                    reply,
+                    back,
+                    batch: None,
+                }
+            }
+            Call::Poll { .. } => plain(self.poll(ended)),
+            Call::Open
+            | Call::Close
+            | Call::SetFilter { .. }
+            | Call::SetPes { .. }
+            | Call::AddPid(_)
+            | Call::RemovePid(_)
+            | Call::Start { .. }
+            | Call::Stop
+            | Call::Pass { .. }
+            | Call::End
+            | Call::Attach { .. }
+            | Call::Detach { .. } => unreachable!(),
+        }
+    }
+
+    /// close(): what is dropped with the tenure. The node becomes free, and its size and unread bytes are gone.
+    pub fn close(&self) -> Reply
+        ensures { (ended : Bool) (taps : List (Option TapValue)) → response_of result ≡ reply_to (knows_in ended taps (Some self.now)) Close }
+    {
+        done(self.buffer.unread())
+    }
+
+    // DMX_SET_BUFFER_SIZE: another size, in bytes, ends the capture, and another begins. The size that the node has changes
+    // nothing.
+    fn set_size(&mut self, alloc: Global, size: u32) -> Reply
+        requires sound { CoherentIn self.old.buffer.ledger }
+        requires granted { IsGranted self.old (SetSize size) }
+        ensures does { (ended : Bool) (taps : List (Option TapValue)) → Does (knows_in ended taps (Some self.old)) (SetSize size) (response_of result) (knows_in ended taps (Some self.new)) }
+    {
+        if self.buffer.size() == size {
+            return done(NOTHING);
+        }
+        let dropped = self.buffer.unread();
+        match self.buffer.resize(alloc, size) {
+            Ok(()) => {
+                self.buffer.begin(0);
+                done(dropped)
+            }
+            Err(_) => Reply::NoMemory,
+        }
+    }
+
+    // read(): the reply, with its buffer where the reply doesn't hold it.
+    fn read(&mut self, ended: bool, buf: ByteBuf) -> (Reply, Option<ByteBuf>)
+        requires { CoherentIn self.old.buffer.ledger }
+        ensures does { (now : ℕ) (taps : List (Option TapValue)) → Does (knows_in ended taps (Some self.old)) (Read now buf.count) (response_of result.0) (knows_in ended taps (Some self.new)) }
+        ensures back { BackOfRead buf result.0 result.1 }
+    {
+        self.buffer.read(&Params::Empty, ended, buf)
+    }
+
+    // poll(): the reply. It changes nothing.
+    fn poll(&self, ended: bool) -> Reply
+        requires { CoherentIn self.now.buffer.ledger }
+        ensures { (now : ℕ) (taps : List (Option TapValue)) → Does (knows_in ended taps (Some self.now)) (Poll now) (response_of result) (knows_in ended taps (Some self.now)) }
+    {
+        self.buffer.poll(&Params::Empty, ended)
+    }
+}
