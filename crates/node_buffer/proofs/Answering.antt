@@ -1,13 +1,13 @@
--- What a Read gives by the ledger is what the facts of a history answer.
+-- What a Read gives by the ledger is what the facts of a history answer, and the state by it is theirs.
 use Rattle.std.proofs.Common.{ℕ, zero, suc, ◌≡◌, refl, ◌∙◌, ap, Bool, true, false, ◌||◌, Option, Some, None, take}
 use Rattle.std.specs.Prelude.{if◌then◌else◌, not, nat_eq, is_some, option_map}
 use Rattle.dmx_calls.specs.Response.{Data, Again, TimedOut, Passed}
 use Rattle.dmx_calls.specs.Tenure.{Params, Empty, Section, Pes}
 use Rattle.dmx_calls.specs.Items.{timeout_of}
 use Rattle.dmx_calls.specs.Ledger.{Misfit}
-use Rattle.dmx_calls.specs.Facts.{Ledger, Facts}
+use Rattle.dmx_calls.specs.Facts.{Ledger, Facts, state_of_ledger}
 use Rattle.dmx_calls.specs.Answer.{most_bytes, read_bytes, read_timeout, read_over, read_response, expired_of}
-use Rattle.node_buffer.specs.Inside.Capturing.{is_section, is_due, expiring, most_read, bytes_read, timeout_read, over_read, read_by, with_response}
+use Rattle.node_buffer.specs.Inside.Capturing.{is_section, terms_of, state_by, is_due, expiring, most_read, bytes_read, timeout_read, over_read, read_by, with_response}
 
 most_is : (set : Params) (l : Ledger) (count : ℕ) → most_read (is_section set) l count ≡ most_bytes set l count
 most_is Empty l count = refl
@@ -24,7 +24,7 @@ module _ (f : Facts) where
   bytes_are l zero = refl
   bytes_are l (suc fewer) = ap (λ n. if nat_eq l.answered l.total then Again f.has_ended else Data (take n l.unread)) (most_is f.params l (suc fewer))
 
-  timeout_is : (l : Ledger) (x : Option ℕ) (count : ℕ) → timeout_read x f.has_ended f.params l count ≡ read_timeout f l x count
+  timeout_is : (l : Ledger) (x : Option ℕ) (count : ℕ) → timeout_read x f.has_ended (terms_of f.params) l count ≡ read_timeout f l x count
   timeout_is l None count = bytes_are l count
   timeout_is l (Some m) count = ap (λ r. if l.is_told then r else TimedOut l.started m (timeout_of f.params)) (bytes_are l count)
 
@@ -37,24 +37,32 @@ module _ (f : Facts) where
   timeout_same l x None count = bytes_same l x count
   timeout_same l x (Some m) count = ap (λ r. if l.is_told then r else TimedOut l.started m (timeout_of f.params)) (bytes_same l x count)
 
-  over_is : (l : Ledger) (o : Option Misfit) (x : Option ℕ) (count : ℕ) → over_read o f.has_ended f.params (record l { expired = x }) count ≡ read_over f l o x count
+  over_is : (l : Ledger) (o : Option Misfit) (x : Option ℕ) (count : ℕ) → over_read o f.has_ended (terms_of f.params) (record l { expired = x }) count ≡ read_over f l o x count
   over_is l (Some m) x count = refl
   over_is l None x count = timeout_is (record l { expired = x }) x count ∙ timeout_same l x x count
 
   expiring_by : (l : Ledger) (now : ℕ) (b : Bool) (count : ℕ)
-      → over_read (if b then l else record l { expired = Some now }).over f.has_ended f.params (if b then l else record l { expired = Some now }) count
+      → over_read (if b then l else record l { expired = Some now }).over f.has_ended (terms_of f.params) (if b then l else record l { expired = Some now }) count
       ≡ read_over f l l.over (if b then l else record l { expired = Some now }).expired count
   expiring_by l now true count = over_is l l.over l.expired count
   expiring_by l now false count = over_is l l.over (Some now) count
 
   -- where the entry may have expired the filter first
   pub read_is : (o : Option Ledger) (now count : ℕ)
-      → read_by f.has_ended f.params (option_map (expiring (timeout_of f.params) now) o) count
+      → read_by f.has_ended (terms_of f.params) (option_map (expiring (timeout_of f.params) now) o) count
       ≡ read_response f o (expired_of (option_map (λ l. with_response (is_section f.params) Passed (expiring (timeout_of f.params) now l)) o)) count
   read_is None now count = refl
   read_is (Some l) now count = expiring_by l now (l.is_stopped || (is_some l.expired || not (is_due (timeout_of f.params) now l))) count
 
   -- where nothing expires
-  pub read_now : (o : Option Ledger) (count : ℕ) → read_by f.has_ended f.params o count ≡ read_response f o (expired_of o) count
+  pub read_now : (o : Option Ledger) (count : ℕ) → read_by f.has_ended (terms_of f.params) o count ≡ read_response f o (expired_of o) count
   read_now None count = refl
   read_now (Some l) count = over_is l l.over l.expired count
+
+-- ------ the state
+
+pub state_is : (set : Params) (o : Option Ledger) → state_by (terms_of set) o ≡ state_of_ledger set o
+state_is set None = refl
+state_is Empty (Some l) = refl
+state_is (Section p) (Some l) = refl
+state_is (Pes p) (Some l) = refl

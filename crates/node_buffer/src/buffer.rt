@@ -1,17 +1,17 @@
-// A ring, and the ledger of the capture whose bytes it holds.
+// A ring, and what is kept of the capture whose bytes it holds: its ledger, and what it keeps of its filter.
 
 ghost use Rattle.std.specs.Prelude.{[], ◌++◌, min, take, drop, ◌≡◌, ◌≤◌, ◌<◌, ◌+◌, ◌-◌, ◌^◌, length, Option, Some, None, option_map, IfOk, OnErr, if◌then◌else◌, nat_lt, slice_index, IfSome, MatchOption};
 ghost use Rattle.dmx_calls.specs.declared.limits.TheConstants.{SMALLEST_SIZE, LARGEST_SIZE};
-ghost use Rattle.dmx_calls.specs.Calls.{response_of, params_of};
+ghost use Rattle.dmx_calls.specs.Calls.{response_of};
 ghost use Rattle.dmx_calls.specs.Response.{Data, Ready};
 ghost use Rattle.dmx_calls.specs.Back.{BackOfRead};
-ghost use Rattle.dmx_calls.specs.Facts.{state_of_filter};
+ghost use Rattle.dmx_calls.specs.Tenure.{Empty};
 ghost use Rattle.dmx_calls.specs.Answer.{is_readable, pending, answered_of, expired_of};
-ghost use Rattle.node_buffer.specs.Inside.Capturing.{begun, is_due as due, expiring, is_section as section_set, with_item, with_stop, with_response, read_by, bytes_read, front_length as front_by};
+ghost use Rattle.node_buffer.specs.Inside.Capturing.{begun, terms_of as terms_by, is_due as due, expiring, state_by, with_item, with_stop, with_response, read_by, bytes_read, front_length as front_by};
 ghost use Rattle.node_buffer.specs.Inside.Coherent.{CoherentIn, total_of};
 ghost use Rattle.node_buffer.specs.Inside.BufferView.{ledger_of};
 
-use crate::filter::{has_had_its_section, is_section, timeout_of};
+use crate::filter::{Terms, terms_of};
 use dmx_calls::{ByteBuf, Params, PollError, Reply, Span, State};
 use node_ring::Ring;
 use std::alloc::{AllocError as NoMemory, Global};
@@ -55,6 +55,8 @@ pub struct Capture {
 #[derive(Drop)]
 pub struct Buffer {
     ring: Ring,
+    // Those of the filter that was given last.
+    terms: Terms,
     capture: Option<Capture>,
 }
 
@@ -71,14 +73,15 @@ impl Model for Buffer {
 }
 
 impl Buffer {
-    /// An empty buffer of a size from 2 to 16,777,216 bytes, without a capture.
+    /// An empty buffer of a size from 2 to 16,777,216 bytes, without a capture and with the terms of no filter.
     pub fn new(alloc: Global, size: u32) -> Result<Buffer, NoMemory>
         requires least { SMALLEST_SIZE ≤ size }
         requires most { size ≤ LARGEST_SIZE }
-        ensures { IfOk result (λ b. b ≡ record { size = size; ledger = None }) }
+        ensures { IfOk result (λ b. b ≡ record { size = size; terms = terms_by Empty; ledger = None }) }
     {
         Ok(Buffer {
             ring: Ring::new(alloc, size)?,
+            terms: terms_of(&Params::Empty),
             capture: None,
         })
     }
@@ -90,18 +93,15 @@ impl Buffer {
         self.ring.size()
     }
 
-    /// The state of a node that has this filter, by its capture.
-    pub fn state(&self, params: &Params) -> State
-        ensures { result ≡ state_of_filter (params_of params.now) self.now.ledger }
+    /// The state of a node with a filter: Set, TimedOut, Done or Go, by its capture.
+    pub fn state(&self) -> State
+        ensures { result ≡ state_by self.now.terms self.now.ledger }
     {
-        if matches!(params, Params::Empty) {
-            return State::Allocated;
-        }
         match &self.capture {
             None => State::Set,
             Some(capture) if capture.is_stopped => State::Set,
             Some(capture) if capture.expired.is_some() => State::TimedOut,
-            Some(capture) if has_had_its_section(params, capture.items) => State::Done,
+            Some(capture) if self.terms.is_oneshot && capture.items > 0 => State::Done,
             Some(_) => State::Go,
         }
     }
@@ -120,12 +120,13 @@ impl Buffer {
         }
     }
 
-    /// Ends the capture and begins another at this moment, in milliseconds.
-    pub fn begin(&mut self, now: u64)
-        ensures after { self.new ≡ record { size = self.old.size; ledger = Some (begun now) } }
+    /// Ends the capture and begins another at this moment, in milliseconds, with these terms.
+    pub fn begin(&mut self, terms: Terms, now: u64)
+        ensures after { self.new ≡ record { size = self.old.size; terms = terms; ledger = Some (begun now) } }
         ensures holds { CoherentIn self.new.ledger }
     {
         self.end();
+        self.terms = terms;
         self.capture = Some(Capture {
             started: now,
             is_stopped: false,
@@ -141,27 +142,28 @@ impl Buffer {
 
     /// Ends the capture.
     pub fn end(&mut self)
-        ensures { self.new ≡ record { size = self.old.size; ledger = None } }
+        ensures { self.new ≡ record { size = self.old.size; terms = self.old.terms; ledger = None } }
     {
         self.ring.flush();
         self.capture = None;
     }
 
-    /// Ends the capture. Where `begins` says so, another begins at this moment, in milliseconds.
-    pub fn renew(&mut self, begins: bool, now: u64)
-        ensures after { self.new ≡ record { size = self.old.size; ledger = if begins then Some (begun now) else None } }
+    /// Ends the capture, and takes these terms. Where `begins` says so, another begins at this moment, in milliseconds.
+    pub fn renew(&mut self, terms: Terms, begins: bool, now: u64)
+        ensures after { self.new ≡ record { size = self.old.size; terms = terms; ledger = if begins then Some (begun now) else None } }
         ensures holds { CoherentIn self.new.ledger }
     {
         if begins {
-            self.begin(now);
+            self.begin(terms, now);
         } else {
             self.end();
+            self.terms = terms;
         }
     }
 
     /// Notes a Stop.
     pub fn stop(&mut self)
-        ensures after { self.new ≡ record { size = self.old.size; ledger = option_map with_stop self.old.ledger } }
+        ensures after { self.new ≡ record { size = self.old.size; terms = self.old.terms; ledger = option_map with_stop self.old.ledger } }
         ensures holds { CoherentIn self.new.ledger }
     {
         if let Some(capture) = &mut self.capture {
@@ -169,15 +171,14 @@ impl Buffer {
         }
     }
 
-    /// Notes the moment of a call: a capture that goes on expires where its time is over and no item came. Both are in
-    /// milliseconds; a timeout of 0 is none.
-    pub fn expire(&mut self, timeout: u32, now: u64)
-        ensures after { self.new ≡ record { size = self.old.size; ledger = option_map (expiring timeout now) self.old.ledger } }
+    /// Notes the moment of a call, in milliseconds: a capture that goes on expires where its time is over and no item came.
+    pub fn expire(&mut self, now: u64)
+        ensures after { self.new ≡ record { size = self.old.size; terms = self.old.terms; ledger = option_map (expiring self.old.terms.timeout now) self.old.ledger } }
         ensures holds { CoherentIn self.new.ledger }
     {
         if let Some(capture) = &mut self.capture {
             let goes_on = !capture.is_stopped && capture.expired.is_none();
-            if goes_on && is_due(capture, timeout, now) {
+            if goes_on && is_due(capture, self.terms.timeout, now) {
                 capture.expired = Some(now);
             }
         }
@@ -187,7 +188,7 @@ impl Buffer {
     pub fn resize(&mut self, alloc: Global, size: u32) -> Result<(), NoMemory>
         requires least { SMALLEST_SIZE ≤ size }
         requires most { size ≤ LARGEST_SIZE }
-        ensures ok { IfOk result (λ _. self.new ≡ record { size = size; ledger = None }) }
+        ensures ok { IfOk result (λ _. self.new ≡ record { size = size; terms = self.old.terms; ledger = None }) }
         ensures err { OnErr result (self.new ≡ self.old) }
     {
         self.ring.resize(alloc, size)?;
@@ -195,12 +196,12 @@ impl Buffer {
         Ok(())
     }
 
-    /// An item of at least one byte arrives; `by_section` says that it is a section. It is lost where one before it is; where
-    /// it is longer than the room, the overflow is pending and nothing that is unread will be given.
-    pub fn put(&mut self, by_section: bool, item: &[u8])
+    /// An item of at least one byte arrives. It is lost where one before it is; where it is longer than the room, the overflow
+    /// is pending and nothing that is unread will be given.
+    pub fn put(&mut self, item: &[u8])
         requires some { 0 < length item.now }
         requires total { total_of self.old.ledger + length item.now < 2 ^ 64 }
-        ensures after { self.new ≡ record { size = self.old.size; ledger = option_map (λ l. with_item by_section (self.old.size - 1) l item.now) self.old.ledger } }
+        ensures after { self.new ≡ record { size = self.old.size; terms = self.old.terms; ledger = option_map (λ l. with_item self.old.terms.by_section (self.old.size - 1) l item.now) self.old.ledger } }
         ensures holds { CoherentIn self.new.ledger }
         ensures total { total_of self.new.ledger ≤ total_of self.old.ledger + length item.now }
     {
@@ -211,7 +212,7 @@ impl Buffer {
         if capture.over.is_none() {
             let room = self.ring.room();
             if self.ring.put(item) {
-                if by_section && capture.rest == 0 {
+                if self.terms.by_section && capture.rest == 0 {
                     capture.rest = need;
                 }
             } else {
@@ -230,9 +231,9 @@ impl Buffer {
 
     /// The reply to a Read, with its buffer where the reply doesn't hold it: a pending overflow, else an expiry that wasn't
     /// told, else bytes. `ended` says that the stream has ended, which Again tells.
-    pub fn read(&mut self, params: &Params, ended: bool, buf: ByteBuf) -> (Reply, Option<ByteBuf>)
-        ensures said { response_of result.0 ≡ read_by ended (params_of params.now) self.old.ledger buf.count }
-        ensures after { self.new ≡ record { size = self.old.size; ledger = option_map (with_response (section_set (params_of params.now)) (response_of result.0)) self.old.ledger } }
+    pub fn read(&mut self, ended: bool, buf: ByteBuf) -> (Reply, Option<ByteBuf>)
+        ensures said { response_of result.0 ≡ read_by ended self.old.terms self.old.ledger buf.count }
+        ensures after { self.new ≡ record { size = self.old.size; terms = self.old.terms; ledger = option_map (with_response self.old.terms.by_section (response_of result.0)) self.old.ledger } }
         ensures back { BackOfRead buf result.0 result.1 }
         ensures holds { CoherentIn self.new.ledger }
     {
@@ -258,24 +259,19 @@ impl Buffer {
             let reply = Reply::TimedOut {
                 started: capture.started,
                 now,
-                timeout: timeout_of(params),
+                timeout: self.terms.timeout,
             };
             return (reply, Some(buf));
         }
-        self.read_bytes(is_section(params), ended, buf)
+        self.read_bytes(ended, buf)
     }
 
     // The reply to a Read where nothing is pending: no bytes for a count of 0, Again where all is answered, and else as many
     // bytes as are asked for and there; on a section filter no more than are left of the section.
-    fn read_bytes(
-        &mut self,
-        by_section: bool,
-        ended: bool,
-        buf: ByteBuf,
-    ) -> (Reply, Option<ByteBuf>)
+    fn read_bytes(&mut self, ended: bool, buf: ByteBuf) -> (Reply, Option<ByteBuf>)
         requires { IfSome self.old.ledger (λ l. l.over ≡ None) }
-        ensures said { MatchOption self.old.ledger (response_of result.0 ≡ Data []) (λ l. response_of result.0 ≡ bytes_read ended by_section l buf.count) }
-        ensures after { self.new ≡ record { size = self.old.size; ledger = option_map (with_response by_section (response_of result.0)) self.old.ledger } }
+        ensures said { MatchOption self.old.ledger (response_of result.0 ≡ Data []) (λ l. response_of result.0 ≡ bytes_read ended self.old.terms.by_section l buf.count) }
+        ensures after { self.new ≡ record { size = self.old.size; terms = self.old.terms; ledger = option_map (with_response self.old.terms.by_section (response_of result.0)) self.old.ledger } }
         ensures back { BackOfRead buf result.0 result.1 }
         ensures holds { CoherentIn self.new.ledger }
     {
@@ -285,6 +281,7 @@ impl Buffer {
         if buf.count() > 0 && self.ring.unread() == 0 {
             return (Reply::Again { ended }, Some(buf));
         }
+        let by_section = self.terms.by_section;
         let most = most_bytes(by_section, capture.rest, self.ring.unread(), buf.count());
         let mut filled = buf;
         fill(&mut self.ring, &mut filled, most);
@@ -297,8 +294,8 @@ impl Buffer {
 
     /// The reply to a Poll: whether a Read of one byte would give something, what is pending, and the place up to which all is
     /// answered.
-    pub fn poll(&self, params: &Params, ended: bool) -> Reply
-        ensures { response_of result ≡ Ready (is_readable (read_by ended (params_of params.now) self.now.ledger 1)) (pending self.now.ledger (expired_of self.now.ledger)) (answered_of self.now.ledger) ended }
+    pub fn poll(&self, ended: bool) -> Reply
+        ensures { response_of result ≡ Ready (is_readable (read_by ended self.now.terms self.now.ledger 1)) (pending self.now.ledger (expired_of self.now.ledger)) (answered_of self.now.ledger) ended }
     {
         let Some(capture) = &self.capture else {
             return Reply::Ready {
@@ -309,7 +306,7 @@ impl Buffer {
             };
         };
         let error = pending_error(capture);
-        let bytes = most_bytes(is_section(params), capture.rest, self.ring.unread(), 1);
+        let bytes = most_bytes(self.terms.by_section, capture.rest, self.ring.unread(), 1);
         Reply::Ready {
             readable: error != PollError::Quiet || bytes > 0,
             error,

@@ -2,7 +2,7 @@
 
 ghost use Rattle.std.specs.Prelude.{◌≤◌};
 
-use crate::{Buffer, is_oneshot, is_section, timeout_of};
+use crate::{Buffer, Terms, is_oneshot, terms_of};
 use dmx_calls::{
     ByteBuf, Input, Output, Params, PesParams, PollError, Reply, SectionParams, State,
 };
@@ -117,15 +117,9 @@ fn is_wanted(reply: &Reply, want: Want) -> bool {
 }
 
 /// A Read gives what is wanted, and hands its buffer back where the reply doesn't hold it.
-fn reads(
-    alloc: Global,
-    buffer: &mut Buffer,
-    params: &Params,
-    count: u32,
-    want: Want,
-) -> Result<bool, NoMemory> {
+fn reads(alloc: Global, buffer: &mut Buffer, count: u32, want: Want) -> Result<bool, NoMemory> {
     let buf = ByteBuf::new(alloc, count.min(65_536))?;
-    let (reply, back) = buffer.read(params, false, buf);
+    let (reply, back) = buffer.read(false, buf);
     Ok(is_wanted(&reply, want) && back.is_some() != matches!(reply, Reply::Data(_)))
 }
 
@@ -134,23 +128,23 @@ fn meets<A: Abort>(
     rt: &A,
     alloc: Global,
     buffer: &mut Buffer,
-    params: &Params,
+    terms: Terms,
     step: Step,
 ) -> Result<bool, NoMemory> {
     match step {
-        Step::Begin(now) => buffer.begin(now),
+        Step::Begin(now) => buffer.begin(terms, now),
         Step::End => buffer.end(),
-        Step::Renew(begins, now) => buffer.renew(begins, now),
+        Step::Renew(begins, now) => buffer.renew(terms, begins, now),
         Step::Stop => buffer.stop(),
         Step::Put(item) => {
             assert!(rt; !item.is_empty() && item.len() < 1000 && buffer.unread().to < 1_000_000);
-            buffer.put(is_section(params), item);
+            buffer.put(item);
         }
-        Step::Expire(now) => buffer.expire(timeout_of(params), now),
+        Step::Expire(now) => buffer.expire(now),
         Step::Resize(size) => buffer.resize(alloc, size.clamp(2, 16_777_216))?,
-        Step::Read(count, want) => return reads(alloc, buffer, params, count, want),
+        Step::Read(count, want) => return reads(alloc, buffer, count, want),
         Step::Poll(wanted, pending, place) => {
-            return Ok(match buffer.poll(params, true) {
+            return Ok(match buffer.poll(true) {
                 Reply::Ready {
                     readable,
                     error,
@@ -160,7 +154,7 @@ fn meets<A: Abort>(
                 _ => false,
             });
         }
-        Step::State(state) => return Ok(buffer.state(params) == state),
+        Step::State(state) => return Ok(buffer.state() == state),
         Step::Unread(from, to) => {
             let unread = buffer.unread();
             return Ok((unread.from, unread.to) == (from, to));
@@ -178,11 +172,11 @@ fn check<A: Abort>(
     filter: Filter,
     steps: &[Step],
 ) -> Result<(), NoMemory> {
-    let params = params_of(filter);
+    let terms = terms_of(&params_of(filter));
     let mut buffer = Buffer::new(alloc, size.clamp(2, 16_777_216))?;
     for (number, step) in steps.iter().enumerate() {
         assert!(rt;
-            meets(rt, alloc, &mut buffer, &params, *step)?,
+            meets(rt, alloc, &mut buffer, terms, *step)?,
             "step {number}"
         );
     }
@@ -320,22 +314,21 @@ fn a_read_of_sections_gives_one_at_most(rt: HostRuntime) -> Result<(), NoMemory>
 // A section of 259 bytes, so one whose length needs more than the eight bits of byte 2, between two of 5 bytes.
 #[test]
 fn a_long_section_is_read_by_pieces(rt: HostRuntime) -> Result<(), NoMemory> {
-    let params = params_of(Filter::Sections(0, 0));
     let mut buffer = Buffer::new(rt.alloc(), 1000)?;
     let mut long = [7; 259];
     long[..3].copy_from_slice(&[0x42, 0xb1, 0]);
-    buffer.begin(0);
+    buffer.begin(terms_of(&params_of(Filter::Sections(0, 0))), 0);
     for item in [
         [0x43, 0, 2, 10, 11].as_slice(),
         &long,
         &[0x43, 0, 2, 12, 13],
     ] {
         assert!(rt; !item.is_empty() && item.len() < 1000 && buffer.unread().to < 1000);
-        buffer.put(true, item);
+        buffer.put(item);
     }
     for (count, to) in [(200, 5), (200, 205), (200, 264), (3, 267), (3, 269)] {
         let buf = ByteBuf::new(rt.alloc(), count)?;
-        let (reply, _) = buffer.read(&params, false, buf);
+        let (reply, _) = buffer.read(false, buf);
         assert!(rt; matches!(reply, Reply::Data(_)));
         assert_eq!(rt; buffer.unread().from, to);
     }
@@ -452,18 +445,25 @@ fn another_size_ends_the_capture(rt: HostRuntime) -> Result<(), NoMemory> {
     check(&rt, rt.alloc(), 2, Filter::Packets, SIZES)
 }
 
-const NO_FILTER: &[Step] = &[
-    Step::State(State::Allocated),
-    Begin(0),
-    Step::State(State::Allocated),
-    Put(&[1]),
-    Read(9, Data(&[1])),
-];
+const NO_FILTER: &[Step] = &[SET, Begin(0), GO, Put(&[1]), Read(9, Data(&[1]))];
 
 // The dvr node has a buffer and no filter.
 #[test]
 fn a_buffer_without_a_filter_is_read_too(rt: HostRuntime) -> Result<(), NoMemory> {
     check(&rt, rt.alloc(), 20, Filter::Empty, NO_FILTER)
+}
+
+#[test]
+fn only_a_section_filter_has_terms(rt: HostRuntime) {
+    for (filter, wanted) in [
+        (Filter::Sections(100, 2), (true, true, 100)),
+        (Filter::Sections(0, 5), (true, false, 0)),
+        (Filter::Packets, (false, false, 0)),
+        (Filter::Empty, (false, false, 0)),
+    ] {
+        let terms = terms_of(&params_of(filter));
+        assert_eq!(rt; (terms.by_section, terms.is_oneshot, terms.timeout), wanted);
+    }
 }
 
 #[test]

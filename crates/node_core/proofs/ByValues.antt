@@ -8,7 +8,7 @@ use Rattle.dmx_calls.specs.Tenure.{Params, Empty, Section, Pes}
 use Rattle.dmx_calls.specs.Items.{timeout_of}
 use Rattle.dmx_calls.specs.Facts.{Ledger, state_of_filter, state_of_ledger}
 use Rattle.dmx_calls.specs.Answer.{expired_of, response_to}
-use Rattle.node_buffer.specs.Inside.Capturing.{is_section, read_by, is_due, expiring, with_response}
+use Rattle.node_buffer.specs.Inside.Capturing.{is_section, terms_of, read_by, is_due, expiring, with_response}
 use Rattle.node_buffer.proofs.Accepted.{read_accepted}
 use Rattle.node_buffer.proofs.Answering.{read_is}
 use Rattle.node_buffer.proofs.Readings.{expired_at, then_answered}
@@ -21,17 +21,17 @@ use Rattle.node_core.specs.Inside.KeptView.{reply_to}
 
 -- what it gives is the response to a Read that isn't refused
 reads_as : (k : Knows) (who now count : ℕ)
-    → read_by k.facts.has_ended k.facts.params (option_map (expiring (timeout_of k.facts.params) now) k.facts.ledger) count
+    → read_by k.facts.has_ended (terms_of k.facts.params) (option_map (expiring (timeout_of k.facts.params) now) k.facts.ledger) count
     ≡ response_to k.facts (moved k who (Read now count) Passed).facts (Read now count)
 reads_as k who now count = read_is k.facts k.facts.ledger now count
 
 -- with the ledger between the expiry and the reply
 pub read-said : (k : Knows) (now count : ℕ) (mid : Option Ledger) (r : Response) → mid ≡ option_map (expiring (timeout_of k.facts.params) now) k.facts.ledger
-    → r ≡ read_by k.facts.has_ended k.facts.params mid count → r ≡ reply_to k (Read now count)
+    → r ≡ read_by k.facts.has_ended (terms_of k.facts.params) mid count → r ≡ reply_to k (Read now count)
 read-said k now count mid r is said = said ∙ rw is (reads_as k 0 now count)
 
 pub read-after : (k : Knows) (now count : ℕ) (mid left : Option Ledger) (r : Response) → mid ≡ option_map (expiring (timeout_of k.facts.params) now) k.facts.ledger
-    → r ≡ read_by k.facts.has_ended k.facts.params mid count → left ≡ option_map (with_response (is_section k.facts.params) r) mid
+    → r ≡ read_by k.facts.has_ended (terms_of k.facts.params) mid count → left ≡ option_map (with_response (is_section k.facts.params) r) mid
     → record k { facts = record k.facts { ledger = left } } ≡ next k 0 (Read now count) r
 read-after k now count mid left r is said after =
     let ok : is_accepted r ≡ true =

@@ -21,7 +21,7 @@ use crate::filter::takes_from;
 use crate::offer::offer_all;
 use crate::tenure::{NOTHING, Tenure, done};
 use dmx_calls::{Answer, Call, Errno, Input, Reply, State, Tap};
-use node_buffer::{is_section, plain, refused, timeout_of};
+use node_buffer::{plain, refused};
 use std::alloc::Global;
 use std::sync::ledger::Ledger;
 use steps::Steps;
@@ -98,15 +98,13 @@ impl Kept {
         ensures idle { state_of (knows_of self.old).facts ≢ State.Go → steps.new ≡ steps.old }
     {
         if let Some(tenure) = &mut self.tenure {
-            tenure.buffer.expire(timeout_of(&tenure.params), now);
-            match tenure.buffer.state(&tenure.params) {
+            tenure.buffer.expire(now);
+            match tenure.state() {
                 State::Go if takes_from(&tenure.params, input) => {
-                    let by_section = is_section(&tenure.params);
                     offer_all(
                         &mut tenure.selector,
                         &mut tenure.buffer,
                         &tenure.params,
-                        by_section,
                         batch,
                         steps,
                     );

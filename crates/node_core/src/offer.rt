@@ -19,13 +19,13 @@ use ts_batch::{Batch, PlaceSet};
 use ts_packet::Packet;
 
 // A packet is offered.
-fn offer(selector: &mut Selector, buffer: &mut Buffer, by_section: bool, packet: &Packet)
+fn offer(selector: &mut Selector, buffer: &mut Buffer, packet: &Packet)
     requires given { selector.old.ready ≡ [] }
     requires bytes { total_of buffer.old.ledger + bytes_held selector.old + 188 < 2 ^ 64 }
     requires sound { CoherentIn buffer.old.ledger }
     requires packet { IsPacket packet.now }
     ensures selector { selector.new ≡ all_given (after_offer selector.old packet.now) }
-    ensures buffer { buffer.new ≡ record { size = buffer.old.size; ledger = option_map (λ l. with_items by_section (buffer.old.size - 1) l (after_offer selector.old packet.now).ready) buffer.old.ledger } }
+    ensures buffer { buffer.new ≡ record { size = buffer.old.size; terms = buffer.old.terms; ledger = option_map (λ l. with_items buffer.old.terms.by_section (buffer.old.size - 1) l (after_offer selector.old packet.now).ready) buffer.old.ledger } }
     ensures choice { selector.new.choice ≡ selector.old.choice }
     ensures pids { selector.new.pids ≡ selector.old.pids }
     ensures sound { CoherentIn buffer.new.ledger }
@@ -33,7 +33,7 @@ fn offer(selector: &mut Selector, buffer: &mut Buffer, by_section: bool, packet:
 {
     selector.offer(packet);
     'items: while let Some(item) = selector.item() {
-        buffer.put(by_section, item);
+        buffer.put(item);
     }
 }
 
@@ -50,13 +50,11 @@ fn named_places(params: &Params, batch: &Batch) -> PlaceSet
     places
 }
 
-/// The packets of a batch that the filter's PIDs name are offered, each for one step. `by_section` says that the filter is
-/// one of sections.
+/// The packets of a batch that the filter's PIDs name are offered, each for one step.
 pub fn offer_all<L: Ledger>(
     selector: &mut Selector,
     buffer: &mut Buffer,
     params: &Params,
-    by_section: bool,
     batch: &Batch,
     steps: &mut Steps<L>,
 )
@@ -68,7 +66,7 @@ pub fn offer_all<L: Ledger>(
     requires bytes { total_of buffer.old.ledger + bytes_held selector.old + 12032 < 2 ^ 64 }
     requires sound { CoherentIn buffer.old.ledger }
     ensures selector { selector.new ≡ kept_after selector.old batch.now.packets }
-    ensures buffer { buffer.new ≡ record { size = buffer.old.size; ledger = option_map (λ l. with_items by_section (buffer.old.size - 1) l (items_found selector.old batch.now.packets)) buffer.old.ledger } }
+    ensures buffer { buffer.new ≡ record { size = buffer.old.size; terms = buffer.old.terms; ledger = option_map (λ l. with_items buffer.old.terms.by_section (buffer.old.size - 1) l (items_found selector.old batch.now.packets)) buffer.old.ledger } }
     ensures choice { selector.new.choice ≡ selector.old.choice }
     ensures pids { selector.new.pids ≡ selector.old.pids }
     ensures given { selector.new.ready ≡ [] }
@@ -84,7 +82,7 @@ pub fn offer_all<L: Ledger>(
     }
     for i in 0..batch.count() {
         if places.has(i) {
-            offer(selector, buffer, by_section, batch.packet(i, steps));
+            offer(selector, buffer, batch.packet(i, steps));
         }
     }
 }

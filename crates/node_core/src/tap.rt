@@ -18,7 +18,7 @@ impl Tenure {
     {
         match &self.params {
             Params::Pes { params, .. } if params.output == Output::TsTap => {
-                self.buffer.state(&self.params) == State::Go
+                self.state() == State::Go
             }
             _ => false,
         }

@@ -8,25 +8,25 @@ ghost use Rattle.dmx_calls.specs.declared.node.NodeKind.TheVariants.{Demux};
 ghost use Rattle.dmx_calls.specs.declared.limits.TheConstants.{DEMUX_SIZE, IMMEDIATE_START};
 ghost use Rattle.dmx_calls.specs.Invocation.{Close, SetFilter, SetPes, AddPid, RemovePid, Start, Stop, SetSize, Read, Poll};
 ghost use Rattle.dmx_calls.specs.Capture.{has_flag};
+ghost use Rattle.dmx_calls.specs.Facts.{state_of_filter};
 ghost use Rattle.dmx_calls.specs.Answer.{is_for_anybody, done_dropping};
 ghost use Rattle.dmx_calls.specs.Calls.{invocation_of, response_of, params_of, pids_of};
 ghost use Rattle.dmx_calls.specs.Back.{BackOfRead, GivesBack};
 ghost use Rattle.item_select.specs.Selecting.{begun as begun_selecting};
-ghost use Rattle.node_buffer.specs.Inside.Capturing.{begun};
+ghost use Rattle.node_buffer.specs.Inside.Capturing.{terms_of as terms_by, begun};
 ghost use Rattle.node_buffer.specs.Inside.Gives.{owner_refusal};
 ghost use Rattle.node_core.specs.Offers.{choice_of, names_of};
 ghost use Rattle.node_core.specs.Inside.Step.{unset};
-ghost use Rattle.node_core.specs.Inside.KeptView.{is_close, knows_in, is_recording_for, tap_told, IsSoundIn, IsGranted, reply_to, Does};
 
 use crate::filter::{rename, select, starts_at_once};
 use crate::tap::tap_of_idle;
 use dmx_calls::limits::DEMUX_SIZE;
 use dmx_calls::{
-    Answer, ByteBuf, Call, Errno, NodeKind, Params, PesParams, Reply, SectionParams, Span, Tap,
-    refusal,
+    Answer, ByteBuf, Call, Errno, NodeKind, Params, PesParams, Reply, SectionParams, Span, State,
+    Tap, refusal,
 };
 use item_select::Selector;
-use node_buffer::{Buffer, plain, timeout_of};
+use node_buffer::{Buffer, plain, terms_of};
 use pid_set::Pids;
 use std::alloc::{AllocError as NoMemory, Global};
 
@@ -41,6 +41,8 @@ pub struct Tenure {
     pub selector: Selector,
     /// The bytes and the ledger of its capture.
     pub buffer: Buffer,
+    // The buffer has the terms of this filter.
+    ghost told: { buffer.terms ≡ terms_by (params_of params) },
 }
 
 /// Of a call that drops nothing.
@@ -54,9 +56,15 @@ pub fn done(dropped: Span, tap: Tap) -> Reply
 }
 
 impl Tenure {
+    ghost use Rattle.node_core.specs.Inside.KeptView.{is_close, knows_in, is_recording_for, tap_told, IsSoundIn, IsGranted, reply_to, Does};
+
     /// A node that was just opened: it has the default size and no filter.
     pub fn new(alloc: Global, owner: u32) -> Result<Tenure, NoMemory>
-        ensures { IfOk result (λ t. t ≡ record { owner = owner; params = Params.Empty; selector = unset; buffer = record { size = DEMUX_SIZE; ledger = None } }) }
+        ensures owner { IfOk result (λ t. t.owner ≡ owner) }
+        ensures params { IfOk result (λ t. t.params ≡ Params.Empty) }
+        ensures selector { IfOk result (λ t. t.selector ≡ unset) }
+        ensures size { IfOk result (λ t. t.buffer.size ≡ DEMUX_SIZE) }
+        ensures ledger { IfOk result (λ t. t.buffer.ledger ≡ None) }
     {
         Ok(Tenure {
             owner,
@@ -69,19 +77,29 @@ impl Tenure {
     // A filter is set. It starts at once where DMX_IMMEDIATE_START is among its flags.
     fn set(&mut self, params: Params, flags: u32, now: u64) -> Reply
         ensures said { response_of result ≡ done_dropping self.old.buffer.ledger (tap_told (is_recording_for self.old) true self.new) }
-        ensures after { self.new ≡ record {
-          owner = self.old.owner;
-          params = params;
-          selector = begun_selecting (choice_of (params_of params)) (names_of (choice_of (params_of params)) (pids_of params));
-          buffer = record { size = self.old.buffer.size; ledger = if has_flag IMMEDIATE_START flags then Some (begun now) else None };
-        } }
+        ensures owner { self.new.owner ≡ self.old.owner }
+        ensures params { self.new.params ≡ params }
+        ensures selector { self.new.selector ≡ begun_selecting (choice_of (params_of params)) (names_of (choice_of (params_of params)) (pids_of params)) }
+        ensures size { self.new.buffer.size ≡ self.old.buffer.size }
+        ensures ledger { self.new.buffer.ledger ≡ (if has_flag IMMEDIATE_START flags then Some (begun now) else None) }
     {
         let recorded = self.is_recording();
         let dropped = self.buffer.unread();
-        self.buffer.renew(starts_at_once(flags), now);
+        self.buffer
+            .renew(terms_of(&params), starts_at_once(flags), now);
         select(&mut self.selector, &params);
         self.params = params;
         done(dropped, self.tap(recorded, true))
+    }
+
+    /// Its state: Allocated without a filter, and else what its capture says.
+    pub fn state(&self) -> State
+        ensures { result ≡ state_of_filter (params_of self.now.params) self.now.buffer.ledger }
+    {
+        match &self.params {
+            Params::Empty => State::Allocated,
+            Params::Section(_) | Params::Pes { .. } => self.buffer.state(),
+        }
     }
 
     /// Why a call of the owner is refused, if it is: by the table of calls and states. A SetSize to the size that the node has
@@ -91,10 +109,7 @@ impl Tenure {
     {
         match call {
             Call::SetSize(size) if *size == self.buffer.size() => None,
-            _ => {
-                let state = self.buffer.state(&self.params);
-                refusal(NodeKind::Demux, state, call, &self.params)
-            }
+            _ => refusal(NodeKind::Demux, self.state(), call, &self.params),
         }
     }
 
@@ -203,7 +218,7 @@ impl Tenure {
         let recorded = self.is_recording();
         let dropped = self.buffer.unread();
         self.selector.restart();
-        self.buffer.begin(now);
+        self.buffer.begin(terms_of(&self.params), now);
         done(dropped, self.tap(recorded, true))
     }
 
@@ -241,8 +256,8 @@ impl Tenure {
         ensures does { Does (knows_in ended (Some self.old)) (Read now buf.count) (response_of result.0) (knows_in ended (Some self.new)) }
         ensures back { BackOfRead buf result.0 result.1 }
     {
-        self.buffer.expire(timeout_of(&self.params), now);
-        self.buffer.read(&self.params, ended, buf)
+        self.buffer.expire(now);
+        self.buffer.read(ended, buf)
     }
 
     // poll(): the reply. The filter may expire first.
@@ -251,7 +266,7 @@ impl Tenure {
         requires granted { IsGranted self.old (Poll now) }
         ensures does { Does (knows_in ended (Some self.old)) (Poll now) (response_of result) (knows_in ended (Some self.new)) }
     {
-        self.buffer.expire(timeout_of(&self.params), now);
-        self.buffer.poll(&self.params, ended)
+        self.buffer.expire(now);
+        self.buffer.poll(ended)
     }
 }

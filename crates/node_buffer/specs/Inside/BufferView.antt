@@ -29,7 +29,7 @@ ledger_of unread c = record {
 
 -- the size is the ring's
 abbrev pub buffer_view : Inside → BufferValue
-buffer_view b = record { size = b.ring.size; ledger = option_map (ledger_of b.ring.bytes) b.capture }
+buffer_view b = record { size = b.ring.size; terms = b.terms; ledger = option_map (ledger_of b.ring.bytes) b.capture }
 
 -- The ring holds what isn't answered: nothing without a capture, and nothing while an overflow is pending. Each item has at least one byte.
 abbrev pub CaptureHolds : Option Capture → List ℕ → Type 0

@@ -1,20 +1,36 @@
--- How the ledger of a capture goes on: a capture begins, items arrive in it, it expires, it is read, it is stopped.
+-- What a capture keeps of its filter, and how its ledger goes on: it begins, items arrive in it, it expires, it is read, it is stopped.
 use Rattle.std.specs.Prelude.{ℕ, zero, suc, min, take, ◌+◌, ◌-◌, Bool, true, false, not, ◌&&◌, ◌||◌, nat_eq, nat_lt, nat_le, if◌then◌else◌, List, [], ◌∷◌, ◌++◌, length, drop, Option, Some, None, is_some}
 use Rattle.section_parse.specs.Sections.{section_length}
 use Rattle.dmx_calls.specs.Response.{Response, Data, Again, Overflow, TimedOut}
+use Rattle.dmx_calls.specs.declared.node.State.{State}
+use Rattle.dmx_calls.specs.declared.node.State.TheVariants.{Set, Go, Done, TimedOut as Expired}
 use Rattle.dmx_calls.specs.Tenure.{Params, Section}
-use Rattle.dmx_calls.specs.Items.{timeout_of}
+use Rattle.dmx_calls.specs.Items.{is_oneshot as once_by, timeout_of}
 use Rattle.dmx_calls.specs.Ledger.{Misfit}
 use Rattle.dmx_calls.specs.Facts.{Ledger}
+use Rattle.node_buffer.specs.declared.filter.Terms.{Terms}
+
+-- ------ the filter
+
+-- it is one of sections
+abbrev pub is_section : Params → Bool
+is_section (Section p) = true
+is_section _ = false
+
+-- it is one of sections, with DMX_ONESHOT
+abbrev pub is_oneshot : Params → Bool
+is_oneshot (Section p) = once_by p
+is_oneshot _ = false
+
+-- what a capture keeps of it
+abbrev pub terms_of : Params → Terms
+terms_of set = record { by_section = is_section set; is_oneshot = is_oneshot set; timeout = timeout_of set }
+
+-- ------ the ledger
 
 -- one that begins at this moment
 abbrev pub begun : (now : ℕ) → Ledger
 begun now = record { started = now; is_stopped = false; expired = None; is_told = false; count = 0; total = 0; answered = 0; over = None; unread = []; rest = 0 }
-
--- the filter is one of sections
-abbrev pub is_section : Params → Bool
-is_section (Section p) = true
-is_section _ = false
 
 -- what is left of the section at the front, where this item arrives: on a section filter it is the front where nothing is unread
 abbrev pub rest_with : (by_section : Bool) → (rest : ℕ) → List ℕ → ℕ
@@ -54,6 +70,15 @@ is_due timeout now l = not (nat_eq timeout 0) && (nat_eq l.count 0 && nat_le (l.
 abbrev pub expiring : (timeout now : ℕ) → Ledger → Ledger
 expiring timeout now l = if l.is_stopped || (is_some l.expired || not (is_due timeout now l)) then l else record l { expired = Some now }
 
+-- the state of a node with a filter
+abbrev pub state_by : Terms → Option Ledger → State
+state_by terms None = Set
+state_by terms (Some l) =
+    if l.is_stopped then Set
+    else (if is_some l.expired then Expired
+    else (if terms.is_oneshot && nat_lt 0 l.count then Done
+    else Go))
+
 -- What a Read answers, once the entry may have expired the filter: no bytes without a capture; else the pending overflow; else the expiry, once; else no bytes for a count of 0; else Again where all is answered; else bytes.
 abbrev pub most_read : (by_section : Bool) → Ledger → (count : ℕ) → ℕ
 most_read by_section l count = if by_section then min (min count (l.total - l.answered)) l.rest else min count (l.total - l.answered)
@@ -63,17 +88,17 @@ bytes_read ended by_section l zero = Data []
 bytes_read ended by_section l (suc fewer) =
     if nat_eq l.answered l.total then Again ended else Data (take (most_read by_section l (suc fewer)) l.unread)
 
-abbrev pub timeout_read : (expired : Option ℕ) → (ended : Bool) → Params → Ledger → (count : ℕ) → Response
-timeout_read None ended set l count = bytes_read ended (is_section set) l count
-timeout_read (Some moment) ended set l count = if l.is_told then bytes_read ended (is_section set) l count else TimedOut l.started moment (timeout_of set)
+abbrev pub timeout_read : (expired : Option ℕ) → (ended : Bool) → Terms → Ledger → (count : ℕ) → Response
+timeout_read None ended terms l count = bytes_read ended terms.by_section l count
+timeout_read (Some moment) ended terms l count = if l.is_told then bytes_read ended terms.by_section l count else TimedOut l.started moment terms.timeout
 
-abbrev pub over_read : Option Misfit → (ended : Bool) → Params → Ledger → (count : ℕ) → Response
-over_read (Some x) ended set l count = Overflow l.answered l.total x.item x.need x.room
-over_read None ended set l count = timeout_read l.expired ended set l count
+abbrev pub over_read : Option Misfit → (ended : Bool) → Terms → Ledger → (count : ℕ) → Response
+over_read (Some x) ended terms l count = Overflow l.answered l.total x.item x.need x.room
+over_read None ended terms l count = timeout_read l.expired ended terms l count
 
-abbrev pub read_by : (ended : Bool) → Params → Option Ledger → (count : ℕ) → Response
-read_by ended set None count = Data []
-read_by ended set (Some l) count = over_read l.over ended set l count
+abbrev pub read_by : (ended : Bool) → Terms → Option Ledger → (count : ℕ) → Response
+read_by ended terms None count = Data []
+read_by ended terms (Some l) count = over_read l.over ended terms l count
 
 -- how long the section at the front of these bytes is, by its section_length; 0 where there are no bytes
 abbrev pub front_length : List ℕ → ℕ

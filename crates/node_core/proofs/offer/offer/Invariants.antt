@@ -12,8 +12,9 @@ invariant-items l = record {
   choice : l.selector.choice ≡ l.initial.selector.choice;
   pids : l.selector.pids ≡ l.initial.selector.pids;
   size : l.buffer.size ≡ l.initial.buffer.size;
-  ledger : option_map (λ x. with_items l.by_section (l.initial.buffer.size - 1) x l.selector.ready) l.buffer.ledger
-      ≡ option_map (λ x. with_items l.by_section (l.initial.buffer.size - 1) x l.initial.selector.ready) l.initial.buffer.ledger;
+  terms : l.buffer.terms ≡ l.initial.buffer.terms;
+  ledger : option_map (λ x. with_items l.initial.buffer.terms.by_section (l.initial.buffer.size - 1) x l.selector.ready) l.buffer.ledger
+      ≡ option_map (λ x. with_items l.initial.buffer.terms.by_section (l.initial.buffer.size - 1) x l.initial.selector.ready) l.initial.buffer.ledger;
   sound : CoherentIn l.buffer.ledger;
   bytes : total_of l.buffer.ledger + bytes_held l.selector ≤ total_of l.initial.buffer.ledger + bytes_held l.initial.selector;
 }

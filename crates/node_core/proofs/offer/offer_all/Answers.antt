@@ -31,7 +31,8 @@ loop-i-preserved g c =
             pids = o.pids ∙ i.pids;
             given = rw o.selector refl;
             size = rw o.buffer i.size;
-            ledger = rw (o.selector, o.buffer, i.size, items-next c.args.by_section (c.args.buffer.now.size - 1) c.loop-i.selector packets n p c.loop-i.buffer.ledger w.packet.ensures.at) i.ledger;
+            terms = rw o.buffer i.terms;
+            ledger = rw (o.selector, o.buffer, i.size, i.terms, items-next c.args.buffer.now.terms.by_section (c.args.buffer.now.size - 1) c.loop-i.selector packets n p c.loop-i.buffer.ledger w.packet.ensures.at) i.ledger;
             sound = o.sound;
             bytes = omega arith;
             pid = ap (λ x. x.kept.pid) o.selector ∙ a.0 ∙ i.pid ∙ ap section_pid (sym o.choice);
@@ -48,7 +49,8 @@ loop-i-preserved g c =
             pids = i.pids;
             given = i.given;
             size = i.size;
-            ledger = ap (λ r. option_map (λ x. with_items c.args.by_section (c.args.buffer.now.size - 1) x r) c.loop-i.buffer.ledger) (items-skip c.loop-i.selector packets n within i.given quiet) ∙ i.ledger;
+            terms = i.terms;
+            ledger = ap (λ r. option_map (λ x. with_items c.args.buffer.now.terms.by_section (c.args.buffer.now.size - 1) x r) c.loop-i.buffer.ledger) (items-skip c.loop-i.selector packets n within i.given quiet) ∙ i.ledger;
             sound = i.sound;
             bytes = omega (arith, i.bytes);
             pid = i.pid;
@@ -68,7 +70,7 @@ returns-clause-buffer g c =
     let end : drop c.loop-i.i c.args.batch.now.packets ≡ [] = drop_all c.loop-i.i c.args.batch.now.packets (omega arith) in
     let i = c.loop-i.invariant in
     let ledger = rw end at i.ledger in
-    rw (← (none-left c.args.by_section (c.args.buffer.now.size - 1) c.loop-i.selector c.loop-i.buffer.ledger ∙ ledger), ← i.size) refl
+    rw (← (none-left c.args.buffer.now.terms.by_section (c.args.buffer.now.size - 1) c.loop-i.selector c.loop-i.buffer.ledger ∙ ledger), ← i.size, ← i.terms) refl
 
 pub returns-clause-cost : goal.returns-clause-cost
 returns-clause-cost g c =
@@ -92,6 +94,6 @@ returns-then-is_empty-clause-buffer g c =
     let quiet : (i : ℕ) → i < length packets → after_offer s (get_or packets i []) ≡ s =
     λ i l. unnamed s c.requires.given c.requires.pid c.requires.sections (get_or packets i []) c.args.params.now c.requires.filter c.requires.names
     (sym (c.named_places-places.ensures i (get_or packets i []) (slice_get-get_or packets i [] l)) ∙ c.is_empty.ensures (search rules) i) in
-    ap (λ o. record { size = c.args.buffer.now.size; ledger = o })
-    (none-left c.args.by_section (c.args.buffer.now.size - 1) s c.args.buffer.now.ledger
-    ∙ ap (λ r. option_map (λ x. with_items c.args.by_section (c.args.buffer.now.size - 1) x r) c.args.buffer.now.ledger) (sym (none-found s c.requires.given packets quiet)))
+    ap (λ o. record { size = c.args.buffer.now.size; terms = c.args.buffer.now.terms; ledger = o })
+    (none-left c.args.buffer.now.terms.by_section (c.args.buffer.now.size - 1) s c.args.buffer.now.ledger
+    ∙ ap (λ r. option_map (λ x. with_items c.args.buffer.now.terms.by_section (c.args.buffer.now.size - 1) x r) c.args.buffer.now.ledger) (sym (none-found s c.requires.given packets quiet)))

@@ -15,8 +15,9 @@ invariant-loop-i g l = record {
   pids : l.selector.pids ≡ l.fn.selector.pids;
   given : l.selector.ready ≡ [];
   size : l.buffer.size ≡ l.fn.buffer.size;
-  ledger : option_map (λ x. with_items l.by_section (l.fn.buffer.size - 1) x (items_found l.selector (drop l.i l.batch.packets))) l.buffer.ledger
-      ≡ option_map (λ x. with_items l.by_section (l.fn.buffer.size - 1) x (items_found l.fn.selector l.batch.packets)) l.fn.buffer.ledger;
+  terms : l.buffer.terms ≡ l.fn.buffer.terms;
+  ledger : option_map (λ x. with_items l.fn.buffer.terms.by_section (l.fn.buffer.size - 1) x (items_found l.selector (drop l.i l.batch.packets))) l.buffer.ledger
+      ≡ option_map (λ x. with_items l.fn.buffer.terms.by_section (l.fn.buffer.size - 1) x (items_found l.fn.selector l.batch.packets)) l.fn.buffer.ledger;
   sound : CoherentIn l.buffer.ledger;
   bytes : total_of l.buffer.ledger + bytes_held l.selector ≤ total_of l.fn.buffer.ledger + bytes_held l.fn.selector + 188 * l.i;
   pid : l.selector.kept.pid ≡ section_pid l.selector.choice;

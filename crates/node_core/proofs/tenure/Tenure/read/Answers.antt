@@ -2,7 +2,7 @@ use Rattle.std.proofs.Common.{◌≡◌, ◌∙◌, ap, arith, inl, Some}
 use Rattle.std.specs.Prelude.{option_map}
 use Rattle.dmx_calls.specs.Calls.{params_of, response_of}
 use Rattle.dmx_calls.specs.Items.{timeout_of}
-use Rattle.node_buffer.specs.Inside.Capturing.{is_section, expiring}
+use Rattle.node_buffer.specs.Inside.Capturing.{is_section, terms_of, expiring, with_response, read_by}
 use Rattle.node_core.specs.Inside.Step.{Knows}
 use Rattle.node_core.specs.Inside.KeptView.{knows_in}
 use Rattle.node_buffer.proofs.Readings.{total-read}
@@ -15,13 +15,18 @@ returns-clause-does c =
     let k : Knows = knows_in c.args.ended (Some t) in
     let r = response_of c.read.result.0 in
     let left = c.read.new.self.ledger in
-    let mid : c.expire.new.self.ledger ≡ option_map (expiring (timeout_of (params_of t.params)) c.args.now) t.buffer.ledger = rw (← c.timeout_of.ensures) (ap (λ b. b.ledger) c.expire.ensures.after) in
-    let after = ap (λ b. b.ledger) c.read.ensures.after in
+    let terms : c.expire.new.self.terms ≡ terms_of (params_of t.params) = ap (λ b. b.terms) c.expire.ensures.after ∙ t.told in
+    let mid : c.expire.new.self.ledger ≡ option_map (expiring (timeout_of (params_of t.params)) c.args.now) t.buffer.ledger =
+    ap (λ b. b.ledger) c.expire.ensures.after ∙ ap (λ s. option_map (expiring s.timeout c.args.now) t.buffer.ledger) t.told in
+    let said : r ≡ read_by c.args.ended (terms_of (params_of t.params)) c.expire.new.self.ledger c.args.buf.count =
+    c.read.ensures.said ∙ ap (λ s. read_by c.args.ended s c.expire.new.self.ledger c.args.buf.count) terms in
+    let after : left ≡ option_map (with_response (is_section (params_of t.params)) r) c.expire.new.self.ledger =
+    ap (λ b. b.ledger) c.read.ensures.after ∙ ap (λ s. option_map (with_response s.by_section r) c.expire.new.self.ledger) terms in
     let size : c.read.new.self.size ≡ t.buffer.size = ap (λ b. b.size) c.read.ensures.after ∙ ap (λ b. b.size) c.expire.ensures.after in
     let same = total-read (is_section (params_of t.params)) r (timeout_of (params_of t.params)) c.args.now t.buffer.ledger c.expire.new.self.ledger left mid after in
     record {
-      said = inl (read-said k c.args.now c.args.buf.count c.expire.new.self.ledger r mid c.read.ensures.said);
-      after = rw size (read-after k c.args.now c.args.buf.count c.expire.new.self.ledger left r mid c.read.ensures.said after);
+      said = inl (read-said k c.args.now c.args.buf.count c.expire.new.self.ledger r mid said);
+      after = rw size (read-after k c.args.now c.args.buf.count c.expire.new.self.ledger left r mid said after);
       sound = record {
         facts = read-sound (params_of t.params) r c.args.now t.buffer.ledger c.expire.new.self.ledger left mid after c.requires.sound.facts c.read.ensures.holds;
         selecting = record {
