@@ -5,7 +5,7 @@ use Rattle.dmx_calls.specs.Invocation.{Read}
 use Rattle.dmx_calls.specs.Response.{Response, Passed, is_accepted}
 use Rattle.dmx_calls.specs.Facts.{Ledger}
 use Rattle.dmx_calls.specs.Answer.{read_response, expired_of}
-use Rattle.node_buffer.specs.Inside.Capturing.{read_by, with_response}
+use Rattle.node_buffer.specs.Inside.Capturing.{terms_of, read_by, with_response}
 use Rattle.node_buffer.proofs.Accepted.{read_accepted}
 use Rattle.node_buffer.proofs.Answering.{read_now}
 use Rattle.dvr_core.specs.Inside.Step.{Knows, next}
@@ -15,7 +15,7 @@ as_before : (o : Option Ledger) → option_map (with_response false Passed) o �
 as_before None = refl
 as_before (Some l) = refl
 
-module _ (k : Knows) (count : ℕ) (r : Response) (said : r ≡ read_by k.facts.has_ended k.facts.params k.facts.ledger count) where
+module _ (k : Knows) (count : ℕ) (r : Response) (said : r ≡ read_by k.facts.has_ended (terms_of k.facts.params) k.facts.ledger count) where
   by_facts : r ≡ read_response k.facts k.facts.ledger (expired_of k.facts.ledger) count
   by_facts = said ∙ read_now k.facts k.facts.ledger count
 

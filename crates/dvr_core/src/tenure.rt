@@ -8,18 +8,18 @@ ghost use Rattle.std.specs.Prelude.{◌≡◌, ℕ, Bool, true, false, List, Opt
 ghost use Rattle.dmx_calls.specs.declared.node.NodeKind.TheVariants.{Dvr};
 ghost use Rattle.dmx_calls.specs.declared.limits.TheConstants.{DVR_SIZE as size_of_open};
 ghost use Rattle.dmx_calls.specs.Invocation.{Close, SetSize, Read, Poll};
+ghost use Rattle.dmx_calls.specs.Tenure.{Empty};
 ghost use Rattle.dmx_calls.specs.Taps.{Tap as TapValue};
 ghost use Rattle.dmx_calls.specs.Answer.{is_for_anybody};
 ghost use Rattle.dmx_calls.specs.Calls.{invocation_of, response_of};
 ghost use Rattle.dmx_calls.specs.Back.{BackOfRead, GivesBack};
-ghost use Rattle.node_buffer.specs.Inside.Capturing.{begun};
+ghost use Rattle.node_buffer.specs.Inside.Capturing.{terms_of as terms_by, begun};
 ghost use Rattle.node_buffer.specs.Inside.Coherent.{CoherentIn};
 ghost use Rattle.node_buffer.specs.Inside.Gives.{owner_refusal};
-ghost use Rattle.dvr_core.specs.Inside.KeptView.{is_close, facts_in, knows_in, IsGranted, reply_to, Does};
 
 use dmx_calls::limits::DVR_SIZE;
 use dmx_calls::{Answer, ByteBuf, Call, Errno, NodeKind, Params, Reply, Span, State, Tap, refusal};
-use node_buffer::{Buffer, plain};
+use node_buffer::{Buffer, plain, terms_of};
 use std::alloc::{AllocError as NoMemory, Global};
 
 /// What the node keeps for its owner.
@@ -29,6 +29,8 @@ pub struct Tenure {
     pub owner: u32,
     /// The bytes and the ledger of its capture.
     pub buffer: Buffer,
+    // The buffer has the terms of no filter.
+    ghost told: { buffer.terms ≡ terms_by Empty },
 }
 
 /// Of a call that drops nothing.
@@ -45,12 +47,16 @@ pub fn done(dropped: Span) -> Reply
 }
 
 impl Tenure {
+    ghost use Rattle.dvr_core.specs.Inside.KeptView.{is_close, facts_in, knows_in, IsGranted, reply_to, Does};
+
     /// A node that was just opened: it has the default size, and its capture begins.
     pub fn new(alloc: Global, owner: u32) -> Result<Tenure, NoMemory>
-        ensures { IfOk result (λ t. t ≡ record { owner = owner; buffer = record { size = size_of_open; ledger = Some (begun 0) } }) }
+        ensures owner { IfOk result (λ t. t.owner ≡ owner) }
+        ensures size { IfOk result (λ t. t.buffer.size ≡ size_of_open) }
+        ensures ledger { IfOk result (λ t. t.buffer.ledger ≡ Some (begun 0)) }
     {
         let mut buffer = Buffer::new(alloc, DVR_SIZE)?;
-        buffer.begin(0);
+        buffer.begin(terms_of(&Params::Empty), 0);
         Ok(Tenure { owner, buffer })
     }
 
@@ -120,7 +126,7 @@ impl Tenure {
         let dropped = self.buffer.unread();
         match self.buffer.resize(alloc, size) {
             Ok(()) => {
-                self.buffer.begin(0);
+                self.buffer.begin(terms_of(&Params::Empty), 0);
                 done(dropped)
             }
             Err(_) => Reply::NoMemory,
@@ -133,7 +139,7 @@ impl Tenure {
         ensures does { (now : ℕ) (taps : List (Option TapValue)) → Does (knows_in ended taps (Some self.old)) (Read now buf.count) (response_of result.0) (knows_in ended taps (Some self.new)) }
         ensures back { BackOfRead buf result.0 result.1 }
     {
-        self.buffer.read(&Params::Empty, ended, buf)
+        self.buffer.read(ended, buf)
     }
 
     // poll(): the reply. It changes nothing.
@@ -141,6 +147,6 @@ impl Tenure {
         requires { CoherentIn self.now.buffer.ledger }
         ensures { (now : ℕ) (taps : List (Option TapValue)) → Does (knows_in ended taps (Some self.now)) (Poll now) (response_of result) (knows_in ended taps (Some self.now)) }
     {
-        self.buffer.poll(&Params::Empty, ended)
+        self.buffer.poll(ended)
     }
 }

@@ -24,7 +24,8 @@ loop-i-preserved g c =
           let yes : test (get_or packets n p) ≡ true = ap test (get_or_from_slice_get packets n p p w.packet.ensures.at) ∙ named in
           rw (w.buffer-is, w.steps-is) (record {
             size = rw w.put.ensures.after i.size;
-            ledger = rw (w.put.ensures.after, w.bytes.ensures.bytes, i.size) (recorded-next test (c.args.buffer.now.size - 1) packets n p c.loop-i.buffer.ledger w.packet.ensures.at named ∙ i.ledger);
+            terms = rw w.put.ensures.after i.terms;
+            ledger = rw (w.put.ensures.after, w.bytes.ensures.bytes, i.size, i.terms, c.requires.whole) (recorded-next test (c.args.buffer.now.size - 1) packets n p c.loop-i.buffer.ledger w.packet.ensures.at named ∙ i.ledger);
             sound = w.put.ensures.holds;
             bytes = omega arith;
             cost = omega (arith, count_by_more_yes test packets n p within yes, w.packet.ensures.cost, i.cost);
@@ -34,6 +35,7 @@ loop-i-preserved g c =
           let no : test p ≡ false = sym (c.places-places.ensures n p (slice_get-get_or packets n [] within)) ∙ sym w.if-has.ensures in
           rw (w.buffer-is, w.steps-is) (record {
             size = i.size;
+            terms = i.terms;
             ledger = ap (λ r. option_map (λ x. with_items false (c.args.buffer.now.size - 1) x r) c.loop-i.buffer.ledger) (named-skip test packets n within no) ∙ i.ledger;
             sound = i.sound;
             bytes = omega (arith, i.bytes);
@@ -46,7 +48,7 @@ returns-clause-after g c =
     let end : drop c.loop-i.i c.args.batch.now.packets ≡ [] = drop_all c.loop-i.i c.args.batch.now.packets (omega arith) in
     let i = c.loop-i.invariant in
     let ledger = rw end at i.ledger in
-    rw (← (none-left c.loop-i.buffer.ledger ∙ ledger), ← i.size) refl
+    rw (← (none-left c.loop-i.buffer.ledger ∙ ledger), ← i.size, ← i.terms) refl
 
 pub returns-clause-cost : goal.returns-clause-cost
 returns-clause-cost g c =
@@ -59,6 +61,6 @@ returns-then-is_empty-clause-after g c =
     let test = some_names c.args.taps.now in
     let none : filter test packets ≡ [] = none-named test packets (λ i l.
     sym (c.places-places.ensures i (get_or packets i []) (slice_get-get_or packets i [] l)) ∙ c.is_empty.ensures (search rules) i) in
-    ap (λ o. record { size = c.args.buffer.now.size; ledger = o })
+    ap (λ o. record { size = c.args.buffer.now.size; terms = c.args.buffer.now.terms; ledger = o })
     (none-left c.args.buffer.now.ledger
     ∙ ap (λ r. option_map (λ x. with_items false (c.args.buffer.now.size - 1) x r) c.args.buffer.now.ledger) (sym none))

@@ -9,6 +9,7 @@ use Rattle.dvr_core.proofs.record.record_all.Given as goal
 abbrev pub invariant-loop-i : goal.invariant-loop-i
 invariant-loop-i g l = record {
   size : l.buffer.size ≡ l.fn.buffer.size;
+  terms : l.buffer.terms ≡ l.fn.buffer.terms;
   ledger : option_map (λ x. with_items false (l.fn.buffer.size - 1) x (filter (some_names l.taps) (drop l.i l.batch.packets))) l.buffer.ledger
       ≡ option_map (λ x. with_items false (l.fn.buffer.size - 1) x (filter (some_names l.taps) l.batch.packets)) l.fn.buffer.ledger;
   sound : CoherentIn l.buffer.ledger;

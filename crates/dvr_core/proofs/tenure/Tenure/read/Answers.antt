@@ -1,5 +1,8 @@
-use Rattle.std.proofs.Common.{rules, ◌≡◌, ap, inl, Some}
+use Rattle.std.proofs.Common.{rules, ◌≡◌, ◌∙◌, ap, inl, false, Some}
+use Rattle.std.specs.Prelude.{option_map}
 use Rattle.dmx_calls.specs.Calls.{response_of}
+use Rattle.dmx_calls.specs.Tenure.{Empty}
+use Rattle.node_buffer.specs.Inside.Capturing.{terms_of, read_by, with_response}
 use Rattle.dvr_core.specs.Inside.Step.{Knows}
 use Rattle.dvr_core.specs.Inside.KeptView.{knows_in}
 use Rattle.dvr_core.proofs.ByValues.{read-said, read-after}
@@ -9,11 +12,15 @@ pub returns-clause-does : goal.returns-clause-does
 returns-clause-does c = λ now taps.
     let k : Knows = knows_in c.args.ended taps (Some c.args.self.now) in
     let r = response_of c.read.result.0 in
-    let said = c.read.ensures.said in
+    let t = c.args.self.now in
+    let said : r ≡ read_by c.args.ended (terms_of Empty) t.buffer.ledger c.args.buf.count =
+    c.read.ensures.said ∙ ap (λ s. read_by c.args.ended s t.buffer.ledger c.args.buf.count) t.told in
+    let after : c.read.new.self.ledger ≡ option_map (with_response false r) t.buffer.ledger =
+    ap (λ b. b.ledger) c.read.ensures.after ∙ ap (λ s. option_map (with_response s.by_section r) t.buffer.ledger) t.told in
     let size : c.read.new.self.size ≡ c.args.self.now.buffer.size = ap (λ b. b.size) c.read.ensures.after in
     record {
       said = inl (read-said k c.args.buf.count r said);
-      after = rw size (read-after k c.args.buf.count r said c.read.new.self.ledger (ap (λ b. b.ledger) c.read.ensures.after));
+      after = rw size (read-after k c.args.buf.count r said c.read.new.self.ledger after);
       sound = c.read.ensures.holds;
       bytes = search rules;
     }
