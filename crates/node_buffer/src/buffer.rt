@@ -171,7 +171,8 @@ impl Buffer {
         }
     }
 
-    /// Notes the moment of a call, in milliseconds: a capture that goes on expires where its time is over and no item came.
+    /// Notes the moment of a call, in milliseconds: a capture that goes on expires where its time is over and no item
+    /// came.
     pub fn expire(&mut self, now: u64)
         ensures after { self.new ≡ record { size = self.old.size; terms = self.old.terms; ledger = option_map (expiring self.old.terms.timeout now) self.old.ledger } }
         ensures holds { CoherentIn self.new.ledger }
@@ -196,8 +197,8 @@ impl Buffer {
         Ok(())
     }
 
-    /// An item of at least one byte arrives. It is lost where one before it is; where it is longer than the room, the overflow
-    /// is pending and nothing that is unread will be given.
+    /// An item of at least one byte arrives. It is lost where one before it is; where it is longer than the room, the
+    /// overflow is pending and nothing that is unread will be given.
     pub fn put(&mut self, item: &[u8])
         requires some { 0 < length item.now }
         requires total { total_of self.old.ledger + length item.now < 2 ^ 64 }

@@ -1,15 +1,15 @@
 -- What the owner is answered to a call that isn't refused is what the node gives to it.
 use Rattle.std.proofs.Common.{ℕ, ◌≡◌, refl, sym, ◌∙◌, ap, Bool, true, false, Option, Some, None, inl, inr, arith}
-use Rattle.std.specs.Prelude.{◌⊎◌, nat_eq, not, if◌then◌else◌}
+use Rattle.std.specs.Prelude.{nat_eq, not, if◌then◌else◌}
 use Rattle.std.proofs.lemmas.Bool.Decides.{nat_tests}
 use Rattle.dmx_calls.specs.declared.node.NodeKind.TheVariants.{Demux}
 use Rattle.dmx_calls.specs.declared.reply.Errno.{Errno}
 use Rattle.dmx_calls.specs.declared.reply.Errno.TheVariants.{Ebadf}
 use Rattle.dmx_calls.specs.Invocation.{Invocation, Open, Close, SetFilter, SetPes, AddPid, RemovePid, Start, Stop, SetSize, Read, Poll, Pass, End, Attach, Detach}
-use Rattle.dmx_calls.specs.Response.{TapChange, Response, NoMemory, Passed, is_accepted}
+use Rattle.dmx_calls.specs.Response.{TapChange, Response, Passed, is_accepted}
 use Rattle.dmx_calls.specs.Facts.{Ledger}
-use Rattle.dmx_calls.specs.Answer.{is_for_anybody, is_owned_by, refusal_to, response_to, response_unless, answer_by, done_dropping}
-use Rattle.dmx_calls.specs.Legal.{is_done, takes_memory}
+use Rattle.dmx_calls.specs.Answer.{is_for_anybody, is_owned_by, refusal_to, response_to, response_unless, done_dropping}
+use Rattle.dmx_calls.specs.Legal.{is_done}
 use Rattle.node_buffer.specs.Inside.Gives.{owner_refusal}
 use Rattle.node_core.specs.declared.tenure.Tenure.{Tenure}
 use Rattle.node_core.specs.Inside.Step.{Knows, moved, next}

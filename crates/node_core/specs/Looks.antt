@@ -1,5 +1,5 @@
 -- Which packets of a call a node looks at.
-use Rattle.std.specs.Prelude.{ℕ, List, count_by}
+use Rattle.std.specs.Prelude.{ℕ, count_by}
 use Rattle.dmx_calls.specs.Invocation.{Invocation, Pass}
 use Rattle.dmx_calls.specs.Items.{is_named}
 use Rattle.dmx_calls.specs.Facts.{Facts}
