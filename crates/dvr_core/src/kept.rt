@@ -1,8 +1,8 @@
 // What the dvr node keeps from call to call, and what each call does to it.
 //
-// The clauses name what the node knows before and after: `said` is the reply that it gives, `after` how it goes on, `sound`
-// what holds of its capture, and `bytes` bounds the bytes of that. Pass and End don't look at their caller, and no call looks
-// at its moment: 0 stands for those that play no part.
+// The clauses name what the node knows before and after: `said` is the reply that it gives, `after` how it goes on,
+// `sound` what holds of its capture, and `bytes` bounds the bytes of that. Pass and End don't look at their caller, and no
+// call looks at its moment: 0 stands for those that play no part.
 
 ghost use Rattle.std.specs.Prelude.{◌≡◌, ◌≤◌, ◌<◌, ◌+◌, ◌^◌, false, count_by, None};
 ghost use Rattle.dmx_calls.specs.declared.node.NodeKind.TheVariants.{Dvr};
@@ -62,8 +62,8 @@ impl Kept {
         }
     }
 
-    /// A call that only the owner may make: the refusal comes first, EBADF to a caller that isn't the owner. A refused call
-    /// changes nothing. With a Close the node becomes free; its taps stay.
+    /// A call that only the owner may make: the refusal comes first, EBADF to a caller that isn't the owner. A refused
+    /// call changes nothing. With a Close the node becomes free; its taps stay.
     pub fn act_for_owner(&mut self, alloc: Global, who: u32, call: Call) -> Answer
         requires sound { CoherentIn (knows_of self.old).facts.ledger }
         requires own { is_for_anybody Dvr (invocation_of call) ≡ false }
@@ -90,7 +90,8 @@ impl Kept {
         tenure.act(alloc, self.has_ended, call)
     }
 
-    /// A batch passes. Where the node is open and the packets come from the frontend, those that a tap names are recorded.
+    /// A batch passes. Where the node is open and the packets come from the frontend, those that a tap names are
+    /// recorded.
     pub fn pass<L: Ledger>(&mut self, input: Input, batch: &Batch, steps: &mut Steps<L>)
         requires sound { CoherentIn (knows_of self.old).facts.ledger }
         requires bytes { bytes_in (knows_of self.old) + 12032 < 2 ^ 64 }

@@ -1,8 +1,8 @@
 // What the dvr node keeps for its owner, and what each call of the owner does to it.
 //
-// A call comes here only where it isn't refused. `Does` says what the owner is answered, how the node goes on, and what then
-// holds. No call of the owner looks at the taps, and none at its moment, since nothing expires here: it does so whichever
-// they are.
+// A call comes here only where it isn't refused. `Does` says what the owner is answered, how the node goes on, and what
+// then holds. No call of the owner looks at the taps, and none at its moment, since nothing expires here: it does so
+// whichever they are.
 
 ghost use Rattle.std.specs.Prelude.{◌≡◌, ℕ, Bool, true, false, List, Option, IfOk, Some};
 ghost use Rattle.dmx_calls.specs.declared.node.NodeKind.TheVariants.{Dvr};
@@ -60,8 +60,8 @@ impl Tenure {
         Ok(Tenure { owner, buffer })
     }
 
-    /// Why a call of the owner is refused, if it is: by the table of calls. A SetSize to the size that the node has is never
-    /// refused.
+    /// Why a call of the owner is refused, if it is: by the table of calls. A SetSize to the size that the node has is
+    /// never refused.
     pub fn refusal(&self, call: &Call) -> Option<Errno>
         ensures { result ≡ owner_refusal Dvr (facts_in true (Some self.now)) (invocation_of call.now) }
     {
@@ -113,8 +113,8 @@ impl Tenure {
         done(self.buffer.unread())
     }
 
-    // DMX_SET_BUFFER_SIZE: another size, in bytes, ends the capture, and another begins. The size that the node has changes
-    // nothing.
+    // DMX_SET_BUFFER_SIZE: another size, in bytes, ends the capture, and another begins. The size that the node has
+    // changes nothing.
     fn set_size(&mut self, alloc: Global, size: u32) -> Reply
         requires sound { CoherentIn self.old.buffer.ledger }
         requires granted { IsGranted self.old (SetSize size) }

@@ -9,10 +9,10 @@
 //!
 //! What is proved: `Batch::of` and `Batch::of_slice` give the batch of these packets, or answer want of memory. `first`
 //! and `count` are the first packet's number and the number of packets. `packet` gives the packet in a place and raises
-//! the counter of steps by one. `places` gives the places of the packets that a PID names, ascending: those that have it,
-//! and all for PID 0x2000. It takes no memory and no step, and neither do the calls of `PlaceSet`, which collects places:
-//! `add` adds those of the packets that a PID names, and `add_all` those of the packets that some PID of a set names.
-//! Every batch has 1 to 64 packets, each of 188 bytes with the sync byte in front.
+//! the counter of steps by one. `places` gives the places of the packets that a PID names, ascending: those that have
+//! it, and all for PID 0x2000. It takes no memory and no step, and neither do the calls of `PlaceSet`, which collects
+//! places: `add` adds those of the packets that a PID names, and `add_all` those of the packets that some PID of a set
+//! names. Every batch has 1 to 64 packets, each of 188 bytes with the sync byte in front.
 //!
 //! There is no other way to the bytes of a packet than `packet`, so the counter of steps bounds how many were looked at.
 //!

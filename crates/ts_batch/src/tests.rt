@@ -80,7 +80,8 @@ fn has_just(set: &PlaceSet, places: &[u32]) -> bool {
     true
 }
 
-// Of six packets, those in the places 1 and 5 have PID 17, those in 0 and 2 PID 256, that in 3 PID 300 and that in 4 PID 0.
+// Of six packets, those in the places 1 and 5 have PID 17, those in 0 and 2 PID 256, that in 3 PID 300 and that in 4
+// PID 0.
 #[test]
 fn a_set_has_the_places_of_several_pids(rt: HostRuntime) -> Result<(), Fail> {
     let mut packets = PacketBuf::new();
