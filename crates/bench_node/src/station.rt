@@ -76,11 +76,7 @@ pub struct Station<L: Ledger> {
 
 // Sets a section filter that asks for this table_id, and starts it.
 fn sections_of(pid: u16, table_id: u8) -> Call {
-    let mut filter = SectionFilter {
-        filter: [0; 16],
-        mask: [0; 16],
-        mode: [0; 16],
-    };
+    let mut filter = SectionFilter::empty();
     filter.filter[0] = table_id;
     filter.mask[0] = 0xff;
     Call::SetFilter {

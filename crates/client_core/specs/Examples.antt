@@ -6,7 +6,8 @@ use Rattle.dmx_calls.specs.declared.params.Input.TheVariants.{Frontend}
 use Rattle.dmx_calls.specs.declared.params.Output.TheVariants.{TsTap, TsdemuxTap}
 use Rattle.dmx_calls.specs.declared.reply.Errno.TheVariants.{Ebadf}
 use Rattle.dmx_calls.specs.declared.reply.PollError.TheVariants.{Quiet}
-use Rattle.dmx_calls.specs.Response.{Response, Done, Busy, Refused, Data, Again, Overflow, TimedOut, Ready, KeepTap, AttachTap, DetachTap}
+use Rattle.dmx_calls.specs.declared.reply.Tap.TheVariants.{Keep as KeepTap, Attach as AttachTap, Detach as DetachTap}
+use Rattle.dmx_calls.specs.Response.{Response, Done, Busy, Refused, Data, Again, Overflow, TimedOut, Ready}
 use Rattle.client_script.specs.declared.line.Line.{Line}
 use Rattle.client_script.specs.declared.line.Line.TheVariants.{Feed, Command}
 use Rattle.client_script.specs.declared.line.Target.TheVariants.{Node, Slot, Dvr}

@@ -2,7 +2,9 @@
 use Rattle.std.specs.Prelude.{◌≡◌, ◌<◌, ℕ, Bool, IsTrue, List, [], ◌∷◌, length, slice_get, Some}
 use Rattle.dmx_calls.specs.declared.outcome.Outcome.{Outcome}
 use Rattle.dmx_calls.specs.Accounted.{IsAccounted}
-use Rattle.dmx_calls.specs.Log.{Act, SetFilterAct, SetPesAct, StartAct, ReadAct, PollAct, PassAct, LogEntry, filled}
+use Rattle.dmx_calls.specs.declared.log.Act.{Act}
+use Rattle.dmx_calls.specs.declared.log.Act.TheVariants.{SetFilter as SetFilterAct, SetPes as SetPesAct, Start as StartAct, Read as ReadAct, Poll as PollAct, Pass as PassAct}
+use Rattle.dmx_calls.specs.Log.{LogEntry, filled}
 use Rattle.dmx_calls.specs.Rules.{rules_at}
 use Rattle.client_script.specs.declared.line.Line.{Line}
 use Rattle.client_script.specs.Script.{clients_in}

@@ -18,11 +18,7 @@ pub fn read_filter(words: &mut Words<'_>) -> Result<SectionFilter, FaultKind>
     ensures value { Reads result words.new (filter_in words.old) }
     ensures range { IfOk result IsFilter }
 {
-    let mut filter = SectionFilter {
-        filter: [0; 16],
-        mask: [0; 16],
-        mode: [0; 16],
-    };
+    let mut filter = SectionFilter::empty();
     let mut least = 0;
     'places: for _place in 0..PLACES {
         let Some(word) = words.next() else {

@@ -6,7 +6,8 @@ use Rattle.std.proofs.Math.Seq.{drop-nil}
 use native.Mathlib.Decide.{dec_le}
 use Rattle.dmx_calls.specs.declared.reply.Errno.{Errno}
 use Rattle.dmx_calls.specs.Invocation.{Invocation, Open, Close, SetFilter, SetPes, AddPid, RemovePid, Start, Stop, SetSize, Read, Poll, Pass, End, Attach, Detach}
-use Rattle.dmx_calls.specs.Response.{TapChange, Response, Done, Busy, Refused, NoMemory, Data, Again, Overflow, TimedOut, Ready, Passed, is_accepted}
+use Rattle.dmx_calls.specs.declared.reply.Tap.{Tap as TapChange}
+use Rattle.dmx_calls.specs.Response.{Response, Done, Busy, Refused, NoMemory, Data, Again, Overflow, TimedOut, Ready, Passed, is_accepted}
 use Rattle.dmx_calls.specs.History.{Entry, Event, History, event, Since, after_of}
 use Rattle.dmx_calls.specs.Rules.{Rules}
 use Rattle.dmx_calls.specs.Ledger.{Misfit, joined, total, answered, over}

@@ -5,7 +5,9 @@ use Rattle.std.specs.Option.{option_or}
 use Rattle.std.proofs.lemmas.List.{append-nil, reverse-append}
 use Rattle.std.proofs.lemmas.Bool.Decides.{nat_tests}
 use Rattle.dmx_calls.specs.Invocation.{Invocation, Open, Close, SetFilter, SetPes, AddPid, RemovePid, Start, Stop, SetSize, Read, Poll, Pass, End, Attach, Detach}
-use Rattle.dmx_calls.specs.Response.{TapChange, KeepTap, Response, Done, Busy, is_accepted}
+use Rattle.dmx_calls.specs.declared.reply.Tap.{Tap as TapChange}
+use Rattle.dmx_calls.specs.declared.reply.Tap.TheVariants.{Keep as KeepTap}
+use Rattle.dmx_calls.specs.Response.{Response, Done, Busy, is_accepted}
 use Rattle.dmx_calls.specs.History.{Entry, Event, History, entry_of, event, Since, after_of}
 use Rattle.dmx_calls.specs.Tenure.{tenure, owner}
 use Rattle.dmx_calls.specs.Capture.{capture, dvr_capture}

@@ -5,7 +5,8 @@ use Rattle.std.specs.Option.{option_or, MatchOption}
 use Rattle.std.specs.List.{concat}
 use Rattle.std.proofs.lemmas.Bool.Decides.{nat_tests}
 use Rattle.dmx_calls.specs.Invocation.{Invocation, Open, Close, SetFilter, SetPes, AddPid, RemovePid, Start, Stop, SetSize, Read, Poll, Pass, End, Attach, Detach}
-use Rattle.dmx_calls.specs.Response.{TapChange, Response, Done, Busy, Refused, NoMemory, Data, Again, Overflow, TimedOut, Ready, Passed, is_accepted}
+use Rattle.dmx_calls.specs.declared.reply.Tap.{Tap as TapChange}
+use Rattle.dmx_calls.specs.Response.{Response, Done, Busy, Refused, NoMemory, Data, Again, Overflow, TimedOut, Ready, Passed, is_accepted}
 use Rattle.dmx_calls.specs.History.{Entry, History, event, Since, after_of, entry_of}
 use Rattle.dmx_calls.specs.Rules.{Rules}
 use Rattle.dmx_calls.specs.Ledger.{Misfit, misfit, joined, total, answered, answered_in, is_overflow, over}

@@ -1,6 +1,7 @@
 -- Accounted histories: each byte of a capture is given, named as lost, or named as dropped, in its place.
 use Rattle.std.specs.Prelude.{ℕ, ◌≡◌, true, List, [], ◌∷◌, length, take, drop, is_some}
-use Rattle.dmx_calls.specs.Response.{TapChange, Response, Done, Data, Overflow, is_accepted}
+use Rattle.dmx_calls.specs.declared.reply.Tap.{Tap as TapChange}
+use Rattle.dmx_calls.specs.Response.{Response, Done, Data, Overflow, is_accepted}
 use Rattle.dmx_calls.specs.History.{Entry, Event, History, event, after_of}
 use Rattle.dmx_calls.specs.Rules.{Rules}
 use Rattle.dmx_calls.specs.Ledger.{joined, total, answered}

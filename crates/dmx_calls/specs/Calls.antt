@@ -2,19 +2,15 @@
 use Rattle.std.specs.Prelude.{ℕ, List, [], ◌∷◌}
 use Rattle.dmx_calls.specs.declared.call.Call.{Call}
 use Rattle.dmx_calls.specs.declared.call.Call.TheVariants.{Open as OpenCall, Close as CloseCall, SetFilter as SetFilterCall, SetPes as SetPesCall, AddPid as AddPidCall, RemovePid as RemovePidCall, Start as StartCall, Stop as StopCall, SetSize as SetSizeCall, Read as ReadCall, Poll as PollCall, Pass as PassCall, End as EndCall, Attach as AttachCall, Detach as DetachCall}
-use Rattle.dmx_calls.specs.declared.log.Act.{Act as ToldAct}
-use Rattle.dmx_calls.specs.declared.log.Act.TheVariants.{Open as OpenTold, Close as CloseTold, SetFilter as SetFilterTold, SetPes as SetPesTold, AddPid as AddPidTold, RemovePid as RemovePidTold, Start as StartTold, Stop as StopTold, SetSize as SetSizeTold, Read as ReadTold, Poll as PollTold, Pass as PassTold, End as EndTold, Attach as AttachTold, Detach as DetachTold}
 use Rattle.dmx_calls.specs.declared.log.Entry.{Entry as ToldEntry}
 use Rattle.dmx_calls.specs.declared.params.Params.{Params as SetParams}
 use Rattle.dmx_calls.specs.declared.params.Params.TheVariants.{Empty as EmptySet, Section as SectionSet, Pes as PesSet}
-use Rattle.dmx_calls.specs.declared.reply.Tap.{Tap}
-use Rattle.dmx_calls.specs.declared.reply.Tap.TheVariants.{Keep, Attach as AttachSaid, Detach as DetachSaid}
 use Rattle.dmx_calls.specs.declared.reply.Reply.{Reply}
 use Rattle.dmx_calls.specs.declared.reply.Reply.TheVariants.{Done as DoneReply, Busy as BusyReply, Refused as RefusedReply, NoMemory as NoMemoryReply, Data as DataReply, Again as AgainReply, Overflow as OverflowReply, TimedOut as TimedOutReply, Ready as ReadyReply, Passed as PassedReply}
 use Rattle.dmx_calls.specs.Invocation.{Invocation, Open, Close, SetFilter, SetPes, AddPid, RemovePid, Start, Stop, SetSize, Read, Poll, Pass, End, Attach, Detach}
 use Rattle.dmx_calls.specs.Tenure.{Params, Empty, Section, Pes}
-use Rattle.dmx_calls.specs.Log.{Act, OpenAct, CloseAct, SetFilterAct, SetPesAct, AddPidAct, RemovePidAct, StartAct, StopAct, SetSizeAct, ReadAct, PollAct, PassAct, EndAct, AttachAct, DetachAct, LogEntry}
-use Rattle.dmx_calls.specs.Response.{TapChange, KeepTap, AttachTap, DetachTap, Response, Done, Busy, Refused, NoMemory, Data, Again, Overflow, TimedOut, Ready, Passed}
+use Rattle.dmx_calls.specs.Log.{LogEntry}
+use Rattle.dmx_calls.specs.Response.{Response, Done, Busy, Refused, NoMemory, Data, Again, Overflow, TimedOut, Ready, Passed}
 
 abbrev pub invocation_of : Call → Invocation
 invocation_of OpenCall = Open
@@ -45,14 +41,9 @@ pids_of EmptySet = []
 pids_of (SectionSet params) = params.pid ∷ []
 pids_of (PesSet params pids) = pids
 
-abbrev pub tap_change_of : Tap → TapChange
-tap_change_of Keep = KeepTap
-tap_change_of (AttachSaid pids) = AttachTap pids
-tap_change_of DetachSaid = DetachTap
-
 -- a Data reply is seen by its bytes alone
 abbrev pub response_of : Reply → Response
-response_of (DoneReply dropped tap) = Done dropped.from dropped.to (tap_change_of tap)
+response_of (DoneReply dropped tap) = Done dropped.from dropped.to tap
 response_of (BusyReply owner) = Busy owner
 response_of (RefusedReply errno) = Refused errno
 response_of NoMemoryReply = NoMemory
@@ -63,23 +54,6 @@ response_of (TimedOutReply started now timeout) = TimedOut started now timeout
 response_of (ReadyReply readable error at ended) = Ready readable error at ended
 response_of PassedReply = Passed
 
--- the code's acts and entries, as those of a log
-abbrev pub told_act : ToldAct → Act
-told_act OpenTold = OpenAct
-told_act CloseTold = CloseAct
-told_act (SetFilterTold params now) = SetFilterAct params now
-told_act (SetPesTold params now) = SetPesAct params now
-told_act (AddPidTold pid) = AddPidAct pid
-told_act (RemovePidTold pid) = RemovePidAct pid
-told_act (StartTold now) = StartAct now
-told_act StopTold = StopAct
-told_act (SetSizeTold size) = SetSizeAct size
-told_act (ReadTold now count) = ReadAct now count
-told_act (PollTold now) = PollAct now
-told_act (PassTold input first count now) = PassAct input first count now
-told_act EndTold = EndAct
-told_act (AttachTold node pids) = AttachAct node pids
-told_act (DetachTold node) = DetachAct node
-
+-- an entry of the code, as one of a log
 abbrev pub told_entry : ToldEntry → LogEntry
-told_entry e = record { node = e.node; place = e.place; step = e.step; who = e.who; act = told_act e.act; response = response_of e.reply }
+told_entry e = record { node = e.node; place = e.place; step = e.step; who = e.who; act = e.act; response = response_of e.reply }

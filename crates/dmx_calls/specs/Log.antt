@@ -1,29 +1,10 @@
 -- The entries of a report, and the history that they tell.
 use Rattle.std.specs.Prelude.{ℕ, ◌≡◌, List, length, map, reverse, take, drop}
-use Rattle.dmx_calls.specs.declared.params.Input.{Input}
-use Rattle.dmx_calls.specs.declared.params.SectionParams.{SectionParams}
-use Rattle.dmx_calls.specs.declared.params.PesParams.{PesParams}
+use Rattle.dmx_calls.specs.declared.log.Act.{Act}
+use Rattle.dmx_calls.specs.declared.log.Act.TheVariants.{Open as OpenAct, Close as CloseAct, SetFilter as SetFilterAct, SetPes as SetPesAct, AddPid as AddPidAct, RemovePid as RemovePidAct, Start as StartAct, Stop as StopAct, SetSize as SetSizeAct, Read as ReadAct, Poll as PollAct, Pass as PassAct, End as EndAct, Attach as AttachAct, Detach as DetachAct}
 use Rattle.dmx_calls.specs.Invocation.{Invocation, Open, Close, SetFilter, SetPes, AddPid, RemovePid, Start, Stop, SetSize, Read, Poll, Pass, End, Attach, Detach}
 use Rattle.dmx_calls.specs.Response.{Response}
 use Rattle.dmx_calls.specs.History.{Entry, History}
-
--- a call as a report tells it: a Pass by the number of its first packet and how many there are, every other call whole
-pub data Act : Type 0 where
-  OpenAct : Act
-  CloseAct : Act
-  SetFilterAct : SectionParams → (now : ℕ) → Act
-  SetPesAct : PesParams → (now : ℕ) → Act
-  AddPidAct : (pid : ℕ) → Act
-  RemovePidAct : (pid : ℕ) → Act
-  StartAct : (now : ℕ) → Act
-  StopAct : Act
-  SetSizeAct : (size : ℕ) → Act
-  ReadAct : (now count : ℕ) → Act
-  PollAct : (now : ℕ) → Act
-  PassAct : Input → (first count now : ℕ) → Act
-  EndAct : Act
-  AttachAct : (node : ℕ) → (pids : List ℕ) → Act
-  DetachAct : (node : ℕ) → Act
 
 -- the node, the place in its history, the caller's step, the caller, the call, the response
 pub record LogEntry : Type 0 where

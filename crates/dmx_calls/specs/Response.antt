@@ -2,12 +2,7 @@
 use Rattle.std.specs.Prelude.{ℕ, Bool, true, false, List}
 use Rattle.dmx_calls.specs.declared.reply.Errno.{Errno}
 use Rattle.dmx_calls.specs.declared.reply.PollError.{PollError}
-
--- what the dvr node is to be told of a demux node's tap
-pub data TapChange : Type 0 where
-  KeepTap : TapChange
-  AttachTap : (pids : List ℕ) → TapChange
-  DetachTap : TapChange
+use Rattle.dmx_calls.specs.declared.reply.Tap.{Tap as TapChange}
 
 -- Places count the bytes of a capture from 0. Done names the span of unread bytes that the call dropped. Overflow names the span that is lost, the first item that didn't fit, its length and the room that it found.
 pub data Response : Type 0 where

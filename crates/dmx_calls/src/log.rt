@@ -1,7 +1,7 @@
 // The entries of a report.
 
 ghost use Rattle.std.specs.Prelude.{◌≡◌};
-ghost use Rattle.dmx_calls.specs.Calls.{invocation_of, told_act};
+ghost use Rattle.dmx_calls.specs.Calls.{invocation_of};
 ghost use Rattle.dmx_calls.specs.Log.{act_of};
 
 use crate::call::Call;
@@ -86,7 +86,7 @@ pub enum Act {
 impl Act {
     /// The call as a report tells it.
     pub fn of(call: &Call) -> Act
-        ensures { told_act result ≡ act_of (invocation_of call.now) }
+        ensures { result ≡ act_of (invocation_of call.now) }
     {
         match call {
             Call::Open => Act::Open,

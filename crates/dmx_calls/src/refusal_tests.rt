@@ -211,11 +211,7 @@ fn params_of(column: usize, was: Was) -> Params {
         _ if column == 0 || column == 5 => Params::Empty,
         Sections => Params::Section(SectionParams {
             pid: 256,
-            filter: SectionFilter {
-                filter: [0; 16],
-                mask: [0; 16],
-                mode: [0; 16],
-            },
+            filter: SectionFilter::empty(),
             timeout: 0,
             flags: 0,
         }),

@@ -6,7 +6,9 @@ use Rattle.dmx_calls.specs.declared.params.Input.{Input}
 use Rattle.dmx_calls.specs.declared.reply.Errno.{Errno}
 use Rattle.dmx_calls.specs.declared.reply.Errno.TheVariants.{Ebadf, Einval}
 use Rattle.dmx_calls.specs.Invocation.{Invocation, Open, Close, SetFilter, SetPes, AddPid, RemovePid, Start, Stop, SetSize, Read, Poll, Pass, End, Attach, Detach}
-use Rattle.dmx_calls.specs.Response.{TapChange, KeepTap, Response, Done, Busy, Refused, Passed, is_accepted}
+use Rattle.dmx_calls.specs.declared.reply.Tap.{Tap as TapChange}
+use Rattle.dmx_calls.specs.declared.reply.Tap.TheVariants.{Keep as KeepTap}
+use Rattle.dmx_calls.specs.Response.{Response, Done, Busy, Refused, Passed, is_accepted}
 use Rattle.dmx_calls.specs.History.{History, entry_of, Since}
 use Rattle.dmx_calls.specs.Tenure.{tenure, owner}
 use Rattle.dmx_calls.specs.Rules.{dvr}

@@ -6,7 +6,8 @@ use Rattle.dmx_calls.specs.declared.node.NodeKind.TheVariants.{Dvr}
 use Rattle.dmx_calls.specs.declared.reply.Errno.{Errno}
 use Rattle.dmx_calls.specs.declared.reply.Errno.TheVariants.{Ebadf}
 use Rattle.dmx_calls.specs.Invocation.{Invocation, Open, Close, SetFilter, SetPes, AddPid, RemovePid, Start, Stop, SetSize, Read, Poll, Pass, End, Attach, Detach}
-use Rattle.dmx_calls.specs.Response.{TapChange, Response, Passed, is_accepted}
+use Rattle.dmx_calls.specs.declared.reply.Tap.{Tap as TapChange}
+use Rattle.dmx_calls.specs.Response.{Response, Passed, is_accepted}
 use Rattle.dmx_calls.specs.Taps.{Tap}
 use Rattle.dmx_calls.specs.Facts.{Ledger}
 use Rattle.dmx_calls.specs.Answer.{is_for_anybody, is_owned_by, refusal_to, response_to, response_unless, done_dropping}

@@ -104,11 +104,7 @@ fn set_of(pids: &[u16]) -> Pids {
 fn section_params() -> SectionParams {
     SectionParams {
         pid: 256,
-        filter: SectionFilter {
-            filter: [0; 16],
-            mask: [0; 16],
-            mode: [0; 16],
-        },
+        filter: SectionFilter::empty(),
         timeout: 0,
         flags: 0,
     }

@@ -1,5 +1,7 @@
 // The section filter.
 
+ghost use Rattle.std.specs.Prelude.{◌≡◌, replicate};
+
 /// What a section filter asks of a section's first bytes (Linux media API, Digital TV demux, struct dmx_filter).
 ///
 /// Filter byte 0 stands against section byte 0, and byte i against section byte i + 2. A bit counts where its mask bit
@@ -13,4 +15,17 @@ pub struct SectionFilter {
     pub mask: [u8; 16],
     /// 0 for each bit that has to be equal, 1 for those of which one has to differ.
     pub mode: [u8; 16],
+}
+
+impl SectionFilter {
+    /// The filter in which no bit counts.
+    pub const fn empty() -> SectionFilter
+        ensures { result ≡ record { filter = replicate 16 0; mask = replicate 16 0; mode = replicate 16 0 } }
+    {
+        SectionFilter {
+            filter: [0; 16],
+            mask: [0; 16],
+            mode: [0; 16],
+        }
+    }
 }

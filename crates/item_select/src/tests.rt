@@ -112,11 +112,7 @@ type Place = (usize, u8, u8, u8);
 
 // The filter with these places; in all others nothing is masked.
 fn filter_of(places: &[Place]) -> SectionFilter {
-    let mut all = SectionFilter {
-        filter: [0; 16],
-        mask: [0; 16],
-        mode: [0; 16],
-    };
+    let mut all = SectionFilter::empty();
     for (place, filter, mask, mode) in places {
         let i = *place % 16;
         all.filter[i] = *filter;

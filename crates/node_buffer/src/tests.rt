@@ -62,11 +62,7 @@ use Want::{Again, Data, Overflow};
 fn section_params(timeout: u32, flags: u32) -> SectionParams {
     SectionParams {
         pid: 256,
-        filter: SectionFilter {
-            filter: [0; 16],
-            mask: [0; 16],
-            mode: [0; 16],
-        },
+        filter: SectionFilter::empty(),
         timeout,
         flags,
     }

@@ -5,7 +5,8 @@ use Rattle.pid_set.specs.Pids.{with_pid, without_pid}
 use Rattle.dmx_calls.specs.declared.params.Input.{Input}
 use Rattle.dmx_calls.specs.declared.reply.PollError.{PollError}
 use Rattle.dmx_calls.specs.Invocation.{Invocation, AddPid, RemovePid, Stop, SetSize, Poll, End}
-use Rattle.dmx_calls.specs.Response.{TapChange, Response, Done, Ready, Passed, is_accepted}
+use Rattle.dmx_calls.specs.declared.reply.Tap.{Tap as TapChange}
+use Rattle.dmx_calls.specs.Response.{Response, Done, Ready, Passed, is_accepted}
 use Rattle.dmx_calls.specs.History.{Entry, History, entry_of, event, Since}
 use Rattle.dmx_calls.specs.Tenure.{tenure, owner, size, Params, Empty, Section, Pes, params, setting, pids, is_end, has_ended}
 use Rattle.dmx_calls.specs.Capture.{capture, stops, is_stopped}

@@ -4,8 +4,7 @@
 // Done tells the caller what to make of it there: attach these PIDs, detach, or keep what is there.
 
 ghost use Rattle.std.specs.Prelude.{◌≡◌, if◌then◌else◌};
-ghost use Rattle.dmx_calls.specs.Response.{KeepTap, DetachTap};
-ghost use Rattle.dmx_calls.specs.Calls.{tap_change_of};
+ghost use Rattle.dmx_calls.specs.declared.reply.Tap.TheVariants.{Keep as KeepTap, Detach as DetachTap};
 ghost use Rattle.node_core.specs.Inside.KeptView.{is_recording_for, tap_told};
 
 use crate::tenure::Tenure;
@@ -27,7 +26,7 @@ impl Tenure {
     /// What Done tells of the tap after a call. `recorded` says that the node recorded before it; `renews`, that the call is a
     /// start or a set call, or one that changed the PIDs.
     pub fn tap(&self, recorded: bool, renews: bool) -> Tap
-        ensures { tap_change_of result ≡ tap_told recorded renews self.now }
+        ensures { result ≡ tap_told recorded renews self.now }
     {
         if !self.is_recording() {
             return tap_of_idle(recorded);
@@ -41,7 +40,7 @@ impl Tenure {
 
 /// The same after a call by which the node doesn't record, or no longer.
 pub fn tap_of_idle(recorded: bool) -> Tap
-    ensures { tap_change_of result ≡ if recorded then DetachTap else KeepTap }
+    ensures { result ≡ if recorded then DetachTap else KeepTap }
 {
     if recorded { Tap::Detach } else { Tap::Keep }
 }

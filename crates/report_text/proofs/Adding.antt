@@ -5,7 +5,9 @@ use Rattle.std.proofs.lemmas.List.Sums.{sum_by-append, sum_by-cons, sum_by-take-
 use Rattle.dmx_calls.specs.declared.histories.Fed.{Fed}
 use Rattle.dmx_calls.specs.declared.log.Entry.{Entry as ToldEntry}
 use Rattle.dmx_calls.specs.Calls.{told_entry}
-use Rattle.dmx_calls.specs.Log.{Act, EndAct, LogEntry}
+use Rattle.dmx_calls.specs.declared.log.Act.{Act}
+use Rattle.dmx_calls.specs.declared.log.Act.TheVariants.{End as EndAct}
+use Rattle.dmx_calls.specs.Log.{LogEntry}
 use Rattle.dmx_calls.specs.Response.{Response, Passed}
 use Rattle.dmx_calls.specs.Histories.{pass_act, feeder_acts, feeder_entry, feeder_entries, before_entry, woven_from, woven}
 use Rattle.dmx_calls.proofs.Weaving.{woven-length}

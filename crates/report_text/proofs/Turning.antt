@@ -6,7 +6,8 @@ use Rattle.std.proofs.Math.Seq.{drop-nil}
 use Rattle.dmx_calls.specs.declared.histories.Fed.{Fed}
 use Rattle.dmx_calls.specs.declared.log.Entry.{Entry as ToldEntry}
 use Rattle.dmx_calls.specs.Calls.{told_entry}
-use Rattle.dmx_calls.specs.Log.{Act, LogEntry}
+use Rattle.dmx_calls.specs.declared.log.Act.{Act}
+use Rattle.dmx_calls.specs.Log.{LogEntry}
 use Rattle.dmx_calls.specs.Histories.{feeder_acts, feeder_entry, feeder_entries, before_entry, woven_from, woven}
 use Rattle.std.specs.Fmt.{decimal}
 use Rattle.dmx_calls.specs.Response.{Passed}

@@ -5,7 +5,8 @@ use Rattle.std.specs.Fmt.{decimal}
 use Rattle.dmx_calls.specs.declared.params.Input.{Input}
 use Rattle.dmx_calls.specs.declared.params.SectionParams.{SectionParams}
 use Rattle.dmx_calls.specs.declared.params.PesParams.{PesParams}
-use Rattle.dmx_calls.specs.Log.{Act, OpenAct, CloseAct, SetFilterAct, SetPesAct, AddPidAct, RemovePidAct, StartAct, StopAct, SetSizeAct, ReadAct, PollAct, PassAct, EndAct, AttachAct, DetachAct}
+use Rattle.dmx_calls.specs.declared.log.Act.{Act}
+use Rattle.dmx_calls.specs.declared.log.Act.TheVariants.{Open as OpenAct, Close as CloseAct, SetFilter as SetFilterAct, SetPes as SetPesAct, AddPid as AddPidAct, RemovePid as RemovePidAct, Start as StartAct, Stop as StopAct, SetSize as SetSizeAct, Read as ReadAct, Poll as PollAct, Pass as PassAct, End as EndAct, Attach as AttachAct, Detach as DetachAct}
 use Rattle.text_forms.specs.Places.{filter_text}
 use Rattle.text_forms.specs.Words.{input_text, output_text}
 

@@ -5,7 +5,9 @@ use Rattle.dmx_calls.specs.declared.reply.Errno.{Errno}
 use Rattle.dmx_calls.specs.declared.reply.Errno.TheVariants as errno
 use Rattle.dmx_calls.specs.declared.reply.PollError.{PollError}
 use Rattle.dmx_calls.specs.declared.reply.PollError.TheVariants as pending
-use Rattle.dmx_calls.specs.Response.{TapChange, KeepTap, AttachTap, DetachTap, Response, Done, Busy, Refused, NoMemory, Data, Again, Overflow, TimedOut, Ready, Passed}
+use Rattle.dmx_calls.specs.declared.reply.Tap.{Tap as TapChange}
+use Rattle.dmx_calls.specs.declared.reply.Tap.TheVariants.{Keep as KeepTap, Attach as AttachTap, Detach as DetachTap}
+use Rattle.dmx_calls.specs.Response.{Response, Done, Busy, Refused, NoMemory, Data, Again, Overflow, TimedOut, Ready, Passed}
 use Rattle.text_forms.specs.Hex.{hex_text}
 use Rattle.text_forms.specs.Names.{who_text}
 use Rattle.report_text.specs.Acts.{pids_text}

@@ -1,7 +1,6 @@
 // The text of a call.
 ghost use Rattle.std.specs.Prelude.{◌≡◌, ◌++◌, OnOk, codes};
 ghost use Rattle.std.specs.Fmt.{decimal};
-ghost use Rattle.dmx_calls.specs.Calls.{told_act};
 ghost use Rattle.text_forms.specs.Words.{input_text, output_text};
 ghost use Rattle.report_text.specs.Acts.{act_text, next_pid_text, pass_text, pes_text, pids_text, section_text};
 
@@ -117,7 +116,7 @@ fn add_attach(out: &mut Vec<u8>, node: u32, pids: &Pids) -> Result<(), NoMemory>
 /// A call.
 #[tactic(auto, unfolding(crate::specs::Acts::act_text))]
 pub fn add_act(out: &mut Vec<u8>, act: &Act) -> Result<(), NoMemory>
-    ensures { OnOk result (out.new.items ≡ out.old.items ++ act_text (told_act act.now)) }
+    ensures { OnOk result (out.new.items ≡ out.old.items ++ act_text act.now) }
 {
     match act {
         Act::Open => out.extend_from_slice(b"open"),

@@ -4,7 +4,7 @@ ghost use Rattle.std.specs.List.{flat_map, list_any};
 ghost use Rattle.dmx_calls.specs.Calls.{told_entry};
 ghost use Rattle.dmx_calls.specs.Histories.{feeder_acts, feeder_entry, feeder_entries, woven};
 ghost use Rattle.text_forms.specs.Names.{node_text};
-ghost use Rattle.dmx_calls.specs.Log.{EndAct};
+ghost use Rattle.dmx_calls.specs.declared.log.Act.TheVariants.{End as EndAct};
 ghost use Rattle.report_text.specs.Entries.{caller_text, entry_text, is_of_client, history_text};
 ghost use Rattle.report_text.specs.Inside.Turns.{tail_text, turn, Told};
 

@@ -1,7 +1,7 @@
 // The text of a reply.
 ghost use Rattle.std.specs.Prelude.{◌≡◌, ◌++◌, OnOk, codes};
 ghost use Rattle.std.specs.Fmt.{decimal};
-ghost use Rattle.dmx_calls.specs.Calls.{response_of, tap_change_of};
+ghost use Rattle.dmx_calls.specs.Calls.{response_of};
 ghost use Rattle.text_forms.specs.Names.{who_text};
 ghost use Rattle.report_text.specs.Replies.{data_text, errno_text, flag_text, pending_text, response_text, tap_text};
 
@@ -70,7 +70,7 @@ fn add_data(out: &mut Vec<u8>, bytes: &[u8]) -> Result<(), NoMemory>
 
 #[tactic(auto, unfolding(crate::specs::Replies::tap_text))]
 fn add_tap(out: &mut Vec<u8>, tap: &Tap) -> Result<(), NoMemory>
-    ensures { OnOk result (out.new.items ≡ out.old.items ++ tap_text (tap_change_of tap.now)) }
+    ensures { OnOk result (out.new.items ≡ out.old.items ++ tap_text tap.now) }
 {
     match tap {
         Tap::Keep => out.extend_from_slice(b"keep"),
@@ -80,7 +80,7 @@ fn add_tap(out: &mut Vec<u8>, tap: &Tap) -> Result<(), NoMemory>
 }
 
 fn add_done(out: &mut Vec<u8>, dropped: &Span, tap: &Tap) -> Result<(), NoMemory>
-    ensures { OnOk result (out.new.items ≡ out.old.items ++ (codes "done drop=" ++ (decimal dropped.now.from ++ (codes ".." ++ (decimal dropped.now.to ++ (codes " tap=" ++ tap_text (tap_change_of tap.now))))))) }
+    ensures { OnOk result (out.new.items ≡ out.old.items ++ (codes "done drop=" ++ (decimal dropped.now.from ++ (codes ".." ++ (decimal dropped.now.to ++ (codes " tap=" ++ tap_text tap.now)))))) }
 {
     add_field(out, b"done drop=", dropped.from)?;
     add_field(out, b"..", dropped.to)?;

@@ -3,7 +3,8 @@ use Rattle.std.proofs.Common.{◌≡◌, refl, sym, ap, subst, ◌∙◌, ℕ, z
 use Rattle.std.proofs.lemmas.List.{length-replicate, get_or-replicate}
 use Rattle.dmx_calls.specs.declared.limits.TheConstants.{DEMUX_NODES}
 use Rattle.dmx_calls.specs.Invocation.{Invocation}
-use Rattle.dmx_calls.specs.Log.{Act, act_of}
+use Rattle.dmx_calls.specs.declared.log.Act.{Act}
+use Rattle.dmx_calls.specs.Log.{act_of}
 use Rattle.dmx_calls.specs.Rules as rules
 use Rattle.node_core.specs.Stands.{CoreValue as DemuxCore}
 use Rattle.serial_core.specs.declared.seat.Seat.{Seat}

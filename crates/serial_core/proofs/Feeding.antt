@@ -8,7 +8,8 @@ use Rattle.std.proofs.lemmas.List.Elements.{All-nil, All-cons, All-append, filte
 use Rattle.std.proofs.lemmas.Bool.Decides.{nat_tests}
 use Rattle.dmx_calls.specs.declared.params.Input.TheVariants.{Frontend}
 use Rattle.dmx_calls.specs.declared.limits.TheConstants.{DEMUX_NODES}
-use Rattle.dmx_calls.specs.Log.{PassAct, EndAct, LogEntry}
+use Rattle.dmx_calls.specs.declared.log.Act.TheVariants.{Pass as PassAct, End as EndAct}
+use Rattle.dmx_calls.specs.Log.{LogEntry}
 use Rattle.client_core.specs.IsRun.{Batch, Step, feeding, steps_of}
 use Rattle.serial_core.specs.Budget.{one_if}
 

@@ -3,7 +3,9 @@ use Rattle.std.proofs.Common.{◌≡◌, refl, sym, ap, subst, ◌∙◌, ℕ, s
 use Rattle.std.proofs.lemmas.List.{map-append, length-replicate, get_or-replicate, take-append-le, take_all}
 use Rattle.dmx_calls.specs.declared.limits.TheConstants.{DEMUX_NODES}
 use Rattle.dmx_calls.specs.Invocation.{Invocation}
-use Rattle.dmx_calls.specs.Log.{Act, EndAct, act_of}
+use Rattle.dmx_calls.specs.declared.log.Act.{Act}
+use Rattle.dmx_calls.specs.declared.log.Act.TheVariants.{End as EndAct}
+use Rattle.dmx_calls.specs.Log.{act_of}
 use Rattle.dmx_calls.specs.Histories.{pass_act}
 use Rattle.dmx_calls.specs.Rules as rules
 use Rattle.node_core.specs.Stands.{CoreValue as DemuxCore}

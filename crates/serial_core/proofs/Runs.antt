@@ -15,7 +15,8 @@ use Rattle.dmx_calls.specs.Rules.{demux, dvr, rules_at}
 use Rattle.dmx_calls.specs.Answer.{answer}
 use Rattle.dmx_calls.specs.Legal.{IsLegalFor}
 use Rattle.dmx_calls.specs.Accounted.{IsAccounted}
-use Rattle.dmx_calls.specs.Log.{LogEntry, PassAct, IsOfStream, act_of, filled}
+use Rattle.dmx_calls.specs.declared.log.Act.TheVariants.{Pass as PassAct}
+use Rattle.dmx_calls.specs.Log.{LogEntry, IsOfStream, act_of, filled}
 use Rattle.dmx_calls.proofs.LawsHold.{demux_accounted, dvr_accounted}
 use Rattle.client_script.specs.Grammar.{IsInRange}
 use Rattle.client_script.specs.Script.{clients_of, clients_in}

@@ -9,7 +9,8 @@ use Rattle.dmx_calls.specs.History.{History, entry_of}
 use Rattle.dmx_calls.specs.Rules.{Rules}
 use Rattle.dmx_calls.specs.Facts.{Facts, facts}
 use Rattle.dmx_calls.specs.Answer.{answer, answer_by, with_call}
-use Rattle.dmx_calls.specs.Log.{Act, LogEntry, act_of}
+use Rattle.dmx_calls.specs.declared.log.Act.{Act}
+use Rattle.dmx_calls.specs.Log.{LogEntry, act_of}
 use Rattle.dmx_calls.specs.Histories.{feeder_entry, woven, AreInPlace}
 use Rattle.dmx_calls.proofs.Weaving.{in_place-append, woven-call, woven-fed}
 use Rattle.dmx_calls.specs.declared.log.Entry.{Entry as CodeEntry}

@@ -5,7 +5,8 @@ use Rattle.std.proofs.lemmas.List.{map-append, reverse-append}
 use Rattle.dmx_calls.specs.declared.reply.Errno.{Errno}
 use Rattle.dmx_calls.specs.Invocation as call
 use Rattle.dmx_calls.specs.Invocation.{Invocation}
-use Rattle.dmx_calls.specs.Response.{TapChange, Response, NoMemory}
+use Rattle.dmx_calls.specs.declared.reply.Tap.{Tap as TapChange}
+use Rattle.dmx_calls.specs.Response.{Response, NoMemory}
 use Rattle.dmx_calls.specs.History.{History}
 use Rattle.dmx_calls.specs.Rules.{Rules, rules_at}
 use Rattle.dmx_calls.specs.Ledger.{Misfit}

@@ -121,11 +121,7 @@ fn names_are_read(rt: HostRuntime) {
 
 // A filter with three places that aren't 0.
 fn sample() -> SectionFilter {
-    let mut filter = SectionFilter {
-        filter: [0; 16],
-        mask: [0; 16],
-        mode: [0; 16],
-    };
+    let mut filter = SectionFilter::empty();
     filter.filter[0] = 0x42;
     filter.mask[0] = 0xff;
     filter.mask[9] = 0x0a;

@@ -15,7 +15,8 @@ use Rattle.dmx_calls.specs.History.{Entry}
 use Rattle.dmx_calls.specs.Rules.{demux, dvr, rules_at}
 use Rattle.dmx_calls.specs.Legal.{IsLegalFor}
 use Rattle.dmx_calls.specs.Accounted.{IsAccounted}
-use Rattle.dmx_calls.specs.Log.{Act, LogEntry, filled, filled_entry}
+use Rattle.dmx_calls.specs.declared.log.Act.{Act}
+use Rattle.dmx_calls.specs.Log.{LogEntry, filled, filled_entry}
 use Rattle.dmx_calls.specs.Histories.{feeder_acts, feeder_entry, histories_of, woven, AreInPlace}
 use Rattle.dmx_calls.proofs.LawsHold.{demux_accounted, dvr_accounted}
 use Rattle.dmx_calls.proofs.Weaving.{in_place-at, woven_nodes-at, woven_nodes-length}

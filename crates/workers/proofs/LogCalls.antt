@@ -9,7 +9,9 @@ use Rattle.node_lock.specs.declared.view.View.{View}
 use Rattle.node_lock.specs.Inside.Lists.{Has}
 use Rattle.dmx_calls.specs.declared.histories.Fed.{Fed}
 use Rattle.dmx_calls.specs.Invocation.{Invocation, Open, Close, SetFilter, SetPes, AddPid, RemovePid, Start, Stop, SetSize, Read, Poll, Pass, End, Attach, Detach, brought}
-use Rattle.dmx_calls.specs.Log.{Act, PassAct, ReadAct, LogEntry, act_of}
+use Rattle.dmx_calls.specs.declared.log.Act.{Act}
+use Rattle.dmx_calls.specs.declared.log.Act.TheVariants.{Pass as PassAct, Read as ReadAct}
+use Rattle.dmx_calls.specs.Log.{LogEntry, act_of}
 use Rattle.dmx_calls.specs.History.{Entry}
 use Rattle.client_script.specs.declared.line.Line.{Line}
 use Rattle.client_core.specs.declared.event.Want.{Want}

@@ -13,7 +13,9 @@ use Rattle.dmx_calls.specs.declared.outcome.Outcome.{Outcome}
 use Rattle.dmx_calls.specs.Invocation as call
 use Rattle.dmx_calls.specs.Invocation.{Invocation}
 use Rattle.dmx_calls.specs.History.{Entry, entry_of}
-use Rattle.dmx_calls.specs.Log.{Act, PassAct, LogEntry, IsOfStream, act_of, filled_act, filled_entry}
+use Rattle.dmx_calls.specs.declared.log.Act.{Act}
+use Rattle.dmx_calls.specs.declared.log.Act.TheVariants.{Pass as PassAct}
+use Rattle.dmx_calls.specs.Log.{LogEntry, IsOfStream, act_of, filled_act, filled_entry}
 use Rattle.dmx_calls.specs.Histories.{feeder_acts}
 use Rattle.dmx_calls.proofs.Telling.{fills}
 use Rattle.client_script.specs.declared.line.Line.{Line}

@@ -3,7 +3,9 @@
 use Rattle.std.proofs.Common.{◌≡◌, refl, sym, ap, subst, ◌∙◌, ℕ, zero, suc, ◌+◌, ◌-◌, ◌*◌, ◌<◌, ◌≤◌, Bool, true, false, List, [], ◌∷◌, ◌++◌, Option, Some, None, length, map, take, slice_get, inl, inr, arith}
 use Rattle.std.specs.Prelude.{◌⊎◌, if◌then◌else◌, IsSome}
 use Rattle.std.proofs.lemmas.List.{map-append}
-use Rattle.dmx_calls.specs.Log.{Act, ReadAct, LogEntry, act_of}
+use Rattle.dmx_calls.specs.declared.log.Act.{Act}
+use Rattle.dmx_calls.specs.declared.log.Act.TheVariants.{Read as ReadAct}
+use Rattle.dmx_calls.specs.Log.{LogEntry, act_of}
 use Rattle.dmx_calls.specs.Response.{Response, Done, Busy, Refused, NoMemory, Data, Again, Overflow, TimedOut, Ready, Passed}
 use Rattle.client_script.specs.declared.line.Line.{Line}
 use Rattle.client_core.specs.declared.event.Event.{Event}

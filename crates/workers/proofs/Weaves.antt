@@ -6,7 +6,8 @@ use mathlib.Core.Logic.{dite}
 use native.Mathlib.Decide.{ℕ_discrete}
 use Rattle.dmx_calls.specs.History.{Entry, entry_of}
 use Rattle.dmx_calls.specs.Response.{Passed}
-use Rattle.dmx_calls.specs.Log.{Act, LogEntry, filled_act, filled_entry}
+use Rattle.dmx_calls.specs.declared.log.Act.{Act}
+use Rattle.dmx_calls.specs.Log.{LogEntry, filled_act, filled_entry}
 use Rattle.dmx_calls.specs.Histories.{feeder_entry, before_entry, woven_from, AreInPlace}
 
 -- the entries of the feeder's calls, over the stream

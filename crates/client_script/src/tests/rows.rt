@@ -276,19 +276,13 @@ pub const COUNT_FAULTS: [&[u8]; 23] = [
     b"c0 pes n0 1 frontend tap 1 0 0",
 ];
 
-pub const ZEROS: [u8; 16] = [0; 16];
-
 // Section filters: the words behind the target, and what they set.
 pub const SECTIONS: [(&[u8], SectionParams); 3] = [
     (
         b"c0 section n0 0 0 0",
         SectionParams {
             pid: 0,
-            filter: SectionFilter {
-                filter: ZEROS,
-                mask: ZEROS,
-                mode: ZEROS,
-            },
+            filter: SectionFilter::empty(),
             timeout: 0,
             flags: 0,
         },
@@ -313,7 +307,7 @@ pub const SECTIONS: [(&[u8], SectionParams); 3] = [
             filter: SectionFilter {
                 filter: [0, 1, 2, 3, 4, 5, 6, 7, 8, 9, 10, 11, 12, 13, 14, 15],
                 mask: [1; 16],
-                mode: ZEROS,
+                mode: [0; 16],
             },
             timeout: 2,
             flags: 3,

@@ -2,7 +2,8 @@
 use Rattle.std.specs.Prelude.{[], ◌∷◌, ◌++◌, take, true, false}
 use Rattle.dmx_calls.specs.declared.reply.PollError.TheVariants.{Quiet}
 use Rattle.dmx_calls.specs.Invocation.{Open, Close, SetSize, Read, Poll, End, Attach, Detach}
-use Rattle.dmx_calls.specs.Response.{KeepTap, Done, Data, Again, Overflow, Ready, Passed}
+use Rattle.dmx_calls.specs.declared.reply.Tap.TheVariants.{Keep as KeepTap}
+use Rattle.dmx_calls.specs.Response.{Done, Data, Again, Overflow, Ready, Passed}
 use Rattle.dmx_calls.specs.Rules.{dvr}
 use Rattle.dmx_calls.specs.Examples.Words.{Plays, opened, client_0, client_1, feeder, fed, done, packet}
 

@@ -1,14 +1,15 @@
 -- Overflows. A buffer of size n holds n - 1 bytes.
-use Rattle.std.specs.Prelude.{ℕ, [], ◌∷◌, ◌≡◌, List, length, Option, Some, None, option_map, take, true, false}
-use Rattle.dmx_calls.specs.History.{History, Since}
+use Rattle.std.specs.Prelude.{[], ◌∷◌, ◌≡◌, length, Some, None, option_map, take, true, false}
+use Rattle.dmx_calls.specs.History.{History}
 use Rattle.dmx_calls.specs.Capture.{capture}
 use Rattle.dmx_calls.specs.Items.{items}
-use Rattle.dmx_calls.specs.Ledger.{Misfit, total, answered, over}
+use Rattle.dmx_calls.specs.Ledger.{total, answered, over}
 use Rattle.dmx_calls.specs.Answer.{answer}
 use Rattle.dmx_calls.specs.declared.params.Output.TheVariants.{Tap, TsdemuxTap}
 use Rattle.dmx_calls.specs.declared.reply.PollError.TheVariants.{Overflow as OverflowPending}
 use Rattle.dmx_calls.specs.Invocation.{Start, Stop, SetSize, Read, Poll}
-use Rattle.dmx_calls.specs.Response.{KeepTap, Done, Data, Again, Overflow, Ready}
+use Rattle.dmx_calls.specs.declared.reply.Tap.TheVariants.{Keep as KeepTap}
+use Rattle.dmx_calls.specs.Response.{Done, Data, Again, Overflow, Ready}
 use Rattle.dmx_calls.specs.Rules.{demux}
 use Rattle.dmx_calls.specs.Examples.Words.{Plays, opened, client_0, fed, done, pes, packet, payload_of_length}
 

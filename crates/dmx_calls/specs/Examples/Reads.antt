@@ -3,7 +3,8 @@ use Rattle.std.specs.Prelude.{[], ◌∷◌, ◌++◌, take, drop, replicate, tr
 use Rattle.dmx_calls.specs.declared.params.Output.TheVariants.{Tap, TsdemuxTap}
 use Rattle.dmx_calls.specs.declared.reply.PollError.TheVariants.{Quiet}
 use Rattle.dmx_calls.specs.Invocation.{Close, AddPid, RemovePid, Start, Stop, SetSize, Read, Poll, End}
-use Rattle.dmx_calls.specs.Response.{KeepTap, Done, Data, Again, Ready, Passed}
+use Rattle.dmx_calls.specs.declared.reply.Tap.TheVariants.{Keep as KeepTap}
+use Rattle.dmx_calls.specs.Response.{Done, Data, Again, Ready, Passed}
 use Rattle.dmx_calls.specs.Rules.{demux}
 use Rattle.dmx_calls.specs.Examples.Words.{Plays, opened, client_0, feeder, fed, done, pes, pes_with, packet, payload_of_length}
 

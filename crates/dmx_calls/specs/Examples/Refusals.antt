@@ -8,7 +8,8 @@ use Rattle.dmx_calls.specs.declared.params.Output.TheVariants.{Decoder, Tap, TsT
 use Rattle.dmx_calls.specs.declared.reply.Errno.TheVariants.{Ebadf, Ebusy, Einval, Enospc}
 use Rattle.dmx_calls.specs.declared.reply.PollError.TheVariants.{Quiet, TimedOut as TimeoutPending}
 use Rattle.dmx_calls.specs.Invocation.{Invocation, Open, Close, SetFilter, SetPes, AddPid, RemovePid, Start, Stop, SetSize, Read, Poll, Pass, End, Attach, Detach}
-use Rattle.dmx_calls.specs.Response.{Response, KeepTap, Done, Busy, Refused, Data, Again, TimedOut, Ready, Passed}
+use Rattle.dmx_calls.specs.declared.reply.Tap.TheVariants.{Keep as KeepTap}
+use Rattle.dmx_calls.specs.Response.{Response, Done, Busy, Refused, Data, Again, TimedOut, Ready, Passed}
 use Rattle.dmx_calls.specs.History.{History, entry_of}
 use Rattle.dmx_calls.specs.Rules.{demux, dvr}
 use Rattle.dmx_calls.specs.Facts.{facts, state_of}

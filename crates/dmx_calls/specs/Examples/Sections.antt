@@ -3,7 +3,8 @@ use Rattle.std.specs.Prelude.{ℕ, List, [], ◌∷◌, ◌++◌, replicate, tru
 use Rattle.dmx_calls.specs.declared.reply.Errno.TheVariants.{Ebusy}
 use Rattle.dmx_calls.specs.declared.reply.PollError.TheVariants.{Quiet}
 use Rattle.dmx_calls.specs.Invocation.{SetFilter, Start, Stop, SetSize, Read, Poll}
-use Rattle.dmx_calls.specs.Response.{KeepTap, Done, Refused, Data, Again, Overflow, Ready}
+use Rattle.dmx_calls.specs.declared.reply.Tap.TheVariants.{Keep as KeepTap}
+use Rattle.dmx_calls.specs.Response.{Done, Refused, Data, Again, Overflow, Ready}
 use Rattle.dmx_calls.specs.Rules.{demux}
 use Rattle.dmx_calls.specs.Examples.Words.{Plays, opened, client_0, fed, done, section, section_with, unit_packet, section_a, section_b, section_x, first_of_x, rest_of_x}
 

@@ -3,7 +3,8 @@ use Rattle.std.specs.Prelude.{[], ◌∷◌, false}
 use Rattle.dmx_calls.specs.declared.params.Output.TheVariants.{TsTap, TsdemuxTap}
 use Rattle.dmx_calls.specs.declared.reply.Errno.TheVariants.{Einval}
 use Rattle.dmx_calls.specs.Invocation.{Close, AddPid, RemovePid, Start, Stop, Read}
-use Rattle.dmx_calls.specs.Response.{AttachTap, DetachTap, Done, Refused, Again}
+use Rattle.dmx_calls.specs.declared.reply.Tap.TheVariants.{Attach as AttachTap, Detach as DetachTap}
+use Rattle.dmx_calls.specs.Response.{Done, Refused, Again}
 use Rattle.dmx_calls.specs.Rules.{demux}
 use Rattle.dmx_calls.specs.Examples.Words.{Plays, opened, client_0, fed, done, pes, pes_with, section, packet}
 

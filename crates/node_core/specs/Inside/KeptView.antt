@@ -5,7 +5,9 @@ use Rattle.dmx_calls.specs.declared.limits.TheConstants.{DEMUX_SIZE}
 use Rattle.dmx_calls.specs.Invocation.{Invocation, Close}
 use Rattle.dmx_calls.specs.Tenure.{Empty}
 use Rattle.dmx_calls.specs.Calls.{params_of, pids_of}
-use Rattle.dmx_calls.specs.Response.{TapChange, KeepTap, AttachTap, DetachTap, Response, NoMemory, Passed}
+use Rattle.dmx_calls.specs.declared.reply.Tap.{Tap as TapChange}
+use Rattle.dmx_calls.specs.declared.reply.Tap.TheVariants.{Keep as KeepTap, Attach as AttachTap, Detach as DetachTap}
+use Rattle.dmx_calls.specs.Response.{Response, NoMemory, Passed}
 use Rattle.dmx_calls.specs.Answer.{is_recording, response_to}
 use Rattle.dmx_calls.specs.Legal.{is_done, takes_memory}
 use Rattle.item_select.specs.Selecting.{bytes_held}

@@ -4,7 +4,9 @@ use Rattle.std.specs.List.{flat_map, slice_get}
 use Rattle.std.specs.Fmt.{decimal}
 use Rattle.dmx_calls.specs.Response.{Passed}
 use Rattle.dmx_calls.specs.declared.histories.Fed.{Fed}
-use Rattle.dmx_calls.specs.Log.{Act, EndAct, LogEntry}
+use Rattle.dmx_calls.specs.declared.log.Act.{Act}
+use Rattle.dmx_calls.specs.declared.log.Act.TheVariants.{End as EndAct}
+use Rattle.dmx_calls.specs.Log.{LogEntry}
 use Rattle.dmx_calls.specs.Histories.{pass_act, feeder_acts, before_entry}
 use Rattle.report_text.specs.Acts.{act_text}
 use Rattle.report_text.specs.Entries.{entry_text}

@@ -3,7 +3,8 @@ use Rattle.std.specs.Prelude.{ℕ, ◌≡◌, ◌≤◌, Bool, true, false, List
 use Rattle.dmx_calls.specs.declared.limits.TheConstants.{DEMUX_NODES}
 use Rattle.dmx_calls.specs.Invocation.{Invocation, Pass, End}
 use Rattle.dmx_calls.specs.History.{History}
-use Rattle.dmx_calls.specs.Log.{Act, EndAct}
+use Rattle.dmx_calls.specs.declared.log.Act.{Act}
+use Rattle.dmx_calls.specs.declared.log.Act.TheVariants.{End as EndAct}
 use Rattle.dmx_calls.specs.Histories.{pass_act, woven}
 use Rattle.dmx_calls.specs.Calls.{told_entry}
 use Rattle.node_core.specs.Stands.{CoreValue as DemuxCore, StandsFor as DemuxStands}

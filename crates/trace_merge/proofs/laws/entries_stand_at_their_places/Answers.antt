@@ -8,7 +8,8 @@ use Rattle.dmx_calls.specs.declared.limits.TheConstants.{DEMUX_NODES}
 use Rattle.dmx_calls.specs.declared.log.Entry.{Entry as ToldEntry}
 use Rattle.dmx_calls.specs.Calls.{told_entry}
 use Rattle.dmx_calls.specs.Histories.{pass_act, feeder_acts, histories_of, woven, AreInPlace}
-use Rattle.dmx_calls.specs.Log.{EndAct, LogEntry}
+use Rattle.dmx_calls.specs.declared.log.Act.TheVariants.{End as EndAct}
+use Rattle.dmx_calls.specs.Log.{LogEntry}
 use Rattle.dmx_calls.proofs.Weaving.{woven-length, woven_nodes-at}
 use Rattle.trace_merge.specs.Merging.{AreByPlace}
 use Rattle.trace_merge.specs.Inside.Placing.{entries_on, length_on, NameTheirPlaces, StandAtTheirPlaces}

@@ -1,6 +1,6 @@
 use Rattle.std.proofs.Common.{rules, ◌+◌, Option, ◌≡◌, [], ◌∷◌, ◌++◌, subst, sym, ap, ◌∙◌, refl}
 use Rattle.std.proofs.lemmas.List.{map-append, length-map}
-use Rattle.dmx_calls.specs.Calls.{told_entry, told_act, response_of}
+use Rattle.dmx_calls.specs.Calls.{told_entry, response_of}
 use Rattle.dmx_calls.specs.Entries.{told}
 use Rattle.dmx_calls.specs.Log.{LogEntry, act_of}
 use Rattle.dmx_calls.specs.declared.log.Entry.{Entry as ToldEntry}
@@ -28,7 +28,7 @@ returns-clause-works g c may lines client given turn works =
     let told_act_is = c.of-act.ensures in
     let is_next = event_now lines client (replies (log_of w)) w.core event works.after c.requires.next in
     let after : IsAfter client lines (replies (log_of w) ++ response_of c.in_ok-reply.reply ∷ []) c.take.new.self = c.take.ensures.after client lines (replies (log_of w)) works.after in
-    let act_is : told_act c.of-act.result ≡ act_of (call_at event.want c.args.now) = told_act_is ∙ ap act_of c.in_ok-call.ensures.call in
+    let act_is : c.of-act.result ≡ act_of (call_at event.want c.args.now) = told_act_is ∙ ap act_of c.in_ok-call.ensures.call in
     let kept : response_of c.in_ok-fitted.field-0 ≡ response_of c.in_ok-reply.reply = c.in_ok-fitted.ensures in
     let one : replies (log_of w ++ told_entry entry ∷ []) ≡ replies (log_of w) ++ response_of c.in_ok-reply.reply ∷ [] =
     map-append (λ (x : LogEntry). x.response) (log_of w) (told_entry entry ∷ []) ∙ ap (λ r. replies (log_of w) ++ r ∷ []) kept in
