@@ -1,7 +1,6 @@
 -- A client makes at most 33 first calls a command, the next call counted too; and a read that is repeated stays on its node.
-use Rattle.std.proofs.Common.{◌≡◌, refl, sym, ap, subst, ◌∙◌, ℕ, ◌+◌, ◌-◌, ◌*◌, ◌<◌, ◌≤◌, Bool, true, false, List, [], ◌∷◌, ◌++◌, Option, Some, None, length, arith}
+use Rattle.std.proofs.Common.{◌≡◌, refl, sym, ap, ◌∙◌, ℕ, ◌+◌, ◌-◌, ◌*◌, ◌<◌, ◌≤◌, Bool, true, false, List, [], ◌∷◌, ◌++◌, Option, Some, None, length, arith}
 use Rattle.std.specs.Prelude.{nat_lt, if◌then◌else◌, slice_index_or}
-use Rattle.std.specs.Option.{MatchOption}
 use Rattle.std.proofs.lemmas.Bool.Decides.{nat_tests}
 use Rattle.dmx_calls.specs.declared.limits.TheConstants.{DEMUX_NODES}
 use Rattle.dmx_calls.specs.declared.reply.Tap.{Tap as TapChange}
@@ -19,9 +18,11 @@ use Rattle.client_core.specs.declared.event.Want.TheVariants.{Read}
 use Rattle.client_core.specs.declared.task.Ending.{Ending}
 use Rattle.client_core.specs.declared.task.Ending.TheVariants.{Made, Bound, AllBusy}
 use Rattle.client_core.specs.Commands.{Slots, Doing, stands, through, once, told, called, opened, read_until, done_on, done_at, done_by_slot, done, ends_wait, ends_drain, commands_of}
-use Rattle.client_core.specs.Events.{Standing, Progress, with_outcome, kind_of, slots_after, progress_from, progress, no_slots}
+use Rattle.client_core.specs.Events.{Standing, slots_after, progress_from, progress, no_slots}
 use Rattle.client_core.specs.Budget.{repeated, repeats_on, repeats_at, repeats_in, repeats_from, repeats, CallsAreFew}
-use Rattle.client_core.proofs.More.{Onward, done_on_more, repeats_none}
+use Rattle.client_core.proofs.Options.{none_ne_some, same_some}
+use Rattle.client_core.proofs.GoesOn.{progress_of}
+use Rattle.client_core.proofs.More.{Onward, done_on_more, repeats_none, rest_of}
 
 -- the reply after which a read may be repeated
 abbrev again : Response
@@ -170,21 +171,6 @@ done_tight slots Dvr v step rs = on_tight DEMUX_NODES v step rs
 
 -- ------ all commands
 
-none_stands : (s : Standing) → ◌≡◌ {A = Option Standing} None (Some s) → ⊥
-none_stands s is = subst (λ o. MatchOption o (Unit {0}) (λ x. ⊥)) is tt
-
-same_some : (s t : Standing) → ◌≡◌ {A = Option Standing} (Some s) (Some t) → s ≡ t
-same_some s t is = cc
-
-abbrev rest_of : (slots : Slots) (cs : List Command) → Doing → ℕ
-rest_of slots cs d = elim d [ stands event ↦ 0 | through ending next left ↦ repeats_from (slots_after ending slots) next cs left ]
-
-abbrev progress_of : (slots : Slots) (step : ℕ) (c : Command) (cs : List Command) → Doing → Progress
-progress_of slots step c cs d = elim d [
-  | stands event ↦ record { outcomes = []; standing = Some (record { line = c.line; from = step; event = event }) }
-  | through ending next left ↦ with_outcome (record { line = c.line; from = step; to = next; kind = kind_of ending }) (progress_from (slots_after ending slots) next cs left)
-]
-
 -- after n replies, which allow m repeats; where Again allows one more, the client stands there, if it does, on the node on which it stood
 record Tight (commands n m more : ℕ) (s : Standing) (now : Option Standing) : Type 0 where
   few : n < 33 * commands + m
@@ -192,7 +178,7 @@ record Tight (commands n m more : ℕ) (s : Standing) (now : Option Standing) : 
 
 all_tight : (slots : Slots) (step : ℕ) (cs : List Command) (rs : List Response) (s : Standing) → (progress_from slots step cs rs).standing ≡ Some s
     → Tight (length cs) (length rs) (repeats_from slots step cs rs) (repeats_from slots step cs (rs ++ again ∷ [])) s (progress_from slots step cs (rs ++ again ∷ [])).standing
-all_tight slots step [] rs s is = absurd (none_stands s is)
+all_tight slots step [] rs s is = absurd (none_ne_some s is)
 all_tight slots step (c ∷ cs) rs s is =
     go (λ ending next left there. all_tight (slots_after ending slots) next cs left s there) (done slots c.target c.verb step rs) (done slots c.target c.verb step (rs ++ again ∷ []))
     (repeats_in slots c.target c.verb rs) (repeats_in slots c.target c.verb (rs ++ again ∷ [])) (done_tight slots c.target c.verb step rs) (done_on_more slots c.target c.verb step rs again) is where
@@ -201,10 +187,10 @@ all_tight slots step (c ∷ cs) rs s is =
           → (d f : Doing) (m n : ℕ) → IsTight (33 + m) rs d f → Onward step again m n d f → (progress_of slots step c cs d).standing ≡ Some s
           → Tight (length (c ∷ cs)) (length rs) (m + rest_of slots cs d) (n + rest_of slots cs f) s (progress_of slots step c cs f).standing
       go deeper (stands e) (stands f) m n tight on there =
-          let same : e ≡ s.event = ap (λ t. t.event) (same_some (record { line = c.line; from = step; event = e }) s there) in
+          let same : e ≡ s.event = ap (λ t. t.event) (same_some {A = Standing} (record { line = c.line; from = step; event = e }) s there) in
           record {
             few = omega (arith, tight.0);
-            stays = λ grows t is. sym (ap (λ x. x.event.node) (same_some (record { line = c.line; from = step; event = f }) t is)) ∙ tight.1 ∙ ap (λ x. x.node) same;
+            stays = λ grows t is. sym (ap (λ x. x.event.node) (same_some {A = Standing} (record { line = c.line; from = step; event = f }) t is)) ∙ tight.1 ∙ ap (λ x. x.node) same;
           }
       go deeper (stands e) (through ending next left) m n tight on there =
           let nil : repeats_from (slots_after ending slots) next cs left ≡ 0 = ap (λ l. repeats_from (slots_after ending slots) next cs l) on.0 ∙ repeats_none (slots_after ending slots) next cs in

@@ -1,5 +1,6 @@
 -- What beginning and ending a command leave as it was.
-use Rattle.std.proofs.Common.{◌≡◌, refl, sym, ap, subst, ◌∙◌, ℕ, ◌+◌, List, [], ◌∷◌, ◌++◌, Some, None, arith, ◌<◌, ◌≤◌, true, false, Option}
+use Rattle.std.proofs.Common.{◌≡◌, refl, sym, ap, ◌∙◌, ℕ, ◌+◌, List, [], ◌∷◌, ◌++◌, Some, None, arith, ◌<◌, ◌≤◌, Bool, true, false, Option}
+use Rattle.std.specs.Prelude.{nat_lt, if◌then◌else◌}
 use Rattle.std.proofs.lemmas.List.{append_assoc, append-nil, length-append}
 use Rattle.std.proofs.lemmas.Bool.Decides.{nat_tests}
 use Rattle.dmx_calls.specs.Response.{Response, Done, Busy, Refused, NoMemory, Data, Again, Overflow, TimedOut, Ready, Passed}
@@ -11,21 +12,26 @@ use Rattle.client_core.specs.Commands.{Doing, stands, through, Slots, done}
 use Rattle.client_core.specs.Events.{Standing, Progress, with_outcome, kind_of, slots_after, progress_from, progress, waits_after, standing_at}
 use Rattle.client_core.specs.Inside.Tasks.{resumed, node_in, IsTaskInRange}
 use Rattle.client_script.specs.declared.line.Line.{Line}
-use Rattle.std.specs.Option.{IfSome, IfNone, MatchOption}
+use Rattle.std.specs.Option.{IfSome, IfNone}
 use Rattle.client_core.specs.declared.event.Event.{Event}
 use Rattle.client_core.specs.declared.machine.Current.{Current}
 use Rattle.client_core.specs.declared.task.Task.TheVariants.{On, OpenFrom, Attach, Detach}
 use Rattle.client_script.specs.declared.line.Verb.{Verb}
 use Rattle.client_script.specs.declared.line.Verb.TheVariants as verb
 use Rattle.client_core.specs.Inside.Core.{ahead, behind, coming_from, coming, Core, IsAfter, HasTaken, waits_with}
+use Rattle.client_core.proofs.Options.{none_ne_some}
+
+-- how far a client is whose next command does this
+abbrev pub progress_of : (slots : Slots) (step : ℕ) (c : Command) (cs : List Command) → Doing → Progress
+progress_of slots step c cs d = elim d [
+  | stands event ↦ record { outcomes = []; standing = Some (record { line = c.line; from = step; event = event }) }
+  | through ending next left ↦ with_outcome (record { line = c.line; from = step; to = next; kind = kind_of ending }) (progress_from (slots_after ending slots) next cs left)
+]
 
 pub first_ahead : (slots : Slots) (step : ℕ) (c : Command) (cs : List Command) (more : List Response)
     → progress_from slots step (c ∷ cs) more ≡ ahead c.line step slots cs (done slots c.target c.verb step more)
 first_ahead slots step c cs more = go (done slots c.target c.verb step more) where
-  go : (d : Doing) → elim d [
-    | stands event ↦ record { outcomes = []; standing = Some (record { line = c.line; from = step; event = event }) }
-    | through ending next left ↦ with_outcome (record { line = c.line; from = step; to = next; kind = kind_of ending }) (progress_from (slots_after ending slots) next cs left)
-  ] ≡ ahead c.line step slots cs d
+  go : (d : Doing) → progress_of slots step c cs d ≡ ahead c.line step slots cs d
   go (stands event) = refl
   go (through ending next left) = refl
 
@@ -97,38 +103,38 @@ task_stands step (OpenFrom slot node) = (_, refl, refl)
 task_stands step (Attach ending node pids) = (_, refl, refl)
 task_stands step (Detach ending node) = (_, refl, refl)
 
+-- either way it waits for nothing
+no_wait : (b : Bool) → ◌≡◌ {A = Option ℕ} None (if b then None else None)
+no_wait true = refl
+no_wait false = refl
+
+-- a client waits where the reply was Again, and what stands there isn't its command's first call
+waits_by : (s : Standing) (r : Response) → waits_after (Some s) (r ∷ []) ≡ (if nat_lt s.from s.event.step then waits_with r s.event.node else None)
+waits_by s (Again false) = refl
+waits_by s (Again true) = no_wait (nat_lt s.from s.event.step)
+waits_by s (Done from to tap) = no_wait (nat_lt s.from s.event.step)
+waits_by s (Busy owner) = no_wait (nat_lt s.from s.event.step)
+waits_by s (Refused e) = no_wait (nat_lt s.from s.event.step)
+waits_by s NoMemory = no_wait (nat_lt s.from s.event.step)
+waits_by s (Data bytes) = no_wait (nat_lt s.from s.event.step)
+waits_by s (Overflow from to item need room) = no_wait (nat_lt s.from s.event.step)
+waits_by s (TimedOut a b c) = no_wait (nat_lt s.from s.event.step)
+waits_by s (Ready a b c d) = no_wait (nat_lt s.from s.event.step)
+waits_by s Passed = no_wait (nat_lt s.from s.event.step)
+
 -- a command that goes on waits where the reply was Again
 pub waits_still : (s : Standing) (r : Response) → s.from < s.event.step → waits_after (Some s) (r ∷ []) ≡ waits_with r s.event.node
-waits_still s (Again false) lt = grind (arith, nat_tests)
-waits_still s (Again true) lt = refl
-waits_still s (Done from to tap) lt = refl
-waits_still s (Busy owner) lt = refl
-waits_still s (Refused e) lt = refl
-waits_still s NoMemory lt = refl
-waits_still s (Data bytes) lt = refl
-waits_still s (Overflow from to item need room) lt = refl
-waits_still s (TimedOut a b c) lt = refl
-waits_still s (Ready a b c d) lt = refl
-waits_still s Passed lt = refl
+waits_still s r lt =
+    let later : nat_lt s.from s.event.step ≡ true = grind (arith, nat_tests) in
+    waits_by s r ∙ ap (λ b. if b then waits_with r s.event.node else None) later
 
 -- a command that has just begun waits for nothing
-pub waits_not : (s : Standing) (r : Response) → s.event.step ≤ s.from → waits_after (Some s) (r ∷ []) ≡ None
-waits_not s (Again false) le = grind (arith, nat_tests)
-waits_not s (Again true) lt = refl
-waits_not s (Done from to tap) lt = refl
-waits_not s (Busy owner) lt = refl
-waits_not s (Refused e) lt = refl
-waits_not s NoMemory lt = refl
-waits_not s (Data bytes) lt = refl
-waits_not s (Overflow from to item need room) lt = refl
-waits_not s (TimedOut a b c) lt = refl
-waits_not s (Ready a b c d) lt = refl
-waits_not s Passed lt = refl
+waits_not : (s : Standing) (r : Response) → s.event.step ≤ s.from → waits_after (Some s) (r ∷ []) ≡ None
+waits_not s r le =
+    let first : nat_lt s.from s.event.step ≡ false = grind (arith, nat_tests) in
+    waits_by s r ∙ ap (λ b. if b then waits_with r s.event.node else None) first
 
 -- ------ what stands there
-
-none_ne_some : (k : Current) → ◌≡◌ {A = Option Current} None (Some k) → ⊥
-none_ne_some k is = subst (λ o. MatchOption o (Unit {0}) (λ x. ⊥)) is tt
 
 pub none_left : (cur : Option Current) (step : ℕ) (slots : Slots) (left : List Command) → cur ≡ None → IfNone cur (left ≡ [])
     → coming_from cur step slots left [] ≡ record { outcomes = []; standing = None }

@@ -1,3 +1,4 @@
+pub mod Options
 pub mod GoesOn
 pub mod FirstCalls
 pub mod More

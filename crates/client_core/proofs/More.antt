@@ -1,7 +1,6 @@
 -- One reply more repeats at most one read more.
 use Rattle.std.proofs.Common.{◌≡◌, refl, sym, ap, subst, ◌∙◌, ℕ, ◌+◌, ◌<◌, ◌≤◌, Bool, true, false, List, [], ◌∷◌, ◌++◌, Option, Some, None, arith}
 use Rattle.std.specs.Prelude.{nat_lt, if◌then◌else◌, slice_index_or, option_map}
-use Rattle.std.specs.Option.{MatchOption}
 use Rattle.dmx_calls.specs.declared.limits.TheConstants.{DEMUX_NODES}
 use Rattle.dmx_calls.specs.declared.reply.Tap.{Tap as TapChange}
 use Rattle.dmx_calls.specs.declared.reply.Tap.TheVariants.{Keep as KeepTap, Attach as AttachTap, Detach as DetachTap}
@@ -17,11 +16,12 @@ use Rattle.client_core.specs.declared.event.Want.TheVariants.{Open}
 use Rattle.client_core.specs.declared.task.Ending.{Ending}
 use Rattle.client_core.specs.declared.task.Ending.TheVariants.{Made, Bound, AllBusy}
 use Rattle.client_core.specs.Commands.{Slots, Doing, stands, through, once, told, called, opened, read_until, done_on, done_at, done_by_slot, done, ends_wait, ends_drain, commands_of}
-use Rattle.client_core.specs.Events.{Standing, Progress, with_outcome, kind_of, slots_after, progress_from, progress, no_slots, waits_after}
+use Rattle.client_core.specs.Events.{Standing, slots_after, progress_from, progress, no_slots, waits_after}
 use Rattle.client_core.specs.Budget.{repeated, repeats_on, repeats_at, repeats_in, repeats_from, repeats}
 use Rattle.client_core.specs.Inside.Core.{waits_with}
 use Rattle.client_core.specs.Inside.More.{added_by, OneReplyMore}
-use Rattle.client_core.proofs.GoesOn.{last_counts, waits_still}
+use Rattle.client_core.proofs.Options.{none_ne_some, same_some}
+use Rattle.client_core.proofs.GoesOn.{progress_of, last_counts, waits_still}
 
 -- A command with one reply more: where it was through, it leaves this reply too. Where it stood, it stands at a later step, or is through, and then no read is repeated. So many reads are repeated before and after.
 abbrev pub Onward : (step : ℕ) → Response → (before after : ℕ) → Doing → Doing → Type 0
@@ -263,33 +263,19 @@ record IsMore (w : Want) (r : Response) (m n : ℕ) (now : Option Standing) : Ty
   le : n ≤ m + added_by w r
   waits : r ≡ Again false → waits_after now (r ∷ []) ≡ None → n ≤ m
 
-none_stands : (s : Standing) → ◌≡◌ {A = Option Standing} None (Some s) → ⊥
-none_stands s is = subst (λ o. MatchOption o (Unit {0}) (λ x. ⊥)) is tt
-
-none_some : (node : ℕ) (o : Option ℕ) → o ≡ Some node → o ≡ None → ⊥
-none_some node o some none = subst (λ o. MatchOption o (Unit {0}) (λ x. ⊥)) (sym none ∙ some) tt
-
-same_some : (s t : Standing) → ◌≡◌ {A = Option Standing} (Some s) (Some t) → s ≡ t
-same_some s t is = cc
-
 more_more : (w : Want) (r : Response) (k m n : ℕ) (now : Option Standing) → IsMore w r m n now → IsMore w r (k + m) (k + n) now
 more_more w r k m n now is = record { le = omega (arith, is.le); waits = λ again none. omega (arith, is.waits again none) }
 
-abbrev rest_of : (slots : Slots) (cs : List Command) → Doing → ℕ
+-- how often those behind a command that does this repeat a read
+abbrev pub rest_of : (slots : Slots) (cs : List Command) → Doing → ℕ
 rest_of slots cs d = elim d [ stands event ↦ 0 | through ending next left ↦ repeats_from (slots_after ending slots) next cs left ]
 
-abbrev progress_of : (slots : Slots) (step : ℕ) (c : Command) (cs : List Command) → Doing → Progress
-progress_of slots step c cs d = elim d [
-  | stands event ↦ record { outcomes = []; standing = Some (record { line = c.line; from = step; event = event }) }
-  | through ending next left ↦ with_outcome (record { line = c.line; from = step; to = next; kind = kind_of ending }) (progress_from (slots_after ending slots) next cs left)
-]
-
 waits_there : (s : Standing) (r : Response) → s.from < s.event.step → r ≡ Again false → waits_after (Some s) (r ∷ []) ≡ None → ⊥
-waits_there s r lt again none = none_some s.event.node (waits_after (Some s) (r ∷ [])) (waits_still s r lt ∙ ap (λ q. waits_with q s.event.node) again) none
+waits_there s r lt again none = none_ne_some s.event.node (sym none ∙ waits_still s r lt ∙ ap (λ q. waits_with q s.event.node) again)
 
 all_more : (slots : Slots) (step : ℕ) (cs : List Command) (rs : List Response) (r : Response) (s : Standing) → (progress_from slots step cs rs).standing ≡ Some s
     → IsMore s.event.want r (repeats_from slots step cs rs) (repeats_from slots step cs (rs ++ r ∷ [])) (progress_from slots step cs (rs ++ r ∷ [])).standing
-all_more slots step [] rs r s is = absurd (none_stands s is)
+all_more slots step [] rs r s is = absurd (none_ne_some s is)
 all_more slots step (c ∷ cs) rs r s is =
     go (λ ending next left there. all_more (slots_after ending slots) next cs left r s there) (done slots c.target c.verb step rs) (done slots c.target c.verb step (rs ++ r ∷ [])) (repeats_in slots c.target c.verb rs) (repeats_in slots c.target c.verb (rs ++ r ∷ []))
     (done_on_more slots c.target c.verb step rs r) is where
@@ -298,7 +284,7 @@ all_more slots step (c ∷ cs) rs r s is =
           → (d f : Doing) (m n : ℕ) → Onward step r m n d f → (progress_of slots step c cs d).standing ≡ Some s
           → IsMore s.event.want r (m + rest_of slots cs d) (n + rest_of slots cs f) (progress_of slots step c cs f).standing
       go deeper (stands e) (stands f) m n on there =
-          let same : e ≡ s.event = ap (λ t. t.event) (same_some (record { line = c.line; from = step; event = e }) s there) in
+          let same : e ≡ s.event = ap (λ t. t.event) (same_some {A = Standing} (record { line = c.line; from = step; event = e }) s there) in
           record {
             le = subst (λ x. n + 0 ≤ m + 0 + added_by x.want r) same (omega (arith, on.1));
             waits = λ again none. absurd (waits_there (record { line = c.line; from = step; event = f }) r on.0 again none);
@@ -313,7 +299,7 @@ all_more slots step (c ∷ cs) rs r s is =
           (subst (λ x. IsMore s.event.want r (m + rest_of slots cs (through ending next left)) (m + rest_of slots cs x) (progress_of slots step c cs x).standing) (sym on.0) behind)
 
 pub some_of : (o : Option Standing) (e : Event) → option_map (λ s. s.event) o ≡ Some e → (s : Standing) × (o ≡ Some s) × (s.event ≡ e)
-some_of None e is = absurd (subst (λ o. MatchOption o (Unit {0}) (λ x. ⊥)) is tt)
+some_of None e is = absurd (none_ne_some e is)
 some_of (Some s) e is = (s, refl, cc)
 
 pub one_reply_more : OneReplyMore

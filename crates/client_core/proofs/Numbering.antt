@@ -1,10 +1,9 @@
 -- A client's calls are numbered, and are made on one of the 33 nodes; a command that is through stays through.
 use Rattle.std.proofs.Common.{◌≡◌, refl, sym, ap, subst, ◌∙◌, ℕ, zero, suc, ◌+◌, ◌<◌, ◌≤◌, Bool, true, false, nat_eq, List, [], ◌∷◌, ◌++◌, Option, Some, None, length, replicate, arith}
-use Rattle.std.specs.Prelude.{nat_lt, if◌then◌else◌, slice_index_or, slice_set}
-use Rattle.std.specs.Option.{MatchOption, IfSome}
+use Rattle.std.specs.Prelude.{nat_lt, if◌then◌else◌, slice_index_or}
+use Rattle.std.specs.Option.{IfSome}
 use Rattle.std.specs.List.{All}
-use Rattle.std.proofs.lemmas.List.{get_or-replicate}
-use Rattle.std.proofs.lemmas.List.Elements.{All-nil, All-cons, All-append, All-head, All-tail, All-set}
+use Rattle.std.proofs.lemmas.List.Elements.{All-nil, All-cons, All-head, All-tail, All-set}
 use Rattle.std.proofs.lemmas.Bool.Decides.{nat_tests}
 use Rattle.dmx_calls.specs.declared.limits.TheConstants.{DEMUX_NODES}
 use Rattle.dmx_calls.specs.declared.reply.Tap.{Tap as TapChange}
@@ -23,9 +22,11 @@ use Rattle.client_core.specs.declared.event.Want.{Want}
 use Rattle.client_core.specs.declared.task.Ending.{Ending}
 use Rattle.client_core.specs.declared.task.Ending.TheVariants.{Made, Bound, AllBusy, NoNode}
 use Rattle.client_core.specs.Commands.{Slots, Doing, stands, through, once, told, called, opened, read_until, done_on, done_at, done_by_slot, done, ends_wait, ends_drain, commands_in, commands_of}
-use Rattle.client_core.specs.Events.{Standing, Progress, with_outcome, kind_of, slots_after, progress_from, progress, no_slots, next_event, next_of_line, standing_at}
+use Rattle.client_core.specs.Events.{Standing, slots_after, progress_from, progress, no_slots, next_event, standing_at}
 use Rattle.client_core.specs.Inside.Tasks.{IsEndingInRange, AreSlots}
 use Rattle.client_core.specs.Budget.{repeats_in}
+use Rattle.client_core.proofs.Options.{none_ne_some, same_some}
+use Rattle.client_core.proofs.GoesOn.{progress_of}
 use Rattle.client_core.proofs.More.{Onward, done_on_more, some_of}
 
 -- ------ what stands there has the next number, and is on one of the nodes
@@ -146,31 +147,16 @@ abbrev pub AreTargets : List Command → Type 0
 AreTargets [] = Unit {0}
 AreTargets (c ∷ cs) = IsTargetInRange c.target × AreTargets cs
 
-none_stands : (s : Standing) → ◌≡◌ {A = Option Standing} None (Some s) → ⊥
-none_stands s is = subst (λ o. MatchOption o (Unit {0}) (λ x. ⊥)) is tt
-
-stands_none : (s : Standing) → ◌≡◌ {A = Option Standing} (Some s) None → ⊥
-stands_none s is = subst (λ o. MatchOption o ⊥ (λ x. Unit {0})) is tt
-
-same_event : (s t : Standing) → ◌≡◌ {A = Option Standing} (Some s) (Some t) → s.event ≡ t.event
-same_event s t is = ap (λ x. x.event) (subst (λ o. MatchOption o ⊥ (λ x. s ≡ x)) is refl)
-
-abbrev progress_of : (slots : Slots) (step : ℕ) (c : Command) (cs : List Command) → Doing → Progress
-progress_of slots step c cs d = elim d [
-  | stands event ↦ record { outcomes = []; standing = Some (record { line = c.line; from = step; event = event }) }
-  | through ending next left ↦ with_outcome (record { line = c.line; from = step; to = next; kind = kind_of ending }) (progress_from (slots_after ending slots) next cs left)
-]
-
 all_fits : (slots : Slots) (step : ℕ) (cs : List Command) (rs : List Response) (s : Standing) → AreSlots slots → AreTargets cs → (progress_from slots step cs rs).standing ≡ Some s
     → (s.event.step ≡ step + length rs) × (s.event.node ≤ DEMUX_NODES)
-all_fits slots step [] rs s bound ranges is = absurd (none_stands s is)
+all_fits slots step [] rs s bound ranges is = absurd (none_ne_some s is)
 all_fits slots step (c ∷ cs) rs s bound ranges is =
     go (λ ending next left bound there. all_fits (slots_after ending slots) next cs left s bound ranges.1 there) (done slots c.target c.verb step rs) (done_fits slots c.target c.verb step rs ranges.0 bound) is where
       go : ((ending : Ending) (next : ℕ) (left : List Response) → AreSlots (slots_after ending slots) → (progress_from (slots_after ending slots) next cs left).standing ≡ Some s
           → (s.event.step ≡ next + length left) × (s.event.node ≤ DEMUX_NODES))
           → (d : Doing) → Fits (step + length rs) d → (progress_of slots step c cs d).standing ≡ Some s → (s.event.step ≡ step + length rs) × (s.event.node ≤ DEMUX_NODES)
       go deeper (stands e) fits there =
-          let same : e ≡ s.event = same_event (record { line = c.line; from = step; event = e }) s there in
+          let same : e ≡ s.event = ap (λ t. t.event) (same_some {A = Standing} (record { line = c.line; from = step; event = e }) s there) in
           subst (λ x. (x.step ≡ step + length rs) × (x.node ≤ DEMUX_NODES)) same fits
       go deeper (through ending next left) fits there =
           let that = deeper ending next left (bound_after ending slots fits.1 bound) there in
@@ -222,7 +208,7 @@ through_more slots step (c ∷ cs) rs r is =
     (done_on_more slots c.target c.verb step rs r) is where
       go : ((ending : Ending) (next : ℕ) (left : List Response) → (progress_from (slots_after ending slots) next cs left).standing ≡ None → (progress_from (slots_after ending slots) next cs (left ++ r ∷ [])).standing ≡ None)
           → (d f : Doing) (m n : ℕ) → Onward step r m n d f → (progress_of slots step c cs d).standing ≡ None → (progress_of slots step c cs f).standing ≡ None
-      go deeper (stands e) f m n on there = absurd (stands_none (record { line = c.line; from = step; event = e }) there)
+      go deeper (stands e) f m n on there = absurd (none_ne_some {A = Standing} (record { line = c.line; from = step; event = e }) (sym there))
       go deeper (through ending next left) f m n on there = subst (λ x. (progress_of slots step c cs x).standing ≡ None) (sym on.0) (deeper ending next left there)
 
 -- where the commands before this one are through, and what stands there is of another line, this one is through too
@@ -232,7 +218,7 @@ through_next slots step [] c behind rs is at = go (done slots c.target c.verb st
   itself : (line : ℕ) (e : Event) → (if nat_eq line line then Some e else None) ≡ None → ⊥
   itself line e none =
       let same : nat_eq line line ≡ true = grind (arith, nat_tests) in
-      subst (λ o. MatchOption o ⊥ (λ x. Unit {0})) (rw same at none) tt
+      none_ne_some e (sym (rw same at none))
 
   go : (d : Doing) → standing_at c.line (progress_of slots step c behind d).standing ≡ None → (progress_of slots step c [] d).standing ≡ None
   go (stands e) none = absurd (itself c.line e none)
@@ -243,5 +229,5 @@ through_next slots step (p ∷ before) c behind rs is at =
           → standing_at c.line (progress_from (slots_after ending slots) next (before ++ c ∷ behind) left).standing ≡ None → AreThrough (slots_after ending slots) next (before ++ c ∷ []) left)
           → (d : Doing) → (progress_of slots step p before d).standing ≡ None → standing_at c.line (progress_of slots step p (before ++ c ∷ behind) d).standing ≡ None
           → (progress_of slots step p (before ++ c ∷ []) d).standing ≡ None
-      go deeper (stands e) there none = absurd (stands_none (record { line = p.line; from = step; event = e }) there)
+      go deeper (stands e) there none = absurd (none_ne_some {A = Standing} (record { line = p.line; from = step; event = e }) (sym there))
       go deeper (through ending next left) there none = deeper ending next left there none

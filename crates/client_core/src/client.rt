@@ -158,31 +158,29 @@ impl ClientCore {
         let step = self.step + 1;
         self.step = step;
         self.waits = None;
-        match self.current.take() {
-            None => unreachable!(),
-            Some(current) => match after(current.task, reply) {
-                Next::Still(task) => {
-                    self.waits = waits_after(&task, reply);
-                    self.current = Some(Current {
+        let current = self.current.take().unwrap();
+        match after(current.task, reply) {
+            Next::Still(task) => {
+                self.waits = waits_after(&task, reply);
+                self.current = Some(Current {
+                    line: current.line,
+                    from: current.from,
+                    task,
+                });
+            }
+            Next::Through(ending) => {
+                bind(&mut self.slots, ending);
+                add(
+                    &mut self.outcomes,
+                    Outcome {
                         line: current.line,
                         from: current.from,
-                        task,
-                    });
-                }
-                Next::Through(ending) => {
-                    bind(&mut self.slots, ending);
-                    add(
-                        &mut self.outcomes,
-                        Outcome {
-                            line: current.line,
-                            from: current.from,
-                            to: step,
-                            kind: kind_of(ending),
-                        },
-                    );
-                    self.current = begin(&mut self.left, &mut self.slots, step, &mut self.outcomes);
-                }
-            },
+                        to: step,
+                        kind: kind_of(ending),
+                    },
+                );
+                self.current = begin(&mut self.left, &mut self.slots, step, &mut self.outcomes);
+            }
         }
     }
 

@@ -46,10 +46,7 @@ pub fn add(outcomes: &mut Vec<Outcome>, outcome: Outcome)
     ensures added { outcomes.new.items ≡ outcomes.old.items ++ outcome ∷ [] }
     ensures room { vec_capacity outcomes.old ≤ vec_capacity outcomes.new }
 {
-    match outcomes.push(outcome) {
-        Ok(()) => {}
-        Err(_) => unreachable!(),
-    }
+    outcomes.push(outcome).unwrap();
 }
 
 /// Begins the next command that makes a call; those before it are through.
