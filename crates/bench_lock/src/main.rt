@@ -11,9 +11,7 @@
 
 ghost use Rattle.std.specs.Prelude.{◌≡◌, ◌<◌, ◌≤◌, ◌^◌, ◌+◌, ℕ, All, length};
 
-mod adder;
-
-use crate::adder::Adder;
+use machine::Adder;
 use node_lock::{NodeLock, Pass};
 use std::alloc::{AllocError as NoMemory, Global};
 use std::marker::Brand;
@@ -113,20 +111,21 @@ fn through_lock<R: Threads + Wait + Sync>(
     Ok(sum_of_calls(rt, &lock, &mut passes, calls))
 }
 
-// Makes the calls of one thread through the mutex, and answers the last sum.
-fn call_mutex<L: Ledger, R: Wait>(rt: &R, shared: &Mutex<Adder>, calls: u32, blank: Blank) -> u64
-    requires ledger { (blank.name ≡ L.name) × (blank.parts ≡ L.parts) × (0 < L.parts) }
-{
-    let mut steps: Steps<L> = Steps::new(blank);
-    let mut last = 0;
-    for _ in 0..calls {
-        last = shared.lock(rt).add_one(&mut steps);
+// Adds 1 where no lock counts the calls, and answers the new sum. Past 2^50 calls it adds no more.
+fn add_one(adder: &mut Adder) -> u64 {
+    if adder.made() >= 1 << 50 {
+        return adder.sum();
     }
-    last
+    adder.add(1)
 }
 
-fn call_mutex_often<R: Wait>(rt: &R, shared: &Mutex<Adder>, calls: u32) -> u64 {
-    call_mutex::<Brand, R>(rt, shared, calls, Blank::new(1))
+// Makes the calls of one thread through the mutex, and answers the last sum.
+fn call_mutex<R: Wait>(rt: &R, shared: &Mutex<Adder>, calls: u32) -> u64 {
+    let mut last = 0;
+    for _ in 0..calls {
+        last = add_one(&mut shared.lock(rt));
+    }
+    last
 }
 
 fn through_mutex<R: Threads + Wait + Sync>(
@@ -139,7 +138,7 @@ fn through_mutex<R: Threads + Wait + Sync>(
 {
     let shared = Mutex::new(Adder::new());
     let mut lasts = vec![in alloc; 0u64; threads as usize]?;
-    let work = |_: usize, last: &mut u64| *last = call_mutex_often(rt, &shared, calls);
+    let work = |_: usize, last: &mut u64| *last = call_mutex(rt, &shared, calls);
     thread::for_each_mut(rt, &mut lasts, threads as usize, &work);
     Ok(shared.lock(rt).sum())
 }

@@ -1,9 +1,10 @@
 //! A try beside a call that is held inside the machine.
-ghost use Rattle.std.specs.Prelude.{◌≡◌, ℕ, ◌+◌, ◌<◌, ◌≤◌, ◌^◌, [], ◌∷◌, IfOk, vec_len, Some, slice_get};
-ghost use Rattle.node_lock.specs.Passes.{IsFresh, AreFresh};
+ghost use Rattle.std.specs.Prelude.{◌≡◌, ℕ, ◌+◌, ◌<◌, ◌≤◌, ◌^◌};
+ghost use Rattle.node_lock.specs.Passes.{IsFresh};
 
 use crate::lock::{Held, NodeLock};
 use crate::pass::Pass;
+use crate::tests::pair;
 use machine::Machine;
 use std::alloc::Global;
 use std::marker::Brand;
@@ -166,16 +167,6 @@ fn beside<R: Threads + Wait + Sync>(
         { attempt_beside(lock, two, entered, go) },
     );
     held
-}
-
-// The two passes of a lock of two callers.
-fn pair(lock: &NodeLock<Gated>, mut passes: Vec<Pass<Gated>>) -> (Pass<Gated>, Pass<Gated>)
-    requires { (vec_len passes ≡ 2) × AreFresh lock.now 2 passes.items }
-    ensures { IsFresh lock.now 2 0 result.0 × IsFresh lock.now 2 1 result.1 }
-{
-    let two = passes.pop().unwrap();
-    let one = passes.pop().unwrap();
-    (one, two)
 }
 
 #[test]

@@ -4,7 +4,7 @@ ghost use Rattle.node_lock.specs.Passes.{IsSamePass, AreFresh};
 
 use crate::lock::NodeLock;
 use crate::pass::Pass;
-use crate::tests::{Adder, at_zero};
+use machine::Adder;
 use std::marker::Brand;
 use std::sync::Wait;
 use std::sync::atomic::AtomicU64;
@@ -99,7 +99,7 @@ fn eight<R: Threads + Wait + Sync>(
 fn eight_threads_on_one_lock_are_answered_their_place_plus_one(
     rt: HostRuntime,
 ) -> Result<(), Fail> {
-    let Ok((lock, mut passes)) = NodeLock::new(rt.alloc(), at_zero(), 8) else {
+    let Ok((lock, mut passes)) = NodeLock::new(rt.alloc(), Adder::new(), 8) else {
         panic!(rt; "no memory");
     };
     let right = AtomicU64::new(0);
@@ -163,13 +163,13 @@ fn join_all_by_parity<R: Wait>(
 
 #[test]
 fn passes_joined_in_an_odd_order_have_every_call(rt: HostRuntime) -> Result<(), Fail> {
-    let Ok((lock, passes)) = NodeLock::new(rt.alloc(), at_zero(), 64) else {
+    let Ok((lock, passes)) = NodeLock::new(rt.alloc(), Adder::new(), 64) else {
         panic!(rt; "no memory");
     };
     for (number, pass) in passes.iter().enumerate() {
         assert_eq!(rt; pass.who() as usize, number);
     }
     let (adder, len) = join_all_by_parity(&rt, lock, passes);
-    assert!(rt; adder.sum == 64 && len == 64);
+    assert!(rt; adder.sum() == 64 && len == 64);
     Ok(())
 }

@@ -1,10 +1,10 @@
 //! Calls of one thread and of two, on a machine that adds.
-ghost use Rattle.std.specs.Prelude.{◌≡◌, ℕ, ◌+◌, ◌*◌, ◌<◌, ◌≤◌, ◌^◌, [], ◌∷◌, IfOk, vec_len};
+ghost use Rattle.std.specs.Prelude.{◌≡◌, ◌<◌, ◌≤◌, IfOk, vec_len};
 ghost use Rattle.node_lock.specs.Passes.{IsFresh, AreFresh};
 
 use crate::lock::{Held, NodeLock};
 use crate::pass::Pass;
-use machine::Machine;
+use machine::{Adder, Machine};
 use std::alloc::{AllocError as NoMemory, Global};
 use std::marker::Brand;
 use std::sync::Wait;
@@ -14,59 +14,6 @@ use std::thread::{Threads, join};
 use steps::Steps;
 
 const CALLS: usize = 1000;
-
-// What a history keeps of a call.
-pub(crate) struct Added {
-    who: u32,
-    number: u8,
-}
-
-// A machine that starts at 0, adds the call's number and answers the new sum.
-#[derive(Drop)]
-pub(crate) struct Adder {
-    pub(crate) sum: u64,
-    made: u64,
-    ghost small: { sum ≤ 255 * made },
-}
-
-impl Machine for Adder {
-    ghost use Rattle.std.specs.Prelude.{◌≡◌, length, refl, ◌+◌};
-
-    type Call = u8;
-
-    type Answer = u64;
-
-    type Entry = Added;
-
-    ghost entry_of = { λ who call answer. record { who = who; number = call } };
-
-    ghost who_of = { λ e. e.who };
-
-    ghost hands_back = { λ call answer. Unit {0} };
-
-    ghost stands_for = { λ m h. m.made ≡ length h };
-
-    ghost entries = { λ m. m.made };
-
-    ghost most = { λ h call. 0 };
-
-    fn apply<L: Ledger>(&mut self, who: u32, call: u8, steps: &mut Steps<L>) -> u64 {
-        let Adder { sum, made } = self;
-        *sum += call as u64;
-        *made += 1;
-        *sum
-    }
-
-    ghost names = { λ who call answer. refl };
-
-    ghost counts = { λ m h is. is };
-}
-
-pub(crate) fn at_zero() -> Adder
-    ensures { result.made ≡ 0 }
-{
-    Adder { sum: 0, made: 0 }
-}
 
 // Makes the calls, and gives their places and answers.
 fn make<L: Ledger, R: Wait>(
@@ -136,7 +83,7 @@ fn both<R: Threads + Wait + Sync>(
 }
 
 // The two passes of a lock of two callers.
-fn pair(lock: &NodeLock<Adder>, mut passes: Vec<Pass<Adder>>) -> (Pass<Adder>, Pass<Adder>)
+pub(crate) fn pair<M: Machine>(lock: &NodeLock<M>, mut passes: Vec<Pass<M>>) -> (Pass<M>, Pass<M>)
     requires { (vec_len passes ≡ 2) × AreFresh lock.now 2 passes.items }
     ensures { IsFresh lock.now 2 0 result.0 × IsFresh lock.now 2 1 result.1 }
 {
@@ -147,7 +94,7 @@ fn pair(lock: &NodeLock<Adder>, mut passes: Vec<Pass<Adder>>) -> (Pass<Adder>, P
 
 #[test]
 fn two_threads_make_a_thousand_calls_each(rt: HostRuntime) -> Result<(), Fail> {
-    let Ok((lock, passes)) = NodeLock::new(rt.alloc(), at_zero(), 2) else {
+    let Ok((lock, passes)) = NodeLock::new(rt.alloc(), Adder::new(), 2) else {
         panic!(rt; "no memory");
     };
     let (one, two) = pair(&lock, passes);
@@ -163,7 +110,7 @@ fn two_threads_make_a_thousand_calls_each(rt: HostRuntime) -> Result<(), Fail> {
     for (i, call) in all.iter().enumerate() {
         assert!(rt; call.0 == i as u64 && call.1 == i as u64 + 1);
     }
-    assert_eq!(rt; adder.sum, 2000);
+    assert_eq!(rt; adder.sum(), 2000);
     Ok(())
 }
 
@@ -194,7 +141,7 @@ fn three_there<R: Wait>(rt: &R, lock: &NodeLock<Adder>, pass: &mut Pass<Adder>) 
 
 #[test]
 fn three_calls_have_the_first_places(rt: HostRuntime) -> Result<(), Fail> {
-    let Ok((lock, passes)) = NodeLock::new(rt.alloc(), at_zero(), 2) else {
+    let Ok((lock, passes)) = NodeLock::new(rt.alloc(), Adder::new(), 2) else {
         panic!(rt; "no memory");
     };
     let (mut one, two) = pair(&lock, passes);
@@ -227,7 +174,7 @@ fn try_there(lock: &NodeLock<Adder>, pass: &mut Pass<Adder>) -> Option<u64>
 
 #[test]
 fn a_try_where_no_ticket_is_out_makes_the_call(rt: HostRuntime) -> Result<(), Fail> {
-    let Ok((lock, passes)) = NodeLock::new(rt.alloc(), at_zero(), 2) else {
+    let Ok((lock, passes)) = NodeLock::new(rt.alloc(), Adder::new(), 2) else {
         panic!(rt; "no memory");
     };
     let (mut one, _two) = pair(&lock, passes);

@@ -86,13 +86,45 @@ fn data(alloc: Global, bytes: &[u8]) -> Result<Reply, Fail> {
     Ok(Reply::Data(buf))
 }
 
-// A command that made its calls.
-fn command(line: u32, from: u64, to: u64) -> Outcome {
+fn command(line: u32, from: u64, to: u64, kind: OutcomeKind) -> Outcome {
     Outcome {
         line,
         from,
         to,
-        kind: OutcomeKind::Done,
+        kind,
+    }
+}
+
+// Commands that made their calls, each with its line, its first step and the step behind its last.
+fn commands(alloc: Global, all: &[(u32, u64, u64)]) -> Result<Vec<Outcome>, Fail> {
+    let mut outcomes = Vec::new(alloc);
+    for (line, from, to) in all {
+        outcomes.push(command(*line, *from, *to, OutcomeKind::Done))?;
+    }
+    Ok(outcomes)
+}
+
+// The calls of a client that opens node 0, sets its filter and starts it, and behind them these.
+fn started(alloc: Global, others: Vec<Entry>) -> Result<Vec<Entry>, Fail> {
+    let mut calls = vec![in alloc;
+        told(0, 0, 0, Act::Open, done()),
+        told(0, 1, 1, packets_of_256(), done()),
+        told(0, 2, 2, Act::Start { now: 0 }, done()),
+    ]?;
+    for entry in others {
+        calls.push(entry)?;
+    }
+    Ok(calls)
+}
+
+// An overflow whose third item found no room.
+fn lost(from: u64, to: u64) -> Reply {
+    Reply::Overflow {
+        from,
+        to,
+        item: 2,
+        need: 188,
+        room: 0,
     }
 }
 
@@ -154,22 +186,16 @@ fn a_read_and_a_poll_of_three_packets(rt: HostRuntime) -> Result<(), Fail> {
         ended: false,
     };
     let calls = vec![in alloc;
-        told(0, 0, 0, Act::Open, done()),
-        told(0, 1, 1, packets_of_256(), done()),
-        told(0, 2, 2, Act::Start { now: 0 }, done()),
         told(0, 6, 3, read(4), data(alloc, b"\x47\x01\x00\x10")?),
         told(0, 7, 4, Act::Poll { now: 0 }, ready),
     ]?;
     let rows = vec![in alloc; whole(256, 2), whole(257, 1)]?;
-    let outcomes = vec![in alloc;
-        command(1, 0, 1),
-        command(2, 1, 2),
-        command(3, 2, 3),
-        command(5, 3, 4),
-        command(6, 4, 5),
-    ]?;
+    let outcomes = commands(
+        alloc,
+        &[(1, 0, 1), (2, 1, 2), (3, 2, 3), (5, 3, 4), (6, 4, 5)],
+    )?;
     let feeding = vec![in alloc; fed(0), fed(1), fed(2)]?;
-    let all = histories(alloc, feeding, calls, Vec::new(alloc))?;
+    let all = histories(alloc, feeding, started(alloc, calls)?, Vec::new(alloc))?;
     let text = report(alloc, &head(3, 0, rows, false), &[outcomes], &all)?;
     assert_eq!(rt; text.as_slice(), READ_AND_POLLED);
     Ok(())
@@ -179,22 +205,14 @@ fn a_read_and_a_poll_of_three_packets(rt: HostRuntime) -> Result<(), Fail> {
 fn a_read_that_waits_for_its_packet(rt: HostRuntime) -> Result<(), Fail> {
     let alloc = rt.alloc();
     let calls = vec![in alloc;
-        told(0, 0, 0, Act::Open, done()),
-        told(0, 1, 1, packets_of_256(), done()),
-        told(0, 2, 2, Act::Start { now: 0 }, done()),
         told(0, 3, 3, read(2), Reply::Again { ended: false }),
         told(0, 5, 4, read(2), Reply::Again { ended: false }),
         told(0, 7, 5, read(2), data(alloc, b"\x47\x01")?),
     ]?;
     let rows = vec![in alloc; whole(256, 1), whole(257, 1)]?;
-    let outcomes = vec![in alloc;
-        command(1, 0, 1),
-        command(2, 1, 2),
-        command(3, 2, 3),
-        command(4, 3, 6),
-    ]?;
+    let outcomes = commands(alloc, &[(1, 0, 1), (2, 1, 2), (3, 2, 3), (4, 3, 6)])?;
     let feeding = vec![in alloc; fed(0), fed(1)]?;
-    let all = histories(alloc, feeding, calls, Vec::new(alloc))?;
+    let all = histories(alloc, feeding, started(alloc, calls)?, Vec::new(alloc))?;
     let text = report(alloc, &head(2, 0, rows, false), &[outcomes], &all)?;
     let want = b"dvbemu 1\n\
         packets=2 skipped=0 rest=0\n\
@@ -247,10 +265,8 @@ fn commands_that_find_no_node_and_a_call_after_the_end(rt: HostRuntime) -> Resul
     opened.who = 2;
     let mut asked = told(32, 2, 561, read(1), Reply::Again { ended: true });
     asked.who = 2;
-    let mut full = command(33, 528, 560);
-    full.kind = OutcomeKind::Emfile;
-    let mut unbound = command(34, 560, 560);
-    unbound.kind = OutcomeKind::Unbound;
+    let full = command(33, 528, 560, OutcomeKind::Emfile);
+    let unbound = command(34, 560, 560, OutcomeKind::Unbound);
     let outcomes = [Vec::new(alloc), vec![in alloc; full, unbound]?];
     let dvr = vec![in alloc; opened, asked]?;
     let all = histories(alloc, Vec::new(alloc), Vec::new(alloc), dvr)?;
@@ -274,28 +290,14 @@ fn commands_that_find_no_node_and_a_call_after_the_end(rt: HostRuntime) -> Resul
 #[test]
 fn sums_of_entries_bytes_and_overflows(rt: HostRuntime) -> Result<(), Fail> {
     let alloc = rt.alloc();
-    let lost = Reply::Overflow {
-        from: 0,
-        to: 564,
-        item: 2,
-        need: 188,
-        room: 0,
-    };
-    let lost_again = Reply::Overflow {
-        from: 3,
-        to: 567,
-        item: 2,
-        need: 188,
-        room: 0,
-    };
     let first = vec![in alloc;
         told(0, 3, 0, read(16), data(alloc, &[7; 16])?),
         told(0, 4, 1, read(4), data(alloc, &[8; 4])?),
-        told(0, 5, 2, read(4), lost),
+        told(0, 5, 2, read(4), lost(0, 564)),
     ]?;
     let last = vec![in alloc;
         told(32, 0, 3, read(3), data(alloc, &[9; 3])?),
-        told(32, 1, 4, read(3), lost_again),
+        told(32, 1, 4, read(3), lost(3, 567)),
     ]?;
     let all = histories(alloc, vec![in alloc; fed(0), fed(1)]?, first, last)?;
     let text = summary(alloc, &head(2, 0, Vec::new(alloc), false), &all)?;
