@@ -5,7 +5,7 @@ use Rattle.client_script.proofs.places.read_filter.Goals as goal
 
 pub places-init : goal.places-init
 unfolding filter_by filter_in
-places-init c = record { read = refl; range = zeros-IsFilter }
+places-init c = rw c.empty-filter.ensures (record { read = refl; range = zeros-IsFilter })
 
 pub returns-in_default-clause-value : goal.returns-in_default-clause-value
 returns-in_default-clause-value c =
