@@ -6,9 +6,11 @@ use std::marker::Model;
 use std::sync::ledger::Ledger;
 use steps::Steps;
 
-/// The entry of an addition: the number, and who added it.
+/// The entry of an addition.
 pub struct Added {
+    /// Who added the number.
     pub who: u32,
+    /// The number.
     pub number: u8,
 }
 
