@@ -1,5 +1,5 @@
 -- What a reply must be, by what is known before the call and with it.
-use Rattle.std.specs.Prelude.{ℕ, ◌≡◌, true, ◌⊎◌, Option, Some, None, if◌then◌else◌}
+use Rattle.std.specs.Prelude.{ℕ, ◌≡◌, true, ◌⊎◌, Option, None, if◌then◌else◌}
 use Rattle.dmx_calls.specs.declared.node.NodeKind.{NodeKind}
 use Rattle.dmx_calls.specs.declared.reply.Errno.{Errno}
 use Rattle.dmx_calls.specs.Invocation.{Invocation}
@@ -17,8 +17,3 @@ GivesBy kind f g who call r =
 -- why the owner of a node that says this is refused a call, if it is
 abbrev pub owner_refusal : NodeKind → Facts → Invocation → Option Errno
 owner_refusal kind f call = if is_same_size f call then None else refusal kind (state_of f) f.params f.pids call
-
--- the node has an owner, who isn't refused this call
-abbrev pub IsTakenBy : NodeKind → (owner : Option ℕ) → Facts → Invocation → Type 0
-IsTakenBy kind None f call = ⊥
-IsTakenBy kind (Some owner) f call = owner_refusal kind f call ≡ None
