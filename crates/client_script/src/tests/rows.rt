@@ -282,7 +282,11 @@ pub const SECTIONS: [(&[u8], SectionParams); 3] = [
         b"c0 section n0 0 0 0",
         SectionParams {
             pid: 0,
-            filter: SectionFilter::empty(),
+            filter: SectionFilter {
+                filter: [0; 16],
+                mask: [0; 16],
+                mode: [0; 16],
+            },
             timeout: 0,
             flags: 0,
         },
