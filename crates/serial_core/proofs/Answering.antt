@@ -1,24 +1,19 @@
 -- Which calls leave the packets of a node and its end as they were.
-use Rattle.std.proofs.Common.{◌≡◌, refl, ap, ◌∙◌, ℕ, zero, suc, ◌<◌, Bool, true, false, List, [], ◌∷◌, Option, Some, None}
-use Rattle.std.specs.Prelude.{if◌then◌else◌, nat_eq, ◌||◌}
-use Rattle.dmx_calls.specs.declared.reply.Errno.{Errno}
+use Rattle.std.proofs.Common.{◌≡◌, refl, ap, ◌∙◌, ℕ, Bool, true, false, List, [], ◌∷◌}
+use Rattle.std.specs.Prelude.{◌||◌}
 use Rattle.dmx_calls.specs.declared.params.Input.{Input}
 use Rattle.dmx_calls.specs.Invocation as call
 use Rattle.dmx_calls.specs.Invocation.{Invocation, brought}
-use Rattle.dmx_calls.specs.Response.{Response, Done, Busy, Refused, NoMemory, Data, Again, Overflow, TimedOut, Ready, Passed, is_accepted}
-use Rattle.dmx_calls.specs.History.{History, Since, event, entry_of}
+use Rattle.dmx_calls.specs.Response.{Response, Passed, is_accepted}
+use Rattle.dmx_calls.specs.History.{History, event, entry_of}
 use Rattle.dmx_calls.specs.Tenure.{is_end, has_ended}
 use Rattle.dmx_calls.specs.Rules.{Rules}
-use Rattle.dmx_calls.specs.Ledger.{Misfit, answered_in, over}
-use Rattle.dmx_calls.specs.Facts.{Ledger, Facts, facts, ledger_of, ledger_at}
-use Rattle.dmx_calls.specs.Answer.{answer, with_call, response_unless, refusal_to, read_response, read_over, read_timeout, read_bytes, expired_of}
-use Rattle.dmx_calls.specs.Legal.{IsLegalFor}
-use Rattle.dmx_calls.specs.Bytes.{OverflowNamesAByte}
+use Rattle.dmx_calls.specs.Facts.{facts}
+use Rattle.dmx_calls.specs.Answer.{answer}
 use Rattle.dmx_calls.proofs.Going.{has_ended_refused, has_ended_after}
 use Rattle.client_core.specs.declared.event.Want.{Want}
 use Rattle.client_core.specs.declared.event.Want.TheVariants.{Open, Close, Section, Pes, Add, Remove, Start, Stop, Size, Read, Poll, Attach, Detach}
 use Rattle.client_core.specs.Commands.{call_of}
-use Rattle.serial_core.specs.Budget.{bytes_in}
 
 -- ------ calls of the feeder and of clients
 
@@ -71,16 +66,3 @@ no_end (Read n) now who r h = refl
 no_end Poll now who r h = refl
 no_end (Attach n ps) now who r h = refl
 no_end (Detach n) now who r h = refl
-
--- the bytes of a reply are those that its entry answers
-pub bytes_same : (who : ℕ) (c : Invocation) (r : Response) (h : History) → answered_in (event (entry_of who c r) h) ≡ bytes_in r
-bytes_same who c (Done a b tap) h = refl
-bytes_same who c (Busy o) h = refl
-bytes_same who c (Refused x) h = refl
-bytes_same who c NoMemory h = refl
-bytes_same who c (Data d) h = refl
-bytes_same who c (Again b) h = refl
-bytes_same who c (Overflow from to item need room) h = refl
-bytes_same who c (TimedOut a b d) h = refl
-bytes_same who c (Ready a b d e) h = refl
-bytes_same who c Passed h = refl

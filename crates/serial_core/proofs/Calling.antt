@@ -1,12 +1,14 @@
 -- A client's call is paid for: what it adds to the repeats, it adds to the bytes, or the client waits.
 use Rattle.std.proofs.Common.{◌≡◌, refl, sym, ap, subst, ℕ, zero, suc, ◌+◌, ◌*◌, ◌≤◌, Bool, true, false, ◌||◌, nat_eq, List, [], ◌∷◌, ◌++◌, Option, Some, None, length, ◌⊎◌, inl, inr, arith, length-append}
 use Rattle.std.specs.Prelude.{if◌then◌else◌, slice_index_or, slice_set, sum_by, is_some, option_map}
-use Rattle.std.specs.Option.{MatchOption}
 use Rattle.std.specs.List.{All}
 use Rattle.std.proofs.lemmas.List.Sums.{sum_by-append, sum_by-cons}
 use Rattle.dmx_calls.specs.declared.limits.TheConstants.{DEMUX_NODES}
-use Rattle.dmx_calls.specs.Response.{Response, Done, Busy, Refused, NoMemory, Data, Again, Overflow, TimedOut, Ready, Passed}
+use Rattle.dmx_calls.specs.Response.{Response, Again}
+use Rattle.dmx_calls.specs.Bytes.{OverflowNamesAByte}
+use Rattle.dmx_calls.specs.History.{History}
 use Rattle.dmx_calls.specs.Rules as rules
+use Rattle.dmx_calls.specs.Rules.{Rules}
 use Rattle.dmx_calls.specs.Answer.{answer}
 use Rattle.dmx_calls.proofs.Nodes.{demux_keeps, dvr_keeps}
 use Rattle.dmx_calls.proofs.Pending.{names_a_byte}
@@ -16,14 +18,15 @@ use Rattle.client_core.specs.declared.event.Want.{Want}
 use Rattle.client_core.specs.declared.event.Want.TheVariants.{Open, Close, Section, Pes, Add, Remove, Start, Stop, Size, Read, Poll, Attach, Detach}
 use Rattle.client_core.specs.Commands.{call_of, commands_of, ends_drain}
 use Rattle.client_core.specs.Events.{Standing, progress, next_event, next_of_line, standing_at, waits_on}
-use Rattle.client_core.specs.Budget.{repeats}
+use Rattle.client_core.specs.Budget.{bytes_in, repeats}
 use Rattle.client_core.specs.Inside.More.{added_by}
 use Rattle.client_core.proofs.FirstCalls.{few}
-use Rattle.client_core.proofs.More.{one_reply_more}
+use Rattle.client_core.proofs.Options.{none_ne_some}
+use Rattle.client_core.proofs.More.{one_reply_more, some_of}
 use Rattle.serial_core.specs.Nodes.{Node, history_of}
 use Rattle.serial_core.specs.SerialRun.{Run, ended, replies_of}
-use Rattle.serial_core.specs.Budget.{bytes_in, bytes_to, bytes_by, bytes_by_all, one_if, HasBrought, IsPaid}
-use Rattle.client_core.proofs.ReadReplies.{IsReadReply, reads}
+use Rattle.serial_core.specs.Budget.{bytes_to, bytes_by, bytes_by_all, one_if, HasBrought, IsPaid}
+use Rattle.client_core.proofs.ReadReplies.{IsReadReply, IsOpenAgain, not_ended, reads}
 use Rattle.serial_core.proofs.Paid.{Brought}
 
 -- ------ one reply
@@ -33,23 +36,14 @@ abbrev pub IsAnswer : (ended : Bool) → Want → Response → Type 0
 IsAnswer ended (Read count) r = IsReadReply ended r
 IsAnswer ended _ r = Unit {0}
 
--- Again, where the stream has not ended
-abbrev pub IsOpenAgain : (ended : Bool) → Response → Type 0
-IsOpenAgain ended r = (r ≡ Again false) × (ended ≡ false)
-
 read_pays : (ended : Bool) (r : Response) → IsReadReply ended r → ((if ends_drain r then 0 else 1) ≤ bytes_in r) ⊎ IsOpenAgain ended r
-read_pays ended (Refused x) is = inl (omega arith)
-read_pays ended (Data []) is = inl (omega arith)
-read_pays ended (Data (x ∷ xs)) is = inl (omega arith)
-read_pays ended (Again true) is = inl (omega arith)
-read_pays ended (Again false) is = inr (refl, sym is)
-read_pays ended (Overflow from to item need room) is = inl (omega (arith, is))
-read_pays ended (TimedOut a b c) is = inl (omega arith)
-read_pays ended (Done a b c) is = absurd is
-read_pays ended (Busy a) is = absurd is
-read_pays ended NoMemory is = absurd is
-read_pays ended (Ready a b c d) is = absurd is
-read_pays ended Passed is = absurd is
+read_pays ended r is = go (ends_drain r) refl where
+  go : (b : Bool) → ends_drain r ≡ b → ((if b then 0 else 1) ≤ bytes_in r) ⊎ IsOpenAgain ended r
+  go true yea = inl (omega arith)
+  go false nay = elim (not_ended ended r is nay) [
+    | inl some ↦ inl (omega (arith, some))
+    | inr again ↦ inr again
+  ]
 
 pays : (ended : Bool) (w : Want) (r : Response) → IsAnswer ended w r → (added_by w r ≤ bytes_in r) ⊎ IsOpenAgain ended r
 pays ended (Read count) r is = read_pays ended r is
@@ -84,36 +78,28 @@ added_one Poll r = omega arith
 added_one (Attach n ps) r = omega arith
 added_one (Detach n) r = omega arith
 
--- the answer of a node to the call of a client
+module _ (node : Rules) (names : OverflowNamesAByte node) where
+  -- the answer of a node to the call of a client
+  answers : (ended : Bool) (n who now : ℕ) (h : History) (w : Want) → HasBrought node n ended h → IsAnswer ended w (answer node h who (call_of w now))
+  answers ended n who now h (Read count) b = subst (λ has. IsReadReply has (answer node h who (call_of (Read count) now))) b.ended (reads node names h who now count b.legal)
+  answers ended n who now h Open b = tt
+  answers ended n who now h Close b = tt
+  answers ended n who now h (Section p) b = tt
+  answers ended n who now h (Pes p) b = tt
+  answers ended n who now h (Add p) b = tt
+  answers ended n who now h (Remove p) b = tt
+  answers ended n who now h Start b = tt
+  answers ended n who now h Stop b = tt
+  answers ended n who now h (Size p) b = tt
+  answers ended n who now h Poll b = tt
+  answers ended n who now h (Attach m ps) b = tt
+  answers ended n who now h (Detach m) b = tt
+
 pub demux_answers : (ended : Bool) (n : ℕ) (node : Node) (who now : ℕ) (w : Want) → HasBrought rules.demux n ended (history_of node) → IsAnswer ended w (answer rules.demux (history_of node) who (call_of w now))
-demux_answers ended n node who now (Read count) b = subst (λ has. IsReadReply has (answer rules.demux (history_of node) who (call_of (Read count) now))) b.ended (reads rules.demux (names_a_byte rules.demux demux_keeps) (history_of node) who now count b.legal)
-demux_answers ended n node who now Open b = tt
-demux_answers ended n node who now Close b = tt
-demux_answers ended n node who now (Section p) b = tt
-demux_answers ended n node who now (Pes p) b = tt
-demux_answers ended n node who now (Add p) b = tt
-demux_answers ended n node who now (Remove p) b = tt
-demux_answers ended n node who now Start b = tt
-demux_answers ended n node who now Stop b = tt
-demux_answers ended n node who now (Size p) b = tt
-demux_answers ended n node who now Poll b = tt
-demux_answers ended n node who now (Attach m ps) b = tt
-demux_answers ended n node who now (Detach m) b = tt
+demux_answers ended n node who now w b = answers rules.demux (names_a_byte rules.demux demux_keeps) ended n who now (history_of node) w b
 
 pub dvr_answers : (ended : Bool) (n : ℕ) (node : Node) (who now : ℕ) (w : Want) → HasBrought rules.dvr n ended (history_of node) → IsAnswer ended w (answer rules.dvr (history_of node) who (call_of w now))
-dvr_answers ended n node who now (Read count) b = subst (λ has. IsReadReply has (answer rules.dvr (history_of node) who (call_of (Read count) now))) b.ended (reads rules.dvr (names_a_byte rules.dvr dvr_keeps) (history_of node) who now count b.legal)
-dvr_answers ended n node who now Open b = tt
-dvr_answers ended n node who now Close b = tt
-dvr_answers ended n node who now (Section p) b = tt
-dvr_answers ended n node who now (Pes p) b = tt
-dvr_answers ended n node who now (Add p) b = tt
-dvr_answers ended n node who now (Remove p) b = tt
-dvr_answers ended n node who now Start b = tt
-dvr_answers ended n node who now Stop b = tt
-dvr_answers ended n node who now (Size p) b = tt
-dvr_answers ended n node who now Poll b = tt
-dvr_answers ended n node who now (Attach m ps) b = tt
-dvr_answers ended n node who now (Detach m) b = tt
+dvr_answers ended n node who now w b = answers rules.dvr (names_a_byte rules.dvr dvr_keeps) ended n who now (history_of node) w b
 
 -- ------ the replies of all clients
 
@@ -129,22 +115,15 @@ index_set (x ∷ xs) (suc i) (suc j) y = go (index_set xs i j y) where
   go (inl same) = inl same
   go (inr mine) = inr (ap suc mine.0, mine.1)
 
-none_stands : (s : Event) → ◌≡◌ {A = Option Event} None (Some s) → ⊥
-none_stands s is = subst (λ o. MatchOption o (Unit {0}) (λ x. ⊥)) is tt
-
-some_of : (o : Option Standing) (e : Event) → option_map (λ s. s.event) o ≡ Some e → (s : Standing) × (o ≡ Some s)
-some_of None e is = absurd (none_stands e is)
-some_of (Some s) e is = (s, refl)
-
 -- what stands at a line stands next
 pub next_at_line : (client : ℕ) (lines : List Line) (line : ℕ) (rs : List Response) (e : Event) → next_of_line client lines line rs ≡ Some e → next_event client lines rs ≡ Some e
 next_at_line client lines line rs e is = go (progress client lines rs).standing is where
   by_line : (s : Standing) (b : Bool) → (if b then Some s.event else None) ≡ Some e → Some s.event ≡ Some e
   by_line s true at = at
-  by_line s false at = absurd (none_stands e at)
+  by_line s false at = absurd (none_ne_some e at)
 
   go : (o : Option Standing) → standing_at line o ≡ Some e → option_map (λ s. s.event) o ≡ Some e
-  go None at = absurd (none_stands e at)
+  go None at = absurd (none_ne_some e at)
   go (Some s) at = by_line s (nat_eq s.line line) at
 
 module _ (lines : List Line) (packets : List (List ℕ)) where

@@ -12,7 +12,7 @@ use Rattle.serial_core.specs.declared.runner.Runner.{Runner}
 use Rattle.serial_core.specs.SerialRun.{Run, replies_of, called, made, reply_to, after_waiting, turned, calls}
 use Rattle.serial_core.specs.Budget.{one_if}
 use Rattle.serial_core.specs.Inside.Standing.{IsNodes}
-use Rattle.serial_core.specs.Inside.Moving.{Moves, Comes}
+use Rattle.serial_core.specs.Inside.Moving.{Moves, ComesByCalls}
 use Rattle.feed_pull.proofs.Drawing.{draws_none}
 use Rattle.serial_core.proofs.Replies.{waiting_replies}
 use Rattle.serial_core.proofs.Within.{paid_next_of_line}
@@ -70,20 +70,20 @@ wait_none lines batch client r is = sym (by (is_some (waits_on client lines (rep
 replies_called : (client : ℕ) (e : Event) (r : Run) → client < length r.replies → replies_of client (called client e r) ≡ replies_of client r ++ reply_to client e r ∷ []
 replies_called client e r lt = get_or-set_same r.replies client (replies_of client r ++ reply_to client e r ∷ []) [] lt
 
-pub comes_none : (lines : List Line) (batch client line : ℕ) (r : Run) (core : Core) → length r.replies ≡ 8 → IsAfter client lines (replies_of client r) core → Comes lines batch client line r r core
+pub comes_none : (lines : List Line) (batch client line : ℕ) (r : Run) (core : Core) → length r.replies ≡ 8 → IsAfter client lines (replies_of client r) core → ComesByCalls lines batch client line r r core
 comes_none lines batch client line r core clients after = record { after = after; clients = clients; others = λ other ne. refl; worked = λ s w. w; paid = λ packets p. p }
 
 pub comes_on : (lines : List Line) (batch client line : ℕ) (first now s : Run) (core next : Core) (e : Event)
-    → 1 ≤ batch → client < 8 → Comes lines batch client line first now core → next_of_line client lines line (replies_of client now) ≡ Some e
+    → 1 ≤ batch → client < 8 → ComesByCalls lines batch client line first now core → next_of_line client lines line (replies_of client now) ≡ Some e
     → s ≡ called client e (after_waiting lines batch client now) → IsAfter client lines (replies_of client now ++ reply_to client e (after_waiting lines batch client now) ∷ []) next
-    → Comes lines batch client line first s next
+    → ComesByCalls lines batch client line first s next
 comes_on lines batch client line first now s core next e some lt comes is to after =
     let waited : Run = after_waiting lines batch client now in
     let same : waited.replies ≡ now.replies = waiting_replies lines batch client now in
     let long : length waited.replies ≡ 8 = ap length same ∙ comes.clients in
     let those : replies_of client (called client e waited) ≡ replies_of client now ++ reply_to client e waited ∷ [] =
     replies_called client e waited (omega (arith, lt, long)) ∙ ap (λ rs. slice_index_or rs client [] ++ reply_to client e waited ∷ []) same in
-    subst (λ r. Comes lines batch client line first r next) (sym to) record {
+    subst (λ r. ComesByCalls lines batch client line first r next) (sym to) record {
       after = subst (λ rs. IsAfter client lines rs next) (sym those) after;
       clients = length-set waited.replies client _ ∙ long;
       others = λ other ne. get_or-set_other waited.replies client other _ [] ne ∙ (ap (λ rs. slice_index_or rs other []) same ∙ comes.others other ne);

@@ -1,11 +1,12 @@
 -- What a run leaves.
-use Rattle.std.proofs.Common.{length-append, Option, Result, Ok, Err, IfOk, ◌≡◌, refl, sym, ap, subst, ◌∙◌, ℕ, zero, suc, ◌+◌, ◌≤◌, ◌<◌, Bool, true, false, List, [], ◌∷◌, ◌++◌, length, map, fold, max, add-one, append-nil, arith}
+use Rattle.std.proofs.Common.{length-append, Option, Result, Ok, Err, IfOk, ◌≡◌, refl, sym, ap, subst, ◌∙◌, ℕ, suc, ◌+◌, ◌≤◌, ◌<◌, true, List, [], ◌∷◌, ◌++◌, length, map, fold, max, add-one, append-nil, arith}
 use Rattle.std.specs.Prelude.{All, slice_index_or}
 use Rattle.std.specs.List.{range_with_len}
-use Rattle.std.proofs.lemmas.List.{map-append, get_or-replicate, get_or_append_left}
+use Rattle.std.proofs.lemmas.List.{map-append, length-map, get_or-replicate, get_or_append_left}
 use Rattle.ts_packet.specs.Fields.{IsPacket}
 use Rattle.ts_packet.specs.Cut.{cut}
 use Rattle.std.proofs.lemmas.List.Elements.{All-nil, All-cons}
+use Rattle.std.proofs.lemmas.Simd.{map-map}
 use Rattle.std.proofs.lemmas.List.FromFn.{length-range_with_len}
 use Rattle.dmx_calls.specs.declared.limits.TheConstants.{DEMUX_NODES}
 use Rattle.dmx_calls.specs.Calls.{told_entry}
@@ -31,7 +32,7 @@ use Rattle.serial_core.specs.Inside.Standing.{Pairs, IsDemux, IsNodes, acts_on, 
 use Rattle.serial_core.specs.Inside.Legal.{AreLegal}
 use Rattle.serial_core.specs.Inside.Moving.{IsAt, Moves}
 use Rattle.serial_core.specs.Inside.Lines.{AreAfter, IsWholeBy, Overruns}
-use Rattle.serial_core.specs.Ran.{IsRanOf, IsBegun, AreFresh, histories_in}
+use Rattle.serial_core.specs.Ran.{IsRanOf, IsFreshRunner, AreFreshCores, histories_in}
 use Rattle.feed_pull.specs.Streams.{OfStream}
 use Rattle.feed_pull.proofs.CutPackets.{are_packets}
 use Rattle.serial_core.proofs.Lawful.{serial_legal}
@@ -70,86 +71,77 @@ demux_woven first acts (seat ∷ seats) (n ∷ ns) last p numbers =
     ap (λ l. l ∷ woven_nodes (suc first) acts (map (λ seat. map told_entry seat.entries.items) seats ++ last)) one
     ∙ ap (λ l. (log_of n).entries ∷ l) (demux_woven (suc first) acts seats ns last p.1 behind ∙ ap (λ k. map (λ n. (log_of n).entries) ns ++ woven_nodes k acts last) sum)
 
-map_map : {A B C : Type 0} (f : B → C) (g : A → B) (xs : List A) → map f (map g xs) ≡ map (λ x. f (g x)) xs
-map_map f g [] = refl
-map_map f g (x ∷ xs) = ap (λ ys. f (g x) ∷ ys) (map_map f g xs)
-
 pub all_woven : (v : Nodes) (r : Run) → IsNodes v r → v.has_ended ≡ true → AreLegal r
     → histories_of v.feeding.items (map (λ seat. seat.entries.items) v.demux.items ++ v.dvr.entries.items ∷ []) ≡ histories_in r
 all_woven v r at over legal =
     let acts : List Act = acts_on v in
     let same : feeder_acts v.feeding.items ≡ acts = sym (ap (acts_of v.feeding.items) over) in
-    let count : length r.demux ≡ DEMUX_NODES = sym (length_map (λ n. n.number) r.demux) ∙ (ap length legal.numbers ∙ length-range_with_len 0 DEMUX_NODES) in
+    let count : length r.demux ≡ DEMUX_NODES = sym (length-map r.demux (λ n. n.number)) ∙ (ap length legal.numbers ∙ length-range_with_len 0 DEMUX_NODES) in
     let numbers : map (λ n. n.number) r.demux ≡ range_with_len 0 (length r.demux) = legal.numbers ∙ ap (range_with_len 0) (sym count) in
     let own : map (λ calls. map told_entry calls) (map (λ seat. seat.entries.items) v.demux.items ++ v.dvr.entries.items ∷ [])
     ≡ map (λ seat. map told_entry seat.entries.items) v.demux.items ++ map told_entry v.dvr.entries.items ∷ [] =
     map-append (λ calls. map told_entry calls) (map (λ seat. seat.entries.items) v.demux.items) (v.dvr.entries.items ∷ [])
-    ∙ ap (λ l. l ++ map told_entry v.dvr.entries.items ∷ []) (map_map (λ calls. map told_entry calls) (λ seat. seat.entries.items) v.demux.items) in
+    ∙ ap (λ l. l ++ map told_entry v.dvr.entries.items ∷ []) (map-map (λ calls. map told_entry calls) (λ seat. seat.entries.items) v.demux.items) in
     let last : woven (0 + length r.demux) acts (map told_entry v.dvr.entries.items) ≡ (log_of r.dvr).entries =
     subst (λ k. woven k acts (map told_entry v.dvr.entries.items) ≡ (log_of r.dvr).entries) (legal.dvr_number ∙ (sym count ∙ omega arith)) at.dvr.log in
     ap (λ a. woven_nodes 0 a (map (λ calls. map told_entry calls) (map (λ seat. seat.entries.items) v.demux.items ++ v.dvr.entries.items ∷ []))) same
     ∙ (ap (woven_nodes 0 acts) own
     ∙ (demux_woven 0 acts v.demux.items r.demux (map told_entry v.dvr.entries.items ∷ []) at.demux numbers
     ∙ (ap (λ l. map (λ n. (log_of n).entries) r.demux ++ l ∷ []) last
-    ∙ sym (map-append (λ n. (log_of n).entries) r.demux (r.dvr ∷ []))))) where
-      length_map : {A B : Type 0} (f : A → B) (xs : List A) → length (map f xs) ≡ length xs
-      length_map f [] = refl
-      length_map f (x ∷ xs) = ap suc (length_map f xs)
+    ∙ sym (map-append (λ n. (log_of n).entries) r.demux (r.dvr ∷ [])))))
 
 -- ------ the whole run
 
 no_replies : (packets : List (List ℕ)) (c : ℕ) → c < 8 → replies_of c (begun packets) ≡ []
 no_replies packets c lt = get_or-replicate 8 c [] [] lt
 
-fresh_after : (lines : List Line) (packets : List (List ℕ)) (cores : List Core) → AreFresh lines cores → AreAfter lines (begun packets) cores
+fresh_after : (lines : List Line) (packets : List (List ℕ)) (cores : List Core) → AreFreshCores lines cores → AreAfter lines (begun packets) cores
 fresh_after lines packets cores fresh c d lt = subst (λ rs. IsAfter c lines rs (slice_index_or cores c d)) (sym (no_replies packets c (omega (arith, lt, fresh.few)))) (fresh.after c d lt)
 
-begun_at : (v : Runner) (packets : List (List ℕ)) → IsBegun v → IsAt v (begun packets)
+begun_at : (v : Runner) (packets : List (List ℕ)) → IsFreshRunner v → IsAt v (begun packets)
 begun_at v packets b = record { nodes = b.nodes packets; first = b.given; moment = b.moment }
 
-module _ (lines : List Line) (batch : ℕ) (x y : Option (List ℕ)) (l n : ℕ) (old new : Runner) (cores : List Core) (begins : IsBegun old) (fresh : AreFresh lines cores) where
+module _ (lines : List Line) (batch : ℕ) (x y : Option (List ℕ)) (l n : ℕ) (old new : Runner) (cores : List Core) (begins : IsFreshRunner old) (fresh : AreFreshCores lines cores) where
+  -- the run that the code has come to, over the packets of whatever bytes stood ahead and were taken
+  of_run : (goes : Run → Run → Type 0) (P : (ahead taken : List ℕ) → Type 0) → Moves x y l n old new goes
+      → ((ahead taken : List ℕ) (ps : List (List ℕ)) (r : Run) → Pulls ahead taken ps new.puller → goes (begun ps) r → IsAt new r → P ahead taken) → OfStream x y old.puller P
+  of_run goes P moves so = (
+    moves.draws.carries.more,
+    moves.draws.carries.consumes,
+    λ ahead pulls.
+        let ps = moves.packets in
+        let k = moves.at ahead [] [] [] (begun ps) pulls (λ is. refl) (begun_at old ps begins) (sym (append-nil ps)) in
+        so ahead moves.draws.carries.more ps k.0 (moves.draws.carries.pulls ahead [] [] pulls) k.1 k.2,
+  )
+
   pub ran_is : (next : List Core) (ran : Ran) → length next ≡ length cores → Moves x y l n old new (IsWholeBy batch lines cores next) → IsDone new.puller → new.nodes.has_ended ≡ true
       → ((r : Run) → IsNodes new.nodes r → AreLegal r → ran.histories ≡ histories_in r)
       → ((ls : List Line) (r : Run) → AreAfter ls r next → map (λ those. those.items) ran.outcomes.items ≡ map (λ client. outcomes client ls (replies_of client r)) (range_with_len 0 (length next)))
       → ((ahead taken : List ℕ) (given : List (List ℕ)) → Pulls ahead taken given new.puller → told_head ran.head ≡ head_of (ahead ++ taken) ran.head.read_fault)
       → OfStream x y old.puller (λ ahead taken. IsRanOf lines batch (ahead ++ taken) ran)
-  ran_is next ran count moves done over histories outs head = (
-    moves.draws.carries.more,
-    moves.draws.carries.consumes,
-    λ ahead pulls.
-        let taken = moves.draws.carries.more in
-        let ps = moves.packets in
-        let p : Pulls ahead taken ps new.puller = moves.draws.carries.pulls ahead [] [] pulls in
-        let all : (cut (ahead ++ taken)).packets ≡ ps = (Pulls-done ahead taken ps new.puller p done).packets in
-        let k = moves.at ahead [] [] [] (begun ps) pulls (λ is. refl) (begun_at old ps begins) (sym (append-nil ps)) in
-        let w = k.1 refl (fresh_after lines ps cores fresh) in
-        let serial : IsSerialRun lines batch ps k.0 = (w.before, w.done, w.ends) in
-        record {
-          run = k.0;
-          serial = subst (λ qs. IsSerialRun lines batch qs k.0) (sym all) serial;
-          histories = histories k.0 k.2.nodes (serial_legal lines batch ps k.0 serial);
-          outcomes = outs lines k.0 w.after ∙ ap (λ m. map (λ client. outcomes client lines (replies_of client k.0)) (range_with_len 0 m)) (count ∙ fresh.count);
-          head = head ahead taken ps p;
-        },
-  )
+  ran_is next ran count moves done over histories outs head = of_run (IsWholeBy batch lines cores next) (λ ahead taken. IsRanOf lines batch (ahead ++ taken) ran) moves
+      (λ ahead taken ps r p goes at.
+      let all : (cut (ahead ++ taken)).packets ≡ ps = (Pulls-done ahead taken ps new.puller p done).packets in
+      let w = goes refl (fresh_after lines ps cores fresh) in
+      let serial : IsSerialRun lines batch ps r = (w.before, w.done, w.ends) in
+      record {
+        run = r;
+        serial = subst (λ qs. IsSerialRun lines batch qs r) (sym all) serial;
+        histories = histories r at.nodes (serial_legal lines batch ps r serial);
+        outcomes = outs lines r w.after ∙ ap (λ m. map (λ client. outcomes client lines (replies_of client r)) (range_with_len 0 m)) (count ∙ fresh.count);
+        head = head ahead taken ps p;
+      })
 
   pub overrun_is : Moves x y l n old new (λ r s. length r.replies ≡ 8 → AreAfter lines r cores → Overruns lines r s)
       → OfStream x y old.puller (λ ahead taken. 549755813888 ≤ most_calls (all_commands lines) (length ahead + length taken))
-  overrun_is moves = (
-    moves.draws.carries.more,
-    moves.draws.carries.consumes,
-    λ ahead pulls.
-        let taken = moves.draws.carries.more in
-        let ps = moves.packets in
-        let p : Pulls ahead taken ps new.puller = moves.draws.carries.pulls ahead [] [] pulls in
-        let front = Pulls-front ahead taken ps new.puller p in
-        let packets : All IsPacket ps = All-take_front ps front.0 (subst (λ qs. All IsPacket qs) front.1 (are_packets (ahead ++ taken))) in
-        let k = moves.at ahead [] [] [] (begun ps) pulls (λ is. refl) (begun_at old ps begins) (sym (append-nil ps)) in
-        let o = k.1 refl (fresh_after lines ps cores fresh) in
-        let paid = o.paid ps (paid_begun lines ps packets) in
-        let few = within lines ps k.0 o.client (all_commands lines) (length ahead + length taken) paid (own_commands o.client lines) (Pulls-size ahead taken ps new.puller p) in
-        omega (arith, few, o.calls),
-  )
+  overrun_is moves = of_run (λ r s. length r.replies ≡ 8 → AreAfter lines r cores → Overruns lines r s) (λ ahead taken. 549755813888 ≤ most_calls (all_commands lines) (length ahead + length taken)) moves
+      (λ ahead taken ps r p goes at.
+      let front = Pulls-front ahead taken ps new.puller p in
+      let packets : All IsPacket ps = All-take_front ps front.0 (subst (λ qs. All IsPacket qs) front.1 (are_packets (ahead ++ taken))) in
+      let o = goes refl (fresh_after lines ps cores fresh) in
+      let paid = o.paid ps (paid_begun lines ps packets) in
+      let few = within lines ps r o.client (all_commands lines) (length ahead + length taken) paid (own_commands o.client lines) (Pulls-size ahead taken ps new.puller p) in
+      omega (arith, few, o.calls))
     where
       All-take_front : (xs ys : List (List ℕ)) → All IsPacket (xs ++ ys) → All IsPacket xs
       All-take_front xs ys all k d lt = subst IsPacket (get_or_append_left xs ys d k lt) (all k d (omega (arith, lt, length-append xs ys)))

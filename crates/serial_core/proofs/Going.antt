@@ -1,6 +1,6 @@
 -- What a call does to the nodes.
-use Rattle.std.proofs.Common.{◌≡◌, refl, sym, ap, subst, ◌∙◌, ℕ, suc, ◌+◌, ◌<◌, ◌≤◌, Bool, true, false, List, [], ◌∷◌, ◌++◌, length, map, replicate, take, drop, get_or, set, length-append, append-nil, arith}
-use Rattle.std.proofs.lemmas.List.{map-append, length-replicate, get_or-replicate, take-append-le, take_all}
+use Rattle.std.proofs.Common.{◌≡◌, refl, sym, ap, subst, ◌∙◌, ℕ, ◌+◌, ◌<◌, ◌≤◌, Bool, true, false, List, [], ◌∷◌, ◌++◌, length, map, replicate, take, drop, get_or, set, length-append, append-nil, arith}
+use Rattle.std.proofs.lemmas.List.{map-append, length-map, length-replicate, get_or-replicate, take-append-le, take_all}
 use Rattle.dmx_calls.specs.declared.limits.TheConstants.{DEMUX_NODES}
 use Rattle.dmx_calls.specs.Invocation.{Invocation}
 use Rattle.dmx_calls.specs.declared.log.Act.{Act}
@@ -99,9 +99,5 @@ pub under_set : (seats : List (Seat DemuxCore)) (i m : ℕ) (seat : Seat DemuxCo
 under_set seats i m seat u under = same_set IsUnder DEMUX_NODES i seats m seat u under
 
 -- as many lists as nodes
-length_map : {A B : Type 0} (f : A → B) (xs : List A) → length (map f xs) ≡ length xs
-length_map f [] = refl
-length_map f (x ∷ xs) = ap suc (length_map f xs)
-
 pub one_more : {A B C : Type 0} (f : A → C) (g : B → C) (xs : List A) (ys : List B) (z : C) → map f xs ≡ map g ys ++ z ∷ [] → length xs ≡ length ys + 1
-one_more f g xs ys z is = sym (length_map f xs) ∙ (ap length is ∙ (length-append (map g ys) (z ∷ []) ∙ ap (λ n. n + 1) (length_map g ys)))
+one_more f g xs ys z is = sym (length-map xs f) ∙ (ap length is ∙ (length-append (map g ys) (z ∷ []) ∙ ap (λ n. n + 1) (length-map ys g)))

@@ -25,3 +25,4 @@ pub mod Passing
 pub mod Lining
 pub mod Ending
 pub mod Existing
+mod Worked

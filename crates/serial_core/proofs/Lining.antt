@@ -12,9 +12,9 @@ use Rattle.client_core.specs.Inside.Core.{Core, IsAfter}
 use Rattle.feed_pull.specs.Pulling.{Pulling, IsDone}
 use Rattle.serial_core.specs.declared.runner.Runner.{Runner}
 use Rattle.serial_core.specs.SerialRun.{Run, replies_of, passed, batch_sizes, all_passed, ended, fed, finished, ticked, through, AreDone}
-use Rattle.serial_core.specs.Inside.Moving.{IsAt, Moves, IsDoneBy, ComesBy, Comes as CommandComes}
+use Rattle.serial_core.specs.Inside.Moving.{IsAt, Moves, IsDoneBy, ComesBy, ComesByCalls}
 use Rattle.feed_pull.specs.Streams.{Draws}
-use Rattle.serial_core.specs.Inside.Lines.{AreAfter, calls_by, AreInBudget, Comes, IsLineBy, IsFrontBy, IsWholeBy, Overruns, OverrunsBy}
+use Rattle.serial_core.specs.Inside.Lines.{AreAfter, calls_by, AreInBudget, ComesByLines, IsLineBy, IsFrontBy, IsWholeBy, Overruns, OverrunsBy}
 use Rattle.feed_pull.proofs.Drawing.{draws_none}
 use Rattle.serial_core.proofs.Replies.{ended_replies}
 use Rattle.serial_core.proofs.Paid.{paid_fed, paid_ticked}
@@ -36,7 +36,7 @@ after_same lines r s cores same after c d lt = subst (λ rs. IsAfter c lines (sl
 
 pub feed_done : (batch count : ℕ) (cores : List Core) (r s : Run) → 1 ≤ batch → s ≡ fed batch count r → IsLineBy batch (Feed count) cores cores r s
 feed_done batch count cores r s some is lines rest clients after =
-    subst (λ x. Comes lines batch rest (Feed count ∷ rest) r x cores) (sym is) record {
+    subst (λ x. ComesByLines lines batch rest (Feed count ∷ rest) r x cores) (sym is) record {
       clients = ap length (fed_replies batch count r) ∙ clients;
       after = after_same lines r (fed batch count r) cores (fed_replies batch count r) after;
       paid = λ packets p. paid_fed lines packets batch count r some p;
@@ -76,7 +76,7 @@ command_done batch line client target verb cores core next r s there is done lin
       done = λ t d. (s, k.0.worked s (through s k.1), d);
     } where
       go : (lines : List Line) → length r.replies ≡ 8 → AreAfter lines r cores → IsAfter client lines (replies_of client r) core
-          → CommandComes lines batch client line r s next
+          → ComesByCalls lines batch client line r s next
           → (c : ℕ) (d : Core) → c < length (set cores client next) → (b : Bool) → nat_eq c client ≡ b → IsAfter c lines (replies_of c s) (slice_index_or (set cores client next) c d)
       go lines clients after own come c d lt true is_client =
           let same : c ≡ client = grind (arith, nat_tests) in

@@ -1,7 +1,7 @@
 -- A client's calls stand in the logs, each once and in their order.
-use Rattle.std.proofs.Common.{◌≡◌, ◌≢◌, refl, sym, ap, subst, ◌∙◌, ℕ, suc, ◌+◌, ◌<◌, ◌≤◌, Bool, true, false, nat_eq, List, [], ◌∷◌, ◌++◌, Some, length, map, take, ◌⊎◌, inl, inr, arith}
+use Rattle.std.proofs.Common.{◌≡◌, ◌≢◌, refl, sym, ap, subst, ◌∙◌, ℕ, ◌+◌, ◌<◌, ◌≤◌, Bool, true, false, nat_eq, List, [], ◌∷◌, ◌++◌, Some, length, take, ◌⊎◌, inl, inr, arith}
 use Rattle.std.specs.Prelude.{slice_get}
-use Rattle.std.proofs.lemmas.List.{map-append, take-append-le}
+use Rattle.std.proofs.lemmas.List.{map-append, length-map, take-append-le}
 use Rattle.std.proofs.lemmas.Option.{slice_get_within}
 use Rattle.std.proofs.lemmas.Bool.Decides.{nat_tests}
 use Rattle.std.proofs.Math.Seq.{take-append_seam}
@@ -67,10 +67,7 @@ module _ (lines : List Line) (client : ℕ) where
       (place : x.place ≡ length (logs x.node)) (act : x.act ≡ act_of (call_of event.want moment)) (here : after x.node ≡ logs x.node ++ x ∷ [])
       (elsewhere : (node : ℕ) → node ≤ DEMUX_NODES → node ≢ x.node → after node ≡ logs node) where
     long : length m.made ≡ length got
-    long = sym (length_map (λ e. e.response) m.made) ∙ ap length m.same where
-      length_map : (f : LogEntry → Response) (xs : List LogEntry) → length (map f xs) ≡ length xs
-      length_map f [] = refl
-      length_map f (y ∷ xs) = ap suc (length_map f xs)
+    long = sym (length-map m.made (λ e. e.response)) ∙ ap length m.same
 
     abbrev all : List LogEntry
     all = m.made ++ x ∷ []

@@ -3,8 +3,9 @@ use Rattle.std.proofs.Common.{◌≡◌, refl, ap, subst, ◌∙◌, ℕ, List, 
 use Rattle.std.specs.declared.option.Option.{Option}
 use Rattle.serial_core.specs.declared.runner.Runner.{Runner}
 use Rattle.serial_core.specs.SerialRun.{Run}
-use Rattle.serial_core.specs.Inside.Moving.{Moves}
+use Rattle.serial_core.specs.Inside.Moving.{IsReady, IsSound, Moves}
 use Rattle.feed_pull.proofs.Drawing.{draws_none, draws_then}
+use Rattle.feed_pull.proofs.Stopping.{still_counts}
 
 pub moves_none : (x : Option (List ℕ)) (n : ℕ) (v : Runner) (goes : Run → Run → Type 0) → ((r : Run) → goes r r) → Moves x x n n v v goes
 moves_none x n v goes same = record {
@@ -38,6 +39,15 @@ moves_by x y l m a b G K so g = record {
   draws = g.draws;
   at = λ ahead taken given later r pulls stops at left. let k = g.at ahead taken given later r pulls stops at left in (k.0, so r k.0 k.1, k.2, k.3);
   done = g.done;
+}
+
+-- the feeder may have its next turn
+pub ready_on : (batch : ℕ) (x y : Option (List ℕ)) (l m : ℕ) (a b : Runner) (G : Run → Run → Type 0) → Moves x y l m a b G → IsReady batch l a → IsSound b → IsReady batch m b
+ready_on batch x y l m a b G moves ready sound = record {
+  some = ready.some;
+  few = ready.few;
+  faults = still_counts a.puller.reading b.puller.reading x y l m moves.draws.follows ready.faults;
+  sound = sound;
 }
 
 -- what is so of an error

@@ -1,8 +1,9 @@
 -- Along a serial run, the calls made so far are paid for.
-use Rattle.std.proofs.Common.{◌≡◌, refl, sym, ap, subst, ◌∙◌, ℕ, suc, ◌+◌, ◌≤◌, Bool, true, false, ◌||◌, nat_lt, nat_eq, List, [], ◌∷◌, length, map, take, fold, min, inl, arith, length-append, length-take-le, length-drop}
+use Rattle.std.proofs.Common.{◌≡◌, refl, sym, ap, subst, ◌∙◌, ℕ, ◌+◌, ◌≤◌, Bool, true, false, ◌||◌, nat_lt, nat_eq, List, [], ◌∷◌, length, map, take, fold, min, inl, arith, length-append, length-take-le, length-drop}
 use Rattle.std.specs.Prelude.{if◌then◌else◌, sum_by, sum, is_some}
 use Rattle.std.specs.List.{All}
 use Rattle.std.proofs.lemmas.Bool.Decides.{nat_tests}
+use Rattle.std.proofs.lemmas.List.{length-map}
 use Rattle.std.proofs.lemmas.List.Sums.{sum_by-cons}
 use Rattle.std.proofs.lemmas.List.Elements.{All-nil, All-append, All-take, All-drop, All-map, All-weaker}
 use Rattle.ts_packet.specs.Fields.{IsPacket}
@@ -71,10 +72,6 @@ more_bytes step c (n ∷ ns) =
 all_bytes : (c : Invocation) (r : Run) → bytes_by_all r ≤ bytes_by_all (fed_to_all c r)
 all_bytes c r = omega (arith, more_bytes r.turns c r.demux)
 
-length_map : {A B : Type 0} (f : A → B) (xs : List A) → length (map f xs) ≡ length xs
-length_map f [] = refl
-length_map f (x ∷ xs) = ap suc (length_map f xs)
-
 -- ------ a turn of the feeder
 
 module _ (lines : List Line) (packets : List (List ℕ)) where
@@ -83,7 +80,7 @@ module _ (lines : List Line) (packets : List (List ℕ)) where
       let long : length (take size r.left) ≡ size = length-take-le size r.left le in
       let are : All IsPacket (take size r.left) = All-take IsPacket size r.left p.are_packets in
       record {
-        nodes = length_map (answered rules.demux 0 r.turns (call.Pass Frontend r.first (take size r.left) r.moment)) r.demux ∙ p.nodes;
+        nodes = length-map r.demux (answered rules.demux 0 r.turns (call.Pass Frontend r.first (take size r.left) r.moment)) ∙ p.nodes;
         whole = omega (arith, p.whole, length-drop size r.left, le);
         are_packets = All-drop IsPacket size r.left p.are_packets;
         demux = all_fed r.first (r.first + size) r.has_ended r.has_ended r.turns (call.Pass Frontend r.first (take size r.left) r.moment) r.demux
@@ -106,7 +103,7 @@ module _ (lines : List Line) (packets : List (List ℕ)) where
 
   end_paid : (r : Run) → r.has_ended ≡ false → IsPaid lines packets r → IsPaid lines packets (record (fed_to_all call.End r) { has_ended = true })
   end_paid r unended p = record {
-    nodes = length_map (answered rules.demux 0 r.turns call.End) r.demux ∙ p.nodes;
+    nodes = length-map r.demux (answered rules.demux 0 r.turns call.End) ∙ p.nodes;
     whole = p.whole;
     are_packets = p.are_packets;
     demux = all_fed r.first r.first r.has_ended true r.turns call.End r.demux (λ node b. end_brought rules.demux r.first r.has_ended (history_of node) b) p.demux;

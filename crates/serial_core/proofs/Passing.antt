@@ -17,12 +17,11 @@ use Rattle.serial_core.specs.Nodes.{Node, uncalled, answered}
 use Rattle.client_script.specs.declared.line.Line.{Line}
 use Rattle.client_script.specs.declared.line.Line.TheVariants.{Feed, Tick, Command}
 use Rattle.client_core.specs.declared.event.Event.{Event}
-use Rattle.client_core.specs.declared.event.Want.{Want}
-use Rattle.client_core.specs.declared.event.Want.TheVariants.{Open, Close, Section, Pes, Add, Remove, Start, Stop, Size, Read, Poll, Attach, Detach}
 use Rattle.client_core.specs.Commands.{call_of}
 use Rattle.client_core.specs.Events.{waits_on}
 use Rattle.serial_core.specs.SerialRun.{Run, begun, fed_to_all, passed, batch_sizes, all_passed, ended, fed, finished, demux_node, made, called, turned, after_waiting, replies_of, IsWorked, through, calls, AreDone, IsSerialRun}
 use Rattle.serial_core.specs.Inside.Legal.{packets_through, HavePassed}
+use Rattle.serial_core.proofs.Answering.{none_brought}
 
 -- the same packets have passed all nodes, and are followed by those that are left
 record IsPassing (packets : List (List ℕ)) (r : Run) : Type 0 where
@@ -76,21 +75,6 @@ module _ (packets : List (List ℕ)) where
 
   -- ------ a call of a client, which brings no packets
 
-  call_none : (w : Want) (now : ℕ) → brought (call_of w now) ≡ []
-  call_none Open now = refl
-  call_none Close now = refl
-  call_none (Section params) now = refl
-  call_none (Pes params) now = refl
-  call_none (Add pid) now = refl
-  call_none (Remove pid) now = refl
-  call_none Start now = refl
-  call_none Stop now = refl
-  call_none (Size size) now = refl
-  call_none (Read count) now = refl
-  call_none Poll now = refl
-  call_none (Attach node pids) now = refl
-  call_none (Detach node) now = refl
-
   dvr_passing : (who step : ℕ) (c : Invocation) (r : Run) → brought c ≡ [] → IsPassing packets r → IsPassing packets (record r { dvr = answered rules.dvr who step c r.dvr })
   dvr_passing who step c r none at =
       let same : packets_through r.dvr ++ brought c ≡ packets_through r.dvr = ap (λ more. packets_through r.dvr ++ more) none ∙ append-nil (packets_through r.dvr) in
@@ -112,7 +96,7 @@ module _ (packets : List (List ℕ)) where
   made_passing : (client : ℕ) (e : Event) (r : Run) → IsPassing packets r → IsPassing packets (made client e r)
   made_passing client e r at = go (nat_lt e.node DEMUX_NODES) where
     none : brought (call_of e.want r.moment) ≡ []
-    none = call_none e.want r.moment
+    none = none_brought e.want r.moment
 
     go : (b : Bool) → IsPassing packets (if b then record r { demux = set r.demux e.node (answered rules.demux (client + 1) e.step (call_of e.want r.moment) (demux_node e.node r)) } else record r { dvr = answered rules.dvr (client + 1) e.step (call_of e.want r.moment) r.dvr })
     go true = demux_passing e.node (client + 1) e.step (call_of e.want r.moment) r none at

@@ -1,8 +1,8 @@
 -- The nodes by their numbers, and what each call of a run adds to them.
-use Rattle.std.proofs.Common.{◌≡◌, ◌≢◌, refl, sym, ap, subst, ◌∙◌, ℕ, zero, suc, ◌+◌, ◌<◌, ◌≤◌, Bool, true, false, nat_lt, nat_eq, List, [], ◌∷◌, ◌++◌, Some, length, map, get_or, set, ◌⊎◌, inl, inr, arith, length-append}
+use Rattle.std.proofs.Common.{◌≡◌, ◌≢◌, refl, sym, ap, subst, ◌∙◌, ℕ, zero, suc, ◌+◌, ◌<◌, ◌≤◌, Bool, true, false, nat_lt, nat_eq, List, [], ◌∷◌, ◌++◌, Some, length, get_or, set, ◌⊎◌, inl, inr, arith, length-append}
 use Rattle.std.specs.Prelude.{if◌then◌else◌, slice_set, slice_get, option_map}
 use Rattle.std.proofs.lemmas.Bool.Decides.{nat_tests}
-use Rattle.std.proofs.lemmas.List.{get_or-map, get_or-set_same, get_or-set_other}
+use Rattle.std.proofs.lemmas.List.{length-map, get_or-map, get_or-set_same, get_or-set_other}
 use Rattle.std.proofs.lemmas.Option.{slice_get-map, slice_get-get_or, slice_get_within}
 use Rattle.dmx_calls.specs.declared.limits.TheConstants.{DEMUX_NODES}
 use Rattle.dmx_calls.specs.Invocation.{Invocation}
@@ -11,6 +11,7 @@ use Rattle.dmx_calls.specs.Answer.{answer}
 use Rattle.dmx_calls.specs.Log.{LogEntry, act_of}
 use Rattle.client_core.specs.declared.event.Event.{Event}
 use Rattle.client_core.specs.Commands.{call_of}
+use Rattle.client_core.proofs.Options.{same_some}
 use Rattle.serial_core.specs.Nodes.{Told, Node, uncalled, history_of, answered, log_in, log_of}
 use Rattle.serial_core.specs.SerialRun.{Run, fed_to_all, demux_node, reply_to, called, nodes_of}
 use Rattle.serial_core.specs.Ran.{histories_in}
@@ -131,15 +132,8 @@ histories_get r node long le = slice_get-map entries_of (nodes_of r) node ∙ ap
       let eq : node ≡ length r.demux = omega (arith, above node is, le, long) in
       subst (λ n. slice_get (r.demux ++ r.dvr ∷ []) n ≡ Some r.dvr) (sym eq) (get_last r.demux r.dvr)
 
-length_map : {A B : Type 0} (f : A → B) (xs : List A) → length (map f xs) ≡ length xs
-length_map f [] = refl
-length_map f (x ∷ xs) = ap suc (length_map f xs)
-
 pub histories_length : (r : Run) → length r.demux ≡ DEMUX_NODES → length (histories_in r) ≡ DEMUX_NODES + 1
-histories_length r long = omega (arith, length_map entries_of (nodes_of r), length-append r.demux (r.dvr ∷ []), long)
-
-same_some : {A : Type 0} (x y : A) → Some x ≡ Some y → x ≡ y
-same_some x y is = cc
+histories_length r long = omega (arith, length-map (nodes_of r) entries_of, length-append r.demux (r.dvr ∷ []), long)
 
 pub histories_is : (r : Run) (node : ℕ) (h : List LogEntry) → length r.demux ≡ DEMUX_NODES → slice_get (histories_in r) node ≡ Some h → (node ≤ DEMUX_NODES) × (entries_at node r ≡ h)
 histories_is r node h long is =

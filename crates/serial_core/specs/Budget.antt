@@ -1,8 +1,7 @@
 -- What pays for the calls of clients in the serial run (this project's own).
-use Rattle.std.specs.Prelude.{ℕ, ◌≡◌, ◌≤◌, ◌+◌, ◌*◌, ◌-◌, Bool, true, false, ◌||◌, List, ◌∷◌, ◌++◌, length, Some, sum_by, is_some, All}
+use Rattle.std.specs.Prelude.{ℕ, ◌≡◌, ◌≤◌, ◌+◌, ◌*◌, Bool, true, false, ◌||◌, List, ◌∷◌, ◌++◌, length, Some, sum_by, is_some, All}
 use Rattle.ts_packet.specs.Fields.{IsPacket}
 use Rattle.dmx_calls.specs.declared.limits.TheConstants.{DEMUX_NODES}
-use Rattle.dmx_calls.specs.Response.{Response, Data, Overflow}
 use Rattle.dmx_calls.specs.History.{History, brought_by}
 use Rattle.dmx_calls.specs.Tenure.{has_ended}
 use Rattle.dmx_calls.specs.Rules.{Rules, demux, dvr}
@@ -13,7 +12,7 @@ use Rattle.client_script.specs.declared.line.Line.TheVariants.{Command}
 use Rattle.client_core.specs.Commands.{commands_of}
 use Rattle.client_core.specs.declared.event.Event.{Event}
 use Rattle.client_core.specs.Events.{next_of_line, waits_on}
-use Rattle.client_core.specs.Budget.{most_calls, repeats}
+use Rattle.client_core.specs.Budget.{most_calls, bytes_in, repeats}
 use Rattle.serial_core.specs.Nodes.{Node, history_of}
 use Rattle.serial_core.specs.SerialRun.{Run, begun, replies_of, called, after_waiting, AreDone, IsSerialRun}
 
@@ -43,13 +42,7 @@ pub record IsWithinBudget : Type 0 where
 
 -- ------ what is kept on the way
 
--- the bytes that a reply gives, or names as lost
-abbrev pub bytes_in : Response → ℕ
-bytes_in (Data bytes) = length bytes
-bytes_in (Overflow from to item need room) = to - from
-bytes_in _ = 0
-
--- those that a client was answered
+-- the bytes that a client was answered
 abbrev pub bytes_to : (client : ℕ) → Run → ℕ
 bytes_to client r = sum_by bytes_in (replies_of client r)
 

@@ -34,7 +34,7 @@ pub record IsRanOf (lines : List Line) (batch : ℕ) (stream : List ℕ) (ran : 
 -- ------ before the first line
 
 -- no call was made and no packet given
-pub record IsBegun (v : Runner) : Type 0 where
+pub record IsFreshRunner (v : Runner) : Type 0 where
   pub nodes : (packets : List (List ℕ)) → IsNodes v.nodes (begun packets)
   pub moment : v.moment ≡ 0
   pub made : v.nodes.made ≡ 0
@@ -43,7 +43,7 @@ pub record IsBegun (v : Runner) : Type 0 where
   pub counted : AreCounted v.nodes
 
 -- a core for each client of the script, which has taken no reply
-pub record AreFresh (lines : List Line) (cores : List Core) : Type 0 where
+pub record AreFreshCores (lines : List Line) (cores : List Core) : Type 0 where
   pub count : length cores ≡ clients_in lines
   pub few : length cores ≤ 8
   pub after : (c : ℕ) (d : Core) → c < length cores → IsAfter c lines [] (slice_index_or cores c d)

@@ -4,8 +4,7 @@ ghost use Rattle.dmx_calls.specs.declared.limits.TheConstants.{DEMUX_NODES as no
 ghost use Rattle.client_script.specs.declared.line.Line.{Line as ScriptLine};
 ghost use Rattle.client_core.specs.Commands.{IsWantInRange};
 ghost use Rattle.client_core.specs.Inside.Core.{IsAfter};
-ghost use Rattle.feed_pull.specs.declared.fault.Reading.TheVariants.{Going};
-ghost use Rattle.serial_core.specs.Inside.Moving.{ComesBy, HasMade, IsDoneBy, IsSound, Moves};
+ghost use Rattle.serial_core.specs.Inside.Moving.{ComesBy, HasMade, IsDoneBy, IsReady, IsSound, Moves};
 ghost use Rattle.feed_pull.specs.Streams.{Draws};
 ghost use Rattle.serial_core.specs.SerialRun.{after_waiting, called, replies_of, reply_to};
 
@@ -25,10 +24,7 @@ impl Runner {
         core: &ClientCore,
         steps: &mut Steps<L>,
     ) -> Result<(), NoMemory>
-        requires some { 1 ≤ batch }
-        requires few { batch ≤ 64 }
-        requires faults { self.old.puller.reading ≡ Going → S.faults source.old < 2 ^ 64 - 1 }
-        requires sound { IsSound self.old }
+        requires ready { IsReady batch (S.faults source.old) self.old }
         requires made { HasMade self.old 8796093022208 }
         ensures moves { OnOk result (Moves (S.left source.old) (S.left source.new) (S.faults source.old) (S.faults source.new) self.old self.new
             (λ r s. (client : ℕ) (lines : List ScriptLine) → IsAfter client lines (replies_of client r) core.now → s ≡ after_waiting lines batch client r)) }
@@ -53,10 +49,7 @@ impl Runner {
         event: Event,
         steps: &mut Steps<L>,
     ) -> Result<(), NoMemory>
-        requires some { 1 ≤ batch }
-        requires few { batch ≤ 64 }
-        requires faults { self.old.puller.reading ≡ Going → S.faults source.old < 2 ^ 64 - 1 }
-        requires sound { IsSound self.old }
+        requires ready { IsReady batch (S.faults source.old) self.old }
         requires made { HasMade self.old 8796093022208 }
         requires client { client < 8 }
         requires node { event.node ≤ nodes }
@@ -87,10 +80,7 @@ impl Runner {
         line: u32,
         steps: &mut Steps<L>,
     ) -> Result<(), Stop>
-        requires some { 1 ≤ batch }
-        requires few { batch ≤ 64 }
-        requires faults { self.old.puller.reading ≡ Going → S.faults source.old < 2 ^ 64 - 1 }
-        requires sound { IsSound self.old }
+        requires ready { IsReady batch (S.faults source.old) self.old }
         requires made { HasMade self.old (core.old.step + 4398046511104) }
         requires client { client < 8 }
         requires calls { core.old.step ≤ 549755813888 }

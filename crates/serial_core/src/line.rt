@@ -1,10 +1,9 @@
 // The lines of a script, done one after another.
 ghost use Rattle.std.specs.Prelude.{◌≡◌, true, ℕ, ◌+◌, ◌*◌, ◌-◌, ◌<◌, ◌≤◌, ◌^◌, List, length, All, OnOk, OnErr, IsErrOf};
-ghost use Rattle.client_script.specs.Script.{clients_of, most_bytes};
+ghost use Rattle.client_script.specs.Script.{clients_of};
 ghost use Rattle.client_script.specs.declared.line.Line.{Line as ScriptLine};
-ghost use Rattle.feed_pull.specs.declared.fault.Reading.TheVariants.{Going};
-ghost use Rattle.serial_core.specs.Inside.Lines.{AreAfter, AreInBudget, IsFrontBy, IsLineBy, IsWholeBy, Overruns, OverrunsBy, calls_by};
-ghost use Rattle.serial_core.specs.Inside.Moving.{HasMade, IsSound, Moves};
+ghost use Rattle.serial_core.specs.Inside.Lines.{AreAfter, AreInBudget, IsFrontBy, IsLineBy, IsWholeBy, MayBegin, Overruns, OverrunsBy, calls_by};
+ghost use Rattle.serial_core.specs.Inside.Moving.{HasMade, IsReady, IsSound, Moves};
 ghost use Rattle.feed_pull.specs.Streams.{Draws};
 
 use crate::runner::Runner;
@@ -24,10 +23,7 @@ impl Runner {
         asked: Line,
         steps: &mut Steps<L>,
     ) -> Result<(), Stop>
-        requires some { 1 ≤ batch }
-        requires few { batch ≤ 64 }
-        requires faults { self.old.puller.reading ≡ Going → S.faults source.old < 2 ^ 64 - 1 }
-        requires sound { IsSound self.old }
+        requires ready { IsReady batch (S.faults source.old) self.old }
         requires made { HasMade self.old (calls_by cores.old) }
         requires late { self.old.moment + 2 ^ 32 ≤ 2 ^ 64 }
         requires clients { length cores.old ≤ 8 }
@@ -68,16 +64,8 @@ impl Runner {
         lines: &[Line],
         steps: &mut Steps<L>,
     ) -> Result<(), Stop>
-        requires some { 1 ≤ batch }
-        requires few { batch ≤ 64 }
-        requires faults { self.old.puller.reading ≡ Going → S.faults source.old < 2 ^ 64 - 1 }
-        requires sound { IsSound self.old }
-        requires made { HasMade self.old (calls_by cores.old) }
-        requires late { self.old.moment ≡ 0 }
-        requires short { length lines.now ≤ most_bytes }
-        requires clients { length cores.old ≤ 8 }
-        requires client { All (λ line. clients_of line ≤ length cores.old) lines.now }
-        requires calls { AreInBudget cores.old }
+        requires ready { IsReady batch (S.faults source.old) self.old }
+        requires begins { MayBegin lines.now cores.old self.old }
         ensures moves { OnOk result (Moves (S.left source.old) (S.left source.new) (S.faults source.old) (S.faults source.new) self.old self.new (IsFrontBy batch lines.now (length lines.now) cores.old cores.new)) }
         ensures draws { OnErr result ((packets : List (List ℕ)) × Draws (S.left source.old) (S.left source.new) (S.faults source.old) (S.faults source.new) self.old.puller self.new.puller packets) }
         ensures too_long { (turns : ℕ) → IsErrOf result (Stop.TooLong turns) → (turns ≡ 549755813888)
@@ -100,16 +88,8 @@ impl Runner {
         lines: &[Line],
         steps: &mut Steps<L>,
     ) -> Result<(), Stop>
-        requires some { 1 ≤ batch }
-        requires few { batch ≤ 64 }
-        requires faults { self.old.puller.reading ≡ Going → S.faults source.old < 2 ^ 64 - 1 }
-        requires sound { IsSound self.old }
-        requires made { HasMade self.old (calls_by cores.old) }
-        requires late { self.old.moment ≡ 0 }
-        requires short { length lines.now ≤ most_bytes }
-        requires clients { length cores.old ≤ 8 }
-        requires client { All (λ line. clients_of line ≤ length cores.old) lines.now }
-        requires calls { AreInBudget cores.old }
+        requires ready { IsReady batch (S.faults source.old) self.old }
+        requires begins { MayBegin lines.now cores.old self.old }
         ensures moves { OnOk result (Moves (S.left source.old) (S.left source.new) (S.faults source.old) (S.faults source.new) self.old self.new (IsWholeBy batch lines.now cores.old cores.new)) }
         ensures draws { OnErr result ((packets : List (List ℕ)) × Draws (S.left source.old) (S.left source.new) (S.faults source.old) (S.faults source.new) self.old.puller self.new.puller packets) }
         ensures too_long { (turns : ℕ) → IsErrOf result (Stop.TooLong turns) → (turns ≡ 549755813888)

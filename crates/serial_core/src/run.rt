@@ -13,7 +13,7 @@ ghost use Rattle.serial_core.specs.Inside.Lines.{AreAfter};
 ghost use Rattle.serial_core.specs.Inside.Moving.{IsSound};
 ghost use Rattle.feed_pull.specs.Streams.{Draws, OfStream};
 ghost use Rattle.serial_core.specs.SerialRun.{Run, replies_of};
-ghost use Rattle.serial_core.specs.Ran.{AreFresh, IsBegun, IsRanOf, histories_in};
+ghost use Rattle.serial_core.specs.Ran.{AreFreshCores, IsFreshRunner, IsRanOf, histories_in};
 ghost use Rattle.client_core.specs.Budget.{IsTooLong};
 ghost use Rattle.serial_core.specs.Inside.Legal.{AreLegal};
 ghost use Rattle.serial_core.specs.Inside.Standing.{IsNodes};
@@ -43,7 +43,7 @@ pub struct Ran {
 
 // The clients of the script before their first calls.
 fn cores_of(alloc: Global, script: &Script) -> Result<Vec<ClientCore>, NoMemory>
-    ensures { IfOk result (λ cores. AreFresh script.now cores.items) }
+    ensures { IfOk result (λ cores. AreFreshCores script.now cores.items) }
 {
     let mut cores = Vec::new(alloc);
     'clients: for client in 0..script.clients() {
@@ -90,7 +90,7 @@ fn ran_of(alloc: Global, runner: Runner, cores: &[ClientCore]) -> Result<Ran, St
     })
 }
 
-// The serial run of a script, from before its first line on.
+// The serial run of a script, from before its first line on, with a counter of steps of its own.
 fn run_over<S: Source, L: Ledger>(
     alloc: Global,
     script: &Script,
@@ -98,12 +98,15 @@ fn run_over<S: Source, L: Ledger>(
     runner: Runner,
     batch: u32,
     cores: &mut [ClientCore],
-    steps: &mut Steps<L>,
+    blank: Blank,
 ) -> Result<Ran, Stop>
+    requires name { blank.name ≡ L.name }
+    requires parts { blank.parts ≡ L.parts }
+    requires counter { 0 < blank.parts }
     requires some { 1 ≤ batch }
     requires few { batch ≤ 64 }
-    requires begun { IsBegun runner }
-    requires fresh { AreFresh script.now cores.old }
+    requires begun { IsFreshRunner runner }
+    requires fresh { AreFreshCores script.now cores.old }
     requires going { runner.puller.reading ≡ Going }
     requires faults { S.faults source.old < 2 ^ 64 - 1 }
     ensures ran { IfOk result (λ ran. OfStream (S.left source.old) (S.left source.new) runner.puller (λ ahead taken. IsRanOf script.now batch (ahead ++ taken) ran)) }
@@ -114,53 +117,12 @@ fn run_over<S: Source, L: Ledger>(
     ensures too_long { (turns : ℕ) → IsErrOf result (Stop.TooLong turns) → OfStream (S.left source.old) (S.left source.new) runner.puller (IsTooLong script.now runner.puller.start turns) }
     ensures draws { OnErr result ((packets : List (List ℕ)) × ((last : Pulling) × Draws (S.left source.old) (S.left source.new) (S.faults source.old) (S.faults source.new) runner.puller last packets)) }
 {
+    let mut steps = Steps::<L>::new(blank);
     let mut runner = runner;
-    match runner.whole(source, batch, cores, script.lines(), steps) {
+    match runner.whole(source, batch, cores, script.lines(), &mut steps) {
         Ok(()) => ran_of(alloc, runner, cores),
         Err(stop) => Err(stop),
     }
-}
-
-// The same with a counter of steps of its own.
-fn run_counted<S: Source, L: Ledger>(
-    alloc: Global,
-    script: &Script,
-    source: &mut S,
-    puller: Puller,
-    batch: u32,
-    blank: Blank,
-) -> Result<Ran, Stop>
-    requires name { blank.name ≡ L.name }
-    requires parts { blank.parts ≡ L.parts }
-    requires counter { 0 < blank.parts }
-    requires some { 1 ≤ batch }
-    requires few { batch ≤ 64 }
-    requires going { puller.reading ≡ Going }
-    requires fresh { puller.given ≡ 0 }
-    requires faults { S.faults source.old < 2 ^ 64 - 1 }
-    ensures ran { IfOk result (λ ran. OfStream (S.left source.old) (S.left source.new) puller (λ ahead taken. IsRanOf script.now batch (ahead ++ taken) ran)) }
-    ensures rose { IfOk result (λ ran. IsTrue ran.head.read_fault ↔ (S.faults source.old < S.faults source.new)) }
-    ensures later { IfOk result (λ _. S.faults source.old ≤ S.faults source.new) }
-    ensures once { S.faults source.new ≤ S.faults source.old + 1 }
-    ensures end { IfOk result (λ ran. ran.head.read_fault ≡ false → IsAtEnd (S.left source.new)) }
-    ensures too_long { (turns : ℕ) → IsErrOf result (Stop.TooLong turns) → OfStream (S.left source.old) (S.left source.new) puller (IsTooLong script.now puller.start turns) }
-    ensures draws { OnErr result ((packets : List (List ℕ)) × ((last : Pulling) × Draws (S.left source.old) (S.left source.new) (S.faults source.old) (S.faults source.new) puller last packets)) }
-{
-    let mut steps = Steps::<L>::new(blank);
-    let mut cores = match cores_of(alloc, script) {
-        Ok(cores) => cores,
-        Err(_) => return Err(Stop::NoMemory),
-    };
-    let nodes = match Nodes::new(alloc) {
-        Ok(nodes) => nodes,
-        Err(_) => return Err(Stop::NoMemory),
-    };
-    let runner = Runner {
-        nodes,
-        puller,
-        moment: 0,
-    };
-    run_over(alloc, script, source, runner, batch, &mut cores, &mut steps)
 }
 
 /// Does the lines of a script in their order, on one thread, over the stream of the puller, in batches of at most `batch`
@@ -196,5 +158,26 @@ pub fn run_steps<S: Source>(
     // What was taken of the source where the run stopped, as the puller's pulls tell it.
     ensures draws { OnErr result ((packets : List (List ℕ)) × ((last : Pulling) × Draws (S.left source.old) (S.left source.new) (S.faults source.old) (S.faults source.new) puller last packets)) }
 {
-    run_counted::<S, Brand>(alloc, script, source, puller, batch, Blank::new(1))
+    let mut cores = match cores_of(alloc, script) {
+        Ok(cores) => cores,
+        Err(_) => return Err(Stop::NoMemory),
+    };
+    let nodes = match Nodes::new(alloc) {
+        Ok(nodes) => nodes,
+        Err(_) => return Err(Stop::NoMemory),
+    };
+    let runner = Runner {
+        nodes,
+        puller,
+        moment: 0,
+    };
+    run_over::<S, Brand>(
+        alloc,
+        script,
+        source,
+        runner,
+        batch,
+        &mut cores,
+        Blank::new(1),
+    )
 }

@@ -2,9 +2,8 @@
 ghost use Rattle.std.specs.Prelude.{◌≡◌, true, ℕ, ◌+◌, ◌-◌, ◌<◌, ◌≤◌, ◌^◌, ◌≢◌, List, [], length, min, IfOk, OnOk, OnErr};
 ghost use Rattle.client_script.specs.declared.line.Line.{Line as ScriptLine};
 ghost use Rattle.serial_core.specs.SerialRun.{Run, fed, finished, ticked, turned};
-ghost use Rattle.serial_core.specs.Inside.Moving.{HasMade, IsAt, IsSound, Moves};
+ghost use Rattle.serial_core.specs.Inside.Moving.{HasMade, IsAt, IsReady, IsSound, Moves};
 ghost use Rattle.feed_pull.specs.Streams.{Draws};
-ghost use Rattle.feed_pull.specs.declared.fault.Reading.TheVariants.{Going};
 
 use crate::nodes::Nodes;
 use emu_io::Source;
@@ -30,10 +29,7 @@ impl Runner {
         most: u32,
         steps: &mut Steps<L>,
     ) -> Result<u32, NoMemory>
-        requires some { 1 ≤ most }
-        requires few { most ≤ 64 }
-        requires faults { self.old.puller.reading ≡ Going → S.faults source.old < 2 ^ 64 - 1 }
-        requires sound { IsSound self.old }
+        requires ready { IsReady most (S.faults source.old) self.old }
         requires made { HasMade self.old 8796093022208 }
         ensures moves { IfOk result (λ n. Moves (S.left source.old) (S.left source.new) (S.faults source.old) (S.faults source.new) self.old self.new
             (λ r s. (s ≡ turned most r) × (n ≡ min most (length r.left)))) }
@@ -68,10 +64,7 @@ impl Runner {
         count: u32,
         steps: &mut Steps<L>,
     ) -> Result<(), NoMemory>
-        requires some { 1 ≤ batch }
-        requires few { batch ≤ 64 }
-        requires faults { self.old.puller.reading ≡ Going → S.faults source.old < 2 ^ 64 - 1 }
-        requires sound { IsSound self.old }
+        requires ready { IsReady batch (S.faults source.old) self.old }
         requires made { HasMade self.old 8796093022208 }
         ensures moves { OnOk result (Moves (S.left source.old) (S.left source.new) (S.faults source.old) (S.faults source.new) self.old self.new (λ r s. s ≡ fed batch count r)) }
         ensures draws { OnErr result ((packets : List (List ℕ)) × Draws (S.left source.old) (S.left source.new) (S.faults source.old) (S.faults source.new) self.old.puller self.new.puller packets) }
@@ -97,10 +90,7 @@ impl Runner {
         batch: u32,
         steps: &mut Steps<L>,
     ) -> Result<(), NoMemory>
-        requires some { 1 ≤ batch }
-        requires few { batch ≤ 64 }
-        requires faults { self.old.puller.reading ≡ Going → S.faults source.old < 2 ^ 64 - 1 }
-        requires sound { IsSound self.old }
+        requires ready { IsReady batch (S.faults source.old) self.old }
         requires made { HasMade self.old 8796093022208 }
         ensures moves { OnOk result (Moves (S.left source.old) (S.left source.new) (S.faults source.old) (S.faults source.new) self.old self.new (λ r s. (lines : List ScriptLine) → s ≡ finished lines batch r)) }
         ensures draws { OnErr result ((packets : List (List ℕ)) × Draws (S.left source.old) (S.left source.new) (S.faults source.old) (S.faults source.new) self.old.puller self.new.puller packets) }

@@ -112,10 +112,7 @@ impl<M: Node> Seat<M> {
             batch,
             now,
         };
-        match self.feed(call, steps)? {
-            Some(batch) => Ok(batch),
-            None => unreachable!(),
-        }
+        Ok(self.feed(call, steps)?.unwrap())
     }
 
     /// A client makes a call, and takes its reply, which joins the entries; `step` is its number among the client's.

@@ -1,9 +1,12 @@
 -- How the lines of a script bring the code and the run further.
 use Rattle.std.specs.Prelude.{◌≡◌, ℕ, ◌≤◌, ◌<◌, List, ◌∷◌, length, drop, sum_by, slice_index_or, All}
+use Rattle.client_script.specs.Script.{clients_of, most_bytes}
 use Rattle.client_script.specs.declared.line.Line.{Line}
 use Rattle.client_core.specs.Inside.Core.{Core, IsAfter}
 use Rattle.serial_core.specs.SerialRun.{Run, replies_of, finished, AreDone}
+use Rattle.serial_core.specs.declared.runner.Runner.{Runner}
 use Rattle.serial_core.specs.Budget.{IsPaid}
+use Rattle.serial_core.specs.Inside.Moving.{HasMade}
 
 -- each core stands after the replies of its client
 abbrev pub AreAfter : List Line → Run → List Core → Type 0
@@ -17,8 +20,18 @@ calls_by cores = sum_by (λ core. core.step) cores
 abbrev pub AreInBudget : List Core → Type 0
 AreInBudget cores = All (λ core. core.step ≤ 549755813888) cores
 
+-- What holds before the first of these lines: no time has gone by, each client that a line names has a core, and few calls were
+-- made.
+pub record MayBegin (lines : List Line) (cores : List Core) (v : Runner) : Type 0 where
+  pub moment : v.moment ≡ 0
+  pub short : length lines ≤ most_bytes
+  pub clients : length cores ≤ 8
+  pub named : All (λ line. clients_of line ≤ length cores) lines
+  pub calls : AreInBudget cores
+  pub made : HasMade v (calls_by cores)
+
 -- The run has come from `first` by lines: where those behind them are done, all of them are.
-pub record Comes (lines : List Line) (batch : ℕ) (behind all : List Line) (first now : Run) (cores : List Core) : Type 0 where
+pub record ComesByLines (lines : List Line) (batch : ℕ) (behind all : List Line) (first now : Run) (cores : List Core) : Type 0 where
   pub clients : length now.replies ≡ 8
   pub after : AreAfter lines now cores
   pub paid : (packets : List (List ℕ)) → IsPaid lines packets first → IsPaid lines packets now
@@ -27,12 +40,12 @@ pub record Comes (lines : List Line) (batch : ℕ) (behind all : List Line) (fir
 -- this line is done
 abbrev pub IsLineBy : (batch : ℕ) (line : Line) (old new : List Core) → Run → Run → Type 0
 IsLineBy batch line old new r s =
-    (lines rest : List Line) → length r.replies ≡ 8 → AreAfter lines r old → Comes lines batch rest (line ∷ rest) r s new
+    (lines rest : List Line) → length r.replies ≡ 8 → AreAfter lines r old → ComesByLines lines batch rest (line ∷ rest) r s new
 
 -- the first so many lines are done
 abbrev pub IsFrontBy : (batch : ℕ) (lines : List Line) (count : ℕ) (old new : List Core) → Run → Run → Type 0
 IsFrontBy batch lines count old new r s =
-    length r.replies ≡ 8 → AreAfter lines r old → Comes lines batch (drop count lines) lines r s new
+    length r.replies ≡ 8 → AreAfter lines r old → ComesByLines lines batch (drop count lines) lines r s new
 
 -- a client has made as many calls as it may
 pub record Overruns (lines : List Line) (first now : Run) : Type 0 where

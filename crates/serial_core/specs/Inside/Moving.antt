@@ -1,9 +1,10 @@
 -- How the code goes on with the run, while the stream is pulled as it is wanted.
-use Rattle.std.specs.Prelude.{◌≡◌, ◌≢◌, ℕ, ◌+◌, ◌≤◌, true, List, [], ◌++◌, length, None}
+use Rattle.std.specs.Prelude.{◌≡◌, ◌≢◌, ℕ, ◌+◌, ◌-◌, ◌^◌, ◌<◌, ◌≤◌, true, List, [], ◌++◌, length, None}
 use Rattle.std.specs.declared.option.Option.{Option}
 use Rattle.client_script.specs.declared.line.Line.{Line}
 use Rattle.client_core.specs.Inside.Core.{Core, IsAfter}
 use Rattle.client_core.specs.Events.{next_of_line}
+use Rattle.feed_pull.specs.declared.fault.Reading.TheVariants.{Going}
 use Rattle.feed_pull.specs.Pulling.{Pulls, IsDone}
 use Rattle.feed_pull.specs.Streams.{Draws}
 use Rattle.serial_core.specs.declared.runner.Runner.{Runner}
@@ -37,6 +38,14 @@ pub record IsSound (v : Runner) : Type 0 where
   pub counted : AreCounted v.nodes
   pub given : v.puller.given ≤ 2199023255552
 
+-- What holds whenever the feeder may have a turn: a batch has 1 to 64 packets, the source, which has failed so often, may be
+-- read where reading goes on, and the numbers are sound.
+pub record IsReady (batch failed : ℕ) (v : Runner) : Type 0 where
+  pub some : 1 ≤ batch
+  pub few : batch ≤ 64
+  pub faults : v.puller.reading ≡ Going → failed < 2 ^ 64 - 1
+  pub sound : IsSound v
+
 -- at most so many calls were made beside the feeder's turns
 abbrev pub HasMade : Runner → (calls : ℕ) → Type 0
 HasMade v calls = v.nodes.made ≤ turns_of v + calls
@@ -44,7 +53,7 @@ HasMade v calls = v.nodes.made ≤ turns_of v + calls
 -- ------ commands
 
 -- The run has come from `first` by calls of this command, and the core stands after the client's replies.
-pub record Comes (lines : List Line) (batch client line : ℕ) (first now : Run) (core : Core) : Type 0 where
+pub record ComesByCalls (lines : List Line) (batch client line : ℕ) (first now : Run) (core : Core) : Type 0 where
   pub after : IsAfter client lines (replies_of client now) core
   pub clients : length now.replies ≡ 8
   pub others : (other : ℕ) → other ≢ client → replies_of other now ≡ replies_of other first
@@ -54,10 +63,10 @@ pub record Comes (lines : List Line) (batch client line : ℕ) (first now : Run)
 -- so it comes from each run after which the old core stood
 abbrev pub ComesBy : (batch client line : ℕ) → (old new : Core) → Run → Run → Type 0
 ComesBy batch client line old new r s =
-    (lines : List Line) → length r.replies ≡ 8 → IsAfter client lines (replies_of client r) old → Comes lines batch client line r s new
+    (lines : List Line) → length r.replies ≡ 8 → IsAfter client lines (replies_of client r) old → ComesByCalls lines batch client line r s new
 
 -- and the command is through
 abbrev pub IsDoneBy : (batch client line : ℕ) → (old new : Core) → Run → Run → Type 0
 IsDoneBy batch client line old new r s =
     (lines : List Line) → length r.replies ≡ 8 → IsAfter client lines (replies_of client r) old
-    → Comes lines batch client line r s new × (next_of_line client lines line (replies_of client s) ≡ None)
+    → ComesByCalls lines batch client line r s new × (next_of_line client lines line (replies_of client s) ≡ None)

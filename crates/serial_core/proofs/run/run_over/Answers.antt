@@ -55,31 +55,37 @@ returns-in-Ok-clause-too_long g c turns is =
 pub returns-in-Ok-clause-draws : goal.returns-in-Ok-clause-draws
 returns-in-Ok-clause-draws g c = let m = c.in-Ok.ensures.moves in on_err c.ran_of.result _ (m.packets, (c.whole.new.self.puller, m.draws))
 
-pub returns-in-Err-clause-too_long : goal.returns-in-Err-clause-too_long
-returns-in-Err-clause-too_long g c turns is =
+pub returns-clause-too_long : goal.returns-clause-too_long
+returns-clause-too_long g c turns is =
     let same : c.in-Err.stop ≡ TooLong turns = cc in
     let k = c.whole.ensures.too_long turns (c.in-Err.is ∙ ap Err same) in
     of_stream _ _ c.args.runner.puller _ (IsTooLong c.args.script.now c.args.runner.puller.start turns) (λ ahead taken (q : 549755813888 ≤ most_calls (all_commands c.args.script.now) (length ahead + length taken)). inr (k.0, q))
     (overrun_is c.args.script.now c.args.batch _ _ _ _ c.args.runner c.whole.new.self c.args.cores.now c.requires.begun c.requires.fresh (rw c.lines.ensures.lines at k.1))
 
-pub returns-in-Err-clause-draws : goal.returns-in-Err-clause-draws
-returns-in-Err-clause-draws g c = let d = c.in-Err.ensures.draws in (d.0, (c.whole.new.self.puller, d.1))
+pub returns-clause-draws : goal.returns-clause-draws
+returns-clause-draws g c = let d = c.in-Err.ensures.draws in (d.0, (c.whole.new.self.puller, d.1))
 
-pub whole-requires-clause-sound : goal.whole-requires-clause-sound
-whole-requires-clause-sound g c = record {
-  ended = λ is. absurd (let e : true ≡ false = sym is ∙ c.requires.begun.unended in cc);
-  counted = c.requires.begun.counted;
-  given = omega (arith, c.requires.begun.given);
+pub whole-requires-clause-ready : goal.whole-requires-clause-ready
+whole-requires-clause-ready g c = record {
+  some = c.requires.some;
+  few = c.requires.few;
+  faults = λ going. c.requires.faults;
+  sound = record {
+    ended = λ is. absurd (let e : true ≡ false = sym is ∙ c.requires.begun.unended in cc);
+    counted = c.requires.begun.counted;
+    given = omega (arith, c.requires.begun.given);
+  };
 }
 
-pub whole-requires-clause-made : goal.whole-requires-clause-made
-whole-requires-clause-made g c = omega (arith, c.requires.begun.made)
-
-pub whole-requires-clause-client : goal.whole-requires-clause-client
-whole-requires-clause-client g c = rw (c.lines.ensures.lines, c.requires.fresh.count) (clients_within c.args.script.now)
-
-pub whole-requires-clause-calls : goal.whole-requires-clause-calls
-whole-requires-clause-calls g c k d lt = let none = c.requires.fresh.fresh k d lt in omega (arith, none)
+pub whole-requires-clause-begins : goal.whole-requires-clause-begins
+whole-requires-clause-begins g c = record {
+  moment = c.requires.begun.moment;
+  short = c.lines.ensures.known.few;
+  clients = c.requires.fresh.few;
+  named = rw (c.lines.ensures.lines, c.requires.fresh.count) (clients_within c.args.script.now);
+  calls = λ k d lt. let none = c.requires.fresh.fresh k d lt in omega (arith, none);
+  made = omega (arith, c.requires.begun.made);
+}
 
 pub returns-in-Ok-clause-later : goal.returns-in-Ok-clause-later
 returns-in-Ok-clause-later g c =
@@ -92,5 +98,5 @@ returns-in-Ok-clause-later g c =
 pub returns-in-Ok-clause-once : goal.returns-in-Ok-clause-once
 returns-in-Ok-clause-once g c = c.in-Ok.ensures.moves.draws.follows.once
 
-pub returns-in-Err-clause-once : goal.returns-in-Err-clause-once
-returns-in-Err-clause-once g c = c.in-Err.ensures.draws.1.follows.once
+pub returns-clause-once : goal.returns-clause-once
+returns-clause-once g c = c.in-Err.ensures.draws.1.follows.once

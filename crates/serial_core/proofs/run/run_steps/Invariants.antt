@@ -1,4 +1,4 @@
 use Rattle.serial_core.proofs.run.run_steps.Given as goal
 
-abbrev pub ghosts-run_counted : goal.ghosts-run_counted
-ghosts-run_counted g a = record { name = a.blank.name; parts = a.blank.parts }
+abbrev pub ghosts-run_over : goal.ghosts-run_over
+ghosts-run_over g a = record { name = a.blank.name; parts = a.blank.parts }

@@ -4,15 +4,15 @@ use Rattle.client_core.specs.Inside.Core.{IsAfter}
 use Rattle.serial_core.specs.SerialRun.{Run, called, replies_of, reply_to, after_waiting}
 use Rattle.serial_core.specs.Inside.Moving.{ComesBy}
 use Rattle.feed_pull.proofs.Drawing.{draws_then}
-use Rattle.feed_pull.proofs.Stopping.{still_counts, on_err}
-use Rattle.serial_core.proofs.Moving.{moves_none, moves_then, moves_by}
+use Rattle.feed_pull.proofs.Stopping.{on_err}
+use Rattle.serial_core.proofs.Moving.{moves_none, moves_then, moves_by, ready_on}
 use Rattle.serial_core.proofs.Commanding.{comes_none, comes_on, none_by}
 use Rattle.serial_core.proofs.runner.Runner.command.Goals as goal
 
 pub calls-init : goal.calls-init
 calls-init g c = record {
   moves = moves_none _ _ c.args.self.now _ (λ r lines clients after. comes_none lines c.args.batch c.args.client c.args.line r c.args.core.now clients after);
-  sound = c.requires.sound;
+  sound = c.requires.ready.sound;
   moment = refl;
   made = λ calls made. made;
   few = c.requires.calls;
@@ -34,7 +34,7 @@ calls-preserved g c =
           (lines : List Line) (clients : length r.replies ≡ 8) (after : IsAfter client lines (replies_of client r) c.args.core.now).
           let come = a lines clients after in
           let n = b lines come.after in
-          comes_on lines batch client line r s t core next e c.requires.some c.requires.client come (sym (c.next_at.ensures.tied client lines _ come.after) ∙ c.in-Some.is) n.0 n.1)
+          comes_on lines batch client line r s t core next e c.requires.ready.some c.requires.client come (sym (c.next_at.ensures.tied client lines _ come.after) ∙ c.in-Some.is) n.0 n.1)
           c.calls.invariant.moves k.moves;
       sound = k.sound;
       moment = k.moment ∙ c.calls.invariant.moment;
@@ -45,8 +45,8 @@ calls-preserved g c =
 pub advance-requires-clause-made : goal.advance-requires-clause-made
 advance-requires-clause-made g c = let m = c.calls.invariant.made 4398046511104 c.requires.made in omega (arith, m, c.calls.invariant.few)
 
-pub advance-requires-clause-faults : goal.advance-requires-clause-faults
-advance-requires-clause-faults g c = still_counts _ _ _ _ _ _ c.calls.invariant.moves.draws.follows c.requires.faults
+pub advance-requires-clause-ready : goal.advance-requires-clause-ready
+advance-requires-clause-ready g c = ready_on _ _ _ _ _ _ _ _ c.calls.invariant.moves c.requires.ready c.calls.invariant.sound
 
 pub returns-clause-moves : goal.returns-clause-moves
 returns-clause-moves g c =

@@ -1,19 +1,28 @@
 use Rattle.std.proofs.Common.{◌≡◌, refl, sym, ap, ◌∙◌, ◌-◌, ◌<◌, min, length, arith}
 use Rattle.serial_core.specs.SerialRun.{Run, fed, turned}
 use Rattle.feed_pull.proofs.Drawing.{draws_then}
-use Rattle.feed_pull.proofs.Stopping.{still_counts, on_err}
-use Rattle.serial_core.proofs.Moving.{moves_none, moves_then, moves_by}
+use Rattle.feed_pull.proofs.Stopping.{on_err}
+use Rattle.serial_core.proofs.Moving.{moves_none, moves_then, moves_by, ready_on}
 use Rattle.serial_core.proofs.Batches.{fed_none, fed_end, fed_step}
 use Rattle.serial_core.proofs.runner.Runner.feed.Goals as goal
 
 pub turns-init : goal.turns-init
-turns-init g c = record { moves = moves_none _ _ c.args.self.now _ (λ r. refl); sound = c.requires.sound; moment = refl; made = λ calls made. made }
+turns-init g c = record { moves = moves_none _ _ c.args.self.now _ (λ r. refl); sound = c.requires.ready.sound; moment = refl; made = λ calls made. made }
 
 pub turn-requires-clause-made : goal.turn-requires-clause-made
 turn-requires-clause-made g c = c.turns.invariant.made 8796093022208 c.requires.made
 
-pub turn-requires-clause-faults : goal.turn-requires-clause-faults
-turn-requires-clause-faults g c = still_counts _ _ _ _ _ _ c.turns.invariant.moves.draws.follows c.requires.faults
+pub turn-requires-clause-ready : goal.turn-requires-clause-ready
+turn-requires-clause-ready g c =
+    let size : c.min.result ≡ min c.turns.left c.args.batch = c.min.ensures in
+    let more : 0 < c.turns.left = omega arith in
+    let ready = ready_on _ _ _ _ _ _ _ _ c.turns.invariant.moves c.requires.ready c.turns.invariant.sound in
+    record {
+      some = omega (arith, size, more, c.requires.ready.some);
+      few = omega (arith, size, c.requires.ready.few);
+      faults = ready.faults;
+      sound = ready.sound;
+    }
 
 pub returns-in_err-passed-clause-draws : goal.returns-in_err-passed-clause-draws
 returns-in_err-passed-clause-draws g c =
@@ -30,7 +39,7 @@ returns-then-passed-eq0-clause-moves g c =
     let more : 0 < left = omega arith in
     moves_then _ _ _ _ _ _ _ _ _ _ _ _
     (λ (r s t : Run) (a : fed batch c.args.count r ≡ fed batch left s) (b : (t ≡ turned c.min.result s) × (c.in_ok-passed.passed ≡ min c.min.result (length s.left))).
-    let some : 0 < batch = omega (arith, c.requires.some) in
+    let some : 0 < batch = omega (arith, c.requires.ready.some) in
     let empty : length s.left ≡ 0 = omega (arith, b.1, q, none, more, some) in
     b.0 ∙ (sym (fed_end batch c.min.result left s some more empty) ∙ sym a))
     c.turns.invariant.moves c.in_ok-passed.ensures.moves
@@ -48,7 +57,7 @@ turns-preserved g c =
     record {
       moves = moves_then _ _ _ _ _ _ _ _ _ _ _ _
           (λ (r s t : Run) (a : fed batch c.args.count r ≡ fed batch left s) (b : (t ≡ turned c.min.result s) × (n ≡ min c.min.result (length s.left))).
-          a ∙ (fed_step batch left n s (omega (arith, c.requires.some)) more (b.1 ∙ ap (λ m. min m (length s.left)) q) (omega arith)
+          a ∙ (fed_step batch left n s (omega (arith, c.requires.ready.some)) more (b.1 ∙ ap (λ m. min m (length s.left)) q) (omega arith)
           ∙ ap (fed batch (left - n)) (ap (λ m. turned m s) (sym q) ∙ sym b.0)))
           c.turns.invariant.moves c.in_ok-passed.ensures.moves;
       sound = c.in_ok-passed.ensures.sound;
@@ -62,5 +71,5 @@ returns-clause-moves g c =
     let batch = c.args.batch in
     let zero : left ≡ 0 = omega arith in
     moves_by _ _ _ _ _ _ _ _
-    (λ (r s : Run) (a : fed batch c.args.count r ≡ fed batch left s). sym (a ∙ (ap (λ n. fed batch n s) zero ∙ fed_none batch s (omega (arith, c.requires.some)))))
+    (λ (r s : Run) (a : fed batch c.args.count r ≡ fed batch left s). sym (a ∙ (ap (λ n. fed batch n s) zero ∙ fed_none batch s (omega (arith, c.requires.ready.some)))))
     c.turns.invariant.moves

@@ -24,7 +24,7 @@ command-requires-clause-made g c =
 
 pub returns-in_ok-feed-in-Feed-clause-moves : goal.returns-in_ok-feed-in-Feed-clause-moves
 returns-in_ok-feed-in-Feed-clause-moves g c =
-    rw c.in-Feed.is (moves_by _ _ _ _ _ _ _ _ (λ (r s : Run) (a : s ≡ fed c.args.batch c.in-Feed.count r). feed_done c.args.batch c.in-Feed.count c.args.cores.now r s c.requires.some a) c.in_ok-feed-in-Feed.ensures.moves)
+    rw c.in-Feed.is (moves_by _ _ _ _ _ _ _ _ (λ (r s : Run) (a : s ≡ fed c.args.batch c.in-Feed.count r). feed_done c.args.batch c.in-Feed.count c.args.cores.now r s c.requires.ready.some a) c.in_ok-feed-in-Feed.ensures.moves)
 
 pub returns-in_ok-feed-in-Feed-clause-made : goal.returns-in_ok-feed-in-Feed-clause-made
 returns-in_ok-feed-in-Feed-clause-made g c = c.in_ok-feed-in-Feed.ensures.made (calls_by c.args.cores.now) c.requires.made

@@ -5,23 +5,23 @@ use Rattle.client_core.specs.declared.stop.Stop.TheVariants.{TooLong}
 use Rattle.serial_core.specs.SerialRun.{Run}
 use Rattle.serial_core.specs.Inside.Lines.{IsFrontBy, IsLineBy, OverrunsBy}
 use Rattle.feed_pull.proofs.Drawing.{draws_then}
-use Rattle.feed_pull.proofs.Stopping.{still_counts, on_err}
-use Rattle.serial_core.proofs.Moving.{moves_none, moves_then, err_and}
+use Rattle.feed_pull.proofs.Stopping.{on_err}
+use Rattle.serial_core.proofs.Moving.{moves_none, moves_then, err_and, ready_on}
 use Rattle.serial_core.proofs.Lining.{front_more, front_none, front_overruns, calls_most}
 use Rattle.serial_core.proofs.runner.Runner.lines.Goals as goal
 
 pub lines-init : goal.lines-init
 lines-init g c = record {
   moves = moves_none _ _ c.args.self.now _ (λ r. front_none c.args.batch c.args.lines.now c.args.cores.now r);
-  sound = c.requires.sound;
-  made = c.requires.made;
-  calls = c.requires.calls;
-  moment = omega (arith, c.requires.late);
+  sound = c.requires.ready.sound;
+  made = c.requires.begins.made;
+  calls = c.requires.begins.calls;
+  moment = omega (arith, c.requires.begins.moment);
   clients = refl;
 }
 
-pub line-requires-clause-faults : goal.line-requires-clause-faults
-line-requires-clause-faults g c = still_counts _ _ _ _ _ _ c.lines.invariant.moves.draws.follows c.requires.faults
+pub line-requires-clause-ready : goal.line-requires-clause-ready
+line-requires-clause-ready g c = ready_on _ _ _ _ _ _ _ _ c.lines.invariant.moves c.requires.ready c.lines.invariant.sound
 
 pub returns-in_err-line-clause-draws : goal.returns-in_err-line-clause-draws
 returns-in_err-line-clause-draws g c =
@@ -60,4 +60,4 @@ lines-preserved g c =
     }
 
 pub returns-clause-made : goal.returns-clause-made
-returns-clause-made g c = omega (arith, c.lines.invariant.made, calls_most c.lines.cores (omega (arith, c.lines.invariant.clients, c.requires.clients)) c.lines.invariant.calls)
+returns-clause-made g c = omega (arith, c.lines.invariant.made, calls_most c.lines.cores (omega (arith, c.lines.invariant.clients, c.requires.begins.clients)) c.lines.invariant.calls)

@@ -4,8 +4,8 @@ use Rattle.serial_core.specs.SerialRun.{Run, finished}
 use Rattle.serial_core.specs.Inside.Lines.{IsFrontBy}
 use Rattle.feed_pull.specs.Streams.{Draws}
 use Rattle.feed_pull.proofs.Drawing.{draws_then}
-use Rattle.feed_pull.proofs.Stopping.{still_counts, on_err}
-use Rattle.serial_core.proofs.Moving.{moves_then}
+use Rattle.feed_pull.proofs.Stopping.{on_err}
+use Rattle.serial_core.proofs.Moving.{moves_then, ready_on}
 use Rattle.serial_core.proofs.Lining.{whole_by}
 use Rattle.serial_core.proofs.runner.Runner.whole.Goals as goal
 
@@ -16,8 +16,8 @@ returns-clause-moves g c =
     whole_by c.args.batch c.args.lines.now c.args.cores.now c.lines.new.cores r s t a b)
     c.in_ok-lines.ensures.moves c.in_ok-finish.ensures.moves
 
-pub finish-requires-clause-faults : goal.finish-requires-clause-faults
-finish-requires-clause-faults g c = still_counts _ _ _ _ _ _ c.in_ok-lines.ensures.moves.draws.follows c.requires.faults
+pub finish-requires-clause-ready : goal.finish-requires-clause-ready
+finish-requires-clause-ready g c = ready_on _ _ _ _ _ _ _ _ c.in_ok-lines.ensures.moves c.requires.ready c.in_ok-lines.ensures.sound
 
 pub returns-in_err-finish-clause-draws : goal.returns-in_err-finish-clause-draws
 returns-in_err-finish-clause-draws g c =

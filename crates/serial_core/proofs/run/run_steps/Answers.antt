@@ -1,6 +1,6 @@
 use Rattle.std.proofs.Common.{refl, []}
 use Rattle.feed_pull.proofs.Drawing.{draws_none}
-use Rattle.serial_core.proofs.run.run_counted.Goals as goal
+use Rattle.serial_core.proofs.run.run_steps.Goals as goal
 
 pub returns-in-Err-clause-draws : goal.returns-in-Err-clause-draws
 returns-in-Err-clause-draws g c = ([], (c.args.puller, draws_none _ _ c.args.puller))
