@@ -1,7 +1,8 @@
 // Reads and writes that fail, on one thread and by threads, worked out by hand from the rules of the statuses.
+use crate::Status;
+use crate::in_memory::{Part, emulated, input_of, told_over};
 use crate::report_lines::replies_in;
-use crate::tests::{Part, input_of, words_of};
-use crate::{Status, emulate};
+use crate::rows::{ENDED, FIRST, NOT_YET};
 use client_script::FaultKind;
 use emu_io::{FixedClock, MemSink, MemSource, Mute, NoGate};
 use std::process::Abort;
@@ -19,7 +20,8 @@ const BOTH: [&[&str]; 3] = [
 // Which reads fail, how much the sink may hold, which writes fail; the status, and what was written.
 type Faults = (&'static [u64], usize, &'static [u64], Status, &'static [u8]);
 
-// What `emulate` answers and writes over reads of at most 188 bytes and writes of at most 10.
+// What `emulate` answers and writes over reads of at most 188 bytes and writes of at most 10; where it is mute, over ends that
+// tell no content, as standard input and output.
 fn told_with<R: AllocGlobal + Threads + Wait + Sync>(
     rt: &R,
     words: &[&str],
@@ -27,54 +29,22 @@ fn told_with<R: AllocGlobal + Threads + Wait + Sync>(
     reads: &[u64],
     capacity: usize,
     writes: &[u64],
+    is_mute: bool,
 ) -> Result<(Status, Vec<u8>), Fail> {
     let alloc = rt.alloc();
-    let words = words_of(alloc, words)?;
-    let mut source = MemSource::new(input_of(alloc, parts)?, 188, reads.to_vec(alloc)?);
-    let mut sink = MemSink::new(alloc, capacity, 10, writes.to_vec(alloc)?)?;
-    let status = emulate(
-        rt,
-        alloc,
-        &words,
-        &mut source,
-        &mut sink,
-        &FixedClock::new(0),
-        &NoGate::new(),
-    );
-    Ok((status, sink.bytes().to_vec(alloc)?))
-}
-
-// The same over ends that tell no content, as standard input and output.
-fn told_mute<R: AllocGlobal + Threads + Wait + Sync>(
-    rt: &R,
-    words: &[&str],
-    parts: &[Part],
-    reads: &[u64],
-    capacity: usize,
-    writes: &[u64],
-) -> Result<(Status, Vec<u8>), Fail> {
-    let alloc = rt.alloc();
-    let words = words_of(alloc, words)?;
     let source = MemSource::new(input_of(alloc, parts)?, 188, reads.to_vec(alloc)?);
-    let mut source = Mute::new(source);
     let sink = MemSink::new(alloc, capacity, 10, writes.to_vec(alloc)?)?;
-    let mut sink = Mute::new(sink);
-    let status = emulate(
-        rt,
-        alloc,
-        &words,
-        &mut source,
-        &mut sink,
-        &FixedClock::new(0),
-        &NoGate::new(),
-    );
+    if !is_mute {
+        return told_over(rt, words, source, sink);
+    }
+    let (mut source, mut sink) = (Mute::new(source), Mute::new(sink));
+    let (clock, gate) = (FixedClock::new(0), NoGate::new());
+    let status = emulated(rt, words, &mut source, &mut sink, &clock, &gate)?;
     Ok((status, sink.inner.bytes().to_vec(alloc)?))
 }
 
-// The packet of PID 256 with the counter 0 and the payload 00, and three times the same behind the line `stream`.
-const ZEROS: Part = (b"\x47\x01\x00\x10", 184, 0);
-
-const THREE: [Part; 4] = [(b"stream\n", 0, 0), ZEROS, ZEROS, ZEROS];
+// Three times the same packet, behind the line `stream`.
+const THREE: [Part; 4] = [(b"stream\n", 0, 0), FIRST, FIRST, FIRST];
 
 static READ_FAULTS: [Faults; 7] = [
     (&[0], 1000, &[], Status::ReadFault, b""),
@@ -160,22 +130,31 @@ static WRITE_FAULTS: [Faults; 8] = [
     (&[], 0, &[], Status::WriteFault, b""),
 ];
 
-// Asserts the status and what was written of each row, by each list of words, over ends that tell their content and ends that
-// don't.
+// Asserts the status and what was written of each row.
+fn assert_rows<R: AllocGlobal + Threads + Wait + Sync + Abort>(
+    rt: &R,
+    words: &[&str],
+    parts: &[Part],
+    rows: &[Faults],
+    is_mute: bool,
+) -> Result<(), Fail> {
+    for (case, (reads, capacity, writes, want, output)) in rows.iter().enumerate() {
+        let (status, written) = told_with(rt, words, parts, reads, *capacity, writes, is_mute)?;
+        assert!(rt; status == *want, "case {case}, mute {is_mute}");
+        assert_eq!(rt; written.as_slice(), *output, "case {case}, mute {is_mute}");
+    }
+    Ok(())
+}
+
+// The same by each list of words, over ends that tell their content and ends that don't.
 fn assert_faults<R: AllocGlobal + Threads + Wait + Sync + Abort>(
     rt: &R,
     parts: &[Part],
     rows: &[Faults],
 ) -> Result<(), Fail> {
     for words in BOTH {
-        for (case, (reads, capacity, writes, want, output)) in rows.iter().enumerate() {
-            let (status, written) = told_with(rt, words, parts, reads, *capacity, writes)?;
-            assert!(rt; status == *want, "case {case}");
-            assert_eq!(rt; written.as_slice(), *output, "case {case}");
-            let (status, written) = told_mute(rt, words, parts, reads, *capacity, writes)?;
-            assert!(rt; status == *want, "case {case}, mute");
-            assert_eq!(rt; written.as_slice(), *output, "case {case}, mute");
-        }
+        assert_rows(rt, words, parts, rows, false)?;
+        assert_rows(rt, words, parts, rows, true)?;
     }
     Ok(())
 }
@@ -202,16 +181,12 @@ const READER: [Part; 4] = [
         0,
         0,
     ),
-    ZEROS,
-    ZEROS,
-    ZEROS,
+    FIRST,
+    FIRST,
+    FIRST,
 ];
 
 const PACKET: Part = (b"data 47010010", 368, b'0');
-
-const AGAIN: Part = (b"again ended=0", 0, 0);
-
-const ENDED: Part = (b"again ended=1", 0, 0);
 
 // The read that fails, the status, the head and the last line, and what the client's reads are answered.
 type Read = (u64, Status, &'static str, &'static str, &'static [Part]);
@@ -236,21 +211,21 @@ static READS: [Read; 5] = [
         Status::ReadFault,
         "packets=2 skipped=0 rest=107",
         "fault read",
-        &[PACKET, PACKET, AGAIN, ENDED],
+        &[PACKET, PACKET, NOT_YET, ENDED],
     ),
     (
         4,
         Status::ReadFault,
         "packets=3 skipped=0 rest=0",
         "fault read",
-        &[PACKET, PACKET, AGAIN, PACKET, AGAIN, ENDED],
+        &[PACKET, PACKET, NOT_YET, PACKET, NOT_YET, ENDED],
     ),
     (
         5,
         Status::Ok,
         "packets=3 skipped=0 rest=0",
         "end",
-        &[PACKET, PACKET, AGAIN, PACKET, AGAIN, ENDED],
+        &[PACKET, PACKET, NOT_YET, PACKET, NOT_YET, ENDED],
     ),
 ];
 
@@ -258,7 +233,7 @@ static READS: [Read; 5] = [
 fn a_client_reads_what_was_taken_before_a_read_fault(rt: HostRuntime) -> Result<(), Fail> {
     let alloc = rt.alloc();
     for (read, want, head, last, replies) in READS.iter() {
-        let (status, written) = told_with(&rt, BOTH[0], &READER, &[*read], 10000, &[])?;
+        let (status, written) = told_with(&rt, BOTH[0], &READER, &[*read], 10000, &[], false)?;
         assert!(rt; status == *want, "read {read}");
         let report = String::from_utf8(written)?;
         assert_eq!(rt; report.lines().nth(1), Some(*head), "read {read}");
@@ -284,7 +259,7 @@ fn a_faulty_script_is_told_without_a_look_behind_it(rt: HostRuntime) -> Result<(
         kind: FaultKind::Count,
     };
     for words in BOTH {
-        let (status, written) = told_with(&rt, words, &parts, &[1], 1000, &[])?;
+        let (status, written) = told_with(&rt, words, &parts, &[1], 1000, &[], false)?;
         assert!(rt; status == want);
         assert!(rt; written.is_empty());
     }

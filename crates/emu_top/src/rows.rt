@@ -1,7 +1,7 @@
 // Sessions as rows: a line of the script, and what the calls that it makes are answered.
 use crate::Status;
+use crate::in_memory::{Part, input_of, told_of};
 use crate::report_lines::{reply_to, steps_in};
-use crate::tests::{Part, input_of, told_of};
 use std::alloc::Global;
 use std::sync::Wait;
 use std::test::Fail;
@@ -15,7 +15,14 @@ pub const NO_CALL: &[Part] = &[];
 
 pub const DONE: &[Part] = &[(b"done drop=0..0 tap=keep", 0, 0)];
 
-pub const AGAIN: &[Part] = &[(b"again ended=0", 0, 0)];
+/// What a read is answered that finds nothing, before the end of the stream and behind it.
+pub const NOT_YET: Part = (b"again ended=0", 0, 0);
+
+pub const ENDED: Part = (b"again ended=1", 0, 0);
+
+pub const AGAIN: &[Part] = &[NOT_YET];
+
+pub const NOT_READY: &[Part] = &[(b"ready readable=0 error=none at=0 ended=0", 0, 0)];
 
 pub const NO_BYTES: &[Part] = &[(b"data -", 0, 0)];
 
@@ -25,14 +32,29 @@ pub const EBADF: &[Part] = &[(b"EBADF", 0, 0)];
 
 pub const EBUSY: &[Part] = &[(b"EBUSY", 0, 0)];
 
+/// Packets whose payload is zeros: PID 256 with the counters 0, 1 and 2, and PID 257.
+pub const FIRST: Part = (b"\x47\x01\x00\x10", 184, 0);
+
+pub const SECOND: Part = (b"\x47\x01\x00\x11", 184, 0);
+
+pub const THIRD: Part = (b"\x47\x01\x00\x12", 184, 0);
+
+pub const OTHER: Part = (b"\x47\x01\x01\x10", 184, 0);
+
+/// Appends a line.
+pub fn put_line(text: &mut Vec<u8>, line: &[u8]) -> Result<(), Fail> {
+    text.extend_from_slice(line)?;
+    text.push(b'\n')?;
+    Ok(())
+}
+
 // The script of these rows with its line `stream`, and behind it a stream.
 fn session_of(alloc: Global, rows: &[Row], stream: &[Part]) -> Result<Vec<u8>, Fail> {
     let mut session = Vec::new(alloc);
     for (command, _) in rows {
-        session.extend_from_slice(command.as_bytes())?;
-        session.push(b'\n')?;
+        put_line(&mut session, command.as_bytes())?;
     }
-    session.extend_from_slice(b"stream\n")?;
+    put_line(&mut session, b"stream")?;
     session.extend_from_slice(&input_of(alloc, stream)?)?;
     Ok(session)
 }

@@ -1,22 +1,16 @@
 // Sessions with one client, worked out by hand from the rules of the script, the node and the report: what each call is
 // answered, and whole reports for the order of their entries and what each tells.
-use crate::Status;
-use crate::rows::{AGAIN, DONE, EBUSY, NO_CALL, Row, odd_line};
-use crate::tests::{Part, input_of, told, without_rows};
+use crate::entry_rows::{EACH, NOWHERE, PASS_FIRST, PASS_THIRD, PASSED, Reported, odd_session};
+use crate::in_memory::Part;
+use crate::rows::{
+    AGAIN, DONE, EBADF, EBUSY, EINVAL, FIRST, NO_BYTES, NO_CALL, NOT_READY, OTHER, Row, SECOND,
+    THIRD, odd_line,
+};
 use std::sync::Wait;
 use std::test::Fail;
 use std::thread::Threads;
 
-// The packets of the sessions: PID 256 with the counters 0 to 3, and PID 257.
-const FIRST: Part = (b"\x47\x01\x00\x10", 184, 0);
-
-const SECOND: Part = (b"\x47\x01\x00\x11", 184, 0);
-
-const THIRD: Part = (b"\x47\x01\x00\x12", 184, 0);
-
 const FOURTH: Part = (b"\x47\x01\x00\x13", 184, 0);
-
-const OTHER: Part = (b"\x47\x01\x01\x10", 184, 0);
 
 // PID 300, which no session has a filter for.
 const UNNAMED: Part = (b"\x47\x01\x2c\x10", 184, 0);
@@ -191,197 +185,171 @@ fn calls_are_answered_in_their_order(rt: HostRuntime) -> Result<(), Fail> {
     Ok(())
 }
 
-// A session: the batch, the script and the stream, and the report without its rows of PIDs and of clients.
-type Case = (&'static str, &'static [Part], &'static [Part]);
+// The call of the row FILTER.
+const SET: &str = "pes pid=256 input=frontend output=tsdemux_tap type=20 flags=0 at=0";
 
-static WHOLE: [Case; 5] = [
+static WHOLE: [Reported; 5] = [
     // In batches: the overflow and the packet behind it.
-    (
-        "64",
-        &[
+    Reported {
+        batch: "64",
+        rows: &[
+            ("c0 open n0", "0", "c0 0", "open", DONE),
+            ("c0 size n0 377", "0", "c0 1", "size 377", DONE),
             (
-                b"c0 open n0\n\
-                c0 size n0 377\n\
-                c0 pes n0 256 frontend tsdemux_tap 20 0\n\
-                c0 start n0\n\
-                feed 3\n\
-                c0 read n0 188\n\
-                feed 1\n\
-                c0 read n0 188\n\
-                stream\n",
-                0,
-                0,
+                "c0 pes n0 256 frontend tsdemux_tap 20 0",
+                "0",
+                "c0 2",
+                SET,
+                DONE,
             ),
-            FIRST,
-            SECOND,
-            THIRD,
-            FOURTH,
+            ("c0 start n0", "0", "c0 3", "start at=0", DONE),
+            (
+                "feed 3",
+                EACH,
+                "feed 0",
+                "pass input=frontend first=0 count=3 at=0",
+                PASSED,
+            ),
+            (
+                "c0 read n0 188",
+                "0",
+                "c0 4",
+                "read 188 at=0",
+                &[(b"overflow 0..564 item=2 need=188 room=0", 0, 0)],
+            ),
+            (
+                "feed 1",
+                EACH,
+                "feed 1",
+                "pass input=frontend first=3 count=1 at=0",
+                PASSED,
+            ),
+            (
+                "c0 read n0 188",
+                "0",
+                "c0 5",
+                "read 188 at=0",
+                &[(b"data 47010013", 368, b'0')],
+            ),
+            ("stream", EACH, "feed 2", "end", PASSED),
         ],
-        &[
-            (
-                b"dvbemu 1\n\
-                packets=4 skipped=0 rest=0\n\
-                node 0\n\
-                0 c0 0 open = done drop=0..0 tap=keep\n\
-                1 c0 1 size 377 = done drop=0..0 tap=keep\n\
-                2 c0 2 pes pid=256 input=frontend output=tsdemux_tap type=20 flags=0 at=0 = done drop=0..0 tap=keep\n\
-                3 c0 3 start at=0 = done drop=0..0 tap=keep\n\
-                4 feed 0 pass input=frontend first=0 count=3 at=0 = passed\n\
-                5 c0 4 read 188 at=0 = overflow 0..564 item=2 need=188 room=0\n\
-                6 feed 1 pass input=frontend first=3 count=1 at=0 = passed\n\
-                7 c0 5 read 188 at=0 = data 47010013",
-                368,
-                b'0',
-            ),
-            (
-                b"\n\
-                8 feed 2 end = passed\n\
-                end\n",
-                0,
-                0,
-            ),
-        ],
-    ),
+        stream: &[FIRST, SECOND, THIRD, FOURTH],
+        head: "packets=4 skipped=0 rest=0",
+        nodes: &["0"],
+    },
     // Refused calls, and an End that passes once, at the first feed that wants more packets than there are.
-    (
-        "64",
-        &[
+    Reported {
+        batch: "64",
+        rows: &[
+            ("c0 start n0", "0", "c0 0", "start at=0", EBADF),
+            ("c0 open n0", "0", "c0 1", "open", DONE),
             (
-                b"c0 start n0\n\
-                c0 open n0\n\
-                c0 open n0\n\
-                c0 start n0\n\
-                c0 size n0 1\n\
-                c0 stop n0\n\
-                feed 2\n\
-                feed 1\n\
-                c0 read n0 0\n\
-                stream\n",
-                0,
-                0,
+                "c0 open n0",
+                "0",
+                "c0 2",
+                "open",
+                &[(b"busy owner=c0", 0, 0)],
             ),
-            OTHER,
+            ("c0 start n0", "0", "c0 3", "start at=0", EINVAL),
+            ("c0 size n0 1", "0", "c0 4", "size 1", EINVAL),
+            ("c0 stop n0", "0", "c0 5", "stop", DONE),
+            ("feed 2", EACH, "feed 0", PASS_FIRST, PASSED),
+            ("", EACH, "feed 1", "end", PASSED),
+            ("feed 1", NOWHERE, "", "", NO_CALL),
+            ("c0 read n0 0", "0", "c0 6", "read 0 at=0", NO_BYTES),
+            ("stream", NOWHERE, "", "", NO_CALL),
         ],
-        &[(
-            b"dvbemu 1\n\
-                packets=1 skipped=0 rest=0\n\
-                node 0\n\
-                0 c0 0 start at=0 = EBADF\n\
-                1 c0 1 open = done drop=0..0 tap=keep\n\
-                2 c0 2 open = busy owner=c0\n\
-                3 c0 3 start at=0 = EINVAL\n\
-                4 c0 4 size 1 = EINVAL\n\
-                5 c0 5 stop = done drop=0..0 tap=keep\n\
-                6 feed 0 pass input=frontend first=0 count=1 at=0 = passed\n\
-                7 feed 1 end = passed\n\
-                8 c0 6 read 0 at=0 = data -\n\
-                end\n",
-            0,
-            0,
-        )],
-    ),
+        stream: &[OTHER],
+        head: "packets=1 skipped=0 rest=0",
+        nodes: &["0"],
+    },
     // Three packets in batches of two.
-    (
-        "2",
-        &[
+    Reported {
+        batch: "2",
+        rows: &[
+            ("c0 open n0", "0", "c0 0", "open", DONE),
             (
-                b"c0 open n0\n\
-                c0 pes n0 256 frontend tsdemux_tap 20 0\n\
-                c0 start n0\n\
-                feed 3\n\
-                stream\n",
-                0,
-                0,
+                "c0 pes n0 256 frontend tsdemux_tap 20 0",
+                "0",
+                "c0 1",
+                SET,
+                DONE,
             ),
-            FIRST,
-            OTHER,
-            SECOND,
+            ("c0 start n0", "0", "c0 2", "start at=0", DONE),
+            (
+                "feed 3",
+                EACH,
+                "feed 0",
+                "pass input=frontend first=0 count=2 at=0",
+                PASSED,
+            ),
+            ("", EACH, "feed 1", PASS_THIRD, PASSED),
+            ("stream", EACH, "feed 2", "end", PASSED),
         ],
-        &[(
-            b"dvbemu 1\n\
-                packets=3 skipped=0 rest=0\n\
-                node 0\n\
-                0 c0 0 open = done drop=0..0 tap=keep\n\
-                1 c0 1 pes pid=256 input=frontend output=tsdemux_tap type=20 flags=0 at=0 = done drop=0..0 tap=keep\n\
-                2 c0 2 start at=0 = done drop=0..0 tap=keep\n\
-                3 feed 0 pass input=frontend first=0 count=2 at=0 = passed\n\
-                4 feed 1 pass input=frontend first=2 count=1 at=0 = passed\n\
-                5 feed 2 end = passed\n\
-                end\n",
-            0,
-            0,
-        )],
-    ),
+        stream: &[FIRST, OTHER, SECOND],
+        head: "packets=3 skipped=0 rest=0",
+        nodes: &["0"],
+    },
     // A node that no client called is not told of.
-    (
-        "64",
-        &[
-            (
-                b"feed 1\n\
-                stream\n",
-                0,
-                0,
-            ),
-            FIRST,
+    Reported {
+        batch: "64",
+        rows: &[
+            ("feed 1", EACH, "feed 0", PASS_FIRST, PASSED),
+            ("stream", EACH, "feed 1", "end", PASSED),
         ],
-        &[(
-            b"dvbemu 1\n\
-                packets=1 skipped=0 rest=0\n\
-                end\n",
-            0,
-            0,
-        )],
-    ),
+        stream: &[FIRST],
+        head: "packets=1 skipped=0 rest=0",
+        nodes: &[],
+    },
     // Three clients, and ticks beyond 32 bits.
-    (
-        "1",
-        &[
+    Reported {
+        batch: "1",
+        rows: &[
+            ("c1 open n0", "0", "c1 0", "open", DONE),
+            ("tick 5", NOWHERE, "", "", NO_CALL),
             (
-                b"c1 open n0\n\
-                tick 5\n\
-                c1 section n0 17 0 0 2=01/0f/00\n\
-                c0 open n0\n\
-                c1 start n0\n\
-                feed 1\n\
-                tick 4294967295\n\
-                tick 1\n\
-                c1 poll n0\n\
-                c7 stop n0\n\
-                stream\n",
-                0,
-                0,
+                "c1 section n0 17 0 0 2=01/0f/00",
+                "0",
+                "c1 1",
+                "section pid=17 timeout=0 flags=0 at=5 2=01/0f/00",
+                DONE,
             ),
-            FIRST,
-            OTHER,
+            (
+                "c0 open n0",
+                "0",
+                "c0 0",
+                "open",
+                &[(b"busy owner=c1", 0, 0)],
+            ),
+            ("c1 start n0", "0", "c1 2", "start at=5", DONE),
+            (
+                "feed 1",
+                EACH,
+                "feed 0",
+                "pass input=frontend first=0 count=1 at=5",
+                PASSED,
+            ),
+            ("tick 4294967295", NOWHERE, "", "", NO_CALL),
+            ("tick 1", NOWHERE, "", "", NO_CALL),
+            ("c1 poll n0", "0", "c1 3", "poll at=4294967301", NOT_READY),
+            ("c7 stop n0", "0", "c7 0", "stop", EBADF),
+            (
+                "stream",
+                EACH,
+                "feed 1",
+                "pass input=frontend first=1 count=1 at=4294967301",
+                PASSED,
+            ),
+            ("", EACH, "feed 2", "end", PASSED),
         ],
-        &[(
-            b"dvbemu 1\n\
-                packets=2 skipped=0 rest=0\n\
-                node 0\n\
-                0 c1 0 open = done drop=0..0 tap=keep\n\
-                1 c1 1 section pid=17 timeout=0 flags=0 at=5 2=01/0f/00 = done drop=0..0 tap=keep\n\
-                2 c0 0 open = busy owner=c1\n\
-                3 c1 2 start at=5 = done drop=0..0 tap=keep\n\
-                4 feed 0 pass input=frontend first=0 count=1 at=5 = passed\n\
-                5 c1 3 poll at=4294967301 = ready readable=0 error=none at=0 ended=0\n\
-                6 c7 0 stop = EBADF\n\
-                7 feed 1 pass input=frontend first=1 count=1 at=4294967301 = passed\n\
-                8 feed 2 end = passed\n\
-                end\n",
-            0,
-            0,
-        )],
-    ),
+        stream: &[FIRST, OTHER],
+        head: "packets=2 skipped=0 rest=0",
+        nodes: &["0"],
+    },
 ];
 
 #[test]
 fn a_report_has_its_entries_in_their_order(rt: HostRuntime) -> Result<(), Fail> {
-    for (case, (batch, parts, want)) in WHOLE.iter().enumerate() {
-        let (status, written) = told(&rt, &["steps", "--batch", *batch], parts)?;
-        assert!(rt; status == Status::Ok, "case {case}");
-        let nodes = without_rows(rt.alloc(), written)?;
-        let want = input_of(rt.alloc(), want)?;
-        assert_eq!(rt; nodes.as_slice(), want.as_slice(), "case {case}");
-    }
+    assert_eq!(rt; odd_session(&rt, &WHOLE)?, None);
     Ok(())
 }

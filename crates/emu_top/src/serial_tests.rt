@@ -1,7 +1,8 @@
 // `serial` itself, by the word `steps` alone: a session, a script with a fault, and scripts of the largest size.
 ghost use Rattle.std.specs.Prelude.{◌≡◌, ◌∷◌, [], map, string_bytes, codes, IfOk};
 
-use crate::tests::{Part, input_of};
+use crate::in_memory::{Part, input_of};
+use crate::rows::{FIRST, OTHER, SECOND};
 use crate::{Status, serial};
 use client_script::FaultKind;
 use emu_io::{MemSink, MemSource};
@@ -38,9 +39,9 @@ const TAP: [Part; 4] = [
         0,
         0,
     ),
-    (b"\x47\x01\x00\x10", 184, 0),
-    (b"\x47\x01\x01\x10", 184, 0),
-    (b"\x47\x01\x00\x11", 184, 0),
+    FIRST,
+    OTHER,
+    SECOND,
 ];
 
 const TAP_REPORT: &[u8] = b"dvbemu 1\n\
@@ -81,8 +82,8 @@ fn a_session_is_done_on_one_thread(rt: HostRuntime) -> Result<(), Fail> {
 
 // A script of the largest size, 1,048,576 bytes with its line `stream`: one line again and again, so often, then another line
 // and the same three commands. With that other line longer by one byte the line `stream` comes too late.
-// The status, and the moment and the first line of the commands.
-type Long = (&'static str, u32, &'static str, Status, &'static [u8]);
+// The line of the first command and the moment of the last one; None where the script has a fault.
+type Long = (&'static str, u32, &'static str, Option<(u32, u32)>);
 
 const COMMENT: &str = "# 64 bytes with the line feed, 16,383 times: 1,048,512 of them.\n";
 
@@ -96,43 +97,35 @@ static LONG: [Long; 3] = [
         COMMENT,
         16383,
         "# 28 bytes, for the size...\n",
-        Status::Ok,
-        b"dvbemu 1\n\
-        packets=0 skipped=0 rest=0\n\
-        client 0\n\
-        line 16385 steps 0..1 done\n\
-        line 16387 steps 1..2 done\n\
-        node 0\n\
-        0 c0 0 open = done drop=0..0 tap=keep\n\
-        1 feed 0 end = passed\n\
-        2 c0 1 poll at=0 = ready readable=0 error=none at=0 ended=1\n\
-        end\n",
+        Some((16385, 0)),
     ),
-    (COMMENT, 16383, "# 29 bytes, one byte more...\n", LATE, b""),
+    (COMMENT, 16383, "# 29 bytes, one byte more...\n", None),
     // 149,791 ticks, and one more.
-    (
-        "tick 1\n",
-        149791,
-        "##\n",
-        Status::Ok,
-        b"dvbemu 1\n\
+    ("tick 1\n", 149791, "##\n", Some((149793, 149791))),
+];
+
+// The report of those three commands.
+fn long_report(alloc: Global, open: u32, moment: u32) -> Result<String, Fail> {
+    let poll = open.saturating_add(2);
+    Ok(format!(in alloc;
+        "dvbemu 1\n\
         packets=0 skipped=0 rest=0\n\
         client 0\n\
-        line 149793 steps 0..1 done\n\
-        line 149795 steps 1..2 done\n\
+        line {open} steps 0..1 done\n\
+        line {poll} steps 1..2 done\n\
         node 0\n\
         0 c0 0 open = done drop=0..0 tap=keep\n\
         1 feed 0 end = passed\n\
-        2 c0 1 poll at=149791 = ready readable=0 error=none at=0 ended=1\n\
-        end\n",
-    ),
-];
+        2 c0 1 poll at={moment} = ready readable=0 error=none at=0 ended=1\n\
+        end\n"
+    )?)
+}
 
 // That a long script is read: no clause says that there is memory for one.
 #[test]
 fn a_script_of_the_largest_size_is_done(rt: HostRuntime) -> Result<(), Fail> {
     let alloc = rt.alloc();
-    for (case, (line, count, other, want, report)) in LONG.iter().enumerate() {
+    for (case, (line, count, other, told)) in LONG.iter().enumerate() {
         let mut script = Vec::with_capacity(alloc, 1_048_577)?;
         for _ in 0..*count {
             script.extend_from_slice(line.as_bytes())?;
@@ -140,8 +133,12 @@ fn a_script_of_the_largest_size_is_done(rt: HostRuntime) -> Result<(), Fail> {
         script.extend_from_slice(other.as_bytes())?;
         script.extend_from_slice(b"c0 open n0\nfeed 1\nc0 poll n0\nstream\n")?;
         let (status, written) = told_alone(alloc, script)?;
-        assert!(rt; status == *want, "case {case}");
-        assert_eq!(rt; written.as_slice(), *report, "case {case}");
+        let (want, report) = match told {
+            Some((open, moment)) => (Status::Ok, long_report(alloc, *open, *moment)?),
+            None => (LATE, String::new(alloc)),
+        };
+        assert!(rt; status == want, "case {case}");
+        assert_eq!(rt; written.as_slice(), report.as_bytes(), "case {case}");
     }
     Ok(())
 }

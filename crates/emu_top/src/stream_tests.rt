@@ -1,8 +1,9 @@
 // Damaged streams and the longest section, on a section filter without mask that is started before all, worked out by hand from
 // the rules of the stream and of sections.
 use crate::Status;
+use crate::in_memory::{Part, input_of, told};
 use crate::report_lines::replies_in;
-use crate::tests::{Part, input_of, told};
+use crate::rows::{ENDED, NOT_YET};
 use std::alloc::Global;
 use std::test::Fail;
 
@@ -32,10 +33,6 @@ const A_BEHIND: Part = (b"\x42\x00\x05\x01\x02\x03\x04\x05", 155, 0xff);
 
 const GIVEN: Part = (A, 0, 0);
 
-const AGAIN: Part = (b"again ended=0", 0, 0);
-
-const ENDED: Part = (b"again ended=1", 0, 0);
-
 // How many packets are fed, the stream, its lines in the report's head, and what three reads are answered.
 type Damaged = (
     &'static [u8],
@@ -50,7 +47,7 @@ static DAMAGED: [Damaged; 8] = [
         b"feed 3\n",
         &[X_FIRST, (b"\x47\x41\x00\x11\xb8", 183, 0), A_SECOND],
         "packets=3 skipped=0 rest=0\npid 256 packets=3 breaks=0 duplicates=0 errors=0\n",
-        &[GIVEN, AGAIN, AGAIN],
+        &[GIVEN, NOT_YET, NOT_YET],
     ),
     // A pointer_field to the payload's end.
     (
@@ -61,7 +58,7 @@ static DAMAGED: [Damaged; 8] = [
             (b"", 163, 0xff),
         ],
         "packets=2 skipped=0 rest=0\npid 256 packets=2 breaks=0 duplicates=0 errors=0\n",
-        &[X, AGAIN, AGAIN],
+        &[X, NOT_YET, NOT_YET],
     ),
     // A section_length of 4095.
     (
@@ -75,21 +72,21 @@ static DAMAGED: [Damaged; 8] = [
             A_FIRST,
         ],
         "packets=2 skipped=0 rest=0\npid 256 packets=2 breaks=0 duplicates=0 errors=0\n",
-        &[GIVEN, AGAIN, AGAIN],
+        &[GIVEN, NOT_YET, NOT_YET],
     ),
     // Three times the first packet.
     (
         b"feed 4\n",
         &[X_FIRST, X_FIRST, X_FIRST, X_LAST, A_BEHIND],
         "packets=4 skipped=0 rest=0\npid 256 packets=4 breaks=0 duplicates=2 errors=0\n",
-        &[X, GIVEN, AGAIN],
+        &[X, GIVEN, NOT_YET],
     ),
     // An adaptation field that leaves no payload.
     (
         b"feed 1\n",
         &[(b"\x47\x41\x00\x30\xff", 183, 0)],
         "packets=1 skipped=0 rest=0\npid 256 packets=1 breaks=0 duplicates=0 errors=0\n",
-        &[AGAIN, AGAIN, AGAIN],
+        &[NOT_YET, NOT_YET, NOT_YET],
     ),
     // The error bit.
     (
@@ -100,7 +97,7 @@ static DAMAGED: [Damaged; 8] = [
             0xff,
         )],
         "packets=1 skipped=0 rest=0\npid 256 packets=1 breaks=0 duplicates=0 errors=1\n",
-        &[AGAIN, AGAIN, AGAIN],
+        &[NOT_YET, NOT_YET, NOT_YET],
     ),
     // A section that is cut off by the stream's end.
     (

@@ -1,8 +1,8 @@
 // Sessions and their reports, scripts with a fault, words, and the session of a number.
-use crate::{Status, emulate};
+use crate::Status;
+use crate::in_memory::{Part, told, told_over};
 use client_script::FaultKind;
-use emu_io::{FixedClock, MemSink, MemSource, NoGate};
-use std::alloc::Global;
+use emu_io::{MemSink, MemSource};
 use std::sync::Wait;
 use std::test::Fail;
 use std::thread::Threads;
@@ -10,72 +10,6 @@ use std::thread::Threads;
 const WORDS: [&str; 3] = ["steps", "--batch", "1"];
 
 const EMPTY: &[u8] = b"dvbemu 1\npackets=0 skipped=0 rest=0\nend\n";
-
-// A part of an input: some bytes, and behind them so many bytes of one kind.
-pub type Part = (&'static [u8], usize, u8);
-
-pub fn input_of(alloc: Global, parts: &[Part]) -> Result<Vec<u8>, Fail> {
-    let mut input = Vec::new(alloc);
-    for (bytes, count, byte) in parts {
-        input.extend_from_slice(bytes)?;
-        for _ in 0..*count {
-            input.push(*byte)?;
-        }
-    }
-    Ok(input)
-}
-
-pub fn words_of(alloc: Global, words: &[&str]) -> Result<Vec<String>, Fail> {
-    let mut all = Vec::new(alloc);
-    for word in words {
-        all.push(String::from_str(alloc, word)?)?;
-    }
-    Ok(all)
-}
-
-// What `emulate` answers and writes for the parts of an input, without faults.
-pub fn told<R: AllocGlobal + Threads + Wait + Sync>(
-    rt: &R,
-    words: &[&str],
-    parts: &[Part],
-) -> Result<(Status, Vec<u8>), Fail> {
-    told_of(rt, words, input_of(rt.alloc(), parts)?)
-}
-
-// The same for an input that is whole.
-pub fn told_of<R: AllocGlobal + Threads + Wait + Sync>(
-    rt: &R,
-    words: &[&str],
-    input: Vec<u8>,
-) -> Result<(Status, Vec<u8>), Fail> {
-    let alloc = rt.alloc();
-    let words = words_of(alloc, words)?;
-    let mut source = MemSource::new(input, 1000, Vec::new(alloc));
-    let mut sink = MemSink::new(alloc, 100000, 1000, Vec::new(alloc))?;
-    let status = emulate(
-        rt,
-        alloc,
-        &words,
-        &mut source,
-        &mut sink,
-        &FixedClock::new(0),
-        &NoGate::new(),
-    );
-    Ok((status, sink.bytes().to_vec(alloc)?))
-}
-
-// A report without its rows of PIDs and of clients.
-pub fn without_rows(alloc: Global, report: Vec<u8>) -> Result<Vec<u8>, Fail> {
-    let text = String::from_utf8(report)?;
-    let mut kept = Vec::new(alloc);
-    for line in text.lines() {
-        if !line.starts_with("pid ") && !line.starts_with("client ") && !line.starts_with("line ") {
-            kept.extend_from_slice(line.as_bytes())?;
-            kept.push(b'\n')?;
-        }
-    }
-    Ok(kept)
-}
 
 #[test]
 fn a_session_gives_its_report(rt: HostRuntime) -> Result<(), Fail> {
@@ -187,19 +121,9 @@ fn told_unread<R: AllocGlobal + Threads + Wait + Sync>(
     capacity: usize,
 ) -> Result<(Status, Vec<u8>), Fail> {
     let alloc = rt.alloc();
-    let words = words_of(alloc, words)?;
-    let mut source = MemSource::new(Vec::new(alloc), 1, [0u64].to_vec(alloc)?);
-    let mut sink = MemSink::new(alloc, capacity, 65536, Vec::new(alloc))?;
-    let status = emulate(
-        rt,
-        alloc,
-        &words,
-        &mut source,
-        &mut sink,
-        &FixedClock::new(0),
-        &NoGate::new(),
-    );
-    Ok((status, sink.bytes().to_vec(alloc)?))
+    let source = MemSource::new(Vec::new(alloc), 1, [0u64].to_vec(alloc)?);
+    let sink = MemSink::new(alloc, capacity, 65536, Vec::new(alloc))?;
+    told_over(rt, words, source, sink)
 }
 
 // The script of a made session has 656 bytes, its stream 65,536 packets of 188.

@@ -2,11 +2,12 @@
 // to a step, and the session of a number.
 ghost use Rattle.std.specs.Prelude.{true};
 
+use crate::Status;
 use crate::holding_gate::{Hold, HoldingGate};
+use crate::in_memory::{Part, emulated, input_of};
 use crate::judge::{is_judged, stamped};
 use crate::report_lines::{number_in, reply_to, told_in};
-use crate::tests::{Part, input_of, words_of};
-use crate::{Status, emulate};
+use crate::rows::{FIRST, SECOND};
 use emu_io::{Clock, FixedClock, Gate, MemSink, MemSource, NoGate};
 use std::alloc::Global;
 use std::sync::Wait;
@@ -27,85 +28,84 @@ fn ran<R: AllocGlobal + Threads + Wait + Sync, C: Clock + Sync, G: Gate + Sync>(
     gate: &G,
 ) -> Result<(Status, String), Fail> {
     let alloc = rt.alloc();
-    let words = words_of(alloc, words)?;
     let mut source = MemSource::new(input, 65536, Vec::new(alloc));
     let mut sink = MemSink::new(alloc, ROOM, 65536, Vec::new(alloc))?;
-    let status = emulate(rt, alloc, &words, &mut source, &mut sink, clock, gate);
+    let status = emulated(rt, words, &mut source, &mut sink, clock, gate)?;
     Ok((status, String::from_utf8(sink.bytes().to_vec(alloc)?)?))
 }
 
-// A script of one call, the clock's moment, and the two reports that may come.
-type Either = (&'static [Part], u64, &'static str, &'static str);
+// A call of client 0 on node 0, the clock's moment, and the entry of the call without its place.
+type Either = (&'static str, u64, &'static str);
 
-static EITHER: [Either; 2] = [
-    (
-        &[(b"c0 open n0\nstream\n", 0, 0)],
-        0,
-        "dvbemu 1\n\
-        packets=0 skipped=0 rest=0\n\
-        client 0\n\
-        line 1 steps 0..1 done\n\
-        node 0\n\
-        0 c0 0 open = done drop=0..0 tap=keep\n\
-        1 feed 0 end = passed\n\
-        end\n",
-        "dvbemu 1\n\
-        packets=0 skipped=0 rest=0\n\
-        client 0\n\
-        line 1 steps 0..1 done\n\
-        node 0\n\
-        0 feed 0 end = passed\n\
-        1 c0 0 open = done drop=0..0 tap=keep\n\
-        end\n",
-    ),
-    (
-        &[(b"c0 poll n0\nstream\n", 0, 0)],
-        7,
-        "dvbemu 1\n\
-        packets=0 skipped=0 rest=0\n\
-        client 0\n\
-        line 1 steps 0..1 done\n\
-        node 0\n\
-        0 c0 0 poll at=7 = EBADF\n\
-        1 feed 0 end = passed\n\
-        end\n",
-        "dvbemu 1\n\
-        packets=0 skipped=0 rest=0\n\
-        client 0\n\
-        line 1 steps 0..1 done\n\
-        node 0\n\
-        0 feed 0 end = passed\n\
-        1 c0 0 poll at=7 = EBADF\n\
-        end\n",
-    ),
+const EITHER: [Either; 2] = [
+    ("c0 open n0", 0, "c0 0 open = done drop=0..0 tap=keep"),
+    ("c0 poll n0", 7, "c0 0 poll at=7 = EBADF"),
 ];
+
+const END: &str = "feed 0 end = passed";
+
+// The report with these two entries.
+fn report_of(alloc: Global, first: &str, second: &str) -> Result<String, Fail> {
+    Ok(format!(in alloc;
+        "dvbemu 1\n\
+        packets=0 skipped=0 rest=0\n\
+        client 0\n\
+        line 1 steps 0..1 done\n\
+        node 0\n\
+        0 {first}\n\
+        1 {second}\n\
+        end\n"
+    )?)
+}
 
 // That a run by threads ends, with its report: no clause says that a thread runs, or that it ends.
 #[test]
 fn the_end_passes_before_or_behind_a_call(rt: HostRuntime) -> Result<(), Fail> {
     let alloc = rt.alloc();
-    for (case, (parts, moment, one, other)) in EITHER.iter().enumerate() {
-        let clock = FixedClock::new(*moment);
-        let input = input_of(alloc, parts)?;
-        let (status, report) = ran(&rt, &["run"], input, &clock, &NoGate::new())?;
-        assert!(rt; status == Status::Ok, "case {case}");
-        let report = report.as_str();
-        assert!(rt; report == *one || report == *other, "case {case}");
+    for (call, moment, entry) in EITHER {
+        let session = format!(in alloc; "{call}\nstream\n")?;
+        let input = session.as_bytes().to_vec(alloc)?;
+        let (status, report) = ran(
+            &rt,
+            &["run"],
+            input,
+            &FixedClock::new(moment),
+            &NoGate::new(),
+        )?;
+        assert!(rt; status == Status::Ok, "{call}");
+        let before = report_of(alloc, entry, END)?;
+        let behind = report_of(alloc, END, entry)?;
+        assert!(rt; report == before || report == behind, "{call}");
     }
     Ok(())
 }
 
-// A clock that gives how often it was asked before.
+// A clock that gives how often it was asked before, or the greatest moment less that.
 #[derive(Drop)]
 struct CountingClock {
     asked: AtomicU64,
+    is_backwards: bool,
+}
+
+impl CountingClock {
+    fn new(is_backwards: bool) -> CountingClock {
+        CountingClock {
+            asked: AtomicU64::new(0),
+            is_backwards,
+        }
+    }
 }
 
 impl Clock for CountingClock {
     ghost may_give = { λ c n. true };
 
     fn now(&self) -> u64 {
-        self.asked.fetch_add(1, SeqCst)
+        let asked = self.asked.fetch_add(1, SeqCst);
+        if self.is_backwards {
+            u64::MAX - asked
+        } else {
+            asked
+        }
     }
 }
 
@@ -113,9 +113,7 @@ impl Clock for CountingClock {
 // would not come too late.
 #[test]
 fn each_moment_is_a_reading_of_its_own(rt: HostRuntime) -> Result<(), Fail> {
-    let clock = CountingClock {
-        asked: AtomicU64::new(0),
-    };
+    let clock = CountingClock::new(false);
     let script: [Part; 1] = [(
         b"c0 open n0\nc0 section n0 256 1 0\nc0 start n0\nc0 readw n0 1\nstream\n",
         0,
@@ -194,8 +192,8 @@ fn a_read_comes_between_two_batches(rt: HostRuntime) -> Result<(), Fail> {
             0,
             0,
         ),
-        (b"\x47\x01\x00\x10", 184, 0),
-        (b"\x47\x01\x00\x11", 184, 0),
+        FIRST,
+        SECOND,
     ];
     let input = input_of(alloc, &parts)?;
     let clock = FixedClock::new(0);
@@ -206,20 +204,6 @@ fn a_read_comes_between_two_batches(rt: HostRuntime) -> Result<(), Fail> {
     assert!(rt; reply.is_some_and(|reply| reply.as_bytes() == want.as_slice()));
     assert!(rt; is_judged(alloc, report.as_str(), 2)?);
     Ok(())
-}
-
-// A clock that goes back by one each time that it is asked.
-#[derive(Drop)]
-struct BackwardsClock {
-    asked: AtomicU64,
-}
-
-impl Clock for BackwardsClock {
-    ghost may_give = { λ c n. true };
-
-    fn now(&self) -> u64 {
-        u64::MAX - self.asked.fetch_add(1, SeqCst)
-    }
 }
 
 const EIGHT: Part = (
@@ -237,10 +221,8 @@ const EIGHT: Part = (
 fn eight_clients_share_a_node(rt: HostRuntime) -> Result<(), Fail> {
     let alloc = rt.alloc();
     for turn in 0..20 {
-        let clock = BackwardsClock {
-            asked: AtomicU64::new(0),
-        };
-        let input = input_of(alloc, &[EIGHT, (b"\x47\x01\x00\x10", 184, 0)])?;
+        let clock = CountingClock::new(true);
+        let input = input_of(alloc, &[EIGHT, FIRST])?;
         let (status, report) = ran(&rt, &["run"], input, &clock, &NoGate::new())?;
         assert!(rt; status == Status::Ok, "turn {turn}");
         assert!(rt; is_judged(alloc, report.as_str(), 1)?, "turn {turn}");
@@ -338,9 +320,7 @@ fn runs_made<R: AllocGlobal + Threads + Wait + Sync, G: Gate + Sync>(
     let alloc = rt.alloc();
     let input = ts_make::session(alloc, 7)?;
     let kept = input.as_slice().to_vec(alloc)?;
-    let clock = CountingClock {
-        asked: AtomicU64::new(0),
-    };
+    let clock = CountingClock::new(false);
     let (status, report) = ran(rt, &["run"], input, &clock, gate)?;
     let (first, bytes) = read_on_seven(alloc, report.as_str())?;
     let stream = kept.get(SCRIPT..).unwrap_or(&[]);
