@@ -242,7 +242,7 @@ struct ShufflingGate {
 impl Gate for ShufflingGate {
     fn at(&self, who: u32, step: u64) {
         let mixed = stamped(who as usize, step) ^ self.number;
-        let turns = mixed.wrapping_mul(0x9e37_79b9_7f4a_7c15) >> 54;
+        let turns = mixed.wrapping_mul(0x9e37_79b9_7f4a_7c15) >> 58;
         for _ in 0..turns {
             std::thread::yield_now();
         }
