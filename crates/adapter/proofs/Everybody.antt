@@ -19,7 +19,7 @@ caller_at (c ∷ cs) zero row e = (c, refl, cc e)
 caller_at (c ∷ cs) (suc k) row e = caller_at cs k row e
 
 -- what stands in a column is the pass of some caller
-in_column : (i : ℕ) (cs : List Caller) (j : ℕ) (p : TableId × View Entry) → slice_get (column i (rows_of cs)) j ≡ Some p → (k : ℕ) × (c : Caller) × (slice_get cs k ≡ Some c) × (slice_get c.passes i ≡ Some p)
+pub in_column : (i : ℕ) (cs : List Caller) (j : ℕ) (p : TableId × View Entry) → slice_get (column i (rows_of cs)) j ≡ Some p → (k : ℕ) × (c : Caller) × (slice_get cs k ≡ Some c) × (slice_get c.passes i ≡ Some p)
 in_column i [] j p e = absurd (cc e)
 in_column i (c ∷ cs) j p e = from (λ n d. in_column i cs n p d) (slice_get c.passes i) refl j e where
   from : ((n : ℕ) → slice_get (column i (rows_of cs)) n ≡ Some p → (k : ℕ) × (d : Caller) × (slice_get cs k ≡ Some d) × (slice_get d.passes i ≡ Some p))
@@ -29,7 +29,7 @@ in_column i (c ∷ cs) j p e = from (λ n d. in_column i cs n p d) (slice_get c.
   from rest (Some q) is (suc j) e = let r = rest j e in (suc r.0, r.1, r.2, r.3)
 
 -- and each caller's pass stands there
-of_column : (i : ℕ) (cs : List Caller) (k : ℕ) (c : Caller) (p : TableId × View Entry) → slice_get cs k ≡ Some c → slice_get c.passes i ≡ Some p → (j : ℕ) × (slice_get (column i (rows_of cs)) j ≡ Some p)
+pub of_column : (i : ℕ) (cs : List Caller) (k : ℕ) (c : Caller) (p : TableId × View Entry) → slice_get cs k ≡ Some c → slice_get c.passes i ≡ Some p → (j : ℕ) × (slice_get (column i (rows_of cs)) j ≡ Some p)
 of_column i [] k c p at is = absurd (cc at)
 of_column i (d ∷ cs) zero c p at is = let same : d ≡ c = cc at in (0, ap (λ o. slice_get (option_to_list o ++ column i (rows_of cs)) 0) (subst (λ (z : Caller). slice_get z.passes i ≡ Some p) (sym same) is))
 of_column i (d ∷ cs) (suc k) c p at is = behind (slice_get d.passes i) (of_column i cs k c p at is) where

@@ -24,7 +24,7 @@ use Rattle.workers.specs.declared.client_worker.ClientWorker.{ClientWorker}
 use Rattle.workers.specs.declared.feeder_worker.FeederWorker.{FeederWorker}
 use Rattle.workers.specs.Logged.{IsLogged, HasCalled}
 use Rattle.workers.specs.Inside.Working.{IsFit, IsWorking}
-use Rattle.workers.specs.Inside.Begun.{AreBegun}
+use Rattle.workers.specs.Inside.Begun.{AreFreshWorkers}
 use Rattle.workers.specs.Feeding.{AreFullBatches, HasFed}
 use Rattle.workers.specs.Inside.FeederWork.{IsFitFeeder, HasPassed}
 use Rattle.feed_pull.proofs.Drawing.{draws_none}
@@ -65,7 +65,7 @@ module _ (locks : List TableId) (callers who left : ℕ) (c : Caller) (f : IsFre
 
 module _ (lines : List Line) (locks : List TableId) (n : ℕ) (feeder : Caller) (clients : List Caller) (fresh : AreFreshCallers locks n feeder clients) (all : AreAllCallers locks (clients ++ feeder ∷ [])) where
   -- a client's worker before its first call
-  module _ (workers : List ClientWorker) (b : AreBegun lines clients workers) (c : ℕ) (w : ClientWorker) (at : slice_get workers c ≡ Some w) where
+  module _ (workers : List ClientWorker) (b : AreFreshWorkers lines clients workers) (c : ℕ) (w : ClientWorker) (at : slice_get workers c ≡ Some w) where
     its_client : slice_get clients c ≡ Some w.client
     its_client = ap (λ (l : List Caller). slice_get l c) (sym b.are) ∙ (slice_get-map (λ (v : ClientWorker). v.client) workers c ∙ ap (λ o. option_map (λ (v : ClientWorker). v.client) o) at)
 

@@ -14,11 +14,11 @@ use Rattle.client_core.specs.declared.command.Command.{Command as ClientCommand}
 use Rattle.client_core.specs.Commands.{commands_of}
 use Rattle.client_core.specs.Events.{waits_on}
 use Rattle.client_core.specs.IsRun.{replies}
-use Rattle.client_core.specs.Budget.{all_commands, most_calls}
+use Rattle.client_core.specs.Budget.{all_commands, bytes_in, most_calls}
 use Rattle.adapter.proofs.Lists.{at_place}
 use Rattle.workers.specs.Budget.{CallsAreWithinBudget, FewBytesAreFewCalls, ManyCallsAreTooLong}
 use Rattle.workers.proofs.Counting.{total, total_le, total_add, total_same, total_33, but, total_but, one_at, total_one, Pool, HaveTokens, counts_fit, both, all_pools}
-use Rattle.workers.proofs.HistoryBytes.{bytes_in, Token, token, weight_of}
+use Rattle.workers.proofs.HistoryBytes.{Token, token, weight_of}
 use Rattle.workers.proofs.Repeating.{grows, but_one, calls_and_repeats, by_bytes, by_again, both_kinds, bytes_pay, IsWaiting, waiting}
 use Rattle.workers.proofs.LogCalls.{Moment, Client, client_with, reply_there}
 use Rattle.workers.proofs.Fitting.{byte_token, IsAnswered, bytes_pool}

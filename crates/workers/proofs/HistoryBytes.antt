@@ -1,5 +1,5 @@
 -- The packets that a history brings and the bytes that it answers, entry by entry.
-use Rattle.std.proofs.Common.{◌≡◌, refl, sym, ap, subst, ◌∙◌, ℕ, zero, suc, ◌+◌, ◌-◌, ◌*◌, ◌≤◌, Bool, true, false, nat_lt, List, [], ◌∷◌, ◌++◌, length, inl, inr, arith, length-append, append_assoc}
+use Rattle.std.proofs.Common.{◌≡◌, refl, sym, ap, subst, ◌∙◌, ℕ, zero, suc, ◌+◌, ◌*◌, ◌≤◌, Bool, true, false, nat_lt, List, [], ◌∷◌, ◌++◌, length, inl, inr, arith, length-append, append_assoc}
 use Rattle.std.specs.Prelude.{reverse, if◌then◌else◌}
 use Rattle.std.specs.List.{All}
 use Rattle.std.proofs.lemmas.List.{reverse-append}
@@ -10,13 +10,13 @@ use Rattle.node_lock.specs.Inside.Lists.{Has}
 use Rattle.ts_packet.specs.Fields.{IsPacket}
 use Rattle.dmx_calls.specs.Invocation.{brought}
 use Rattle.dmx_calls.specs.declared.limits.TheConstants.{DEMUX_NODES}
-use Rattle.dmx_calls.specs.Response.{Response, Done, Busy, Refused, NoMemory, Data, Again, Overflow, TimedOut, Ready, Passed}
-use Rattle.dmx_calls.specs.History.{Entry, History, event, brought_by, entry_of}
+use Rattle.dmx_calls.specs.History.{Entry, History, brought_by}
 use Rattle.dmx_calls.specs.Rules.{demux, dvr, rules_at}
-use Rattle.dmx_calls.specs.Ledger.{answered_in}
 use Rattle.dmx_calls.specs.Legal.{IsLegalFor}
 use Rattle.dmx_calls.specs.Bytes.{bytes_answered}
 use Rattle.dmx_calls.proofs.Bytes.{demux_answers_fit, dvr_answers_fit}
+use Rattle.client_core.specs.Budget.{bytes_in}
+use Rattle.client_core.proofs.ReadReplies.{bytes_same}
 use Rattle.workers.proofs.Counting.{weigh, weigh_append, total}
 
 -- ------ sums over lists
@@ -77,30 +77,13 @@ are_packets (e ∷ h) each =
 
 -- ------ bytes
 
--- the bytes that a response gives, or names as lost
-abbrev pub bytes_in : Response → ℕ
-bytes_in (Data bytes) = length bytes
-bytes_in (Overflow from to item need room) = to - from
-bytes_in _ = 0
-
+-- the bytes of an entry
 abbrev pub answers_in : Entry → ℕ
 answers_in e = bytes_in e.response
 
-same_bytes : (who : ℕ) (call : _) (r : Response) (h : History) → answered_in (event (entry_of who call r) h) ≡ bytes_in r
-same_bytes who call (Done a b tap) h = refl
-same_bytes who call (Busy o) h = refl
-same_bytes who call (Refused x) h = refl
-same_bytes who call NoMemory h = refl
-same_bytes who call (Data d) h = refl
-same_bytes who call (Again b) h = refl
-same_bytes who call (Overflow from to item need room) h = refl
-same_bytes who call (TimedOut a b d) h = refl
-same_bytes who call (Ready a b d e) h = refl
-same_bytes who call Passed h = refl
-
 bytes_weigh : (h : History) → bytes_answered h ≡ weigh answers_in h
 bytes_weigh [] = refl
-bytes_weigh (e ∷ h) = omega (arith, same_bytes e.who e.invocation e.response h, bytes_weigh h)
+bytes_weigh (e ∷ h) = omega (arith, bytes_same e.who e.invocation e.response h, bytes_weigh h)
 
 answers_fit : (node : ℕ) (h : History) → IsLegalFor (rules_at node) h → All IsPacket (brought_by h) → bytes_answered h ≤ 188 * length (brought_by h)
 unfolding rules_at

@@ -1,7 +1,6 @@
 -- The workers at their end.
-use Rattle.std.proofs.Common.{◌≡◌, ◌≢◌, ◌⊎◌, inl, inr, ⊎_elim, ℕ, Bool, true, false, ◌+◌, ◌<◌, ◌≤◌, List, [], ◌∷◌, ◌++◌, length, map, Vec, Global, Option, Some, None, refl, ap, sym, ◌∙◌, subst, arith, length-append, Result, Ok, Err, OnErr}
-use Rattle.std.specs.Prelude.{slice_get, slice_index_or, option_map, All, IsTrue, ◌↔◌}
-use Rattle.std.specs.Io.KnownBytes.{IsAtEnd}
+use Rattle.std.proofs.Common.{◌≡◌, ◌≢◌, ◌⊎◌, inl, inr, ⊎_elim, ℕ, Bool, ◌+◌, List, [], ◌∷◌, ◌++◌, length, map, Vec, Global, Option, Some, None, refl, ap, sym, ◌∙◌, subst, arith, length-append}
+use Rattle.std.specs.Prelude.{slice_get, slice_index_or, option_map, All}
 use Rattle.std.proofs.lemmas.Option.{slice_get-map, slice_get-get_or, get_or_from_slice_get}
 use Rattle.std.proofs.lemmas.List.{length-map}
 use Rattle.atomic_table.specs.Seated.{TableId}
@@ -14,14 +13,9 @@ use Rattle.dmx_calls.specs.declared.outcome.Outcome.{Outcome}
 use Rattle.client_script.specs.declared.line.Line.{Line}
 use Rattle.client_script.specs.Script.{clients_in}
 use Rattle.client_core.specs.IsRun.{replies}
-use Rattle.client_core.specs.Budget.{IsTooLong}
 use Rattle.client_core.specs.declared.stop.Stop.{Stop}
 use Rattle.client_core.specs.declared.stop.Stop.TheVariants.{NoMemory, TooLong}
-use Rattle.feed_pull.specs.declared.fault.Reading.{Reading}
-use Rattle.feed_pull.specs.declared.fault.Reading.TheVariants.{Going, Ended, Failed, TooMany}
-use Rattle.feed_pull.specs.Pulling.{Pulling, Pulls, has_failed}
-use Rattle.feed_pull.specs.Steps.{Follows}
-use Rattle.feed_pull.specs.Streams.{Draws, OfStream}
+use Rattle.feed_pull.specs.Pulling.{Pulling, Pulls}
 use Rattle.feed_pull.proofs.PullLemmas.{Pulls-done}
 use Rattle.adapter.specs.Callers.{Caller, IsSameCaller, AreFreshCallers, AreAllCallers}
 use Rattle.adapter.specs.Nodes.{ended}
@@ -32,7 +26,7 @@ use Rattle.workers.specs.declared.client_worker.ClientWorker.{ClientWorker}
 use Rattle.workers.specs.declared.feeder_worker.FeederWorker.{FeederWorker}
 use Rattle.workers.specs.declared.worked.Worked.{Worked}
 use Rattle.workers.specs.Inside.Working.{log_of, IsWorking, HasCome}
-use Rattle.workers.specs.Inside.Begun.{AreBegun, HaveCome, AreOutcomesOf}
+use Rattle.workers.specs.Inside.Begun.{AreFreshWorkers, HaveCome, AreOutcomesOf}
 use Rattle.workers.specs.Feeding.{HasFed, HasFedAll}
 use Rattle.workers.specs.Inside.FeederWork.{HasPassedAll}
 use Rattle.workers.specs.Inside.Leaving.{GoesFirst, StopsBy, IsLeftBehind}
@@ -99,7 +93,7 @@ books_are logs ws e = out logs ∙ (ap (map (map told_entry)) e ∙ back ws) whe
   back (w ∷ ws) = ap (λ l. log_of w ∷ l) (back ws)
 
 module _ (lines : List Line) (locks : List TableId) (n : ℕ) (feeder : Caller) (clients : List Caller) (fresh : AreFreshCallers locks n feeder clients) (all : AreAllCallers locks (clients ++ feeder ∷ []))
-    (may : ℕ → Bool) (old new : List ClientWorker) (b : AreBegun lines clients old) (h : HaveCome may locks old new) where
+    (may : ℕ → Bool) (old new : List ClientWorker) (b : AreFreshWorkers lines clients old) (h : HaveCome may locks old new) where
   pub many : length new ≡ n
   many = h.long ∙ (sym (length-map old (λ (v : ClientWorker). v.client)) ∙ (ap length b.are ∙ fresh.long))
 

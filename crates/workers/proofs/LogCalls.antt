@@ -9,14 +9,11 @@ use Rattle.node_lock.specs.declared.view.View.{View}
 use Rattle.node_lock.specs.Inside.Lists.{Has}
 use Rattle.dmx_calls.specs.declared.histories.Fed.{Fed}
 use Rattle.dmx_calls.specs.Invocation.{Invocation, Open, Close, SetFilter, SetPes, AddPid, RemovePid, Start, Stop, SetSize, Read, Poll, Pass, End, Attach, Detach, brought}
-use Rattle.dmx_calls.specs.declared.log.Act.{Act}
-use Rattle.dmx_calls.specs.declared.log.Act.TheVariants.{Pass as PassAct, Read as ReadAct}
+use Rattle.dmx_calls.specs.declared.log.Act.TheVariants.{Read as ReadAct}
 use Rattle.dmx_calls.specs.Log.{LogEntry, act_of}
 use Rattle.dmx_calls.specs.History.{Entry}
 use Rattle.client_script.specs.declared.line.Line.{Line}
-use Rattle.client_core.specs.declared.event.Want.{Want}
 use Rattle.client_core.specs.declared.event.Want.TheVariants as want
-use Rattle.client_core.specs.Commands.{call_of}
 use Rattle.client_core.specs.Events.{next_event}
 use Rattle.client_core.specs.IsRun.{replies}
 use Rattle.adapter.specs.Rows.{column}
@@ -26,32 +23,14 @@ use Rattle.adapter.proofs.Lists.{at_place, at_before, at_last, at_either, place_
 use Rattle.workers.specs.Logged.{Tells, HasCalled, calls_on}
 use Rattle.workers.specs.Budget.{IsRunning}
 use Rattle.workers.proofs.MadeCalls.{Made, made_by, seen_there, LoggedCall, logged_call}
+use Rattle.workers.proofs.Owning.{IsNoPass, no_pass}
 use Rattle.workers.proofs.Repeating.{Asked, asked_by}
 use Rattle.workers.proofs.ReadReplies.{IsAnyReadReply, read_there}
 
 -- ------ one call
 
-abbrev is_pass : Act → Bool
-is_pass (PassAct input first count now) = true
-is_pass _ = false
-
-not_asked : (w : Want) (moment : ℕ) → is_pass (act_of (call_of w moment)) ≡ false
-not_asked want.Open m = refl
-not_asked want.Close m = refl
-not_asked (want.Section p) m = refl
-not_asked (want.Pes p) m = refl
-not_asked (want.Add p) m = refl
-not_asked (want.Remove p) m = refl
-not_asked want.Start m = refl
-not_asked want.Stop m = refl
-not_asked (want.Size n) m = refl
-not_asked (want.Read n) m = refl
-not_asked want.Poll m = refl
-not_asked (want.Attach n ps) m = refl
-not_asked (want.Detach n) m = refl
-
-none_brought : (c : Invocation) → is_pass (act_of c) ≡ false → brought c ≡ []
-none_brought (Pass input first packets now) is = absurd (cc is)
+none_brought : (c : Invocation) → IsNoPass (act_of c) → brought c ≡ []
+none_brought (Pass input first packets now) is = absurd is
 none_brought Open is = refl
 none_brought Close is = refl
 none_brought (SetFilter p now) is = refl
@@ -92,7 +71,7 @@ module _ (lines : List Line) (may : ℕ → Bool) (client : ℕ) (c : Caller) (l
   pub brings_none : (i : ℕ) (e : LogEntry) (x : Entry) → slice_get log i ≡ Some e → Tells e x → brought x.invocation ≡ []
   brings_none i e x is tells =
       let a : Asked (next_event client lines (replies (take i log))) e = asked_by (next_event client lines (replies (take i log))) e (called.events i e is) in
-      none_brought x.invocation (ap is_pass (sym tells.act ∙ a.act) ∙ not_asked a.event.want a.moment)
+      none_brought x.invocation (subst IsNoPass (sym a.act ∙ tells.act) (no_pass a.event.want a.moment))
 
   pub has_number : (i : ℕ) (e : LogEntry) (x : Entry) → slice_get log i ≡ Some e → Tells e x → x.who ≡ client + 1
   has_number i e x is tells = sym tells.who ∙ (called.logged.steps i e is).1 ∙ called.who

@@ -35,16 +35,17 @@ use Rattle.workers.specs.Feeding.{HasMade, fed_entries}
 use Rattle.workers.specs.Worked.{HasWorked, AreWorked}
 use Rattle.workers.proofs.Weaves.{AreTold, fed_of, by_feeder}
 use Rattle.workers.proofs.Members.{all_at}
-use Rattle.workers.proofs.Columns.{some_calls, in_column, of_column}
+use Rattle.adapter.proofs.Everybody.{in_column, of_column}
+use Rattle.workers.proofs.Columns.{some_calls}
 use Rattle.workers.proofs.Feeders.{Picks, got, got_back, ups_from, picked, stand_picks, has_own, fed_is, fed_zero, zeros_pass, fed_legal}
 
 -- ------ a client passes no batch
 
-abbrev IsNoPass : Act → Type 0
+abbrev pub IsNoPass : Act → Type 0
 IsNoPass (PassAct input first count now) = ⊥
 IsNoPass _ = Unit {0}
 
-no_pass : (w : Want) (now : ℕ) → IsNoPass (act_of (call_of w now))
+pub no_pass : (w : Want) (now : ℕ) → IsNoPass (act_of (call_of w now))
 no_pass want.Open now = tt
 no_pass want.Close now = tt
 no_pass (want.Section p) now = tt

@@ -1,19 +1,14 @@
 -- What a node answers to a read, and to the call of another behind a read that it answered.
-use Rattle.std.proofs.Common.{◌≡◌, refl, sym, ap, subst, ◌∙◌, ℕ, zero, suc, ◌<◌, Bool, true, false, nat_lt, List, [], ◌∷◌, ◌++◌, Option, Some, None, inl, inr, arith, append_assoc}
-use Rattle.std.specs.Prelude.{◌≢◌, ◌⊎◌, if◌then◌else◌, nat_eq, reverse}
+use Rattle.std.proofs.Common.{◌≡◌, sym, ap, subst, ◌∙◌, ℕ, zero, suc, Bool, true, false, nat_lt, List, [], ◌∷◌, ◌++◌, inl, inr, append_assoc}
+use Rattle.std.specs.Prelude.{◌≢◌, if◌then◌else◌, reverse}
 use Rattle.std.proofs.lemmas.List.{reverse-append}
 use mathlib.Core.Option.{some}
 use lib.ListN.{get_elem?}
 use Rattle.dmx_calls.specs.declared.limits.TheConstants.{DEMUX_NODES}
-use Rattle.dmx_calls.specs.declared.reply.Errno.{Errno}
 use Rattle.dmx_calls.specs.Invocation as call
-use Rattle.dmx_calls.specs.Invocation.{Invocation}
-use Rattle.dmx_calls.specs.Response.{Response, Done, Busy, Refused, NoMemory, Data, Again, Overflow, TimedOut, Ready, Passed}
-use Rattle.dmx_calls.specs.History.{Entry, History, Since}
+use Rattle.dmx_calls.specs.Response.{Response}
+use Rattle.dmx_calls.specs.History.{Entry, History}
 use Rattle.dmx_calls.specs.Rules.{Rules, demux, dvr, rules_at}
-use Rattle.dmx_calls.specs.Ledger.{Misfit, over}
-use Rattle.dmx_calls.specs.Facts.{Ledger, Facts, facts, ledger_of, ledger_at}
-use Rattle.dmx_calls.specs.Answer.{answer, with_call, response_unless, refusal_to, read_response, read_over, read_timeout, read_bytes, expired_of}
 use Rattle.dmx_calls.specs.Tenure.{has_ended}
 use Rattle.dmx_calls.specs.Legal.{May, IsLegalFor}
 use Rattle.dmx_calls.specs.Owning.{HasRead}
@@ -21,9 +16,7 @@ use Rattle.dmx_calls.specs.Bytes.{OverflowNamesAByte}
 use Rattle.dmx_calls.proofs.Nodes.{demux_keeps, dvr_keeps}
 use Rattle.dmx_calls.proofs.Pending.{names_a_byte}
 use Rattle.dmx_calls.proofs.Owning.{readers_call_between}
-use Rattle.client_core.specs.Commands.{ends_drain}
 use Rattle.client_core.proofs.ReadReplies.{IsReadReply, reads as answer_reads}
-use Rattle.workers.proofs.HistoryBytes.{bytes_in}
 
 -- ------ a read
 
@@ -98,20 +91,3 @@ module _ (node : ℕ) where
       let s : Split h i e = split h i e is in
       readers_call_between (rules_at node) (reverse s.front) [] one other e x
       (behind_it s.back s.front e x (subst (λ l. IsLegalFor (rules_at node) (reverse l)) s.whole legal) (s.next x there)) differ read again tt
-
--- ------ what a reply that ends no drain answers
-
--- it gives a byte, or names one as lost, or it is Again
-pub not_ended : (r : Response) → IsAnyReadReply r → ends_drain r ≡ false → (0 < bytes_in r) ⊎ (r ≡ Again false)
-not_ended (Refused x) is nay = absurd (cc nay)
-not_ended (Data []) is nay = absurd (cc nay)
-not_ended (Data (x ∷ xs)) is nay = inl (omega arith)
-not_ended (Again true) is nay = absurd (cc nay)
-not_ended (Again false) is nay = inr refl
-not_ended (Overflow from to item need room) is nay = inl (let less = is.1 in omega (arith, less))
-not_ended (TimedOut a b c) is nay = absurd (cc nay)
-not_ended (Done a b c) is nay = absurd is.1
-not_ended (Busy a) is nay = absurd is.1
-not_ended NoMemory is nay = absurd is.1
-not_ended (Ready a b c d) is nay = absurd is.1
-not_ended Passed is nay = absurd is.1

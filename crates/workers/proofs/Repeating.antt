@@ -14,13 +14,14 @@ use Rattle.client_core.specs.declared.event.Want.TheVariants.{Open, Close, Secti
 use Rattle.client_core.specs.Commands.{call_of, commands_of, ends_drain}
 use Rattle.client_core.specs.Events.{Standing, progress, next_event, waits_on, no_slots}
 use Rattle.client_core.specs.IsRun.{IsEvent, replies}
-use Rattle.client_core.specs.Budget.{repeats}
+use Rattle.client_core.specs.Budget.{bytes_in, repeats}
 use Rattle.client_core.specs.Inside.More.{added_by}
 use Rattle.client_core.proofs.More.{one_reply_more, some_of, repeats_none}
 use Rattle.adapter.proofs.Lists.{at_place}
 use Rattle.workers.proofs.Counting.{total, total_le, total_add, weigh}
-use Rattle.workers.proofs.HistoryBytes.{bytes_in, weight_at, weigh_places}
-use Rattle.workers.proofs.ReadReplies.{IsAnyReadReply, not_ended}
+use Rattle.workers.proofs.HistoryBytes.{weight_at, weigh_places}
+use Rattle.client_core.proofs.ReadReplies.{IsOpenAgain, not_ended}
+use Rattle.workers.proofs.ReadReplies.{IsAnyReadReply}
 use Rattle.client_core.proofs.FirstCalls.{first_calls, stays_on}
 
 -- ------ lists
@@ -222,10 +223,11 @@ module _ (lines : List Line) (client : ℕ) (log : List LogEntry) (events : (i :
   bytes_go i e is answers true yea more = absurd (omega (arith, more))
   bytes_go i e is answers false nay more =
       let g = grown i e is more in
-      by (not_ended e.response (answers g.0.now g.0.count g.0.read) g.0.goes_on) where
-        by : (0 < bytes_in e.response) ⊎ (e.response ≡ Again false) → grows i ≤ bytes_in e.response
-        by (inl some) = omega (arith, some, (grown i e is more).1)
-        by (inr again) = absurd (let k : is_again (Again false) ≡ false = sym (ap is_again again) ∙ nay in cc k)
+      let a = answers g.0.now g.0.count g.0.read in
+      by a.0 (not_ended a.0 e.response a.1 g.0.goes_on) where
+        by : (ended : Bool) → (0 < bytes_in e.response) ⊎ IsOpenAgain ended e.response → grows i ≤ bytes_in e.response
+        by ended (inl some) = omega (arith, some, (grown i e is more).1)
+        by ended (inr again) = absurd (let k : is_again (Again false) ≡ false = sym (ap is_again again.0) ∙ nay in cc k)
 
   -- where no Again adds a repeat, the bytes do
   pub bytes_pay : (i : ℕ) (e : LogEntry) → slice_get log i ≡ Some e → ((now count : ℕ) → e.act ≡ ReadAct now count → IsAnyReadReply e.response) → 0 < by_bytes i → by_bytes i ≤ bytes_in e.response

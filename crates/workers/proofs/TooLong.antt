@@ -1,14 +1,12 @@
 -- Why a client has made too many calls.
-use Rattle.std.proofs.Common.{take, nat_le, if◌then◌else◌, ◌==◌, ◌≡◌, ◌≢◌, inr, refl, sym, ap, subst, ◌∙◌, ℕ, zero, suc, ◌≤◌, Bool, true, false, List, [], ◌∷◌, ◌++◌, length, map, Some, arith}
+use Rattle.std.proofs.Common.{◌≡◌, ◌≢◌, inr, refl, sym, ap, subst, ◌∙◌, ℕ, ◌≤◌, Bool, List, [], ◌∷◌, ◌++◌, length, map, Some, arith}
 use Rattle.std.specs.Prelude.{All, slice_get, option_map}
 use Rattle.std.specs.declared.option.Option.{Option}
-use Rattle.std.proofs.lemmas.Bool.Decides.{nat_tests}
-use Rattle.std.proofs.lemmas.List.{length-take-le, length-map}
+use Rattle.std.proofs.lemmas.List.{length-map}
 use Rattle.std.proofs.lemmas.List.Elements.{All-nil, All-cons, All-tail}
 use Rattle.std.proofs.lemmas.Option.{slice_get-map}
 use Rattle.atomic_table.specs.Seated.{TableId}
 use Rattle.ts_packet.specs.Fields.{IsPacket}
-use Rattle.ts_packet.specs.Cut.{cut, cut_after, packet_before, only_rest, skip_before}
 use Rattle.dmx_calls.specs.Calls.{told_entry}
 use Rattle.dmx_calls.specs.Log.{LogEntry}
 use Rattle.dmx_calls.specs.declared.limits.TheConstants.{DEMUX_NODES}
@@ -29,7 +27,7 @@ use Rattle.trace_merge.specs.Merging.{AreOnNodes}
 use Rattle.workers.specs.declared.client_worker.ClientWorker.{ClientWorker}
 use Rattle.workers.specs.declared.feeder_worker.FeederWorker.{FeederWorker}
 use Rattle.workers.specs.Inside.Working.{log_of}
-use Rattle.workers.specs.Inside.Begun.{AreBegun, HaveCome}
+use Rattle.workers.specs.Inside.Begun.{AreFreshWorkers, HaveCome}
 use Rattle.workers.specs.Budget.{IsRunning, ManyCallsAreTooLong}
 use Rattle.workers.specs.Logged.{HasCalled}
 use Rattle.workers.specs.Inside.FeederWork.{HasPassedAll}
@@ -40,7 +38,7 @@ use Rattle.workers.proofs.Leaving.{come_at, many}
 -- ------ the moment at which the workers have come to their ends
 
 module _ (lines : List Line) (locks : List TableId) (n : ℕ) (feeder : Caller) (clients : List Caller) (fresh : AreFreshCallers locks n feeder clients) (all : AreAllCallers locks (clients ++ feeder ∷ []))
-    (may : ℕ → Bool) (old new : List ClientWorker) (b : AreBegun lines clients old) (h : HaveCome may locks old new)
+    (may : ℕ → Bool) (old new : List ClientWorker) (b : AreFreshWorkers lines clients old) (h : HaveCome may locks old new)
     (most : ℕ) (x y : Option (List ℕ)) (l m : ℕ) (first : Pulling) (f : FeederWorker) (k : HasPassedAll most may x y l m first f)
     (found : (i : ℕ) (w : ClientWorker) → slice_get new i ≡ Some w → w.stop ≢ Some NoMemory) (is : n ≡ clients_in lines) (histories : HaveHistories (map (λ (w : ClientWorker). w.client) new ++ f.feeder ∷ [])) where
   now_pulls : (ahead : List ℕ) → Pulls ahead [] [] first → Pulls ahead k.draws.carries.more k.packets f.puller

@@ -12,7 +12,7 @@ ghost use Rattle.client_core.specs.Events.{next_event};
 ghost use Rattle.client_core.specs.IsRun.{replies};
 ghost use Rattle.client_core.specs.WholeRun.{IsGiven};
 ghost use Rattle.adapter.specs.Callers.{IsSameCaller};
-ghost use Rattle.workers.specs.Inside.Working.{IsFit, IsWorking, MayCallNow, GoesOn, HasLooked, HasCome};
+ghost use Rattle.workers.specs.Inside.Working.{IsFit, MayWork, IsWorking, MayCallNow, GoesOn, HasLooked, HasCome};
 
 use crate::moment::moment_of;
 use adapter::{Adapter, Client};
@@ -121,8 +121,7 @@ impl ClientWorker {
         gate: &G,
         steps: &mut Steps<L>,
     ) -> Result<(), Stop>
-        requires fit { IsFit adapter.now self.old }
-        requires few { self.old.core.step ≤ 549755813888 }
+        requires may { MayWork adapter.now self.old }
         ensures same { IsSameCaller self.old.client self.new.client }
         ensures fit { OnOk result (IsFit adapter.now self.new) }
         ensures works { OnOk result (GoesOn (C.may_give clock.now) self.old self.new) }
@@ -153,8 +152,7 @@ impl ClientWorker {
         blank: Blank,
     )
         requires ledger { (blank.name ≡ L.name) × (blank.parts ≡ L.parts) × (0 < L.parts) }
-        requires fit { IsFit adapter.now self.old }
-        requires few { self.old.core.step ≤ 549755813888 }
+        requires may { MayWork adapter.now self.old }
         ensures { HasCome (C.may_give clock.now) adapter.now self.old self.new }
     {
         let mut steps: Steps<L> = Steps::new(blank);
@@ -171,8 +169,7 @@ impl ClientWorker {
         clock: &C,
         gate: &G,
     )
-        requires fit { IsFit adapter.now self.old }
-        requires few { self.old.core.step ≤ 549755813888 }
+        requires may { MayWork adapter.now self.old }
         ensures { HasCome (C.may_give clock.now) adapter.now self.old self.new }
     {
         self.work_counted::<Brand, R, C, G>(rt, alloc, adapter, clock, gate, Blank::new(1))

@@ -1,7 +1,7 @@
 // The clients' workers before their first calls, and what is left of them.
 ghost use Rattle.std.specs.Prelude.{◌≡◌, length, IfOk};
 ghost use Rattle.client_script.specs.Script.{clients_in};
-ghost use Rattle.workers.specs.Inside.Begun.{AreBegun, IsLeft};
+ghost use Rattle.workers.specs.Inside.Begun.{AreFreshWorkers, IsLeft};
 
 use crate::client_worker::ClientWorker;
 use adapter::Client;
@@ -25,7 +25,7 @@ pub fn workers_of(
     script: &Script,
 ) -> Result<Vec<ClientWorker>, NoMemory>
     requires { length clients.items ≡ clients_in script.now }
-    ensures { IfOk result (λ workers. AreBegun script.now clients.items workers.items) }
+    ensures { IfOk result (λ workers. AreFreshWorkers script.now clients.items workers.items) }
 {
     let mut workers = Vec::with_capacity(alloc, script.clients() as usize)?;
     let mut number = 0u32;

@@ -3,10 +3,10 @@ ghost use Rattle.std.specs.Prelude.{◌≡◌, ◌≢◌, true, false, ℕ, ◌+
 ghost use Rattle.std.specs.declared.option.Option.{Option};
 ghost use Rattle.client_core.specs.declared.stop.Stop.TheVariants.{NoMemory as WantOfMemory};
 ghost use Rattle.adapter.specs.Callers.{IsSameCaller};
-ghost use Rattle.feed_pull.specs.declared.fault.Reading.TheVariants.{Going, TooMany};
+ghost use Rattle.feed_pull.specs.declared.fault.Reading.TheVariants.{TooMany};
 ghost use Rattle.feed_pull.specs.Pulling.{Pulling, IsDone};
 ghost use Rattle.feed_pull.specs.Streams.{Draws};
-ghost use Rattle.workers.specs.Inside.FeederWork.{IsFitFeeder, HasPassed, HasFedToEnd};
+ghost use Rattle.workers.specs.Inside.FeederWork.{IsFitFeeder, MayPass, HasPassed, HasFedToEnd};
 
 use adapter::{Adapter, Feeder};
 use client_core::Stop;
@@ -44,10 +44,7 @@ impl FeederWorker {
         gate: &G,
         steps: &mut Steps<L>,
     ) -> Result<bool, NoMemory>
-        requires some { 1 ≤ most }
-        requires few { most ≤ 64 }
-        requires faults { self.old.puller.reading ≡ Going → S.faults source.old < 2 ^ 64 - 1 }
-        requires fit { IsFitFeeder adapter.now self.old }
+        requires may { MayPass most (S.faults source.old) adapter.now self.old }
         ensures fit { IsFitFeeder adapter.now self.new }
         ensures same { IsSameCaller self.old.feeder self.new.feeder }
         ensures draws { (packets : List (List ℕ)) × Draws (S.left source.old) (S.left source.new) (S.faults source.old) (S.faults source.new) self.old.puller self.new.puller packets }
@@ -83,10 +80,7 @@ impl FeederWorker {
         gate: &G,
         steps: &mut Steps<L>,
     ) -> Result<(), NoMemory>
-        requires some { 1 ≤ most }
-        requires few { most ≤ 64 }
-        requires faults { self.old.puller.reading ≡ Going → S.faults source.old < 2 ^ 64 - 1 }
-        requires fit { IsFitFeeder adapter.now self.old }
+        requires may { MayPass most (S.faults source.old) adapter.now self.old }
         ensures fit { IsFitFeeder adapter.now self.new }
         ensures same { IsSameCaller self.old.feeder self.new.feeder }
         ensures draws { (packets : List (List ℕ)) × Draws (S.left source.old) (S.left source.new) (S.faults source.old) (S.faults source.new) self.old.puller self.new.puller packets }
@@ -126,10 +120,7 @@ impl FeederWorker {
         blank: Blank,
     )
         requires ledger { (blank.name ≡ L.name) × (blank.parts ≡ L.parts) × (0 < L.parts) }
-        requires some { 1 ≤ most }
-        requires few { most ≤ 64 }
-        requires faults { self.old.puller.reading ≡ Going → S.faults source.old < 2 ^ 64 - 1 }
-        requires fit { IsFitFeeder adapter.now self.old }
+        requires may { MayPass most (S.faults source.old) adapter.now self.old }
         requires begun { HasPassed most (C.may_give clock.now) (S.left source.old) (S.left source.old) (S.faults source.old) (S.faults source.old) self.old.puller self.old }
         ensures { HasFedToEnd most (C.may_give clock.now) (S.left source.old) (S.left source.new) (S.faults source.old) (S.faults source.new) self.old self.new }
     {
@@ -150,10 +141,7 @@ impl FeederWorker {
         clock: &C,
         gate: &G,
     )
-        requires some { 1 ≤ most }
-        requires few { most ≤ 64 }
-        requires faults { self.old.puller.reading ≡ Going → S.faults source.old < 2 ^ 64 - 1 }
-        requires fit { IsFitFeeder adapter.now self.old }
+        requires may { MayPass most (S.faults source.old) adapter.now self.old }
         requires begun { HasPassed most (C.may_give clock.now) (S.left source.old) (S.left source.old) (S.faults source.old) (S.faults source.old) self.old.puller self.old }
         ensures { HasFedToEnd most (C.may_give clock.now) (S.left source.old) (S.left source.new) (S.faults source.old) (S.faults source.new) self.old self.new }
     {

@@ -1,10 +1,9 @@
 // The threads.
 ghost use Rattle.std.specs.Prelude.{◌≡◌, ◌-◌, ◌<◌, ◌≤◌, ◌^◌, ℕ, All, length, slice_index_or};
 ghost use denote.Param.Send.{IsSync, IsSend};
-ghost use Rattle.feed_pull.specs.declared.fault.Reading.TheVariants.{Going};
 ghost use Rattle.workers.specs.Inside.Begun.{HaveCome};
-ghost use Rattle.workers.specs.Inside.FeederWork.{IsFitFeeder, HasPassed, HasFedToEnd};
-ghost use Rattle.workers.specs.Inside.Working.{IsFit, HasCome};
+ghost use Rattle.workers.specs.Inside.FeederWork.{MayPass, HasPassed, HasFedToEnd};
+ghost use Rattle.workers.specs.Inside.Working.{MayWork, HasCome};
 
 use crate::client_worker::ClientWorker;
 use crate::feeder_worker::FeederWorker;
@@ -24,11 +23,11 @@ fn work_each<R: Threads + Wait + Sync, C: Clock + Sync, G: Gate + Sync>(
     gate: &G,
     clients: &mut Vec<ClientWorker>,
 )
-    requires fit { All (λ w. IsFit adapter.now w × (w.core.step ≤ 549755813888)) clients.old.items }
+    requires clients { All (λ w. MayWork adapter.now w) clients.old.items }
     ensures { HaveCome (C.may_give clock.now) adapter.now clients.old.items clients.new.items }
 {
     let call = |_: usize, worker: &mut ClientWorker|
-        requires { IsFit adapter.now worker.old × (worker.old.core.step ≤ 549755813888) }
+        requires { MayWork adapter.now worker.old }
         ensures { HasCome (C.may_give clock.entry.now) adapter.entry.now worker.old worker.new }
     { worker.work(rt, alloc, adapter, clock, gate) };
     let threads = clients.len().max(1);
@@ -48,25 +47,19 @@ pub fn work_all<R: Threads + Wait + Sync, S: Source + Send, C: Clock + Sync, G: 
     clock: &C,
     gate: &G,
 )
-    requires some { 1 ≤ batch }
-    requires few { batch ≤ 64 }
-    requires faults { feeder.old.puller.reading ≡ Going → S.faults source.old < 2 ^ 64 - 1 }
-    requires feeder { IsFitFeeder adapter.now feeder.old }
+    requires feeder { MayPass batch (S.faults source.old) adapter.now feeder.old }
     requires begun { HasPassed batch (C.may_give clock.now) (S.left source.old) (S.left source.old) (S.faults source.old) (S.faults source.old) feeder.old.puller feeder.old }
-    requires clients { All (λ w. IsFit adapter.now w × (w.core.step ≤ 549755813888)) clients.old.items }
+    requires clients { All (λ w. MayWork adapter.now w) clients.old.items }
     ensures feeder { HasFedToEnd batch (C.may_give clock.now) (S.left source.old) (S.left source.new) (S.faults source.old) (S.faults source.new) feeder.old feeder.new }
     ensures clients { HaveCome (C.may_give clock.now) adapter.now clients.old.items clients.new.items }
 {
     let mut first = ||
-        requires some { 1 ≤ batch }
-        requires few { batch ≤ 64 }
-        requires faults { feeder.now.puller.reading ≡ Going → S.faults source.now < 2 ^ 64 - 1 }
-        requires fit { IsFitFeeder adapter.now feeder.now }
+        requires may { MayPass batch (S.faults source.now) adapter.now feeder.now }
         requires begun { HasPassed batch (C.may_give clock.now) (S.left source.now) (S.left source.now) (S.faults source.now) (S.faults source.now) feeder.now.puller feeder.now }
         ensures { HasFedToEnd batch (C.may_give clock.entry.now) (S.left source.entry.now) (S.left source.exit.now) (S.faults source.entry.now) (S.faults source.exit.now) feeder.entry.now feeder.exit.now }
     { feeder.work(rt, adapter, source, batch, clock, gate) };
     let mut others = ||
-        requires { IsSync R.row × IsSync C.row × IsSync G.row × All (λ w. IsFit adapter.now w × (w.core.step ≤ 549755813888)) clients.now.items }
+        requires { IsSync R.row × IsSync C.row × IsSync G.row × All (λ w. MayWork adapter.now w) clients.now.items }
         ensures { HaveCome (C.may_give clock.entry.now) adapter.entry.now clients.entry.now.items clients.exit.now.items }
     { work_each(rt, alloc, adapter, clock, gate, clients) };
     join_mut(rt, &mut others, &mut first);

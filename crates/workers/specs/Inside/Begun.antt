@@ -12,15 +12,15 @@ use Rattle.workers.specs.declared.done.Done.{Done}
 use Rattle.workers.specs.Inside.Working.{HasCome}
 
 -- the worker of a client of a script that has made no call
-pub record IsBegun (lines : List Line) (client : ℕ) (w : ClientWorker) : Type 0 where
+pub record IsFreshWorker (lines : List Line) (client : ℕ) (w : ClientWorker) : Type 0 where
   pub who : w.who ≡ client + 1
   pub core : IsAfter client lines [] w.core
   pub log : w.log.items ≡ []
 
 -- a worker for each of these clients, which has made no call
-pub record AreBegun (lines : List Line) (clients : List Caller) (workers : List ClientWorker) : Type 0 where
+pub record AreFreshWorkers (lines : List Line) (clients : List Caller) (workers : List ClientWorker) : Type 0 where
   pub are : map (λ w. w.client) workers ≡ clients
-  pub each : (c : ℕ) (w : ClientWorker) → slice_get workers c ≡ Some w → IsBegun lines c w
+  pub each : (c : ℕ) (w : ClientWorker) → slice_get workers c ≡ Some w → IsFreshWorker lines c w
 
 -- each of the workers has worked to its end
 pub record HaveCome (may : ℕ → Bool) (locks : List TableId) (old new : List ClientWorker) : Type 0 where

@@ -1,9 +1,9 @@
 -- The feeder at work.
-use Rattle.std.specs.Prelude.{◌≡◌, ◌≢◌, ◌⊎◌, ◌≤◌, ◌+◌, ◌^◌, ℕ, Bool, List, [], ◌∷◌, length, None, Some, All}
+use Rattle.std.specs.Prelude.{◌≡◌, ◌≢◌, ◌⊎◌, ◌<◌, ◌≤◌, ◌+◌, ◌-◌, ◌^◌, ℕ, Bool, List, [], ◌∷◌, length, None, Some, All}
 use Rattle.std.specs.declared.option.Option.{Option}
 use Rattle.atomic_table.specs.Seated.{TableId}
 use Rattle.client_core.specs.declared.stop.Stop.TheVariants.{NoMemory, TooLong}
-use Rattle.feed_pull.specs.declared.fault.Reading.TheVariants.{TooMany}
+use Rattle.feed_pull.specs.declared.fault.Reading.TheVariants.{Going, TooMany}
 use Rattle.feed_pull.specs.Pulling.{Pulling, Pulls, IsDone}
 use Rattle.feed_pull.specs.Streams.{Draws}
 use Rattle.adapter.specs.Callers.{IsSameCaller}
@@ -19,6 +19,14 @@ pub record IsFitFeeder (locks : List TableId) (f : FeederWorker) : Type 0 where
   pub left : f.feeder.left + length f.feeding.items ≡ 2 ^ 44
   pub few : length f.feeding.items ≤ f.puller.given
   pub given : f.puller.given ≤ 2199023255552
+
+-- What holds whenever it may pass a batch: this has 1 to 64 packets, and the source, which has failed so often, may be read
+-- where reading goes on.
+pub record MayPass (most failed : ℕ) (locks : List TableId) (f : FeederWorker) : Type 0 where
+  pub some : 1 ≤ most
+  pub few : most ≤ 64
+  pub faults : f.puller.reading ≡ Going → failed < 2 ^ 64 - 1
+  pub fit : IsFitFeeder locks f
 
 -- all batches were full, or the puller has nothing more
 abbrev pub AreFullSoFar : (most : ℕ) → FeederWorker → Type 0

@@ -1,5 +1,5 @@
 -- A client at work.
-use Rattle.std.specs.Prelude.{◌≡◌, ◌≢◌, ◌<◌, ◌+◌, ◌^◌, ℕ, Bool, List, length, map, slice_get, Some, None, IsSome}
+use Rattle.std.specs.Prelude.{◌≡◌, ◌≢◌, ◌<◌, ◌≤◌, ◌+◌, ◌^◌, ℕ, Bool, List, length, map, slice_get, Some, None, IsSome}
 use Rattle.atomic_table.specs.Seated.{TableId}
 use Rattle.node_lock.specs.declared.view.View.{View}
 use Rattle.dmx_calls.specs.Calls.{told_entry}
@@ -28,6 +28,11 @@ pub record IsFit (locks : List TableId) (w : ClientWorker) : Type 0 where
   pub left : w.client.left + length w.log.items ≡ 2 ^ 40
   pub steps : w.core.step ≡ length w.log.items
   pub nodes : AreOnNodes w.log.items
+
+-- it has made no more calls than a run allows
+pub record MayWork (locks : List TableId) (w : ClientWorker) : Type 0 where
+  pub fit : IsFit locks w
+  pub few : w.core.step ≤ 549755813888
 
 -- Its log has the calls so far of this client of a script, and its core stands after their replies.
 pub record IsWorking (lines : List Line) (client : ℕ) (may : ℕ → Bool) (w : ClientWorker) : Type 0 where

@@ -4,7 +4,7 @@ use Rattle.std.proofs.lemmas.Iterator.Consumers.{YieldsList-turn}
 use Rattle.std.proofs.lemmas.Iterator.Adapters.{YieldsList-from_vec}
 use Rattle.adapter.specs.Callers.{Caller}
 use Rattle.workers.specs.declared.client_worker.ClientWorker.{ClientWorker}
-use Rattle.workers.specs.Inside.Begun.{IsBegun}
+use Rattle.workers.specs.Inside.Begun.{IsFreshWorker}
 use Rattle.workers.proofs.Lists.{each_more}
 use Rattle.workers.proofs.done.workers_of.Goals as goal
 
@@ -26,6 +26,6 @@ callers-preserved c =
     record {
       are = ap (map (λ (v : ClientWorker). v.client)) now ∙ (map-append (λ (v : ClientWorker). v.client) c.callers.workers.items (w ∷ []) ∙ ap (λ (l : List Caller). l ++ w.client ∷ []) i.are);
       number = ap (λ (n : ℕ). n + 1) i.number ∙ (sym (length-append c.callers.workers.items (w ∷ [])) ∙ sym (ap length now));
-      each = each_more (IsBegun c.args.script.now) c.callers.workers.items c.push.new.self.items w c.callers.number now i.number i.each
+      each = each_more (IsFreshWorker c.args.script.now) c.callers.workers.items c.push.new.self.items w c.callers.number now i.number i.each
           (record { who = refl; core = c.in_ok-core.ensures; log = c.new-in-callers.ensures.items });
     }

@@ -1,12 +1,12 @@
 use Rattle.std.proofs.Common.{◌≡◌, ℕ, length, map, Some}
 use Rattle.std.specs.Prelude.{slice_get}
 use Rattle.workers.specs.declared.client_worker.ClientWorker.{ClientWorker}
-use Rattle.workers.specs.Inside.Begun.{IsBegun}
+use Rattle.workers.specs.Inside.Begun.{IsFreshWorker}
 use Rattle.workers.proofs.done.workers_of.Given as goal
 
 abbrev pub invariant-callers : goal.invariant-callers
 invariant-callers l = record {
   are : map (λ w. w.client) l.workers.items ≡ l.yielded;
   number : l.number ≡ length l.workers.items;
-  each : (c : ℕ) (w : ClientWorker) → slice_get l.workers.items c ≡ Some w → IsBegun l.script c w;
+  each : (c : ℕ) (w : ClientWorker) → slice_get l.workers.items c ≡ Some w → IsFreshWorker l.script c w;
 }

@@ -21,8 +21,13 @@ returns-in_err-workers-clause-draws g c = on_err c.from_residual.result _ ([], (
 pub work_all-requires-clause-feeder : goal.work_all-requires-clause-feeder
 work_all-requires-clause-feeder g c κs within =
     let r = c.requires in
-    begun_feeder c.args.script.now c.args.adapter.now _ c.args.feeder c.args.clients.items r.fresh r.all
-    (record { feeder = c.args.feeder; puller = c.args.puller; feeding = c.new.result; stop = None }) refl c.new.ensures.items r.given
+    record {
+      some = r.some;
+      few = r.few;
+      faults = λ going. r.faults;
+      fit = begun_feeder c.args.script.now c.args.adapter.now _ c.args.feeder c.args.clients.items r.fresh r.all
+          (record { feeder = c.args.feeder; puller = c.args.puller; feeding = c.new.result; stop = None }) refl c.new.ensures.items r.given;
+    }
 
 pub work_all-requires-clause-begun : goal.work_all-requires-clause-begun
 work_all-requires-clause-begun g c κs within =
@@ -35,10 +40,11 @@ pub work_all-requires-clause-clients : goal.work_all-requires-clause-clients
 work_all-requires-clause-clients g c κs within k d low =
     let r = c.requires in let ws = c.in_ok-workers.workers.items in
     let b = c.in_ok-workers.ensures in
-    let at = slice_get-get_or ws k d low in (
-      begun_fit c.args.script.now c.args.adapter.now _ c.args.feeder c.args.clients.items r.fresh r.all ws b k (slice_index_or ws k d) at,
-      begun_few c.args.script.now c.args.adapter.now _ c.args.feeder c.args.clients.items r.fresh r.all ws b k (slice_index_or ws k d) at,
-    )
+    let at = slice_get-get_or ws k d low in
+    record {
+      fit = begun_fit c.args.script.now c.args.adapter.now _ c.args.feeder c.args.clients.items r.fresh r.all ws b k (slice_index_or ws k d) at;
+      few = begun_few c.args.script.now c.args.adapter.now _ c.args.feeder c.args.clients.items r.fresh r.all ws b k (slice_index_or ws k d) at;
+    }
 
 pub returns-in_ok-worked_of-in-None-clause-worked : goal.returns-in_ok-worked_of-in-None-clause-worked
 returns-in_ok-worked_of-in-None-clause-worked g c =

@@ -6,10 +6,15 @@ use Rattle.workers.proofs.Working.{same_self}
 use Rattle.workers.proofs.feeder_worker.FeederWorker.pass_all.Goals as goal
 
 pub batches-init : goal.batches-init
-batches-init g c = record { fit = c.requires.fit; same = same_self c.args.self.now.feeder; draws = ([], draws_none _ _ c.args.self.now.puller); passed = λ content before first h. h }
+batches-init g c = record { fit = c.requires.may.fit; same = same_self c.args.self.now.feeder; draws = ([], draws_none _ _ c.args.self.now.puller); passed = λ content before first h. h }
 
-pub turn-requires-clause-faults : goal.turn-requires-clause-faults
-turn-requires-clause-faults g c = still_counts _ _ _ _ _ _ c.batches.invariant.draws.1.follows c.requires.faults
+pub turn-requires : goal.turn-requires
+turn-requires g c = record {
+  some = c.requires.may.some;
+  few = c.requires.may.few;
+  faults = still_counts _ _ _ _ _ _ c.batches.invariant.draws.1.follows c.requires.may.faults;
+  fit = c.batches.invariant.fit;
+}
 
 pub returns-in_err-turn-clause-same : goal.returns-in_err-turn-clause-same
 returns-in_err-turn-clause-same g c = same_trans c.args.self.now.feeder c.batches.self.feeder c.turn.new.self.feeder c.batches.invariant.same c.turn.ensures.same
