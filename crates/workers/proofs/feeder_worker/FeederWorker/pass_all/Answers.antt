@@ -10,10 +10,12 @@ batches-init g c = record { fit = c.requires.may.fit; same = same_self c.args.se
 
 pub turn-requires : goal.turn-requires
 turn-requires g c = record {
-  some = c.requires.may.some;
-  few = c.requires.may.few;
-  faults = still_counts _ _ _ _ _ _ c.batches.invariant.draws.1.follows c.requires.may.faults;
-  fit = c.batches.invariant.fit;
+  may = record {
+    some = c.requires.may.some;
+    few = c.requires.may.few;
+    faults = still_counts _ _ _ _ _ _ c.batches.invariant.draws.1.follows c.requires.may.faults;
+    fit = c.batches.invariant.fit;
+  };
 }
 
 pub returns-in_err-turn-clause-same : goal.returns-in_err-turn-clause-same
