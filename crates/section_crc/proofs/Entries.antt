@@ -62,30 +62,30 @@ more-at (e ∷ es) (suc i) h = more-at es i (omega arith)
 is-row-0 : IsRow 0 ROW_0
 is-row-0 byte h = ap (λ (r : List ℕ). slice_index r byte) row-0 ∙ entries-at 0 256 byte h ∙ ap (entry_of 0) (zero-add byte)
 
-next-row : (n : ℕ) (row next : List ℕ) → length row ≡ 256 → next ≡ more row → IsRow n row → IsRow (suc n) next
-next-row n row next long e is byte h =
+next-of : (n : ℕ) (row next : List ℕ) → length row ≡ 256 → next ≡ more row → IsRow n row → IsRow (suc n) next
+next-of n row next long e is byte h =
     ap (λ (r : List ℕ). slice_index r byte) e ∙ more-at row byte (omega arith) ∙ ap (λ (x : ℕ). fold after_bit x (bits_of 0)) (is byte h) ∙ entry-more n byte h
 
 is-1 : IsRow 1 ROW_1
-is-1 = next-row 0 ROW_0 ROW_1 refl row-1 is-row-0
+is-1 = next-of 0 ROW_0 ROW_1 refl row-1 is-row-0
 
 is-2 : IsRow 2 ROW_2
-is-2 = next-row 1 ROW_1 ROW_2 refl row-2 is-1
+is-2 = next-of 1 ROW_1 ROW_2 refl row-2 is-1
 
 is-3 : IsRow 3 ROW_3
-is-3 = next-row 2 ROW_2 ROW_3 refl row-3 is-2
+is-3 = next-of 2 ROW_2 ROW_3 refl row-3 is-2
 
 is-4 : IsRow 4 ROW_4
-is-4 = next-row 3 ROW_3 ROW_4 refl row-4 is-3
+is-4 = next-of 3 ROW_3 ROW_4 refl row-4 is-3
 
 is-5 : IsRow 5 ROW_5
-is-5 = next-row 4 ROW_4 ROW_5 refl row-5 is-4
+is-5 = next-of 4 ROW_4 ROW_5 refl row-5 is-4
 
 is-6 : IsRow 6 ROW_6
-is-6 = next-row 5 ROW_5 ROW_6 refl row-6 is-5
+is-6 = next-of 5 ROW_5 ROW_6 refl row-6 is-5
 
 is-7 : IsRow 7 ROW_7
-is-7 = next-row 6 ROW_6 ROW_7 refl row-7 is-6
+is-7 = next-of 6 ROW_6 ROW_7 refl row-7 is-6
 
 pub are-rows : AreRows ROWS
 are-rows zero h = is-row-0
