@@ -72,10 +72,6 @@ waits_after (Some s) (reply ∷ next ∷ more) = waits_after (Some s) (next ∷ 
 abbrev pub waits_on : (client : ℕ) → List Line → List Response → Option ℕ
 waits_on client lines replies = waits_after (progress client lines replies).standing replies
 
--- the line of the command that isn't through, if there is one
-abbrev pub current_line : (client : ℕ) → List Line → List Response → Option ℕ
-current_line client lines replies = option_map (λ s. s.line) (progress client lines replies).standing
-
 -- the call before which the command of a line stands; None where the command is through
 abbrev pub standing_at : (line : ℕ) → Option Standing → Option Event
 standing_at line None = None

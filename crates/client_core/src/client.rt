@@ -6,7 +6,7 @@ ghost use Rattle.dmx_calls.specs.Response.{Response};
 ghost use Rattle.client_script.specs.declared.line.Line.{Line as ScriptLine};
 ghost use Rattle.client_script.specs.Script.{IsScript};
 ghost use Rattle.client_core.specs.Commands.{commands_of, IsWantInRange};
-ghost use Rattle.client_core.specs.Events.{next_event, outcomes as outcomes_of, waits_on, next_of_line, current_line};
+ghost use Rattle.client_core.specs.Events.{next_event, outcomes as outcomes_of, waits_on, next_of_line};
 ghost use Rattle.client_core.specs.Inside.Tasks.{resumed, node_in};
 ghost use Rattle.client_core.specs.Inside.Core.{coming, one_if_some, IsCommandInRange, IsSound, IsAfter, HasTaken, next_of, waits_with};
 
@@ -125,18 +125,6 @@ impl ClientCore {
                     None
                 }
             }
-        }
-    }
-
-    /// The line of the command that isn't through.
-    pub fn line(&self) -> u32
-        requires some { IsSome self.now.current }
-        ensures value { IfSome self.now.current (λ c. result ≡ c.line) }
-        ensures tied { (client : ℕ) (lines : List ScriptLine) (replies : List Response) → IsAfter client lines replies self.now → current_line client lines replies ≡ Some result }
-    {
-        match &self.current {
-            None => unreachable!(),
-            Some(current) => current.line,
         }
     }
 

@@ -9,7 +9,7 @@
 //! What a contract sees: a `ClientCore` as the record `Core` of `specs/Core.antt`, which holds no history;
 //! `IsAfter client lines replies core` says that it stands after these replies to this client of the script. The
 //! definitions are functions of the script and of the replies alone: `done` says what a command does
-//! (`specs/Commands.antt`), and `progress`, `next_event`, `waits_on`, `current_line` and `outcomes` how far a client is
+//! (`specs/Commands.antt`), and `progress`, `next_event`, `waits_on` and `outcomes` how far a client is
 //! (`specs/Events.antt`). `IsRun` (`specs/IsRun.antt`) says of 33 lists of printed entries that they are a run: each is
 //! legal, the feeder's packets pass every node in the same batches, and each client made just the calls that its commands
 //! ask for. `most_calls` (`specs/Budget.antt`) is the most calls of a client.

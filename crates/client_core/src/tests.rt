@@ -215,13 +215,10 @@ fn a_slot_stays_bound_after_close(rt: HostRuntime) -> Result<(), Fail> {
     let mut core = client_of(&rt, rt.alloc(), script, 0)?;
     take(&rt, &mut core, &Reply::Busy { owner: 2 })?;
     take(&rt, &mut core, &done(Tap::Keep))?;
-    assert_eq!(rt; core.next(), event(2, 1, Want::Close));
-    assert!(rt; core.next().is_some());
-    assert_eq!(rt; core.line(), 2);
+    assert_eq!(rt; core.next_at(2), event(2, 1, Want::Close));
     take(&rt, &mut core, &done(Tap::Keep))?;
-    assert_eq!(rt; core.next(), event(3, 1, Want::Start));
-    assert!(rt; core.next().is_some());
-    assert_eq!(rt; core.line(), 4);
+    assert_eq!(rt; core.next_at(3), None);
+    assert_eq!(rt; core.next_at(4), event(3, 1, Want::Start));
     let outcomes = [
         through(1, 0, 2, OutcomeKind::Done),
         through(2, 2, 3, OutcomeKind::Done),

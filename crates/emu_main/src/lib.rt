@@ -109,7 +109,7 @@ fn run<R: Threads + Wait + Sync>(rt: &HostRuntime, threads: &R) -> Status {
 }
 
 /// Does what the words say, on threads where they ask for them, and tells on standard error how it ended. Answers the
-/// number of the status.
+/// number of the status. A program gives its runtime twice, since `main` alone may pass it on as one that has threads.
 pub fn emu_main<R: Threads + Wait + Sync>(rt: &HostRuntime, threads: &R) -> ExitCode {
     let status = run(rt, threads);
     tell(rt, status);

@@ -4,7 +4,7 @@ use Rattle.std.proofs.lemmas.List.{take_all, length-drop}
 use Rattle.std.specs.Prelude.{Option, Some, None, IfSome, Result, Ok, Err, unwrap_or, if◌then◌else◌}
 use Rattle.std.specs.Option.{option_map}
 use Rattle.client_script.specs.Grammar.{meaning}
-use Rattle.client_script.specs.Script.{whole_lines, is_stream, script_len, grammar, lines_from, before, Parsed, most_bytes, IsScript, split}
+use Rattle.client_script.specs.Script.{whole_lines, is_stream, script_len, grammar, lines_from, before, Parsed, most_bytes, IsScript}
 use Rattle.client_script.specs.declared.line.Line.{Line}
 use Rattle.client_script.specs.declared.fault.FaultKind.{FaultKind}
 use Rattle.client_script.specs.declared.fault.ScriptFault.{ScriptFault}

@@ -1,10 +1,9 @@
 -- The session of a number: its script has no fault, and it is short.
-use Rattle.std.proofs.Common.{◌≡◌, ◌<◌, ◌≤◌, ◌+◌, ◌-◌, ◌*◌, ◌^◌, ◌%◌, refl, sym, ap, subst, ◌∙◌, ℕ, suc, zero, Bool, true, false, List, [], ◌∷◌, ◌++◌, length, take, drop, append-nil, arith, length-append}
+use Rattle.std.proofs.Common.{◌≡◌, ◌<◌, ◌+◌, ◌-◌, ◌*◌, ◌%◌, refl, sym, ap, subst, ◌∙◌, ℕ, suc, zero, Bool, true, false, List, [], ◌∷◌, ◌++◌, length, take, drop, append-nil, arith, length-append}
 use Rattle.std.proofs.lemmas.List.{take_all, length-replicate}
 use Rattle.std.specs.Prelude.{Option, Some, None, Result, Ok, Err, is_ok, replicate}
 use Rattle.std.specs.Io.KnownBytes.{Consumes, IsAtEnd}
 use Rattle.std.specs.Int.{w16, w32, w64, to_be_bytes}
-use Rattle.emu_io.specs.Causes.{Rose}
 use Rattle.section_crc.specs.Crc.{crc}
 use Rattle.dmx_calls.specs.Head.{told_head, head_of}
 use Rattle.text_forms.specs.Numbers.{value_after}
@@ -17,11 +16,10 @@ use Rattle.client_script.specs.Places.{places_in, filter_in}
 use Rattle.client_script.specs.Grammar.{number_in, numbered_target, target_of, name_of, section_in, pes_in, verb_in, command_in, line_in, line_of, meaning}
 use Rattle.client_script.specs.declared.line.Line.{Line}
 use Rattle.client_script.specs.declared.fault.ScriptFault.{ScriptFault}
-use Rattle.client_script.specs.Script.{split, grammar, most_bytes, script_len, whole_lines, lines_from}
+use Rattle.client_script.specs.Script.{split, grammar, script_len, whole_lines, lines_from}
 use Rattle.client_script.proofs.Splitting.{split-found}
 use Rattle.report_text.specs.Summary.{summary_of}
 use Rattle.serial_core.specs.declared.run.Ran.{Ran}
-use Rattle.serial_core.specs.Ran.{histories_in}
 use Rattle.ts_make.specs.declared.kind.Kind.{Kind}
 use Rattle.ts_make.specs.Made.{made, packets, packet_at, payload, carrying, section, section_front}
 use Rattle.ts_make.specs.Script.{script}

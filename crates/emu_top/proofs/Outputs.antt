@@ -1,13 +1,13 @@
 -- What is to be written for a session, and why there is nothing.
-use Rattle.std.proofs.Common.{◌≡◌, ◌<◌, ◌≤◌, ◌+◌, ◌-◌, ◌*◌, ◌^◌, ◌⊎◌, refl, sym, ap, ◌∙◌, ℕ, Bool, true, false, List, [], ◌∷◌, ◌++◌, length, take, drop, map, append-nil, arith, length-append, inl, inr, IsTrue}
+use Rattle.std.proofs.Common.{◌≡◌, ◌<◌, ◌≤◌, ◌+◌, ◌-◌, ◌⊎◌, refl, sym, ap, ◌∙◌, ℕ, Bool, true, false, List, [], ◌++◌, length, map, append-nil, arith, length-append, inl, inr, IsTrue}
 use Rattle.std.proofs.lemmas.Bool.{cases_lt}
 use Rattle.std.proofs.KnownBytes.{Consumes-trans}
-use Rattle.std.specs.Prelude.{◌↔◌, min, Option, Some, None, IfSome, Result, Ok, Err}
+use Rattle.std.specs.Prelude.{◌↔◌, Option, Some, None, IfSome, Ok, Err}
 use Rattle.std.specs.Io.KnownBytes.{Consumes, IsAtEnd}
 use Rattle.emu_io.specs.Causes.{raised, Rose}
 use Rattle.ts_packet.specs.Cut.{cut}
 use Rattle.dmx_calls.specs.declared.outcome.Outcome.{Outcome}
-use Rattle.dmx_calls.specs.Head.{told_head, head_of}
+use Rattle.dmx_calls.specs.Head.{told_head}
 use Rattle.client_script.specs.declared.line.Line.{Line}
 use Rattle.client_script.specs.declared.fault.ScriptFault.{ScriptFault}
 use Rattle.client_script.specs.Script.{split, grammar, most_bytes, script_len, whole_lines}
@@ -23,7 +23,7 @@ use Rattle.serial_core.specs.Ran.{IsRanOf}
 use Rattle.serial_core.proofs.Runs.{are_runs}
 use Rattle.report_text.specs.Report.{report_of}
 use Rattle.emu_top.specs.Inside.Part.{IsUnended}
-use Rattle.emu_top.specs.Session.{Output, IsSession, IsSerialOutput, Holds, IsFaultIn, Makes, Runs, GivesUp, FailsEarly, Refuses, ReadsTo, status_of_stop}
+use Rattle.emu_top.specs.Session.{Output, IsSession, IsSerialOutput, Holds, IsFaultIn, Makes, Runs, FailsEarly, Refuses, ReadsTo, status_of_stop}
 use Rattle.emu_top.specs.declared.status.Status.{Status}
 use Rattle.emu_top.specs.declared.status.Status.TheVariants.{Usage, Script, TooLong, ReadFault, WriteFault, NoMemory, Ok as Done}
 

@@ -1,5 +1,5 @@
 -- The report of a run by threads.
-use Rattle.std.proofs.Common.{◌≡◌, ◌<◌, ◌≤◌, ℕ, Bool, false, List, ◌++◌, sym, IsTrue}
+use Rattle.std.proofs.Common.{◌≡◌, ◌<◌, ◌≤◌, ℕ, Bool, false, List, ◌++◌, IsTrue}
 use Rattle.std.specs.Prelude.{◌↔◌, Option}
 use Rattle.std.specs.Io.KnownBytes.{Consumes, IsAtEnd}
 use Rattle.ts_packet.specs.Cut.{cut}

@@ -4,7 +4,7 @@ ghost use Rattle.dmx_calls.specs.declared.limits.TheConstants.{DEMUX_NODES as no
 ghost use Rattle.client_script.specs.declared.line.Line.{Line as ScriptLine};
 ghost use Rattle.client_core.specs.Commands.{IsWantInRange};
 ghost use Rattle.client_core.specs.Inside.Core.{IsAfter};
-ghost use Rattle.serial_core.specs.Inside.Moving.{ComesBy, HasMade, IsDoneBy, IsReady, IsSound, Moves};
+ghost use Rattle.serial_core.specs.Inside.Moving.{ComesBy, MadeAtMost, IsDoneBy, IsReady, IsSound, Moves};
 ghost use Rattle.feed_pull.specs.Streams.{Draws};
 ghost use Rattle.serial_core.specs.SerialRun.{after_waiting, called, replies_of, reply_to};
 
@@ -25,13 +25,13 @@ impl Runner {
         steps: &mut Steps<L>,
     ) -> Result<(), NoMemory>
         requires ready { IsReady batch (S.faults source.old) self.old }
-        requires made { HasMade self.old 8796093022208 }
+        requires made { MadeAtMost self.old 8796093022208 }
         ensures moves { OnOk result (Moves (S.left source.old) (S.left source.new) (S.faults source.old) (S.faults source.new) self.old self.new
             (λ r s. (client : ℕ) (lines : List ScriptLine) → IsAfter client lines (replies_of client r) core.now → s ≡ after_waiting lines batch client r)) }
         ensures draws { OnErr result ((packets : List (List ℕ)) × Draws (S.left source.old) (S.left source.new) (S.faults source.old) (S.faults source.new) self.old.puller self.new.puller packets) }
         ensures sound { OnOk result (IsSound self.new) }
         ensures moment { OnOk result (self.new.moment ≡ self.old.moment) }
-        ensures made { OnOk result ((calls : ℕ) → HasMade self.old calls → HasMade self.new calls) }
+        ensures made { OnOk result ((calls : ℕ) → MadeAtMost self.old calls → MadeAtMost self.new calls) }
     {
         if core.waits().is_some() {
             self.turn(source, batch, steps)?;
@@ -50,7 +50,7 @@ impl Runner {
         steps: &mut Steps<L>,
     ) -> Result<(), NoMemory>
         requires ready { IsReady batch (S.faults source.old) self.old }
-        requires made { HasMade self.old 8796093022208 }
+        requires made { MadeAtMost self.old 8796093022208 }
         requires client { client < 8 }
         requires node { event.node ≤ nodes }
         requires range { IsWantInRange event.want }
@@ -62,7 +62,7 @@ impl Runner {
         ensures draws { OnErr result ((packets : List (List ℕ)) × Draws (S.left source.old) (S.left source.new) (S.faults source.old) (S.faults source.new) self.old.puller self.new.puller packets) }
         ensures sound { OnOk result (IsSound self.new) }
         ensures moment { OnOk result (self.new.moment ≡ self.old.moment) }
-        ensures made { OnOk result ((calls : ℕ) → HasMade self.old calls → HasMade self.new (calls + 1)) }
+        ensures made { OnOk result ((calls : ℕ) → MadeAtMost self.old calls → MadeAtMost self.new (calls + 1)) }
         ensures step { OnOk result (core.new.step ≡ core.old.step + 1) }
     {
         self.wait(source, batch, core, steps)?;
@@ -81,7 +81,7 @@ impl Runner {
         steps: &mut Steps<L>,
     ) -> Result<(), Stop>
         requires ready { IsReady batch (S.faults source.old) self.old }
-        requires made { HasMade self.old (core.old.step + 4398046511104) }
+        requires made { MadeAtMost self.old (core.old.step + 4398046511104) }
         requires client { client < 8 }
         requires calls { core.old.step ≤ 549755813888 }
         ensures moves { OnOk result (Moves (S.left source.old) (S.left source.new) (S.faults source.old) (S.faults source.new) self.old self.new (IsDoneBy batch client line core.old core.new)) }
@@ -90,7 +90,7 @@ impl Runner {
             × Moves (S.left source.old) (S.left source.new) (S.faults source.old) (S.faults source.new) self.old self.new (ComesBy batch client line core.old core.new) }
         ensures sound { OnOk result (IsSound self.new) }
         ensures moment { OnOk result (self.new.moment ≡ self.old.moment) }
-        ensures made { OnOk result ((calls : ℕ) → HasMade self.old (core.old.step + calls) → HasMade self.new (core.new.step + calls)) }
+        ensures made { OnOk result ((calls : ℕ) → MadeAtMost self.old (core.old.step + calls) → MadeAtMost self.new (core.new.step + calls)) }
         ensures calls { OnOk result (core.new.step ≤ 549755813888) }
     {
         'calls: while let Some(event) = core.next_at(line) {

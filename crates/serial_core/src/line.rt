@@ -3,7 +3,7 @@ ghost use Rattle.std.specs.Prelude.{◌≡◌, true, ℕ, ◌+◌, ◌*◌, ◌-
 ghost use Rattle.client_script.specs.Script.{clients_of};
 ghost use Rattle.client_script.specs.declared.line.Line.{Line as ScriptLine};
 ghost use Rattle.serial_core.specs.Inside.Lines.{AreAfter, AreInBudget, IsFrontBy, IsLineBy, IsWholeBy, MayBegin, Overruns, OverrunsBy, calls_by};
-ghost use Rattle.serial_core.specs.Inside.Moving.{HasMade, IsReady, IsSound, Moves};
+ghost use Rattle.serial_core.specs.Inside.Moving.{MadeAtMost, IsReady, IsSound, Moves};
 ghost use Rattle.feed_pull.specs.Streams.{Draws};
 
 use crate::runner::Runner;
@@ -24,7 +24,7 @@ impl Runner {
         steps: &mut Steps<L>,
     ) -> Result<(), Stop>
         requires ready { IsReady batch (S.faults source.old) self.old }
-        requires made { HasMade self.old (calls_by cores.old) }
+        requires made { MadeAtMost self.old (calls_by cores.old) }
         requires late { self.old.moment + 2 ^ 32 ≤ 2 ^ 64 }
         requires clients { length cores.old ≤ 8 }
         requires client { clients_of asked ≤ length cores.old }
@@ -34,7 +34,7 @@ impl Runner {
         ensures too_long { (turns : ℕ) → IsErrOf result (Stop.TooLong turns) → (turns ≡ 549755813888)
             × Moves (S.left source.old) (S.left source.new) (S.faults source.old) (S.faults source.new) self.old self.new (OverrunsBy cores.old) }
         ensures sound { OnOk result (IsSound self.new) }
-        ensures made { OnOk result (HasMade self.new (calls_by cores.new)) }
+        ensures made { OnOk result (MadeAtMost self.new (calls_by cores.new)) }
         ensures calls { OnOk result (AreInBudget cores.new) }
         ensures moment { OnOk result (self.new.moment ≤ self.old.moment + 2 ^ 32) }
     {
@@ -71,7 +71,7 @@ impl Runner {
         ensures too_long { (turns : ℕ) → IsErrOf result (Stop.TooLong turns) → (turns ≡ 549755813888)
             × Moves (S.left source.old) (S.left source.new) (S.faults source.old) (S.faults source.new) self.old self.new (λ r s. length r.replies ≡ 8 → AreAfter lines.now r cores.old → Overruns lines.now r s) }
         ensures sound { OnOk result (IsSound self.new) }
-        ensures made { OnOk result (HasMade self.new 4398046511104) }
+        ensures made { OnOk result (MadeAtMost self.new 4398046511104) }
     {
         'lines: for line in lines {
             self.line(source, batch, cores, *line, steps)?;

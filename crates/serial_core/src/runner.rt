@@ -2,7 +2,7 @@
 ghost use Rattle.std.specs.Prelude.{◌≡◌, true, ℕ, ◌+◌, ◌-◌, ◌<◌, ◌≤◌, ◌^◌, ◌≢◌, List, [], length, min, IfOk, OnOk, OnErr};
 ghost use Rattle.client_script.specs.declared.line.Line.{Line as ScriptLine};
 ghost use Rattle.serial_core.specs.SerialRun.{Run, fed, finished, ticked, turned};
-ghost use Rattle.serial_core.specs.Inside.Moving.{HasMade, IsAt, IsReady, IsSound, Moves};
+ghost use Rattle.serial_core.specs.Inside.Moving.{MadeAtMost, IsAt, IsReady, IsSound, Moves};
 ghost use Rattle.feed_pull.specs.Streams.{Draws};
 
 use crate::nodes::Nodes;
@@ -30,12 +30,12 @@ impl Runner {
         steps: &mut Steps<L>,
     ) -> Result<u32, NoMemory>
         requires ready { IsReady most (S.faults source.old) self.old }
-        requires made { HasMade self.old 8796093022208 }
+        requires made { MadeAtMost self.old 8796093022208 }
         ensures moves { IfOk result (λ n. Moves (S.left source.old) (S.left source.new) (S.faults source.old) (S.faults source.new) self.old self.new
             (λ r s. (s ≡ turned most r) × (n ≡ min most (length r.left)))) }
         ensures draws { OnErr result ((packets : List (List ℕ)) × Draws (S.left source.old) (S.left source.new) (S.faults source.old) (S.faults source.new) self.old.puller self.new.puller packets) }
         ensures sound { OnOk result (IsSound self.new) }
-        ensures made { OnOk result ((calls : ℕ) → HasMade self.old calls → HasMade self.new calls) }
+        ensures made { OnOk result ((calls : ℕ) → MadeAtMost self.old calls → MadeAtMost self.new calls) }
         ensures moment { OnOk result (self.new.moment ≡ self.old.moment) }
         ensures over { IfOk result (λ n. n ≡ 0 → self.new.nodes.has_ended ≡ true) }
         ensures given { IfOk result (λ n. (n ≤ most) × (self.new.puller.given ≡ self.old.puller.given + n)) }
@@ -65,11 +65,11 @@ impl Runner {
         steps: &mut Steps<L>,
     ) -> Result<(), NoMemory>
         requires ready { IsReady batch (S.faults source.old) self.old }
-        requires made { HasMade self.old 8796093022208 }
+        requires made { MadeAtMost self.old 8796093022208 }
         ensures moves { OnOk result (Moves (S.left source.old) (S.left source.new) (S.faults source.old) (S.faults source.new) self.old self.new (λ r s. s ≡ fed batch count r)) }
         ensures draws { OnErr result ((packets : List (List ℕ)) × Draws (S.left source.old) (S.left source.new) (S.faults source.old) (S.faults source.new) self.old.puller self.new.puller packets) }
         ensures sound { OnOk result (IsSound self.new) }
-        ensures made { OnOk result ((calls : ℕ) → HasMade self.old calls → HasMade self.new calls) }
+        ensures made { OnOk result ((calls : ℕ) → MadeAtMost self.old calls → MadeAtMost self.new calls) }
         ensures moment { OnOk result (self.new.moment ≡ self.old.moment) }
     {
         let mut left = count;
@@ -91,7 +91,7 @@ impl Runner {
         steps: &mut Steps<L>,
     ) -> Result<(), NoMemory>
         requires ready { IsReady batch (S.faults source.old) self.old }
-        requires made { HasMade self.old 8796093022208 }
+        requires made { MadeAtMost self.old 8796093022208 }
         ensures moves { OnOk result (Moves (S.left source.old) (S.left source.new) (S.faults source.old) (S.faults source.new) self.old self.new (λ r s. (lines : List ScriptLine) → s ≡ finished lines batch r)) }
         ensures draws { OnErr result ((packets : List (List ℕ)) × Draws (S.left source.old) (S.left source.new) (S.faults source.old) (S.faults source.new) self.old.puller self.new.puller packets) }
         ensures sound { OnOk result (IsSound self.new) }
@@ -107,7 +107,7 @@ impl Runner {
         ensures at { (r : Run) → IsAt self.old r → IsAt self.new (ticked time r) }
         ensures puller { self.new.puller ≡ self.old.puller }
         ensures sound { IsSound self.old → IsSound self.new }
-        ensures made { (calls : ℕ) → HasMade self.old calls → HasMade self.new calls }
+        ensures made { (calls : ℕ) → MadeAtMost self.old calls → MadeAtMost self.new calls }
         ensures moment { self.new.moment ≡ self.old.moment + time }
     {
         self.moment += time as u64;

@@ -119,6 +119,25 @@ fn taps_record_for_the_dvr_node(rt: HostRuntime) -> Result<(), Fail> {
     Ok(())
 }
 
+// Four commands and one packet allow 33 * (4 + 2 * 188 + 1) calls. The drain reads 188 times a byte, and before them, behind them
+// and behind the end of the stream there is nothing to read.
+#[test]
+fn a_drain_by_single_bytes_makes_a_call_for_each(rt: HostRuntime) -> Result<(), Fail> {
+    let alloc = rt.alloc();
+    let mut stream = Vec::new(alloc);
+    add_packet(&mut stream, 0, 0)?;
+    let script =
+        "c0 open n0\nc0 pes n0 256 frontend tsdemux_tap 20 0\nc0 start n0\nc0 drain n0 1\nstream\n";
+    let ran = left_by(alloc, script, stream, &[])?;
+    let calls = replies(&ran, 0, 0);
+    assert_eq!(rt; calls.len(), 3 + 1 + 188 + 1 + 1);
+    assert!(rt; calls.len() <= 33 * (4 + 2 * 188 + 1));
+    assert!(rt;
+        matches!(calls.last(), Some(last) if matches!(last.reply, Reply::Again { ended: true }))
+    );
+    Ok(())
+}
+
 #[test]
 fn a_failed_read_ends_the_stream(rt: HostRuntime) -> Result<(), Fail> {
     let alloc = rt.alloc();

@@ -1,15 +1,15 @@
 -- How the counts of a list of packets change with one packet behind it.
 use Rattle.std.specs.Prelude.{if◌then◌else◌}
-use Rattle.std.proofs.Common.{◌≡◌, ◌≢◌, ℕ, ◌+◌, ◌-◌, ◌≤◌, ◌==◌, ◌&&◌, ◌||◌, not, Bool, true, false, List, [], ◌∷◌, ◌++◌, length, Option, Some, None, refl, sym, ap, ◌∙◌, arith, length-append}
+use Rattle.std.proofs.Common.{◌≡◌, ℕ, ◌+◌, ◌-◌, ◌≤◌, ◌==◌, Bool, true, false, List, [], ◌∷◌, ◌++◌, length, Option, Some, None, refl, sym, ◌∙◌, arith, length-append}
 use Rattle.std.proofs.lemmas.List.{append-nil}
 use Rattle.std.proofs.lemmas.List.Elements.{filter-append}
 use Rattle.std.specs.List.{filter, last_or}
-use Rattle.ts_packet.specs.Fields.{pid_of, error_bit, has_payload, counter_of}
-use Rattle.ts_packet.specs.Clean.{carried, is_usable, repeats, joins, without_repeats_after, clean}
+use Rattle.ts_packet.specs.Fields.{pid_of, error_bit, has_payload}
+use Rattle.ts_packet.specs.Clean.{is_usable, repeats, joins, without_repeats_after, clean}
 use Rattle.ts_packet.specs.Counts.{is_of, is_error_of, breaks_after, counts}
 use Rattle.ts_packet.proofs.CleanLemmas.{clean-append, last-clean, AreAlike}
 use Rattle.ts_watch.specs.declared.seen.Seen.{Seen}
-use Rattle.ts_watch.specs.Watching.{row_of, kept_of, last_of, after, after_usable}
+use Rattle.ts_watch.specs.Watching.{kept_of, after}
 
 -- one packet behind a list
 filter-yes : (f : List ℕ → Bool) (ps : List (List ℕ)) (p : List ℕ) → f p ≡ true → filter f (ps ++ p ∷ []) ≡ filter f ps ++ p ∷ []

@@ -1,5 +1,5 @@
 -- What a watch keeps, and how that stands for the packets that it was shown.
-use Rattle.std.specs.Prelude.{◌≡◌, ℕ, ◌+◌, ◌<◌, ◌≤◌, ◌==◌, Bool, ◌&&◌, ◌||◌, not, true, List, [], length, Option, Some, None, IfSome, if◌then◌else◌}
+use Rattle.std.specs.Prelude.{◌≡◌, ℕ, ◌+◌, ◌<◌, ◌≤◌, ◌==◌, ◌||◌, not, true, List, length, Option, Some, None, IfSome, if◌then◌else◌}
 use Rattle.std.specs.List.{All, last_or, sum_by}
 use Rattle.std.proofs.Common.{get_or}
 use Rattle.ts_packet.specs.Fields.{error_bit, has_payload}

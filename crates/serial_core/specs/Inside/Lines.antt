@@ -6,7 +6,7 @@ use Rattle.client_core.specs.Inside.Core.{Core, IsAfter}
 use Rattle.serial_core.specs.SerialRun.{Run, replies_of, finished, AreDone}
 use Rattle.serial_core.specs.declared.runner.Runner.{Runner}
 use Rattle.serial_core.specs.Budget.{IsPaid}
-use Rattle.serial_core.specs.Inside.Moving.{HasMade}
+use Rattle.serial_core.specs.Inside.Moving.{MadeAtMost}
 
 -- each core stands after the replies of its client
 abbrev pub AreAfter : List Line → Run → List Core → Type 0
@@ -28,7 +28,7 @@ pub record MayBegin (lines : List Line) (cores : List Core) (v : Runner) : Type 
   pub clients : length cores ≤ 8
   pub named : All (λ line. clients_of line ≤ length cores) lines
   pub calls : AreInBudget cores
-  pub made : HasMade v (calls_by cores)
+  pub made : MadeAtMost v (calls_by cores)
 
 -- The run has come from `first` by lines: where those behind them are done, all of them are.
 pub record ComesByLines (lines : List Line) (batch : ℕ) (behind all : List Line) (first now : Run) (cores : List Core) : Type 0 where

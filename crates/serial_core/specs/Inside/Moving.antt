@@ -47,8 +47,8 @@ pub record IsReady (batch failed : ℕ) (v : Runner) : Type 0 where
   pub sound : IsSound v
 
 -- at most so many calls were made beside the feeder's turns
-abbrev pub HasMade : Runner → (calls : ℕ) → Type 0
-HasMade v calls = v.nodes.made ≤ turns_of v + calls
+abbrev pub MadeAtMost : Runner → (calls : ℕ) → Type 0
+MadeAtMost v calls = v.nodes.made ≤ turns_of v + calls
 
 -- ------ commands
 

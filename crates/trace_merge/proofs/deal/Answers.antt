@@ -1,7 +1,7 @@
-use Rattle.std.proofs.Common.{ℕ, ◌≡◌, ◌≤◌, ◌<◌, ◌∙◌, ◌++◌, ◌∷◌, [], List, ap, sym, refl, subst, length, map, set, get_or, filter, reverse, arith, length-set}
+use Rattle.std.proofs.Common.{◌≡◌, ◌≤◌, ◌<◌, ◌∙◌, ◌++◌, ◌∷◌, [], ap, sym, subst, length, map, set, get_or, arith, length-set}
 use Rattle.std.proofs.lemmas.List.{length-map, get_or-map, map-set}
 use Rattle.dmx_calls.specs.declared.log.Entry.{Entry as ToldEntry}
-use Rattle.trace_merge.specs.Merging.{is_on, AreOnNodes}
+use Rattle.trace_merge.specs.Merging.{AreOnNodes}
 use Rattle.trace_merge.proofs.Dealing.{all-front, all-last, dealing-more}
 use Rattle.trace_merge.proofs.deal.Goals as goal
 

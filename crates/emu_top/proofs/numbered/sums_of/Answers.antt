@@ -1,5 +1,4 @@
 use Rattle.std.proofs.Common.{◌≡◌, ◌∙◌, List, ℕ, Some, subst}
-use Rattle.std.specs.Prelude.{Option}
 use Rattle.ts_make.specs.Made.{made}
 use Rattle.emu_top.specs.Session.{Refuses, Runs}
 use Rattle.emu_top.proofs.Numbers.{refused, summed}

@@ -1,4 +1,4 @@
-use Rattle.std.proofs.Common.{◌≡◌, ◌∙◌, ap, Err, rules}
+use Rattle.std.proofs.Common.{◌∙◌, ap, Err}
 use Rattle.emu_top.proofs.Outputs.{run_of, given_up}
 use Rattle.emu_top.proofs.session.run_session.Goals as goal
 

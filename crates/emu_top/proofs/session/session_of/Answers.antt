@@ -1,4 +1,4 @@
-use Rattle.std.proofs.Common.{◌≡◌, rules}
+use Rattle.std.proofs.Common.{rules}
 use Rattle.emu_top.proofs.Fronts.{fault_is, holds, pulls_ahead}
 use Rattle.emu_top.proofs.session.session_of.Goals as goal
 

@@ -1,4 +1,4 @@
-use Rattle.std.proofs.Common.{◌∙◌, ap, map, Err, rules}
+use Rattle.std.proofs.Common.{◌∙◌, ap, map, Err}
 use Rattle.std.proofs.lemmas.Result.{IfOk-weaker}
 use Rattle.emu_top.proofs.Outputs.{given_up}
 use Rattle.emu_top.proofs.Threading.{threads_made}

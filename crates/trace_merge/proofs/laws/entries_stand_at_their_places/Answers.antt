@@ -1,18 +1,14 @@
-use Rattle.std.proofs.Common.{ℕ, ◌≡◌, ◌≤◌, ◌<◌, ◌+◌, ◌∙◌, refl, sym, ap, subst, Bool, true, false, List, [], ◌∷◌, Some, length, map, get_or, nat_eq, slice_get, option_map, arith, length-append}
+use Rattle.std.proofs.Common.{◌≡◌, ◌<◌, ◌+◌, ◌∙◌, sym, ap, subst, [], ◌∷◌, Some, length, map, get_or, nat_eq, slice_get, option_map, arith, length-append}
 use Rattle.std.proofs.lemmas.List.{length-map}
 use Rattle.std.proofs.lemmas.List.Sorted.{All-permutation, IsPermutation-map, length_permutation}
 use Rattle.std.proofs.lemmas.Map.Keys.{IsDistinct-IsPermutation}
 use Rattle.std.proofs.lemmas.Option.{slice_get-get_or, slice_get-map}
-use Rattle.dmx_calls.specs.declared.histories.Fed.{Fed}
-use Rattle.dmx_calls.specs.declared.limits.TheConstants.{DEMUX_NODES}
 use Rattle.dmx_calls.specs.declared.log.Entry.{Entry as ToldEntry}
 use Rattle.dmx_calls.specs.Calls.{told_entry}
-use Rattle.dmx_calls.specs.Histories.{pass_act, feeder_acts, histories_of, woven, AreInPlace}
+use Rattle.dmx_calls.specs.Histories.{pass_act, feeder_acts, woven, AreInPlace}
 use Rattle.dmx_calls.specs.declared.log.Act.TheVariants.{End as EndAct}
-use Rattle.dmx_calls.specs.Log.{LogEntry}
 use Rattle.dmx_calls.proofs.Weaving.{woven-length, woven_nodes-at}
-use Rattle.trace_merge.specs.Merging.{AreByPlace}
-use Rattle.trace_merge.specs.Inside.Placing.{entries_on, length_on, NameTheirPlaces, StandAtTheirPlaces}
+use Rattle.trace_merge.specs.Inside.Placing.{entries_on, length_on, StandAtTheirPlaces}
 use Rattle.trace_merge.proofs.Standing.{ascends, flips, in-place}
 use Rattle.trace_merge.proofs.laws.entries_stand_at_their_places.Goals as goal
 

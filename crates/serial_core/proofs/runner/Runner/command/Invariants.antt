@@ -1,5 +1,5 @@
 use Rattle.std.proofs.Common.{◌≡◌, ℕ, ◌+◌, ◌-◌, ◌≤◌}
-use Rattle.serial_core.specs.Inside.Moving.{Moves, IsSound, HasMade, ComesBy}
+use Rattle.serial_core.specs.Inside.Moving.{Moves, IsSound, MadeAtMost, ComesBy}
 use Rattle.serial_core.proofs.runner.Runner.command.Given as goal
 
 abbrev pub invariant-calls : goal.invariant-calls
@@ -7,7 +7,7 @@ invariant-calls g l = record {
   moves : Moves (g.S.Source.left l.initial.source) (g.S.Source.left l.source) (g.S.Source.faults l.initial.source) (g.S.Source.faults l.source) l.initial.self l.self (ComesBy l.batch l.client l.line l.initial.core l.core);
   sound : IsSound l.self;
   moment : l.self.moment ≡ l.initial.self.moment;
-  made : (calls : ℕ) → HasMade l.initial.self (l.initial.core.step + calls) → HasMade l.self (l.core.step + calls);
+  made : (calls : ℕ) → MadeAtMost l.initial.self (l.initial.core.step + calls) → MadeAtMost l.self (l.core.step + calls);
   few : l.core.step ≤ 549755813888;
 }
 

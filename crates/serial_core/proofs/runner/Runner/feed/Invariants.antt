@@ -1,6 +1,6 @@
 use Rattle.std.proofs.Common.{◌≡◌, ℕ}
 use Rattle.serial_core.specs.SerialRun.{fed}
-use Rattle.serial_core.specs.Inside.Moving.{Moves, IsSound, HasMade}
+use Rattle.serial_core.specs.Inside.Moving.{Moves, IsSound, MadeAtMost}
 use Rattle.serial_core.proofs.runner.Runner.feed.Given as goal
 
 abbrev pub invariant-turns : goal.invariant-turns
@@ -8,7 +8,7 @@ invariant-turns g l = record {
   moves : Moves (g.S.Source.left l.initial.source) (g.S.Source.left l.source) (g.S.Source.faults l.initial.source) (g.S.Source.faults l.source) l.initial.self l.self (λ r s. fed l.batch l.count r ≡ fed l.batch l.left s);
   sound : IsSound l.self;
   moment : l.self.moment ≡ l.initial.self.moment;
-  made : (calls : ℕ) → HasMade l.initial.self calls → HasMade l.self calls;
+  made : (calls : ℕ) → MadeAtMost l.initial.self calls → MadeAtMost l.self calls;
 }
 
 abbrev pub decreases-turns : goal.decreases-turns

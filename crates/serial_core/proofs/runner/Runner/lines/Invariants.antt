@@ -1,5 +1,5 @@
 use Rattle.std.proofs.Common.{◌≡◌, ◌*◌, ◌≤◌, ◌^◌, length}
-use Rattle.serial_core.specs.Inside.Moving.{Moves, IsSound, HasMade}
+use Rattle.serial_core.specs.Inside.Moving.{Moves, IsSound, MadeAtMost}
 use Rattle.serial_core.specs.Inside.Lines.{AreInBudget, IsFrontBy, calls_by}
 use Rattle.serial_core.proofs.runner.Runner.lines.Given as goal
 
@@ -7,7 +7,7 @@ abbrev pub invariant-lines : goal.invariant-lines
 invariant-lines g l = record {
   moves : Moves (g.S.Source.left l.initial.source) (g.S.Source.left l.source) (g.S.Source.faults l.initial.source) (g.S.Source.faults l.source) l.initial.self l.self (IsFrontBy l.batch l.lines l.line-index l.initial.cores l.cores);
   sound : IsSound l.self;
-  made : HasMade l.self (calls_by l.cores);
+  made : MadeAtMost l.self (calls_by l.cores);
   calls : AreInBudget l.cores;
   moment : l.self.moment ≤ l.line-index * 2 ^ 32;
   clients : length l.cores ≡ length l.initial.cores;

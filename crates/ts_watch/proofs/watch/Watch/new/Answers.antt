@@ -1,4 +1,4 @@
-use Rattle.std.proofs.Common.{rules, ◌≡◌, ◌<◌, length, Option, Some, None, get_or, arith}
+use Rattle.std.proofs.Common.{arith}
 use Rattle.ts_watch.proofs.Places.{begins, begins-with}
 use Rattle.ts_watch.proofs.watch.Watch.new.Goals as goal
 

@@ -1,4 +1,4 @@
-use Rattle.std.proofs.Common.{rules, ◌≡◌, ◌<◌, length, Option, Some, None, get_or, arith}
+use Rattle.std.proofs.Common.{rules, ◌≡◌, length, None, get_or, arith}
 use Rattle.ts_watch.proofs.Places.{has-room, placed, not-both}
 use Rattle.ts_watch.proofs.watch.Watch.place.Goals as goal
 
