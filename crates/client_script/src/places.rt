@@ -7,7 +7,7 @@ ghost use Rattle.client_script.specs.Words.{Reads};
 use crate::fault::FaultKind;
 use crate::words::Words;
 use filter_match::SectionFilter;
-use text_forms::{place_named, set_place};
+use text_forms::place_named;
 
 // How many places a filter has.
 const PLACES: u32 = 16;
@@ -27,7 +27,7 @@ pub fn read_filter(words: &mut Words<'_>) -> Result<SectionFilter, FaultKind>
         let Some(place) = place_named(least, word) else {
             return Err(FaultKind::Bytes);
         };
-        set_place(&mut filter, place);
+        filter.set(place);
         least = place.number + 1;
     }
     Ok(filter)

@@ -1,3 +1,4 @@
 pub mod Match
 pub mod Meaning
+pub mod Places
 pub mod Inside

@@ -1,6 +1,7 @@
-// The section filter.
+// The section filter and its places.
 
 ghost use Rattle.std.specs.Prelude.{◌≡◌, replicate};
+ghost use Rattle.filter_match.specs.Places.{with_place, filter_with};
 
 /// What a section filter asks of a section's first bytes (Linux media API, Digital TV demux, struct dmx_filter).
 ///
@@ -17,15 +18,52 @@ pub struct SectionFilter {
     pub mode: [u8; 16],
 }
 
+/// A place of a section filter, with its filter, mask and mode byte.
+#[derive(Clone, Copy, Debug, PartialEq, Eq, Drop)]
+pub struct Place {
+    /// The number of the place, 0 to 15.
+    pub number: u32,
+    /// The filter byte.
+    pub filter: u8,
+    /// The mask byte.
+    pub mask: u8,
+    /// The mode byte.
+    pub mode: u8,
+}
+
 impl SectionFilter {
     /// The filter in which no bit counts.
-    pub const fn empty() -> SectionFilter
+    pub fn empty() -> SectionFilter
         ensures { result ≡ record { filter = replicate 16 0; mask = replicate 16 0; mode = replicate 16 0 } }
     {
         SectionFilter {
             filter: [0; 16],
             mask: [0; 16],
             mode: [0; 16],
+        }
+    }
+
+    /// The filter with these places; in all others no bit counts.
+    pub fn of(places: &[Place]) -> SectionFilter
+        ensures { result ≡ filter_with places.now }
+    {
+        let mut filter = SectionFilter::empty();
+        'places: for place in places {
+            filter.set(*place);
+        }
+        filter
+    }
+
+    /// Puts the bytes of a place into the filter. A number over 15 changes nothing.
+    #[tactic(auto, unfolding(crate::specs::Places::with_place))]
+    pub fn set(&mut self, place: Place)
+        ensures { self.new ≡ with_place self.old place }
+    {
+        let i = place.number as usize;
+        if i < 16 {
+            self.filter[i] = place.filter;
+            self.mask[i] = place.mask;
+            self.mode[i] = place.mode;
         }
     }
 }

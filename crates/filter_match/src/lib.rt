@@ -8,10 +8,11 @@
 //! What a contract sees: a filter as the record of its three lists, a section as the list of its bytes, and a `Compiled`
 //! as the filter that it was made of.
 //!
-//! What is proved: `Compiled::of` keeps the filter, and `Compiled::selects` answers just `matches` of `specs/Match.antt`,
-//! for any filter and any bytes. `matches_means` has as its contract that `matches` says of each bit what the API says:
-//! a masked bit with mode 0 has to be equal, and of the masked bits with mode 1, where there are any, one has to differ
-//! (`specs/Meaning.antt`).
+//! What is proved: `SectionFilter::of` is the filter with the places that it is given, and `SectionFilter::set` puts one
+//! more into a filter (`specs/Places.antt`). `Compiled::of` keeps the filter, and `Compiled::selects` answers just
+//! `matches` of `specs/Match.antt`, for any filter and any bytes. `matches_means` has as its contract that `matches` says
+//! of each bit what the API says: a masked bit with mode 0 has to be equal, and of the masked bits with mode 1, where there
+//! are any, one has to differ (`specs/Meaning.antt`).
 //!
 //! What is only tested: that this is what a user of the API expects, by filters worked out by hand.
 //!
@@ -26,4 +27,4 @@ mod filter;
 mod tests;
 
 pub use compiled::{Compiled, matches_means};
-pub use filter::SectionFilter;
+pub use filter::{Place, SectionFilter};

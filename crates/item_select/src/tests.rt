@@ -2,102 +2,17 @@
 
 ghost use Rattle.std.specs.Prelude.{◌≡◌, [], OnOk};
 
+mod packets;
+
 use super::*;
-use filter_match::SectionFilter;
+use filter_match::{Place, SectionFilter};
+use packets::{
+    A, A_BEHIND, AB, B, BAD, BYTE, CHECKED, DAMAGED, EMPTY, FULL, NEW, OLD, OTHER, PAT, Sent,
+    VERSIONS, X1, X2, packet_of, x,
+};
 use pid_set::Pids;
 use std::alloc::{AllocError, Global};
 use std::test::*;
-use ts_packet::Packet;
-
-// A packet: its first bytes, and the byte that fills the others.
-#[derive(Clone, Copy, Drop)]
-struct Sent(&'static [u8], u8);
-
-// The sections A and B, and those of the versions 0 and 1 of a table, OLD and NEW. None of them has a CRC.
-const A: [u8; 8] = [0x42, 0x00, 0x05, 1, 2, 3, 4, 5];
-
-const B: [u8; 5] = [0x43, 0x00, 0x02, 0x0a, 0x0b];
-
-const OLD: [u8; 8] = [0x42, 0x00, 0x05, 0x00, 0x01, 0xc1, 0x00, 0x00];
-
-const NEW: [u8; 8] = [0x42, 0x00, 0x05, 0x00, 0x01, 0xc3, 0x00, 0x00];
-
-// The first section of PID 0 that ffmpeg 5.1.9 of Debian 12 writes, with its CRC, and the same with a bit flipped:
-//   ffmpeg -f lavfi -i testsrc=size=64x48:rate=5 -f lavfi -i sine=frequency=440 -t 1 \
-//       -c:v mpeg2video -c:a mp2 -f mpegts out.ts
-const PAT: [u8; 16] = [
-    0x00, 0xb0, 0x0d, 0x00, 0x01, 0xc1, 0x00, 0x00, 0x00, 0x01, 0xf0, 0x00, 0x2a, 0xb1, 0x04, 0xb2,
-];
-
-const DAMAGED: [u8; 16] = [
-    0x00, 0xb0, 0x0d, 0x00, 0x01, 0xc1, 0x00, 0x00, 0x00, 0x01, 0xf0, 0x01, 0x2a, 0xb1, 0x04, 0xb2,
-];
-
-// Packets of PID 256. X in two packets: its first 183 bytes, then its last 20 and A.
-const X1: Sent = Sent(&[0x47, 0x41, 0x00, 0x10, 0x00, 0x40, 0x00, 0xc8], 0x11);
-
-const X2: Sent = Sent(
-    &[
-        0x47, 0x41, 0x00, 0x11, 0x14, 0x11, 0x11, 0x11, 0x11, 0x11, 0x11, 0x11, 0x11, 0x11, 0x11,
-        0x11, 0x11, 0x11, 0x11, 0x11, 0x11, 0x11, 0x11, 0x11, 0x11, 0x42, 0x00, 0x05, 1, 2, 3, 4,
-        5,
-    ],
-    0xff,
-);
-
-// A then B, and A alone behind it.
-const AB: Sent = Sent(
-    &[
-        0x47, 0x41, 0x00, 0x10, 0x00, 0x42, 0x00, 0x05, 1, 2, 3, 4, 5, 0x43, 0x00, 0x02, 0x0a, 0x0b,
-    ],
-    0xff,
-);
-
-const A_BEHIND: Sent = Sent(
-    &[
-        0x47, 0x41, 0x00, 0x11, 0x00, 0x42, 0x00, 0x05, 1, 2, 3, 4, 5,
-    ],
-    0xff,
-);
-
-// The two versions.
-const VERSIONS: Sent = Sent(
-    &[
-        0x47, 0x41, 0x00, 0x10, 0x00, 0x42, 0x00, 0x05, 0x00, 0x01, 0xc1, 0x00, 0x00, 0x42, 0x00,
-        0x05, 0x00, 0x01, 0xc3, 0x00, 0x00,
-    ],
-    0xff,
-);
-
-// The damaged section, the right one, and A.
-const CHECKED: Sent = Sent(
-    &[
-        0x47, 0x41, 0x00, 0x10, 0x00, 0x00, 0xb0, 0x0d, 0x00, 0x01, 0xc1, 0x00, 0x00, 0x00, 0x01,
-        0xf0, 0x01, 0x2a, 0xb1, 0x04, 0xb2, 0x00, 0xb0, 0x0d, 0x00, 0x01, 0xc1, 0x00, 0x00, 0x00,
-        0x01, 0xf0, 0x00, 0x2a, 0xb1, 0x04, 0xb2, 0x42, 0x00, 0x05, 1, 2, 3, 4, 5,
-    ],
-    0xff,
-);
-
-// Packets of PID 256: one with a payload of 184 bytes, one whose adaptation field leaves no payload, one with a payload
-// of one byte, and one with an error and scrambled. Then one of PID 257.
-const FULL: Sent = Sent(&[0x47, 0x01, 0x00, 0x10], 0x21);
-
-const EMPTY: Sent = Sent(&[0x47, 0x01, 0x00, 0x31, 0xb7], 0x00);
-
-const BYTE: Sent = Sent(&[0x47, 0x01, 0x00, 0x31, 0xb6], 0xaa);
-
-const BAD: Sent = Sent(&[0x47, 0x81, 0x00, 0xd2], 0x33);
-
-const OTHER: Sent = Sent(&[0x47, 0x01, 0x01, 0x10], 0x44);
-
-fn packet_of(sent: Sent) -> Packet {
-    let mut bytes = [sent.1; 188];
-    for (byte, first) in bytes.iter_mut().zip(sent.0) {
-        *byte = *first;
-    }
-    Packet::of(bytes).unwrap_or_default()
-}
 
 fn pids_of(pids: &[u16]) -> Pids {
     let mut set = Pids::new();
@@ -105,30 +20,6 @@ fn pids_of(pids: &[u16]) -> Pids {
         let _ = set.add(*pid);
     }
     set
-}
-
-// A place of a filter with its filter, mask and mode byte.
-type Place = (usize, u8, u8, u8);
-
-// The filter with these places; in all others nothing is masked.
-fn filter_of(places: &[Place]) -> SectionFilter {
-    let mut all = SectionFilter::empty();
-    for (place, filter, mask, mode) in places {
-        let i = *place % 16;
-        all.filter[i] = *filter;
-        all.mask[i] = *mask;
-        all.mode[i] = *mode;
-    }
-    all
-}
-
-// X: a header that says 200, and 200 bytes 0x11.
-fn x() -> [u8; 203] {
-    let mut x = [0x11; 203];
-    x[0] = 0x40;
-    x[1] = 0x00;
-    x[2] = 0xc8;
-    x
 }
 
 // The items of these packets, each taken before the next packet is offered.
@@ -160,9 +51,46 @@ type SectionRow = (
     &'static str,
 );
 
+// Any section.
 const ANY: &[Place] = &[];
 
-const TABLE_43: &[Place] = &[(0, 0x43, 0xff, 0x00)];
+// The sections of table 0x42, and of table 0x43.
+const TABLE_42: Place = Place {
+    number: 0,
+    filter: 0x42,
+    mask: 0xff,
+    mode: 0x00,
+};
+
+const TABLE_43: Place = Place {
+    number: 0,
+    filter: 0x43,
+    mask: 0xff,
+    mode: 0x00,
+};
+
+// Those of version 0, and of any version but 0.
+const VERSION_0: Place = Place {
+    number: 3,
+    filter: 0xc1,
+    mask: 0xff,
+    mode: 0x00,
+};
+
+const NOT_VERSION_0: Place = Place {
+    number: 3,
+    filter: 0xc1,
+    mask: 0xff,
+    mode: 0xff,
+};
+
+// Those whose byte 17 is 0, which is behind the end of A.
+const BYTE_17: Place = Place {
+    number: 15,
+    filter: 0x00,
+    mask: 0xff,
+    mode: 0x00,
+};
 
 const SECTIONS: [SectionRow; 15] = [
     (
@@ -175,10 +103,10 @@ const SECTIONS: [SectionRow; 15] = [
     ),
     ("its first half alone", ANY, false, false, &[X1], ""),
     ("two sections in a packet", ANY, false, false, &[AB], "AB"),
-    ("a table", TABLE_43, false, false, &[AB, A_BEHIND], "B"),
+    ("a table", &[TABLE_43], false, false, &[AB, A_BEHIND], "B"),
     (
         "any version but 0",
-        &[(0, 0x42, 0xff, 0x00), (3, 0xc1, 0xff, 0xff)],
+        &[TABLE_42, NOT_VERSION_0],
         false,
         false,
         &[VERSIONS],
@@ -186,7 +114,7 @@ const SECTIONS: [SectionRow; 15] = [
     ),
     (
         "version 0",
-        &[(0, 0x42, 0xff, 0x00), (3, 0xc1, 0xff, 0x00)],
+        &[TABLE_42, VERSION_0],
         false,
         false,
         &[VERSIONS],
@@ -194,7 +122,7 @@ const SECTIONS: [SectionRow; 15] = [
     ),
     (
         "a masked byte behind the end of A",
-        &[(15, 0x00, 0xff, 0x00)],
+        &[BYTE_17],
         false,
         false,
         &[AB],
@@ -214,7 +142,7 @@ const SECTIONS: [SectionRow; 15] = [
     ),
     (
         "once, of a later packet",
-        TABLE_43,
+        &[TABLE_43],
         false,
         true,
         &[X1, X2, AB],
@@ -222,7 +150,7 @@ const SECTIONS: [SectionRow; 15] = [
     ),
     (
         "once, the second of a packet",
-        TABLE_43,
+        &[TABLE_43],
         false,
         true,
         &[AB],
@@ -243,7 +171,7 @@ fn sections_are_selected_as_the_rules_say(rt: HostRuntime) -> Result<(), Fail> {
     let mut selector = Selector::new(rt.alloc())?;
     let x = x();
     for (name, places, check, once, stream, wanted) in SECTIONS {
-        selector.set_sections(256, &filter_of(places), check, once);
+        selector.set_sections(256, &SectionFilter::of(places), check, once);
         let found = items(rt.alloc(), &mut selector, stream)?;
         assert_eq!(rt; found.len(), wanted.len(), "{name}");
         for (item, letter) in found.iter().zip(wanted.bytes()) {
@@ -368,7 +296,7 @@ fn new_pids_name_the_packets_behind_them(rt: HostRuntime) -> Result<(), Fail> {
 
 #[test]
 fn a_filter_that_begins_anew_knows_no_packet(rt: HostRuntime) -> Result<(), Fail> {
-    let any = filter_of(ANY);
+    let any = SectionFilter::of(ANY);
     let mut selector = Selector::new(rt.alloc())?;
     selector.set_sections(256, &any, false, false);
     let first = items(rt.alloc(), &mut selector, &[X1])?;
@@ -392,7 +320,7 @@ fn what_waits_is_gone_where_a_filter_begins_anew(rt: HostRuntime) -> Result<(), 
     selector.offer(&packet_of(FULL));
     selector.restart();
     assert!(rt; selector.item().is_none());
-    selector.set_sections(256, &filter_of(ANY), false, false);
+    selector.set_sections(256, &SectionFilter::of(ANY), false, false);
     selector.offer(&packet_of(AB));
     selector.restart();
     assert!(rt; selector.item().is_none());
@@ -402,7 +330,7 @@ fn what_waits_is_gone_where_a_filter_begins_anew(rt: HostRuntime) -> Result<(), 
 #[test]
 fn a_one_shot_filter_gives_a_section_each_time_it_begins(rt: HostRuntime) -> Result<(), Fail> {
     let mut selector = Selector::new(rt.alloc())?;
-    selector.set_sections(256, &filter_of(ANY), false, true);
+    selector.set_sections(256, &SectionFilter::of(ANY), false, true);
     let first = items(rt.alloc(), &mut selector, &[AB])?;
     assert!(rt; first.len() == 1 && first[0].as_slice() == A.as_slice());
     let behind = items(rt.alloc(), &mut selector, &[A_BEHIND])?;
@@ -416,7 +344,7 @@ fn a_one_shot_filter_gives_a_section_each_time_it_begins(rt: HostRuntime) -> Res
 #[test]
 fn nothing_is_selected_from_the_packets_of_another_pid(rt: HostRuntime) -> Result<(), Fail> {
     let mut selector = Selector::new(rt.alloc())?;
-    selector.set_sections(257, &filter_of(ANY), false, false);
+    selector.set_sections(257, &SectionFilter::of(ANY), false, false);
     let found = items(rt.alloc(), &mut selector, &[X1, X2, AB])?;
     assert!(rt; found.is_empty());
     Ok(())

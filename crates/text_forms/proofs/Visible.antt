@@ -11,10 +11,10 @@ use Rattle.dmx_calls.specs.declared.params.Input.{Input}
 use Rattle.dmx_calls.specs.declared.params.Input.TheVariants as input
 use Rattle.dmx_calls.specs.declared.params.Output.{Output}
 use Rattle.dmx_calls.specs.declared.params.Output.TheVariants as output
+use Rattle.filter_match.specs.declared.filter.Place.{Place}
 use Rattle.text_forms.specs.Words.{input_text, output_text}
 use Rattle.text_forms.specs.Hex.{digit_text, byte_text}
 use Rattle.text_forms.specs.Places.{place_text}
-use Rattle.text_forms.specs.declared.places.Place.{Place}
 use Rattle.text_forms.proofs.Decimals.{decimal-digits}
 
 -- a byte behind the space, which is byte 32

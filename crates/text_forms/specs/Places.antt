@@ -1,13 +1,13 @@
 -- The words that name the bytes of a section filter (this project's own).
-use Rattle.std.specs.Prelude.{◌≡◌, ℕ, ◌<◌, ◌+◌, ◌-◌, ◌==◌, ◌&&◌, Bool, not, List, [], ◌∷◌, ◌++◌, length, take, drop, map, fold, replicate, slice_index, slice_set, nat_eq, Option, Some, None, if◌then◌else◌, codes}
+use Rattle.std.specs.Prelude.{◌≡◌, ℕ, ◌<◌, ◌+◌, ◌-◌, ◌==◌, ◌&&◌, Bool, not, List, [], ◌∷◌, ◌++◌, length, take, drop, map, slice_index, nat_eq, Option, Some, None, if◌then◌else◌, codes}
 use Rattle.std.specs.List.{All, filter, flat_map, list_all}
 use Rattle.std.specs.Option.{option_map, option_and_then}
 use Rattle.std.specs.Fmt.{decimal}
 use Rattle.filter_match.specs.declared.filter.SectionFilter.{SectionFilter}
+use Rattle.filter_match.specs.declared.filter.Place.{Place}
 use Rattle.filter_match.specs.Match.{below}
 use Rattle.text_forms.specs.Hex.{hex_byte, byte_text}
 use Rattle.text_forms.specs.Numbers.{number_between}
-use Rattle.text_forms.specs.declared.places.Place.{Place}
 
 -- ------ written
 
@@ -70,18 +70,6 @@ unfoldable pub places_named : (least : ℕ) → List (List ℕ) → Option (List
 places_named least [] = Some []
 places_named least (word ∷ words) =
     given (place_named least word) (λ place. option_map (λ later. place ∷ later) (places_named (place.number + 1) words))
-
--- the filter with the bytes of one more place
-unfoldable pub with_place : SectionFilter → Place → SectionFilter
-with_place f place = record {
-  filter = slice_set f.filter place.number place.filter;
-  mask = slice_set f.mask place.number place.mask;
-  mode = slice_set f.mode place.number place.mode;
-}
-
--- the filter with these places; in all others the three bytes are 0
-abbrev pub filter_with : List Place → SectionFilter
-filter_with places = fold with_place (record { filter = replicate 16 0; mask = replicate 16 0; mode = replicate 16 0 }) places
 
 -- sixteen bytes
 abbrev pub IsSixteenBytes : List ℕ → Type 0

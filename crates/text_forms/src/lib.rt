@@ -44,5 +44,5 @@ pub use names::{
     write_node, write_slot, write_who,
 };
 pub use number::{number_between, write_decimal};
-pub use places::{Place, place_named, set_place, write_filter};
+pub use places::{place_named, write_filter};
 pub use words::{input_named, is_word, output_named, write_input, write_output};

@@ -2,12 +2,12 @@
 ghost use Rattle.std.specs.Prelude.{◌≡◌, ◌+◌, ◌≤◌, ◌<◌, ◌++◌, length, IfSome, OnOk, OnErr, vec_len, vec_capacity};
 ghost use Rattle.std.specs.Fmt.{decimal};
 ghost use Rattle.filter_match.specs.Match.{below};
-ghost use Rattle.text_forms.specs.Places.{HasBytes, IsFilter, place_text, place_at as place_of_filter, filter_place_text, filter_text, place_with as place_spelled, place_named as place_of_word, with_place};
+ghost use Rattle.text_forms.specs.Places.{HasBytes, place_text, place_at as place_of_filter, filter_place_text, filter_text, place_with as place_spelled, place_named as place_of_word};
 
 use crate::hex::{digits_of, hex_byte};
 use crate::number::number_between;
 use crate::room::put;
-use filter_match::SectionFilter;
+use filter_match::{Place, SectionFilter};
 use itoa::Buffer;
 use std::alloc::AllocError as NoMemory;
 
@@ -22,19 +22,6 @@ const PLACES: usize = 16;
 
 // The most bytes of a place, with the space before it.
 const MOST_BYTES: usize = 12;
-
-/// A place of a section filter, with its filter, mask and mode byte.
-#[derive(Clone, Copy, Debug, PartialEq, Eq, Drop)]
-pub struct Place {
-    /// The number of the place, 0 to 15.
-    pub number: u32,
-    /// The filter byte.
-    pub filter: u8,
-    /// The mask byte.
-    pub mask: u8,
-    /// The mode byte.
-    pub mode: u8,
-}
 
 // A place of a filter.
 fn place_at(filter: &SectionFilter, i: usize) -> Place
@@ -131,17 +118,4 @@ pub fn place_named(least: u32, word: &[u8]) -> Option<Place>
     let (number, bytes) = word.split_at(word.len().saturating_sub(BEHIND_NUMBER));
     let number = number_between(least as u64, LAST_PLACE, number)?;
     place_with(number as u32, bytes)
-}
-
-/// Puts the bytes of a place into the filter.
-#[tactic(auto, unfolding(crate::specs::Places::with_place))]
-pub fn set_place(filter: &mut SectionFilter, place: Place)
-    requires { place.number ≤ 15 }
-    ensures set { filter.new ≡ with_place filter.old place }
-    ensures bytes { IsFilter filter.old → HasBytes place → IsFilter filter.new }
-{
-    let i = place.number as usize;
-    filter.filter[i] = place.filter;
-    filter.mask[i] = place.mask;
-    filter.mode[i] = place.mode;
 }

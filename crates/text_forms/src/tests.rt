@@ -1,12 +1,11 @@
 // Words and their values, worked out by hand from the rules.
 use crate::{
-    Place, client_named, demux_named, hex_byte, input_named, node_named, number_between,
-    output_named, place_named, slot_named, who_named, write_client, write_decimal, write_demux,
-    write_filter, write_hex, write_hex_byte, write_input, write_node, write_output, write_slot,
-    write_who,
+    client_named, demux_named, hex_byte, input_named, node_named, number_between, output_named,
+    place_named, slot_named, who_named, write_client, write_decimal, write_demux, write_filter,
+    write_hex, write_hex_byte, write_input, write_node, write_output, write_slot, write_who,
 };
 use dmx_calls::{Input, Output};
-use filter_match::SectionFilter;
+use filter_match::{Place, SectionFilter};
 use std::test::Fail;
 
 #[test]

@@ -3,7 +3,8 @@ use Rattle.text_forms.specs.Numbers.{value_after}
 use Rattle.text_forms.specs.Hex.{hex_digit, hex_byte}
 use Rattle.text_forms.specs.Words.{input_named, output_named}
 use Rattle.text_forms.specs.Names.{numbered}
-use Rattle.text_forms.specs.Places.{place_with, place_named, with_place}
+use Rattle.filter_match.specs.Places.{with_place}
+use Rattle.text_forms.specs.Places.{place_with, place_named}
 use Rattle.client_script.specs.Words.{word_in}
 use Rattle.client_script.specs.Places.{places_in, filter_in}
 use Rattle.client_script.specs.Grammar.{number_in, numbered_target, target_of, name_of, section_in, pes_in, verb_in, command_in, line_in, line_of, meaning}

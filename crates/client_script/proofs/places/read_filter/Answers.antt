@@ -1,6 +1,6 @@
 use Rattle.std.proofs.Common.{◌≡◌, ◌+◌, ◌-◌, [], refl, ◌∙◌, rules, arith}
 use Rattle.client_script.specs.Places.{filter_in}
-use Rattle.client_script.proofs.Filters.{filter_by, filter_by-full, filter_by-end, filter_by-fault, filter_by-place, zeros-IsFilter}
+use Rattle.client_script.proofs.Filters.{filter_by, filter_by-full, filter_by-end, filter_by-fault, filter_by-place, with_place-IsFilter, zeros-IsFilter}
 use Rattle.client_script.proofs.places.read_filter.Goals as goal
 
 pub places-init : goal.places-init
@@ -20,9 +20,9 @@ returns-in_default-place_named-clause-value c =
 pub places-preserved : goal.places-preserved
 places-preserved c =
     record {
-      read = rw c.set_place.ensures.set (c.places.invariant.read
+      read = rw c.set.ensures (c.places.invariant.read
           ∙ filter_by-place c.places.filter _ (16 - (c.places._place + 1)) c.places.least c.places.words c.in-Some.word.now c.next.new.self c.in-Some-place_named.place (omega arith) (search rules) (search rules));
-      range = search rules;
+      range = rw c.set.ensures (with_place-IsFilter c.places.filter c.in-Some-place_named.place c.places.invariant.range (search rules));
     }
 
 pub returns-clause-value : goal.returns-clause-value
