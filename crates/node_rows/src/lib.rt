@@ -20,7 +20,7 @@ mod want;
 
 pub use cell::{A, Cell, OTHER, P0, P1, P2, P3, batch_of, bytes_of};
 pub use run::odd_row;
-pub use step::{Step, call_of, pes, sections};
+pub use step::{Step, call_of, pes, pids_of, sections};
 pub use want::{DONE, EBADF, EBUSY, EINVAL, Want, is_answered, is_wanted};
 
 /// A caller, its call, the reply.

@@ -85,7 +85,8 @@ pub fn sections(pid: u16, table_id: u8, mask: u8, timeout: u32, flags: u32) -> S
     }
 }
 
-fn pids_of(pids: &[u16]) -> Pids {
+/// The set of these PIDs.
+pub fn pids_of(pids: &[u16]) -> Pids {
     let mut set = Pids::new();
     for pid in pids {
         let _ = set.add(*pid);

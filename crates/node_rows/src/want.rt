@@ -130,8 +130,8 @@ pub fn is_wanted(alloc: Global, reply: &Reply, want: Want) -> Result<bool, NoMem
     })
 }
 
-/// The answer to the call of a step is the wanted one: so is its reply, and just a Read's buffer that the reply doesn't hold and
-/// the batch of packets that passed are handed back.
+/// The answer to the call of a step is as wanted: the reply is, a Read gets its buffer back where the reply doesn't hold it, packets
+/// that passed get their batch back, and nothing else is handed back.
 pub fn is_answered(
     alloc: Global,
     step: Step,

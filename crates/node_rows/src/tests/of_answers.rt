@@ -2,9 +2,10 @@
 
 ghost use Rattle.std.specs.Prelude.{◌≤◌, ◌+◌, length};
 
-use crate::{Cell, DONE, EBADF, EINVAL, P0, P1, Step, Want, batch_of, is_answered, is_wanted};
+use crate::{
+    Cell, DONE, EBADF, EINVAL, P0, P1, Step, Want, batch_of, is_answered, is_wanted, pids_of,
+};
 use dmx_calls::{Answer, ByteBuf, Errno, PollError, Reply, Span, Tap};
-use pid_set::Pids;
 use std::alloc::{AllocError as NoMemory, Global};
 
 fn done(from: u64, to: u64, tap: Tap) -> Reply {
@@ -13,11 +14,7 @@ fn done(from: u64, to: u64, tap: Tap) -> Reply {
 }
 
 fn attach(pids: &[u16]) -> Tap {
-    let mut set = Pids::new();
-    for pid in pids {
-        let _ = set.add(*pid);
-    }
-    Tap::Attach(set)
+    Tap::Attach(pids_of(pids))
 }
 
 fn data(alloc: Global, bytes: &[u8]) -> Result<Reply, NoMemory>
