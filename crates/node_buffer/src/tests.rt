@@ -1,7 +1,5 @@
 //! A buffer driven by calls. The expected values were worked out by hand from the rules.
 
-ghost use Rattle.std.specs.Prelude.{◌≤◌};
-
 mod of_bytes;
 mod of_sections;
 mod of_timeouts;

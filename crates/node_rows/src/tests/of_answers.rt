@@ -1,6 +1,6 @@
 //! Which replies and answers are the wanted ones.
 
-ghost use Rattle.std.specs.Prelude.{◌≤◌, ◌+◌, length};
+ghost use Rattle.std.specs.Prelude.{◌≤◌, length};
 
 use crate::{
     Cell, DONE, EBADF, EINVAL, P0, P1, Step, Want, batch_of, is_answered, is_wanted, pids_of,

@@ -1,7 +1,5 @@
 //! Rows done on a node whose replies tell what it was called.
 
-ghost use Rattle.std.specs.Prelude.{◌≡◌, ◌+◌, ◌<◌, ◌^◌};
-
 use crate::{Cell, DONE, OPEN, OTHER, P0, P1, P2, P3, Row, Step, Want, odd_row};
 use dmx_calls::{Answer, Call, Input, Reply, Span, Tap};
 use machine::Machine;
