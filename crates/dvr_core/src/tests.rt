@@ -1,12 +1,8 @@
 //! Taps against cases worked out by hand from the rules.
 
 use crate::taps::Taps;
-use pid_set::Pids;
-use std::alloc::{AllocError as NoMemory, Global};
-use std::sync::Arc;
+use node_rows::{Cell, batch_of, pids_of};
 use std::test::Fail;
-use ts_batch::Batch;
-use ts_packet::{Packet, PacketBuf};
 
 /// One step with the taps: the client, the number of the demux node and, of an attach, the PIDs.
 #[derive(Clone, Copy)]
@@ -17,8 +13,13 @@ enum Step {
 
 use Step::{Attach, Detach};
 
-// The PIDs of the packets that are asked for after each step.
-const ASKED: [u16; 4] = [0, 256, 257, 8191];
+// The packets that are asked for after each step.
+const ASKED: [Cell; 4] = [
+    Cell::P(0, 0),
+    Cell::P(256, 0),
+    Cell::P(257, 0),
+    Cell::P(8191, 0),
+];
 
 const NONE: [bool; 4] = [false; 4];
 
@@ -82,41 +83,9 @@ const CASES: [(&str, &[(Step, [bool; 4])]); 5] = [
     ("no such node", &NO_SUCH_NODE),
 ];
 
-fn pids_of(pids: &[u16]) -> Pids {
-    let mut set = Pids::new();
-    for pid in pids {
-        let _ = set.add(*pid);
-    }
-    set
-}
-
-// A packet of this PID, with a payload of bytes 0xFF.
-fn packet_of(pid: u16) -> Packet {
-    let mut bytes = [0xff; 188];
-    bytes[0] = 0x47;
-    bytes[1] = (pid >> 8) as u8;
-    bytes[2] = (pid & 0xff) as u8;
-    bytes[3] = 0x10;
-    Packet::of(bytes).unwrap_or_default()
-}
-
-// A batch of the packets that are asked for.
-fn asked(alloc: Global) -> Result<Option<Arc<Batch>>, NoMemory> {
-    let mut packets = PacketBuf::new();
-    for pid in ASKED {
-        if packets.len() < 64 {
-            packets.push(packet_of(pid));
-        }
-    }
-    if packets.len() == 0 {
-        return Ok(None);
-    }
-    Ok(Some(Batch::of(alloc, 0, &packets)?))
-}
-
 #[test]
 fn taps_name_packets(rt: HostRuntime) -> Result<(), Fail> {
-    let batch = asked(rt.alloc())?.ok_or("no batch")?;
+    let batch = batch_of(rt.alloc(), &ASKED)?.ok_or("no batch")?;
     assert_eq!(rt; batch.count(), 4);
     for (name, steps) in CASES {
         let mut taps = Taps::new();

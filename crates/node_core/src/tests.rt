@@ -1,24 +1,30 @@
 //! A node driven by calls. The expected replies were worked by hand from the rules.
 
-ghost use Rattle.std.specs.Prelude.{◌≡◌, ◌<◌};
-
-mod acting;
 mod of_packets;
 mod of_recordings;
 mod of_sections;
-mod packets;
+mod of_timeouts;
 
 use crate::NodeCore;
-use acting::{
-    EBADF, EBUSY, EINVAL, OPEN, Row, START, Step, WHOLE, Want, ask, check, feed, is_wanted,
+use dmx_calls::Errno;
+use node_rows::{
+    Cell, DONE, EBADF, EBUSY, EINVAL, OPEN, OTHER, P0, P1, P2, P3, Row, START, Step, WHOLE, Want,
+    odd_row,
 };
-use dmx_calls::{Errno, Input};
-use packets::{Cell, OTHER, P0, P1, P2, P3};
 use std::alloc::{AllocError as NoMemory, Global};
-use std::marker::Brand;
 use std::process::Abort;
-use std::sync::ledger::{Blank, Ledger};
-use steps::Steps;
+
+/// A new node answers all rows as wanted, whether its packets pass one by one or in batches.
+fn check<A: Abort>(rt: &A, alloc: Global, rows: &[Row]) -> Result<(), NoMemory> {
+    for most in [1, 3, 64] {
+        let node = NodeCore::new(alloc, 0);
+        assert_eq!(rt; node.entries(), 0);
+        if let Some(number) = odd_row(alloc, node, 0, rows, most)? {
+            panic!(rt; "row {number}, in batches of {most}");
+        }
+    }
+    Ok(())
+}
 
 const READS: &[Row] = &[
     OPEN,
@@ -141,7 +147,7 @@ const DROPS: &[Row] = &[
     // a filter that starts at once, of every packet
     (1, Step::Whole(0x2000, 4), Want::Done(0, 188)),
     (0, Step::Feed(&[OTHER, P2]), Want::Passed),
-    (0, Step::Write, Want::Passed),
+    (0, Step::Write(&[P0]), Want::Passed),
     (
         1,
         Step::Read(4096),
@@ -251,42 +257,7 @@ fn a_size_is_set_by_the_state_of_the_node(rt: HostRuntime) -> Result<(), NoMemor
     check(&rt, rt.alloc(), SIZES)
 }
 
-/// On a node of this size whole packets pass, one more than it holds, and then it is read.
-fn fill<L: Ledger, A: Abort>(
-    rt: &A,
-    alloc: Global,
-    size: u32,
-    packets: usize,
-    want: Want,
-    blank: Blank,
-) -> Result<(), NoMemory>
-    requires ledger { (blank.name ≡ L.name) × (blank.parts ≡ L.parts) × (0 < L.parts) }
-{
-    let mut steps = Steps::<L>::new(blank);
-    let mut node = NodeCore::new(alloc, 31);
-    for step in [Step::Open, Step::Size(size), Step::Whole(256, 4)] {
-        assert!(rt; node.entries() < 1_000_000);
-        let reply = ask(alloc, &mut node, &mut steps, 1, step, 0)?;
-        assert!(rt; is_wanted(alloc, &reply, Want::Done(0, 0))?);
-    }
-    let cells = vec![in alloc; P0; packets]?;
-    feed(
-        rt,
-        alloc,
-        &mut node,
-        &mut steps,
-        Input::Frontend,
-        &cells,
-        0,
-        64,
-    )?;
-    assert!(rt; node.entries() < 1_000_000);
-    let reply = ask(alloc, &mut node, &mut steps, 1, Step::Read(65_536), 0)?;
-    assert!(rt; is_wanted(alloc, &reply, want)?, "size {size}");
-    Ok(())
-}
-
-// A buffer of n bytes holds n - 1: as many packets of 188 bytes as fit into that, and then the room that is left.
+// On a node of this size so many whole packets pass, and then it is read. A buffer of n bytes holds n - 1: as many packets of 188 bytes as fit into that, and then the room that is left.
 const FULL: &[(u32, usize, Want)] = &[
     (2, 1, Want::Overflow(0, 188, 0, 188, 1)),
     (188, 1, Want::Overflow(0, 188, 0, 188, 187)),
@@ -305,7 +276,17 @@ const FULL: &[(u32, usize, Want)] = &[
 #[test]
 fn a_buffer_holds_one_byte_less_than_its_size(rt: HostRuntime) -> Result<(), NoMemory> {
     for (size, packets, want) in FULL {
-        fill::<Brand, HostRuntime>(&rt, rt.alloc(), *size, *packets, *want, Blank::new(1))?;
+        let node = NodeCore::new(rt.alloc(), 31);
+        assert_eq!(rt; node.entries(), 0);
+        let rows = [
+            OPEN,
+            (1, Step::Size(*size), DONE),
+            (1, Step::Whole(256, 4), DONE),
+            (0, Step::Many(P0, *packets), Want::Passed),
+            (1, Step::Read(65_536), *want),
+        ];
+        let odd = odd_row(rt.alloc(), node, 0, &rows, 64)?;
+        assert_eq!(rt; odd, None, "size {size}");
     }
     Ok(())
 }

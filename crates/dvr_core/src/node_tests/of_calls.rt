@@ -1,7 +1,8 @@
 //! Reads, sizes, refusals and polls.
 
-use super::{ALL, DONE, EBADF, EINVAL, OPEN, P0, P1, P2, P3, Row, Step, Want, check};
+use super::{ALL, check};
 use dmx_calls::PollError;
+use node_rows::{DONE, EBADF, EINVAL, OPEN, P0, P1, P2, P3, Row, Step, Want};
 use std::alloc::AllocError as NoMemory;
 
 const PIECES: &[Row] = &[
@@ -15,7 +16,7 @@ const PIECES: &[Row] = &[
     (1, Step::Read(65_536), Want::Data(&[(P1, 16, 188)])),
     (1, Step::Read(65_536), Want::Again(false)),
     // packets of another input aren't recorded
-    (0, Step::Write, Want::Passed),
+    (0, Step::Write(&[P0]), Want::Passed),
     (1, Step::Read(65_536), Want::Again(false)),
     // there is no demux node above 31: the tap of node 0 is neither replaced nor detached
     (1, Step::Attach(32, &[]), DONE),
@@ -74,10 +75,10 @@ fn another_size_begins_another_capture(rt: HostRuntime) -> Result<(), NoMemory> 
 const REFUSALS: &[Row] = &[
     // the node is free
     (1, Step::Close, EBADF),
-    (1, Step::SetFilter, EBADF),
-    (1, Step::SetPes, EBADF),
-    (1, Step::Add, EBADF),
-    (1, Step::Remove, EBADF),
+    (1, Step::Sections(256, 0, 0), EBADF),
+    (1, Step::Record(256, 4), EBADF),
+    (1, Step::Add(256), EBADF),
+    (1, Step::Remove(256), EBADF),
     (1, Step::Start, EBADF),
     (1, Step::Stop, EBADF),
     (1, Step::Size(1), EBADF),
@@ -88,20 +89,20 @@ const REFUSALS: &[Row] = &[
     (2, Step::Open, Want::Busy(1)),
     // another caller
     (2, Step::Close, EBADF),
-    (2, Step::SetFilter, EBADF),
-    (2, Step::SetPes, EBADF),
-    (2, Step::Add, EBADF),
-    (2, Step::Remove, EBADF),
+    (2, Step::Sections(256, 0, 0), EBADF),
+    (2, Step::Record(256, 4), EBADF),
+    (2, Step::Add(256), EBADF),
+    (2, Step::Remove(256), EBADF),
     (2, Step::Start, EBADF),
     (2, Step::Stop, EBADF),
     (2, Step::Size(1_925_120), EBADF),
     (2, Step::Read(0), EBADF),
     (2, Step::Poll, EBADF),
     // calls for filters
-    (1, Step::SetFilter, EINVAL),
-    (1, Step::SetPes, EINVAL),
-    (1, Step::Add, EINVAL),
-    (1, Step::Remove, EINVAL),
+    (1, Step::Sections(256, 0, 0), EINVAL),
+    (1, Step::Record(256, 4), EINVAL),
+    (1, Step::Add(256), EINVAL),
+    (1, Step::Remove(256), EINVAL),
     (1, Step::Start, EINVAL),
     (1, Step::Stop, EINVAL),
     // anybody attaches, and nothing was changed

@@ -2,7 +2,8 @@
 
 ghost use Rattle.dvr_core.specs.Examples.{ThreeOf64, EachOnce, All64, NoLook};
 
-use super::{Cell, DONE, OPEN, OTHER, P0, P1, P2, P3, Row, Step, Want, check};
+use super::check;
+use node_rows::{Cell, DONE, OPEN, OTHER, P0, P1, P2, P3, Row, Step, Want};
 use std::alloc::AllocError as NoMemory;
 
 // Two taps name the packets of PID 256, one of them every packet.
@@ -102,7 +103,7 @@ fn taps_outlast_the_owner(rt: HostRuntime) -> Result<(), NoMemory> {
 }
 
 // 64 packets, of which those in the places 0, 31 and 63 have PID 256.
-const N: Cell = (17, 0);
+const N: Cell = Cell::P(17, 0);
 
 const MANY: &[Cell] = &[
     P0, N, N, N, N, N, N, N, N, N, N, N, N, N, N, N, N, N, N, N, N, N, N, N, N, N, N, N, N, N, N,

@@ -1,24 +1,14 @@
 //! The PIDs of a filter of packets, polls, and what is refused.
 
-ghost use Rattle.std.specs.Prelude.{◌≡◌, ◌<◌};
-
-use super::acting::{
-    EBADF, EBUSY, EINVAL, OPEN, Row, START, Step, WHOLE, Want, ask, check, is_wanted,
-};
-use super::packets::{Cell, OTHER, P0, P1, P2, P3};
-use crate::NodeCore;
+use super::check;
 use dmx_calls::{Errno, PollError};
-use std::alloc::{AllocError as NoMemory, Global};
-use std::marker::Brand;
-use std::process::Abort;
-use std::sync::ledger::{Blank, Ledger};
-use steps::Steps;
+use node_rows::{
+    A, AGAIN, Cell, DONE, EBADF, EBUSY, EINVAL, OPEN, OTHER, P0, P1, P2, P3, Row, START, Step,
+    WHOLE, Want,
+};
+use std::alloc::AllocError as NoMemory;
 
-const UA: Cell = Cell::U(256, 0, &[0x42, 0x00, 0x05, 1, 2, 3, 4, 5]);
-
-const DONE: Want = Want::Done(0, 0);
-
-const AGAIN: Row = (1, Step::Read(4096), Want::Again(false));
+const UA: Cell = Cell::U(256, 0, A);
 
 const PIDS: &[Row] = &[
     OPEN,
@@ -116,33 +106,23 @@ fn a_filter_of_payloads_has_one_pid(rt: HostRuntime) -> Result<(), NoMemory> {
     check(&rt, rt.alloc(), ONE_PID)
 }
 
-/// PIDs are added until the filter has 32.
-fn fill<L: Ledger, A: Abort>(rt: &A, alloc: Global, blank: Blank) -> Result<(), NoMemory>
-    requires ledger { (blank.name ≡ L.name) × (blank.parts ≡ L.parts) × (0 < L.parts) }
-{
-    let mut steps = Steps::<L>::new(blank);
-    let mut node = NodeCore::new(alloc, 0);
-    let mut rows = vec![in alloc; (Step::Open, DONE), (Step::Whole(0, 0), DONE)]?;
-    for pid in 1..32 {
-        rows.push((Step::Add(pid), DONE))?;
-    }
-    rows.push((Step::Add(32), Want::Refused(Errno::Enospc)))?;
-    rows.push((Step::Add(0x2000), Want::Refused(Errno::Enospc)))?;
-    rows.push((Step::Add(31), DONE))?;
-    rows.push((Step::Remove(0), DONE))?;
-    rows.push((Step::Add(32), DONE))?;
-    rows.push((Step::Add(0), Want::Refused(Errno::Enospc)))?;
-    for (number, (step, want)) in rows.iter().enumerate() {
-        assert!(rt; node.entries() < 1_000_000);
-        let reply = ask(alloc, &mut node, &mut steps, 1, *step, 0)?;
-        assert!(rt; is_wanted(alloc, &reply, *want)?, "row {number}");
-    }
-    Ok(())
-}
+const ENOSPC: Want = Want::Refused(Errno::Enospc);
 
 #[test]
 fn a_filter_has_at_most_32_pids(rt: HostRuntime) -> Result<(), NoMemory> {
-    fill::<Brand, HostRuntime>(&rt, rt.alloc(), Blank::new(1))
+    let mut rows = vec![in rt.alloc(); OPEN, (1, Step::Whole(0, 0), DONE)]?;
+    for pid in 1..32 {
+        rows.push((1, Step::Add(pid), DONE))?;
+    }
+    rows.extend_from_slice(&[
+        (1, Step::Add(32), ENOSPC),
+        (1, Step::Add(0x2000), ENOSPC),
+        (1, Step::Add(31), DONE),
+        (1, Step::Remove(0), DONE),
+        (1, Step::Add(32), DONE),
+        (1, Step::Add(0), ENOSPC),
+    ])?;
+    check(&rt, rt.alloc(), &rows)
 }
 
 const QUIET: Row = (

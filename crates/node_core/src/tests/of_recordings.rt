@@ -1,11 +1,9 @@
 //! What Done tells of the tap of a node whose packets go to the dvr node.
 
-use super::acting::{EBADF, EBUSY, EINVAL, OPEN, Row, Step, Want, check};
-use super::packets::{OTHER, P0};
+use super::check;
 use dmx_calls::PollError;
+use node_rows::{DONE, EBADF, EBUSY, EINVAL, OPEN, OTHER, P0, Row, Step, Want};
 use std::alloc::AllocError as NoMemory;
-
-const DONE: Want = Want::Done(0, 0);
 
 const PIDS: &[Row] = &[
     OPEN,

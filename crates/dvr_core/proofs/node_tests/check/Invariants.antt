@@ -1,5 +1,0 @@
-use Rattle.dvr_core.proofs.node_tests.check.Given as goal
-
--- a ledger of its own
-abbrev pub ghosts-run : goal.ghosts-run
-ghosts-run g a = record { name = a.blank.name; parts = a.blank.parts }
