@@ -9,13 +9,13 @@ use Rattle.dmx_calls.specs.Invocation.{Invocation, Open, Close, SetFilter, SetPe
 use Rattle.dmx_calls.specs.declared.reply.Tap.{Tap as TapChange}
 use Rattle.dmx_calls.specs.declared.reply.Tap.TheVariants.{Keep as KeepTap}
 use Rattle.dmx_calls.specs.Response.{Response, Done, Busy, Refused, Passed, is_accepted}
-use Rattle.dmx_calls.specs.History.{History, entry_of, Since}
-use Rattle.dmx_calls.specs.Tenure.{tenure, owner}
+use Rattle.dmx_calls.specs.History.{History, entry_of}
 use Rattle.dmx_calls.specs.Rules.{dvr}
 use Rattle.dmx_calls.specs.Facts.{Ledger, Facts, facts}
 use Rattle.dmx_calls.specs.Refusal.{is_bad_argument, is_for_filters}
 use Rattle.dmx_calls.specs.Answer.{is_for_anybody, is_owned_by, is_same_size, refusal_to, done_dropping, response_to, answer}
 use Rattle.node_buffer.specs.Inside.Coherent.{CoherentIn}
+use Rattle.node_buffer.proofs.Owners.{holds}
 use Rattle.dvr_core.specs.Inside.Step.{moved, next}
 use Rattle.dvr_core.specs.Inside.Gives.{settled}
 use Rattle.dvr_core.proofs.Moves.{known, Moves, known_refused, open_moves, close_moves, Silent, attach_moves, detach_moves, poll_moves, size_moves, end_moves, pass_moves}
@@ -55,20 +55,6 @@ module _ (h : History) (who : ℕ) (call : Invocation) where
     by_refusal : (o : Option Errno) → refusal_to Dvr (facts dvr h) who call ≡ o → Agrees h who call (settled (known h) who call)
     by_refusal (Some x) is = refused_case x is
     by_refusal None is = granted_case (granted is) is
-
--- who isn't refused owns the node, but for the calls that anybody makes
-owned : (f : Facts) (who : ℕ) (call : Invocation) → is_for_anybody Dvr call ≡ false → refusal_to Dvr f who call ≡ None → is_owned_by who f.owner ≡ true
-owned f who call not_all is = by_test (is_owned_by who f.owner) refl where
-  by_test : (b : Bool) → is_owned_by who f.owner ≡ b → is_owned_by who f.owner ≡ true
-  by_test true y = y
-  by_test false n = absurd (let none : Some Ebadf ≡ None = rw (not_all, n) at is in cc)
-
-holds : (h : History) (who : ℕ) (call : Invocation) → is_for_anybody Dvr call ≡ false → refusal_to Dvr (facts dvr h) who call ≡ None → (t : Since) × (tenure h ≡ Some t)
-unfolding facts owner
-holds h who call not_all is = by_tenure (tenure h) refl (owned (facts dvr h) who call not_all is) where
-  by_tenure : (o : Option Since) → tenure h ≡ o → is_owned_by who (facts dvr h).owner ≡ true → (t : Since) × (tenure h ≡ Some t)
-  by_tenure None none own = absurd (let nay : false ≡ true = rw none at own in cc)
-  by_tenure (Some t) held own = (t, held)
 
 -- calls for filters are always refused
 refused_always : (f : Facts) (who : ℕ) (call : Invocation) → is_for_anybody Dvr call ≡ false → is_same_size f call ≡ false → is_for_filters call ≡ true
@@ -110,7 +96,7 @@ module _ (h : History) (who : ℕ) (sound : CoherentIn (facts dvr h).ledger) whe
 
   case_set_size : (n : ℕ) → Agrees h who (SetSize n) (settled (known h) who (SetSize n))
   case_set_size n = decided h who (SetSize n) (λ is.
-      let t = holds h who (SetSize n) refl is in
+      let t = holds dvr h who (SetSize n) refl is in
       let silent = dropping_unless h who (nat_eq n (facts dvr h).size) (facts dvr h).ledger _ in
       record { told = size_moves h sound who Passed (silent_passed h who) t.0 t.1 n; ok = silent.ok; moves = size_moves h sound who _ silent t.0 t.1 n })
 

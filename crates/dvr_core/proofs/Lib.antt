@@ -11,4 +11,3 @@ pub mod Cases
 pub mod Standing
 pub mod Causing
 pub mod LastReply
-pub mod Owners

@@ -1,7 +1,8 @@
 -- What is known of the history with one entry more, as the step of what was known before.
-use Rattle.std.proofs.Common.{ℕ, ◌≡◌, refl, ◌∙◌, ap, Bool, true, false, ◌||◌, List, [], ◌∷◌, Option, Some, None, map}
-use Rattle.std.specs.Prelude.{nat_eq, option_map}
+use Rattle.std.proofs.Common.{ℕ, ◌≡◌, refl, ◌∙◌, ap, Bool, true, false, ◌||◌, List, [], ◌∷◌, Option, Some, map}
+use Rattle.std.specs.Prelude.{nat_eq}
 use Rattle.std.specs.List.{range_with_len}
+use Rattle.std.proofs.lemmas.Iterator.Adapters.{option_map_id}
 use Rattle.std.proofs.lemmas.Bool.{eqb-true}
 use Rattle.dmx_calls.specs.declared.params.Input.{Input}
 use Rattle.dmx_calls.specs.declared.params.Input.TheVariants.{Frontend}
@@ -15,7 +16,7 @@ use Rattle.dmx_calls.specs.Items.{packets_in}
 use Rattle.dmx_calls.specs.Taps.{Tap, tap_after, tap_of}
 use Rattle.dmx_calls.specs.Rules.{dvr}
 use Rattle.dmx_calls.specs.Ledger.{answered_in, is_overflow}
-use Rattle.dmx_calls.specs.Facts.{Ledger, Facts, ledger_at, facts}
+use Rattle.dmx_calls.specs.Facts.{Facts, ledger_at, facts}
 use Rattle.dmx_calls.proofs.LawsHold.{dvr_facts_refused}
 use Rattle.node_buffer.specs.Inside.Coherent.{Coherent, CoherentIn}
 use Rattle.dvr_core.specs.Tapped.{taps_of}
@@ -67,17 +68,13 @@ pub coherent : (h : History) → CoherentIn (facts dvr h).ledger → (s : Since)
 unfolding facts
 coherent h sound s runs = rw runs at sound
 
-same_ledger : (o : Option Ledger) → option_map (λ (l : Ledger). l) o ≡ o
-same_ledger None = refl
-same_ledger (Some l) = refl
-
 module _ (h : History) (sound : CoherentIn (facts dvr h).ledger) where
   -- an entry that answers no bytes, and with which no packet passes
   module _ (e : Entry) (stays : Stays e h) (quiet : is_overflow (event e h) ≡ false) (nothing : answered_in (event e h) ≡ 0) (none : packets_in Frontend (event e h) ≡ []) where
     facts_same : facts dvr (e ∷ h) ≡ record (facts dvr h) { has_ended = is_end (event e h) || has_ended h }
     facts_same =
         facts_goes e h stays (λ l. l) (λ s runs. ledger_recorded e h s stays runs (coherent h sound s runs) quiet nothing ∙ rw none refl)
-        ∙ ap (λ l. record (facts dvr h) { has_ended = is_end (event e h) || has_ended h; ledger = l }) (same_ledger (facts dvr h).ledger)
+        ∙ ap (λ l. record (facts dvr h) { has_ended = is_end (event e h) || has_ended h; ledger = l }) (option_map_id (facts dvr h).ledger)
 
   module _ (who : ℕ) (r : Response) (silent : Silent h who r) where
     pub attach_moves : (node : ℕ) (pids : List ℕ) → Moves h who (Attach node pids) r

@@ -9,7 +9,7 @@ use Rattle.dmx_calls.specs.Ledger.{Misfit}
 use Rattle.dmx_calls.specs.Facts.{Ledger, Facts}
 use Rattle.dmx_calls.specs.Answer.{most_bytes, read_bytes, read_timeout, read_over, read_response, expired_of, open_response, done_dropping, response_to}
 
-dropping_accepted : (o : Option Ledger) (tap : TapChange) → is_accepted (done_dropping o tap) ≡ true
+pub dropping_accepted : (o : Option Ledger) (tap : TapChange) → is_accepted (done_dropping o tap) ≡ true
 dropping_accepted None tap = refl
 dropping_accepted (Some l) tap = refl
 

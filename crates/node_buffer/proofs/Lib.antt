@@ -4,5 +4,6 @@ pub mod Arrivals
 pub mod Answering
 pub mod Readings
 pub mod Accepted
+pub mod Owners
 pub mod ReadCausing
 pub mod Causing

@@ -13,4 +13,3 @@ pub mod Standing
 pub mod Causing
 pub mod ByValues
 pub mod LastReply
-pub mod Owners

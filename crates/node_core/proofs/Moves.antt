@@ -1,6 +1,7 @@
 -- What is known of the history with one entry more, as the step of what was known before: calls by which a capture goes on.
 use Rattle.std.proofs.Common.{ℕ, ◌≡◌, refl, ◌∙◌, ap, Bool, true, false, ◌||◌, List, [], ◌∷◌, Option, Some, None, zero-add}
 use Rattle.std.specs.Prelude.{nat_eq, option_map}
+use Rattle.std.proofs.lemmas.Iterator.Adapters.{option_map_id}
 use Rattle.pid_set.specs.Pids.{with_pid, without_pid}
 use Rattle.dmx_calls.specs.declared.params.Input.{Input}
 use Rattle.dmx_calls.specs.declared.reply.PollError.{PollError}
@@ -115,16 +116,12 @@ module _ (h : History) (k : Selecting) (t : Since) (who : ℕ) (call : Invocatio
   facts_silent names named step each =
       facts_goes quiet_entry h t stays held names named step (λ s runs. ledger_silent s runs ∙ each (ledger_at demux h) (never h))
 
-  same_of : (o : Option Ledger) → option_map (λ (l : Ledger). l) o ≡ o
-  same_of None = refl
-  same_of (Some l) = refl
-
   -- it changes nothing of the capture
   pub facts_same : (names : List ℕ) → pids (quiet_entry ∷ h) ≡ names → stops (event quiet_entry h) ≡ false → clock_of (event quiet_entry h) ≡ None
       → facts demux (quiet_entry ∷ h) ≡ record (facts demux h) { has_ended = is_end (event quiet_entry h) || has_ended h; pids = names }
   facts_same names named no_stop no_clock =
       facts_silent names named (λ l. l) (λ l calm. rw (no_stop, no_clock) (ap (λ x. record l { expired = x }) (unclocked (params h) l false calm)))
-      ∙ ap (λ l. record (facts demux h) { has_ended = is_end (event quiet_entry h) || has_ended h; pids = names; ledger = l }) (same_of (facts demux h).ledger)
+      ∙ ap (λ l. record (facts demux h) { has_ended = is_end (event quiet_entry h) || has_ended h; pids = names; ledger = l }) (option_map_id (facts demux h).ledger)
 
   pub selected_silent : HasSelected (quiet_entry ∷ h) k
   selected_silent = selected_goes quiet_entry h t stays held k k has (λ s runs. selected_quiet quiet_entry h t s stays held runs k none)
