@@ -9,7 +9,6 @@ use Rattle.pid_set.specs.declared.set.TheConstants.{ALL_PACKETS}
 use Rattle.dmx_calls.specs.declared.reply.Errno.{Errno}
 use Rattle.dmx_calls.specs.declared.reply.Errno.TheVariants.{Ebadf, Einval}
 use Rattle.dmx_calls.specs.Invocation.{Invocation, Open, Close, SetFilter, SetPes, AddPid, RemovePid, Start, Stop, SetSize, Read, Poll, Pass, End, Attach, Detach}
-use Rattle.dmx_calls.specs.declared.reply.Tap.{Tap as TapChange}
 use Rattle.dmx_calls.specs.declared.reply.Tap.TheVariants.{Keep as KeepTap}
 use Rattle.dmx_calls.specs.Response.{Response, Done, Busy, Refused, Passed, is_accepted}
 use Rattle.dmx_calls.specs.History.{Entry, History, entry_of, Since}
@@ -17,18 +16,19 @@ use Rattle.dmx_calls.specs.Tenure.{tenure, size, Params, setting}
 use Rattle.dmx_calls.specs.Capture.{capture}
 use Rattle.dmx_calls.specs.Rules.{demux}
 use Rattle.dmx_calls.specs.Ledger.{over}
-use Rattle.dmx_calls.specs.Facts.{Ledger, Facts, ledger_of, facts, state_of}
+use Rattle.dmx_calls.specs.Facts.{Facts, ledger_of, facts, state_of}
 use Rattle.dmx_calls.specs.Refusal.{is_allocated, is_pes, add_refusal}
-use Rattle.dmx_calls.specs.Answer.{is_owned_by, refusal_to, read_response, done_dropping, response_to, with_call, answer}
+use Rattle.dmx_calls.specs.Answer.{is_owned_by, refusal_to, read_response, response_to, with_call, answer}
 use Rattle.dmx_calls.proofs.Going.{setting_some}
 use Rattle.dmx_calls.proofs.After.{params_refused, capture_refused, offered_refused, items_refused, facts_refused}
 use Rattle.item_select.specs.Selecting.{Selecting}
 use Rattle.node_buffer.proofs.Owners.{owned, holds}
+use Rattle.node_buffer.proofs.Silences.{Silent, as_done, as_ready, as_passed, accepted_of, dropping, dropping_unless}
 use Rattle.node_core.specs.Inside.Step.{moved, next}
 use Rattle.node_core.specs.Offers.{HasSelected}
 use Rattle.node_core.specs.Inside.Sound.{IsSound}
 use Rattle.node_core.specs.Inside.Gives.{settled}
-use Rattle.node_core.proofs.Moves.{known, Moves, Silent, as_done, as_ready, as_passed, accepted_of, stop_moves, poll_moves, same_size_moves, add_moves, remove_moves, end_moves}
+use Rattle.node_core.proofs.Moves.{known, Moves, stop_moves, poll_moves, same_size_moves, add_moves, remove_moves, end_moves}
 use Rattle.node_core.proofs.Begins.{open_moves, close_moves, start_moves, set_filter_moves, set_pes_moves, resized_moves}
 use Rattle.node_core.proofs.Passes.{pass_moves}
 use Rattle.node_core.proofs.Reading.{ReadGives, read_moves, read_shape, gives_nothing}
@@ -112,19 +112,7 @@ always_refused : (own : Bool) → (if not own then Some Ebadf else Some Einval) 
 always_refused true is = cc
 always_refused false is = cc
 
--- ------ calls that answer no bytes
-
-dropping : (o : Option Ledger) (tap : TapChange) → Silent (done_dropping o tap)
-dropping None tap = as_done 0 0 tap
-dropping (Some l) tap = as_done l.answered l.total tap
-
-dropping_unless : (b : Bool) (o : Option Ledger) (tap : TapChange) → Silent (if b then Done 0 0 KeepTap else done_dropping o tap)
-dropping_unless true o tap = as_done 0 0 KeepTap
-dropping_unless false o tap = dropping o tap
-
-size_is : (h : History) → (facts demux h).size ≡ size h
-unfolding facts
-size_is h = refl
+-- ------ the calls
 
 module _ (h : History) (k : Selecting) (who : ℕ) (sound : IsSound (known h k)) (has : HasSelected h k) where
   case_open : Agrees h k who Open (settled (known h k) who Open)
