@@ -19,7 +19,7 @@ module _ (k : Knows) (count : ℕ) (r : Response) (said : r ≡ read_by k.facts.
   by_facts : r ≡ read_response k.facts k.facts.ledger (expired_of k.facts.ledger) count
   by_facts = said ∙ read_now k.facts k.facts.ledger count
 
-  pub read-said : r ≡ reply_to k (Read 0 count)
+  pub read-said : r ≡ reply_to k 0 (Read 0 count)
   read-said = by_facts ∙ ap (λ o. read_response k.facts k.facts.ledger (expired_of o) count) (sym (as_before k.facts.ledger))
 
   pub read-after : (left : Option Ledger) → left ≡ option_map (with_response false r) k.facts.ledger → record k { facts = record k.facts { ledger = left } } ≡ next k 0 (Read 0 count) r

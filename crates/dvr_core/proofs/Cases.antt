@@ -6,19 +6,19 @@ use Rattle.dmx_calls.specs.declared.params.Input.{Input}
 use Rattle.dmx_calls.specs.declared.reply.Errno.{Errno}
 use Rattle.dmx_calls.specs.declared.reply.Errno.TheVariants.{Ebadf, Einval}
 use Rattle.dmx_calls.specs.Invocation.{Invocation, Open, Close, SetFilter, SetPes, AddPid, RemovePid, Start, Stop, SetSize, Read, Poll, Pass, End, Attach, Detach}
-use Rattle.dmx_calls.specs.declared.reply.Tap.{Tap as TapChange}
 use Rattle.dmx_calls.specs.declared.reply.Tap.TheVariants.{Keep as KeepTap}
 use Rattle.dmx_calls.specs.Response.{Response, Done, Busy, Refused, Passed, is_accepted}
-use Rattle.dmx_calls.specs.History.{History, entry_of, Since}
-use Rattle.dmx_calls.specs.Tenure.{tenure, owner}
+use Rattle.dmx_calls.specs.History.{History, entry_of}
 use Rattle.dmx_calls.specs.Rules.{dvr}
-use Rattle.dmx_calls.specs.Facts.{Ledger, Facts, facts}
+use Rattle.dmx_calls.specs.Facts.{Facts, facts}
 use Rattle.dmx_calls.specs.Refusal.{is_bad_argument, is_for_filters}
-use Rattle.dmx_calls.specs.Answer.{is_for_anybody, is_owned_by, is_same_size, refusal_to, done_dropping, response_to, answer}
+use Rattle.dmx_calls.specs.Answer.{is_for_anybody, is_owned_by, is_same_size, refusal_to, response_to, answer}
 use Rattle.node_buffer.specs.Inside.Coherent.{CoherentIn}
+use Rattle.node_buffer.proofs.Owners.{holds}
+use Rattle.node_buffer.proofs.Silences.{Silent, as_done, as_ready, as_passed, accepted_of, dropping, dropping_unless}
 use Rattle.dvr_core.specs.Inside.Step.{moved, next}
 use Rattle.dvr_core.specs.Inside.Gives.{settled}
-use Rattle.dvr_core.proofs.Moves.{known, Moves, known_refused, open_moves, close_moves, Silent, attach_moves, detach_moves, poll_moves, size_moves, end_moves, pass_moves}
+use Rattle.dvr_core.proofs.Moves.{known, Moves, known_refused, open_moves, close_moves, attach_moves, detach_moves, poll_moves, size_moves, end_moves, pass_moves}
 use Rattle.dvr_core.proofs.Reading.{read_moves, answer_fine, gives_nothing}
 
 -- the reply is the answer, and the node goes on by the step
@@ -56,19 +56,11 @@ module _ (h : History) (who : ℕ) (call : Invocation) where
     by_refusal (Some x) is = refused_case x is
     by_refusal None is = granted_case (granted is) is
 
--- who isn't refused owns the node, but for the calls that anybody makes
-owned : (f : Facts) (who : ℕ) (call : Invocation) → is_for_anybody Dvr call ≡ false → refusal_to Dvr f who call ≡ None → is_owned_by who f.owner ≡ true
-owned f who call not_all is = by_test (is_owned_by who f.owner) refl where
-  by_test : (b : Bool) → is_owned_by who f.owner ≡ b → is_owned_by who f.owner ≡ true
-  by_test true y = y
-  by_test false n = absurd (let none : Some Ebadf ≡ None = rw (not_all, n) at is in cc)
-
-holds : (h : History) (who : ℕ) (call : Invocation) → is_for_anybody Dvr call ≡ false → refusal_to Dvr (facts dvr h) who call ≡ None → (t : Since) × (tenure h ≡ Some t)
-unfolding facts owner
-holds h who call not_all is = by_tenure (tenure h) refl (owned (facts dvr h) who call not_all is) where
-  by_tenure : (o : Option Since) → tenure h ≡ o → is_owned_by who (facts dvr h).owner ≡ true → (t : Since) × (tenure h ≡ Some t)
-  by_tenure None none own = absurd (let nay : false ≡ true = rw none at own in cc)
-  by_tenure (Some t) held own = (t, held)
+  -- of a call to which all responses answer no bytes
+  silent : ((r : Response) → Silent r → Moves h who call r) → ((f g : Facts) → Silent (response_to f g call)) → Granted
+  silent moves shape =
+      let s : Silent response = shape (facts dvr h) (moved (known h) who call Passed).facts in
+      record { told = moves Passed as_passed; ok = accepted_of response s; moves = moves response s }
 
 -- calls for filters are always refused
 refused_always : (f : Facts) (who : ℕ) (call : Invocation) → is_for_anybody Dvr call ≡ false → is_same_size f call ≡ false → is_for_filters call ≡ true
@@ -81,20 +73,6 @@ refused_always f who call not_all other filter is = by_test (is_owned_by who f.o
 
 -- ------ the calls
 
-silent_done : (h : History) (who from to : ℕ) (tap : TapChange) → Silent h who (Done from to tap)
-silent_done h who from to tap = record { ok = refl; quiet = λ call. refl; nothing = λ call. refl }
-
-silent_passed : (h : History) (who : ℕ) → Silent h who Passed
-silent_passed h who = record { ok = refl; quiet = λ call. refl; nothing = λ call. refl }
-
-dropping : (h : History) (who : ℕ) (o : Option Ledger) (tap : TapChange) → Silent h who (done_dropping o tap)
-dropping h who None tap = silent_done h who 0 0 tap
-dropping h who (Some l) tap = silent_done h who l.answered l.total tap
-
-dropping_unless : (h : History) (who : ℕ) (b : Bool) (o : Option Ledger) (tap : TapChange) → Silent h who (if b then Done 0 0 KeepTap else done_dropping o tap)
-dropping_unless h who true o tap = silent_done h who 0 0 KeepTap
-dropping_unless h who false o tap = dropping h who o tap
-
 module _ (h : History) (who : ℕ) (sound : CoherentIn (facts dvr h).ledger) where
   case_open : Agrees h who Open (settled (known h) who Open)
   unfolding answer
@@ -104,15 +82,12 @@ module _ (h : History) (who : ℕ) (sound : CoherentIn (facts dvr h).ledger) whe
     by_owner (Some w) is = rw is (record { reply = rw is refl; after = known_refused (entry_of who Open (Busy w)) h refl })
 
   case_close : Agrees h who Close (settled (known h) who Close)
-  case_close = decided h who Close (λ is.
-      let silent = dropping h who (facts dvr h).ledger _ in
-      record { told = close_moves h who Passed refl; ok = silent.ok; moves = close_moves h who _ silent.ok })
+  case_close = decided h who Close (λ is. silent h who Close (λ r s. close_moves h who r (accepted_of r s)) (λ f g. dropping f.ledger _))
 
   case_set_size : (n : ℕ) → Agrees h who (SetSize n) (settled (known h) who (SetSize n))
   case_set_size n = decided h who (SetSize n) (λ is.
-      let t = holds h who (SetSize n) refl is in
-      let silent = dropping_unless h who (nat_eq n (facts dvr h).size) (facts dvr h).ledger _ in
-      record { told = size_moves h sound who Passed (silent_passed h who) t.0 t.1 n; ok = silent.ok; moves = size_moves h sound who _ silent t.0 t.1 n })
+      let t = holds dvr h who (SetSize n) refl is in
+      silent h who (SetSize n) (λ r s. size_moves h sound who r s t.0 t.1 n) (λ f g. dropping_unless (nat_eq n f.size) f.ledger _))
 
   case_read : (now count : ℕ) → Agrees h who (Read now count) (settled (known h) who (Read now count))
   case_read now count = decided h who (Read now count) (λ is.
@@ -120,22 +95,18 @@ module _ (h : History) (who : ℕ) (sound : CoherentIn (facts dvr h).ledger) whe
       record { told = read_moves h sound who now count Passed (refl, λ s runs. gives_nothing); ok = fine.0; moves = read_moves h sound who now count _ fine })
 
   case_poll : (now : ℕ) → Agrees h who (Poll now) (settled (known h) who (Poll now))
-  case_poll now = decided h who (Poll now) (λ is. record {
-    told = poll_moves h sound who Passed (silent_passed h who) now;
-    ok = refl;
-    moves = poll_moves h sound who _ (record { ok = refl; quiet = λ call. refl; nothing = λ call. refl }) now;
-  })
+  case_poll now = decided h who (Poll now) (λ is. silent h who (Poll now) (λ r s. poll_moves h sound who r s now) (λ f g. as_ready _ _ _ _))
 
   case_filter : (call : Invocation) → is_for_anybody Dvr call ≡ false → ((f : Facts) → is_same_size f call ≡ false) → is_for_filters call ≡ true → Agrees h who call (settled (known h) who call)
   case_filter call not_all other filter = decided h who call (λ is. absurd (refused_always (facts dvr h) who call not_all (other (facts dvr h)) filter is))
 
   case_attach : (node : ℕ) (pids : List ℕ) → Agrees h who (Attach node pids) (settled (known h) who (Attach node pids))
   unfolding answer
-  case_attach node pids = record { reply = refl; after = attach_moves h sound who (Done 0 0 KeepTap) (silent_done h who 0 0 KeepTap) node pids }
+  case_attach node pids = record { reply = refl; after = attach_moves h sound who (Done 0 0 KeepTap) (as_done 0 0 KeepTap) node pids }
 
   case_detach : (node : ℕ) → Agrees h who (Detach node) (settled (known h) who (Detach node))
   unfolding answer
-  case_detach node = record { reply = refl; after = detach_moves h sound who (Done 0 0 KeepTap) (silent_done h who 0 0 KeepTap) node }
+  case_detach node = record { reply = refl; after = detach_moves h sound who (Done 0 0 KeepTap) (as_done 0 0 KeepTap) node }
 
   case_pass : (input : Input) (first : ℕ) (packets : List (List ℕ)) (now : ℕ) → Agrees h who (Pass input first packets now) (settled (known h) who (Pass input first packets now))
   unfolding answer

@@ -10,5 +10,3 @@ pub mod Reading
 pub mod Cases
 pub mod Standing
 pub mod Causing
-pub mod LastReply
-pub mod Owners

@@ -1,7 +1,8 @@
 -- What is known of the history with one entry more, as the step of what was known before.
-use Rattle.std.proofs.Common.{ℕ, ◌≡◌, refl, ◌∙◌, ap, Bool, true, false, ◌||◌, List, [], ◌∷◌, Option, Some, None, map}
-use Rattle.std.specs.Prelude.{nat_eq, option_map}
+use Rattle.std.proofs.Common.{ℕ, ◌≡◌, refl, ◌∙◌, ap, Bool, true, false, ◌||◌, List, [], ◌∷◌, Option, Some, map}
+use Rattle.std.specs.Prelude.{nat_eq}
 use Rattle.std.specs.List.{range_with_len}
+use Rattle.std.proofs.lemmas.Iterator.Adapters.{option_map_id}
 use Rattle.std.proofs.lemmas.Bool.{eqb-true}
 use Rattle.dmx_calls.specs.declared.params.Input.{Input}
 use Rattle.dmx_calls.specs.declared.params.Input.TheVariants.{Frontend}
@@ -15,9 +16,10 @@ use Rattle.dmx_calls.specs.Items.{packets_in}
 use Rattle.dmx_calls.specs.Taps.{Tap, tap_after, tap_of}
 use Rattle.dmx_calls.specs.Rules.{dvr}
 use Rattle.dmx_calls.specs.Ledger.{answered_in, is_overflow}
-use Rattle.dmx_calls.specs.Facts.{Ledger, Facts, ledger_at, facts}
+use Rattle.dmx_calls.specs.Facts.{Facts, ledger_at, facts}
 use Rattle.dmx_calls.proofs.LawsHold.{dvr_facts_refused}
 use Rattle.node_buffer.specs.Inside.Coherent.{Coherent, CoherentIn}
+use Rattle.node_buffer.proofs.Silences.{Silent, accepted_of, quiet_of, nothing_of}
 use Rattle.dvr_core.specs.Tapped.{taps_of}
 use Rattle.dvr_core.specs.Inside.Step.{Knows, moved}
 use Rattle.dvr_core.proofs.Tapping.{taps_refused, taps_attached, taps_detached}
@@ -57,19 +59,9 @@ module _ (h : History) (who : ℕ) (r : Response) (ok : is_accepted r ≡ true) 
 
 -- ------ calls by which a capture goes on
 
--- a response that answers no bytes, to whatever call
-pub record Silent (h : History) (who : ℕ) (r : Response) : Type 0 where
-  pub ok : is_accepted r ≡ true
-  pub quiet : (call : Invocation) → is_overflow (event (entry_of who call r) h) ≡ false
-  pub nothing : (call : Invocation) → answered_in (event (entry_of who call r) h) ≡ 0
-
 pub coherent : (h : History) → CoherentIn (facts dvr h).ledger → (s : Since) → dvr_capture h ≡ Some s → Coherent (ledger_at dvr h)
 unfolding facts
 coherent h sound s runs = rw runs at sound
-
-same_ledger : (o : Option Ledger) → option_map (λ (l : Ledger). l) o ≡ o
-same_ledger None = refl
-same_ledger (Some l) = refl
 
 module _ (h : History) (sound : CoherentIn (facts dvr h).ledger) where
   -- an entry that answers no bytes, and with which no packet passes
@@ -77,39 +69,42 @@ module _ (h : History) (sound : CoherentIn (facts dvr h).ledger) where
     facts_same : facts dvr (e ∷ h) ≡ record (facts dvr h) { has_ended = is_end (event e h) || has_ended h }
     facts_same =
         facts_goes e h stays (λ l. l) (λ s runs. ledger_recorded e h s stays runs (coherent h sound s runs) quiet nothing ∙ rw none refl)
-        ∙ ap (λ l. record (facts dvr h) { has_ended = is_end (event e h) || has_ended h; ledger = l }) (same_ledger (facts dvr h).ledger)
+        ∙ ap (λ l. record (facts dvr h) { has_ended = is_end (event e h) || has_ended h; ledger = l }) (option_map_id (facts dvr h).ledger)
 
-  module _ (who : ℕ) (r : Response) (silent : Silent h who r) where
+  module _ (who : ℕ) (r : Response) (silent : Silent r) where
+    ok : is_accepted r ≡ true
+    ok = accepted_of r silent
+
+    facts_silent : (call : Invocation) → Stays (entry_of who call r) h → packets_in Frontend (event (entry_of who call r) h) ≡ []
+        → facts dvr (entry_of who call r ∷ h) ≡ record (facts dvr h) { has_ended = is_end (event (entry_of who call r) h) || has_ended h }
+    facts_silent call stays none = facts_same (entry_of who call r) stays (quiet_of who call h r silent) (nothing_of who call h r silent) none
+
     pub attach_moves : (node : ℕ) (pids : List ℕ) → Moves h who (Attach node pids) r
     unfolding facts
     attach_moves node pids =
-        let call : Invocation = Attach node pids in
-        let stays : Stays (entry_of who call r) h = record { ok = silent.ok; no_open = refl; no_close = refl; no_begin = refl; same_size = refl } in
-        known_by _ _ _ (facts_same (entry_of who call r) stays (silent.quiet call) (silent.nothing call) refl) (taps_attached h who r silent.ok node pids)
+        let stays : Stays (entry_of who (Attach node pids) r) h = record { ok = ok; no_open = refl; no_close = refl; no_begin = refl; same_size = refl } in
+        known_by _ _ _ (facts_silent (Attach node pids) stays refl) (taps_attached h who r ok node pids)
 
     pub detach_moves : (node : ℕ) → Moves h who (Detach node) r
     unfolding facts
     detach_moves node =
-        let call : Invocation = Detach node in
-        let stays : Stays (entry_of who call r) h = record { ok = silent.ok; no_open = refl; no_close = refl; no_begin = refl; same_size = refl } in
-        known_by _ _ _ (facts_same (entry_of who call r) stays (silent.quiet call) (silent.nothing call) refl) (taps_detached h who r silent.ok node)
+        let stays : Stays (entry_of who (Detach node) r) h = record { ok = ok; no_open = refl; no_close = refl; no_begin = refl; same_size = refl } in
+        known_by _ _ _ (facts_silent (Detach node) stays refl) (taps_detached h who r ok node)
 
     pub poll_moves : (now : ℕ) → Moves h who (Poll now) r
     unfolding facts
     poll_moves now =
-        let call : Invocation = Poll now in
-        let stays : Stays (entry_of who call r) h = record { ok = silent.ok; no_open = refl; no_close = refl; no_begin = refl; same_size = refl } in
-        known_by _ _ _ (facts_same (entry_of who call r) stays (silent.quiet call) (silent.nothing call) refl) (taps_stay (entry_of who call r) h silent.ok (λ node. refl))
+        let stays : Stays (entry_of who (Poll now) r) h = record { ok = ok; no_open = refl; no_close = refl; no_begin = refl; same_size = refl } in
+        known_by _ _ _ (facts_silent (Poll now) stays refl) (taps_stay (entry_of who (Poll now) r) h ok (λ node. refl))
 
     pub size_moves : (t : Since) → tenure h ≡ Some t → (n : ℕ) → Moves h who (SetSize n) r
     unfolding facts
     size_moves t held n = by_size (nat_eq n (dvr_size h)) refl where
       by_size : (b : Bool) → nat_eq n (dvr_size h) ≡ b → Moves h who (SetSize n) r
       by_size true same =
-          let call : Invocation = SetSize n in
-          let stays : Stays (entry_of who call r) h = record { ok = silent.ok; no_open = refl; no_close = refl; no_begin = rw same refl; same_size = eqb-true n (dvr_size h) same } in
-          rw same (known_by _ _ _ (facts_same (entry_of who call r) stays (silent.quiet call) (silent.nothing call) refl) (taps_stay (entry_of who call r) h silent.ok (λ node. refl)))
-      by_size false other = rw other (known_by _ _ _ (facts_resized h t who r held silent.ok n other) (taps_stay (entry_of who (SetSize n) r) h silent.ok (λ node. refl)))
+          let stays : Stays (entry_of who (SetSize n) r) h = record { ok = ok; no_open = refl; no_close = refl; no_begin = rw same refl; same_size = eqb-true n (dvr_size h) same } in
+          rw same (known_by _ _ _ (facts_silent (SetSize n) stays refl) (taps_stay (entry_of who (SetSize n) r) h ok (λ node. refl)))
+      by_size false other = rw other (known_by _ _ _ (facts_resized h t who r held ok n other) (taps_stay (entry_of who (SetSize n) r) h ok (λ node. refl)))
 
   pub end_moves : (who : ℕ) → Moves h who End Passed
   unfolding facts

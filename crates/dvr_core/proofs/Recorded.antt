@@ -17,8 +17,3 @@ module _ (names : List ℕ → Bool) (capacity : ℕ) where
       ≡ option_map (λ l. with_items false capacity l (filter names (drop i packets))) o
   recorded-next packets i packet None at named = refl
   recorded-next packets i packet (Some l) at named = rw (drop-one packets i packet at, in_front packet (drop (i + 1) packets) l named) refl
-
--- no packet
-pub none-left : (o : Option Ledger) → o ≡ option_map (λ (l : Ledger). l) o
-none-left None = refl
-none-left (Some l) = refl

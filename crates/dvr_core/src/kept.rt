@@ -119,7 +119,7 @@ impl Kept {
     /// A client attaches the tap of a demux node.
     pub fn attach(&mut self, who: u32, node: u32, pids: Pids) -> Reply
         requires { CoherentIn (knows_of self.old).facts.ledger }
-        ensures said { response_of result ≡ reply_to (knows_of self.old) (Attach node pids) }
+        ensures said { response_of result ≡ reply_to (knows_of self.old) who (Attach node pids) }
         ensures after { knows_of self.new ≡ next (knows_of self.old) who (Attach node pids) (response_of result) }
         ensures sound { CoherentIn (knows_of self.new).facts.ledger }
         ensures bytes { bytes_in (knows_of self.new) ≤ bytes_in (knows_of self.old) }
@@ -131,7 +131,7 @@ impl Kept {
     /// A client detaches the tap of a demux node, where it is that client's own.
     pub fn detach(&mut self, who: u32, node: u32) -> Reply
         requires { CoherentIn (knows_of self.old).facts.ledger }
-        ensures said { response_of result ≡ reply_to (knows_of self.old) (Detach node) }
+        ensures said { response_of result ≡ reply_to (knows_of self.old) who (Detach node) }
         ensures after { knows_of self.new ≡ next (knows_of self.old) who (Detach node) (response_of result) }
         ensures sound { CoherentIn (knows_of self.new).facts.ledger }
         ensures bytes { bytes_in (knows_of self.new) ≤ bytes_in (knows_of self.old) }

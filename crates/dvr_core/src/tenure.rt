@@ -15,7 +15,7 @@ ghost use Rattle.dmx_calls.specs.Calls.{invocation_of, response_of};
 ghost use Rattle.dmx_calls.specs.Back.{BackOfRead, GivesBack};
 ghost use Rattle.node_buffer.specs.Inside.Capturing.{terms_of as terms_by, begun};
 ghost use Rattle.node_buffer.specs.Inside.Coherent.{CoherentIn};
-ghost use Rattle.node_buffer.specs.Inside.Gives.{owner_refusal};
+ghost use Rattle.node_buffer.specs.Inside.Gives.{owner_refusal, is_close};
 
 use dmx_calls::limits::DVR_SIZE;
 use dmx_calls::{Answer, ByteBuf, Call, Errno, NodeKind, Params, Reply, Span, State, Tap, refusal};
@@ -47,7 +47,7 @@ pub fn done(dropped: Span) -> Reply
 }
 
 impl Tenure {
-    ghost use Rattle.dvr_core.specs.Inside.KeptView.{is_close, facts_in, knows_in, IsGranted, reply_to, Does};
+    ghost use Rattle.dvr_core.specs.Inside.KeptView.{facts_in, knows_in, IsGranted, reply_to, Does};
 
     /// A node that was just opened: it has the default size, and its capture begins.
     pub fn new(alloc: Global, owner: u32) -> Result<Tenure, NoMemory>
@@ -77,7 +77,7 @@ impl Tenure {
         requires granted { IsGranted self.old (invocation_of call) }
         requires own { is_for_anybody Dvr (invocation_of call) ≡ false }
         requires stays { is_close (invocation_of call) ≡ false }
-        ensures does { (taps : List (Option TapValue)) → Does (knows_in ended taps (Some self.old)) (invocation_of call) (response_of result.reply) (knows_in ended taps (Some self.new)) }
+        ensures does { Does ended self.old (invocation_of call) (response_of result.reply) self.new }
         ensures back { GivesBack call result }
     {
         match call {
@@ -108,7 +108,7 @@ impl Tenure {
 
     /// close(): what is dropped with the tenure. The node becomes free, and its size and unread bytes are gone.
     pub fn close(&self) -> Reply
-        ensures { (ended : Bool) (taps : List (Option TapValue)) → response_of result ≡ reply_to (knows_in ended taps (Some self.now)) Close }
+        ensures { (ended : Bool) (taps : List (Option TapValue)) → response_of result ≡ reply_to (knows_in ended taps (Some self.now)) self.now.owner Close }
     {
         done(self.buffer.unread())
     }
@@ -118,7 +118,7 @@ impl Tenure {
     fn set_size(&mut self, alloc: Global, size: u32) -> Reply
         requires sound { CoherentIn self.old.buffer.ledger }
         requires granted { IsGranted self.old (SetSize size) }
-        ensures does { (ended : Bool) (taps : List (Option TapValue)) → Does (knows_in ended taps (Some self.old)) (SetSize size) (response_of result) (knows_in ended taps (Some self.new)) }
+        ensures does { (ended : Bool) → Does ended self.old (SetSize size) (response_of result) self.new }
     {
         if self.buffer.size() == size {
             return done(NOTHING);
@@ -136,7 +136,7 @@ impl Tenure {
     // read(): the reply, with its buffer where the reply doesn't hold it.
     fn read(&mut self, ended: bool, buf: ByteBuf) -> (Reply, Option<ByteBuf>)
         requires { CoherentIn self.old.buffer.ledger }
-        ensures does { (now : ℕ) (taps : List (Option TapValue)) → Does (knows_in ended taps (Some self.old)) (Read now buf.count) (response_of result.0) (knows_in ended taps (Some self.new)) }
+        ensures does { (now : ℕ) → Does ended self.old (Read now buf.count) (response_of result.0) self.new }
         ensures back { BackOfRead buf result.0 result.1 }
     {
         self.buffer.read(ended, buf)
@@ -145,7 +145,7 @@ impl Tenure {
     // poll(): the reply. It changes nothing.
     fn poll(&self, ended: bool) -> Reply
         requires { CoherentIn self.now.buffer.ledger }
-        ensures { (now : ℕ) (taps : List (Option TapValue)) → Does (knows_in ended taps (Some self.now)) (Poll now) (response_of result) (knows_in ended taps (Some self.now)) }
+        ensures { (now : ℕ) → Does ended self.now (Poll now) (response_of result) self.now }
     {
         self.buffer.poll(ended)
     }

@@ -8,10 +8,10 @@ use Rattle.dmx_calls.specs.Items.{timeout_of}
 use Rattle.dmx_calls.specs.Ledger.{Misfit}
 use Rattle.dmx_calls.specs.Facts.{Ledger, Facts}
 use Rattle.dmx_calls.specs.Answer.{most_bytes, read_bytes, read_timeout, read_over, read_response, expired_of, open_response, done_dropping, response_to}
+use Rattle.node_buffer.proofs.Silences.{accepted_of, dropping}
 
-dropping_accepted : (o : Option Ledger) (tap : TapChange) → is_accepted (done_dropping o tap) ≡ true
-dropping_accepted None tap = refl
-dropping_accepted (Some l) tap = refl
+pub dropping_accepted : (o : Option Ledger) (tap : TapChange) → is_accepted (done_dropping o tap) ≡ true
+dropping_accepted o tap = accepted_of (done_dropping o tap) (dropping o tap)
 
 either_accepted : (b : Bool) (x y : Response) → is_accepted x ≡ true → is_accepted y ≡ true → is_accepted (if b then x else y) ≡ true
 either_accepted true x y ok_x ok_y = ok_x

@@ -1,13 +1,13 @@
--- What a Read gives by the ledger is what the facts of a history answer, and the state by it is theirs.
+-- What a Read gives by the ledger is what the facts of a history answer.
 use Rattle.std.proofs.Common.{ℕ, zero, suc, ◌≡◌, refl, ◌∙◌, ap, Bool, true, false, ◌||◌, Option, Some, None, take}
 use Rattle.std.specs.Prelude.{if◌then◌else◌, not, nat_eq, is_some, option_map}
 use Rattle.dmx_calls.specs.Response.{Data, Again, TimedOut, Passed}
 use Rattle.dmx_calls.specs.Tenure.{Params, Empty, Section, Pes}
 use Rattle.dmx_calls.specs.Items.{timeout_of}
 use Rattle.dmx_calls.specs.Ledger.{Misfit}
-use Rattle.dmx_calls.specs.Facts.{Ledger, Facts, state_of_ledger}
+use Rattle.dmx_calls.specs.Facts.{Ledger, Facts}
 use Rattle.dmx_calls.specs.Answer.{most_bytes, read_bytes, read_timeout, read_over, read_response, expired_of}
-use Rattle.node_buffer.specs.Inside.Capturing.{is_section, terms_of, state_by, is_due, expiring, most_read, bytes_read, timeout_read, over_read, read_by, with_response}
+use Rattle.node_buffer.specs.Inside.Capturing.{is_section, terms_of, is_due, expiring, most_read, bytes_read, timeout_read, over_read, read_by, with_response}
 
 most_is : (set : Params) (l : Ledger) (count : ℕ) → most_read (is_section set) l count ≡ most_bytes set l count
 most_is Empty l count = refl
@@ -58,11 +58,3 @@ module _ (f : Facts) where
   pub read_now : (o : Option Ledger) (count : ℕ) → read_by f.has_ended (terms_of f.params) o count ≡ read_response f o (expired_of o) count
   read_now None count = refl
   read_now (Some l) count = over_is l l.over l.expired count
-
--- ------ the state
-
-pub state_is : (set : Params) (o : Option Ledger) → state_by (terms_of set) o ≡ state_of_ledger set o
-state_is set None = refl
-state_is Empty (Some l) = refl
-state_is (Section p) (Some l) = refl
-state_is (Pes p) (Some l) = refl

@@ -3,6 +3,8 @@ pub mod Rests
 pub mod Arrivals
 pub mod Answering
 pub mod Readings
+pub mod Silences
 pub mod Accepted
+pub mod Owners
 pub mod ReadCausing
 pub mod Causing

@@ -12,8 +12,9 @@
 //! given, and items are lost until a Read has named the span. A Read gives the pending overflow, else an expiry that wasn't
 //! told, else bytes in their order, on a section filter none behind the section that it goes on with. A capture without an
 //! item expires at the first moment that is its start plus the timeout or later. After want of memory a buffer is unchanged;
-//! only `new` and `resize` take memory. Lemmas in proofs/ say that items which arrive one by one are those items at once, and
-//! that what a Read gives by the ledger is what a history answers.
+//! only `new` and `resize` take memory. Lemmas in proofs/ say that items which arrive one by one are those items at once,
+//! that what a Read gives by the ledger is what a history answers, and that a call which the owner isn't refused is answered
+//! what its node gives.
 //!
 //! What is only tested: that the steps are those meant, on values worked by hand. What isn't proved: time. An item is copied
 //! once into the ring and once out of it.

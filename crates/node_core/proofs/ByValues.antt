@@ -27,7 +27,7 @@ reads_as k who now count = read_is k.facts k.facts.ledger now count
 
 -- with the ledger between the expiry and the reply
 pub read-said : (k : Knows) (now count : ℕ) (mid : Option Ledger) (r : Response) → mid ≡ option_map (expiring (timeout_of k.facts.params) now) k.facts.ledger
-    → r ≡ read_by k.facts.has_ended (terms_of k.facts.params) mid count → r ≡ reply_to k (Read now count)
+    → r ≡ read_by k.facts.has_ended (terms_of k.facts.params) mid count → r ≡ reply_to k 0 (Read now count)
 read-said k now count mid r is said = said ∙ rw is (reads_as k 0 now count)
 
 pub read-after : (k : Knows) (now count : ℕ) (mid left : Option Ledger) (r : Response) → mid ≡ option_map (expiring (timeout_of k.facts.params) now) k.facts.ledger

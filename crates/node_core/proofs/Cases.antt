@@ -9,25 +9,26 @@ use Rattle.pid_set.specs.declared.set.TheConstants.{ALL_PACKETS}
 use Rattle.dmx_calls.specs.declared.reply.Errno.{Errno}
 use Rattle.dmx_calls.specs.declared.reply.Errno.TheVariants.{Ebadf, Einval}
 use Rattle.dmx_calls.specs.Invocation.{Invocation, Open, Close, SetFilter, SetPes, AddPid, RemovePid, Start, Stop, SetSize, Read, Poll, Pass, End, Attach, Detach}
-use Rattle.dmx_calls.specs.declared.reply.Tap.{Tap as TapChange}
 use Rattle.dmx_calls.specs.declared.reply.Tap.TheVariants.{Keep as KeepTap}
 use Rattle.dmx_calls.specs.Response.{Response, Done, Busy, Refused, Passed, is_accepted}
 use Rattle.dmx_calls.specs.History.{Entry, History, entry_of, Since}
-use Rattle.dmx_calls.specs.Tenure.{tenure, owner, size, Params, setting}
+use Rattle.dmx_calls.specs.Tenure.{tenure, size, Params, setting}
 use Rattle.dmx_calls.specs.Capture.{capture}
 use Rattle.dmx_calls.specs.Rules.{demux}
 use Rattle.dmx_calls.specs.Ledger.{over}
-use Rattle.dmx_calls.specs.Facts.{Ledger, Facts, ledger_of, facts, state_of}
+use Rattle.dmx_calls.specs.Facts.{Facts, ledger_of, facts, state_of}
 use Rattle.dmx_calls.specs.Refusal.{is_allocated, is_pes, add_refusal}
-use Rattle.dmx_calls.specs.Answer.{is_for_anybody, is_owned_by, refusal_to, read_response, done_dropping, response_to, with_call, answer}
+use Rattle.dmx_calls.specs.Answer.{is_owned_by, refusal_to, read_response, response_to, with_call, answer}
 use Rattle.dmx_calls.proofs.Going.{setting_some}
 use Rattle.dmx_calls.proofs.After.{params_refused, capture_refused, offered_refused, items_refused, facts_refused}
 use Rattle.item_select.specs.Selecting.{Selecting}
+use Rattle.node_buffer.proofs.Owners.{owned, holds}
+use Rattle.node_buffer.proofs.Silences.{Silent, as_done, as_ready, as_passed, accepted_of, dropping, dropping_unless}
 use Rattle.node_core.specs.Inside.Step.{moved, next}
 use Rattle.node_core.specs.Offers.{HasSelected}
 use Rattle.node_core.specs.Inside.Sound.{IsSound}
 use Rattle.node_core.specs.Inside.Gives.{settled}
-use Rattle.node_core.proofs.Moves.{known, Moves, Silent, as_done, as_ready, as_passed, accepted_of, stop_moves, poll_moves, same_size_moves, add_moves, remove_moves, end_moves}
+use Rattle.node_core.proofs.Moves.{known, Moves, stop_moves, poll_moves, same_size_moves, add_moves, remove_moves, end_moves}
 use Rattle.node_core.proofs.Begins.{open_moves, close_moves, start_moves, set_filter_moves, set_pes_moves, resized_moves}
 use Rattle.node_core.proofs.Passes.{pass_moves}
 use Rattle.node_core.proofs.Reading.{ReadGives, read_moves, read_shape, gives_nothing}
@@ -83,24 +84,6 @@ module _ (h : History) (k : Selecting) (who : ℕ) (call : Invocation) where
 
 -- ------ refusals
 
--- who isn't refused owns the node, but for the calls that anybody makes
-owned : (f : Facts) (who : ℕ) (call : Invocation) → is_for_anybody Demux call ≡ false → refusal_to Demux f who call ≡ None → is_owned_by who f.owner ≡ true
-owned f who call not_all is = by_test (is_owned_by who f.owner) refl where
-  by_test : (b : Bool) → is_owned_by who f.owner ≡ b → is_owned_by who f.owner ≡ true
-  by_test true y = y
-  by_test false n = absurd (let none : Some Ebadf ≡ None = rw (not_all, n) at is in cc)
-
-owner_tenure : (h : History) (who : ℕ) → is_owned_by who (owner h) ≡ true → (t : Since) × (tenure h ≡ Some t)
-unfolding owner
-owner_tenure h who is = by_tenure (tenure h) refl where
-  by_tenure : (o : Option Since) → tenure h ≡ o → (t : Since) × (tenure h ≡ Some t)
-  by_tenure None none = absurd (let nay : false ≡ true = rw none at is in cc)
-  by_tenure (Some t) held = (t, held)
-
-holds : (h : History) (who : ℕ) (call : Invocation) → is_for_anybody Demux call ≡ false → refusal_to Demux (facts demux h) who call ≡ None → (t : Since) × (tenure h ≡ Some t)
-unfolding facts
-holds h who call not_all is = owner_tenure h who (owned (facts demux h) who call not_all is)
-
 -- PIDs are added and removed where a filter of packets is set
 unless_pes : (set : Params) (bad allocated : Bool) (rest : Option Errno) → (if bad then Some Einval else (if allocated || not (is_pes set) then Some Einval else rest)) ≡ None → is_pes set ≡ true
 unless_pes set bad allocated rest is = by_test bad allocated (is_pes set) is where
@@ -112,12 +95,12 @@ unless_pes set bad allocated rest is = by_test bad allocated (is_pes set) is whe
 
 added_pes : (f : Facts) (who pid : ℕ) → refusal_to Demux f who (AddPid pid) ≡ None → is_pes f.params ≡ true
 added_pes f who pid is =
-    let own : is_owned_by who f.owner ≡ true = owned f who (AddPid pid) refl is in
+    let own : is_owned_by who f.owner ≡ true = owned Demux f who (AddPid pid) refl is in
     unless_pes f.params (nat_lt ALL_PACKETS pid) (is_allocated (state_of f)) (add_refusal f.params f.pids pid) (rw own at is)
 
 removed_pes : (f : Facts) (who pid : ℕ) → refusal_to Demux f who (RemovePid pid) ≡ None → is_pes f.params ≡ true
 removed_pes f who pid is =
-    let own : is_owned_by who f.owner ≡ true = owned f who (RemovePid pid) refl is in
+    let own : is_owned_by who f.owner ≡ true = owned Demux f who (RemovePid pid) refl is in
     unless_pes f.params (nat_lt ALL_PACKETS pid) (is_allocated (state_of f)) None (rw own at is)
 
 pes_set : (h : History) → is_pes (facts demux h).params ≡ true → (s : Since) × (setting h ≡ Some s)
@@ -129,19 +112,7 @@ always_refused : (own : Bool) → (if not own then Some Ebadf else Some Einval) 
 always_refused true is = cc
 always_refused false is = cc
 
--- ------ calls that answer no bytes
-
-dropping : (o : Option Ledger) (tap : TapChange) → Silent (done_dropping o tap)
-dropping None tap = as_done 0 0 tap
-dropping (Some l) tap = as_done l.answered l.total tap
-
-dropping_unless : (b : Bool) (o : Option Ledger) (tap : TapChange) → Silent (if b then Done 0 0 KeepTap else done_dropping o tap)
-dropping_unless true o tap = as_done 0 0 KeepTap
-dropping_unless false o tap = dropping o tap
-
-size_is : (h : History) → (facts demux h).size ≡ size h
-unfolding facts
-size_is h = refl
+-- ------ the calls
 
 module _ (h : History) (k : Selecting) (who : ℕ) (sound : IsSound (known h k)) (has : HasSelected h k) where
   case_open : Agrees h k who Open (settled (known h k) who Open)
@@ -161,39 +132,39 @@ module _ (h : History) (k : Selecting) (who : ℕ) (sound : IsSound (known h k))
 
   case_set_filter : (p : SectionParams) (now : ℕ) → Agrees h k who (SetFilter p now) (settled (known h k) who (SetFilter p now))
   case_set_filter p now = decided h k who (SetFilter p now) has (λ is.
-      let t = holds h who (SetFilter p now) refl is in
+      let t = holds demux h who (SetFilter p now) refl is in
       silent h k who (SetFilter p now) (λ r s. set_filter_moves h k who r (accepted_of r s) t.0 t.1 p now) (λ f g. dropping f.ledger _))
 
   case_set_pes : (p : PesParams) (now : ℕ) → Agrees h k who (SetPes p now) (settled (known h k) who (SetPes p now))
   case_set_pes p now = decided h k who (SetPes p now) has (λ is.
-      let t = holds h who (SetPes p now) refl is in
+      let t = holds demux h who (SetPes p now) refl is in
       silent h k who (SetPes p now) (λ r s. set_pes_moves h k who r (accepted_of r s) t.0 t.1 p now) (λ f g. dropping f.ledger _))
 
   case_start : (now : ℕ) → Agrees h k who (Start now) (settled (known h k) who (Start now))
   case_start now = decided h k who (Start now) has (λ is.
-      let t = holds h who (Start now) refl is in
+      let t = holds demux h who (Start now) refl is in
       silent h k who (Start now) (λ r s. start_moves h k who r (accepted_of r s) t.0 t.1 now) (λ f g. dropping f.ledger _))
 
   case_stop : Agrees h k who Stop (settled (known h k) who Stop)
   case_stop = decided h k who Stop has (λ is.
-      let t = holds h who Stop refl is in
+      let t = holds demux h who Stop refl is in
       silent h k who Stop (λ r s. stop_moves h k t.0 who r t.1 sound has s) (λ f g. as_done 0 0 _))
 
   case_add : (pid : ℕ) → Agrees h k who (AddPid pid) (settled (known h k) who (AddPid pid))
   case_add pid = decided h k who (AddPid pid) has (λ is.
-      let t = holds h who (AddPid pid) refl is in
+      let t = holds demux h who (AddPid pid) refl is in
       let set = pes_set h (added_pes (facts demux h) who pid is) in
       silent h k who (AddPid pid) (λ r s. add_moves h k t.0 who r t.1 sound has s set.0 set.1 pid) (λ f g. as_done 0 0 _))
 
   case_remove : (pid : ℕ) → Agrees h k who (RemovePid pid) (settled (known h k) who (RemovePid pid))
   case_remove pid = decided h k who (RemovePid pid) has (λ is.
-      let t = holds h who (RemovePid pid) refl is in
+      let t = holds demux h who (RemovePid pid) refl is in
       let set = pes_set h (removed_pes (facts demux h) who pid is) in
       silent h k who (RemovePid pid) (λ r s. remove_moves h k t.0 who r t.1 sound has s set.0 set.1 pid) (λ f g. as_done 0 0 _))
 
   case_set_size : (n : ℕ) → Agrees h k who (SetSize n) (settled (known h k) who (SetSize n))
   case_set_size n = decided h k who (SetSize n) has (λ is.
-      let t = holds h who (SetSize n) refl is in
+      let t = holds demux h who (SetSize n) refl is in
       silent h k who (SetSize n) (λ r s. by_size t r s (nat_eq n (size h)) refl) (λ f g. dropping_unless (nat_eq n f.size) f.ledger _)) where
         by_size : (t : (t : Since) × (tenure h ≡ Some t)) (r : Response) → Silent r → (b : Bool) → nat_eq n (size h) ≡ b → Moves h k who (SetSize n) r
         by_size t r s true same = same_size_moves h k t.0 who r t.1 sound has s n same
@@ -201,7 +172,7 @@ module _ (h : History) (k : Selecting) (who : ℕ) (sound : IsSound (known h k))
 
   case_poll : (now : ℕ) → Agrees h k who (Poll now) (settled (known h k) who (Poll now))
   case_poll now = decided h k who (Poll now) has (λ is.
-      let t = holds h who (Poll now) refl is in
+      let t = holds demux h who (Poll now) refl is in
       silent h k who (Poll now) (λ r s. poll_moves h k t.0 who r t.1 sound has s now) (λ f g. as_ready _ _ _ _))
 
   case_pass : (input : Input) (first : ℕ) (packets : List (List ℕ)) (now : ℕ) → Agrees h k who (Pass input first packets now) (settled (known h k) who (Pass input first packets now))
@@ -231,7 +202,7 @@ module _ (h : History) (k : Selecting) (who : ℕ) (sound : IsSound (known h k))
 
   case_read : (now count : ℕ) → Agrees h k who (Read now count) (settled (known h k) who (Read now count))
   case_read now count = decided h k who (Read now count) has (λ is.
-      let t = holds h who (Read now count) refl is in
+      let t = holds demux h who (Read now count) refl is in
       let fine = read_answer _ count in
       record {
         reply = ap (λ g. response_to (facts demux h) g (Read now count)) (sym (read_moves h k t.0 who now count t.1 sound has Passed refl (λ s runs. gives_nothing)).told);

@@ -12,5 +12,3 @@ pub mod Cases
 pub mod Standing
 pub mod Causing
 pub mod ByValues
-pub mod LastReply
-pub mod Owners

@@ -1,23 +1,23 @@
 -- What is known of the history with one entry more, as the step of what was known before: calls by which a capture goes on.
-use Rattle.std.proofs.Common.{ℕ, ◌≡◌, refl, ◌∙◌, ap, Bool, true, false, ◌||◌, List, [], ◌∷◌, Option, Some, None, zero-add}
+use Rattle.std.proofs.Common.{ℕ, ◌≡◌, refl, ◌∙◌, ap, true, false, ◌||◌, List, [], ◌∷◌, Option, Some, None, zero-add}
 use Rattle.std.specs.Prelude.{nat_eq, option_map}
+use Rattle.std.proofs.lemmas.Iterator.Adapters.{option_map_id}
 use Rattle.pid_set.specs.Pids.{with_pid, without_pid}
 use Rattle.dmx_calls.specs.declared.params.Input.{Input}
-use Rattle.dmx_calls.specs.declared.reply.PollError.{PollError}
 use Rattle.dmx_calls.specs.Invocation.{Invocation, AddPid, RemovePid, Stop, SetSize, Poll, End}
-use Rattle.dmx_calls.specs.declared.reply.Tap.{Tap as TapChange}
-use Rattle.dmx_calls.specs.Response.{Response, Done, Ready, Passed, is_accepted}
+use Rattle.dmx_calls.specs.Response.{Response, Passed, is_accepted}
 use Rattle.dmx_calls.specs.History.{Entry, History, entry_of, event, Since}
 use Rattle.dmx_calls.specs.Tenure.{tenure, owner, size, Params, Empty, Section, Pes, params, setting, pids, is_end, has_ended}
 use Rattle.dmx_calls.specs.Capture.{capture, stops, is_stopped}
 use Rattle.dmx_calls.specs.Items.{packets_in, timeout_of, clock_of}
-use Rattle.dmx_calls.specs.Rules.{demux, tells_timeout}
-use Rattle.dmx_calls.specs.Ledger.{answered_in, is_overflow, answered}
+use Rattle.dmx_calls.specs.Rules.{demux}
+use Rattle.dmx_calls.specs.Ledger.{answered}
 use Rattle.dmx_calls.specs.Facts.{Ledger, ledger_at, ledger_of, facts}
 use Rattle.dmx_calls.proofs.Going.{Stays, tenure_stays, pids_changed}
 use Rattle.dmx_calls.proofs.After.{expired_then, facts_free, facts_goes, ledger_still, stays_poll, stays_end, stays_stop, stays_add, stays_remove, stays_same_size, pids_stay}
 use Rattle.item_select.specs.Selecting.{Selecting}
 use Rattle.node_buffer.specs.Inside.Capturing.{with_stop, expiring}
+use Rattle.node_buffer.proofs.Silences.{Silent, as_passed, accepted_of, quiet_of, untold_of, nothing_of}
 use Rattle.node_core.specs.Inside.Step.{Knows, moved}
 use Rattle.node_core.specs.Offers.{HasSelected, names_of}
 use Rattle.node_buffer.specs.Inside.Coherent.{Coherent}
@@ -65,35 +65,7 @@ pub free_run : (h : History) → tenure h ≡ None → capture h ≡ None
 unfolding capture
 free_run h none = rw none refl
 
--- ------ responses that answer no bytes and tell nothing of the capture
-
-pub data Silent : Response → Type 0 where
-  as_done : (from to : ℕ) → (tap : TapChange) → Silent (Done from to tap)
-  as_ready : (readable : Bool) → (error : PollError) → (at : ℕ) → (ended : Bool) → Silent (Ready readable error at ended)
-  as_passed : Silent Passed
-
-pub accepted_of : (r : Response) → Silent r → is_accepted r ≡ true
-accepted_of _ (as_done a b tap) = refl
-accepted_of _ (as_ready a b c d) = refl
-accepted_of _ as_passed = refl
-
-module _ (who : ℕ) (call : Invocation) (h : History) where
-  quiet_of : (r : Response) → Silent r → is_overflow (event (entry_of who call r) h) ≡ false
-  quiet_of _ (as_done a b tap) = refl
-  quiet_of _ (as_ready a b c d) = refl
-  quiet_of _ as_passed = refl
-
-  untold_of : (r : Response) → Silent r → tells_timeout (event (entry_of who call r) h) ≡ false
-  untold_of _ (as_done a b tap) = refl
-  untold_of _ (as_ready a b c d) = refl
-  untold_of _ as_passed = refl
-
-  nothing_of : (r : Response) → Silent r → answered_in (event (entry_of who call r) h) ≡ 0
-  nothing_of _ (as_done a b tap) = refl
-  nothing_of _ (as_ready a b c d) = refl
-  nothing_of _ as_passed = refl
-
--- ------ an entry with such a response, with which no packet passes
+-- ------ an entry that answers no bytes, with which no packet passes
 
 module _ (h : History) (k : Selecting) (t : Since) (who : ℕ) (call : Invocation) (r : Response) (held : tenure h ≡ Some t) (sound : IsSound (known h k)) (has : HasSelected h k)
     (silent : Silent r) (stays : Stays (entry_of who call r) h) (none : (input : Input) → packets_in input (event (entry_of who call r) h) ≡ []) where
@@ -115,16 +87,12 @@ module _ (h : History) (k : Selecting) (t : Since) (who : ℕ) (call : Invocatio
   facts_silent names named step each =
       facts_goes quiet_entry h t stays held names named step (λ s runs. ledger_silent s runs ∙ each (ledger_at demux h) (never h))
 
-  same_of : (o : Option Ledger) → option_map (λ (l : Ledger). l) o ≡ o
-  same_of None = refl
-  same_of (Some l) = refl
-
   -- it changes nothing of the capture
   pub facts_same : (names : List ℕ) → pids (quiet_entry ∷ h) ≡ names → stops (event quiet_entry h) ≡ false → clock_of (event quiet_entry h) ≡ None
       → facts demux (quiet_entry ∷ h) ≡ record (facts demux h) { has_ended = is_end (event quiet_entry h) || has_ended h; pids = names }
   facts_same names named no_stop no_clock =
       facts_silent names named (λ l. l) (λ l calm. rw (no_stop, no_clock) (ap (λ x. record l { expired = x }) (unclocked (params h) l false calm)))
-      ∙ ap (λ l. record (facts demux h) { has_ended = is_end (event quiet_entry h) || has_ended h; pids = names; ledger = l }) (same_of (facts demux h).ledger)
+      ∙ ap (λ l. record (facts demux h) { has_ended = is_end (event quiet_entry h) || has_ended h; pids = names; ledger = l }) (option_map_id (facts demux h).ledger)
 
   pub selected_silent : HasSelected (quiet_entry ∷ h) k
   selected_silent = selected_goes quiet_entry h t stays held k k has (λ s runs. selected_quiet quiet_entry h t s stays held runs k none)

@@ -14,7 +14,7 @@ ghost use Rattle.dmx_calls.specs.Calls.{invocation_of, response_of, params_of, p
 ghost use Rattle.dmx_calls.specs.Back.{BackOfRead, GivesBack};
 ghost use Rattle.item_select.specs.Selecting.{begun as begun_selecting};
 ghost use Rattle.node_buffer.specs.Inside.Capturing.{terms_of as terms_by, begun};
-ghost use Rattle.node_buffer.specs.Inside.Gives.{owner_refusal};
+ghost use Rattle.node_buffer.specs.Inside.Gives.{owner_refusal, is_close};
 ghost use Rattle.node_core.specs.Offers.{choice_of, names_of};
 ghost use Rattle.node_core.specs.Inside.Step.{unset};
 
@@ -56,7 +56,7 @@ pub fn done(dropped: Span, tap: Tap) -> Reply
 }
 
 impl Tenure {
-    ghost use Rattle.node_core.specs.Inside.KeptView.{is_close, knows_in, is_recording_for, tap_told, IsSoundIn, IsGranted, reply_to, Does};
+    ghost use Rattle.node_core.specs.Inside.KeptView.{knows_in, is_recording_for, tap_told, IsSoundIn, IsGranted, reply_to, Does};
 
     /// A node that was just opened: it has the default size and no filter.
     pub fn new(alloc: Global, owner: u32) -> Result<Tenure, NoMemory>
@@ -119,7 +119,7 @@ impl Tenure {
         requires granted { IsGranted self.old (invocation_of call) }
         requires own { is_for_anybody Demux (invocation_of call) ≡ false }
         requires stays { is_close (invocation_of call) ≡ false }
-        ensures does { Does (knows_in ended (Some self.old)) (invocation_of call) (response_of result.reply) (knows_in ended (Some self.new)) }
+        ensures does { Does ended self.old (invocation_of call) (response_of result.reply) self.new }
         ensures back { GivesBack call result }
     {
         match call {
@@ -150,7 +150,7 @@ impl Tenure {
 
     /// close(): what is dropped with the tenure. The node becomes free, and its filter, size and unread bytes are gone.
     pub fn close(&self) -> Reply
-        ensures { (ended : Bool) → response_of result ≡ reply_to (knows_in ended (Some self.now)) Close }
+        ensures { (ended : Bool) → response_of result ≡ reply_to (knows_in ended (Some self.now)) self.now.owner Close }
     {
         done(self.buffer.unread(), tap_of_idle(self.is_recording()))
     }
@@ -159,7 +159,7 @@ impl Tenure {
     fn set_filter(&mut self, params: SectionParams, now: u64) -> Reply
         requires sound { IsSoundIn self.old }
         requires granted { IsGranted self.old (SetFilter params now) }
-        ensures does { (ended : Bool) → Does (knows_in ended (Some self.old)) (SetFilter params now) (response_of result) (knows_in ended (Some self.new)) }
+        ensures does { (ended : Bool) → Does ended self.old (SetFilter params now) (response_of result) self.new }
     {
         self.set(Params::Section(params), params.flags, now)
     }
@@ -168,7 +168,7 @@ impl Tenure {
     fn set_pes(&mut self, params: PesParams, now: u64) -> Reply
         requires sound { IsSoundIn self.old }
         requires granted { IsGranted self.old (SetPes params now) }
-        ensures does { (ended : Bool) → Does (knows_in ended (Some self.old)) (SetPes params now) (response_of result) (knows_in ended (Some self.new)) }
+        ensures does { (ended : Bool) → Does ended self.old (SetPes params now) (response_of result) self.new }
     {
         let pids = Pids::of(params.pid);
         self.set(Params::Pes { params, pids }, params.flags, now)
@@ -178,7 +178,7 @@ impl Tenure {
     fn add_pid(&mut self, pid: u16) -> Reply
         requires sound { IsSoundIn self.old }
         requires granted { IsGranted self.old (AddPid pid) }
-        ensures does { (ended : Bool) → Does (knows_in ended (Some self.old)) (AddPid pid) (response_of result) (knows_in ended (Some self.new)) }
+        ensures does { (ended : Bool) → Does ended self.old (AddPid pid) (response_of result) self.new }
     {
         let recorded = self.is_recording();
         match &mut self.params {
@@ -196,7 +196,7 @@ impl Tenure {
     fn remove_pid(&mut self, pid: u16) -> Reply
         requires sound { IsSoundIn self.old }
         requires granted { IsGranted self.old (RemovePid pid) }
-        ensures does { (ended : Bool) → Does (knows_in ended (Some self.old)) (RemovePid pid) (response_of result) (knows_in ended (Some self.new)) }
+        ensures does { (ended : Bool) → Does ended self.old (RemovePid pid) (response_of result) self.new }
     {
         let recorded = self.is_recording();
         match &mut self.params {
@@ -213,7 +213,7 @@ impl Tenure {
     fn start(&mut self, now: u64) -> Reply
         requires sound { IsSoundIn self.old }
         requires granted { IsGranted self.old (Start now) }
-        ensures does { (ended : Bool) → Does (knows_in ended (Some self.old)) (Start now) (response_of result) (knows_in ended (Some self.new)) }
+        ensures does { (ended : Bool) → Does ended self.old (Start now) (response_of result) self.new }
     {
         let recorded = self.is_recording();
         let dropped = self.buffer.unread();
@@ -226,7 +226,7 @@ impl Tenure {
     fn stop(&mut self) -> Reply
         requires sound { IsSoundIn self.old }
         requires granted { IsGranted self.old (Stop) }
-        ensures does { (ended : Bool) → Does (knows_in ended (Some self.old)) (Stop) (response_of result) (knows_in ended (Some self.new)) }
+        ensures does { (ended : Bool) → Does ended self.old (Stop) (response_of result) self.new }
     {
         let recorded = self.is_recording();
         self.buffer.stop();
@@ -237,7 +237,7 @@ impl Tenure {
     fn set_size(&mut self, alloc: Global, size: u32) -> Reply
         requires sound { IsSoundIn self.old }
         requires granted { IsGranted self.old (SetSize size) }
-        ensures does { (ended : Bool) → Does (knows_in ended (Some self.old)) (SetSize size) (response_of result) (knows_in ended (Some self.new)) }
+        ensures does { (ended : Bool) → Does ended self.old (SetSize size) (response_of result) self.new }
     {
         if self.buffer.size() == size {
             return done(NOTHING, Tap::Keep);
@@ -253,7 +253,7 @@ impl Tenure {
     fn read(&mut self, ended: bool, now: u64, buf: ByteBuf) -> (Reply, Option<ByteBuf>)
         requires sound { IsSoundIn self.old }
         requires granted { IsGranted self.old (Read now buf.count) }
-        ensures does { Does (knows_in ended (Some self.old)) (Read now buf.count) (response_of result.0) (knows_in ended (Some self.new)) }
+        ensures does { Does ended self.old (Read now buf.count) (response_of result.0) self.new }
         ensures back { BackOfRead buf result.0 result.1 }
     {
         self.buffer.expire(now);
@@ -264,7 +264,7 @@ impl Tenure {
     fn poll(&mut self, ended: bool, now: u64) -> Reply
         requires sound { IsSoundIn self.old }
         requires granted { IsGranted self.old (Poll now) }
-        ensures does { Does (knows_in ended (Some self.old)) (Poll now) (response_of result) (knows_in ended (Some self.new)) }
+        ensures does { Does ended self.old (Poll now) (response_of result) self.new }
     {
         self.buffer.expire(now);
         self.buffer.poll(ended)

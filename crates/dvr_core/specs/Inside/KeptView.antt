@@ -1,16 +1,15 @@
 -- What the dvr node knows, from what it keeps.
-use Rattle.std.specs.Prelude.{ℕ, ◌≡◌, ◌≤◌, ◌⊎◌, Bool, true, false, List, [], Option, Some, None}
+use Rattle.std.specs.Prelude.{ℕ, ◌≡◌, ◌≤◌, Bool, true, List, [], Option, Some, None}
 use Rattle.dmx_calls.specs.declared.node.NodeKind.TheVariants.{Dvr}
 use Rattle.dmx_calls.specs.declared.limits.TheConstants.{DVR_SIZE}
-use Rattle.dmx_calls.specs.Invocation.{Invocation, Close}
-use Rattle.dmx_calls.specs.Response.{Response, NoMemory, Passed}
+use Rattle.dmx_calls.specs.Invocation.{Invocation}
+use Rattle.dmx_calls.specs.Response.{Response, Passed}
 use Rattle.dmx_calls.specs.Tenure.{Empty}
 use Rattle.dmx_calls.specs.Taps.{Tap}
 use Rattle.dmx_calls.specs.Facts.{Facts}
 use Rattle.dmx_calls.specs.Answer.{response_to}
-use Rattle.dmx_calls.specs.Legal.{is_done, takes_memory}
 use Rattle.node_buffer.specs.Inside.Coherent.{CoherentIn, total_of}
-use Rattle.node_buffer.specs.Inside.Gives.{owner_refusal}
+use Rattle.node_buffer.specs.Inside.Gives.{OrNoMemory, owner_refusal}
 use Rattle.dvr_core.specs.declared.kept.Kept.{Kept}
 use Rattle.dvr_core.specs.declared.tenure.Tenure.{Tenure}
 use Rattle.dvr_core.specs.Inside.Step.{Knows, moved, next}
@@ -35,21 +34,13 @@ bytes_in k = total_of k.facts.ledger
 abbrev pub IsGranted : Tenure → Invocation → Type 0
 IsGranted tenure call = owner_refusal Dvr (facts_in true (Some tenure)) call ≡ None
 
-abbrev pub is_close : Invocation → Bool
-is_close Close = true
-is_close _ = false
+-- what this caller is answered to a call that isn't refused
+abbrev pub reply_to : Knows → (who : ℕ) → Invocation → Response
+reply_to k who call = response_to k.facts (moved k who call Passed).facts call
 
--- what its owner is answered to a call that isn't refused
-abbrev pub reply_to : Knows → Invocation → Response
-reply_to k call = response_to k.facts (moved k 0 call Passed).facts call
-
--- that, or want of memory
-abbrev pub Replies : Knows → Invocation → Response → Type 0
-Replies k call r = (r ≡ reply_to k call) ⊎ (r ≡ NoMemory) × (is_done (reply_to k call) ≡ true) × (takes_memory k.facts call ≡ true)
-
--- What a call of the owner does that isn't refused: what is answered, and what the node then knows; that is sound, and no byte arrives.
-pub record Does (before : Knows) (call : Invocation) (r : Response) (later : Knows) : Type 0 where
-  pub said : Replies before call r
-  pub after : later ≡ next before 0 call r
-  pub sound : CoherentIn later.facts.ledger
-  pub bytes : bytes_in later ≤ bytes_in before
+-- What a call of the owner does that isn't refused, whichever the taps are: what is answered, or want of memory, and what the node then knows; that is sound, and no byte arrives.
+pub record Does (ended : Bool) (old : Tenure) (call : Invocation) (r : Response) (new : Tenure) : Type 0 where
+  pub said : (taps : List (Option Tap)) → OrNoMemory (facts_in ended (Some old)) call (reply_to (knows_in ended taps (Some old)) old.owner call) r
+  pub after : (taps : List (Option Tap)) → knows_in ended taps (Some new) ≡ next (knows_in ended taps (Some old)) old.owner call r
+  pub sound : CoherentIn new.buffer.ledger
+  pub bytes : total_of new.buffer.ledger ≤ total_of old.buffer.ledger

@@ -1,19 +1,27 @@
 -- What a reply must be, by what is known before the call and with it.
-use Rattle.std.specs.Prelude.{ℕ, ◌≡◌, true, ◌⊎◌, Option, None, if◌then◌else◌}
+use Rattle.std.specs.Prelude.{ℕ, ◌≡◌, Bool, true, false, ◌⊎◌, Option, None, if◌then◌else◌}
 use Rattle.dmx_calls.specs.declared.node.NodeKind.{NodeKind}
 use Rattle.dmx_calls.specs.declared.reply.Errno.{Errno}
-use Rattle.dmx_calls.specs.Invocation.{Invocation}
+use Rattle.dmx_calls.specs.Invocation.{Invocation, Close}
 use Rattle.dmx_calls.specs.Response.{Response, NoMemory}
 use Rattle.dmx_calls.specs.Facts.{Facts, state_of}
 use Rattle.dmx_calls.specs.Refusal.{refusal}
 use Rattle.dmx_calls.specs.Answer.{is_same_size, answer_by}
 use Rattle.dmx_calls.specs.Legal.{is_done, takes_memory}
 
+-- this answer, or want of memory in its place
+abbrev pub OrNoMemory : Facts → Invocation → (answer : Response) → Response → Type 0
+OrNoMemory f call answer r = (r ≡ answer) ⊎ (r ≡ NoMemory) × (is_done answer ≡ true) × (takes_memory f call ≡ true)
+
 -- the answer of a node of this kind, or want of memory: f is known before the call, and g with it
 abbrev pub GivesBy : NodeKind → (f g : Facts) → (who : ℕ) → Invocation → Response → Type 0
-GivesBy kind f g who call r =
-    (r ≡ answer_by kind f g who call) ⊎ (r ≡ NoMemory) × (is_done (answer_by kind f g who call) ≡ true) × (takes_memory f call ≡ true)
+GivesBy kind f g who call r = OrNoMemory f call (answer_by kind f g who call) r
 
 -- why the owner of a node that says this is refused a call, if it is
 abbrev pub owner_refusal : NodeKind → Facts → Invocation → Option Errno
 owner_refusal kind f call = if is_same_size f call then None else refusal kind (state_of f) f.params f.pids call
+
+-- the call that ends what a node keeps for its owner
+abbrev pub is_close : Invocation → Bool
+is_close Close = true
+is_close _ = false

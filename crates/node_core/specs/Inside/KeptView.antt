@@ -1,20 +1,19 @@
 -- What a node knows, from what it keeps.
-use Rattle.std.specs.Prelude.{ℕ, ◌≡◌, ◌≤◌, ◌+◌, ◌⊎◌, Bool, true, false, [], Option, Some, None, if◌then◌else◌}
+use Rattle.std.specs.Prelude.{ℕ, ◌≡◌, ◌≤◌, ◌+◌, Bool, true, false, [], Option, Some, None, if◌then◌else◌}
 use Rattle.dmx_calls.specs.declared.node.NodeKind.TheVariants.{Demux}
 use Rattle.dmx_calls.specs.declared.limits.TheConstants.{DEMUX_SIZE}
-use Rattle.dmx_calls.specs.Invocation.{Invocation, Close}
+use Rattle.dmx_calls.specs.Invocation.{Invocation}
 use Rattle.dmx_calls.specs.Tenure.{Empty}
 use Rattle.dmx_calls.specs.Calls.{params_of, pids_of}
 use Rattle.dmx_calls.specs.declared.reply.Tap.{Tap as TapChange}
 use Rattle.dmx_calls.specs.declared.reply.Tap.TheVariants.{Keep as KeepTap, Attach as AttachTap, Detach as DetachTap}
-use Rattle.dmx_calls.specs.Response.{Response, NoMemory, Passed}
+use Rattle.dmx_calls.specs.Response.{Response, Passed}
 use Rattle.dmx_calls.specs.Answer.{is_recording, response_to}
-use Rattle.dmx_calls.specs.Legal.{is_done, takes_memory}
 use Rattle.item_select.specs.Selecting.{bytes_held}
 use Rattle.node_core.specs.declared.kept.Kept.{Kept}
 use Rattle.node_core.specs.declared.tenure.Tenure.{Tenure}
 use Rattle.node_buffer.specs.Inside.Coherent.{total_of}
-use Rattle.node_buffer.specs.Inside.Gives.{owner_refusal}
+use Rattle.node_buffer.specs.Inside.Gives.{OrNoMemory, owner_refusal}
 use Rattle.node_core.specs.Inside.Step.{Knows, unset, moved, next}
 use Rattle.node_core.specs.Inside.Sound.{IsSound}
 
@@ -61,21 +60,13 @@ IsGranted tenure call = owner_refusal Demux (knows_in true (Some tenure)).facts 
 abbrev pub IsSoundIn : Tenure → Type 0
 IsSoundIn tenure = IsSound (knows_in true (Some tenure))
 
-abbrev pub is_close : Invocation → Bool
-is_close Close = true
-is_close _ = false
+-- what this caller is answered to a call that isn't refused
+abbrev pub reply_to : Knows → (who : ℕ) → Invocation → Response
+reply_to k who call = response_to k.facts (moved k who call Passed).facts call
 
--- what its owner is answered to a call that isn't refused
-abbrev pub reply_to : Knows → Invocation → Response
-reply_to k call = response_to k.facts (moved k 0 call Passed).facts call
-
--- that, or want of memory
-abbrev pub Replies : Knows → Invocation → Response → Type 0
-Replies k call r = (r ≡ reply_to k call) ⊎ (r ≡ NoMemory) × (is_done (reply_to k call) ≡ true) × (takes_memory k.facts call ≡ true)
-
--- What a call of the owner does that isn't refused: what is answered, and what the node then knows; that is sound, and no byte arrives.
-pub record Does (before : Knows) (call : Invocation) (r : Response) (later : Knows) : Type 0 where
-  pub said : Replies before call r
-  pub after : later ≡ next before 0 call r
-  pub sound : IsSound later
-  pub bytes : bytes_in later ≤ bytes_in before
+-- What a call of the owner does that isn't refused: what is answered, or want of memory, and what the node then knows; that is sound, and no byte arrives.
+pub record Does (ended : Bool) (old : Tenure) (call : Invocation) (r : Response) (new : Tenure) : Type 0 where
+  pub said : OrNoMemory (knows_in ended (Some old)).facts call (reply_to (knows_in ended (Some old)) old.owner call) r
+  pub after : knows_in ended (Some new) ≡ next (knows_in ended (Some old)) old.owner call r
+  pub sound : IsSoundIn new
+  pub bytes : bytes_in (knows_in ended (Some new)) ≤ bytes_in (knows_in ended (Some old))

@@ -2,11 +2,12 @@ use Rattle.std.proofs.Common.{rules, ◌≡◌, ◌-◌, ◌<◌, [], drop, get_
 use Rattle.std.specs.Prelude.{filter, option_map}
 use Rattle.std.proofs.lemmas.List.{drop_all, take_all}
 use Rattle.std.proofs.lemmas.List.Sums.{count_by_more_yes, count_by_more_no}
+use Rattle.std.proofs.lemmas.Iterator.Adapters.{option_map_id}
 use Rattle.std.proofs.lemmas.Option.{slice_get-get_or, get_or_from_slice_get}
 use Rattle.node_buffer.specs.Inside.Capturing.{with_items}
 use Rattle.dvr_core.specs.Tapped.{some_names}
 use Rattle.dvr_core.proofs.Looking.{named-skip, none-named}
-use Rattle.dvr_core.proofs.Recorded.{recorded-next, none-left}
+use Rattle.dvr_core.proofs.Recorded.{recorded-next}
 use Rattle.dvr_core.proofs.record.record_all.Goals.{then-has, else-has}
 use Rattle.dvr_core.proofs.record.record_all.Goals as goal
 
@@ -48,7 +49,7 @@ returns-clause-after g c =
     let end : drop c.loop-i.i c.args.batch.now.packets ≡ [] = drop_all c.loop-i.i c.args.batch.now.packets (omega arith) in
     let i = c.loop-i.invariant in
     let ledger = rw end at i.ledger in
-    rw (← (none-left c.loop-i.buffer.ledger ∙ ledger), ← i.size, ← i.terms) refl
+    rw (← (sym (option_map_id c.loop-i.buffer.ledger) ∙ ledger), ← i.size, ← i.terms) refl
 
 pub returns-clause-cost : goal.returns-clause-cost
 returns-clause-cost g c =
@@ -62,5 +63,5 @@ returns-then-is_empty-clause-after g c =
     let none : filter test packets ≡ [] = none-named test packets (λ i l.
     sym (c.places-places.ensures i (get_or packets i []) (slice_get-get_or packets i [] l)) ∙ c.is_empty.ensures (search rules) i) in
     ap (λ o. record { size = c.args.buffer.now.size; terms = c.args.buffer.now.terms; ledger = o })
-    (none-left c.args.buffer.now.ledger
+    (sym (option_map_id c.args.buffer.now.ledger)
     ∙ ap (λ r. option_map (λ x. with_items false (c.args.buffer.now.size - 1) x r) c.args.buffer.now.ledger) (sym none))

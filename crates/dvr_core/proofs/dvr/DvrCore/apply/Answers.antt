@@ -1,25 +1,20 @@
 use Rattle.std.proofs.Common.{◌+◌, refl}
 use Rattle.dmx_calls.specs.Calls.{invocation_of, response_of}
-use Rattle.dvr_core.specs.Inside.KeptView.{knows_of}
-use Rattle.dvr_core.specs.Stands.{CoreValue}
+use Rattle.dvr_core.specs.Inside.CoreView.{core_view}
 use Rattle.dvr_core.proofs.Standing.{stands_on}
 use Rattle.dvr_core.proofs.Causing.{causes_of}
 use Rattle.dvr_core.proofs.dvr.DvrCore.apply.Goals as goal
 
 pub returns-clause-stands : goal.returns-clause-stands
 returns-clause-stands g c =
-    let k = knows_of c.self.inside.kept in
-    let k' = knows_of c.act-answer.new.kept in
-    let before : CoreValue = record { entries = c.self.inside.entries; facts = k.facts; taps = k.taps } in
-    let after : CoreValue = record { entries = c.self.inside.entries + 1; facts = k'.facts; taps = k'.taps } in
+    let before = core_view c.self.inside in
+    let after = core_view (record c.self.inside { entries = c.self.inside.entries + 1; kept = c.act-answer.new.kept }) in
     rw (← c.self.view_is) (stands_on before after c.args.who (invocation_of c.args.call) (response_of c.act-answer.result.reply)
     c.self.invariant.sound c.act-answer.ensures.said c.act-answer.ensures.after refl)
 
 pub returns-clause-causes : goal.returns-clause-causes
 returns-clause-causes g c =
-    let k = knows_of c.self.inside.kept in
-    let k' = knows_of c.act-answer.new.kept in
-    let before : CoreValue = record { entries = c.self.inside.entries; facts = k.facts; taps = k.taps } in
-    let after : CoreValue = record { entries = c.self.inside.entries + 1; facts = k'.facts; taps = k'.taps } in
+    let before = core_view c.self.inside in
+    let after = core_view (record c.self.inside { entries = c.self.inside.entries + 1; kept = c.act-answer.new.kept }) in
     rw (← c.self.view_is) (causes_of before after c.args.who (invocation_of c.args.call) (response_of c.act-answer.result.reply)
     c.self.invariant.sound c.act-answer.ensures.said c.act-answer.ensures.after)

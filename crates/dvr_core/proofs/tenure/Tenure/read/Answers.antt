@@ -1,7 +1,8 @@
-use Rattle.std.proofs.Common.{rules, ◌≡◌, ◌∙◌, ap, inl, false, Some}
+use Rattle.std.proofs.Common.{rules, ◌≡◌, ◌∙◌, ap, List, Option, inl, false, Some}
 use Rattle.std.specs.Prelude.{option_map}
 use Rattle.dmx_calls.specs.Calls.{response_of}
 use Rattle.dmx_calls.specs.Tenure.{Empty}
+use Rattle.dmx_calls.specs.Taps.{Tap}
 use Rattle.node_buffer.specs.Inside.Capturing.{terms_of, read_by, with_response}
 use Rattle.dvr_core.specs.Inside.Step.{Knows}
 use Rattle.dvr_core.specs.Inside.KeptView.{knows_in}
@@ -9,8 +10,8 @@ use Rattle.dvr_core.proofs.ByValues.{read-said, read-after}
 use Rattle.dvr_core.proofs.tenure.Tenure.read.Goals as goal
 
 pub returns-clause-does : goal.returns-clause-does
-returns-clause-does c = λ now taps.
-    let k : Knows = knows_in c.args.ended taps (Some c.args.self.now) in
+returns-clause-does c = λ now.
+    let k : List (Option Tap) → Knows = λ taps. knows_in c.args.ended taps (Some c.args.self.now) in
     let r = response_of c.read.result.0 in
     let t = c.args.self.now in
     let said : r ≡ read_by c.args.ended (terms_of Empty) t.buffer.ledger c.args.buf.count =
@@ -19,8 +20,8 @@ returns-clause-does c = λ now taps.
     ap (λ b. b.ledger) c.read.ensures.after ∙ ap (λ s. option_map (with_response s.by_section r) t.buffer.ledger) t.told in
     let size : c.read.new.self.size ≡ c.args.self.now.buffer.size = ap (λ b. b.size) c.read.ensures.after in
     record {
-      said = inl (read-said k c.args.buf.count r said);
-      after = rw size (read-after k c.args.buf.count r said c.read.new.self.ledger after);
+      said = λ taps. inl (read-said (k taps) c.args.buf.count r said);
+      after = λ taps. rw size (read-after (k taps) c.args.buf.count r said c.read.new.self.ledger after);
       sound = c.read.ensures.holds;
       bytes = search rules;
     }
