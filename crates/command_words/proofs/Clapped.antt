@@ -1,5 +1,5 @@
 -- What clap makes of at most two words is what they mean.
-use Rattle.std.proofs.Common.{◌≡◌, ◌≤◌, ◌<◌, ◌∙◌, ◌||◌, refl, sym, ap, ℕ, cond, List, [], ◌∷◌, Bool, true, false, true≢false, length, take, drop, Option, Some, None, codes, map, ◌⊎◌, ⊎_elim, inl, inr, arith}
+use Rattle.std.proofs.Common.{◌≡◌, ◌≤◌, ◌<◌, ◌∙◌, ◌||◌, refl, sym, ap, ℕ, cond, List, [], ◌∷◌, ◌++◌, Bool, true, false, true≢false, length, take, drop, Option, Some, None, codes, map, ◌⊎◌, ⊎_elim, inl, inr, arith}
 use Rattle.std.specs.Prelude.{slice_get}
 use Rattle.std.specs.List.{list_any}
 use Rattle.std.specs.Str.{bytes_eq, chars}
@@ -10,7 +10,7 @@ use Rattle.clap.specs.Lexer.{long_of, short_of}
 use Rattle.command_words.specs.Meant.{batch_apart, batch_joined, batch_of}
 use Rattle.command_words.specs.Inside.Reader.{answer}
 use Rattle.command_words.proofs.Spelled.{bare_is, hyphen_number, joined_is, long_letters, other_name, short_flags, short_hyphen}
-use Rattle.command_words.proofs.Walks.{bare_alone, empty_first, empty_late, empty_second, flag_first, flag_late, flag_second, joined_alone, long_first, long_late, long_second, no_words, plain_first, plain_late, plain_second}
+use Rattle.command_words.proofs.Walks.{bare_alone, bare_joined, bare_twice, empty_first, empty_late, empty_second, flag_first, flag_late, flag_second, joined_alone, joined_bare, joined_twice, long_first, long_late, long_second, no_words, plain_first, plain_late, plain_second}
 use Rattle.text_forms.specs.Numbers.{number_between}
 use Rattle.text_forms.specs.Words.{is_word}
 

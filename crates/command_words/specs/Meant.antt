@@ -1,5 +1,5 @@
 -- The command that words mean (this project's own rules).
-use Rattle.std.specs.Prelude.{⊤, ℕ, ◌≤◌, List, [], ◌∷◌, take, Option, Some, None, if◌then◌else◌, codes}
+use Rattle.std.specs.Prelude.{⊤, ℕ, ◌≤◌, List, [], ◌∷◌, take, drop, Option, Some, None, if◌then◌else◌, codes}
 use Rattle.std.specs.Option.{option_map, option_and_then, option_or}
 use Rattle.text_forms.specs.Numbers.{number_between}
 use Rattle.text_forms.specs.Words.{is_word}
