@@ -1,5 +1,6 @@
 -- The same for a Read.
-use Rattle.std.proofs.Common.{ℕ, zero, suc, ◌+◌, ◌-◌, ◌≤◌, ◌≡◌, refl, sym, ◌∙◌, Bool, true, false, List, [], ◌∷◌, Option, Some, None, arith, zero-add}
+use Rattle.std.proofs.Common.{ℕ, zero, suc, ◌≡◌, refl, sym, ◌∙◌, Bool, true, false, List, [], ◌∷◌, Option, Some, None, zero-add}
+use Rattle.std.proofs.Math.Nat.{sub-add_cancel}
 use Rattle.std.specs.Prelude.{if◌then◌else◌, nat_eq, option_map}
 use Rattle.dmx_calls.specs.Invocation.{Read}
 use Rattle.dmx_calls.specs.Response.{Response, Data, Again, Overflow, Passed, is_accepted}
@@ -28,9 +29,6 @@ Fine h r = (is_accepted r ≡ true) × ((s : Since) → dvr_capture h ≡ Some s
 
 -- ------ the ledger after it
 
-all_told : (h : History) → answered dvr h ≤ total dvr h → (total dvr h - answered dvr h) + answered dvr h ≡ total dvr h
-all_told h le = omega (arith, le)
-
 module _ (h : History) (sound : CoherentIn (facts dvr h).ledger) (who now count : ℕ) where
   stays_read : (r : Response) → is_accepted r ≡ true → Stays (entry_of who (Read now count) r) h
   stays_read r ok = record { ok = ok; no_open = refl; no_close = refl; no_begin = refl; same_size = refl }
@@ -46,7 +44,7 @@ module _ (h : History) (sound : CoherentIn (facts dvr h).ledger) (who now count 
   ledger_after s runs _ ok (gives_over item need room) =
       let c : Coherent (ledger_at dvr h) = coherent h sound s runs in
       let r : Response = Overflow (answered dvr h) (total dvr h) item need room in
-      ledger_told (entry_of who (Read now count) r) h s (stays_read r ok) runs refl refl (all_told h c.answered)
+      ledger_told (entry_of who (Read now count) r) h s (stays_read r ok) runs refl refl (sub-add_cancel c.answered)
   ledger_after s runs _ ok gives_nothing =
       let c : Coherent (ledger_at dvr h) = coherent h sound s runs in
       ledger_read (entry_of who (Read now count) Passed) h s (stays_read Passed ok) runs refl refl c.answered ∙ rw (zero-add (answered dvr h)) refl

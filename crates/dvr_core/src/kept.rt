@@ -19,9 +19,9 @@ ghost use Rattle.dvr_core.specs.Inside.KeptView.{knows_of, bytes_in, reply_to};
 
 use crate::record::record_all;
 use crate::taps::Taps;
-use crate::tenure::{NOTHING, Tenure, done};
-use dmx_calls::{Answer, Call, Errno, Input, Reply};
-use node_buffer::{plain, refused};
+use crate::tenure::Tenure;
+use dmx_calls::{Answer, Call, Errno, Input, Reply, Tap};
+use node_buffer::{NOTHING, done, plain, refused};
 use pid_set::Pids;
 use std::alloc::Global;
 use std::sync::ledger::Ledger;
@@ -56,7 +56,7 @@ impl Kept {
         match Tenure::new(alloc, who) {
             Ok(tenure) => {
                 self.tenure = Some(tenure);
-                done(NOTHING)
+                done(NOTHING, Tap::Keep)
             }
             Err(_) => Reply::NoMemory,
         }
@@ -125,7 +125,7 @@ impl Kept {
         ensures bytes { bytes_in (knows_of self.new) ≤ bytes_in (knows_of self.old) }
     {
         self.taps.attach(who, node, pids);
-        done(NOTHING)
+        done(NOTHING, Tap::Keep)
     }
 
     /// A client detaches the tap of a demux node, where it is that client's own.
@@ -137,6 +137,6 @@ impl Kept {
         ensures bytes { bytes_in (knows_of self.new) ≤ bytes_in (knows_of self.old) }
     {
         self.taps.detach(who, node);
-        done(NOTHING)
+        done(NOTHING, Tap::Keep)
     }
 }

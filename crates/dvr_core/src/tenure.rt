@@ -2,7 +2,7 @@
 //
 // A call comes here only where it isn't refused. `Does` says what the owner is answered, how the node goes on, and what
 // then holds. No call of the owner looks at the taps, and none at its moment, since nothing expires here: it does so
-// whichever they are.
+// whichever they are. The dvr node has no tap of its own, so no Done tells of one.
 
 ghost use Rattle.std.specs.Prelude.{◌≡◌, ℕ, Bool, true, false, List, Option, IfOk, Some};
 ghost use Rattle.dmx_calls.specs.declared.node.NodeKind.TheVariants.{Dvr};
@@ -18,8 +18,8 @@ ghost use Rattle.node_buffer.specs.Inside.Coherent.{CoherentIn};
 ghost use Rattle.node_buffer.specs.Inside.Gives.{owner_refusal, is_close};
 
 use dmx_calls::limits::DVR_SIZE;
-use dmx_calls::{Answer, ByteBuf, Call, Errno, NodeKind, Params, Reply, Span, State, Tap, refusal};
-use node_buffer::{Buffer, plain, terms_of};
+use dmx_calls::{Answer, ByteBuf, Call, Errno, NodeKind, Params, Reply, State, Tap, refusal};
+use node_buffer::{Buffer, NOTHING, done, plain, terms_of};
 use std::alloc::{AllocError as NoMemory, Global};
 
 /// What the node keeps for its owner.
@@ -31,19 +31,6 @@ pub struct Tenure {
     pub buffer: Buffer,
     // The buffer has the terms of no filter.
     ghost told: { buffer.terms ≡ terms_by Empty },
-}
-
-/// Of a call that drops nothing.
-pub const NOTHING: Span = Span { from: 0, to: 0 };
-
-/// The call was done. The dvr node has no tap of its own.
-pub fn done(dropped: Span) -> Reply
-    ensures { result ≡ Reply.Done dropped Tap.Keep }
-{
-    Reply::Done {
-        dropped,
-        tap: Tap::Keep,
-    }
 }
 
 impl Tenure {
@@ -110,7 +97,7 @@ impl Tenure {
     pub fn close(&self) -> Reply
         ensures { (ended : Bool) (taps : List (Option TapValue)) → response_of result ≡ reply_to (knows_in ended taps (Some self.now)) self.now.owner Close }
     {
-        done(self.buffer.unread())
+        done(self.buffer.unread(), Tap::Keep)
     }
 
     // DMX_SET_BUFFER_SIZE: another size, in bytes, ends the capture, and another begins. The size that the node has
@@ -121,13 +108,13 @@ impl Tenure {
         ensures does { (ended : Bool) → Does ended self.old (SetSize size) (response_of result) self.new }
     {
         if self.buffer.size() == size {
-            return done(NOTHING);
+            return done(NOTHING, Tap::Keep);
         }
         let dropped = self.buffer.unread();
         match self.buffer.resize(alloc, size) {
             Ok(()) => {
                 self.buffer.begin(terms_of(&Params::Empty), 0);
-                done(dropped)
+                done(dropped, Tap::Keep)
             }
             Err(_) => Reply::NoMemory,
         }

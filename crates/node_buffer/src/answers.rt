@@ -1,9 +1,19 @@
-// Answers that hand back what the call brought.
+// What every node answers: that a call was done, and answers that hand back what the call brought.
 
 ghost use Rattle.std.specs.Prelude.{◌≡◌, Option, Some, None};
 ghost use Rattle.dmx_calls.specs.Back.{GivesBack};
 
-use dmx_calls::{Answer, Call, Errno, Reply};
+use dmx_calls::{Answer, Call, Errno, Reply, Span, Tap};
+
+/// Of a call that drops nothing.
+pub const NOTHING: Span = Span { from: 0, to: 0 };
+
+/// The call was done, and what the dvr node is to be told.
+pub fn done(dropped: Span, tap: Tap) -> Reply
+    ensures { result ≡ Reply.Done dropped tap }
+{
+    Reply::Done { dropped, tap }
+}
 
 /// The answer to a call that brought neither a buffer nor a batch.
 pub fn plain(reply: Reply) -> Answer

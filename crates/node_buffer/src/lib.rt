@@ -31,6 +31,6 @@ mod filter;
 #[cfg(test)]
 mod tests;
 
-pub use answers::{plain, refused};
+pub use answers::{NOTHING, done, plain, refused};
 pub use buffer::Buffer;
 pub use filter::{Terms, is_oneshot, terms_of};

@@ -1,5 +1,6 @@
 -- The same for a Read.
 use Rattle.std.proofs.Common.{ℕ, zero, suc, ◌+◌, ◌-◌, ◌≤◌, ◌≡◌, refl, ◌∙◌, ap, Bool, true, false, List, [], ◌∷◌, Option, Some, None, length, take, drop, arith, length-take, add_comm, zero-add, drop-drop}
+use Rattle.std.proofs.Math.Nat.{sub-add_cancel}
 use Rattle.std.specs.Prelude.{if◌then◌else◌, nat_eq, nat_lt}
 use Rattle.std.specs.List.{All, concat}
 use Rattle.section_parse.specs.Sections.{IsSection}
@@ -58,9 +59,6 @@ rest_is h r none fits =
 
 -- ------ the ledger after a Read
 
-all_told : (h : History) → answered demux h ≤ total demux h → (total demux h - answered demux h) + answered demux h ≡ total demux h
-all_told h le = omega (arith, le)
-
 module _ (h : History) (k : Selecting) (t s : Since) (who now count : ℕ) (held : tenure h ≡ Some t) (runs : capture h ≡ Some s) (sound : IsSound (known h k)) where
   abbrev expired_at : Option ℕ
   expired_at = expired_then (params h) (ledger_at demux h) false (Some now)
@@ -88,7 +86,7 @@ module _ (h : History) (k : Selecting) (t s : Since) (who now count : ℕ) (held
   ledger_read _ ok (gives_over item need room) =
       let c : Coherent (ledger_at demux h) = coherent h k s sound runs in
       let r : Response = Overflow (answered demux h) (total demux h) item need room in
-      stepped r _ (ledger_told (entry_of who (Read now count) r) h t s (stays_read h who r ok now count) held runs refl (λ input. refl) (all_told h c.answered))
+      stepped r _ (ledger_told (entry_of who (Read now count) r) h t s (stays_read h who r ok now count) held runs refl (λ input. refl) (sub-add_cancel c.answered))
   ledger_read _ ok (gives_timeout a b d) =
       let c : Coherent (ledger_at demux h) = coherent h k s sound runs in
       stepped (TimedOut a b d) _ (ledger_still (entry_of who (Read now count) (TimedOut a b d)) h t s (stays_read h who (TimedOut a b d) ok now count) held runs refl c.answered (λ input. refl)

@@ -19,9 +19,9 @@ ghost use Rattle.node_core.specs.Inside.KeptView.{knows_of, bytes_in};
 
 use crate::filter::takes_from;
 use crate::offer::offer_all;
-use crate::tenure::{NOTHING, Tenure, done};
+use crate::tenure::Tenure;
 use dmx_calls::{Answer, Call, Errno, Input, Reply, State, Tap};
-use node_buffer::{plain, refused};
+use node_buffer::{NOTHING, done, plain, refused};
 use std::alloc::Global;
 use std::sync::ledger::Ledger;
 use steps::Steps;

@@ -22,11 +22,11 @@ use crate::filter::{rename, select, starts_at_once};
 use crate::tap::tap_of_idle;
 use dmx_calls::limits::DEMUX_SIZE;
 use dmx_calls::{
-    Answer, ByteBuf, Call, Errno, NodeKind, Params, PesParams, Reply, SectionParams, Span, State,
-    Tap, refusal,
+    Answer, ByteBuf, Call, Errno, NodeKind, Params, PesParams, Reply, SectionParams, State, Tap,
+    refusal,
 };
 use item_select::Selector;
-use node_buffer::{Buffer, plain, terms_of};
+use node_buffer::{Buffer, NOTHING, done, plain, terms_of};
 use pid_set::Pids;
 use std::alloc::{AllocError as NoMemory, Global};
 
@@ -43,16 +43,6 @@ pub struct Tenure {
     pub buffer: Buffer,
     // The buffer has the terms of this filter.
     ghost told: { buffer.terms ≡ terms_by (params_of params) },
-}
-
-/// Of a call that drops nothing.
-pub const NOTHING: Span = Span { from: 0, to: 0 };
-
-/// The call was done, and what the dvr node is to be told.
-pub fn done(dropped: Span, tap: Tap) -> Reply
-    ensures { result ≡ Reply.Done dropped tap }
-{
-    Reply::Done { dropped, tap }
 }
 
 impl Tenure {
