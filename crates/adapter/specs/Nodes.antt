@@ -1,4 +1,5 @@
--- The nodes 0 to 32: the demux nodes, and the dvr node last. A history has the oldest entry first here, as that of a lock.
+-- The nodes 0 to 32: the demux nodes, and the dvr node last. A history has the
+-- oldest entry first here, as that of a lock.
 use Rattle.std.specs.Prelude.{ℕ, List, reverse}
 use Rattle.ts_batch.specs.Batch.{Packets}
 use Rattle.atomic_table.specs.Seated.{TableId}
@@ -17,8 +18,10 @@ use Rattle.adapter.specs.Rows.{OneCalls, OneMisses, OneLooks, AllCall}
 abbrev pub IsLegalAt : (node : ℕ) → List Entry → Type 0
 IsLegalAt node h = IsLegalFor (rules_at node) (reverse h)
 
--- the pass of a node has made this entry at this place of the node's history, which is legal with it, and no other pass is changed
-abbrev pub MakesEntry : (node : ℕ) → Entry → (place : ℕ) → List (TableId × View Entry) → List (TableId × View Entry) → Type 0
+-- the pass of a node has made this entry at this place of the node's history, which is legal
+-- with it, and no other pass is changed
+abbrev pub MakesEntry : (node : ℕ) → Entry → (place : ℕ) → List (TableId × View Entry) → List (TableId × View Entry)
+    → Type 0
 MakesEntry node e place old new = OneCalls caller_of (IsLegalAt node) node (λ who. e) place old new
 
 -- the pass of a node has tried in vain
@@ -30,7 +33,8 @@ abbrev pub Looks : (node len : ℕ) → List (TableId × View Entry) → List (T
 Looks node len old new = OneLooks caller_of (IsLegalAt node) node len old new
 
 -- the pass of each node has made this entry, at the place with its number
-abbrev pub MakesEachEntry : Entry → (places : List ℕ) → List (TableId × View Entry) → List (TableId × View Entry) → Type 0
+abbrev pub MakesEachEntry : Entry → (places : List ℕ) → List (TableId × View Entry) → List (TableId × View Entry)
+    → Type 0
 MakesEachEntry e places old new = AllCall caller_of IsLegalAt (λ who. e) places old new
 
 -- the entry that the feeder, caller 0, makes of a batch, and that of the stream's end

@@ -28,7 +28,8 @@ pub record Standing : Type 0 where
   pub from : ℕ
   pub event : Event
 
--- how far a client is: the outcomes of the commands that are through, in the order of their lines, and the command that isn't, if there is one
+-- how far a client is: the outcomes of the commands that are through, in the order of their lines, and
+-- the command that isn't, if there is one
 pub record Progress : Type 0 where
   pub outcomes : List Outcome
   pub standing : Option Standing
@@ -36,13 +37,15 @@ pub record Progress : Type 0 where
 abbrev pub with_outcome : Outcome → Progress → Progress
 with_outcome outcome p = record { outcomes = outcome ∷ p.outcomes; standing = p.standing }
 
--- These commands are done one after another from this step on. Each uses up its own of the replies and leaves the rest to the next.
+-- These commands are done one after another from this step on. Each uses up its own of the
+-- replies and leaves the rest to the next.
 abbrev pub progress_from : Slots → (step : ℕ) → List Command → List Response → Progress
 progress_from slots step [] replies = record { outcomes = []; standing = None }
 progress_from slots step (c ∷ cs) replies = elim (done slots c.target c.verb step replies) [
   | stands event ↦ record { outcomes = []; standing = Some (record { line = c.line; from = step; event = event }) }
   | through ending next left ↦
-      with_outcome (record { line = c.line; from = step; to = next; kind = kind_of ending }) (progress_from (slots_after ending slots) next cs left)
+      with_outcome (record { line = c.line; from = step; to = next; kind = kind_of ending })
+      (progress_from (slots_after ending slots) next cs left)
 ]
 
 -- at first no slot is bound

@@ -57,14 +57,17 @@ NoCommands = (next_event 1 one_read [] ≡ None) × (outcomes 1 one_read [] ≡ 
 
 -- a read that waits for bytes
 abbrev pub waiting : List Line
-waiting = Command 1 0 (Node 0) Open ∷ Command 2 0 (Node 0) (Pes recording) ∷ Command 3 0 (Node 0) Start ∷ Command 4 0 (Node 0) (ReadWait 2) ∷ []
+waiting = Command 1 0 (Node 0) Open ∷ Command 2 0 (Node 0) (Pes recording) ∷ Command 3 0 (Node 0) Start
+    ∷ Command 4 0 (Node 0) (ReadWait 2) ∷ []
 
 abbrev pub WaitedRead : Type 0
 WaitedRead = outcomes 0 waiting (keep ∷ keep ∷ keep ∷ Again false ∷ Again false ∷ Data (0x47 ∷ 0x01 ∷ []) ∷ [])
     ≡ done_line 1 0 1 ∷ done_line 2 1 2 ∷ done_line 3 2 3 ∷ done_line 4 3 6 ∷ []
 
 abbrev pub WaitsOnItsNode : Type 0
-WaitsOnItsNode = (waits_on 0 waiting (keep ∷ keep ∷ keep ∷ Again false ∷ []) ≡ Some 0) × (waits_on 0 waiting (keep ∷ keep ∷ keep ∷ []) ≡ None)
+WaitsOnItsNode =
+    (waits_on 0 waiting (keep ∷ keep ∷ keep ∷ Again false ∷ []) ≡ Some 0)
+    × (waits_on 0 waiting (keep ∷ keep ∷ keep ∷ []) ≡ None)
     × (waits_on 0 waiting (keep ∷ keep ∷ keep ∷ Again true ∷ []) ≡ None)
 
 abbrev pub WaitEndsWithTheStream : Type 0
@@ -75,7 +78,9 @@ abbrev pub draining : List Line
 draining = Command 1 2 (Node 3) (Drain 9) ∷ []
 
 abbrev pub DrainGoesOn : Type 0
-DrainGoesOn = next_event 2 draining (Again false ∷ Data (1 ∷ []) ∷ Overflow 1 9 2 3 0 ∷ []) ≡ Some (record { step = 3; node = 3; want = AskRead 9 })
+DrainGoesOn =
+    next_event 2 draining (Again false ∷ Data (1 ∷ []) ∷ Overflow 1 9 2 3 0 ∷ [])
+    ≡ Some (record { step = 3; node = 3; want = AskRead 9 })
 
 abbrev pub DrainEnds : Type 0
 DrainEnds = (outcomes 2 draining (Data (1 ∷ []) ∷ Again true ∷ []) ≡ done_line 1 0 2 ∷ [])
@@ -89,10 +94,14 @@ taps = Command 1 0 (Node 3) Start ∷ Command 2 0 (Node 3) Stop ∷ Command 3 0 
 
 abbrev pub TapIsTold : Type 0
 TapIsTold =
-    (next_event 0 taps (Done 0 0 (AttachTap (256 ∷ [])) ∷ []) ≡ Some (record { step = 1; node = 32; want = AskAttach 3 (256 ∷ []) }))
-    × (next_event 0 taps (Done 0 0 (AttachTap (256 ∷ [])) ∷ keep ∷ []) ≡ Some (record { step = 2; node = 3; want = AskStop }))
-    × (next_event 0 taps (Done 0 0 (AttachTap (256 ∷ [])) ∷ keep ∷ Done 0 0 DetachTap ∷ []) ≡ Some (record { step = 3; node = 32; want = AskDetach 3 }))
-    × (outcomes 0 taps (Done 0 0 (AttachTap (256 ∷ [])) ∷ keep ∷ Done 0 0 DetachTap ∷ keep ∷ keep ∷ []) ≡ done_line 1 0 2 ∷ done_line 2 2 4 ∷ done_line 3 4 5 ∷ [])
+    (next_event 0 taps (Done 0 0 (AttachTap (256 ∷ [])) ∷ [])
+    ≡ Some (record { step = 1; node = 32; want = AskAttach 3 (256 ∷ []) }))
+    × (next_event 0 taps (Done 0 0 (AttachTap (256 ∷ [])) ∷ keep ∷ [])
+    ≡ Some (record { step = 2; node = 3; want = AskStop }))
+    × (next_event 0 taps (Done 0 0 (AttachTap (256 ∷ [])) ∷ keep ∷ Done 0 0 DetachTap ∷ [])
+    ≡ Some (record { step = 3; node = 32; want = AskDetach 3 }))
+    × (outcomes 0 taps (Done 0 0 (AttachTap (256 ∷ [])) ∷ keep ∷ Done 0 0 DetachTap ∷ keep ∷ keep ∷ [])
+    ≡ done_line 1 0 2 ∷ done_line 2 2 4 ∷ done_line 3 4 5 ∷ [])
 
 -- 33 slots are opened, where there are 32 nodes: the open of slot k finds k nodes busy
 abbrev pub slots_opened : List Line
@@ -107,14 +116,18 @@ last_of (x ∷ []) = Some x
 last_of (x ∷ y ∷ ys) = last_of (y ∷ ys)
 
 abbrev pub AllNodesAreBusy : Type 0
-AllNodesAreBusy = last_of (outcomes 0 slots_opened slot_replies) ≡ Some (record { line = 33; from = 528; to = 560; kind = Emfile })
+AllNodesAreBusy =
+    last_of (outcomes 0 slots_opened slot_replies) ≡ Some (record { line = 33; from = 528; to = 560; kind = Emfile })
 
 abbrev pub UnboundSlot : Type 0
-UnboundSlot = outcomes 0 (Command 1 0 (Slot 5) Stop ∷ []) [] ≡ record { line = 1; from = 0; to = 0; kind = Unbound } ∷ []
+UnboundSlot =
+    outcomes 0 (Command 1 0 (Slot 5) Stop ∷ []) [] ≡ record { line = 1; from = 0; to = 0; kind = Unbound } ∷ []
 
 -- a slot is bound to the first node that isn't busy, and stays bound
 abbrev pub BoundSlot : Type 0
-BoundSlot = next_event 0 (Command 1 0 (Slot 5) Open ∷ Command 2 0 (Slot 5) Close ∷ Command 3 0 (Slot 5) Start ∷ []) (Busy 2 ∷ keep ∷ keep ∷ [])
+BoundSlot =
+    next_event 0 (Command 1 0 (Slot 5) Open ∷ Command 2 0 (Slot 5) Close ∷ Command 3 0 (Slot 5) Start ∷ [])
+    (Busy 2 ∷ keep ∷ keep ∷ [])
     ≡ Some (record { step = 3; node = 1; want = AskStart })
 
 -- a slot whose open finds all nodes busy is bound as before
@@ -122,8 +135,11 @@ abbrev pub reopened : List Line
 reopened = Command 1 0 (Slot 5) Open ∷ Command 2 0 (Slot 5) Open ∷ Command 3 0 (Slot 5) Start ∷ []
 
 abbrev pub SlotStaysBound : Type 0
-SlotStaysBound = next_event 0 reopened (Busy 2 ∷ keep ∷ replicate 32 (Busy 1)) ≡ Some (record { step = 34; node = 1; want = AskStart })
+SlotStaysBound =
+    next_event 0 reopened (Busy 2 ∷ keep ∷ replicate 32 (Busy 1))
+    ≡ Some (record { step = 34; node = 1; want = AskStart })
 
 -- a slot that is opened again is bound to the node that was found
 abbrev pub SlotIsBoundAnew : Type 0
-SlotIsBoundAnew = next_event 0 reopened (keep ∷ Busy 1 ∷ Busy 1 ∷ keep ∷ []) ≡ Some (record { step = 4; node = 2; want = AskStart })
+SlotIsBoundAnew =
+    next_event 0 reopened (keep ∷ Busy 1 ∷ Busy 1 ∷ keep ∷ []) ≡ Some (record { step = 4; node = 2; want = AskStart })

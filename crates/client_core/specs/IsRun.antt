@@ -29,7 +29,8 @@ pub record Step : Type 0 where
 -- what the feeder does on each node: the batches pass, one after another, and then End
 abbrev pub feeding : (first step : ℕ) → List Batch → List Step
 feeding first step [] = record { step = step; act = EndAct } ∷ []
-feeding first step (b ∷ bs) = record { step = step; act = PassAct Frontend first b.size b.moment } ∷ feeding (first + b.size) (suc step) bs
+feeding first step (b ∷ bs) =
+    record { step = step; act = PassAct Frontend first b.size b.moment } ∷ feeding (first + b.size) (suc step) bs
 
 -- the calls of a caller on a node, in the order of the node's history
 abbrev pub steps_of : (who : ℕ) → List LogEntry → List Step
@@ -57,25 +58,33 @@ IsEvent (Some event) e = (e.node ≡ event.node) × ((moment : ℕ) × (e.act �
 abbrev pub replies : List LogEntry → List Response
 replies made = map (λ e. e.response) made
 
--- A client did just what its commands ask, by the replies that it got, to their end: `made` is its calls in their order.
+-- A client did just what its commands ask, by the replies that it got, to their
+-- end: `made` is its calls in their order.
 pub record HasDone (lines : List Line) (client : ℕ) (hs : List (List LogEntry)) : Type 0 where
   pub made : List LogEntry
   -- its steps are 0, 1, .., and each is the call that its commands ask for after the replies before it
-  pub steps : (i : ℕ) (e : LogEntry) → slice_get made i ≡ Some e → (e.step ≡ i) × (e.who ≡ client + 1) × StandsIn hs e × IsEvent (next_event client lines (replies (take i made))) e
+  pub steps : (i : ℕ) (e : LogEntry) → slice_get made i ≡ Some e
+      → (e.step ≡ i) × (e.who ≡ client + 1) × StandsIn hs e
+      × IsEvent (next_event client lines (replies (take i made))) e
   -- after all of them the commands are through
   pub ends : next_event client lines (replies made) ≡ None
   -- the histories have no other call of this client
-  pub only : (node place : ℕ) (h : List LogEntry) (e : LogEntry) → slice_get hs node ≡ Some h → slice_get h place ≡ Some e → e.who ≡ client + 1 → slice_get made e.step ≡ Some e
+  pub only : (node place : ℕ) (h : List LogEntry) (e : LogEntry) → slice_get hs node ≡ Some h
+      → slice_get h place ≡ Some e → e.who ≡ client + 1 → slice_get made e.step ≡ Some e
   -- on each node its calls stand in the order in which it made them
-  pub in_order : (i j : ℕ) (e f : LogEntry) → i < j → slice_get made i ≡ Some e → slice_get made j ≡ Some f → e.node ≡ f.node → e.place < f.place
+  pub in_order : (i j : ℕ) (e f : LogEntry) → i < j → slice_get made i ≡ Some e → slice_get made j ≡ Some f
+      → e.node ≡ f.node → e.place < f.place
 
 -- ------ the run
 
--- These histories are those of a run of the script: `most` is the greatest number of packets of a batch, and `stream` is the packets of the stream.
+-- These histories are those of a run of the script: `most` is the greatest number of packets of a batch, and
+-- `stream` is the packets of the stream.
 pub record IsRun (lines : List Line) (most : ℕ) (stream : List (List ℕ)) (hs : List (List LogEntry)) : Type 0 where
   pub nodes : length hs ≡ DEMUX_NODES + 1
   -- each entry stands on its node and at its place, its caller is the feeder or a client, and memory was found
-  pub places : (node place : ℕ) (h : List LogEntry) (e : LogEntry) → slice_get hs node ≡ Some h → slice_get h place ≡ Some e → (e.node ≡ node) × (e.place ≡ place) × (e.who ≤ clients_in lines) × (e.response ≢ NoMemory)
+  pub places : (node place : ℕ) (h : List LogEntry) (e : LogEntry) → slice_get hs node ≡ Some h
+      → slice_get h place ≡ Some e → (e.node ≡ node) × (e.place ≡ place) × (e.who ≤ clients_in lines)
+      × (e.response ≢ NoMemory)
   -- each response is the one that the entries before it give
   pub legal : (node : ℕ) (h : List LogEntry) → slice_get hs node ≡ Some h → IsLegalFor (rules_at node) (filled stream h)
   pub fed : IsFed most (length stream) hs

@@ -36,12 +36,14 @@ FeedsAndTicks = meanings (codes "feed 1" ∷ codes "tick 0" ∷ []) ≡ Ok (Some
 abbrev pub Commands : Type 0
 Commands =
     meanings (codes "c0 open h31" ∷ codes "c7 close dvr" ∷ codes "c1 drain n2 65536" ∷ codes "c1 readw n31 0" ∷ [])
-    ≡ Ok (Some (Command 5 0 (Slot 31) Open)) ∷ Ok (Some (Command 5 7 Dvr Close)) ∷ Ok (Some (Command 5 1 (Node 2) (Drain 65536))) ∷ Ok (Some (Command 5 1 (Node 31) (ReadWait 0))) ∷ []
+    ≡ Ok (Some (Command 5 0 (Slot 31) Open)) ∷ Ok (Some (Command 5 7 Dvr Close))
+    ∷ Ok (Some (Command 5 1 (Node 2) (Drain 65536))) ∷ Ok (Some (Command 5 1 (Node 31) (ReadWait 0))) ∷ []
 
 abbrev pub PesFilter : Type 0
 PesFilter =
     meaning 5 (codes "c4 pes n4 256 frontend ts_tap 20 0")
-    ≡ Ok (Some (Command 5 4 (Node 4) (Pes (record { pid = 256; input = Frontend; output = TsTap; pes_type = 20; flags = 0 }))))
+    ≡ Ok (Some (Command 5 4 (Node 4) (Pes
+    (record { pid = 256; input = Frontend; output = TsTap; pes_type = 20; flags = 0 }))))
 
 abbrev pub SectionFilter : Type 0
 SectionFilter =
@@ -66,33 +68,46 @@ abbrev pub CommandFaults : Type 0
 CommandFaults = HaveFault NoCommand (codes "c0  open n0" ∷ codes "c0 strat" ∷ codes "c0 strat n32 x" ∷ [])
 
 abbrev pub TargetFaults : Type 0
-TargetFaults = HaveFault NoTarget (codes "c0 open n32" ∷ codes "c0 open h32" ∷ codes "c0 open n00" ∷ codes "c0 read n32 65537" ∷ [])
+TargetFaults =
+    HaveFault NoTarget (codes "c0 open n32" ∷ codes "c0 open h32" ∷ codes "c0 open n00" ∷ codes "c0 read n32 65537"
+    ∷ [])
 
 abbrev pub NumberFaults : Type 0
-NumberFaults = HaveFault Number (codes "feed 0" ∷ codes "feed 4294967296" ∷ codes "tick 00" ∷ codes "c0 read n0 65537" ∷ codes "c0 add n0 65536 x" ∷ [])
+NumberFaults =
+    HaveFault Number (codes "feed 0" ∷ codes "feed 4294967296" ∷ codes "tick 00" ∷ codes "c0 read n0 65537"
+    ∷ codes "c0 add n0 65536 x" ∷ [])
 
 abbrev pub NameFaults : Type 0
 NameFaults = HaveFault Name (codes "c0 pes n0 0 tap tap 0 0" ∷ codes "c0 pes n0 0 dvr dvr x" ∷ [])
 
 abbrev pub BytesFaults : Type 0
-BytesFaults = HaveFault Bytes (codes "c0 section n0 1 0 0 3=00/ff/00 3=00/ff/00" ∷ codes "c0 section n0 1 0 0 16=00/ff/00" ∷ codes "c0 section n0 1 0 0 3=00/FF/00" ∷ codes "c0 section n0 1 0 0 " ∷ [])
+BytesFaults =
+    HaveFault Bytes (codes "c0 section n0 1 0 0 3=00/ff/00 3=00/ff/00" ∷ codes "c0 section n0 1 0 0 16=00/ff/00"
+    ∷ codes "c0 section n0 1 0 0 3=00/FF/00" ∷ codes "c0 section n0 1 0 0 " ∷ [])
 
 abbrev pub CountFaults : Type 0
-CountFaults = HaveFault Count (codes "feed" ∷ codes "feed 1 1" ∷ codes "c0 start" ∷ codes "c0 start n0 " ∷ codes "c0 section n0 1 0" ∷ [])
+CountFaults =
+    HaveFault Count (codes "feed" ∷ codes "feed 1 1" ∷ codes "c0 start" ∷ codes "c0 start n0 "
+    ∷ codes "c0 section n0 1 0" ∷ [])
 
 -- ------ scripts
 
 abbrev pub ThirdLine : Type 0
-ThirdLine = grammar (text (codes "c0 open n0" ∷ codes "c0 close n0" ∷ codes "c0 strat n0" ∷ codes "stream" ∷ [])) ≡ Err (record { line = 3; kind = NoCommand })
+ThirdLine =
+    grammar (text (codes "c0 open n0" ∷ codes "c0 close n0" ∷ codes "c0 strat n0" ∷ codes "stream" ∷ []))
+    ≡ Err (record { line = 3; kind = NoCommand })
 
 abbrev pub LinesBehindTheStream : Type 0
-LinesBehindTheStream = grammar (text (codes "#" ∷ codes "c1 open n0" ∷ codes "stream" ∷ codes "c9" ∷ [])) ≡ Ok (Command 2 1 (Node 0) Open ∷ [])
+LinesBehindTheStream =
+    grammar (text (codes "#" ∷ codes "c1 open n0" ∷ codes "stream" ∷ codes "c9" ∷ []))
+    ≡ Ok (Command 2 1 (Node 0) Open ∷ [])
 
 abbrev pub NoBytes : Type 0
 NoBytes = grammar [] ≡ Err (record { line = 1; kind = NoStream })
 
 abbrev pub LineWithoutItsEnd : Type 0
-LineWithoutItsEnd = grammar (text (codes "feed 1" ∷ [] ∷ []) ++ codes "stream") ≡ Err (record { line = 3; kind = NoStream })
+LineWithoutItsEnd =
+    grammar (text (codes "feed 1" ∷ [] ∷ []) ++ codes "stream") ≡ Err (record { line = 3; kind = NoStream })
 
 abbrev pub FaultBeforeTheEnd : Type 0
 FaultBeforeTheEnd = grammar (text (codes "feed 1" ∷ codes "feed" ∷ [])) ≡ Err (record { line = 2; kind = Count })
@@ -102,7 +117,10 @@ FaultBeforeTheEnd = grammar (text (codes "feed 1" ∷ codes "feed" ∷ [])) ≡ 
 abbrev pub InputWithAStream : Type 0
 InputWithAStream =
     split (text (codes "feed 1" ∷ codes "stream" ∷ codes "stream" ∷ []) ++ 71 ∷ [])
-    ≡ record { script = text (codes "feed 1" ∷ codes "stream" ∷ []); stream = Some (text (codes "stream" ∷ []) ++ 71 ∷ []) }
+    ≡ record {
+      script = text (codes "feed 1" ∷ codes "stream" ∷ []);
+      stream = Some (text (codes "stream" ∷ []) ++ 71 ∷ []);
+    }
 
 abbrev pub InputWithoutAStream : Type 0
 InputWithoutAStream = split (codes "stream") ≡ record { script = codes "stream"; stream = None }
@@ -113,7 +131,8 @@ InputWithoutAStream = split (codes "stream") ≡ record { script = codes "stream
 abbrev pub Spellings : Type 0
 Spellings =
     map spelling (Feed 1 ∷ Tick 0 ∷ Command 5 7 Dvr Open ∷ Command 5 1 (Slot 31) (ReadWait 65536) ∷ [])
-    ≡ map (λ line. line ++ 10 ∷ []) (codes "feed 1" ∷ codes "tick 0" ∷ codes "c7 open dvr" ∷ codes "c1 readw h31 65536" ∷ [])
+    ≡ map (λ line. line ++ 10 ∷ []) (codes "feed 1" ∷ codes "tick 0" ∷ codes "c7 open dvr" ∷ codes "c1 readw h31 65536"
+    ∷ [])
 
 abbrev pub SectionSpelling : Type 0
 SectionSpelling =
@@ -131,5 +150,11 @@ SectionSpelling =
 
 abbrev pub PesSpelling : Type 0
 PesSpelling =
-    spelling (Command 5 4 (Node 4) (Pes (record { pid = 256; input = Frontend; output = TsTap; pes_type = 20; flags = 0 })))
+    spelling (Command 5 4 (Node 4) (Pes (record {
+      pid = 256;
+      input = Frontend;
+      output = TsTap;
+      pes_type = 20;
+      flags = 0;
+    })))
     ≡ codes "c4 pes n4 256 frontend ts_tap 20 0" ++ 10 ∷ []

@@ -168,4 +168,5 @@ IsTargetInRange Dvr = Unit {0}
 abbrev pub IsInRange : Line → Type 0
 IsInRange (Feed n) = (1 ≤ n) × (n ≤ 4294967295)
 IsInRange (Tick n) = n ≤ 4294967295
-IsInRange (Command line client target verb) = (1 ≤ line) × (line ≤ 1048576) × (client ≤ 7) × IsTargetInRange target × IsVerbInRange verb
+IsInRange (Command line client target verb) =
+    (1 ≤ line) × (line ≤ 1048576) × (client ≤ 7) × IsTargetInRange target × IsVerbInRange verb

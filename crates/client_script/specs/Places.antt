@@ -7,8 +7,8 @@ use Rattle.text_forms.specs.Places.{place_named}
 use Rattle.client_script.specs.Words.{Reading, and_then, made, said}
 use Rattle.client_script.specs.declared.fault.FaultKind.TheVariants.{Bytes}
 
--- The places that the words at the front spell, of at most `left` words. Each has a greater number than the one before, and
--- the first has `least` or more.
+-- The places that the words at the front spell, of at most `left` words. Each has a greater number than the one
+-- before, and the first has `least` or more.
 unfoldable pub places_in : (left least : ℕ) → List (List ℕ) → Reading (List Place)
 places_in zero least words = Ok ([], words)
 places_in (suc left) least [] = Ok ([], [])

@@ -20,8 +20,8 @@ without_last [] = []
 without_last (piece ∷ []) = []
 without_last (piece ∷ next ∷ more) = piece ∷ without_last (next ∷ more)
 
--- The whole lines of these bytes, each without the line feed that ends it, byte 10. What stands behind the last line feed
--- is no whole line.
+-- The whole lines of these bytes, each without the line feed that ends it, byte 10. What stands
+-- behind the last line feed is no whole line.
 abbrev pub whole_lines : List ℕ → List (List ℕ)
 whole_lines bytes = without_last (slice_split (λ byte. byte == 10) bytes)
 
@@ -53,8 +53,8 @@ lines_from missing line [] = Err missing
 lines_from missing line (bytes ∷ more) =
     if is_stream bytes then Ok [] else before line (meaning line bytes) (lines_from missing (line + 1) more)
 
--- The lines of a script, in their order, or its first fault. Lines are numbered from 1. Where none is the line `stream`,
--- and none has a fault, the fault is in the line 1 plus the number of line feeds.
+-- The lines of a script, in their order, or its first fault. Lines are numbered from 1. Where none is the line
+-- `stream`, and none has a fault, the fault is in the line 1 plus the number of line feeds.
 unfoldable pub grammar : List ℕ → Parsed
 grammar bytes =
     let missing : ScriptFault = record { line = 1 + count_by (λ byte. byte == 10) bytes; kind = NoStream } in
@@ -105,7 +105,7 @@ abbrev pub parted : List ℕ → Option ℕ → Parts
 parted input (Some n) = record { script = take n input; stream = Some (drop n input) }
 parted input None = record { script = take most_bytes input; stream = None }
 
--- A session's input: its script part, up to and with the first whole line `stream` among the bytes that are searched, and
--- the stream behind that.
+-- A session's input: its script part, up to and with the first whole line `stream` among the bytes that are
+-- searched, and the stream behind that.
 unfoldable pub split : List ℕ → Parts
 split input = parted input (script_len (whole_lines (take most_bytes input)))

@@ -31,7 +31,8 @@ unfoldable pub word_in : List (List ℕ) → Reading (List ℕ)
 word_in [] = Err Count
 word_in (word ∷ words) = Ok (word, words)
 
--- what the word in the next place spells, as that place asks; where it spells nothing of the sort, the fault is of this kind
+-- what the word in the next place spells, as that place asks; where it spells nothing
+-- of the sort, the fault is of this kind
 abbrev pub asked : {A : Type 0} → FaultKind → (spelled : List ℕ → Option A) → List (List ℕ) → Reading A
 asked kind spelled words = and_then (word_in words) (λ word words. said kind (spelled word) words)
 

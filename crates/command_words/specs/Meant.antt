@@ -45,8 +45,12 @@ self_test_by number batch = option_and_then (λ n. option_map (λ b. SelfTest n 
 -- `selftest`: a number alone, or before the option or behind it
 unfoldable pub self_test_of : List (List ℕ) → Option Command
 self_test_of (word ∷ []) = self_test_by (session_number word) (batch_of [])
-self_test_of (a ∷ b ∷ []) = option_or (self_test_by (session_number a) (batch_of (b ∷ []))) (self_test_by (session_number b) (batch_of (a ∷ [])))
-self_test_of (a ∷ b ∷ c ∷ []) = option_or (self_test_by (session_number a) (batch_of (b ∷ c ∷ []))) (self_test_by (session_number c) (batch_of (a ∷ b ∷ [])))
+self_test_of (a ∷ b ∷ []) =
+    option_or (self_test_by (session_number a) (batch_of (b ∷ [])))
+    (self_test_by (session_number b) (batch_of (a ∷ [])))
+self_test_of (a ∷ b ∷ c ∷ []) =
+    option_or (self_test_by (session_number a) (batch_of (b ∷ c ∷ [])))
+    (self_test_by (session_number c) (batch_of (a ∷ b ∷ [])))
 self_test_of _ = None
 
 -- the command of a first word and the words behind it

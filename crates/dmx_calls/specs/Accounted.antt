@@ -7,7 +7,8 @@ use Rattle.dmx_calls.specs.Rules.{Rules}
 use Rattle.dmx_calls.specs.Ledger.{joined, total, answered}
 
 module _ (node : Rules) where
-  -- After the history h a response fits where Data gives the next bytes from the place up to which all is answered, and Overflow names all bytes from there on, as many as there are then.
+  -- After the history h a response fits where Data gives the next bytes from the place up to which all is answered, and
+  -- Overflow names all bytes from there on, as many as there are then.
   abbrev pub Fits : List ℕ → History → Response → Type 0
   Fits bytes h (Data given) = given ≡ take (length given) (drop (answered node h) bytes)
   Fits bytes h (Overflow from to item need room) = (from ≡ answered node h) × (to ≡ total node h)

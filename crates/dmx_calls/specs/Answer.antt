@@ -41,7 +41,8 @@ abbrev pub is_same_size : Facts → Invocation → Bool
 is_same_size f (SetSize size) = nat_eq size f.size
 is_same_size f _ = false
 
--- The owner test comes first, then the table; a SetSize to the size that the node has is no change, so it isn't asked of the table.
+-- The owner test comes first, then the table; a SetSize to the size that the node has is no
+-- change, so it isn't asked of the table.
 abbrev pub refusal_to : NodeKind → Facts → (who : ℕ) → Invocation → Option Errno
 refusal_to kind f who call =
     if is_for_anybody kind call then None
@@ -53,7 +54,13 @@ refusal_to kind f who call =
 
 -- it runs, and its packets go to the dvr node
 abbrev pub is_recording : Facts → Bool
-is_recording f = elim (f.params) [ Pes p ↦ (elim (p.output) [ TsTap ↦ (elim (state_of f) [ Go ↦ true | _ ↦ false ]) | _ ↦ false ]) | _ ↦ false ]
+is_recording f = elim (f.params) [
+  | Pes p ↦ (elim (p.output) [
+    | TsTap ↦ (elim (state_of f) [ Go ↦ true | _ ↦ false ])
+    | _ ↦ false
+  ])
+  | _ ↦ false
+]
 
 -- a Start, a set call, or a call that changes the PIDs
 abbrev pub renews_tap : Facts → Invocation → Bool
@@ -64,7 +71,8 @@ renews_tap f (AddPid pid) = not (has_pid pid f.pids)
 renews_tap f (RemovePid pid) = has_pid pid f.pids
 renews_tap f _ = false
 
--- What Done tells of the tap: attach it, where the node records after the call and the call may have changed the tap; detach it, where the node recorded before and no longer does. f is before the call, g after it.
+-- What Done tells of the tap: attach it, where the node records after the call and the call may have changed the tap;
+-- detach it, where the node recorded before and no longer does. f is before the call, g after it.
 abbrev pub tap_of_done : Facts → Invocation → Facts → TapChange
 tap_of_done f call g =
     if is_recording g then (if renews_tap f call then AttachTap g.pids else KeepTap)
@@ -92,7 +100,8 @@ abbrev pub read_over : Facts → Ledger → Option Misfit → (expired : Option 
 read_over f l (Some x) expired count = Overflow l.answered l.total x.item x.need x.room
 read_over f l None expired count = read_timeout f l expired count
 
--- The response of a Read is the first of these that applies: no bytes without a capture; else the pending overflow; else the expiry, once; else no bytes for a count of 0; else Again where all is answered; else bytes.
+-- The response of a Read is the first of these that applies: no bytes without a capture; else the pending overflow;
+-- else the expiry, once; else no bytes for a count of 0; else Again where all is answered; else bytes.
 abbrev pub read_response : Facts → Option Ledger → (expired : Option ℕ) → (count : ℕ) → Response
 read_response f None expired count = Data []
 read_response f (Some l) expired count = read_over f l l.over expired count
@@ -121,7 +130,9 @@ answered_of (Some l) = l.answered
 
 -- A Poll: whether a Read of one byte would give something, what is pending, and the place up to which all is answered.
 abbrev pub poll_response : Facts → (expired : Option ℕ) → Response
-poll_response f expired = Ready (is_readable (read_response f f.ledger expired 1)) (pending f.ledger expired) (answered_of f.ledger) f.has_ended
+poll_response f expired =
+    Ready (is_readable (read_response f f.ledger expired 1)) (pending f.ledger expired)
+    (answered_of f.ledger) f.has_ended
 
 -- ------ all calls
 
@@ -148,7 +159,8 @@ response_to f g (AddPid pid) = Done 0 0 (tap_of_done f (AddPid pid) g)
 response_to f g (RemovePid pid) = Done 0 0 (tap_of_done f (RemovePid pid) g)
 response_to f g (Start now) = done_dropping f.ledger (tap_of_done f (Start now) g)
 response_to f g Stop = Done 0 0 (tap_of_done f Stop g)
-response_to f g (SetSize size) = if nat_eq size f.size then Done 0 0 KeepTap else done_dropping f.ledger (tap_of_done f (SetSize size) g)
+response_to f g (SetSize size) =
+    if nat_eq size f.size then Done 0 0 KeepTap else done_dropping f.ledger (tap_of_done f (SetSize size) g)
 response_to f g (Read now count) = read_response f f.ledger (expired_of g.ledger) count
 response_to f g (Poll now) = poll_response f (expired_of g.ledger)
 response_to f g (Pass input first packets now) = Passed
@@ -163,7 +175,8 @@ response_unless (Some errno) response = Refused errno
 abbrev pub answer_by : NodeKind → Facts → Facts → (who : ℕ) → Invocation → Response
 answer_by kind f g who call = response_unless (refusal_to kind f who call) (response_to f g call)
 
--- The history with this call and any response by which it is accepted: what was set, the capture, what is live and the expiry look at the calls alone.
+-- The history with this call and any response by which it is accepted: what was set, the capture, what is live
+-- and the expiry look at the calls alone.
 abbrev pub with_call : History → (who : ℕ) → Invocation → History
 with_call h who call = entry_of who call Passed ∷ h
 

@@ -23,4 +23,5 @@ HandsBackBatch (Pass input batch now) back = back ≡ Some batch.value
 HandsBackBatch _ back = back ≡ None
 
 abbrev pub GivesBack : Call → Answer → Type 0
-GivesBack call answer = HandsBackBuffer call answer.reply answer.back × HandsBackBatch call (option_map (λ batch. batch.value) answer.batch)
+GivesBack call answer =
+    HandsBackBuffer call answer.reply answer.back × HandsBackBatch call (option_map (λ batch. batch.value) answer.batch)

@@ -14,8 +14,10 @@ bytes_answered (e ∷ h) = answered_in (event e h) + bytes_answered h
 
 -- A node answers no more bytes than its passes bring.
 abbrev pub AnswersFitThePackets : Rules → Type 0
-AnswersFitThePackets node = (h : History) → IsLegalFor node h → All IsPacket (brought_by h) → bytes_answered h ≤ 188 * length (brought_by h)
+AnswersFitThePackets node =
+    (h : History) → IsLegalFor node h → All IsPacket (brought_by h) → bytes_answered h ≤ 188 * length (brought_by h)
 
 -- An Overflow names at least one byte: while one is pending, not all bytes are answered.
 abbrev pub OverflowNamesAByte : Rules → Type 0
-OverflowNamesAByte node = (h : History) (x : Misfit) → IsLegalFor node h → over node h ≡ Some x → answered node h < total node h
+OverflowNamesAByte node =
+    (h : History) (x : Misfit) → IsLegalFor node h → over node h ≡ Some x → answered node h < total node h

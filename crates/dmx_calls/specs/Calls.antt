@@ -56,4 +56,11 @@ response_of PassedReply = Passed
 
 -- an entry of the code, as one of a log
 abbrev pub told_entry : ToldEntry → LogEntry
-told_entry e = record { node = e.node; place = e.place; step = e.step; who = e.who; act = e.act; response = response_of e.reply }
+told_entry e = record {
+  node = e.node;
+  place = e.place;
+  step = e.step;
+  who = e.who;
+  act = e.act;
+  response = response_of e.reply;
+}

@@ -1,5 +1,6 @@
 -- A capture: what a node collects from a start on.
--- Source: the Linux media API, chapter Digital TV demux (DMX_START, DMX_STOP, DMX_IMMEDIATE_START); what ends a capture is this project's rule.
+-- Source: the Linux media API, chapter Digital TV demux (DMX_START, DMX_STOP, DMX_IMMEDIATE_START); what
+-- ends a capture is this project's rule.
 use Rattle.std.specs.Prelude.{ℕ, Bool, true, false, not, ◌||◌, nat_eq, List, [], ◌∷◌, Option, Some, None, unwrap_or, if◌then◌else◌}
 use Rattle.std.specs.List.{list_any}
 use Rattle.ts_packet.specs.Fields.{bit}
@@ -25,7 +26,8 @@ begins ev = elim (ev.entry.invocation) [
   | _ ↦ false
 ]
 
--- The capture is the last that began in the tenure. There is none where a set call without that flag, or a SetSize to another size, came after. Stop doesn't end it.
+-- The capture is the last that began in the tenure. There is none where a set call without that flag, or a SetSize to
+-- another size, came after. Stop doesn't end it.
 unfoldable pub capture : History → Option Since
 capture h = since begins (λ ev. sets ev || resizes ev) (after_of (tenure h))
 

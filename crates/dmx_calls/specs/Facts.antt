@@ -21,9 +21,11 @@ pub record Ledger : Type 0 where
   pub answered : ℕ
   -- the pending overflow
   pub over : Option Misfit
-  -- The bytes that a Read may still give: those of the capture from place `answered` on. There are none while an overflow is pending, since the Read that finds it gives none and the next begins behind it.
+  -- The bytes that a Read may still give: those of the capture from place `answered` on. There are none while an
+  -- overflow is pending, since the Read that finds it gives none and the next begins behind it.
   pub unread : List ℕ
-  -- On a section filter, how many of these belong to the item in which place `answered` stands. It is 0 where there are none, and on any other node, whose Reads go on over the end of an item.
+  -- On a section filter, how many of these belong to the item in which place `answered` stands. It is 0 where there are
+  -- none, and on any other node, whose Reads go on over the end of an item.
   pub rest : ℕ
 
 -- what it says of the node
@@ -42,7 +44,8 @@ unread_of None answered bytes = drop answered bytes
 -- what is left of the item in which this place of the joined items stands
 abbrev pub rest_of_item : List (List ℕ) → ℕ → ℕ
 rest_of_item [] place = 0
-rest_of_item (item ∷ items) place = if nat_lt place (length item) then length item - place else rest_of_item items (place - length item)
+rest_of_item (item ∷ items) place =
+    if nat_lt place (length item) then length item - place else rest_of_item items (place - length item)
 
 abbrev pub rest_of : Params → Option Misfit → List (List ℕ) → ℕ → ℕ
 rest_of (Section p) None items place = rest_of_item items place
@@ -100,6 +103,8 @@ abbrev pub state_of_owner : Option ℕ → Params → Option Ledger → State
 state_of_owner None params ledger = Free
 state_of_owner (Some who) params ledger = state_of_filter params ledger
 
--- The state is the first of these that applies: Free without an owner; Allocated without a filter; Set without a capture, or with a Stop in it; TimedOut where it has expired; Done where a one-shot filter has had its section; else Go.
+-- The state is the first of these that applies: Free without an owner; Allocated without a
+-- filter; Set without a capture, or with a Stop in it; TimedOut where it has expired; Done
+-- where a one-shot filter has had its section; else Go.
 abbrev pub state_of : Facts → State
 state_of f = state_of_owner f.owner f.params f.ledger

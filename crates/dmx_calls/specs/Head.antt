@@ -7,10 +7,13 @@ use Rattle.ts_packet.specs.declared.cutter.Tally.{Tally}
 use Rattle.dmx_calls.specs.declared.head.Head.{Head}
 use Rattle.dmx_calls.specs.declared.head.PidRow.{PidRow}
 
--- how many packets, bytes between them and bytes behind them there are; the PIDs that have a packet, each with its numbers; whether the source failed in the stream
+-- what the head of a report says of the stream
 pub record StreamHead : Type 0 where
+  -- how many packets, bytes between them and bytes behind them there are
   pub tally : Tally
+  -- the PIDs that have a packet, each with its numbers
   pub rows : List (ℕ × PidRow)
+  -- the source failed in the stream
   pub read_fault : Bool
 
 -- the code's head
@@ -23,13 +26,25 @@ tally_of c = record { packets = length c.packets; skipped = c.skipped; rest = le
 
 -- the row of a PID: the counts of its packets among these
 abbrev pub pid_row : List (List ℕ) → ℕ → PidRow
-pid_row packets pid = record { packets = (counts packets pid).packets; breaks = (counts packets pid).breaks; duplicates = (counts packets pid).duplicates; errors = (counts packets pid).errors }
+pid_row packets pid = record {
+  packets = (counts packets pid).packets;
+  breaks = (counts packets pid).breaks;
+  duplicates = (counts packets pid).duplicates;
+  errors = (counts packets pid).errors;
+}
 
 -- the PIDs below this number that have a packet among these, ascending, each with its row
 unfoldable pub rows_below : ℕ → List (List ℕ) → List (ℕ × PidRow)
 rows_below zero packets = []
-rows_below (suc pid) packets = if nat_lt 0 (counts packets pid).packets then rows_below pid packets ++ (pid, pid_row packets pid) ∷ [] else rows_below pid packets
+rows_below (suc pid) packets =
+    if nat_lt 0 (counts packets pid).packets then rows_below pid packets ++ (pid, pid_row packets pid) ∷ []
+    else rows_below pid packets
 
--- the head of a stream of these bytes: the numbers of its cutting, the rows of the PIDs of its packets, and whether the source failed in it
+-- the head of a stream of these bytes: the numbers of its cutting, the rows of the PIDs of its
+-- packets, and whether the source failed in it
 unfoldable pub head_of : List ℕ → Bool → StreamHead
-head_of bytes failed = record { tally = tally_of (cut bytes); rows = rows_below 8192 (cut bytes).packets; read_fault = failed }
+head_of bytes failed = record {
+  tally = tally_of (cut bytes);
+  rows = rows_below 8192 (cut bytes).packets;
+  read_fault = failed;
+}

@@ -49,7 +49,8 @@ abbrev pub also : Event → Option Since → Option Since
 also ev None = None
 also ev (Some s) = Some (record { by = s.by; after = ev ∷ s.after })
 
--- What the last event that begins something began: that event and those after it. There is nothing where an event that ends it comes after it.
+-- What the last event that begins something began: that event and those after it. There is nothing
+-- where an event that ends it comes after it.
 abbrev pub since : (Event → Bool) → (Event → Bool) → List Event → Option Since
 since begins ends [] = None
 since begins ends (ev ∷ evs) =

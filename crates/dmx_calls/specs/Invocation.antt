@@ -4,7 +4,8 @@ use Rattle.dmx_calls.specs.declared.params.Input.{Input}
 use Rattle.dmx_calls.specs.declared.params.SectionParams.{SectionParams}
 use Rattle.dmx_calls.specs.declared.params.PesParams.{PesParams}
 
--- A call on a demux node or on the dvr node. `now` is the moment at which it is made, in milliseconds. A Read is seen by its count, and a Pass by the packets of its batch with the number of the first.
+-- A call on a demux node or on the dvr node. `now` is the moment at which it is made, in milliseconds. A Read is seen
+-- by its count, and a Pass by the packets of its batch with the number of the first.
 pub data Invocation : Type 0 where
   Open : Invocation
   Close : Invocation

@@ -1,5 +1,6 @@
 -- The items of a capture: what a filter selects from the packets that passed.
--- Source: the Linux media API, chapter Digital TV demux (dmx_sct_filter_params, dmx_pes_filter_params, dmx_output); ISO/IEC 13818-1, 2.4.3 for packets and 2.4.4 for sections.
+-- Source: the Linux media API, chapter Digital TV demux (dmx_sct_filter_params, dmx_pes_filter_params, dmx_output);
+-- ISO/IEC 13818-1, 2.4.3 for packets and 2.4.4 for sections.
 use Rattle.std.specs.Prelude.{ℕ, ◌+◌, Bool, true, false, not, ◌&&◌, ◌||◌, nat_eq, nat_le, List, [], ◌∷◌, ◌++◌, take, filter, filter_map, slice_index, Option, Some, None, if◌then◌else◌}
 use Rattle.std.specs.Option.{option_or}
 use Rattle.ts_packet.specs.Fields.{bit, pid_of, payload_of}
@@ -28,7 +29,10 @@ is_same_input _ _ = false
 
 -- the packets of a pass of this input
 abbrev pub packets_in : Input → Event → List (List ℕ)
-packets_in input ev = elim (ev.entry.invocation) [ Pass from first packets now ↦ if is_same_input from input then packets else [] | _ ↦ [] ]
+packets_in input ev = elim (ev.entry.invocation) [
+  | Pass from first packets now ↦ if is_same_input from input then packets else []
+  | _ ↦ []
+]
 
 -- the packets of these passes, the oldest first
 abbrev pub packets_of : Input → List Event → List (List ℕ)
@@ -37,7 +41,8 @@ packets_of input (ev ∷ evs) = packets_of input evs ++ packets_in input ev
 
 -- ------ section filters
 
--- A section is selected where it matches; and under DMX_CHECK_CRC only where it has no CRC, its section_syntax_indicator being 0, or where the CRC over the whole of it is 0.
+-- A section is selected where it matches; and under DMX_CHECK_CRC only where it has no CRC, its
+-- section_syntax_indicator being 0, or where the CRC over the whole of it is 0.
 unfoldable pub selects : SectionParams → List ℕ → Bool
 selects p section =
     matches p.filter section
@@ -89,7 +94,13 @@ timeout_of (Pes p) = 0
 
 -- the moment of a Pass, Read or Poll
 abbrev pub clock_of : Event → Option ℕ
-clock_of ev = elim (ev.entry.invocation) [ Read now count ↦ Some now | Poll now ↦ Some now | Pass input first packets now ↦ Some now | _ ↦ None ]
+clock_of ev =
+    elim (ev.entry.invocation) [
+      | Read now count ↦ Some now
+      | Poll now ↦ Some now
+      | Pass input first packets now ↦ Some now
+      | _ ↦ None
+    ]
 
 -- a filter's expiry: the moment of the entry that expired it, and the live events before that entry
 pub record Expiry : Type 0 where
@@ -110,9 +121,11 @@ expiry_in set due [] = None
 expiry_in set due (ev ∷ evs) =
     option_or (expiry_in set due evs) (if is_no_item (selected set evs) then expiry_at due (clock_of ev) evs else None)
 
--- A section filter with a timeout expires at the first Pass, Read or Poll whose moment is at least the start's plus the timeout, if it still runs then and has no item.
+-- A section filter with a timeout expires at the first Pass, Read or Poll whose moment is at least the start's plus the
+-- timeout, if it still runs then and has no item.
 unfoldable pub expiry : History → Option Expiry
-expiry h = if nat_eq (timeout_of (params h)) 0 then None else expiry_in (params h) (started h + timeout_of (params h)) (live h)
+expiry h = if nat_eq (timeout_of (params h)) 0 then None
+    else expiry_in (params h) (started h + timeout_of (params h)) (live h)
 
 abbrev pub offered_of : List Event → Option Expiry → List Event
 offered_of evs None = evs

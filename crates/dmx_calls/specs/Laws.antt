@@ -45,7 +45,8 @@ pub record IsSame (node : Rules) (g h : History) : Type 0 where
 abbrev pub UnacceptedChangesNothing : Rules → Type 0
 UnacceptedChangesNothing node = (e : Entry) (h : History) → is_accepted e.response ≡ false → IsSame node (e ∷ h) h
 
--- The items of a capture only grow: as long as it is the capture that the same event began, its items are the earlier ones and then new ones.
+-- The items of a capture only grow: as long as it is the capture that the same event began, its items
+-- are the earlier ones and then new ones.
 abbrev pub ItemsOnlyGrow : Rules → Type 0
 ItemsOnlyGrow node =
     (later h : History) (s t : Since) → node.capture h ≡ Some s → node.capture (later ++ h) ≡ Some t → t.by ≡ s.by
@@ -57,5 +58,6 @@ OverflowNeedsMore node = (h : History) (x : Misfit) → over node h ≡ Some x �
 
 -- A Pass and an End go by: they are answered Passed, whoever calls them and whatever came before.
 pub record PassesGoBy (node : Rules) : Type 0 where
-  pub passes : (h : History) (who : ℕ) (input : Input) (first : ℕ) (packets : List (List ℕ)) (now : ℕ) (r : Response) → May node h who (Pass input first packets now) r → r ≡ Passed
+  pub passes : (h : History) (who : ℕ) (input : Input) (first : ℕ) (packets : List (List ℕ)) (now : ℕ) (r : Response)
+      → May node h who (Pass input first packets now) r → r ≡ Passed
   pub ends : (h : History) (who : ℕ) (r : Response) → May node h who End r → r ≡ Passed

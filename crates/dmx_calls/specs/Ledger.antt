@@ -15,12 +15,14 @@ pub record Misfit : Type 0 where
 
 -- the bytes that a response answers: those that it gives, or those that it names as lost
 abbrev pub answered_in : Event → ℕ
-answered_in ev = elim (ev.entry.response) [ Data bytes ↦ length bytes | Overflow from to item need room ↦ to - from | _ ↦ 0 ]
+answered_in ev =
+    elim (ev.entry.response) [ Data bytes ↦ length bytes | Overflow from to item need room ↦ to - from | _ ↦ 0 ]
 
 abbrev pub is_overflow : Event → Bool
 is_overflow ev = elim (ev.entry.response) [ Overflow from to item need room ↦ true | _ ↦ false ]
 
--- The first of these items that is longer than the room it finds. They have the numbers from `number` on; `total` bytes came before them, `answered` of which were answered; a buffer of size n holds n - 1.
+-- The first of these items that is longer than the room it finds. They have the numbers from `number` on; `total` bytes
+-- came before them, `answered` of which were answered; a buffer of size n holds n - 1.
 abbrev pub misfit : (capacity number total answered : ℕ) → List (List ℕ) → Option Misfit
 misfit capacity number total answered [] = None
 misfit capacity number total answered (item ∷ items) =
@@ -47,7 +49,9 @@ module _ (node : Rules) where
 
   -- the first of them that doesn't fit
   abbrev pub misfit_at : Event → Option Misfit
-  misfit_at ev = misfit (node.size ev.before - 1) (length (node.items ev.before)) (total ev.before) (answered ev.before) (arrivals ev)
+  misfit_at ev =
+      misfit (node.size ev.before - 1) (length (node.items ev.before)) (total ev.before) (answered ev.before)
+      (arrivals ev)
 
   -- the first that didn't fit after the last Overflow response among these events
   abbrev pub over_in : List Event → Option Misfit

@@ -65,4 +65,5 @@ IsOfStream stream _ = Unit {0}
 
 -- A call as a report tells it, filled with the stream's packets, is the call: nothing of it is lost.
 abbrev pub FilledIsTheCall : Type 0
-FilledIsTheCall = (stream : List (List ℕ)) (call : Invocation) → IsOfStream stream call → filled_act stream (act_of call) ≡ call
+FilledIsTheCall =
+    (stream : List (List ℕ)) (call : Invocation) → IsOfStream stream call → filled_act stream (act_of call) ≡ call

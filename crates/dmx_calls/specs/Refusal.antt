@@ -1,5 +1,6 @@
 -- The refusals, by the kind of node, the state, the call and what was set.
--- Source: the errors of the Linux media API, chapter Digital TV demux; their order is this project's rule: EINVAL by argument, then EINVAL or EBUSY by state, then ENOSPC.
+-- Source: the errors of the Linux media API, chapter Digital TV demux; their order is this project's rule: EINVAL by
+-- argument, then EINVAL or EBUSY by state, then ENOSPC.
 use Rattle.std.specs.Prelude.{ℕ, ◌+◌, Bool, true, false, not, ◌&&◌, ◌||◌, nat_lt, nat_le, List, [], ◌∷◌, length, Option, Some, None, if◌then◌else◌}
 use Rattle.pid_set.specs.Pids.{has_pid}
 use Rattle.pid_set.specs.declared.set.TheConstants.{ALL_PACKETS}
@@ -35,7 +36,8 @@ is_dvr_input Frontend = false
 abbrev pub is_bad_pes : PesParams → Bool
 is_bad_pes p =
     nat_lt ALL_PACKETS p.pid
-    || (has_unknown_flag p.flags || (nat_lt LARGEST_PES_TYPE p.pes_type || (is_decoder p.output || is_dvr_input p.input)))
+    || (has_unknown_flag p.flags || (nat_lt LARGEST_PES_TYPE p.pes_type
+    || (is_decoder p.output || is_dvr_input p.input)))
 
 abbrev pub is_bad_size : ℕ → Bool
 is_bad_size size = nat_lt size SMALLEST_SIZE || nat_lt LARGEST_SIZE size
@@ -74,17 +76,21 @@ abbrev pub is_no_pid : List ℕ → Bool
 is_no_pid [] = true
 is_no_pid (pid ∷ pids) = false
 
--- a PID that is there may always be added; another only where the filter takes several or has none, and where fewer than 32 are there
+-- a PID that is there may always be added; another only where the filter takes several or has
+-- none, and where fewer than 32 are there
 abbrev pub add_refusal : Params → List ℕ → ℕ → Option Errno
 add_refusal params pids pid =
     if has_pid pid pids then None
     else (if not (takes_many params) && not (is_no_pid pids) then Some Einval
     else (if nat_le MOST_PIDS (length pids) then Some Enospc else None))
 
--- Without a filter nothing starts and no PID is added or removed; PIDs belong to PES filters; while a filter runs or has just ended the size stays; taps are attached to the dvr node alone.
+-- Without a filter nothing starts and no PID is added or removed; PIDs belong to PES filters; while a filter runs or
+-- has just ended the size stays; taps are attached to the dvr node alone.
 abbrev pub refusal_by_state : State → Params → List ℕ → Invocation → Option Errno
-refusal_by_state state params pids (AddPid pid) = if is_allocated state || not (is_pes params) then Some Einval else add_refusal params pids pid
-refusal_by_state state params pids (RemovePid pid) = if is_allocated state || not (is_pes params) then Some Einval else None
+refusal_by_state state params pids (AddPid pid) =
+    if is_allocated state || not (is_pes params) then Some Einval else add_refusal params pids pid
+refusal_by_state state params pids (RemovePid pid) =
+    if is_allocated state || not (is_pes params) then Some Einval else None
 refusal_by_state state params pids (Start now) = if is_allocated state then Some Einval else None
 refusal_by_state state params pids (SetSize size) = if is_active state then Some Ebusy else None
 refusal_by_state state params pids (Attach node names) = Some Einval
@@ -105,5 +111,6 @@ is_for_filters _ = false
 
 -- Why a call of the node's owner is refused, if it is. A SetSize is taken to name another size than the node has.
 abbrev pub refusal : NodeKind → State → Params → List ℕ → Invocation → Option Errno
-refusal Demux state params pids call = if is_bad_argument call then Some Einval else refusal_by_state state params pids call
+refusal Demux state params pids call =
+    if is_bad_argument call then Some Einval else refusal_by_state state params pids call
 refusal Dvr state params pids call = if is_bad_argument call || is_for_filters call then Some Einval else None

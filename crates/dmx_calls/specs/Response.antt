@@ -4,7 +4,8 @@ use Rattle.dmx_calls.specs.declared.reply.Errno.{Errno}
 use Rattle.dmx_calls.specs.declared.reply.PollError.{PollError}
 use Rattle.dmx_calls.specs.declared.reply.Tap.{Tap as TapChange}
 
--- Places count the bytes of a capture from 0. Done names the span of unread bytes that the call dropped. Overflow names the span that is lost, the first item that didn't fit, its length and the room that it found.
+-- Places count the bytes of a capture from 0. Done names the span of unread bytes that the call dropped. Overflow names
+-- the span that is lost, the first item that didn't fit, its length and the room that it found.
 pub data Response : Type 0 where
   Done : (from to : ℕ) → TapChange → Response
   Busy : (owner : ℕ) → Response

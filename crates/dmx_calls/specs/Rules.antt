@@ -20,7 +20,8 @@ pub record Rules : Type 0 where
   -- an accepted entry after which the capture is none or another
   pub ends_capture : Event → Bool
   pub items : History → List (List ℕ)
-  -- the moment of the capture's start, whether a Stop is in it, the moment at which it expired, whether a TimedOut response is in it
+  -- the moment of the capture's start, whether a Stop is in it, the moment at which it
+  -- expired, whether a TimedOut response is in it
   pub started : History → ℕ
   pub is_stopped : History → Bool
   pub expired : History → Option ℕ

@@ -1,4 +1,5 @@
--- The dvr node: its taps, and the items that they give (DMX_OUT_TS_TAP of the Linux media API; how taps are attached is this project's rule).
+-- The dvr node: its taps, and the items that they give (DMX_OUT_TS_TAP of the Linux media API; how taps
+-- are attached is this project's rule).
 use Rattle.std.specs.Prelude.{ℕ, Bool, false, nat_eq, List, [], ◌∷◌, ◌++◌, filter, Option, Some, None, if◌then◌else◌}
 use Rattle.std.specs.List.{list_any, range_with_len}
 use Rattle.dmx_calls.specs.declared.params.Input.TheVariants.{Frontend}

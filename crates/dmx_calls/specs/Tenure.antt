@@ -1,5 +1,6 @@
 -- What was set: who owns a node, with what size, filter and PIDs. Only accepted entries count.
--- Source: the Linux media API, chapter Digital TV demux (open, close, DMX_SET_BUFFER_SIZE, DMX_SET_FILTER, DMX_SET_PES_FILTER, DMX_ADD_PID, DMX_REMOVE_PID); one owner a node is this project's rule.
+-- Source: the Linux media API, chapter Digital TV demux (open, close, DMX_SET_BUFFER_SIZE, DMX_SET_FILTER,
+-- DMX_SET_PES_FILTER, DMX_ADD_PID, DMX_REMOVE_PID); one owner a node is this project's rule.
 use Rattle.std.specs.Prelude.{ℕ, Bool, true, false, List, [], ◌∷◌, Option, Some, None, option_map, unwrap_or}
 use Rattle.std.specs.List.{list_any}
 use Rattle.pid_set.specs.Pids.{with_pid, without_pid}
@@ -67,7 +68,8 @@ first_pids (Section p) = p.pid ∷ []
 first_pids (Pes p) = p.pid ∷ []
 
 abbrev pub pids_with : Event → List ℕ → List ℕ
-pids_with ev pids = elim (ev.entry.invocation) [ AddPid pid ↦ with_pid pid pids | RemovePid pid ↦ without_pid pid pids | _ ↦ pids ]
+pids_with ev pids =
+    elim (ev.entry.invocation) [ AddPid pid ↦ with_pid pid pids | RemovePid pid ↦ without_pid pid pids | _ ↦ pids ]
 
 -- these PIDs with each AddPid and RemovePid done in order
 abbrev pub pids_after : List ℕ → List Event → List ℕ

@@ -7,7 +7,8 @@ use Rattle.dmx_calls.specs.Facts.{Facts, facts}
 use Rattle.dmx_calls.specs.Legal.{IsLegalDvr}
 use Rattle.dvr_core.specs.Tapped.{taps_of}
 
--- what a contract sees of the dvr node: how many calls were made on it, what its history says to the next one, and its taps by the number of the demux node
+-- what a contract sees of the dvr node: how many calls were made on it, what its history says to the next one, and
+-- its taps by the number of the demux node
 pub record CoreValue : Type 0 where
   pub entries : ℕ
   pub facts : Facts

@@ -13,8 +13,8 @@ use Rattle.emu_top.specs.Session.{Output, IsSerialOutput, IsThreadOutput, IsSums
 use Rattle.emu_top.specs.declared.status.Status.{Status}
 use Rattle.emu_top.specs.declared.status.Status.TheVariants.{Usage, Script, TooLong, ReadFault, WriteFault, NoMemory, Ok as Done}
 
--- What a source and a sink tell at one moment: the bytes that are left and those that were written, where they are told,
--- and their counts of faults.
+-- What a source and a sink tell at one moment: the bytes that are left and those that were written, where they
+-- are told, and their counts of faults.
 pub record Outside : Type 0 where
   pub left : Option (List ℕ)
   pub read_faults : ℕ
@@ -51,10 +51,12 @@ pub record WritesFront (before after : Outside) (text : List ℕ) : Type 0 where
   pub written : Writes before after (take count text)
   pub rose : Rose before.write_faults after.write_faults
 
--- What was written of a session's output, by a status: the whole of it, or a part from its front on where a write failed.
--- `failed`: reading failed.
-abbrev pub HasWritten : (failed : Bool) → (text : List ℕ) → (old new : Option (List ℕ)) → (before after : ℕ) → Status → Type 0
-HasWritten failed text old new before after WriteFault = (count : ℕ) × (count < length text) × Appends old new (take count text) × Rose before after
+-- What was written of a session's output, by a status: the whole of it, or a part from its front on where a
+-- write failed. `failed`: reading failed.
+abbrev pub HasWritten : (failed : Bool) → (text : List ℕ) → (old new : Option (List ℕ)) → (before after : ℕ) → Status
+    → Type 0
+HasWritten failed text old new before after WriteFault =
+    (count : ℕ) × (count < length text) × Appends old new (take count text) × Rose before after
 HasWritten failed text old new before after ReadFault = (failed ≡ true) × Appends old new text × (after ≡ before)
 HasWritten failed text old new before after Done = (failed ≡ false) × Appends old new text × (after ≡ before)
 HasWritten failed text old new before after _ = ⊥
@@ -63,7 +65,8 @@ HasWritten failed text old new before after _ = ⊥
 
 -- the bytes that were taken have this output
 abbrev pub MakesOutput : Output → Outside → Outside → (failed : Bool) → (text : List ℕ) → Type 0
-MakesOutput output before after failed text = Makes output before.left after.left before.read_faults after.read_faults failed text
+MakesOutput output before after failed text =
+    Makes output before.left after.left before.read_faults after.read_faults failed text
 
 -- The input was read to its end, and the whole output for it was written.
 pub record IsDone (output : Output) (before after : Outside) : Type 0 where
@@ -71,7 +74,8 @@ pub record IsDone (output : Output) (before after : Outside) : Type 0 where
   pub made : MakesOutput output before after false text
   pub whole : WritesWhole before after text
 
--- A read failed. Where a whole script was read before, the report over the bytes that were taken was written; else nothing.
+-- A read failed. Where a whole script was read before, the report over the bytes that
+-- were taken was written; else nothing.
 abbrev pub HasReadFault : Output → (before after : Outside) → Type 0
 HasReadFault output before after = NoWriteFails before after
     × (((text : List ℕ) × MakesOutput output before after true text × Writes before after text)
@@ -87,21 +91,23 @@ pub record HasWriteFault (output : Output) (before after : Outside) : Type 0 whe
 -- what a status says of a session that has this output
 abbrev pub Says : Output → Outside → Outside → Status → Type 0
 Says output before after Usage = ⊥
-Says output before after (Script line kind) = HasFault (record { line = line; kind = kind }) before.left before.read_faults after.read_faults × WritesNothing before after
+Says output before after (Script line kind) =
+    HasFault (record { line = line; kind = kind }) before.left before.read_faults after.read_faults
+    × WritesNothing before after
 Says output before after (TooLong turns) = GivesUp before.left after.left turns × WritesNothing before after
 Says output before after ReadFault = HasReadFault output before after
 Says output before after WriteFault = HasWriteFault output before after
 Says output before after NoMemory = WritesNothing before after
 Says output before after Done = IsDone output before after
 
--- The answer that an input determines where no read and no write fails: its script's fault, or for less than 4,294,967,296
--- bytes that all is well.
+-- The answer that an input determines where no read and no write fails: its script's fault, or for less than
+-- 4,294,967,296 bytes that all is well.
 abbrev pub Determines : Result (List Line) ScriptFault → (input : List ℕ) → Status → Type 0
 Determines (Err fault) input status = status ≡ Script fault.line fault.kind
 Determines (Ok lines) input status = length input < 4294967296 → status ≡ Done
 
--- What the program does with a session that has this output: the status says what was read and written. Where no read and no
--- write fails, it is the one that the input determines, or memory was refused.
+-- What the program does with a session that has this output: the status says what was read and written. Where no read
+-- and no write fails, it is the one that the input determines, or memory was refused.
 pub record Does (output : Output) (before after : Outside) (status : Status) : Type 0 where
   pub says : Says output before after status
   pub settled : NoReadFails before after → NoWriteFails before after
@@ -125,21 +131,24 @@ pub record Gives (IsText : List ℕ → Type 0) (before after : Outside) (status
 
 -- ------ the whole
 
--- What the program does by a command, where the clock may give these numbers. `steps` and `run` read a session and write the
--- report of its run, on one thread or by threads. `make` writes the session of its number, and `selftest` the line of sums
--- over the serial run of that session; both read nothing.
+-- What the program does by a command, where the clock may give these numbers. `steps` and `run` read a session and
+-- write the report of its run, on one thread or by threads. `make` writes the session of its number, and `selftest` the
+-- line of sums over the serial run of that session; both read nothing.
 abbrev pub Obeys : Command → (may : ℕ → Bool) → Outside → Outside → Status → Type 0
 Obeys (Steps batch) may before after status = Does (IsSerialOutput batch) before after status
 Obeys (Run batch) may before after status = Does (IsThreadOutput batch may) before after status
 Obeys (Make number) may before after status = Gives (λ text. text ≡ made number) before after status
 Obeys (SelfTest number batch) may before after status = Gives (IsSums number batch) before after status
 
--- What the program does by the words of its command line. Words that aren't accepted are answered `Usage`, or want of memory,
--- and nothing is then read or written. Whatever the words and the status, at most one read fails and at most one write: after a
--- failed read nothing more is read, and after a failed write nothing more is written.
+-- what the program does by the words of its command line
 pub record Serves (words : List (List ℕ)) (may : ℕ → Bool) (before after : Outside) (status : Status) : Type 0 where
+  -- words that aren't accepted are answered `Usage`, or want of memory, and nothing is then read or written
   pub usage : status ≡ Usage → meant words ≡ None
-  pub refused : meant words ≡ None → ((status ≡ Usage) ⊎ (status ≡ NoMemory)) × ReadsNothing before after × WritesNothing before after
+  pub refused : meant words ≡ None → ((status ≡ Usage) ⊎ (status ≡ NoMemory)) × ReadsNothing before after
+      × WritesNothing before after
+  -- others are obeyed
   pub obeys : (command : Command) → meant words ≡ Some command → Obeys command may before after status
+  -- Whatever the words and the status, at most one read fails and at most one write: after a failed read nothing more
+  -- is read, and after a failed write nothing more is written.
   pub reads_once : after.read_faults ≤ before.read_faults + 1
   pub writes_once : after.write_faults ≤ before.write_faults + 1

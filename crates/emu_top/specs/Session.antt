@@ -31,8 +31,8 @@ pub record IsSession (bytes : List ℕ) (lines : List Line) (stream : List ℕ) 
   pub script : grammar (split bytes).script ≡ Ok lines
   pub behind : (split bytes).stream ≡ Some stream
 
--- The serial run of the lines over the packets of the stream, in batches of this size. It is a run: 33 legal histories, which
--- every packet passes once, in which each client did just what its commands ask; and each history is accounted.
+-- The serial run of the lines over the packets of the stream, in batches of this size. It is a run: 33 legal histories,
+-- which every packet passes once, in which each client did just what its commands ask; and each history is accounted.
 pub record IsRunOf (batch : ℕ) (lines : List Line) (stream : List ℕ) (run : Run) : Type 0 where
   pub serial : IsSerialRun lines batch (cut stream).packets run
   pub whole : IsAccountedRun lines batch (cut stream).packets run
@@ -44,15 +44,17 @@ abbrev pub Output : Type 1
 Output = (lines : List Line) → (stream : List ℕ) → (failed : Bool) → (text : List ℕ) → Type 0
 
 -- on one thread: the report of the serial run
-pub record IsSerialOutput (batch : ℕ) (lines : List Line) (stream : List ℕ) (failed : Bool) (text : List ℕ) : Type 0 where
+pub record IsSerialOutput (batch : ℕ) (lines : List Line) (stream : List ℕ) (failed : Bool)
+    (text : List ℕ) : Type 0 where
   pub run : Run
   pub ran : IsRunOf batch lines stream run
   pub report : text ≡ report_of (head_of stream failed) (outcomes_in lines run) (histories_in run)
 
--- By threads: the report of 33 histories that are those of a run of the lines over the packets of the stream, in full batches
--- of this size but for the last, at moments that the clock may give. Each history is accounted, and the outcomes are those of
--- the clients' commands by the replies in the histories.
-pub record IsThreadOutput (batch : ℕ) (may : ℕ → Bool) (lines : List Line) (stream : List ℕ) (failed : Bool) (text : List ℕ) : Type 0 where
+-- By threads: the report of 33 histories that are those of a run of the lines over the packets of the stream, in full
+-- batches of this size but for the last, at moments that the clock may give. Each history is accounted, and the
+-- outcomes are those of the clients' commands by the replies in the histories.
+pub record IsThreadOutput (batch : ℕ) (may : ℕ → Bool) (lines : List Line) (stream : List ℕ) (failed : Bool)
+    (text : List ℕ) : Type 0 where
   pub histories : List (List LogEntry)
   pub outcomes : List (List Outcome)
   pub whole : IsWholeRun lines batch may (cut stream).packets outcomes histories
@@ -67,7 +69,9 @@ pub record IsSums (number batch : ℕ) (text : List ℕ) : Type 0 where
   pub ran : IsRunOf batch lines stream run
   pub sums : text ≡ summary_of (head_of stream false) (histories_in run)
 
--- ------ In what follows a source had `content` left before and `left` after, and its count of faults was `before` and is
+-- ------ sources
+
+-- In what follows a source had `content` left before and `left` after, and its count of faults was `before` and is
 -- `after`.
 
 -- whether reading failed, or nothing is left
@@ -90,7 +94,8 @@ pub record Runs (batch : ℕ) (content left : Option (List ℕ)) (before after :
   pub head : told_head answer.head ≡ head_of stream answer.head.read_fault
 
 -- the bytes that were taken are those of a session, and have this output
-pub record Makes (is_output : Output) (content left : Option (List ℕ)) (before after : ℕ) (failed : Bool) (text : List ℕ) : Type 0 where
+pub record Makes (is_output : Output) (content left : Option (List ℕ)) (before after : ℕ) (failed : Bool)
+    (text : List ℕ) : Type 0 where
   pub bytes : List ℕ
   pub lines : List Line
   pub stream : List ℕ
@@ -99,8 +104,8 @@ pub record Makes (is_output : Output) (content left : Option (List ℕ)) (before
   pub session : IsSession bytes lines stream
   pub output : is_output lines stream failed text
 
--- The run of a script without a fault was given up: so many reads were made, each of which took a byte, or its commands and
--- the bytes of the stream allow a client so many calls.
+-- The run of a script without a fault was given up: so many reads were made, each of which took a byte, or its commands
+-- and the bytes of the stream allow a client so many calls.
 pub record GivesUp (content left : Option (List ℕ)) (turns : ℕ) : Type 0 where
   pub bytes : List ℕ
   pub lines : List Line
@@ -113,7 +118,8 @@ pub record GivesUp (content left : Option (List ℕ)) (turns : ℕ) : Type 0 whe
 
 -- the script of the input has this fault
 abbrev pub HasFault : ScriptFault → (content : Option (List ℕ)) → (before after : ℕ) → Type 0
-HasFault fault content before after = (after ≡ before) × IfSome content (λ input. grammar (split input).script ≡ Err fault)
+HasFault fault content before after =
+    (after ≡ before) × IfSome content (λ input. grammar (split input).script ≡ Err fault)
 
 -- a read failed before the line `stream` was whole
 pub record FailsEarly (content left : Option (List ℕ)) (before after : ℕ) : Type 0 where
@@ -124,7 +130,8 @@ pub record FailsEarly (content left : Option (List ℕ)) (before after : ℕ) : 
 
 -- why there is no output
 abbrev pub Refuses : (content left : Option (List ℕ)) → (before after : ℕ) → Status → Type 0
-Refuses content left before after (Script line kind) = HasFault (record { line = line; kind = kind }) content before after
+Refuses content left before after (Script line kind) =
+    HasFault (record { line = line; kind = kind }) content before after
 Refuses content left before after (TooLong turns) = GivesUp content left turns
 Refuses content left before after ReadFault = FailsEarly content left before after
 Refuses content left before after NoMemory = ⊤

@@ -9,24 +9,31 @@ use Rattle.feed_pull.specs.declared.fault.Reading.TheVariants.{Going, Ended, Fai
 use Rattle.feed_pull.specs.declared.fault.PullFault.{PullFault}
 use Rattle.feed_pull.specs.declared.fault.PullFault.TheVariants.{ReadFault, TooLong}
 
--- What a puller has: where the cutting stands, the packets that wait to be given, the bytes that were read and are not
--- cut yet, how many packets were given, how many had been found when the last bytes were read, how many reads were made
--- before the puller was, how many bytes its reads took, how many reads were made in all, how reading goes, and what was
--- counted of the packets that were given.
+-- what a puller has
 pub record Pulling : Type 0 where
+  -- where the cutting stands
   pub cutting : Cutting
+  -- the packets that wait to be given
   pub waiting : List (List ℕ)
+  -- the bytes that were read and aren't cut yet
   pub unread : List ℕ
+  -- how many packets were given
   pub given : ℕ
+  -- how many had been found when the last bytes were read
   pub earlier : ℕ
+  -- how many reads were made before the puller was
   pub start : ℕ
+  -- how many bytes its reads took
   pub taken : ℕ
+  -- how many reads were made in all
   pub reads : ℕ
+  -- how reading goes
   pub reading : Reading
+  -- what was counted of the packets that were given
   pub watch : Watching
 
--- What is true of each puller. The numbers of bytes and of reads are bounded, a read took at most 65,536 bytes, and each
--- read but the last took at least one.
+-- What is true of each puller. The numbers of bytes and of reads are bounded, a read took at most 65,536 bytes, and
+-- each read but the last took at least one.
 pub record IsPulling (p : Pulling) : Type 0 where
   pub few : length p.waiting ≤ 64
   pub rest : IsRest p.cutting.rest
@@ -41,11 +48,11 @@ pub record IsPulling (p : Pulling) : Type 0 where
   pub too_many : p.reading ≡ TooMany → 4294967296 ≤ p.start + p.taken
 
 -- The puller stands behind a stream: these bytes ahead, and behind them these that its pulls took. It has given these
--- packets, and has watched them. What was cut so far has these packets and those that wait; the unread bytes are the rest of the stream. `latest`
--- are the bytes of the last read, and `before` those of the reads before it; once more bytes were taken than one read
--- may leave behind a packet, the puller knows how many packets there are in front of the last read.
+-- packets, and has watched them.
 pub record Pulls (ahead taken : List ℕ) (given : List (List ℕ)) (p : Pulling) : Type 0 where
+  -- the bytes that were cut; they have the packets given and those that wait, and the unread bytes are the rest
   pub passed : List ℕ
+  -- the bytes of the reads before the last one, and those of the last
   pub before : List ℕ
   pub latest : List ℕ
   pub count : p.given ≡ length given
@@ -55,6 +62,8 @@ pub record Pulls (ahead taken : List ℕ) (given : List (List ℕ)) (p : Pulling
   pub stream : passed ++ p.unread ≡ ahead ++ taken
   pub last : taken ≡ before ++ latest
   pub piece : length latest ≤ 65536
+  -- once more bytes were taken than one read may leave behind a packet, it knows how many packets there are in front of
+  -- the last read
   pub earlier : 65535 < length taken → p.earlier ≡ length (cut (ahead ++ before)).packets
 
 -- reading has stopped, and nothing is left to be given
@@ -86,4 +95,5 @@ given_by (Err e) packets = []
 -- At most 65,535 of the bytes taken stand behind the last of these packets: a stream that lacks more of them at its end
 -- has fewer packets.
 abbrev pub IsNear : List ℕ → List ℕ → List (List ℕ) → Type 0
-IsNear ahead taken given = (earlier later : List ℕ) → taken ≡ earlier ++ later → 65535 < length later → length (cut (ahead ++ earlier)).packets < length given
+IsNear ahead taken given = (earlier later : List ℕ) → taken ≡ earlier ++ later → 65535 < length later
+    → length (cut (ahead ++ earlier)).packets < length given

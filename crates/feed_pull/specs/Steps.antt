@@ -21,8 +21,8 @@ pub record Reads (old : Pulling) (more : List ℕ) (earlier : ℕ) : Type 0 wher
   pub piece : length latest ≤ 65536
   pub count : earlier ≡ found_with old front
 
--- The bytes `more` came behind the unread ones, and bytes were cut from their front. The packets found wait behind those
--- that waited. Either nothing was read, or `more` ends with the bytes of the last read.
+-- The bytes `more` came behind the unread ones, and bytes were cut from their front. The packets found wait behind
+-- those that waited. Either nothing was read, or `more` ends with the bytes of the last read.
 pub record Goes (old : Pulling) (more : List ℕ) (new : Pulling) : Type 0 where
   pub passed : List ℕ
   pub found : List (List ℕ)
@@ -47,8 +47,8 @@ pub record Gathers (before after : Option (List ℕ)) (old new : Pulling) : Type
   pub goes : Goes old more new
 
 -- How reading goes before and after, and a source's content and its count of faults before and after. Once stopped it
--- stays so, and the source is left alone. It ends where nothing is left. It fails where the count rose, and only there, and
--- the count rises at most by one: after a failed read nothing more is read. While it goes on the count stands.
+-- stays so, and the source is left alone. It ends where nothing is left. It fails where the count rose, and only there,
+-- and the count rises at most by one: after a failed read nothing more is read. While it goes on the count stands.
 pub record Follows (old new : Reading) (content left : Option (List ℕ)) (before after : ℕ) : Type 0 where
   pub stays : old ≢ Going → new ≡ old
   pub still : old ≢ Going → (left ≡ content) × (after ≡ before)
@@ -70,7 +70,8 @@ to_read TooMany reads = 0
 abbrev pub work : Pulling → ℕ
 work p = to_read p.reading p.reads + length p.unread
 
--- the puller's state after these packets were given from the front of those that wait, and watched behind those before them
+-- the puller's state after these packets were given from the front of those that
+-- wait, and watched behind those before them
 pub record HasGiven (packets : List (List ℕ)) (old new : Pulling) : Type 0 where
   pub waiting : old.waiting ≡ packets ++ new.waiting
   pub given : new.given ≡ old.given + length packets
@@ -85,7 +86,9 @@ pub record HasGiven (packets : List (List ℕ)) (old new : Pulling) : Type 0 whe
 
 -- Whatever stream the puller stood behind and whatever it had given, it now stands behind that stream with more bytes
 -- taken, which are those that the source gave, and has given these packets too.
-pub record Carries (content left : Option (List ℕ)) (old : Pulling) (packets : List (List ℕ)) (new : Pulling) : Type 0 where
+pub record Carries (content left : Option (List ℕ)) (old : Pulling) (packets : List (List ℕ))
+    (new : Pulling) : Type 0 where
   pub more : List ℕ
   pub consumes : Consumes content left more
-  pub pulls : (ahead taken : List ℕ) (given : List (List ℕ)) → Pulls ahead taken given old → Pulls ahead (taken ++ more) (given ++ packets) new
+  pub pulls : (ahead taken : List ℕ) (given : List (List ℕ)) → Pulls ahead taken given old
+      → Pulls ahead (taken ++ more) (given ++ packets) new

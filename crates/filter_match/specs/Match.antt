@@ -3,7 +3,8 @@ use Rattle.std.specs.Prelude.{ℕ, zero, suc, ◌+◌, ◌-◌, Bool, not, ◌&&
 use Rattle.std.specs.List.{list_all, list_any}
 use Rattle.filter_match.specs.declared.filter.SectionFilter.{SectionFilter}
 
--- The section byte against which filter byte i stands. The two bytes behind the first, with the length, are passed over.
+-- The section byte against which filter byte i stands. The two bytes behind the
+-- first, with the length, are passed over.
 abbrev pub place_of : ℕ → ℕ
 place_of i = if nat_eq i 0 then 0 else i + 2
 
@@ -32,7 +33,8 @@ differs_at f s i = not (nat_eq (bit_and (differences f s i) (slice_index f.mode 
 unfoldable pub negates_at : SectionFilter → ℕ → Bool
 negates_at f i = not (nat_eq (bit_and (slice_index f.mask i) (slice_index f.mode i)) 0)
 
--- Every masked byte is there, every masked bit with mode 0 is equal, and where masked bits have mode 1, one of them differs.
+-- Every masked byte is there, every masked bit with mode 0 is equal, and where masked
+-- bits have mode 1, one of them differs.
 unfoldable pub matches : SectionFilter → List ℕ → Bool
 matches f s =
     list_all (reaches_at f s) (below 16)

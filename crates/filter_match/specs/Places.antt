@@ -3,7 +3,8 @@ use Rattle.std.specs.Prelude.{List, fold, replicate, slice_set}
 use Rattle.filter_match.specs.declared.filter.SectionFilter.{SectionFilter}
 use Rattle.filter_match.specs.declared.filter.Place.{Place}
 
--- the filter with the bytes of one more place; a filter has the places 0 to 15, and a place of another number changes nothing
+-- the filter with the bytes of one more place; a filter has the places 0 to 15, and a
+-- place of another number changes nothing
 unfoldable pub with_place : SectionFilter → Place → SectionFilter
 with_place f place = record {
   filter = slice_set f.filter place.number place.filter;
@@ -13,4 +14,5 @@ with_place f place = record {
 
 -- the filter with these places; in all others the three bytes are 0
 abbrev pub filter_with : List Place → SectionFilter
-filter_with places = fold with_place (record { filter = replicate 16 0; mask = replicate 16 0; mode = replicate 16 0 }) places
+filter_with places =
+    fold with_place (record { filter = replicate 16 0; mask = replicate 16 0; mode = replicate 16 0 }) places

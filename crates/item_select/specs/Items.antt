@@ -1,5 +1,6 @@
 -- The items that a filter selects from packets.
--- Source: the Linux media API, chapter Digital TV demux (dmx_sct_filter_params, dmx_pes_filter_params, dmx_output); ISO/IEC 13818-1, 2.4.3 for packets and 2.4.4 for sections.
+-- Source: the Linux media API, chapter Digital TV demux (dmx_sct_filter_params, dmx_pes_filter_params, dmx_output);
+-- ISO/IEC 13818-1, 2.4.3 for packets and 2.4.4 for sections.
 use Rattle.std.specs.Prelude.{ℕ, Bool, not, ◌&&◌, ◌||◌, nat_eq, List, [], map, take, filter, filter_map, slice_index, Option, Some, None, if◌then◌else◌}
 use Rattle.ts_packet.specs.Fields.{bit, pid_of, payload_of}
 use Rattle.section_parse.specs.Sections.{sections}
@@ -8,7 +9,8 @@ use Rattle.filter_match.specs.declared.filter.SectionFilter.{SectionFilter}
 use Rattle.filter_match.specs.Match.{matches}
 use Rattle.pid_set.specs.Pids.{names_pid}
 
--- What is selected: nothing; the sections of a PID that a filter lets through, with a right CRC or without one where `check`, and the first alone where `once`; or packets, whole or their payloads alone.
+-- What is selected: nothing; the sections of a PID that a filter lets through, with a right CRC or without one where
+-- `check`, and the first alone where `once`; or packets, whole or their payloads alone.
 pub data Choice : Type 0 where
   Nothing : Choice
   Sections : (pid : ℕ) → SectionFilter → (check once : Bool) → Choice
@@ -19,7 +21,8 @@ pub record Offered : Type 0 where
   pub packet : List ℕ
   pub pids : List ℕ
 
--- A section is selected where it matches; and under `check` only where it has no CRC, its section_syntax_indicator being 0, or where the CRC over the whole of it is 0.
+-- A section is selected where it matches; and under `check` only where it has no CRC, its section_syntax_indicator
+-- being 0, or where the CRC over the whole of it is 0.
 unfoldable pub is_selected : SectionFilter → (check : Bool) → List ℕ → Bool
 is_selected wanted check section =
     matches wanted section && (not check || (not (bit (slice_index section 1) 128) || nat_eq (crc section) 0))
@@ -39,5 +42,6 @@ given_by whole o = if is_named o then (if whole then Some o.packet else payload_
 -- The items of the packets offered, the first of them first.
 unfoldable pub items_of : Choice → List Offered → List (List ℕ)
 items_of Nothing offered = []
-items_of (Sections pid wanted check once) offered = first_if once (filter (is_selected wanted check) (sections (map (λ o. o.packet) offered) pid))
+items_of (Sections pid wanted check once) offered =
+    first_if once (filter (is_selected wanted check) (sections (map (λ o. o.packet) offered) pid))
 items_of (Packets whole) offered = filter_map (given_by whole) offered

@@ -5,12 +5,17 @@ use Rattle.std.specs.List.{sum_by}
 use Rattle.section_parse.specs.Inside.Keeping.{Assembly, cleared, after_packet, all_given as all_taken, kept as kept_after_all, length_of}
 use Rattle.item_select.specs.Items.{Choice, Nothing, Sections, Packets, Offered, is_selected, first_if, given_by, items_of}
 
--- What is selected; the PIDs of a filter of packets; what the assembler of a section filter keeps, apart from its sections; whether a one-shot filter has given its section; the items found and not given yet.
+-- what a selector keeps
 pub record Selecting : Type 0 where
+  -- what is selected
   pub choice : Choice
+  -- the PIDs of a filter of packets
   pub pids : List ℕ
+  -- what the assembler of a section filter keeps, apart from its sections
   pub kept : Assembly
+  -- a one-shot filter has given its section
   pub is_spent : Bool
+  -- the items found and not given yet
   pub ready : List (List ℕ)
 
 -- the PID whose sections are selected
@@ -30,7 +35,13 @@ is_once _ = false
 
 -- a filter that was offered nothing yet
 abbrev pub begun : Choice → List ℕ → Selecting
-begun choice pids = record { choice = choice; pids = pids; kept = cleared (section_pid choice); is_spent = false; ready = [] }
+begun choice pids = record {
+  choice = choice;
+  pids = pids;
+  kept = cleared (section_pid choice);
+  is_spent = false;
+  ready = [];
+}
 
 -- the same filter anew
 abbrev pub begun_again : Selecting → Selecting
@@ -54,7 +65,10 @@ abbrev pub after_offer_by : Choice → Selecting → List ℕ → Selecting
 after_offer_by Nothing s packet = s
 after_offer_by (Sections pid wanted check once) s packet =
     if s.is_spent then s
-    else record s { kept = all_taken (after_packet s.kept packet); ready = first_if once (filter (is_selected wanted check) (after_packet s.kept packet).ready) }
+    else record s {
+      kept = all_taken (after_packet s.kept packet);
+      ready = first_if once (filter (is_selected wanted check) (after_packet s.kept packet).ready);
+    }
 after_offer_by (Packets whole) s packet = record s { ready = listed (given_by whole (offered_now s packet)) }
 
 unfoldable pub after_offer : Selecting → List ℕ → Selecting
@@ -66,7 +80,8 @@ is_none (item ∷ items) = false
 
 -- without the item that is given next
 abbrev pub without_first : Selecting → Selecting
-without_first s = record s { ready = drop 1 s.ready; is_spent = s.is_spent || (is_once s.choice && not (is_none s.ready)) }
+without_first s =
+    record s { ready = drop 1 s.ready; is_spent = s.is_spent || (is_once s.choice && not (is_none s.ready)) }
 
 -- with all its items given
 abbrev pub all_given : Selecting → Selecting
@@ -75,25 +90,29 @@ all_given s = record s { ready = []; is_spent = s.is_spent || (is_once s.choice 
 -- the items that these packets bring, where each item is given before the next packet comes
 unfoldable pub items_found : Selecting → List (List ℕ) → List (List ℕ)
 items_found s [] = []
-items_found s (packet ∷ packets) = (after_offer s packet).ready ++ items_found (all_given (after_offer s packet)) packets
+items_found s (packet ∷ packets) =
+    (after_offer s packet).ready ++ items_found (all_given (after_offer s packet)) packets
 
 -- what is kept behind them
 unfoldable pub kept_after : Selecting → List (List ℕ) → Selecting
 kept_after s [] = s
 kept_after s (packet ∷ packets) = kept_after (all_given (after_offer s packet)) packets
 
--- The bytes of the items that are ready, and those that the assembler holds: a number that each item given takes its length from.
+-- The bytes of the items that are ready, and those that the assembler holds: a number that
+-- each item given takes its length from.
 abbrev pub bytes_held : Selecting → ℕ
 bytes_held s = sum_by length s.ready + length_of s.kept.open_now
 
--- Of a section filter: until its one section was given, the assembler has taken in all packets; and then there is no further item. No other filter gives one section alone.
+-- Of a section filter: until its one section was given, the assembler has taken in all packets; and then there is no
+-- further item. No other filter gives one section alone.
 abbrev pub Follows : Choice → List Offered → List (List ℕ) → Selecting → Type 0
 Follows (Sections pid wanted check once) offered given s =
     (s.is_spent ≡ false → (s.kept ≡ kept_after_all pid (map (λ o. o.packet) offered)) × (once ≡ true → given ≡ []))
     × (s.is_spent ≡ true → (once ≡ true) × (given ≢ []))
 Follows _ offered given s = s.is_spent ≡ false
 
--- A selector that keeps `s` was offered these packets since its filter began anew, and has given these items: with those that are ready they are the items of the packets.
+-- A selector that keeps `s` was offered these packets since its filter began anew, and has given these items: with
+-- those that are ready they are the items of the packets.
 pub record Selects (offered : List Offered) (given : List (List ℕ)) (s : Selecting) : Type 0 where
   pub so_far : items_of s.choice offered ≡ given ++ s.ready
   pub follows : Follows s.choice offered given s
@@ -103,4 +122,5 @@ pub record Gave (old : Selecting) (item : Option (List ℕ)) (left : Selecting) 
   pub value : left ≡ without_first old
   pub drained : old.ready ≡ [] → left.ready ≡ []
   pub bytes : bytes_held left + length_of item ≤ bytes_held old
-  pub stands : (offered : List Offered) (given : List (List ℕ)) → Selects offered given old → MatchOption item (Selects offered given left) (λ x. Selects offered (given ++ x ∷ []) left)
+  pub stands : (offered : List Offered) (given : List (List ℕ)) → Selects offered given old
+      → MatchOption item (Selects offered given left) (λ x. Selects offered (given ++ x ∷ []) left)

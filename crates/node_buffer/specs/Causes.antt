@@ -63,7 +63,8 @@ pub record ReadCausesBy (captured overflow untold answered : Bool) (count : ℕ)
 
 -- by the capture before it, and the expiry with it
 abbrev pub ReadCauses : Option Ledger → (expired : Option ℕ) → (count : ℕ) → Response → Type 0
-ReadCauses ledger expired count r = ReadCausesBy (is_some ledger) (has_overflow ledger) (has_untold ledger expired) (is_answered ledger) count r
+ReadCauses ledger expired count r =
+    ReadCausesBy (is_some ledger) (has_overflow ledger) (has_untold ledger expired) (is_answered ledger) count r
 
 -- an Open of a node without an owner, and a SetSize to another size than the node has
 abbrev pub TakesMemory : Facts → Invocation → Type 0
@@ -79,4 +80,5 @@ pub record Causes (kind : NodeKind) (f g : Facts) (who : ℕ) (call : Invocation
   pub busy : (owner : ℕ) → (r ≡ Busy owner) ↔ ((call ≡ Open) × (f.owner ≡ Some owner))
   -- want of memory comes to no other call, and to none that is refused
   pub memory : r ≡ NoMemory → (refusal_to kind f who call ≡ None) × TakesMemory f call
-  pub reads : (now count : ℕ) → call ≡ Read now count → refusal_to kind f who call ≡ None → ReadCauses f.ledger (expired_of g.ledger) count r
+  pub reads : (now count : ℕ) → call ≡ Read now count → refusal_to kind f who call ≡ None
+      → ReadCauses f.ledger (expired_of g.ledger) count r

@@ -43,7 +43,8 @@ offers_of names packets = map (λ packet. record { packet = packet; pids = names
 -- what these events offer, the oldest first
 abbrev pub offers : Params → List Event → List Offered
 offers set [] = []
-offers set (ev ∷ evs) = offers set evs ++ offers_of (names_of (choice_of set) (pids ev.before)) (packets_in (input_of set) ev)
+offers set (ev ∷ evs) =
+    offers set evs ++ offers_of (names_of (choice_of set) (pids ev.before)) (packets_in (input_of set) ev)
 
 -- While there is a capture, the selector was offered its packets, and has given its items.
 abbrev pub HasSelected : History → Selecting → Type 0

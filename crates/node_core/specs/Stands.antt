@@ -7,14 +7,16 @@ use Rattle.dmx_calls.specs.Legal.{IsLegal}
 use Rattle.item_select.specs.Selecting.{Selecting}
 use Rattle.node_core.specs.Offers.{HasSelected}
 
--- what a contract sees of a demux node: its number, how many calls were made on it, what its history says to the next one, and what its selector keeps
+-- what a contract sees of a demux node: its number, how many calls were made on it, what its history says to the
+-- next one, and what its selector keeps
 pub record CoreValue : Type 0 where
   pub number : ℕ
   pub entries : ℕ
   pub facts : Facts
   pub selecting : Selecting
 
--- The node stands for a history: it is legal, it has that many entries, what it says is what the node knows, and the selector was offered what it offers.
+-- The node stands for a history: it is legal, it has that many entries, what it says is what the node knows, and
+-- the selector was offered what it offers.
 pub record StandsFor (node : CoreValue) (h : History) : Type 0 where
   pub legal : IsLegal h
   pub count : node.entries ≡ length h

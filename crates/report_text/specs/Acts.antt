@@ -22,19 +22,24 @@ pids_text (pid ∷ pids) = decimal pid ++ flat_map next_pid_text pids
 -- a section filter that is set at this moment, with the places of the filter that aren't 0
 abbrev pub section_text : SectionParams → (now : ℕ) → List ℕ
 section_text p now =
-    codes "section pid=" ++ (decimal p.pid ++ (codes " timeout=" ++ (decimal p.timeout ++ (codes " flags=" ++ (decimal p.flags
+    codes "section pid=" ++ (decimal p.pid
+    ++ (codes " timeout=" ++ (decimal p.timeout ++ (codes " flags=" ++ (decimal p.flags
     ++ (codes " at=" ++ (decimal now ++ filter_text p.filter)))))))
 
 -- a PES filter that is set at this moment
 abbrev pub pes_text : PesParams → (now : ℕ) → List ℕ
 pes_text p now =
-    codes "pes pid=" ++ (decimal p.pid ++ (codes " input=" ++ (input_text p.input ++ (codes " output=" ++ (output_text p.output
-    ++ (codes " type=" ++ (decimal p.pes_type ++ (codes " flags=" ++ (decimal p.flags ++ (codes " at=" ++ decimal now))))))))))
+    codes "pes pid=" ++ (decimal p.pid ++
+    (codes " input=" ++ (input_text p.input ++ (codes " output=" ++ (output_text p.output
+    ++ (codes " type=" ++ (decimal p.pes_type
+    ++ (codes " flags=" ++ (decimal p.flags ++ (codes " at=" ++ decimal now))))))))))
 
 -- so many packets of the stream from this one on that pass at this moment
 abbrev pub pass_text : Input → (first count now : ℕ) → List ℕ
 pass_text input first count now =
-    codes "pass input=" ++ (input_text input ++ (codes " first=" ++ (decimal first ++ (codes " count=" ++ (decimal count ++ (codes " at=" ++ decimal now))))))
+    codes "pass input=" ++ (input_text input
+    ++ (codes " first=" ++ (decimal first
+    ++ (codes " count=" ++ (decimal count ++ (codes " at=" ++ decimal now))))))
 
 -- a call
 unfoldable pub act_text : Act → List ℕ

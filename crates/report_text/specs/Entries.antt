@@ -9,11 +9,13 @@ use Rattle.report_text.specs.Replies.{response_text}
 
 -- the place of an entry, its caller and the caller's step, each with a space behind it
 unfoldable pub caller_text : (place who step : ℕ) → List ℕ
-caller_text place who step = decimal place ++ (codes " " ++ (who_text who ++ (codes " " ++ (decimal step ++ codes " "))))
+caller_text place who step =
+    decimal place ++ (codes " " ++ (who_text who ++ (codes " " ++ (decimal step ++ codes " "))))
 
 -- an entry: these, the call, and the reply
 abbrev pub entry_text : LogEntry → List ℕ
-entry_text e = caller_text e.place e.who e.step ++ (act_text e.act ++ (codes " = " ++ (response_text e.response ++ codes "\n")))
+entry_text e =
+    caller_text e.place e.who e.step ++ (act_text e.act ++ (codes " = " ++ (response_text e.response ++ codes "\n")))
 
 -- whether a client made the call, and not the feeder
 abbrev pub is_of_client : LogEntry → Bool

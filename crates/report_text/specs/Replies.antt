@@ -42,7 +42,8 @@ tap_text DetachTap = codes "detach"
 
 -- a reply
 unfoldable pub response_text : Response → List ℕ
-response_text (Done from to tap) = codes "done drop=" ++ (decimal from ++ (codes ".." ++ (decimal to ++ (codes " tap=" ++ tap_text tap))))
+response_text (Done from to tap) =
+    codes "done drop=" ++ (decimal from ++ (codes ".." ++ (decimal to ++ (codes " tap=" ++ tap_text tap))))
 response_text (Busy owner) = codes "busy owner=" ++ who_text owner
 response_text (Refused errno) = errno_text errno
 response_text NoMemory = codes "ENOMEM"
@@ -52,7 +53,8 @@ response_text (Overflow from to item need room) =
     codes "overflow " ++ (decimal from ++ (codes ".." ++ (decimal to ++ (codes " item=" ++ (decimal item
     ++ (codes " need=" ++ (decimal need ++ (codes " room=" ++ decimal room))))))))
 response_text (TimedOut started now timeout) =
-    codes "timedout started=" ++ (decimal started ++ (codes " now=" ++ (decimal now ++ (codes " timeout=" ++ decimal timeout))))
+    codes "timedout started=" ++ (decimal started
+    ++ (codes " now=" ++ (decimal now ++ (codes " timeout=" ++ decimal timeout))))
 response_text (Ready readable error at ended) =
     codes "ready readable=" ++ (flag_text readable ++ (codes " error=" ++ (pending_text error
     ++ (codes " at=" ++ (decimal at ++ (codes " ended=" ++ flag_text ended))))))

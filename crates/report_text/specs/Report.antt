@@ -16,13 +16,16 @@ use Rattle.report_text.specs.Entries.{histories_text}
 -- how many packets, skipped bytes and bytes of rest the stream has
 abbrev pub tally_text : Tally → List ℕ
 tally_text tally =
-    codes "packets=" ++ (decimal tally.packets ++ (codes " skipped=" ++ (decimal tally.skipped ++ (codes " rest=" ++ (decimal tally.rest ++ codes "\n")))))
+    codes "packets=" ++ (decimal tally.packets
+    ++ (codes " skipped=" ++ (decimal tally.skipped ++ (codes " rest=" ++ (decimal tally.rest ++ codes "\n")))))
 
 -- the packets of a PID
 abbrev pub row_text : (ℕ × PidRow) → List ℕ
 row_text row =
-    codes "pid " ++ (decimal row.0 ++ (codes " packets=" ++ (decimal row.1.packets ++ (codes " breaks=" ++ (decimal row.1.breaks
-    ++ (codes " duplicates=" ++ (decimal row.1.duplicates ++ (codes " errors=" ++ (decimal row.1.errors ++ codes "\n")))))))))
+    codes "pid " ++ (decimal row.0 ++ (codes " packets="
+    ++ (decimal row.1.packets ++ (codes " breaks=" ++ (decimal row.1.breaks
+    ++ (codes " duplicates=" ++ (decimal row.1.duplicates
+    ++ (codes " errors=" ++ (decimal row.1.errors ++ codes "\n")))))))))
 
 -- ------ the clients
 
@@ -34,7 +37,8 @@ kind_text Unbound = codes "unbound"
 -- a command: its line, the step of its first call and the step behind its last, and how it ended
 abbrev pub outcome_text : Outcome → List ℕ
 outcome_text o =
-    codes "line " ++ (decimal o.line ++ (codes " steps " ++ (decimal o.from ++ (codes ".." ++ (decimal o.to ++ (codes " " ++ (kind_text o.kind ++ codes "\n")))))))
+    codes "line " ++ (decimal o.line ++ (codes " steps "
+    ++ (decimal o.from ++ (codes ".." ++ (decimal o.to ++ (codes " " ++ (kind_text o.kind ++ codes "\n")))))))
 
 -- a client with its commands in their order
 abbrev pub client_text : (client : ℕ) → List Outcome → List ℕ
@@ -52,7 +56,10 @@ unfoldable pub end_text : (read_fault : Bool) → List ℕ
 end_text true = codes "fault read\n"
 end_text false = codes "end\n"
 
--- The report: a first line, the stream and its PIDs, each client with its commands, each node that a client called with its entries, and a last line.
+-- The report: a first line, the stream and its PIDs, each client with its commands, each node that a client
+-- called with its entries, and a last line.
 abbrev pub report_of : StreamHead → (outcomes : List (List Outcome)) → (histories : List (List LogEntry)) → List ℕ
 report_of head outcomes histories =
-    codes "dvbemu 1\n" ++ (tally_text head.tally ++ (flat_map row_text head.rows ++ (clients_text 0 outcomes ++ (histories_text 0 histories ++ end_text head.read_fault))))
+    codes "dvbemu 1\n" ++ (tally_text head.tally
+    ++ (flat_map row_text head.rows ++
+    (clients_text 0 outcomes ++ (histories_text 0 histories ++ end_text head.read_fault))))

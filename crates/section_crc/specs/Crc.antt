@@ -9,7 +9,8 @@ bit_at n k = n / 2 ^ k % 2
 -- the bits of a byte, the most significant first
 abbrev pub bits_of : ℕ → List ℕ
 bits_of byte =
-    bit_at byte 7 ∷ bit_at byte 6 ∷ bit_at byte 5 ∷ bit_at byte 4 ∷ bit_at byte 3 ∷ bit_at byte 2 ∷ bit_at byte 1 ∷ bit_at byte 0 ∷ []
+    bit_at byte 7 ∷ bit_at byte 6 ∷ bit_at byte 5 ∷ bit_at byte 4 ∷ bit_at byte 3 ∷ bit_at byte 2 ∷ bit_at byte 1
+    ∷ bit_at byte 0 ∷ []
 
 -- x^32 + x^26 + x^23 + x^22 + x^16 + x^12 + x^11 + x^10 + x^8 + x^7 + x^5 + x^4 + x^2 + x + 1, without its highest term
 abbrev pub polynomial : ℕ

@@ -12,7 +12,9 @@ section_length s = slice_index s 1 % 16 * 256 + slice_index s 2
 -- A whole section stands at the front: no stuffing byte 0xFF in the place of its table_id, its first three bytes,
 -- a section_length of at most 4093 (2.4.4.11), and the bytes that it counts.
 abbrev pub has_section : List ℕ → Bool
-has_section s = not (slice_index s 0 == 0xff) && (nat_le 3 (length s) && (nat_le (section_length s) 4093 && nat_le (3 + section_length s) (length s)))
+has_section s =
+    not (slice_index s 0 == 0xff) && (nat_le 3 (length s)
+    && (nat_le (section_length s) 4093 && nat_le (3 + section_length s) (length s)))
 
 -- The sections of these bytes, of which the first `inside` belong to a section that was read before them:
 -- the section at the front and those behind it, up to the first place where no whole one stands.
@@ -21,7 +23,8 @@ sections_after inside [] = []
 sections_after (suc inside) (byte ∷ bytes) = sections_after inside bytes
 sections_after zero (byte ∷ bytes) =
     if has_section (byte ∷ bytes)
-    then take (3 + section_length (byte ∷ bytes)) (byte ∷ bytes) ∷ sections_after (2 + section_length (byte ∷ bytes)) bytes
+    then take (3 + section_length (byte ∷ bytes)) (byte ∷ bytes)
+    ∷ sections_after (2 + section_length (byte ∷ bytes)) bytes
     else []
 
 -- the sections of a segment, read from its first byte

@@ -15,11 +15,13 @@ unfoldable pub runs : List (List ℕ) → List (List (List ℕ))
 runs [] = []
 runs (p ∷ ps) = in_front p (runs ps)
 
--- the pointer_field, the first payload byte of a packet with unit start: how many bytes stand between it and the first section that begins in this packet (2.4.4.1)
+-- the pointer_field, the first payload byte of a packet with unit start: how many bytes stand between it and the first
+-- section that begins in this packet (2.4.4.1)
 abbrev pub pointer_field : List ℕ → ℕ
 pointer_field p = slice_index (carried p) 0
 
--- the pointer_field and the bytes that it counts lie in the payload; one that points farther points nowhere (this project's rule)
+-- the pointer_field and the bytes that it counts lie in the payload; one that points
+-- farther points nowhere (this project's rule)
 abbrev pub is_pointed : List ℕ → Bool
 is_pointed p = nat_le (1 + pointer_field p) (length (carried p))
 
@@ -31,7 +33,8 @@ pointed p = if is_pointed p then take (pointer_field p) (drop 1 (carried p)) els
 abbrev pub begun : List ℕ → List ℕ
 begun p = drop (1 + pointer_field p) (carried p)
 
--- what these packets of a run give to the segment that is open before them: their payloads up to the next unit start, and what its pointer_field leaves to it
+-- what these packets of a run give to the segment that is open before them: their payloads up to the next unit start,
+-- and what its pointer_field leaves to it
 unfoldable pub rest_of_segment : List (List ℕ) → List ℕ
 rest_of_segment [] = []
 rest_of_segment (p ∷ ps) = if unit_start p then pointed p else carried p ++ rest_of_segment ps

@@ -22,7 +22,8 @@ module _ (lines : List Line) (batch : ℕ) where
   -- some calls of a command are made
   pub data IsBegun (client line : ℕ) : Run → Run → Type 0 where
     no_call : (r : Run) → IsBegun client line r r
-    one_call : (r s : Run) (e : Event) → next_of_line client lines line (replies_of client r) ≡ Some e → IsBegun client line (called client e (after_waiting lines batch client r)) s → IsBegun client line r s
+    one_call : (r s : Run) (e : Event) → next_of_line client lines line (replies_of client r) ≡ Some e
+        → IsBegun client line (called client e (after_waiting lines batch client r)) s → IsBegun client line r s
 
   -- some calls of the next line are made, where it is a command
   abbrev pub AreBegun : List Line → Run → Run → Type 0
@@ -31,14 +32,21 @@ module _ (lines : List Line) (batch : ℕ) where
 
   -- A moment of the serial run: some lines are done, and of the next line some calls are made.
   abbrev pub IsMoment : (packets : List (List ℕ)) → Run → Type 0
-  IsMoment packets s = (before : List Line) × (more : List Line) × (before ++ more ≡ lines) × (r : Run) × AreDone lines batch before (begun packets) r × AreBegun more r s
+  IsMoment packets s =
+      (before : List Line) × (more : List Line) × (before ++ more ≡ lines) × (r : Run)
+      × AreDone lines batch before (begun packets) r × AreBegun more r s
 
--- At each moment of the serial run, and at its end, a client has made no more calls than its commands and the bytes of the packets allow, where a batch has at least one packet.
+-- At each moment of the serial run, and at its end, a client has made no more calls than its commands and the bytes of
+-- the packets allow, where a batch has at least one packet.
 pub record IsWithinBudget : Type 0 where
-  pub moments : (lines : List Line) (batch : ℕ) (packets : List (List ℕ)) (r : Run) → 1 ≤ batch → All IsPacket packets → IsMoment lines batch packets r
-      → (client : ℕ) → length (replies_of client r) ≤ most_calls (length (commands_of client lines)) (188 * length packets)
-  pub runs : (lines : List Line) (batch : ℕ) (packets : List (List ℕ)) (r : Run) → 1 ≤ batch → All IsPacket packets → IsSerialRun lines batch packets r
-      → (client : ℕ) → length (replies_of client r) ≤ most_calls (length (commands_of client lines)) (188 * length packets)
+  pub moments : (lines : List Line) (batch : ℕ) (packets : List (List ℕ)) (r : Run) → 1 ≤ batch → All IsPacket packets
+      → IsMoment lines batch packets r
+      → (client : ℕ) → length (replies_of client r)
+      ≤ most_calls (length (commands_of client lines)) (188 * length packets)
+  pub runs : (lines : List Line) (batch : ℕ) (packets : List (List ℕ)) (r : Run) → 1 ≤ batch → All IsPacket packets
+      → IsSerialRun lines batch packets r
+      → (client : ℕ) → length (replies_of client r)
+      ≤ most_calls (length (commands_of client lines)) (188 * length packets)
 
 -- ------ what is kept on the way
 
@@ -65,14 +73,21 @@ pub record HasBrought (node : Rules) (count : ℕ) (has : Bool) (h : History) : 
   pub brought : length (brought_by h) ≡ count
   pub ended : has_ended h ≡ has
 
--- The calls made so far are paid for. A client makes 33 calls a command, and repeats a read only after a turn of the feeder or after bytes. One repeat is paid for by the turn to come, or by the end of the stream. The feeder has as many turns as packets at most, and End. The nodes answer no more bytes than they are brought.
+-- the calls made so far are paid for
 pub record IsPaid (lines : List Line) (packets : List (List ℕ)) (r : Run) : Type 0 where
   pub nodes : length r.demux ≡ DEMUX_NODES
   pub whole : r.first + length r.left ≡ length packets
   pub are_packets : All IsPacket r.left
   pub demux : All (λ node. HasBrought demux r.first r.has_ended (history_of node)) r.demux
   pub dvr : HasBrought dvr r.first r.has_ended (history_of r.dvr)
+  -- the feeder has as many turns as packets at most, and End
   pub turns : r.turns ≤ r.first + one_if r.has_ended
+  -- the nodes answer no more bytes than they are brought
   pub bytes : (client : ℕ) → bytes_to client r ≤ bytes_by_all r
-  pub repeats : (client : ℕ) → repeats client lines (replies_of client r) ≤ r.turns + bytes_to client r + one_if (is_some (waits_on client lines (replies_of client r)) || r.has_ended)
-  pub calls : (client : ℕ) → length (replies_of client r) ≤ 33 * length (commands_of client lines) + r.turns + bytes_to client r + 2
+  -- A client repeats a read only after a turn of the feeder or after bytes. One repeat is paid for by the turn to come,
+  -- or by the end of the stream.
+  pub repeats : (client : ℕ) → repeats client lines (replies_of client r)
+      ≤ r.turns + bytes_to client r + one_if (is_some (waits_on client lines (replies_of client r)) || r.has_ended)
+  -- a client makes 33 calls a command, and its repeats
+  pub calls : (client : ℕ) → length (replies_of client r)
+      ≤ 33 * length (commands_of client lines) + r.turns + bytes_to client r + 2

@@ -23,7 +23,8 @@ histories_in r = map (λ node. (log_of node).entries) (nodes_of r)
 abbrev pub outcomes_in : List Line → Run → List (List Outcome)
 outcomes_in lines r = map (λ client. outcomes client lines (replies_of client r)) (range_with_len 0 (clients_in lines))
 
--- These are the histories, the outcomes and the head of the serial run of a script over a stream of these bytes, in which the source failed or not.
+-- These are the histories, the outcomes and the head of the serial run of a script over a stream of these
+-- bytes, in which the source failed or not.
 pub record IsRanOf (lines : List Line) (batch : ℕ) (stream : List ℕ) (ran : Ran) : Type 0 where
   pub run : Run
   pub serial : IsSerialRun lines batch (cut stream).packets run

@@ -22,4 +22,5 @@ value_of digits = value_after 0 digits
 -- the number that a word spells, where it is one from `least` to `most`
 abbrev pub number_between : (least most : ℕ) → List ℕ → Option ℕ
 number_between least most word =
-    if is_number word && (nat_le least (value_of word) && nat_le (value_of word) most) then Some (value_of word) else None
+    if is_number word && (nat_le least (value_of word) && nat_le (value_of word) most) then Some (value_of word)
+    else None

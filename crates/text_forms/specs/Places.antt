@@ -14,7 +14,8 @@ use Rattle.text_forms.specs.Numbers.{number_between}
 -- a place as `I=FF/MM/DD`: its number, and its filter, mask and mode byte
 abbrev pub place_text : Place → List ℕ
 place_text p =
-    decimal p.number ++ (codes "=" ++ (byte_text p.filter ++ (codes "/" ++ (byte_text p.mask ++ (codes "/" ++ byte_text p.mode)))))
+    decimal p.number ++ (codes "=" ++ (byte_text p.filter
+    ++ (codes "/" ++ (byte_text p.mask ++ (codes "/" ++ byte_text p.mode)))))
 
 -- the three bytes of a place are bytes
 abbrev pub HasBytes : Place → Type 0
@@ -22,7 +23,12 @@ HasBytes p = (p.filter < 256) × (p.mask < 256) × (p.mode < 256)
 
 -- place i of a filter
 abbrev pub place_at : SectionFilter → ℕ → Place
-place_at f i = record { number = i; filter = slice_index f.filter i; mask = slice_index f.mask i; mode = slice_index f.mode i }
+place_at f i = record {
+  number = i;
+  filter = slice_index f.filter i;
+  mask = slice_index f.mask i;
+  mode = slice_index f.mode i;
+}
 
 -- whether the three bytes of a place are all 0
 abbrev pub is_zero : Place → Bool
@@ -63,13 +69,15 @@ place_with number _ = None
 -- the place that a word `I=FF/MM/DD` spells, with I from `least` to 15; behind I stand the last nine bytes of the word
 unfoldable pub place_named : (least : ℕ) → List ℕ → Option Place
 place_named least word =
-    given (number_between least 15 (take (length word - 9) word)) (λ number. place_with number (drop (length word - 9) word))
+    given (number_between least 15 (take (length word - 9) word))
+    (λ number. place_with number (drop (length word - 9) word))
 
 -- the places that words spell, each with a greater number than the one before, and the first with `least` or more
 unfoldable pub places_named : (least : ℕ) → List (List ℕ) → Option (List Place)
 places_named least [] = Some []
 places_named least (word ∷ words) =
-    given (place_named least word) (λ place. option_map (λ later. place ∷ later) (places_named (place.number + 1) words))
+    given (place_named least word) (λ place. option_map (λ later. place ∷ later)
+    (places_named (place.number + 1) words))
 
 -- sixteen bytes
 abbrev pub IsSixteenBytes : List ℕ → Type 0

@@ -17,18 +17,22 @@ AreOnNodes entries = All (λ e. e.node ≤ DEMUX_NODES) entries
 abbrev pub all_of : List (List ToldEntry) → List ToldEntry
 all_of logs = flat_map (λ log. log) logs
 
--- One list for each of the 33 nodes: just the entries of the logs on that node, each as often as there, in order of place.
+-- One list for each of the 33 nodes: just the entries of the logs on that node,
+-- each as often as there, in order of place.
 pub record AreByPlace (logs : List (List ToldEntry)) (nodes : List (List ToldEntry)) : Type 0 where
   pub many : length nodes ≡ DEMUX_NODES + 1
-  pub entries : (node : ℕ) (calls : List ToldEntry) → slice_get nodes node ≡ Some calls → IsPermutation (filter (is_on node) (all_of logs)) calls
-  pub in_order : (node : ℕ) (calls : List ToldEntry) → slice_get nodes node ≡ Some calls → IsNonDecreasingBy (λ e. e.place) calls
+  pub entries : (node : ℕ) (calls : List ToldEntry) → slice_get nodes node ≡ Some calls
+      → IsPermutation (filter (is_on node) (all_of logs)) calls
+  pub in_order : (node : ℕ) (calls : List ToldEntry) → slice_get nodes node ≡ Some calls
+      → IsNonDecreasingBy (λ e. e.place) calls
 
 -- ------ on the way
 
 -- the entries of a log stand behind those that were there, each with its node, the last one first
 pub record IsDealt (log : List ToldEntry) (old new : List (List ToldEntry)) : Type 0 where
   pub long : length new ≡ length old
-  pub each : (node : ℕ) → node < length old → get_or new node [] ≡ get_or old node [] ++ reverse (filter (is_on node) log)
+  pub each : (node : ℕ) → node < length old
+      → get_or new node [] ≡ get_or old node [] ++ reverse (filter (is_on node) log)
 
 -- the entries of all logs, each with its node, the last one first
 pub record AreDealt (logs : List (List ToldEntry)) (nodes : List (List ToldEntry)) : Type 0 where

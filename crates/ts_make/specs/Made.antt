@@ -1,5 +1,5 @@
--- The session of a number: its script, and 65,536 packets, each chosen by a word of the generator PCG32 (XSH RR 64/32) that
--- has the number as its state, and stream 54.
+-- The session of a number: its script, and 65,536 packets, each chosen by a word of the generator PCG32 (XSH RR 64/32)
+-- that has the number as its state, and stream 54.
 use Rattle.std.specs.Prelude.{ℕ, ◌+◌, ◌/◌, ◌%◌, ◌==◌, Bool, true, List, [], ◌∷◌, ◌++◌, replicate, nat_le, Option, Some, None, if◌then◌else◌}
 use Rattle.std.specs.Int.{w16, w32, w64, to_be_bytes}
 use Rattle.std.proofs.Common.{zero, suc}
@@ -46,28 +46,33 @@ word number place = (pcg32 (generator number place)).0
 -- how many of the first n packets have this PID
 unfoldable pub packets_of : ℕ → ℕ → ℕ → ℕ
 packets_of number pid zero = 0
-packets_of number pid (suc n) = if pid_of (kind_of (word number n)) == pid then packets_of number pid n + 1 else packets_of number pid n
+packets_of number pid (suc n) =
+    if pid_of (kind_of (word number n)) == pid then packets_of number pid n + 1 else packets_of number pid n
 
 -- a packet's first four bytes: no error, no priority, no scrambling, and a payload without an adaptation field
 abbrev pub header : Bool → ℕ → ℕ → List ℕ
-header unit_start pid counter = 0x47 ∷ ((if unit_start then 0x40 else 0) + pid / 256) ∷ (pid % 256) ∷ (0x10 + counter) ∷ []
+header unit_start pid counter =
+    0x47 ∷ ((if unit_start then 0x40 else 0) + pid / 256) ∷ (pid % 256) ∷ (0x10 + counter) ∷ []
 
 -- the first n bytes of a plain payload: byte j, from 0, is the packet's place plus j, modulo 256
 unfoldable pub payload : ℕ → ℕ → List ℕ
 payload place zero = []
 payload place (suc j) = payload place j ++ (place + j) % 256 ∷ []
 
--- a section of 20 bytes: a long header with the packet's place in its table_id_extension, the place in eight bytes, and CRC_32
+-- a section of 20 bytes: a long header with the packet's place in its
+-- table_id_extension, the place in eight bytes, and CRC_32
 abbrev pub section_front : ℕ → ℕ → List ℕ
-section_front table_id place = table_id ∷ 0xb0 ∷ 0x11 ∷ (to_be_bytes w16 place ++ (0xc1 ∷ 0x00 ∷ 0x00 ∷ to_be_bytes w64 place))
+section_front table_id place =
+    table_id ∷ 0xb0 ∷ 0x11 ∷ (to_be_bytes w16 place ++ (0xc1 ∷ 0x00 ∷ 0x00 ∷ to_be_bytes w64 place))
 
 abbrev pub section : ℕ → ℕ → List ℕ
 section table_id place = section_front table_id place ++ to_be_bytes w32 (crc (section_front table_id place))
 
--- a packet by its kind, its place, its word and its counter: with a section that begins behind a pointer_field 0 and has
--- stuffing behind it, or plain, with a unit start where the word's bits 16 to 18 are 0
+-- a packet by its kind, its place, its word and its counter: with a section that begins behind a pointer_field 0 and
+-- has stuffing behind it, or plain, with a unit start where the word's bits 16 to 18 are 0
 abbrev pub carrying : Option ℕ → Kind → ℕ → ℕ → ℕ → List ℕ
-carrying (Some table_id) kind place word counter = header true (pid_of kind) counter ++ (0x00 ∷ (section table_id place ++ replicate 163 0xff))
+carrying (Some table_id) kind place word counter =
+    header true (pid_of kind) counter ++ (0x00 ∷ (section table_id place ++ replicate 163 0xff))
 carrying None kind place word counter = header (word / 65536 % 8 == 0) (pid_of kind) counter ++ payload place 184
 
 abbrev pub packet : Kind → ℕ → ℕ → ℕ → List ℕ
@@ -75,7 +80,9 @@ packet kind place word counter = carrying (table_of kind) kind place word counte
 
 -- the packet in this place: its counter is the number of packets of its PID before it, modulo 16
 abbrev pub packet_at : ℕ → ℕ → List ℕ
-packet_at number place = packet (kind_of (word number place)) place (word number place) (packets_of number (pid_of (kind_of (word number place))) place % 16)
+packet_at number place =
+    packet (kind_of (word number place)) place (word number place)
+    (packets_of number (pid_of (kind_of (word number place))) place % 16)
 
 -- the bytes of the first n packets
 unfoldable pub packets : ℕ → ℕ → List ℕ

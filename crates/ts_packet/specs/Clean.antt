@@ -16,17 +16,19 @@ is_usable pid p = (pid_of p == pid) && (has_payload p && not (error_bit p))
 abbrev pub repeats : List ℕ → List ℕ → Bool
 repeats before p = (counter_of before == counter_of p) && pointwise nat_eq (carried before) (carried p)
 
--- The packets without each that repeats its neighbour before it. The neighbour of the first is `before`, if there is one.
--- Of a row of packets each of which repeats the one before, the first is left.
+-- The packets without each that repeats its neighbour before it. The neighbour of the first is `before`, if there is
+-- one. Of a row of packets each of which repeats the one before, the first is left.
 unfoldable pub without_repeats_after : Option (List ℕ) → List (List ℕ) → List (List ℕ)
 without_repeats_after before [] = []
 without_repeats_after None (p ∷ ps) = p ∷ without_repeats_after (Some p) ps
-without_repeats_after (Some before) (p ∷ ps) = if repeats before p then without_repeats_after (Some p) ps else p ∷ without_repeats_after (Some p) ps
+without_repeats_after (Some before) (p ∷ ps) =
+    if repeats before p then without_repeats_after (Some p) ps else p ∷ without_repeats_after (Some p) ps
 
 -- the usable packets of the PID without their duplicates
 unfoldable pub clean : List (List ℕ) → ℕ → List (List ℕ)
 clean packets pid = without_repeats_after None (filter (is_usable pid) packets)
 
--- p goes on where the clean packet before it ends: its continuity_counter is one more, modulo 16, and its discontinuity_indicator is 0 (2.4.3.3, 2.4.3.5)
+-- p goes on where the clean packet before it ends: its continuity_counter is one more, modulo 16, and its
+-- discontinuity_indicator is 0 (2.4.3.3, 2.4.3.5)
 abbrev pub joins : List ℕ → List ℕ → Bool
 joins before p = (counter_of p == (counter_of before + 1) % 16) && not (discontinuity p)

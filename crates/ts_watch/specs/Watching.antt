@@ -10,7 +10,12 @@ use Rattle.ts_watch.specs.declared.seen.Seen.{Seen}
 
 -- The row of a PID: the counts of its packets among these.
 abbrev pub row_of : List (List ℕ) → ℕ → WatchRow
-row_of packets pid = record { packets = (counts packets pid).packets; breaks = (counts packets pid).breaks; duplicates = (counts packets pid).duplicates; errors = (counts packets pid).errors }
+row_of packets pid = record {
+  packets = (counts packets pid).packets;
+  breaks = (counts packets pid).breaks;
+  duplicates = (counts packets pid).duplicates;
+  errors = (counts packets pid).errors;
+}
 
 -- how many packets were shown, the place of each PID's counts, and what is kept at the places
 pub record Watching : Type 0 where
@@ -52,7 +57,12 @@ abbrev pub one_break : WatchRow → WatchRow
 one_break r = record { packets = r.packets + 1; breaks = r.breaks + 1; duplicates = r.duplicates; errors = r.errors }
 
 abbrev pub one_duplicate : WatchRow → WatchRow
-one_duplicate r = record { packets = r.packets + 1; breaks = r.breaks; duplicates = r.duplicates + 1; errors = r.errors }
+one_duplicate r = record {
+  packets = r.packets + 1;
+  breaks = r.breaks;
+  duplicates = r.duplicates + 1;
+  errors = r.errors;
+}
 
 abbrev pub one_error : WatchRow → WatchRow
 one_error r = record { packets = r.packets + 1; breaks = r.breaks; duplicates = r.duplicates; errors = r.errors + 1 }
@@ -72,7 +82,8 @@ after s p =
     else if (s.pid == 0x1fff) || not (has_payload p) then record { pid = s.pid; row = one_packet s.row; last = s.last }
     else after_usable s s.last p
 
--- What is true of what is kept of a PID: no count is above the number of packets, and the last clean packet has a payload.
+-- What is true of what is kept of a PID: no count is above the number of packets,
+-- and the last clean packet has a payload.
 pub record IsSeen (s : Seen) : Type 0 where
   pub breaks : s.row.breaks ≤ s.row.packets
   pub duplicates : s.row.duplicates ≤ s.row.packets
@@ -88,7 +99,8 @@ taken (Some place) = 1
 -- are no other places.
 pub record IsWatching (w : Watching) : Type 0 where
   pub size : length w.places ≡ 8192
-  pub own : (pid place : ℕ) → get_or w.places pid None ≡ Some place → (place < length w.seen) × ((get_or w.seen place (nothing pid)).pid ≡ pid)
+  pub own : (pid place : ℕ) → get_or w.places pid None ≡ Some place
+      → (place < length w.seen) × ((get_or w.seen place (nothing pid)).pid ≡ pid)
   pub all : sum_by taken w.places ≡ length w.seen
   pub few : All (λ s. s.row.packets ≤ w.watched) w.seen
   pub sound : All IsSeen w.seen

@@ -14,38 +14,46 @@ use Rattle.adapter.specs.Nodes.{ended}
 use Rattle.workers.specs.Logged.{HasCalled}
 use Rattle.workers.specs.Feeding.{HasFed}
 
--- A moment of a run by threads, or its end: the feeder has passed these packets, and the end of the stream or not yet; each
--- client has made the calls of its log; and each node has a legal history of just the calls of all of them.
-pub record IsRunning (lines : List Line) (most : ℕ) (may : ℕ → Bool) (packets : List (List ℕ)) (behind : List Entry) (feeder : Caller) (feeding : List Fed) (others : List Caller) (books : List (List LogEntry)) : Type 0 where
+-- A moment of a run by threads, or its end: the feeder has passed these packets, and the end of the stream or not yet;
+-- each client has made the calls of its log; and each node has a legal history of just the calls of all of them.
+pub record IsRunning (lines : List Line) (most : ℕ) (may : ℕ → Bool) (packets : List (List ℕ)) (behind : List Entry)
+    (feeder : Caller) (feeding : List Fed) (others : List Caller) (books : List (List LogEntry)) : Type 0 where
   pub are_packets : All IsPacket packets
   pub end : (behind ≡ []) ⊎ (behind ≡ ended ∷ [])
   pub fed : HasFed most may packets behind feeder feeding
   pub clients : length others ≡ clients_in lines
   pub logs : length books ≡ clients_in lines
-  pub called : (c : ℕ) (client : Caller) (log : List LogEntry) → slice_get others c ≡ Some client → slice_get books c ≡ Some log → HasCalled lines c may client log
+  pub called : (c : ℕ) (client : Caller) (log : List LogEntry) → slice_get others c ≡ Some client
+      → slice_get books c ≡ Some log → HasCalled lines c may client log
   pub nodes : (c : ℕ) (log : List LogEntry) → slice_get books c ≡ Some log → All (λ e. e.node ≤ DEMUX_NODES) log
   pub histories : HaveHistories (others ++ feeder ∷ [])
 
--- At each moment of a run by threads, in whatever order the threads act, a client has made no more calls than the commands of
--- all clients and the bytes of the packets allow.
+-- At each moment of a run by threads, in whatever order the threads act, a client has made no more calls than the
+-- commands of all clients and the bytes of the packets allow.
 abbrev pub CallsAreWithinBudget : Type 0
 CallsAreWithinBudget =
-    (lines : List Line) (most : ℕ) (may : ℕ → Bool) (packets : List (List ℕ)) (behind : List Entry) (feeder : Caller) (feeding : List Fed) (others : List Caller) (books : List (List LogEntry))
+    (lines : List Line) (most : ℕ) (may : ℕ → Bool) (packets : List (List ℕ)) (behind : List Entry) (feeder : Caller)
+    (feeding : List Fed) (others : List Caller) (books : List (List LogEntry))
     → IsRunning lines most may packets behind feeder feeding others books
-    → (c : ℕ) (log : List LogEntry) → slice_get books c ≡ Some log → length log ≤ most_calls (all_commands lines) (188 * length packets)
+    → (c : ℕ) (log : List LogEntry) → slice_get books c ≡ Some log
+    → length log ≤ most_calls (all_commands lines) (188 * length packets)
 
 -- Where commands and bytes are fewer than 2^32 together, no client comes to 549,755,813,888 calls.
 abbrev pub FewBytesAreFewCalls : Type 0
 FewBytesAreFewCalls =
-    (lines : List Line) (most : ℕ) (may : ℕ → Bool) (packets : List (List ℕ)) (behind : List Entry) (feeder : Caller) (feeding : List Fed) (others : List Caller) (books : List (List LogEntry))
-    → IsRunning lines most may packets behind feeder feeding others books → all_commands lines + 188 * length packets < 4294967296
+    (lines : List Line) (most : ℕ) (may : ℕ → Bool) (packets : List (List ℕ)) (behind : List Entry) (feeder : Caller)
+    (feeding : List Fed) (others : List Caller) (books : List (List LogEntry))
+    → IsRunning lines most may packets behind feeder feeding others books
+    → all_commands lines + 188 * length packets < 4294967296
     → (c : ℕ) (log : List LogEntry) → slice_get books c ≡ Some log → length log < 549755813888
 
--- Where a client comes to 549,755,813,888 calls, the run is too long: its cause is in the commands and in the bytes of which the
--- packets were cut.
+-- Where a client comes to 549,755,813,888 calls, the run is too long: its cause is in the commands and in
+-- the bytes of which the packets were cut.
 abbrev pub ManyCallsAreTooLong : Type 0
 ManyCallsAreTooLong =
-    (lines : List Line) (most : ℕ) (may : ℕ → Bool) (packets : List (List ℕ)) (behind : List Entry) (feeder : Caller) (feeding : List Fed) (others : List Caller) (books : List (List LogEntry))
+    (lines : List Line) (most : ℕ) (may : ℕ → Bool) (packets : List (List ℕ)) (behind : List Entry) (feeder : Caller)
+    (feeding : List Fed) (others : List Caller) (books : List (List LogEntry))
     → IsRunning lines most may packets behind feeder feeding others books
     → (start : ℕ) (ahead taken : List ℕ) → 188 * length packets ≤ length ahead + length taken
-    → (c : ℕ) (log : List LogEntry) → slice_get books c ≡ Some log → length log ≡ 549755813888 → IsTooLong lines start (length log) ahead taken
+    → (c : ℕ) (log : List LogEntry) → slice_get books c ≡ Some log → length log ≡ 549755813888
+    → IsTooLong lines start (length log) ahead taken

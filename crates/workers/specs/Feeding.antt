@@ -25,7 +25,8 @@ fed_entries stream feeding = map (fed_entry stream) feeding
 -- ends.
 abbrev pub Tiles : (most first end : ℕ) → List Fed → Type 0
 Tiles most first end [] = first ≡ end
-Tiles most first end (fed ∷ feeding) = (fed.first ≡ first) × (1 ≤ fed.count) × (fed.count ≤ most) × Tiles most (first + fed.count) end feeding
+Tiles most first end (fed ∷ feeding) =
+    (fed.first ≡ first) × (1 ≤ fed.count) × (fed.count ≤ most) × Tiles most (first + fed.count) end feeding
 
 -- a batch as a run tells it
 abbrev pub batch_of : Fed → Batch
@@ -47,17 +48,21 @@ pub record HasMade (entries : List Entry) (p : TableId × View Entry) : Type 0 w
   pub number : p.1.number ≡ 0
   pub own : p.1.own ≡ map (λ place. (0, place)) places
   pub stand : StandAt p.1.seen entries places
-  pub rise : (i j place later : ℕ) → i < j → slice_get places i ≡ Some place → slice_get places j ≡ Some later → place < later
+  pub rise : (i j place later : ℕ) → i < j → slice_get places i ≡ Some place → slice_get places j ≡ Some later
+      → place < later
 
--- The feeder has passed these packets through all nodes, in these batches, each at a moment that the clock may give, and has
--- made these entries behind them.
-pub record HasFed (most : ℕ) (may : ℕ → Bool) (packets : List (List ℕ)) (behind : List Entry) (c : Caller) (feeding : List Fed) : Type 0 where
+-- The feeder has passed these packets through all nodes, in these batches, each at a moment that the clock may give,
+-- and has made these entries behind them.
+pub record HasFed (most : ℕ) (may : ℕ → Bool) (packets : List (List ℕ)) (behind : List Entry) (c : Caller)
+    (feeding : List Fed) : Type 0 where
   pub who : c.who ≡ 0
   pub tiles : Tiles most 0 (length packets) feeding
   pub moments : All (λ fed. IsTrue (may fed.now)) feeding
-  pub made : (node : ℕ) (p : TableId × View Entry) → slice_get c.passes node ≡ Some p → HasMade (fed_entries packets feeding ++ behind) p
+  pub made : (node : ℕ) (p : TableId × View Entry) → slice_get c.passes node ≡ Some p
+      → HasMade (fed_entries packets feeding ++ behind) p
 
 -- The whole stream has passed, in full batches but for the last, and then its end.
-pub record HasFedAll (most : ℕ) (may : ℕ → Bool) (stream : List (List ℕ)) (c : Caller) (feeding : List Fed) : Type 0 where
+pub record HasFedAll (most : ℕ) (may : ℕ → Bool) (stream : List (List ℕ)) (c : Caller)
+    (feeding : List Fed) : Type 0 where
   pub fed : HasFed most may stream (ended ∷ []) c feeding
   pub full : AreFullBatches most feeding

@@ -1,5 +1,5 @@
--- The log of a client, and how it is tied to what its passes know. A history is the list of a node's entries, the oldest
--- first.
+-- The log of a client, and how it is tied to what its passes know. A history is the
+-- list of a node's entries, the oldest first.
 use Rattle.std.specs.Prelude.{◌≡◌, ◌≢◌, ◌<◌, ◌+◌, ℕ, Bool, List, [], ◌∷◌, take, nat_eq, if◌then◌else◌, slice_get, Some, IsSome, All}
 use mathlib.Core.Option.{some}
 use lib.ListN.{get_elem?}
@@ -29,13 +29,15 @@ abbrev pub calls_on : (node : ℕ) → List LogEntry → List (ℕ × ℕ)
 calls_on node [] = []
 calls_on node (e ∷ es) = if nat_eq e.node node then (e.who, e.place) ∷ calls_on node es else calls_on node es
 
--- The log has just the calls of the caller's passes, each at the place that it was told, with the steps 0, 1, ..; on each
--- node the places rise.
+-- The log has just the calls of the caller's passes, each at the place that it was told, with the steps
+-- 0, 1, ..; on each node the places rise.
 pub record IsLogged (c : Caller) (log : List LogEntry) : Type 0 where
   pub mine : (node : ℕ) (p : TableId × View Entry) → slice_get c.passes node ≡ Some p → p.1.number ≡ c.who
   pub steps : (i : ℕ) (e : LogEntry) → slice_get log i ≡ Some e → (e.step ≡ i) × (e.who ≡ c.who)
-  pub tells : (i : ℕ) (e : LogEntry) → slice_get log i ≡ Some e → (p : TableId × View Entry) × (slice_get c.passes e.node ≡ Some p) × TellsIn p.1.seen e
-  pub rises : (i j : ℕ) (e f : LogEntry) → i < j → slice_get log i ≡ Some e → slice_get log j ≡ Some f → e.node ≡ f.node → e.place < f.place
+  pub tells : (i : ℕ) (e : LogEntry) → slice_get log i ≡ Some e
+      → (p : TableId × View Entry) × (slice_get c.passes e.node ≡ Some p) × TellsIn p.1.seen e
+  pub rises : (i j : ℕ) (e f : LogEntry) → i < j → slice_get log i ≡ Some e → slice_get log j ≡ Some f → e.node ≡ f.node
+      → e.place < f.place
   pub just : (node : ℕ) (p : TableId × View Entry) → slice_get c.passes node ≡ Some p → p.1.own ≡ calls_on node log
 
 -- The calls so far of a client of a script: each is the one that its commands ask for after the replies before it, at a
@@ -43,8 +45,10 @@ pub record IsLogged (c : Caller) (log : List LogEntry) : Type 0 where
 pub record HasCalled (lines : List Line) (client : ℕ) (may : ℕ → Bool) (c : Caller) (log : List LogEntry) : Type 0 where
   pub who : c.who ≡ client + 1
   pub logged : IsLogged c log
-  pub events : (i : ℕ) (e : LogEntry) → slice_get log i ≡ Some e → IsEvent (next_event client lines (replies (take i log))) e
+  pub events : (i : ℕ) (e : LogEntry) → slice_get log i ≡ Some e
+      → IsEvent (next_event client lines (replies (take i log))) e
   pub found : All (λ e. e.response ≢ NoMemory) log
   pub moments : All (λ e. IsGiven may e.act) log
   -- where a read is repeated, another caller's entry stands between: it pays for the repeat
-  pub paid : (i : ℕ) (e f : LogEntry) → slice_get log i ≡ Some e → slice_get log (i + 1) ≡ Some f → IsSome (waits_on client lines (replies (take (i + 1) log))) → e.place + 1 < f.place
+  pub paid : (i : ℕ) (e f : LogEntry) → slice_get log i ≡ Some e → slice_get log (i + 1) ≡ Some f
+      → IsSome (waits_on client lines (replies (take (i + 1) log))) → e.place + 1 < f.place

@@ -12,16 +12,20 @@ use Rattle.workers.specs.Logged.{HasCalled}
 use Rattle.workers.specs.Feeding.{HasFedAll}
 
 -- A client of a script has made these calls, and its commands are through, with these outcomes.
-pub record HasWorked (lines : List Line) (client : ℕ) (may : ℕ → Bool) (c : Caller) (log : List LogEntry) (told : List Outcome) : Type 0 where
+pub record HasWorked (lines : List Line) (client : ℕ) (may : ℕ → Bool) (c : Caller) (log : List LogEntry)
+    (told : List Outcome) : Type 0 where
   pub called : HasCalled lines client may c log
   pub ends : next_event client lines (replies log) ≡ None
   pub outcomes : told ≡ outcomes client lines (replies log)
 
 -- The feeder has passed the whole stream, and each client of the script has done its commands to their end.
-pub record AreWorked (lines : List Line) (most : ℕ) (may : ℕ → Bool) (stream : List (List ℕ)) (feeder : Caller) (feeding : List Fed) (others : List Caller) (books : List (List LogEntry)) (told : List (List Outcome)) : Type 0 where
+pub record AreWorked (lines : List Line) (most : ℕ) (may : ℕ → Bool) (stream : List (List ℕ)) (feeder : Caller)
+    (feeding : List Fed) (others : List Caller) (books : List (List LogEntry))
+    (told : List (List Outcome)) : Type 0 where
   pub fed : HasFedAll most may stream feeder feeding
   pub clients : length others ≡ clients_in lines
   pub logs : length books ≡ clients_in lines
   pub outcomes : length told ≡ clients_in lines
-  pub each : (c : ℕ) (client : Caller) (log : List LogEntry) (became : List Outcome) → slice_get others c ≡ Some client → slice_get books c ≡ Some log → slice_get told c ≡ Some became
+  pub each : (c : ℕ) (client : Caller) (log : List LogEntry) (became : List Outcome) → slice_get others c ≡ Some client
+      → slice_get books c ≡ Some log → slice_get told c ≡ Some became
       → HasWorked lines c may client log became

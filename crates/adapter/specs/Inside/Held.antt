@@ -15,7 +15,8 @@ feeder_view f = record { who = 0; left = f.left; passes = f.passes }
 
 -- each pass is the caller's, and has a call left for each that the caller has
 abbrev pub AreMine : (who left : ℕ) → List (TableId × View Entry) → Type 0
-AreMine who left passes = (i : ℕ) (p : TableId × View Entry) → slice_get passes i ≡ Some p → (p.1.number ≡ who) × (left ≤ p.1.left)
+AreMine who left passes =
+    (i : ℕ) (p : TableId × View Entry) → slice_get passes i ≡ Some p → (p.1.number ≡ who) × (left ≤ p.1.left)
 
 abbrev pub ClientHolds : client.Inside → Type 0
 ClientHolds c = AreMine c.who c.left c.passes

@@ -13,9 +13,13 @@ use Rattle.client_core.specs.Inside.Tasks.{resumed, IsTaskInRange, AreSlots}
 
 -- a command that is begun, and the commands behind it
 abbrev pub ahead : (line from : ℕ) → Slots → List Command → Doing → Progress
-ahead line from slots cs (stands event) = record { outcomes = []; standing = Some (record { line = line; from = from; event = event }) }
+ahead line from slots cs (stands event) = record {
+  outcomes = [];
+  standing = Some (record { line = line; from = from; event = event });
+}
 ahead line from slots cs (through ending next left) =
-    with_outcome (record { line = line; from = from; to = next; kind = kind_of ending }) (progress_from (slots_after ending slots) next cs left)
+    with_outcome (record { line = line; from = from; to = next; kind = kind_of ending })
+    (progress_from (slots_after ending slots) next cs left)
 
 abbrev pub coming_from : Option Current → (step : ℕ) → Slots → List Command → List Response → Progress
 coming_from None step slots cs replies = progress_from slots step cs replies
@@ -24,7 +28,8 @@ coming_from (Some c) step slots cs replies = ahead c.line c.from slots cs (resum
 abbrev pub behind : List Outcome → Progress → Progress
 behind outcomes p = record { outcomes = outcomes ++ p.outcomes; standing = p.standing }
 
--- What a contract sees of a core: the commands that aren't begun, the one that is, the slots, how many replies were taken, the node on which it waits, and the outcomes of the commands that are through.
+-- What a contract sees of a core: the commands that aren't begun, the one that is, the slots, how many replies were
+-- taken, the node on which it waits, and the outcomes of the commands that are through.
 pub record Core : Type 0 where
   pub left : List Command
   pub current : Option Current

@@ -16,6 +16,8 @@ added_by _ reply = 0
 
 -- One reply more adds at most one repeat; and none after Again, unless the client waits.
 abbrev pub OneReplyMore : Type 0
-OneReplyMore = (client : ℕ) (lines : List Line) (replies : List Response) (reply : Response) (e : Event) → next_event client lines replies ≡ Some e
+OneReplyMore = (client : ℕ) (lines : List Line) (replies : List Response) (reply : Response) (e : Event)
+    → next_event client lines replies ≡ Some e
     → (repeats client lines (replies ++ reply ∷ []) ≤ repeats client lines replies + added_by e.want reply)
-    × (reply ≡ Again false → waits_on client lines (replies ++ reply ∷ []) ≡ None → repeats client lines (replies ++ reply ∷ []) ≤ repeats client lines replies)
+    × (reply ≡ Again false → waits_on client lines (replies ++ reply ∷ []) ≡ None
+    → repeats client lines (replies ++ reply ∷ []) ≤ repeats client lines replies)

@@ -12,14 +12,15 @@ HasNoFeed bytes = All (λ byte. (byte == 10) ≡ false) bytes
 abbrev pub FallsInto : (bytes line behind : List ℕ) → Type 0
 FallsInto bytes line behind = HasNoFeed line × (bytes ≡ line ++ 10 ∷ behind)
 
--- The first so many bytes are whole lines, none of which is `stream`: whatever follows, the script ends as many bytes behind
--- the front of the others as it does in the others alone.
+-- The first so many bytes are whole lines, none of which is `stream`: whatever follows, the script ends as many bytes
+-- behind the front of the others as it does in the others alone.
 abbrev pub Passes : (count : ℕ) → List ℕ → Type 0
 Passes count bytes =
-    (more : List ℕ) → script_len (whole_lines (bytes ++ more)) ≡ option_map (λ n. count + n) (script_len (whole_lines (drop count bytes ++ more)))
+    (more : List ℕ) → script_len (whole_lines (bytes ++ more))
+    ≡ option_map (λ n. count + n) (script_len (whole_lines (drop count bytes ++ more)))
 
--- Bytes that were searched: `end` is what the script part of them has, and as long as there is none, they are whole lines
--- and a line that has begun.
+-- Bytes that were searched: `end` is what the script part of them has, and as long as there is none, they are
+-- whole lines and a line that has begun.
 pub record IsSearched (bytes : List ℕ) (begun : ℕ) (end : Option ℕ) : Type 0 where
   pub found : end ≡ script_len (whole_lines bytes)
   pub front : begun ≤ length bytes

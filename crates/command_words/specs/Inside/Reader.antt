@@ -12,7 +12,8 @@ batch_rule = record (new_rule (codes "batch")) { long = Some (codes "batch"); ac
 
 -- the command, whose words begin with no program's name
 abbrev pub options : App
-options = with_rule (on_top (λ s. record s { no_binary_name = true; disable_help_flag = true }) (new_app (codes "dvbemu"))) batch_rule
+options = with_rule (on_top (λ s. record s { no_binary_name = true; disable_help_flag = true })
+    (new_app (codes "dvbemu"))) batch_rule
 
 -- how many packets a batch has by the value of the option
 abbrev pub batch_by : Option (List ℕ) → Option ℕ

@@ -15,7 +15,14 @@ two_batches = record { first = 0; count = 64; now = 5 } ∷ record { first = 64;
 
 -- an entry on node 3
 abbrev pub entry : (place step who : ℕ) → Act → Response → LogEntry
-entry place step who act response = record { node = 3; place = place; step = step; who = who; act = act; response = response }
+entry place step who act response = record {
+  node = 3;
+  place = place;
+  step = step;
+  who = who;
+  act = act;
+  response = response;
+}
 
 -- a client opens the node before the first batch, reads between the batches, and reads after the end
 abbrev pub CallsBetweenBatches : Type 0

@@ -74,7 +74,8 @@ ExactFitIsKept = Plays demux (
     ∷ []
     )
 
--- 189 bytes hold a payload of 184 and 5 more: the second payload of 184 is lost, and after it one of a byte that would have fit
+-- 189 bytes hold a payload of 184 and 5 more: the second payload of 184 is lost, and
+-- after it one of a byte that would have fit
 abbrev pub LaterItemThatFitsIsLost : Type 0
 LaterItemThatFitsIsLost = Plays demux (
     opened
@@ -153,7 +154,8 @@ StartAgainClearsTheOverflow = Plays demux (
     ∷ []
     )
 
--- The history that docs/DEFINITIONS.md walks through, before the read and after it, and what each definition says of it.
+-- The history that docs/DEFINITIONS.md walks through, before the read and after
+-- it, and what each definition says of it.
 abbrev pub AtTheRead : History
 AtTheRead =
     fed (packet 256 1 0)

@@ -18,7 +18,8 @@ use Rattle.dmx_calls.specs.Examples.Words.{Plays, opened, client_0, client_1, fe
 
 -- ------ one line a call, one column a state
 
--- demux nodes of caller 1 in the states Allocated, Set, Go, Done and TimedOut, the newest entry first; the filter is one-shot with a timeout of 100
+-- demux nodes of caller 1 in the states Allocated, Set, Go, Done and TimedOut, the newest entry first; the
+-- filter is one-shot with a timeout of 100
 abbrev pub allocated : History
 allocated = opened ∷ []
 
@@ -53,7 +54,8 @@ abbrev pub OpenInEachState : Type 0
 OpenInEachState = in_each_state Open ≡ everywhere (Busy 1)
 
 abbrev pub CloseInEachState : Type 0
-CloseInEachState = in_each_state Close ≡ (done, Free) ∷ (done, Free) ∷ (done, Free) ∷ (dropped, Free) ∷ (done, Free) ∷ []
+CloseInEachState =
+    in_each_state Close ≡ (done, Free) ∷ (done, Free) ∷ (done, Free) ∷ (dropped, Free) ∷ (done, Free) ∷ []
 
 abbrev pub SetFilterInEachState : Type 0
 SetFilterInEachState =
@@ -67,10 +69,13 @@ SetPesInEachState =
 
 -- the filter is one of sections
 abbrev pub AddAndRemovePidInEachState : Type 0
-AddAndRemovePidInEachState = (in_each_state (AddPid 256) ≡ everywhere (Refused Einval)) × (in_each_state (RemovePid 256) ≡ everywhere (Refused Einval))
+AddAndRemovePidInEachState =
+    (in_each_state (AddPid 256) ≡ everywhere (Refused Einval))
+    × (in_each_state (RemovePid 256) ≡ everywhere (Refused Einval))
 
 abbrev pub StartInEachState : Type 0
-StartInEachState = in_each_state (Start 0) ≡ (Refused Einval, Allocated) ∷ (done, Go) ∷ (done, Go) ∷ (dropped, Go) ∷ (done, Go) ∷ []
+StartInEachState =
+    in_each_state (Start 0) ≡ (Refused Einval, Allocated) ∷ (done, Go) ∷ (done, Go) ∷ (dropped, Go) ∷ (done, Go) ∷ []
 
 abbrev pub StopInEachState : Type 0
 StopInEachState = in_each_state Stop ≡ (done, Allocated) ∷ (done, Set) ∷ (done, Set) ∷ (done, Set) ∷ (done, Set) ∷ []
@@ -79,12 +84,16 @@ abbrev pub SameSizeInEachState : Type 0
 SameSizeInEachState = in_each_state (SetSize 8192) ≡ everywhere done
 
 abbrev pub OtherSizeInEachState : Type 0
-OtherSizeInEachState = in_each_state (SetSize 4096) ≡ (done, Allocated) ∷ (done, Set) ∷ (Refused Ebusy, Go) ∷ (Refused Ebusy, IsDone) ∷ (Refused Ebusy, IsTimedOut) ∷ []
+OtherSizeInEachState =
+    in_each_state (SetSize 4096) ≡ (done, Allocated) ∷ (done, Set) ∷ (Refused Ebusy, Go) ∷ (Refused Ebusy, IsDone)
+    ∷ (Refused Ebusy, IsTimedOut) ∷ []
 
 abbrev pub ReadInEachState : Type 0
 ReadInEachState =
-    (in_each_state (Read 99 1) ≡ (Data [], Allocated) ∷ (Data [], Set) ∷ (Again false, Go) ∷ (Data (0x42 ∷ []), IsDone) ∷ (TimedOut 0 100 100, IsTimedOut) ∷ [])
-    × (in_each_state (Read 100 1) ≡ (Data [], Allocated) ∷ (Data [], Set) ∷ (TimedOut 0 100 100, IsTimedOut) ∷ (Data (0x42 ∷ []), IsDone) ∷ (TimedOut 0 100 100, IsTimedOut) ∷ [])
+    (in_each_state (Read 99 1) ≡ (Data [], Allocated) ∷ (Data [], Set) ∷ (Again false, Go) ∷ (Data (0x42 ∷ []), IsDone)
+    ∷ (TimedOut 0 100 100, IsTimedOut) ∷ [])
+    × (in_each_state (Read 100 1) ≡ (Data [], Allocated) ∷ (Data [], Set) ∷ (TimedOut 0 100 100, IsTimedOut)
+    ∷ (Data (0x42 ∷ []), IsDone) ∷ (TimedOut 0 100 100, IsTimedOut) ∷ [])
 
 -- nothing is there to be read
 abbrev pub unready : Response
@@ -92,35 +101,44 @@ unready = Ready false Quiet 0 false
 
 abbrev pub PollInEachState : Type 0
 PollInEachState =
-    (in_each_state (Poll 99) ≡ (unready, Allocated) ∷ (unready, Set) ∷ (unready, Go) ∷ (Ready true Quiet 0 false, IsDone) ∷ (Ready true TimeoutPending 0 false, IsTimedOut) ∷ [])
-    × (in_each_state (Poll 100) ≡ (unready, Allocated) ∷ (unready, Set) ∷ (Ready true TimeoutPending 0 false, IsTimedOut) ∷ (Ready true Quiet 0 false, IsDone) ∷ (Ready true TimeoutPending 0 false, IsTimedOut) ∷ [])
+    (in_each_state (Poll 99) ≡ (unready, Allocated) ∷ (unready, Set) ∷ (unready, Go)
+    ∷ (Ready true Quiet 0 false, IsDone) ∷ (Ready true TimeoutPending 0 false, IsTimedOut) ∷ [])
+    × (in_each_state (Poll 100) ≡ (unready, Allocated) ∷ (unready, Set)
+    ∷ (Ready true TimeoutPending 0 false, IsTimedOut) ∷ (Ready true Quiet 0 false, IsDone)
+    ∷ (Ready true TimeoutPending 0 false, IsTimedOut) ∷ [])
 
 abbrev pub section_passes : (now : ℕ) → Invocation
 section_passes now = Pass Frontend 0 (unit_packet 256 1 section_a ∷ []) now
 
 abbrev pub PassInEachState : Type 0
 PassInEachState =
-    (in_each_state (section_passes 99) ≡ (Passed, Allocated) ∷ (Passed, Set) ∷ (Passed, IsDone) ∷ (Passed, IsDone) ∷ (Passed, IsTimedOut) ∷ [])
-    × (in_each_state (section_passes 100) ≡ (Passed, Allocated) ∷ (Passed, Set) ∷ (Passed, IsTimedOut) ∷ (Passed, IsDone) ∷ (Passed, IsTimedOut) ∷ [])
+    (in_each_state (section_passes 99) ≡ (Passed, Allocated) ∷ (Passed, Set) ∷ (Passed, IsDone) ∷ (Passed, IsDone)
+    ∷ (Passed, IsTimedOut) ∷ [])
+    × (in_each_state (section_passes 100)
+    ≡ (Passed, Allocated) ∷ (Passed, Set) ∷ (Passed, IsTimedOut) ∷ (Passed, IsDone) ∷ (Passed, IsTimedOut) ∷ [])
     × (in_each_state (Pass Frontend 0 (packet 300 0 0 ∷ []) 99) ≡ everywhere Passed)
 
 abbrev pub EndInEachState : Type 0
 EndInEachState = in_each_state End ≡ everywhere Passed
 
 abbrev pub AttachAndDetachInEachState : Type 0
-AttachAndDetachInEachState = (in_each_state (Attach 0 (256 ∷ [])) ≡ everywhere (Refused Einval)) × (in_each_state (Detach 0) ≡ everywhere (Refused Einval))
+AttachAndDetachInEachState =
+    (in_each_state (Attach 0 (256 ∷ [])) ≡ everywhere (Refused Einval))
+    × (in_each_state (Detach 0) ≡ everywhere (Refused Einval))
 
 -- ------ no owner, and another caller
 
 -- one call of each kind
 abbrev pub all_calls : List Invocation
 all_calls =
-    Open ∷ Close ∷ section 0 0 ∷ pes 256 Tap ∷ AddPid 256 ∷ RemovePid 256 ∷ Start 0 ∷ Stop ∷ SetSize 4096 ∷ Read 0 1 ∷ Poll 0
+    Open ∷ Close ∷ section 0 0 ∷ pes 256 Tap ∷ AddPid 256 ∷ RemovePid 256 ∷ Start 0 ∷ Stop ∷ SetSize 4096 ∷ Read 0 1
+    ∷ Poll 0
     ∷ Pass Frontend 0 (packet 256 0 0 ∷ []) 0 ∷ End ∷ Attach 0 (256 ∷ []) ∷ Detach 0 ∷ []
 
 -- Open answers this, Pass and End Passed, Attach and Detach this, and every other call EBADF
 abbrev pub refused_but_open : (opening attaching : Response) → List Response
-refused_but_open opening attaching = opening ∷ replicate 10 (Refused Ebadf) ++ (Passed ∷ Passed ∷ attaching ∷ attaching ∷ [])
+refused_but_open opening attaching =
+    opening ∷ replicate 10 (Refused Ebadf) ++ (Passed ∷ Passed ∷ attaching ∷ attaching ∷ [])
 
 abbrev pub FreeNode : Type 0
 FreeNode = map (answer demux [] 1) all_calls ≡ refused_but_open done (Refused Ebadf)
@@ -130,12 +148,23 @@ AnotherCaller = map (answer demux running 2) all_calls ≡ refused_but_open (Bus
 
 -- a bad argument of another caller, or on a free node, is EBADF as well
 abbrev pub OwnerTestComesFirst : Type 0
-OwnerTestComesFirst = (answer demux running 2 (SetSize 1) ≡ Refused Ebadf) × (answer demux [] 1 (pes 0x2001 Decoder) ≡ Refused Ebadf)
+OwnerTestComesFirst =
+    (answer demux running 2 (SetSize 1) ≡ Refused Ebadf) × (answer demux [] 1 (pes 0x2001 Decoder) ≡ Refused Ebadf)
 
 -- ------ arguments
 
 abbrev pub section_of : (pid flags : ℕ) → Invocation
-section_of pid flags = SetFilter (record { pid = pid; filter = record { filter = replicate 16 0; mask = replicate 16 0; mode = replicate 16 0 }; timeout = 0; flags = flags }) 0
+section_of pid flags =
+    SetFilter (record {
+      pid = pid;
+      filter = record {
+        filter = replicate 16 0;
+        mask = replicate 16 0;
+        mode = replicate 16 0;
+      };
+      timeout = 0;
+      flags = flags;
+    }) 0
 
 abbrev pub pes_of_type : (pes_type : ℕ) → Invocation
 pes_of_type pes_type = SetPes (record { pid = 256; input = Frontend; output = Tap; pes_type = pes_type; flags = 0 }) 0
@@ -145,13 +174,15 @@ pes_from_the_dvr = SetPes (record { pid = 256; input = Dvr; output = Tap; pes_ty
 
 abbrev pub ArgumentsThatAreTaken : Type 0
 ArgumentsThatAreTaken =
-    map (answer demux is_set 1) (section_of 0x1fff 3 ∷ pes 0x2000 Tap ∷ pes_with 256 TsTap 3 ∷ pes_of_type 0 ∷ pes_of_type 20 ∷ SetSize 2 ∷ SetSize 16777216 ∷ [])
+    map (answer demux is_set 1) (section_of 0x1fff 3 ∷ pes 0x2000 Tap ∷ pes_with 256 TsTap 3 ∷ pes_of_type 0
+    ∷ pes_of_type 20 ∷ SetSize 2 ∷ SetSize 16777216 ∷ [])
     ≡ replicate 7 done
 
 abbrev pub ArgumentsThatAreRefused : Type 0
 ArgumentsThatAreRefused =
     map (answer demux running 1) (
-    section_of 256 8 ∷ section_of 0x2000 0 ∷ pes 0x2001 Tap ∷ pes_with 256 Tap 8 ∷ pes_of_type 21 ∷ pes 256 Decoder ∷ pes_from_the_dvr
+    section_of 256 8 ∷ section_of 0x2000 0 ∷ pes 0x2001 Tap ∷ pes_with 256 Tap 8 ∷ pes_of_type 21 ∷ pes 256 Decoder
+    ∷ pes_from_the_dvr
     ∷ AddPid 0x2001 ∷ RemovePid 0x2001 ∷ SetSize 0 ∷ SetSize 1 ∷ SetSize 16777217 ∷ []
     )
     ≡ replicate 12 (Refused Einval)
@@ -176,7 +207,8 @@ PidsOfAPayloadTap = Plays demux (
 
 -- a filter of whole packets with the PIDs 0 to 31, the newest entry first
 abbrev pub full : History
-full = map (λ pid. client_0 (AddPid pid) done) (reverse (range_with_len 0 32)) ++ (client_0 (pes 0 TsdemuxTap) done ∷ allocated)
+full = map (λ pid. client_0 (AddPid pid) done) (reverse (range_with_len 0 32))
+    ++ (client_0 (pes 0 TsdemuxTap) done ∷ allocated)
 
 -- 32 PIDs are a full set; a PID that is there may still be added, and an absent one removed
 abbrev pub ThirtyTwoPids : Type 0
@@ -217,7 +249,9 @@ DvrByAnotherCaller = map (answer dvr dvr_open 2) all_calls ≡ refused_but_open 
 abbrev pub DvrByItsOwner : Type 0
 DvrByItsOwner =
     map (answer dvr dvr_open 1) all_calls
-    ≡ Busy 1 ∷ done ∷ replicate 6 (Refused Einval) ++ (done ∷ Again false ∷ unready ∷ Passed ∷ Passed ∷ done ∷ done ∷ [])
+    ≡ Busy 1 ∷ done ∷ replicate 6 (Refused Einval)
+    ++ (done ∷ Again false ∷ unready ∷ Passed ∷ Passed ∷ done ∷ done ∷ [])
 
 abbrev pub DvrSizes : Type 0
-DvrSizes = map (answer dvr dvr_open 1) (SetSize 1 ∷ SetSize 2 ∷ SetSize 16777216 ∷ SetSize 16777217 ∷ []) ≡ Refused Einval ∷ done ∷ done ∷ Refused Einval ∷ []
+DvrSizes = map (answer dvr dvr_open 1) (SetSize 1 ∷ SetSize 2 ∷ SetSize 16777216 ∷ SetSize 16777217 ∷ [])
+    ≡ Refused Einval ∷ done ∷ done ∷ Refused Einval ∷ []

@@ -87,7 +87,8 @@ BrokenCounter = Plays demux (
     ∷ []
     )
 
--- table_id is to be 0x42, and the byte with version_number and current_next_indicator, the sixth, is to differ from 0xc1 in some bit
+-- table_id is to be 0x42, and the byte with version_number and current_next_indicator, the
+-- sixth, is to differ from 0xc1 in some bit
 abbrev pub NegativeFilter : Type 0
 NegativeFilter = Plays demux (
     opened
@@ -122,7 +123,8 @@ MaskedByteBeyondTheEnd mode = Plays demux (
 
 -- a section of a program association table, with this last byte of its CRC
 abbrev pub table_with : (last : ℕ) → List ℕ
-table_with last = 0x00 ∷ 0xb0 ∷ 0x0d ∷ 0x00 ∷ 0x01 ∷ 0xc1 ∷ 0x00 ∷ 0x00 ∷ 0x00 ∷ 0x01 ∷ 0xf0 ∷ 0x00 ∷ 0x2a ∷ 0xb1 ∷ 0x04 ∷ last ∷ []
+table_with last =
+    0x00 ∷ 0xb0 ∷ 0x0d ∷ 0x00 ∷ 0x01 ∷ 0xc1 ∷ 0x00 ∷ 0x00 ∷ 0x00 ∷ 0x01 ∷ 0xf0 ∷ 0x00 ∷ 0x2a ∷ 0xb1 ∷ 0x04 ∷ last ∷ []
 
 -- DMX_CHECK_CRC leaves out the section whose CRC is wrong, and keeps the one that has none
 abbrev pub CheckedCrc : Type 0

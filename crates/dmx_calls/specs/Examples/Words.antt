@@ -48,7 +48,8 @@ opened = client_0 Open done
 
 -- a PES filter of PES type DMX_PES_OTHER
 abbrev pub pes_with : (pid : ℕ) → Output → (flags : ℕ) → Invocation
-pes_with pid output flags = SetPes (record { pid = pid; input = Frontend; output = output; pes_type = 20; flags = flags }) 0
+pes_with pid output flags =
+    SetPes (record { pid = pid; input = Frontend; output = output; pes_type = 20; flags = flags }) 0
 
 abbrev pub pes : (pid : ℕ) → Output → Invocation
 pes pid output = pes_with pid output 0
@@ -57,7 +58,11 @@ pes pid output = pes_with pid output 0
 abbrev pub section_with : (timeout flags place filter mask mode : ℕ) → Invocation
 section_with timeout flags place filter mask mode = SetFilter (record {
   pid = 256;
-  filter = record { filter = set (replicate 16 0) place filter; mask = set (replicate 16 0) place mask; mode = set (replicate 16 0) place mode };
+  filter = record {
+    filter = set (replicate 16 0) place filter;
+    mask = set (replicate 16 0) place mask;
+    mode = set (replicate 16 0) place mode;
+  };
   timeout = timeout;
   flags = flags;
 }) 0

@@ -16,9 +16,23 @@ use Rattle.dvr_core.specs.Inside.Step.{Knows, moved, next}
 
 -- a free node has the default size; no node has a filter
 abbrev pub facts_in : (has_ended : Bool) → Option Tenure → Facts
-facts_in has_ended None = record { has_ended = has_ended; owner = None; size = DVR_SIZE; params = Empty; pids = []; ledger = None }
+facts_in has_ended None = record {
+  has_ended = has_ended;
+  owner = None;
+  size = DVR_SIZE;
+  params = Empty;
+  pids = [];
+  ledger = None;
+}
 facts_in has_ended (Some tenure) =
-    record { has_ended = has_ended; owner = Some tenure.owner; size = tenure.buffer.size; params = Empty; pids = []; ledger = tenure.buffer.ledger }
+    record {
+      has_ended = has_ended;
+      owner = Some tenure.owner;
+      size = tenure.buffer.size;
+      params = Empty;
+      pids = [];
+      ledger = tenure.buffer.ledger;
+    }
 
 abbrev pub knows_in : (has_ended : Bool) → List (Option Tap) → Option Tenure → Knows
 knows_in has_ended taps tenure = record { facts = facts_in has_ended tenure; taps = taps }
@@ -38,9 +52,12 @@ IsGranted tenure call = owner_refusal Dvr (facts_in true (Some tenure)) call ≡
 abbrev pub reply_to : Knows → (who : ℕ) → Invocation → Response
 reply_to k who call = response_to k.facts (moved k who call Passed).facts call
 
--- What a call of the owner does that isn't refused, whichever the taps are: what is answered, or want of memory, and what the node then knows; that is sound, and no byte arrives.
+-- What a call of the owner does that isn't refused, whichever the taps are: what is answered, or want of memory, and
+-- what the node then knows; that is sound, and no byte arrives.
 pub record Does (ended : Bool) (old : Tenure) (call : Invocation) (r : Response) (new : Tenure) : Type 0 where
-  pub said : (taps : List (Option Tap)) → OrNoMemory (facts_in ended (Some old)) call (reply_to (knows_in ended taps (Some old)) old.owner call) r
-  pub after : (taps : List (Option Tap)) → knows_in ended taps (Some new) ≡ next (knows_in ended taps (Some old)) old.owner call r
+  pub said : (taps : List (Option Tap)) → OrNoMemory (facts_in ended (Some old)) call
+      (reply_to (knows_in ended taps (Some old)) old.owner call) r
+  pub after : (taps : List (Option Tap))
+      → knows_in ended taps (Some new) ≡ next (knows_in ended taps (Some old)) old.owner call r
   pub sound : CoherentIn new.buffer.ledger
   pub bytes : total_of new.buffer.ledger ≤ total_of old.buffer.ledger

@@ -21,10 +21,13 @@ pids_of (PacketsWanted whole pids) = pids
 abbrev pub item_of_named : (whole : Bool) → List ℕ → Option (List ℕ)
 item_of_named whole packet = if whole then Some packet else payload_of packet
 
--- The items that are ready: of a section filter those among the sections that the assembler holds; of a filter of packets the one of its last packet, where that waits.
-abbrev pub ready_of : Wanted → (is_spent : Bool) → (held : List (List ℕ)) → (waits : Bool) → (last : List ℕ) → List (List ℕ)
+-- The items that are ready: of a section filter those among the sections that the assembler holds; of a filter of
+-- packets the one of its last packet, where that waits.
+abbrev pub ready_of : Wanted → (is_spent : Bool) → (held : List (List ℕ)) → (waits : Bool) → (last : List ℕ)
+    → List (List ℕ)
 ready_of NothingWanted is_spent held waits last = []
-ready_of (SectionsWanted pid wanted check once) is_spent held waits last = if is_spent then [] else first_if once (filter (is_selected wanted check) held)
+ready_of (SectionsWanted pid wanted check once) is_spent held waits last =
+    if is_spent then [] else first_if once (filter (is_selected wanted check) held)
 ready_of (PacketsWanted whole pids) is_spent held waits last = if waits then listed (item_of_named whole last) else []
 
 abbrev pub selecting_of : Wanted → Assembly → (is_spent waits : Bool) → (last : List ℕ) → Selecting

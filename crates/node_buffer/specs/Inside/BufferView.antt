@@ -31,11 +31,13 @@ ledger_of unread c = record {
 abbrev pub buffer_view : Inside → BufferValue
 buffer_view b = record { size = b.ring.size; terms = b.terms; ledger = option_map (ledger_of b.ring.bytes) b.capture }
 
--- The ring holds what isn't answered: nothing without a capture, and nothing while an overflow is pending. Each item has at least one byte.
+-- The ring holds what isn't answered: nothing without a capture, and nothing while an overflow is
+-- pending. Each item has at least one byte.
 abbrev pub CaptureHolds : Option Capture → List ℕ → Type 0
 CaptureHolds None unread = unread ≡ []
 CaptureHolds (Some c) unread =
-    (c.answered ≤ c.total) × (c.items ≤ c.total) × UnreadFits (option_map misfit_of c.over) unread (c.total - c.answered)
+    (c.answered ≤ c.total) × (c.items ≤ c.total)
+    × UnreadFits (option_map misfit_of c.over) unread (c.total - c.answered)
 
 abbrev pub BufferHolds : Inside → Type 0
 BufferHolds b = CaptureHolds b.capture b.ring.bytes

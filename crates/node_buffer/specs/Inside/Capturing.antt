@@ -1,4 +1,5 @@
--- What a capture keeps of its filter, and how its ledger goes on: it begins, items arrive in it, it expires, it is read, it is stopped.
+-- What a capture keeps of its filter, and how its ledger goes on: it begins, items arrive in
+-- it, it expires, it is read, it is stopped.
 use Rattle.std.specs.Prelude.{ℕ, zero, suc, min, take, ◌+◌, ◌-◌, Bool, true, false, not, ◌&&◌, ◌||◌, nat_eq, nat_lt, nat_le, if◌then◌else◌, List, [], ◌∷◌, ◌++◌, length, drop, Option, Some, None, is_some}
 use Rattle.section_parse.specs.Sections.{section_length}
 use Rattle.dmx_calls.specs.Response.{Response, Data, Again, Overflow, TimedOut}
@@ -30,9 +31,21 @@ terms_of set = record { by_section = is_section set; is_oneshot = is_oneshot set
 
 -- one that begins at this moment
 abbrev pub begun : (now : ℕ) → Ledger
-begun now = record { started = now; is_stopped = false; expired = None; is_told = false; count = 0; total = 0; answered = 0; over = None; unread = []; rest = 0 }
+begun now = record {
+  started = now;
+  is_stopped = false;
+  expired = None;
+  is_told = false;
+  count = 0;
+  total = 0;
+  answered = 0;
+  over = None;
+  unread = [];
+  rest = 0;
+}
 
--- what is left of the section at the front, where this item arrives: on a section filter it is the front where nothing is unread
+-- what is left of the section at the front, where this item arrives: on a section
+-- filter it is the front where nothing is unread
 abbrev pub rest_with : (by_section : Bool) → (rest : ℕ) → List ℕ → ℕ
 rest_with by_section rest item = if by_section && nat_eq rest 0 then length item else rest
 
@@ -43,17 +56,30 @@ with_lost l item = record l { count = l.count + 1; total = l.total + length item
 -- an item arrives and doesn't fit
 abbrev pub with_misfit : (room : ℕ) → Ledger → List ℕ → Ledger
 with_misfit room l item =
-    record l { count = l.count + 1; total = l.total + length item; over = Some (record { item = l.count; need = length item; room = room }); unread = []; rest = 0 }
+    record l {
+      count = l.count + 1;
+      total = l.total + length item;
+      over = Some (record { item = l.count; need = length item; room = room });
+      unread = [];
+      rest = 0;
+    }
 
 -- an item arrives and is kept
 abbrev pub with_kept : (by_section : Bool) → Ledger → List ℕ → Ledger
-with_kept by_section l item = record l { count = l.count + 1; total = l.total + length item; unread = l.unread ++ item; rest = rest_with by_section l.rest item }
+with_kept by_section l item =
+    record l {
+      count = l.count + 1;
+      total = l.total + length item;
+      unread = l.unread ++ item;
+      rest = rest_with by_section l.rest item;
+    }
 
 -- an item arrives: behind one that didn't fit it is lost, and else it is kept where it isn't longer than the room
 abbrev pub with_item_by : Option Misfit → (by_section : Bool) → (capacity : ℕ) → Ledger → List ℕ → Ledger
 with_item_by (Some misfit) by_section capacity l item = with_lost l item
 with_item_by None by_section capacity l item =
-    if nat_lt (capacity - length l.unread) (length item) then with_misfit (capacity - length l.unread) l item else with_kept by_section l item
+    if nat_lt (capacity - length l.unread) (length item) then with_misfit (capacity - length l.unread) l item
+    else with_kept by_section l item
 
 abbrev pub with_item : (by_section : Bool) → (capacity : ℕ) → Ledger → List ℕ → Ledger
 with_item by_section capacity l item = with_item_by l.over by_section capacity l item
@@ -61,14 +87,16 @@ with_item by_section capacity l item = with_item_by l.over by_section capacity l
 -- these items arrive, one after another
 abbrev pub with_items : (by_section : Bool) → (capacity : ℕ) → Ledger → List (List ℕ) → Ledger
 with_items by_section capacity l [] = l
-with_items by_section capacity l (item ∷ items) = with_items by_section capacity (with_item by_section capacity l item) items
+with_items by_section capacity l (item ∷ items) =
+    with_items by_section capacity (with_item by_section capacity l item) items
 
 -- an entry of this moment: a filter with a timeout expires where it is due, still runs, and has no item
 abbrev pub is_due : (timeout now : ℕ) → Ledger → Bool
 is_due timeout now l = not (nat_eq timeout 0) && (nat_eq l.count 0 && nat_le (l.started + timeout) now)
 
 abbrev pub expiring : (timeout now : ℕ) → Ledger → Ledger
-expiring timeout now l = if l.is_stopped || (is_some l.expired || not (is_due timeout now l)) then l else record l { expired = Some now }
+expiring timeout now l =
+    if l.is_stopped || (is_some l.expired || not (is_due timeout now l)) then l else record l { expired = Some now }
 
 -- the state of a node with a filter
 abbrev pub state_by : Terms → Option Ledger → State
@@ -79,9 +107,11 @@ state_by terms (Some l) =
     else (if terms.is_oneshot && nat_lt 0 l.count then Done
     else Go))
 
--- What a Read answers, once the entry may have expired the filter: no bytes without a capture; else the pending overflow; else the expiry, once; else no bytes for a count of 0; else Again where all is answered; else bytes.
+-- What a Read answers, once the entry may have expired the filter: no bytes without a capture; else the pending
+-- overflow; else the expiry, once; else no bytes for a count of 0; else Again where all is answered; else bytes.
 abbrev pub most_read : (by_section : Bool) → Ledger → (count : ℕ) → ℕ
-most_read by_section l count = if by_section then min (min count (l.total - l.answered)) l.rest else min count (l.total - l.answered)
+most_read by_section l count =
+    if by_section then min (min count (l.total - l.answered)) l.rest else min count (l.total - l.answered)
 
 abbrev pub bytes_read : (ended by_section : Bool) → Ledger → (count : ℕ) → Response
 bytes_read ended by_section l zero = Data []
@@ -90,7 +120,8 @@ bytes_read ended by_section l (suc fewer) =
 
 abbrev pub timeout_read : (expired : Option ℕ) → (ended : Bool) → Terms → Ledger → (count : ℕ) → Response
 timeout_read None ended terms l count = bytes_read ended terms.by_section l count
-timeout_read (Some moment) ended terms l count = if l.is_told then bytes_read ended terms.by_section l count else TimedOut l.started moment terms.timeout
+timeout_read (Some moment) ended terms l count =
+    if l.is_told then bytes_read ended terms.by_section l count else TimedOut l.started moment terms.timeout
 
 abbrev pub over_read : Option Misfit → (ended : Bool) → Terms → Ledger → (count : ℕ) → Response
 over_read (Some x) ended terms l count = Overflow l.answered l.total x.item x.need x.room
@@ -112,8 +143,14 @@ rest_behind by_section read l =
 
 -- a Read was answered so: Data moves the place on by its bytes, Overflow to the end; TimedOut tells the expiry
 abbrev pub with_response : (by_section : Bool) → Response → Ledger → Ledger
-with_response by_section (Data bytes) l = record l { answered = length bytes + l.answered; unread = drop (length bytes) l.unread; rest = rest_behind by_section (length bytes) l }
-with_response by_section (Overflow from to item need room) l = record l { answered = l.total; unread = []; over = None; rest = 0 }
+with_response by_section (Data bytes) l =
+    record l {
+      answered = length bytes + l.answered;
+      unread = drop (length bytes) l.unread;
+      rest = rest_behind by_section (length bytes) l;
+    }
+with_response by_section (Overflow from to item need room) l =
+    record l { answered = l.total; unread = []; over = None; rest = 0 }
 with_response by_section (TimedOut started now timeout) l = record l { is_told = true }
 with_response by_section _ l = l
 

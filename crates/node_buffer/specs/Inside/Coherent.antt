@@ -8,7 +8,8 @@ abbrev pub UnreadFits : Option Misfit → List ℕ → ℕ → Type 0
 UnreadFits (Some misfit) unread left = unread ≡ []
 UnreadFits None unread left = length unread ≡ left
 
--- A capture's ledger: no more was answered than arrived, an item has at least one byte, and what may be read is what isn't answered.
+-- A capture's ledger: no more was answered than arrived, an item has at least one byte, and
+-- what may be read is what isn't answered.
 pub record Coherent (l : Ledger) : Type 0 where
   pub answered : l.answered ≤ l.total
   pub unread : UnreadFits l.over l.unread (l.total - l.answered)

@@ -6,7 +6,12 @@ use Rattle.node_core.specs.Inside.Sound.{IsSound}
 use Rattle.node_core.specs.Stands.{CoreValue}
 
 abbrev pub core_view : Inside → CoreValue
-core_view c = record { number = c.number; entries = c.entries; facts = (knows_of c.kept).facts; selecting = (knows_of c.kept).selecting }
+core_view c = record {
+  number = c.number;
+  entries = c.entries;
+  facts = (knows_of c.kept).facts;
+  selecting = (knows_of c.kept).selecting;
+}
 
 -- a pass brings at most 64 packets of 188 bytes, so no sum of bytes comes near the end of u64
 pub record CoreHolds (c : Inside) : Type 0 where

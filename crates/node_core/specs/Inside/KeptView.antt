@@ -64,7 +64,8 @@ IsSoundIn tenure = IsSound (knows_in true (Some tenure))
 abbrev pub reply_to : Knows → (who : ℕ) → Invocation → Response
 reply_to k who call = response_to k.facts (moved k who call Passed).facts call
 
--- What a call of the owner does that isn't refused: what is answered, or want of memory, and what the node then knows; that is sound, and no byte arrives.
+-- What a call of the owner does that isn't refused: what is answered, or want of memory, and what the node then
+-- knows; that is sound, and no byte arrives.
 pub record Does (ended : Bool) (old : Tenure) (call : Invocation) (r : Response) (new : Tenure) : Type 0 where
   pub said : OrNoMemory (knows_in ended (Some old)).facts call (reply_to (knows_in ended (Some old)) old.owner call) r
   pub after : knows_in ended (Some new) ≡ next (knows_in ended (Some old)) old.owner call r

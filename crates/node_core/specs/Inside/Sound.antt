@@ -18,7 +18,8 @@ abbrev pub IsSoundFor : Option ℕ → Params → Option Ledger → Type 0
 IsSoundFor None params ledger = (params ≡ Empty) × (ledger ≡ None)
 IsSoundFor (Some who) params ledger = IsSoundBy params ledger
 
--- The selector has the filter and its PIDs, and has given all its items; its assembler has the filter's PID, and has given all its sections.
+-- The selector has the filter and its PIDs, and has given all its items; its assembler has the
+-- filter's PID, and has given all its sections.
 pub record IsReady (set : Params) (names : List ℕ) (s : Selecting) : Type 0 where
   pub choice : s.choice ≡ choice_of set
   pub pids : s.pids ≡ names_of (choice_of set) names
@@ -26,7 +27,8 @@ pub record IsReady (set : Params) (names : List ℕ) (s : Selecting) : Type 0 wh
   pub pid : s.kept.pid ≡ section_pid s.choice
   pub sections : s.kept.ready ≡ []
 
-pub record IsSoundAs (owner : Option ℕ) (set : Params) (names : List ℕ) (ledger : Option Ledger) (s : Selecting) : Type 0 where
+pub record IsSoundAs (owner : Option ℕ) (set : Params) (names : List ℕ) (ledger : Option Ledger)
+    (s : Selecting) : Type 0 where
   pub facts : IsSoundFor owner set ledger
   pub selecting : IsReady set names s
 

@@ -25,11 +25,14 @@ unset = begun_selecting Nothing []
 
 -- the packets of a pass are offered: the filter runs, and they come from its input
 abbrev pub is_taking : Params → Input → Ledger → Bool
-is_taking set input l = is_same_input input (input_of set) && (not l.is_stopped && (not (is_some l.expired) && not (has_had_its_section set l.count)))
+is_taking set input l =
+    is_same_input input (input_of set) &&
+    (not l.is_stopped && (not (is_some l.expired) && not (has_had_its_section set l.count)))
 
 -- the capture after a pass that brings these packets, once it may have expired the filter
 abbrev pub passed : Params → (capacity : ℕ) → Input → List (List ℕ) → Selecting → Ledger → Ledger
-passed set capacity input packets s l = if is_taking set input l then with_items (is_section set) capacity l (items_found s packets) else l
+passed set capacity input packets s l =
+    if is_taking set input l then with_items (is_section set) capacity l (items_found s packets) else l
 
 -- the selector after it
 abbrev pub passed_by : Params → Input → List (List ℕ) → Selecting → Option Ledger → Selecting
@@ -38,24 +41,80 @@ passed_by set input packets s (Some l) = if is_taking set input l then kept_afte
 
 -- a filter is set; it starts at once where the flag is there
 abbrev pub with_filter : Facts → Params → List ℕ → (flags now : ℕ) → Facts
-with_filter f set names flags now = record f { params = set; pids = names; ledger = if has_flag IMMEDIATE_START flags then Some (begun now) else None }
+with_filter f set names flags now =
+    record f { params = set; pids = names; ledger = if has_flag IMMEDIATE_START flags then Some (begun now) else None }
 
 -- an accepted call with this response
 abbrev pub moved : Knows → (who : ℕ) → Invocation → Response → Knows
-moved k who Open r = record { facts = record { has_ended = k.facts.has_ended; owner = Some who; size = DEMUX_SIZE; params = Empty; pids = []; ledger = None }; selecting = unset }
-moved k who Close r = record { facts = record { has_ended = k.facts.has_ended; owner = None; size = DEMUX_SIZE; params = Empty; pids = []; ledger = None }; selecting = unset }
-moved k who (SetFilter p now) r = record { facts = with_filter k.facts (Section p) (p.pid ∷ []) p.flags now; selecting = begun_selecting (choice_of (Section p)) [] }
-moved k who (SetPes p now) r = record { facts = with_filter k.facts (Pes p) (p.pid ∷ []) p.flags now; selecting = begun_selecting (choice_of (Pes p)) (names_of (choice_of (Pes p)) (p.pid ∷ [])) }
-moved k who (AddPid pid) r = record { facts = record k.facts { pids = with_pid pid k.facts.pids }; selecting = with_pids (names_of k.selecting.choice (with_pid pid k.facts.pids)) k.selecting }
-moved k who (RemovePid pid) r = record { facts = record k.facts { pids = without_pid pid k.facts.pids }; selecting = with_pids (names_of k.selecting.choice (without_pid pid k.facts.pids)) k.selecting }
-moved k who (Start now) r = record { facts = record k.facts { ledger = Some (begun now) }; selecting = begun_again k.selecting }
+moved k who Open r = record {
+  facts = record {
+    has_ended = k.facts.has_ended;
+    owner = Some who;
+    size = DEMUX_SIZE;
+    params = Empty;
+    pids = [];
+    ledger = None;
+  };
+  selecting = unset;
+}
+moved k who Close r = record {
+  facts = record {
+    has_ended = k.facts.has_ended;
+    owner = None;
+    size = DEMUX_SIZE;
+    params = Empty;
+    pids = [];
+    ledger = None;
+  };
+  selecting = unset;
+}
+moved k who (SetFilter p now) r = record {
+  facts = with_filter k.facts (Section p) (p.pid ∷ []) p.flags now;
+  selecting = begun_selecting (choice_of (Section p)) [];
+}
+moved k who (SetPes p now) r = record {
+  facts = with_filter k.facts (Pes p) (p.pid ∷ []) p.flags now;
+  selecting = begun_selecting (choice_of (Pes p)) (names_of (choice_of (Pes p)) (p.pid ∷ []));
+}
+moved k who (AddPid pid) r = record {
+  facts = record k.facts { pids = with_pid pid k.facts.pids };
+  selecting = with_pids (names_of k.selecting.choice (with_pid pid k.facts.pids)) k.selecting;
+}
+moved k who (RemovePid pid) r = record {
+  facts = record k.facts { pids = without_pid pid k.facts.pids };
+  selecting = with_pids (names_of k.selecting.choice (without_pid pid k.facts.pids)) k.selecting;
+}
+moved k who (Start now) r = record {
+  facts = record k.facts { ledger = Some (begun now) };
+  selecting = begun_again k.selecting;
+}
 moved k who Stop r = record k { facts = record k.facts { ledger = option_map with_stop k.facts.ledger } }
-moved k who (SetSize size) r = if nat_eq size k.facts.size then k else record k { facts = record k.facts { size = size; ledger = None } }
-moved k who (Read now count) r = record k { facts = record k.facts { ledger = option_map (λ l. with_response (is_section k.facts.params) r (expiring (timeout_of k.facts.params) now l)) k.facts.ledger } }
-moved k who (Poll now) r = record k { facts = record k.facts { ledger = option_map (expiring (timeout_of k.facts.params) now) k.facts.ledger } }
+moved k who (SetSize size) r =
+    if nat_eq size k.facts.size then k else record k { facts = record k.facts { size = size; ledger = None } }
+moved k who (Read now count) r =
+    record k {
+      facts = record k.facts {
+        ledger = option_map
+            (λ l. with_response (is_section k.facts.params) r
+            (expiring (timeout_of k.facts.params) now l)) k.facts.ledger;
+      };
+    }
+moved k who (Poll now) r =
+    record k {
+      facts = record k.facts {
+        ledger = option_map
+            (expiring (timeout_of k.facts.params) now) k.facts.ledger;
+      };
+    }
 moved k who (Pass input first packets now) r = record {
-  facts = record k.facts { ledger = option_map (λ l. passed k.facts.params (k.facts.size - 1) input packets k.selecting (expiring (timeout_of k.facts.params) now l)) k.facts.ledger };
-  selecting = passed_by k.facts.params input packets k.selecting (option_map (expiring (timeout_of k.facts.params) now) k.facts.ledger);
+  facts = record k.facts {
+    ledger = option_map
+        (λ l. passed k.facts.params (k.facts.size - 1) input packets k.selecting
+        (expiring (timeout_of k.facts.params) now l)) k.facts.ledger;
+  };
+  selecting =
+      passed_by k.facts.params input packets k.selecting
+      (option_map (expiring (timeout_of k.facts.params) now) k.facts.ledger);
 }
 moved k who End r = record k { facts = record k.facts { has_ended = true } }
 moved k who _ r = k

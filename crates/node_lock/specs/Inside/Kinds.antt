@@ -16,11 +16,18 @@ module _ {N : Type 0} where
 
   -- split, the new seat: it has that number, has seen what the other had, and has made no call
   abbrev pub split_right : View N → View N
-  split_right v = record v { numbers = v.number ∷ []; left = 2 ^ 44; spare = 0; kept = []; own = []; looks = 0; miss = None }
+  split_right v =
+      record v { numbers = v.number ∷ []; left = 2 ^ 44; spare = 0; kept = []; own = []; looks = 0; miss = None }
 
   -- join: the seat has seen the longer list, keeps both, and has both seats' numbers and calls
   abbrev pub joined : View N → View N → View N
-  joined v w = record v { numbers = v.numbers ++ w.numbers; seen = longer v.seen w.seen; kept = (v.kept ++ w.kept) ++ v.seen ∷ w.seen ∷ []; own = v.own ++ w.own }
+  joined v w =
+      record v {
+        numbers = v.numbers ++ w.numbers;
+        seen = longer v.seen w.seen;
+        kept = (v.kept ++ w.kept) ++ v.seen ∷ w.seen ∷ [];
+        own = v.own ++ w.own;
+      }
 
   -- take: the seat has drawn the ticket t
   abbrev pub drew : View N → ℕ → View N
@@ -58,7 +65,9 @@ module _ {S N : Type 0} where
 module _ {M N : Type 0} (stands : M → List N → Type 0) (who_of : N → ℕ) where
   -- the ticket t is served: the seat has seen the whole history, and holds a machine that stands for it
   abbrev pub GetsTurn : ℕ → Me (Option M) (View N) → Me (Option M) (View N) → Type 0
-  GetsTurn t m n = (log : List N) × (x : M) × (n ≡ (sees m.0 (Turn t) log (m.0.looks + 1), (0, Some x) ∷ m.1)) × IsPrefix m.0.seen log × (length log ≡ t) × stands x log
+  GetsTurn t m n =
+      (log : List N) × (x : M) × (n ≡ (sees m.0 (Turn t) log (m.0.looks + 1), (0, Some x) ∷ m.1))
+      × IsPrefix m.0.seen log × (length log ≡ t) × stands x log
 
   -- another ticket is served: the seat has looked once more, and waits
   abbrev pub Waits : Me (Option M) (View N) → Me (Option M) (View N) → Type 0
@@ -66,7 +75,9 @@ module _ {M N : Type 0} (stands : M → List N → Type 0) (who_of : N → ℕ) 
 
   -- a seat with no ticket has looked: it has seen the history so far, r entries, and a machine stood for it
   abbrev pub Sees : ℕ → Me (Option M) (View N) → Me (Option M) (View N) → Type 0
-  Sees r m n = (log : List N) × (n ≡ (sees m.0 Free log (m.0.looks + 1), m.1)) × IsPrefix m.0.seen log × (length log ≡ r) × (r ≤ 2 ^ 50) × ((x : M) × stands x log) × KnowsItsCalls who_of n.0
+  Sees r m n =
+      (log : List N) × (n ≡ (sees m.0 Free log (m.0.looks + 1), m.1)) × IsPrefix m.0.seen log × (length log ≡ r)
+      × (r ≤ 2 ^ 50) × ((x : M) × stands x log) × KnowsItsCalls who_of n.0
 
   -- look tells by the stage: a seat with a ticket gets the turn or waits, and a free one sees
   abbrev pub TellsLookAt : Stage → Me (Option M) (View N) → ℕ → Me (Option M) (View N) → Type 0
@@ -78,11 +89,16 @@ module _ {M N : Type 0} (stands : M → List N → Type 0) (who_of : N → ℕ) 
   abbrev pub TellsLook : Me (Option M) (View N) → ℕ → Me (Option M) (View N) → Type 0
   TellsLook m r n = TellsLookAt m.0.stage m r n
 
-  -- try tells: where the number found is the one compared with, `first`, the seat has the turn and a machine that stands for what it has seen; else the miss is kept, and the number found is greater, and at most 2^50
+  -- try tells: where the number found is the one compared with, `first`, the seat has the turn and a machine that
+  -- stands for what it has seen; else the miss is kept, and the number found is greater, and at most 2^50
   abbrev pub TellsTry : Step (Option M) → Me (Option M) (View N) → ℕ → Me (Option M) (View N) → Type 0
-  TellsTry st m r n = (r ≡ st.first → (x : M) × (n ≡ (took_turn m.0 st.first, (0, Some x) ∷ m.1)) × stands x m.0.seen × (st.first < 2 ^ 50))
+  TellsTry st m r n =
+      (r ≡ st.first → (x : M) × (n ≡ (took_turn m.0 st.first, (0, Some x) ∷ m.1)) × stands x m.0.seen
+      × (st.first < 2 ^ 50))
       × (r ≢ st.first → (n ≡ (missed m.0 st.first r, m.1)) × (st.first < r) × (r ≤ 2 ^ 50))
 
   -- the turn came, after some looks
   abbrev pub GotTurn : ℕ → Me (Option M) (View N) → Me (Option M) (View N) → Type 0
-  GotTurn t m n = (log : List N) × (x : M) × (k : ℕ) × (n ≡ (sees m.0 (Turn t) log k, (0, Some x) ∷ m.1)) × IsPrefix m.0.seen log × (length log ≡ t) × stands x log
+  GotTurn t m n =
+      (log : List N) × (x : M) × (k : ℕ) × (n ≡ (sees m.0 (Turn t) log k, (0, Some x) ∷ m.1)) × IsPrefix m.0.seen log
+      × (length log ≡ t) × stands x log

@@ -39,16 +39,64 @@ lefts (v ∷ vs) = v.left + v.spare * 2 ^ 44 + lefts vs
 module _ {N : Type 0} where
   -- a seat that has seen nothing and made no call, with the numbers from i on
   abbrev pub dealt : ℕ → ℕ → View N
-  dealt callers i = record { stage = Free; number = i; numbers = up_from i (callers - i); callers = callers; left = 2 ^ 44; spare = callers - i - 1; seen = []; kept = []; own = []; looks = 0; miss = None }
+  dealt callers i = record {
+    stage = Free;
+    number = i;
+    numbers = up_from i (callers - i);
+    callers = callers;
+    left = 2 ^ 44;
+    spare = callers - i - 1;
+    seen = [];
+    kept = [];
+    own = [];
+    looks = 0;
+    miss = None;
+  }
 
   -- the first seat, with every number
   abbrev pub starting : ℕ → View N
-  starting callers = record { stage = Free; number = 0; numbers = up_from 0 callers; callers = callers; left = 2 ^ 44; spare = callers - 1; seen = []; kept = []; own = []; looks = 0; miss = None }
+  starting callers = record {
+    stage = Free;
+    number = 0;
+    numbers = up_from 0 callers;
+    callers = callers;
+    left = 2 ^ 44;
+    spare = callers - 1;
+    seen = [];
+    kept = [];
+    own = [];
+    looks = 0;
+    miss = None;
+  }
 
   -- a seat that has seen nothing and made no call, with the number i alone
   abbrev pub fresh : ℕ → ℕ → View N
-  fresh callers i = record { stage = Free; number = i; numbers = i ∷ []; callers = callers; left = 2 ^ 44; spare = 0; seen = []; kept = []; own = []; looks = 0; miss = None }
+  fresh callers i = record {
+    stage = Free;
+    number = i;
+    numbers = i ∷ [];
+    callers = callers;
+    left = 2 ^ 44;
+    spare = 0;
+    seen = [];
+    kept = [];
+    own = [];
+    looks = 0;
+    miss = None;
+  }
 
   -- a seat that was joined into another
   abbrev pub spent : View N
-  spent = record { stage = Spent; number = 0; numbers = []; callers = 0; left = 0; spare = 0; seen = []; kept = []; own = []; looks = 0; miss = None }
+  spent = record {
+    stage = Spent;
+    number = 0;
+    numbers = [];
+    callers = 0;
+    left = 0;
+    spare = 0;
+    seen = [];
+    kept = [];
+    own = [];
+    looks = 0;
+    miss = None;
+  }

@@ -6,7 +6,9 @@ use Rattle.report_text.specs.Summary.{bytes_read, overflows}
 
 -- the sums of these histories
 abbrev pub AreSums : List (List LogEntry) → Sums → Type 0
-AreSums histories s = (s.entries ≡ sum_by length histories) × (s.bytes ≡ sum_by bytes_read histories) × (s.overflows ≡ sum_by overflows histories)
+AreSums histories s =
+    (s.entries ≡ sum_by length histories) × (s.bytes ≡ sum_by bytes_read histories)
+    × (s.overflows ≡ sum_by overflows histories)
 
 -- none is above this number
 abbrev pub AreAtMost : ℕ → Sums → Type 0

@@ -22,9 +22,12 @@ turn feeding step = turn_of (slice_get feeding step)
 
 -- what stands behind the place in the line of a call of the feeder: its caller, its step, the call, and that it passed
 abbrev pub tail_text : (step : ℕ) → Act → List ℕ
-tail_text step act = codes " feed " ++ (decimal step ++ (codes " " ++ (act_text act ++ (codes " = " ++ (response_text Passed ++ codes "\n")))))
+tail_text step act =
+    codes " feed " ++ (decimal step ++ (codes " "
+    ++ (act_text act ++ (codes " = " ++ (response_text Passed ++ codes "\n")))))
 
--- From `step` up to and without `next` the feeder's calls are told that stand before a client's entry at this place, where `told` entries of clients stand before it: with that entry and all that follows, the text is what it was to be.
+-- From `step` up to and without `next` the feeder's calls are told that stand before a client's entry at this place,
+-- where `told` entries of clients stand before it: with that entry and all that follows, the text is what it was to be.
 abbrev pub Told : List Fed → (told place step next : ℕ) → (before after : List ℕ) → Type 0
 Told feeding told place step next before after =
     (node : ℕ) (e : LogEntry) (later : (place step : ℕ) → List Act → List LogEntry) → e.place ≡ place

@@ -8,7 +8,8 @@ use Rattle.ts_packet.specs.Clean.{carried, is_usable, repeats, without_repeats_a
 use Rattle.section_parse.specs.Segments.{runs, begun, is_pointed, pointed, rest_of_segment}
 use Rattle.section_parse.specs.Sections.{section_length, has_section, read_sections, sections_of_run, sections}
 
--- The PID; the last clean packet; the sections that are whole and not given yet; the bytes behind them in the open segment, if one is open.
+-- The PID; the last clean packet; the sections that are whole and not given yet; the bytes behind
+-- them in the open segment, if one is open.
 pub record Assembly : Type 0 where
   pub pid : ℕ
   pub before : Option (List ℕ)
@@ -70,7 +71,12 @@ joins_last (Some before) p = joins before p
 
 -- what is kept after the clean packet p, which ends one segment and has another open behind it
 abbrev pub taken : ℕ → List ℕ → Option (List ℕ) → Option (List ℕ) → Assembly
-taken pid p closing open_now = record { pid = pid; before = Some p; ready = sections_of_open closing ++ sections_of_open open_now; open_now = left_of_open open_now }
+taken pid p closing open_now = record {
+  pid = pid;
+  before = Some p;
+  ready = sections_of_open closing ++ sections_of_open open_now;
+  open_now = left_of_open open_now;
+}
 
 -- what is kept after the packet p, where all sections before it were given
 unfoldable pub after_packet : Assembly → List ℕ → Assembly
@@ -89,7 +95,8 @@ abbrev pub length_of : Option (List ℕ) → ℕ
 length_of None = 0
 length_of (Some s) = length s
 
--- the bytes of the sections that are ready, and those behind them: a number that each section given takes its length from
+-- the bytes of the sections that are ready, and those behind them: a number that
+-- each section given takes its length from
 abbrev pub bytes_kept : Assembly → ℕ
 bytes_kept a = sum_by length a.ready + length_of a.open_now
 
@@ -103,7 +110,8 @@ sections_behind before open_now [] = sections_of_open open_now
 sections_behind before open_now ([] ∷ rs) = sections_of_open open_now ++ sections_of_runs rs
 sections_behind before open_now ((p ∷ run) ∷ rs) =
     if joins before p
-    then sections_of_open (longer open_now (rest_of_segment (p ∷ run))) ++ (sections_of_run (p ∷ run) ++ sections_of_runs rs)
+    then sections_of_open (longer open_now (rest_of_segment (p ∷ run)))
+    ++ (sections_of_run (p ∷ run) ++ sections_of_runs rs)
     else sections_of_open open_now ++ (sections_of_run (p ∷ run) ++ sections_of_runs rs)
 
 -- the sections of these clean packets after the packet before, if there was one
@@ -113,7 +121,8 @@ sections_from (Some before) open_now clean = sections_behind before open_now (ru
 
 -- the sections that are still to come, if these packets come next
 abbrev pub sections_to_come : Assembly → List (List ℕ) → List (List ℕ)
-sections_to_come a packets = a.ready ++ sections_from a.before a.open_now (without_repeats_after a.before (filter (is_usable a.pid) packets))
+sections_to_come a packets =
+    a.ready ++ sections_from a.before a.open_now (without_repeats_after a.before (filter (is_usable a.pid) packets))
 
 -- An assembler that keeps `a` was pushed these packets since it was cleared, and has given these sections:
 -- with those that are ready they are the sections of the packets; and, whatever packets come next, the sections of all
@@ -128,4 +137,5 @@ pub record Gave (old : Assembly) (section : Option (List ℕ)) (left : Assembly)
   pub value : left ≡ without_first old
   pub drained : old.ready ≡ [] → left.ready ≡ []
   pub bytes : bytes_kept left + length_of section ≡ bytes_kept old
-  pub stands : (packets given : List (List ℕ)) → Assembled packets given old → MatchOption section (Assembled packets given left) (λ s. Assembled packets (given ++ s ∷ []) left)
+  pub stands : (packets given : List (List ℕ)) → Assembled packets given old
+      → MatchOption section (Assembled packets given left) (λ s. Assembled packets (given ++ s ∷ []) left)

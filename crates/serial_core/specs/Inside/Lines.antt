@@ -10,7 +10,8 @@ use Rattle.serial_core.specs.Inside.Moving.{MadeAtMost}
 
 -- each core stands after the replies of its client
 abbrev pub AreAfter : List Line → Run → List Core → Type 0
-AreAfter lines r cores = (c : ℕ) (d : Core) → c < length cores → IsAfter c lines (replies_of c r) (slice_index_or cores c d)
+AreAfter lines r cores =
+    (c : ℕ) (d : Core) → c < length cores → IsAfter c lines (replies_of c r) (slice_index_or cores c d)
 
 -- how many calls they have made
 abbrev pub calls_by : List Core → ℕ
@@ -20,8 +21,8 @@ calls_by cores = sum_by (λ core. core.step) cores
 abbrev pub AreInBudget : List Core → Type 0
 AreInBudget cores = All (λ core. core.step ≤ 549755813888) cores
 
--- What holds before the first of these lines: no time has gone by, each client that a line names has a core, and few calls were
--- made.
+-- What holds before the first of these lines: no time has gone by, each client that a line
+-- names has a core, and few calls were made.
 pub record MayBegin (lines : List Line) (cores : List Core) (v : Runner) : Type 0 where
   pub moment : v.moment ≡ 0
   pub short : length lines ≤ most_bytes
@@ -31,7 +32,8 @@ pub record MayBegin (lines : List Line) (cores : List Core) (v : Runner) : Type 
   pub made : MadeAtMost v (calls_by cores)
 
 -- The run has come from `first` by lines: where those behind them are done, all of them are.
-pub record ComesByLines (lines : List Line) (batch : ℕ) (behind all : List Line) (first now : Run) (cores : List Core) : Type 0 where
+pub record ComesByLines (lines : List Line) (batch : ℕ) (behind all : List Line) (first now : Run)
+    (cores : List Core) : Type 0 where
   pub clients : length now.replies ≡ 8
   pub after : AreAfter lines now cores
   pub paid : (packets : List (List ℕ)) → IsPaid lines packets first → IsPaid lines packets now
@@ -40,7 +42,8 @@ pub record ComesByLines (lines : List Line) (batch : ℕ) (behind all : List Lin
 -- this line is done
 abbrev pub IsLineBy : (batch : ℕ) (line : Line) (old new : List Core) → Run → Run → Type 0
 IsLineBy batch line old new r s =
-    (lines rest : List Line) → length r.replies ≡ 8 → AreAfter lines r old → ComesByLines lines batch rest (line ∷ rest) r s new
+    (lines rest : List Line) → length r.replies ≡ 8 → AreAfter lines r old
+    → ComesByLines lines batch rest (line ∷ rest) r s new
 
 -- the first so many lines are done
 abbrev pub IsFrontBy : (batch : ℕ) (lines : List Line) (count : ℕ) (old new : List Core) → Run → Run → Type 0

@@ -18,13 +18,17 @@ pub record IsAt (v : Runner) (r : Run) : Type 0 where
   pub first : v.puller.given ≡ r.first
   pub moment : v.moment ≡ r.moment
 
--- The code and the run go on together: the packets that were pulled are those that the run has in front, whatever comes behind them. Behind the last packet of a puller that is done comes nothing.
-pub record Moves (content left : Option (List ℕ)) (before after : ℕ) (old new : Runner) (goes : Run → Run → Type 0) : Type 0 where
+-- The code and the run go on together: the packets that were pulled are those that the run has in front, whatever comes
+-- behind them. Behind the last packet of a puller that is done comes nothing.
+pub record Moves (content left : Option (List ℕ)) (before after : ℕ) (old new : Runner)
+    (goes : Run → Run → Type 0) : Type 0 where
   pub packets : List (List ℕ)
   pub draws : Draws content left before after old.puller new.puller packets
-  pub at : (ahead taken : List ℕ) (given later : List (List ℕ)) (r : Run) → Pulls ahead taken given old.puller → (IsDone new.puller → later ≡ [])
+  pub at : (ahead taken : List ℕ) (given later : List (List ℕ)) (r : Run) → Pulls ahead taken given old.puller
+      → (IsDone new.puller → later ≡ [])
       → IsAt old r → r.left ≡ packets ++ later → (s : Run) × goes r s × IsAt new s × (s.left ≡ later)
-  pub done : (ahead taken : List ℕ) (given : List (List ℕ)) → Pulls ahead taken given old.puller → IsDone old.puller → IsDone new.puller × (packets ≡ [])
+  pub done : (ahead taken : List ℕ) (given : List (List ℕ)) → Pulls ahead taken given old.puller → IsDone old.puller
+      → IsDone new.puller × (packets ≡ [])
 
 -- ------ numbers
 
@@ -32,14 +36,15 @@ pub record Moves (content left : Option (List ℕ)) (before after : ℕ) (old ne
 abbrev pub turns_of : Runner → ℕ
 turns_of v = v.puller.given + one_if v.nodes.has_ended
 
--- No node has more entries than calls were made, so many packets aren't given, and End has passed only where the puller has nothing more.
+-- No node has more entries than calls were made, so many packets aren't given, and End has passed
+-- only where the puller has nothing more.
 pub record IsSound (v : Runner) : Type 0 where
   pub ended : v.nodes.has_ended ≡ true → IsDone v.puller
   pub counted : AreCounted v.nodes
   pub given : v.puller.given ≤ 2199023255552
 
--- What holds whenever the feeder may have a turn: a batch has 1 to 64 packets, the source, which has failed so often, may be
--- read where reading goes on, and the numbers are sound.
+-- What holds whenever the feeder may have a turn: a batch has 1 to 64 packets, the source, which has failed so often,
+-- may be read where reading goes on, and the numbers are sound.
 pub record IsReady (batch failed : ℕ) (v : Runner) : Type 0 where
   pub some : 1 ≤ batch
   pub few : batch ≤ 64
@@ -63,7 +68,8 @@ pub record ComesByCalls (lines : List Line) (batch client line : ℕ) (first now
 -- so it comes from each run after which the old core stood
 abbrev pub ComesBy : (batch client line : ℕ) → (old new : Core) → Run → Run → Type 0
 ComesBy batch client line old new r s =
-    (lines : List Line) → length r.replies ≡ 8 → IsAfter client lines (replies_of client r) old → ComesByCalls lines batch client line r s new
+    (lines : List Line) → length r.replies ≡ 8 → IsAfter client lines (replies_of client r) old
+    → ComesByCalls lines batch client line r s new
 
 -- and the command is through
 abbrev pub IsDoneBy : (batch client line : ℕ) → (old new : Core) → Run → Run → Type 0

@@ -33,8 +33,10 @@ IsFeeding _ = ⊥
 
 -- ------ one node
 
--- A node of the code is where the run's is, which has these calls of the feeder: its core stands for the history, and its entries are those of the clients.
-pub record IsSeat {Core : Type 0} (stands : Core → History → Type 0) (acts : List Act) (seat : Seat Core) (n : Node) : Type 0 where
+-- A node of the code is where the run's is, which has these calls of the feeder: its core stands for the history, and
+-- its entries are those of the clients.
+pub record IsSeat {Core : Type 0} (stands : Core → History → Type 0) (acts : List Act) (seat : Seat Core)
+    (n : Node) : Type 0 where
   pub core : stands seat.core (history_of n)
   pub number : seat.node ≡ n.number
   pub log : woven n.number acts (map told_entry seat.entries.items) ≡ (log_of n).entries

@@ -26,11 +26,41 @@ counter_in c Null = c.null
 
 -- with the counter of a kind raised, modulo 16
 abbrev pub risen : Counters → Kind → Counters
-risen c Association = record { association = (c.association + 1) % 16; video = c.video; audio = c.audio; service = c.service; null = c.null }
-risen c Video = record { association = c.association; video = (c.video + 1) % 16; audio = c.audio; service = c.service; null = c.null }
-risen c Audio = record { association = c.association; video = c.video; audio = (c.audio + 1) % 16; service = c.service; null = c.null }
-risen c Service = record { association = c.association; video = c.video; audio = c.audio; service = (c.service + 1) % 16; null = c.null }
-risen c Null = record { association = c.association; video = c.video; audio = c.audio; service = c.service; null = (c.null + 1) % 16 }
+risen c Association = record {
+  association = (c.association + 1) % 16;
+  video = c.video;
+  audio = c.audio;
+  service = c.service;
+  null = c.null;
+}
+risen c Video = record {
+  association = c.association;
+  video = (c.video + 1) % 16;
+  audio = c.audio;
+  service = c.service;
+  null = c.null;
+}
+risen c Audio = record {
+  association = c.association;
+  video = c.video;
+  audio = (c.audio + 1) % 16;
+  service = c.service;
+  null = c.null;
+}
+risen c Service = record {
+  association = c.association;
+  video = c.video;
+  audio = c.audio;
+  service = (c.service + 1) % 16;
+  null = c.null;
+}
+risen c Null = record {
+  association = c.association;
+  video = c.video;
+  audio = c.audio;
+  service = c.service;
+  null = (c.null + 1) % 16;
+}
 
 -- the counters behind the first n packets
 abbrev pub counters_of : ℕ → ℕ → Counters

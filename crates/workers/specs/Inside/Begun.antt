@@ -25,15 +25,18 @@ pub record AreFreshWorkers (lines : List Line) (clients : List Caller) (workers 
 -- each of the workers has worked to its end
 pub record HaveCome (may : ℕ → Bool) (locks : List TableId) (old new : List ClientWorker) : Type 0 where
   pub long : length new ≡ length old
-  pub each : (i : ℕ) (d : ClientWorker) → i < length old → HasCome may locks (slice_index_or old i d) (slice_index_or new i d)
+  pub each : (i : ℕ) (d : ClientWorker) → i < length old
+      → HasCome may locks (slice_index_or old i d) (slice_index_or new i d)
 
 -- these are the outcomes of a core's commands that are through, whatever script it stands for
 abbrev pub AreOutcomesOf : Core → List Outcome → Type 0
-AreOutcomesOf core told = (client : ℕ) (lines : List Line) (replies : List Response) → IsAfter client lines replies core → told ≡ outcomes client lines replies
+AreOutcomesOf core told = (client : ℕ) (lines : List Line) (replies : List Response) → IsAfter client lines replies core
+    → told ≡ outcomes client lines replies
 
 -- what is left of the workers: the clients, their logs and the outcomes of their commands, in their order
 pub record IsLeft (workers : List ClientWorker) (done : Done) : Type 0 where
   pub clients : done.clients.items ≡ map (λ w. w.client) workers
   pub logs : map (λ log. log.items) done.logs.items ≡ map (λ w. w.log.items) workers
   pub outcomes : length done.outcomes.items ≡ length workers
-  pub each : (c : ℕ) (w : ClientWorker) (told : List Outcome) → slice_get workers c ≡ Some w → slice_get (map (λ those. those.items) done.outcomes.items) c ≡ Some told → AreOutcomesOf w.core told
+  pub each : (c : ℕ) (w : ClientWorker) (told : List Outcome) → slice_get workers c ≡ Some w
+      → slice_get (map (λ those. those.items) done.outcomes.items) c ≡ Some told → AreOutcomesOf w.core told

@@ -12,16 +12,16 @@ use Rattle.adapter.specs.Nodes.{ended}
 use Rattle.workers.specs.declared.feeder_worker.FeederWorker.{FeederWorker}
 use Rattle.workers.specs.Feeding.{AreFullBatches, HasFed}
 
--- It has a pass of each of these locks, and made one call for each of its batches, of which there are no more than packets
--- were given.
+-- It has a pass of each of these locks, and made one call for each of its batches, of which
+-- there are no more than packets were given.
 pub record IsFitFeeder (locks : List TableId) (f : FeederWorker) : Type 0 where
   pub fits : Fits locks f.feeder.passes
   pub left : f.feeder.left + length f.feeding.items ≡ 2 ^ 44
   pub few : length f.feeding.items ≤ f.puller.given
   pub given : f.puller.given ≤ 2199023255552
 
--- What holds whenever it may pass a batch: this has 1 to 64 packets, and the source, which has failed so often, may be read
--- where reading goes on.
+-- What holds whenever it may pass a batch: this has 1 to 64 packets, and the source, which has failed so
+-- often, may be read where reading goes on.
 pub record MayPass (most failed : ℕ) (locks : List TableId) (f : FeederWorker) : Type 0 where
   pub some : 1 ≤ most
   pub few : most ≤ 64
@@ -30,10 +30,12 @@ pub record MayPass (most failed : ℕ) (locks : List TableId) (f : FeederWorker)
 
 -- all batches were full, or the puller has nothing more
 abbrev pub AreFullSoFar : (most : ℕ) → FeederWorker → Type 0
-AreFullSoFar most f = AreFullBatches most f.feeding.items × (IsDone f.puller ⊎ All (λ fed. fed.count ≡ most) f.feeding.items)
+AreFullSoFar most f =
+    AreFullBatches most f.feeding.items × (IsDone f.puller ⊎ All (λ fed. fed.count ≡ most) f.feeding.items)
 
 -- It has passed the packets that were drawn from the source, from this puller on, in full batches but for the last.
-pub record HasPassed (most : ℕ) (may : ℕ → Bool) (content left : Option (List ℕ)) (before after : ℕ) (first : Pulling) (f : FeederWorker) : Type 0 where
+pub record HasPassed (most : ℕ) (may : ℕ → Bool) (content left : Option (List ℕ)) (before after : ℕ) (first : Pulling)
+    (f : FeederWorker) : Type 0 where
   pub packets : List (List ℕ)
   pub draws : Draws content left before after first f.puller packets
   pub given : f.puller.given ≡ length packets
@@ -41,18 +43,22 @@ pub record HasPassed (most : ℕ) (may : ℕ → Bool) (content left : Option (L
   pub full : (ahead taken : List ℕ) (given : List (List ℕ)) → Pulls ahead taken given first → AreFullSoFar most f
 
 -- All packets of the source have passed, from this puller on, and then the end of the stream.
-pub record HasPassedAll (most : ℕ) (may : ℕ → Bool) (content left : Option (List ℕ)) (before after : ℕ) (first : Pulling) (f : FeederWorker) : Type 0 where
+pub record HasPassedAll (most : ℕ) (may : ℕ → Bool) (content left : Option (List ℕ)) (before after : ℕ)
+    (first : Pulling) (f : FeederWorker) : Type 0 where
   pub packets : List (List ℕ)
   pub draws : Draws content left before after first f.puller packets
   pub done : IsDone f.puller
   pub fed : HasFed most may packets (ended ∷ []) f.feeder f.feeding.items
-  pub full : (ahead taken : List ℕ) (given : List (List ℕ)) → Pulls ahead taken given first → AreFullBatches most f.feeding.items
+  pub full : (ahead taken : List ℕ) (given : List (List ℕ)) → Pulls ahead taken given first
+      → AreFullBatches most f.feeding.items
 
--- The feeder has worked to its end. Where memory wasn't refused the whole stream and its end have passed; it answers TooLong
--- only where so many reads were made.
-pub record HasFedToEnd (most : ℕ) (may : ℕ → Bool) (content left : Option (List ℕ)) (before after : ℕ) (old new : FeederWorker) : Type 0 where
+-- The feeder has worked to its end. Where memory wasn't refused the whole stream and its end have passed; it answers
+-- TooLong only where so many reads were made.
+pub record HasFedToEnd (most : ℕ) (may : ℕ → Bool) (content left : Option (List ℕ)) (before after : ℕ)
+    (old new : FeederWorker) : Type 0 where
   pub same : IsSameCaller old.feeder new.feeder
   pub draws : (packets : List (List ℕ)) × Draws content left before after old.puller new.puller packets
   pub all : new.stop ≢ Some NoMemory → HasPassedAll most may content left before after old.puller new
   pub few : new.stop ≡ None → new.puller.reading ≢ TooMany
-  pub too_long : (turns : ℕ) → new.stop ≡ Some (TooLong turns) → (turns ≡ 4294967296) × (4294967296 ≤ new.puller.start + new.puller.taken)
+  pub too_long : (turns : ℕ) → new.stop ≡ Some (TooLong turns)
+      → (turns ≡ 4294967296) × (4294967296 ≤ new.puller.start + new.puller.taken)

@@ -16,19 +16,23 @@ pub record GoesFirst (first other stop : Option Stop) : Type 0 where
   pub memory : stop ≢ Some NoMemory → (first ≢ Some NoMemory) × (other ≢ Some NoMemory)
   pub one : (stop ≡ first) ⊎ (stop ≡ other)
 
--- the stop of the feeder or of a client: no worker stopped where it is none, and where it isn't want of memory none lacked it
+-- the stop of the feeder or of a client: no worker stopped where it is none, and where
+-- it isn't want of memory none lacked it
 pub record StopsBy (feeder : Option Stop) (clients : List ClientWorker) (stop : Option Stop) : Type 0 where
   pub none : stop ≡ None → (feeder ≡ None) × ((k : ℕ) (w : ClientWorker) → slice_get clients k ≡ Some w → w.stop ≡ None)
-  pub memory : stop ≢ Some NoMemory → (feeder ≢ Some NoMemory) × ((k : ℕ) (w : ClientWorker) → slice_get clients k ≡ Some w → w.stop ≢ Some NoMemory)
+  pub memory : stop ≢ Some NoMemory → (feeder ≢ Some NoMemory)
+      × ((k : ℕ) (w : ClientWorker) → slice_get clients k ≡ Some w → w.stop ≢ Some NoMemory)
   pub one : (stop ≡ feeder) ⊎ ((k : ℕ) × (w : ClientWorker) × (slice_get clients k ≡ Some w) × (stop ≡ w.stop))
 
 -- the feeder with its batches and the stream's head, and the clients with their logs and outcomes
 pub record IsLeftBehind (f : FeederWorker) (workers : List ClientWorker) (w : Worked) : Type 0 where
   pub feeder : w.feeder ≡ f.feeder
   pub feeding : w.feeding ≡ f.feeding
-  pub head : (ahead taken : List ℕ) (given : List (List ℕ)) → Pulls ahead taken given f.puller → told_head w.head ≡ head_of (ahead ++ taken) w.head.read_fault
+  pub head : (ahead taken : List ℕ) (given : List (List ℕ)) → Pulls ahead taken given f.puller
+      → told_head w.head ≡ head_of (ahead ++ taken) w.head.read_fault
   pub fault : w.head.read_fault ≡ has_failed f.puller.reading
   pub clients : w.clients.items ≡ map (λ v. v.client) workers
   pub logs : map (λ log. log.items) w.logs.items ≡ map (λ v. v.log.items) workers
   pub outcomes : length w.outcomes.items ≡ length workers
-  pub each : (c : ℕ) (v : ClientWorker) (told : List Outcome) → slice_get workers c ≡ Some v → slice_get (map (λ those. those.items) w.outcomes.items) c ≡ Some told → AreOutcomesOf v.core told
+  pub each : (c : ℕ) (v : ClientWorker) (told : List Outcome) → slice_get workers c ≡ Some v
+      → slice_get (map (λ those. those.items) w.outcomes.items) c ≡ Some told → AreOutcomesOf v.core told

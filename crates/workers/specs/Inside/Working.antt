@@ -20,8 +20,8 @@ use Rattle.workers.specs.Logged.{HasCalled}
 abbrev pub log_of : ClientWorker → List LogEntry
 log_of w = map told_entry w.log.items
 
--- It has a pass of each of these locks, a log of so many calls as it has made, each on a node, and a core that has taken as
--- many replies.
+-- It has a pass of each of these locks, a log of so many calls as it has made, each on a node, and
+-- a core that has taken as many replies.
 pub record IsFit (locks : List TableId) (w : ClientWorker) : Type 0 where
   pub fits : Fits locks w.client.passes
   pub who : w.who ≡ w.client.who
@@ -42,7 +42,8 @@ pub record IsWorking (lines : List Line) (client : ℕ) (may : ℕ → Bool) (w 
 -- where the client waits, it has seen an entry of another on this node behind its own last one
 abbrev pub MayCallNow : (lines : List Line) (client node : ℕ) → ClientWorker → Type 0
 MayCallNow lines client node w = IsSome (waits_on client lines (replies (log_of w)))
-    → (last : LogEntry) (i : ℕ) (p : TableId × View Entry) → slice_get (log_of w) i ≡ Some last → i + 1 ≡ length w.log.items → slice_get w.client.passes node ≡ Some p → last.place + 1 < length p.1.seen
+    → (last : LogEntry) (i : ℕ) (p : TableId × View Entry) → slice_get (log_of w) i ≡ Some last
+    → i + 1 ≡ length w.log.items → slice_get w.client.passes node ≡ Some p → last.place + 1 < length p.1.seen
 
 -- it goes on with the same script, whatever it is
 abbrev pub GoesOn : (may : ℕ → Bool) → (old new : ClientWorker) → Type 0
@@ -56,8 +57,8 @@ pub record HasLooked (locks : List TableId) (old new : ClientWorker) : Type 0 wh
   pub log : new.log ≡ old.log
   pub goes_on : (may : ℕ → Bool) → GoesOn may old new
 
--- It has worked to its end: its commands are through, or memory was refused, or it has made the most calls. Where memory was
--- refused only the caller is still known.
+-- It has worked to its end: its commands are through, or memory was refused, or it has made the most calls. Where
+-- memory was refused only the caller is still known.
 pub record HasCome (may : ℕ → Bool) (locks : List TableId) (old new : ClientWorker) : Type 0 where
   pub same : IsSameCaller old.client new.client
   pub fit : new.stop ≢ Some NoMemory → IsFit locks new
