@@ -6,7 +6,7 @@ use Rattle.std.proofs.lemmas.List.Splits.{slice_split_none, slice_split_at}
 use Rattle.std.specs.Prelude.{◌==◌}
 use Rattle.std.specs.List.{All, flat_map}
 use Rattle.std.specs.Fmt.{decimal}
-use Rattle.text_forms.specs.Words.{input_text, output_text}
+use Rattle.dmx_calls.specs.Names.{input_text, output_text}
 use Rattle.text_forms.specs.Names.{client_text}
 use Rattle.text_forms.specs.Places.{place_at, filter_words}
 use Rattle.text_forms.proofs.FiltersRead.{filter_text-words, filter_words-each}

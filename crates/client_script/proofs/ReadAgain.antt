@@ -7,7 +7,7 @@ use Rattle.std.specs.List.{All, flat_map}
 use Rattle.std.specs.Fmt.{decimal}
 use Rattle.filter_match.specs.declared.filter.SectionFilter.{SectionFilter}
 use Rattle.filter_match.specs.declared.filter.Place.{Place}
-use Rattle.text_forms.specs.Words.{input_text, output_text}
+use Rattle.dmx_calls.specs.Names.{input_text, output_text}
 use Rattle.text_forms.specs.Names.{numbered}
 use Rattle.text_forms.specs.Places.{place_named, places_named, filter_places, filter_words, IsFilter}
 use Rattle.text_forms.proofs.Decimals.{number_between-decimal}

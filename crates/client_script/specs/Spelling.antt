@@ -1,7 +1,7 @@
 -- The one spelling of a line (this project's own). Numbers are decimal.
 use Rattle.std.specs.Prelude.{ℕ, ◌+◌, List, [], ◌∷◌, ◌++◌, codes}
 use Rattle.std.specs.Fmt.{decimal}
-use Rattle.text_forms.specs.Words.{input_text, output_text}
+use Rattle.dmx_calls.specs.Names.{input_text, output_text}
 use Rattle.text_forms.specs.Names.{client_text, demux_text, slot_text}
 use Rattle.text_forms.specs.Places.{filter_text}
 use Rattle.dmx_calls.specs.declared.params.SectionParams.{SectionParams}

@@ -1,5 +1,6 @@
 // Why a script isn't read.
 ghost use Rattle.std.specs.Prelude.{◌≡◌};
+ghost use Rattle.client_script.specs.FaultNames.{fault_text};
 ghost use Rattle.client_script.specs.declared.fault.ScriptError.TheVariants.{NoMemory as WantOfMemory};
 
 use std::alloc::AllocFailed;
@@ -23,6 +24,25 @@ pub enum FaultKind {
     Count,
     /// No line is `stream`.
     NoStream,
+}
+
+impl FaultKind {
+    /// Its name, as the program tells it on standard error.
+    #[tactic(auto, unfolding(crate::specs::FaultNames::fault_text))]
+    pub fn name(self) -> &'static str
+        ensures { result.now ≡ fault_text self }
+    {
+        match self {
+            FaultKind::Client => "client",
+            FaultKind::Command => "command",
+            FaultKind::Target => "target",
+            FaultKind::Number => "number",
+            FaultKind::Name => "name",
+            FaultKind::Bytes => "bytes",
+            FaultKind::Count => "count",
+            FaultKind::NoStream => "nostream",
+        }
+    }
 }
 
 /// A script's first fault, and the number of its line.

@@ -1,5 +1,8 @@
 // The lines of a script.
 
+ghost use Rattle.std.specs.Prelude.{◌≡◌};
+ghost use Rattle.client_script.specs.Spelling.{name_text};
+
 use dmx_calls::{PesParams, SectionParams};
 
 /// What a command is for.
@@ -42,6 +45,30 @@ pub enum Verb {
     Drain(u32),
     /// Asks whether there is something to read.
     Poll,
+}
+
+impl Verb {
+    /// Its word in scripts.
+    #[tactic(auto, unfolding(crate::specs::Spelling::name_text))]
+    pub fn name(&self) -> &'static str
+        ensures { result.now ≡ name_text self.now }
+    {
+        match self {
+            Verb::Open => "open",
+            Verb::Close => "close",
+            Verb::Section(_) => "section",
+            Verb::Pes(_) => "pes",
+            Verb::Add(_) => "add",
+            Verb::Remove(_) => "remove",
+            Verb::Start => "start",
+            Verb::Stop => "stop",
+            Verb::Size(_) => "size",
+            Verb::Read(_) => "read",
+            Verb::ReadWait(_) => "readw",
+            Verb::Drain(_) => "drain",
+            Verb::Poll => "poll",
+        }
+    }
 }
 
 /// What a line of a script asks for.

@@ -1,6 +1,6 @@
 // The one spelling of a line.
 ghost use Rattle.std.specs.Prelude.{◌≡◌, ◌++◌, OnOk, OnErr, IfOk};
-ghost use Rattle.client_script.specs.Spelling.{name_text, target_text, number_text, section_text, pes_text, arguments_text, command_text, line_text, spelling as spelling_of};
+ghost use Rattle.client_script.specs.Spelling.{target_text, number_text, section_text, pes_text, arguments_text, command_text, line_text, spelling as spelling_of};
 
 use crate::line::{Line, Target, Verb};
 use dmx_calls::{PesParams, SectionParams};
@@ -8,27 +8,6 @@ use std::alloc::{AllocError as NoMemory, Global};
 use text_forms::{
     write_client, write_decimal, write_demux, write_filter, write_input, write_output, write_slot,
 };
-
-#[tactic(auto, unfolding(crate::specs::Spelling::name_text))]
-fn verb_name(verb: &Verb) -> &'static str
-    ensures { result.now ≡ name_text verb.now }
-{
-    match verb {
-        Verb::Open => "open",
-        Verb::Close => "close",
-        Verb::Section(_) => "section",
-        Verb::Pes(_) => "pes",
-        Verb::Add(_) => "add",
-        Verb::Remove(_) => "remove",
-        Verb::Start => "start",
-        Verb::Stop => "stop",
-        Verb::Size(_) => "size",
-        Verb::Read(_) => "read",
-        Verb::ReadWait(_) => "readw",
-        Verb::Drain(_) => "drain",
-        Verb::Poll => "poll",
-    }
-}
 
 #[tactic(auto, unfolding(crate::specs::Spelling::target_text))]
 fn add_target(text: &mut Vec<u8>, target: Target) -> Result<(), NoMemory>
@@ -96,7 +75,7 @@ fn add_command(text: &mut Vec<u8>, client: u32, target: Target, verb: &Verb) -> 
 {
     write_client(text, client)?;
     text.push(b' ')?;
-    text.extend_from_slice(verb_name(verb).as_bytes())?;
+    text.extend_from_slice(verb.name().as_bytes())?;
     text.push(b' ')?;
     add_target(text, target)?;
     add_arguments(text, verb)

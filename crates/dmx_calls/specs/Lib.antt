@@ -1,4 +1,5 @@
 pub mod Buffer
+pub mod Names
 pub mod Invocation
 pub mod Response
 pub mod History

@@ -1,5 +1,8 @@
 // What became of a script's command.
 
+ghost use Rattle.std.specs.Prelude.{◌≡◌};
+ghost use Rattle.dmx_calls.specs.Names.{kind_text};
+
 /// How a command ended.
 #[derive(Clone, Copy, Debug, PartialEq, Eq, Drop)]
 pub enum OutcomeKind {
@@ -9,6 +12,20 @@ pub enum OutcomeKind {
     Emfile,
     /// Its slot is bound to no node.
     Unbound,
+}
+
+impl OutcomeKind {
+    /// Its word in reports.
+    #[tactic(auto, unfolding(crate::specs::Names::kind_text))]
+    pub fn name(self) -> &'static str
+        ensures { result.now ≡ kind_text self }
+    {
+        match self {
+            OutcomeKind::Done => "done",
+            OutcomeKind::Emfile => "EMFILE",
+            OutcomeKind::Unbound => "unbound",
+        }
+    }
 }
 
 /// A command that is through: its line, its calls among those of its client, and how it ended.

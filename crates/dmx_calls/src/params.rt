@@ -1,5 +1,8 @@
 // What the two set calls ask for.
 
+ghost use Rattle.std.specs.Prelude.{◌≡◌};
+ghost use Rattle.dmx_calls.specs.Names.{input_text, output_text};
+
 use filter_match::SectionFilter;
 use pid_set::Pids;
 
@@ -10,6 +13,19 @@ pub enum Input {
     Frontend,
     /// DMX_IN_DVR: what is written to the dvr node.
     Dvr,
+}
+
+impl Input {
+    /// Its word in scripts and reports.
+    #[tactic(auto, unfolding(crate::specs::Names::input_text))]
+    pub fn name(self) -> &'static str
+        ensures { result.now ≡ input_text self }
+    {
+        match self {
+            Input::Frontend => "frontend",
+            Input::Dvr => "dvr",
+        }
+    }
 }
 
 /// Where a PES filter's items go.
@@ -23,6 +39,21 @@ pub enum Output {
     TsTap,
     /// DMX_OUT_TSDEMUX_TAP: whole packets, read from the demux node.
     TsdemuxTap,
+}
+
+impl Output {
+    /// Its word in scripts and reports.
+    #[tactic(auto, unfolding(crate::specs::Names::output_text))]
+    pub fn name(self) -> &'static str
+        ensures { result.now ≡ output_text self }
+    {
+        match self {
+            Output::Decoder => "decoder",
+            Output::Tap => "tap",
+            Output::TsTap => "ts_tap",
+            Output::TsdemuxTap => "tsdemux_tap",
+        }
+    }
 }
 
 /// What DMX_SET_FILTER asks for.

@@ -1,5 +1,8 @@
 // The replies of a node.
 
+ghost use Rattle.std.specs.Prelude.{◌≡◌};
+ghost use Rattle.dmx_calls.specs.Names.{errno_text, pending_text};
+
 use crate::byte_buf::ByteBuf;
 use pid_set::Pids;
 use std::sync::Arc;
@@ -18,6 +21,21 @@ pub enum Errno {
     Enospc,
 }
 
+impl Errno {
+    /// Its name in Linux.
+    #[tactic(auto, unfolding(crate::specs::Names::errno_text))]
+    pub fn name(self) -> &'static str
+        ensures { result.now ≡ errno_text self }
+    {
+        match self {
+            Errno::Ebadf => "EBADF",
+            Errno::Ebusy => "EBUSY",
+            Errno::Einval => "EINVAL",
+            Errno::Enospc => "ENOSPC",
+        }
+    }
+}
+
 /// What a Poll finds pending.
 #[derive(Clone, Copy, Debug, PartialEq, Eq, Drop)]
 pub enum PollError {
@@ -27,6 +45,20 @@ pub enum PollError {
     Overflow,
     /// A timeout.
     TimedOut,
+}
+
+impl PollError {
+    /// Its word in reports.
+    #[tactic(auto, unfolding(crate::specs::Names::pending_text))]
+    pub fn name(self) -> &'static str
+        ensures { result.now ≡ pending_text self }
+    {
+        match self {
+            PollError::Quiet => "none",
+            PollError::Overflow => "overflow",
+            PollError::TimedOut => "timedout",
+        }
+    }
 }
 
 /// A stretch of a capture's bytes, from place `from` up to and without place `to`.

@@ -15,7 +15,6 @@
 #[cfg(test)]
 mod tests;
 
-use client_script::FaultKind;
 use emu_io::{NoGate, StdClock, StdSink, StdSource};
 use emu_top::{Status, emulate};
 use std::env;
@@ -23,32 +22,6 @@ use std::io::ErrorKind;
 use std::process::ExitCode;
 use std::sync::Wait;
 use std::thread::Threads;
-
-// A fault's kind, as it is printed.
-fn kind_name(kind: FaultKind) -> &'static str {
-    match kind {
-        FaultKind::Client => "client",
-        FaultKind::Command => "command",
-        FaultKind::Target => "target",
-        FaultKind::Number => "number",
-        FaultKind::Name => "name",
-        FaultKind::Bytes => "bytes",
-        FaultKind::Count => "count",
-        FaultKind::NoStream => "nostream",
-    }
-}
-
-// What is printed on standard error for a status other than `Ok` and `Script`.
-fn line_of(status: Status) -> &'static str {
-    match status {
-        Status::Ok | Status::Script { .. } => "",
-        Status::Usage => "dvbemu: usage",
-        Status::TooLong { .. } => "dvbemu: too long",
-        Status::ReadFault => "dvbemu: read failed",
-        Status::WriteFault => "dvbemu: write failed",
-        Status::NoMemory => "dvbemu: out of memory",
-    }
-}
 
 // What words are accepted.
 const USAGE: &str = "  dvbemu steps [--batch B] < SESSION > REPORT
@@ -60,18 +33,19 @@ const USAGE: &str = "  dvbemu steps [--batch B] < SESSION > REPORT
 
 // Tells on standard error how it ended. Where that is closed there is nobody to tell; the exit status still tells it.
 fn tell(rt: &HostRuntime, status: Status) {
+    let name = status.name();
     match status {
         Status::Ok => {}
         Status::Script { line, kind } => {
-            let kind = kind_name(kind);
-            let _ = eprintln!(rt; "dvbemu: script line {line}: {kind}");
+            let kind = kind.name();
+            let _ = eprintln!(rt; "dvbemu: {name} line {line}: {kind}");
         }
         Status::Usage => {
-            let _ = rt.eprintln(line_of(status));
+            let _ = eprintln!(rt; "dvbemu: {name}");
             let _ = rt.eprintln(USAGE);
         }
-        other => {
-            let _ = rt.eprintln(line_of(other));
+        _ => {
+            let _ = eprintln!(rt; "dvbemu: {name}");
         }
     }
 }

@@ -1,19 +1,25 @@
 // What is told on standard error: the gate doesn't compare it where a program is run.
-use crate::{kind_name, line_of};
 use client_script::FaultKind;
 use emu_top::Status;
 
 #[test]
-fn each_status_has_its_line(rt: HostRuntime) {
+fn each_status_has_its_name(rt: HostRuntime) {
     for (status, want) in [
-        (Status::Ok, ""),
-        (Status::Usage, "dvbemu: usage"),
-        (Status::TooLong { turns: 1 }, "dvbemu: too long"),
-        (Status::ReadFault, "dvbemu: read failed"),
-        (Status::WriteFault, "dvbemu: write failed"),
-        (Status::NoMemory, "dvbemu: out of memory"),
+        (Status::Ok, "ok"),
+        (Status::Usage, "usage"),
+        (
+            Status::Script {
+                line: 3,
+                kind: FaultKind::Count,
+            },
+            "script",
+        ),
+        (Status::TooLong { turns: 1 }, "too long"),
+        (Status::ReadFault, "read failed"),
+        (Status::WriteFault, "write failed"),
+        (Status::NoMemory, "out of memory"),
     ] {
-        assert_eq!(rt; line_of(status), want);
+        assert_eq!(rt; status.name(), want);
     }
 }
 
@@ -29,6 +35,6 @@ fn each_kind_of_fault_has_its_name(rt: HostRuntime) {
         (FaultKind::Count, "count"),
         (FaultKind::NoStream, "nostream"),
     ] {
-        assert_eq!(rt; kind_name(kind), want);
+        assert_eq!(rt; kind.name(), want);
     }
 }

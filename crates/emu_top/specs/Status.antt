@@ -1,5 +1,5 @@
--- The exit status of the program (this project's own).
-use Rattle.std.specs.Prelude.{ℕ}
+-- The exit status of the program, and the names of statuses (this project's own).
+use Rattle.std.specs.Prelude.{ℕ, List, codes}
 use Rattle.emu_top.specs.declared.status.Status.{Status}
 use Rattle.emu_top.specs.declared.status.Status.TheVariants.{Ok, Usage, Script, TooLong, ReadFault, WriteFault, NoMemory}
 
@@ -11,3 +11,13 @@ exit_status (TooLong turns) = 4
 exit_status ReadFault = 5
 exit_status WriteFault = 6
 exit_status NoMemory = 7
+
+-- the name of a status, as the program tells it on standard error
+unfoldable pub status_text : Status → List ℕ
+status_text Ok = codes "ok"
+status_text Usage = codes "usage"
+status_text (Script line kind) = codes "script"
+status_text (TooLong turns) = codes "too long"
+status_text ReadFault = codes "read failed"
+status_text WriteFault = codes "write failed"
+status_text NoMemory = codes "out of memory"

@@ -1,29 +1,13 @@
 -- The text of a reply (this project's own).
 use Rattle.std.specs.Prelude.{ℕ, Bool, true, false, List, [], ◌∷◌, ◌++◌, codes}
 use Rattle.std.specs.Fmt.{decimal}
-use Rattle.dmx_calls.specs.declared.reply.Errno.{Errno}
-use Rattle.dmx_calls.specs.declared.reply.Errno.TheVariants as errno
-use Rattle.dmx_calls.specs.declared.reply.PollError.{PollError}
-use Rattle.dmx_calls.specs.declared.reply.PollError.TheVariants as pending
 use Rattle.dmx_calls.specs.declared.reply.Tap.{Tap as TapChange}
 use Rattle.dmx_calls.specs.declared.reply.Tap.TheVariants.{Keep as KeepTap, Attach as AttachTap, Detach as DetachTap}
+use Rattle.dmx_calls.specs.Names.{errno_text, pending_text}
 use Rattle.dmx_calls.specs.Response.{Response, Done, Busy, Refused, NoMemory, Data, Again, Overflow, TimedOut, Ready, Passed}
 use Rattle.text_forms.specs.Hex.{hex_text}
 use Rattle.text_forms.specs.Names.{who_text}
 use Rattle.report_text.specs.Acts.{pids_text}
-
--- a refusal, by the name of its Linux error
-unfoldable pub errno_text : Errno → List ℕ
-errno_text errno.Ebadf = codes "EBADF"
-errno_text errno.Ebusy = codes "EBUSY"
-errno_text errno.Einval = codes "EINVAL"
-errno_text errno.Enospc = codes "ENOSPC"
-
--- what a Poll finds pending
-unfoldable pub pending_text : PollError → List ℕ
-pending_text pending.Quiet = codes "none"
-pending_text pending.Overflow = codes "overflow"
-pending_text pending.TimedOut = codes "timedout"
 
 unfoldable pub flag_text : Bool → List ℕ
 flag_text true = codes "1"

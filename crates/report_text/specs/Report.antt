@@ -5,10 +5,9 @@ use Rattle.std.specs.Fmt.{decimal}
 use Rattle.ts_packet.specs.declared.cutter.Tally.{Tally}
 use Rattle.dmx_calls.specs.declared.head.PidRow.{PidRow}
 use Rattle.dmx_calls.specs.declared.outcome.Outcome.{Outcome}
-use Rattle.dmx_calls.specs.declared.outcome.OutcomeKind.{OutcomeKind}
-use Rattle.dmx_calls.specs.declared.outcome.OutcomeKind.TheVariants.{Done, Emfile, Unbound}
 use Rattle.dmx_calls.specs.Head.{StreamHead}
 use Rattle.dmx_calls.specs.Log.{LogEntry}
+use Rattle.dmx_calls.specs.Names.{kind_text}
 use Rattle.report_text.specs.Entries.{histories_text}
 
 -- ------ the stream
@@ -28,11 +27,6 @@ row_text row =
     ++ (codes " errors=" ++ (decimal row.1.errors ++ codes "\n")))))))))
 
 -- ------ the clients
-
-unfoldable pub kind_text : OutcomeKind → List ℕ
-kind_text Done = codes "done"
-kind_text Emfile = codes "EMFILE"
-kind_text Unbound = codes "unbound"
 
 -- a command: its line, the step of its first call and the step behind its last, and how it ended
 abbrev pub outcome_text : Outcome → List ℕ

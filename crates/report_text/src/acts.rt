@@ -1,7 +1,7 @@
 // The text of a call.
 ghost use Rattle.std.specs.Prelude.{◌≡◌, ◌++◌, OnOk, codes};
 ghost use Rattle.std.specs.Fmt.{decimal};
-ghost use Rattle.text_forms.specs.Words.{input_text, output_text};
+ghost use Rattle.dmx_calls.specs.Names.{input_text, output_text};
 ghost use Rattle.report_text.specs.Acts.{act_text, next_pid_text, pass_text, pes_text, pids_text, section_text};
 
 use dmx_calls::{Act, Input, Output, PesParams, SectionParams};

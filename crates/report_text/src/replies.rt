@@ -2,36 +2,14 @@
 ghost use Rattle.std.specs.Prelude.{◌≡◌, ◌++◌, OnOk, codes};
 ghost use Rattle.std.specs.Fmt.{decimal};
 ghost use Rattle.dmx_calls.specs.Calls.{response_of};
+ghost use Rattle.dmx_calls.specs.Names.{pending_text};
 ghost use Rattle.text_forms.specs.Names.{who_text};
-ghost use Rattle.report_text.specs.Replies.{data_text, errno_text, flag_text, pending_text, response_text, tap_text};
+ghost use Rattle.report_text.specs.Replies.{data_text, flag_text, response_text, tap_text};
 
 use crate::acts::{add_field, add_pids};
-use dmx_calls::{Errno, PollError, Reply, Span, Tap};
+use dmx_calls::{PollError, Reply, Span, Tap};
 use std::alloc::AllocError as NoMemory;
 use text_forms::{write_hex, write_who};
-
-#[tactic(auto, unfolding(crate::specs::Replies::errno_text))]
-fn errno_name(errno: Errno) -> &'static str
-    ensures { result.now ≡ errno_text errno }
-{
-    match errno {
-        Errno::Ebadf => "EBADF",
-        Errno::Ebusy => "EBUSY",
-        Errno::Einval => "EINVAL",
-        Errno::Enospc => "ENOSPC",
-    }
-}
-
-#[tactic(auto, unfolding(crate::specs::Replies::pending_text))]
-fn pending_name(error: PollError) -> &'static str
-    ensures { result.now ≡ pending_text error }
-{
-    match error {
-        PollError::Quiet => "none",
-        PollError::Overflow => "overflow",
-        PollError::TimedOut => "timedout",
-    }
-}
 
 #[tactic(auto, unfolding(crate::specs::Replies::flag_text))]
 fn flag_name(flag: bool) -> &'static str
@@ -125,7 +103,7 @@ fn add_ready(
         ++ (codes " at=" ++ (decimal at ++ (codes " ended=" ++ flag_text ended)))))))) }
 {
     add_word(out, b"ready readable=", flag_name(readable))?;
-    add_word(out, b" error=", pending_name(error))?;
+    add_word(out, b" error=", error.name())?;
     add_field(out, b" at=", at)?;
     add_word(out, b" ended=", flag_name(ended))
 }
@@ -138,7 +116,7 @@ pub fn add_reply(out: &mut Vec<u8>, reply: &Reply) -> Result<(), NoMemory>
     match reply {
         Reply::Done { dropped, tap } => add_done(out, dropped, tap),
         Reply::Busy { owner } => add_who(out, b"busy owner=", *owner),
-        Reply::Refused(errno) => out.extend_from_slice(errno_name(*errno).as_bytes()),
+        Reply::Refused(errno) => out.extend_from_slice(errno.name().as_bytes()),
         Reply::NoMemory => out.extend_from_slice(b"ENOMEM"),
         Reply::Data(buf) => add_data(out, buf.bytes()),
         Reply::Again { ended } => add_word(out, b"again ended=", flag_name(*ended)),

@@ -3,7 +3,7 @@ ghost use Rattle.std.specs.Prelude.{◌≡◌, ◌+◌, ◌<◌, ◌≤◌, ◌+
 ghost use Rattle.std.specs.List.{flat_map};
 ghost use Rattle.dmx_calls.specs.Head.{told_head};
 ghost use Rattle.report_text.specs.Entries.{histories_text};
-ghost use Rattle.report_text.specs.Report.{tally_text, row_text, kind_text, outcome_text, client_text, clients_text, end_text, report_of};
+ghost use Rattle.report_text.specs.Report.{tally_text, row_text, outcome_text, client_text, clients_text, end_text, report_of};
 
 use crate::acts::add_field;
 use crate::entries::add_history;
@@ -11,7 +11,7 @@ use crate::feeder_line::feeder_lines;
 use crate::replies::add_word;
 use crate::room::room_for_nodes;
 use dmx_calls::limits::DEMUX_NODES;
-use dmx_calls::{Head, Histories, Outcome, OutcomeKind, PidRow};
+use dmx_calls::{Head, Histories, Outcome, PidRow};
 use std::alloc::{AllocError as NoMemory, Global};
 use ts_packet::Tally;
 
@@ -48,17 +48,6 @@ fn add_rows(out: &mut Vec<u8>, rows: &[(u16, PidRow)]) -> Result<(), NoMemory>
     Ok(())
 }
 
-#[tactic(auto, unfolding(crate::specs::Report::kind_text))]
-fn kind_name(kind: OutcomeKind) -> &'static str
-    ensures { result.now ≡ kind_text kind }
-{
-    match kind {
-        OutcomeKind::Done => "done",
-        OutcomeKind::Emfile => "EMFILE",
-        OutcomeKind::Unbound => "unbound",
-    }
-}
-
 // A command of a client.
 fn add_outcome(out: &mut Vec<u8>, outcome: &Outcome) -> Result<(), NoMemory>
     ensures { OnOk result (out.new.items ≡ out.old.items ++ outcome_text outcome.now) }
@@ -66,7 +55,7 @@ fn add_outcome(out: &mut Vec<u8>, outcome: &Outcome) -> Result<(), NoMemory>
     add_field(out, b"line ", outcome.line as u64)?;
     add_field(out, b" steps ", outcome.from)?;
     add_field(out, b"..", outcome.to)?;
-    add_word(out, b" ", kind_name(outcome.kind))?;
+    add_word(out, b" ", outcome.kind.name())?;
     out.extend_from_slice(b"\n")
 }
 

@@ -12,7 +12,7 @@ use Rattle.dmx_calls.specs.declared.params.Input.TheVariants as input
 use Rattle.dmx_calls.specs.declared.params.Output.{Output}
 use Rattle.dmx_calls.specs.declared.params.Output.TheVariants as output
 use Rattle.filter_match.specs.declared.filter.Place.{Place}
-use Rattle.text_forms.specs.Words.{input_text, output_text}
+use Rattle.dmx_calls.specs.Names.{input_text, output_text}
 use Rattle.text_forms.specs.Hex.{digit_text, byte_text}
 use Rattle.text_forms.specs.Places.{place_text}
 use Rattle.text_forms.proofs.Decimals.{decimal-digits}

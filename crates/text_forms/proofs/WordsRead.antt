@@ -4,7 +4,8 @@ use Rattle.dmx_calls.specs.declared.params.Input.{Input}
 use Rattle.dmx_calls.specs.declared.params.Input.TheVariants as input
 use Rattle.dmx_calls.specs.declared.params.Output.{Output}
 use Rattle.dmx_calls.specs.declared.params.Output.TheVariants as output
-use Rattle.text_forms.specs.Words.{input_text, input_named, output_text, output_named}
+use Rattle.dmx_calls.specs.Names.{input_text, output_text}
+use Rattle.text_forms.specs.Words.{input_named, output_named}
 
 pub input_named-input_text : (i : Input) → input_named (input_text i) ≡ Some i
 unfolding input_named input_text

@@ -10,23 +10,11 @@ use Rattle.dmx_calls.specs.declared.params.Output.TheVariants as output
 abbrev pub is_word : (word text : List ℕ) → Bool
 is_word word text = pointwise nat_eq word text
 
--- the word of an input
-unfoldable pub input_text : Input → List ℕ
-input_text input.Frontend = codes "frontend"
-input_text input.Dvr = codes "dvr"
-
 -- the input of a word
 unfoldable pub input_named : List ℕ → Option Input
 input_named word =
     if is_word word (codes "frontend") then Some input.Frontend
     else (if is_word word (codes "dvr") then Some input.Dvr else None)
-
--- the word of an output
-unfoldable pub output_text : Output → List ℕ
-output_text output.Decoder = codes "decoder"
-output_text output.Tap = codes "tap"
-output_text output.TsTap = codes "ts_tap"
-output_text output.TsdemuxTap = codes "tsdemux_tap"
 
 -- the output of a word
 unfoldable pub output_named : List ℕ → Option Output

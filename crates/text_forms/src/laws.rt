@@ -10,7 +10,8 @@ ghost use Rattle.filter_match.specs.declared.filter.SectionFilter.{SectionFilter
 ghost use Rattle.filter_match.specs.declared.filter.Place.{Place};
 ghost use Rattle.filter_match.specs.Places.{filter_with};
 ghost use Rattle.text_forms.specs.Places.{HasBytes, IsFilter, filter_text, filter_words, place_named, place_text, places_named};
-ghost use Rattle.text_forms.specs.Words.{input_named, input_text, output_named, output_text};
+ghost use Rattle.dmx_calls.specs.Names.{input_text, output_text};
+ghost use Rattle.text_forms.specs.Words.{input_named, output_named};
 ghost use Rattle.dmx_calls.specs.declared.params.Input.{Input};
 ghost use Rattle.dmx_calls.specs.declared.params.Output.{Output};
 

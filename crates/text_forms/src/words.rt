@@ -1,6 +1,7 @@
 // Words, and those that name inputs and outputs.
 ghost use Rattle.std.specs.Prelude.{◌≡◌, ◌++◌, OnOk, OnErr};
-ghost use Rattle.text_forms.specs.Words.{is_word as is_this_word, input_text, output_text, input_named as input_of_word, output_named as output_of_word};
+ghost use Rattle.dmx_calls.specs.Names.{input_text, output_text};
+ghost use Rattle.text_forms.specs.Words.{is_word as is_this_word, input_named as input_of_word, output_named as output_of_word};
 
 use dmx_calls::{Input, Output};
 use std::alloc::AllocError as NoMemory;
@@ -12,30 +13,6 @@ pub fn is_word(word: &[u8], text: &str) -> bool
     word == text.as_bytes()
 }
 
-// The word of an input.
-#[tactic(auto, unfolding(crate::specs::Words::input_text))]
-fn input_word(input: Input) -> &'static str
-    ensures { result.now ≡ input_text input }
-{
-    match input {
-        Input::Frontend => "frontend",
-        Input::Dvr => "dvr",
-    }
-}
-
-// The word of an output.
-#[tactic(auto, unfolding(crate::specs::Words::output_text))]
-fn output_word(output: Output) -> &'static str
-    ensures { result.now ≡ output_text output }
-{
-    match output {
-        Output::Decoder => "decoder",
-        Output::Tap => "tap",
-        Output::TsTap => "ts_tap",
-        Output::TsdemuxTap => "tsdemux_tap",
-    }
-}
-
 /// Appends the word of an input.
 ///
 /// # Errors
@@ -45,7 +22,7 @@ pub fn write_input(out: &mut Vec<u8>, input: Input) -> Result<(), NoMemory>
     ensures appended { OnOk result (out.new.items ≡ out.old.items ++ input_text input) }
     ensures unchanged { OnErr result (out.new.items ≡ out.old.items) }
 {
-    out.extend_from_slice(input_word(input).as_bytes())
+    out.extend_from_slice(input.name().as_bytes())
 }
 
 /// Appends the word of an output.
@@ -57,7 +34,7 @@ pub fn write_output(out: &mut Vec<u8>, output: Output) -> Result<(), NoMemory>
     ensures appended { OnOk result (out.new.items ≡ out.old.items ++ output_text output) }
     ensures unchanged { OnErr result (out.new.items ≡ out.old.items) }
 {
-    out.extend_from_slice(output_word(output).as_bytes())
+    out.extend_from_slice(output.name().as_bytes())
 }
 
 /// The input of a word.

@@ -1,7 +1,7 @@
 use Rattle.std.proofs.Common.{refl}
 use Rattle.std.specs.Fmt.{digits}
 use Rattle.filter_match.specs.Match.{below}
-use Rattle.text_forms.specs.Words.{input_text, output_text}
+use Rattle.dmx_calls.specs.Names.{input_text, output_text}
 use Rattle.client_script.specs.Spelling.{name_text, target_text, section_text, pes_text, arguments_text, command_text, line_text}
 use Rattle.client_script.proofs.examples.spellings.Goals as goal
 

@@ -5,10 +5,10 @@ use Rattle.report_text.proofs.replies.add_ready.Goals as goal
 
 pub returns : goal.returns
 returns c =
-    rw (← c.flag_name.ensures, ← c.pending_name.ensures, ← c.flag_name-2.ensures)
+    rw (← c.flag_name.ensures, ← c.name.ensures, ← c.flag_name-2.ensures)
     (on_ok_weaker c.add_word-3.result
     (λ last.
     behind c.args.out.now.items (codes "ready readable=" ++ c.flag_name.result.now) _ c.in_ok-add_word.ensures (
-    behind c.add_word.new.out.items (codes " error=" ++ c.pending_name.result.now) _ c.in_ok-add_word-2.ensures (
+    behind c.add_word.new.out.items (codes " error=" ++ c.name.result.now) _ c.in_ok-add_word-2.ensures (
     behind c.add_word-2.new.out.items (codes " at=" ++ decimal c.args.at) _ c.in_ok-add_field.ensures last)))
     c.add_word-3.ensures)
