@@ -15,7 +15,8 @@
 //! script has at most 1,048,576 lines, each with its client, its target, its numbers and its filter's bytes in the ranges
 //! of the grammar (`IsScript`, which `Script::lines` tells). `Script::clients` is 1 plus the highest client that a line
 //! names, or 0. `print` appends the spelling of a line, and where memory is refused the bytes are as they were. A
-//! `ScriptPart` is the bytes that were added to it, and its `end` tells where the first whole line `stream` ends. What the
+//! `ScriptPart` is the bytes that were added to it, and its `end` tells where the first whole line `stream` ends. A verb's and a
+//! fault's `name` is its text in `specs/Spelling.antt` and `specs/FaultNames.antt`. What the
 //! grammar gives for lines and scripts worked out by hand are the clauses of `examples`, computed by the check.
 //!
 //! Laws about the definitions alone: what is printed is read again (`printed_lines_are_read_again`); the script part has

@@ -1,4 +1,4 @@
-// What is told on standard error: the gate doesn't compare it where a program is run.
+// The names that are told on standard error: the gate doesn't compare it where a program is run.
 use client_script::FaultKind;
 use emu_top::Status;
 

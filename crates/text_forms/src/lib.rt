@@ -5,7 +5,7 @@
 //! the names of clients, slots and nodes, and the words `I=FF/MM/DD` for the places of a section filter.
 //!
 //! What a contract sees: a word as the list of its bytes. Each form has a definition of what is written
-//! (`number`: std's `decimal`; `hex_text`; `input_text`; `client_text`; `filter_text`; ..) and one of what is read
+//! (`number`: std's `decimal`; `hex_text`; `input_text` of `dmx_calls`; `client_text`; `filter_text`; ..) and one of what is read
 //! (`number_between`, `hex_byte`, `input_named`, `client_named`, `place_named`; ..). A reading side answers None where a
 //! word isn't that spelling: a number has no sign and no zero before other digits, and hexadecimal digits are in lower
 //! case.
