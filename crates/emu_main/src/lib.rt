@@ -34,19 +34,16 @@ const USAGE: &str = "  dvbemu steps [--batch B] < SESSION > REPORT
 // Tells on standard error how it ended. Where that is closed there is nobody to tell; the exit status still tells it.
 fn tell(rt: &HostRuntime, status: Status) {
     let name = status.name();
-    match status {
-        Status::Ok => {}
+    let _ = match status {
+        Status::Ok => Ok(()),
         Status::Script { line, kind } => {
             let kind = kind.name();
-            let _ = eprintln!(rt; "dvbemu: {name} line {line}: {kind}");
+            eprintln!(rt; "dvbemu: {name} line {line}: {kind}")
         }
-        Status::Usage => {
-            let _ = eprintln!(rt; "dvbemu: {name}");
-            let _ = rt.eprintln(USAGE);
-        }
-        _ => {
-            let _ = eprintln!(rt; "dvbemu: {name}");
-        }
+        _ => eprintln!(rt; "dvbemu: {name}"),
+    };
+    if status == Status::Usage {
+        let _ = rt.eprintln(USAGE);
     }
 }
 
