@@ -8,7 +8,8 @@ use Rattle.std.specs.List.{All, flat_map}
 use Rattle.std.specs.Fmt.{decimal}
 use Rattle.dmx_calls.specs.Names.{input_text, output_text}
 use Rattle.text_forms.specs.Names.{client_text}
-use Rattle.text_forms.specs.Places.{place_at, filter_words}
+use Rattle.filter_match.specs.Places.{place_at}
+use Rattle.text_forms.specs.Places.{filter_words}
 use Rattle.text_forms.proofs.FiltersRead.{filter_text-words, filter_words-each}
 use Rattle.text_forms.proofs.Visible.{IsVisible, AreVisible, decimal-visible, behind-visible, place_text-visible, visible_by_test, input_text-visible, output_text-visible}
 use Rattle.client_script.specs.Words.{words_of}

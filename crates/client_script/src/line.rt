@@ -50,8 +50,8 @@ pub enum Verb {
 impl Verb {
     /// Its word in scripts.
     #[tactic(auto, unfolding(crate::specs::Spelling::name_text))]
-    pub fn name(&self) -> &'static str
-        ensures { result.now ≡ name_text self.now }
+    pub fn name(self) -> &'static str
+        ensures { result.now ≡ name_text self }
     {
         match self {
             Verb::Open => "open",

@@ -301,3 +301,19 @@ fn a_script_part_ends_when_its_line_stream_is_whole(rt: HostRuntime) -> Result<(
     assert_eq!(rt; part.bytes(), b"feed 1\nstream\nG\nstream\n".as_slice());
     Ok(())
 }
+
+#[test]
+fn each_kind_of_fault_has_its_name(rt: HostRuntime) {
+    for (kind, want) in [
+        (FaultKind::Client, "client"),
+        (FaultKind::Command, "command"),
+        (FaultKind::Target, "target"),
+        (FaultKind::Number, "number"),
+        (FaultKind::Name, "name"),
+        (FaultKind::Bytes, "bytes"),
+        (FaultKind::Count, "count"),
+        (FaultKind::NoStream, "nostream"),
+    ] {
+        assert_eq!(rt; kind.name(), want);
+    }
+}

@@ -12,8 +12,9 @@
 //! stand at their places, and the feeder's calls, which are kept once, at all others (`woven`). `Act`, `Entry` and `Outcome`
 //! are what a report tells of a call, of its reply and of a script's command.
 //!
-//! What is proved: each call of `ByteBuf` and of `Histories`, and that each `name` is its text in `specs/Names.antt`. `refusal`, whose body is the table of calls and states, is the refusal that
-//! the answer of a history names. The laws of `laws`: every legal history is accounted, so each byte is given,
+//! What is proved: each call of `ByteBuf` and of `Histories`, and that each `name` is its text in `specs/Names.antt`.
+//! `refusal`, whose body is the table of calls and states, is the refusal that the answer of a history names. The laws of
+//! `laws`: every legal history is accounted, so each byte is given,
 //! named as lost or named as dropped, in its place; an entry that isn't accepted changes nothing; the items of a capture
 //! only grow; an overflow's item needs more than the room that it found; a node answers no more bytes than its passes bring,
 //! and an Overflow at least one; nobody but its owner reads a node, and it stays the owner's whatever others call; a Pass

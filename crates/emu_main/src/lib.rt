@@ -8,12 +8,9 @@
 //!
 //! What is proved: that it is safe. What it does in between is `emu_top`'s, whose calls are proved for every source and sink.
 //!
-//! What is only tested, by the runs of those programs: the words, standard input and output, and the exit status; and by tables
-//! the names of statuses and faults. The gate doesn't compare standard error in those runs; `faults/check` does.
+//! What is only tested, by the runs of those programs: the words, standard input and output, and the exit status. The gate
+//! doesn't compare standard error in those runs; `faults/check` does.
 #![tactic(auto)]
-
-#[cfg(test)]
-mod tests;
 
 use emu_io::{NoGate, StdClock, StdSink, StdSource};
 use emu_top::{Status, emulate};

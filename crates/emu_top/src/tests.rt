@@ -179,3 +179,24 @@ fn each_status_has_its_number(rt: HostRuntime) {
         assert_eq!(rt; status.number(), number);
     }
 }
+
+#[test]
+fn each_status_has_its_name(rt: HostRuntime) {
+    for (status, want) in [
+        (Status::Ok, "ok"),
+        (Status::Usage, "usage"),
+        (
+            Status::Script {
+                line: 3,
+                kind: FaultKind::Count,
+            },
+            "script",
+        ),
+        (Status::TooLong { turns: 1 }, "too long"),
+        (Status::ReadFault, "read failed"),
+        (Status::WriteFault, "write failed"),
+        (Status::NoMemory, "out of memory"),
+    ] {
+        assert_eq!(rt; status.name(), want);
+    }
+}

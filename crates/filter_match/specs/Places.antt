@@ -1,7 +1,16 @@
 -- A section filter by its places.
-use Rattle.std.specs.Prelude.{List, fold, replicate, slice_set}
+use Rattle.std.specs.Prelude.{ℕ, List, fold, replicate, slice_index, slice_set}
 use Rattle.filter_match.specs.declared.filter.SectionFilter.{SectionFilter}
 use Rattle.filter_match.specs.declared.filter.Place.{Place}
+
+-- place i of a filter
+abbrev pub place_at : SectionFilter → ℕ → Place
+place_at f i = record {
+  number = i;
+  filter = slice_index f.filter i;
+  mask = slice_index f.mask i;
+  mode = slice_index f.mode i;
+}
 
 -- the filter with the bytes of one more place; a filter has the places 0 to 15, and a
 -- place of another number changes nothing

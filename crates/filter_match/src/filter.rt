@@ -1,7 +1,7 @@
 // The section filter and its places.
 
-ghost use Rattle.std.specs.Prelude.{◌≡◌, replicate};
-ghost use Rattle.filter_match.specs.Places.{with_place, filter_with};
+ghost use Rattle.std.specs.Prelude.{◌≡◌, ◌<◌, replicate};
+ghost use Rattle.filter_match.specs.Places.{place_at, with_place, filter_with};
 
 /// What a section filter asks of a section's first bytes (Linux media API, Digital TV demux, struct dmx_filter).
 ///
@@ -52,6 +52,20 @@ impl SectionFilter {
             filter.set(*place);
         }
         filter
+    }
+
+    /// The place of this number, 0 to 15, with its three bytes.
+    pub fn place(&self, number: u32) -> Place
+        requires { number < 16 }
+        ensures { result ≡ place_at self.now number }
+    {
+        let i = number as usize;
+        Place {
+            number,
+            filter: self.filter[i],
+            mask: self.mask[i],
+            mode: self.mode[i],
+        }
     }
 
     /// Puts the bytes of a place into the filter. A number over 15 changes nothing.

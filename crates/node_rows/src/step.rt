@@ -2,7 +2,7 @@
 
 use crate::cell::Cell;
 use dmx_calls::{ByteBuf, Call, Input, Output, PesParams, SectionParams};
-use filter_match::SectionFilter;
+use filter_match::{Place, SectionFilter};
 use pid_set::Pids;
 use std::alloc::{AllocError as NoMemory, Global};
 
@@ -74,12 +74,15 @@ pub fn pes(pid: u16, input: Input, output: Output, pes_type: u32, flags: u32) ->
 
 /// What DMX_SET_FILTER is asked for, with byte 0 of the filter and of the mask.
 pub fn sections(pid: u16, table_id: u8, mask: u8, timeout: u32, flags: u32) -> SectionParams {
-    let mut filter = SectionFilter::empty();
-    filter.filter[0] = table_id;
-    filter.mask[0] = mask;
+    let table = Place {
+        number: 0,
+        filter: table_id,
+        mask,
+        mode: 0,
+    };
     SectionParams {
         pid,
-        filter,
+        filter: SectionFilter::of(&[table]),
         timeout,
         flags,
     }

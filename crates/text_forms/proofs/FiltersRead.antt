@@ -10,9 +10,9 @@ use Rattle.std.specs.Prelude.{not}
 use Rattle.std.specs.List.{All, filter, flat_map}
 use Rattle.filter_match.specs.declared.filter.SectionFilter.{SectionFilter}
 use Rattle.filter_match.specs.declared.filter.Place.{Place}
-use Rattle.filter_match.specs.Places.{with_place, filter_with}
+use Rattle.filter_match.specs.Places.{place_at, with_place, filter_with}
 use Rattle.filter_match.specs.Match.{below}
-use Rattle.text_forms.specs.Places.{HasBytes, is_zero, place_text, place_at, place_named, places_named, filter_place_text, filter_text, filter_places, filter_words, IsFilter}
+use Rattle.text_forms.specs.Places.{HasBytes, is_zero, place_text, place_named, places_named, filter_place_text, filter_text, filter_places, filter_words, IsFilter}
 use Rattle.text_forms.proofs.PlacesRead.{place_named-place_text}
 
 -- so many numbers from i on

@@ -1,10 +1,11 @@
 -- The words that name the bytes of a section filter (this project's own).
-use Rattle.std.specs.Prelude.{◌≡◌, ℕ, ◌<◌, ◌+◌, ◌-◌, ◌==◌, ◌&&◌, Bool, not, List, [], ◌∷◌, ◌++◌, length, take, drop, map, slice_index, nat_eq, Option, Some, None, if◌then◌else◌, codes}
+use Rattle.std.specs.Prelude.{◌≡◌, ℕ, ◌<◌, ◌+◌, ◌-◌, ◌==◌, ◌&&◌, Bool, not, List, [], ◌∷◌, ◌++◌, length, take, drop, map, nat_eq, Option, Some, None, if◌then◌else◌, codes}
 use Rattle.std.specs.List.{All, filter, flat_map, list_all}
 use Rattle.std.specs.Option.{option_map, option_and_then}
 use Rattle.std.specs.Fmt.{decimal}
 use Rattle.filter_match.specs.declared.filter.SectionFilter.{SectionFilter}
 use Rattle.filter_match.specs.declared.filter.Place.{Place}
+use Rattle.filter_match.specs.Places.{place_at}
 use Rattle.filter_match.specs.Match.{below}
 use Rattle.text_forms.specs.Hex.{hex_byte, byte_text}
 use Rattle.text_forms.specs.Numbers.{number_between}
@@ -20,15 +21,6 @@ place_text p =
 -- the three bytes of a place are bytes
 abbrev pub HasBytes : Place → Type 0
 HasBytes p = (p.filter < 256) × (p.mask < 256) × (p.mode < 256)
-
--- place i of a filter
-abbrev pub place_at : SectionFilter → ℕ → Place
-place_at f i = record {
-  number = i;
-  filter = slice_index f.filter i;
-  mask = slice_index f.mask i;
-  mode = slice_index f.mode i;
-}
 
 -- whether the three bytes of a place are all 0
 abbrev pub is_zero : Place → Bool

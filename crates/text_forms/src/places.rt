@@ -2,7 +2,7 @@
 ghost use Rattle.std.specs.Prelude.{◌≡◌, ◌+◌, ◌≤◌, ◌<◌, ◌++◌, length, IfSome, OnOk, OnErr, vec_len, vec_capacity};
 ghost use Rattle.std.specs.Fmt.{decimal};
 ghost use Rattle.filter_match.specs.Match.{below};
-ghost use Rattle.text_forms.specs.Places.{HasBytes, place_text, place_at as place_of_filter, filter_place_text, filter_text, place_with as place_spelled, place_named as place_of_word};
+ghost use Rattle.text_forms.specs.Places.{HasBytes, place_text, filter_place_text, filter_text, place_with as place_spelled, place_named as place_of_word};
 
 use crate::hex::{digits_of, hex_byte};
 use crate::number::number_between;
@@ -18,23 +18,10 @@ const LAST_PLACE: u64 = 15;
 const BEHIND_NUMBER: usize = 9;
 
 // How many places a filter has.
-const PLACES: usize = 16;
+const PLACES: u32 = 16;
 
 // The most bytes of a place, with the space before it.
 const MOST_BYTES: usize = 12;
-
-// A place of a filter.
-fn place_at(filter: &SectionFilter, i: usize) -> Place
-    requires { i < 16 }
-    ensures { result ≡ place_of_filter filter.now i }
-{
-    Place {
-        number: i as u32,
-        filter: filter.filter[i],
-        mask: filter.mask[i],
-        mode: filter.mode[i],
-    }
-}
 
 // Appends a place, for which there is room.
 fn put_place(out: &mut Vec<u8>, place: Place)
@@ -53,14 +40,14 @@ fn put_place(out: &mut Vec<u8>, place: Place)
 }
 
 // Appends a place of a filter behind a space, for which there is room; nothing where its three bytes are 0.
-fn put_filter_place(out: &mut Vec<u8>, filter: &SectionFilter, i: usize)
+fn put_filter_place(out: &mut Vec<u8>, filter: &SectionFilter, i: u32)
     requires place { i < 16 }
     requires room { vec_len out.old + 12 ≤ vec_capacity out.old }
     ensures appended { out.new.items ≡ out.old.items ++ filter_place_text filter.now i }
     ensures len { vec_len out.new ≤ vec_len out.old + 12 }
     ensures capacity { vec_capacity out.old ≤ vec_capacity out.new }
 {
-    let place = place_at(filter, i);
+    let place = filter.place(i);
     if place.filter == 0 && place.mask == 0 && place.mode == 0 {
         return;
     }
@@ -78,7 +65,7 @@ pub fn write_filter(out: &mut Vec<u8>, filter: &SectionFilter) -> Result<(), NoM
     ensures appended { OnOk result (out.new.items ≡ out.old.items ++ filter_text filter.now) }
     ensures unchanged { OnErr result (out.new.items ≡ out.old.items) }
 {
-    out.reserve(PLACES * MOST_BYTES)?;
+    out.reserve(PLACES as usize * MOST_BYTES)?;
     'places: for i in 0..PLACES {
         put_filter_place(out, filter, i);
     }
