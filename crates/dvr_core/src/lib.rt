@@ -14,8 +14,8 @@
 //! hands back the buffer of a Read unless the reply holds it, and the batch of a Pass always. A Pass takes at most a step for
 //! each packet that a tap names (`named_packets`), and none while the node is free; no other call takes one.
 //!
-//! What is only tested: that the rules are those meant, on replies worked by hand. What isn't proved: time. A Pass asks the
-//! batch for the places of each PID of each of the 32 taps.
+//! What is only tested, in `node_tests`: that the rules are those meant, on replies worked by hand. What isn't proved: time.
+//! A Pass asks the batch for the places of each PID of each of the 32 taps.
 //!
 //! Limits: fewer than 2^50 calls come before a call. Only Open and SetSize to another size take memory.
 //!
@@ -25,12 +25,8 @@
 
 mod dvr;
 mod kept;
-#[cfg(test)]
-mod node_tests;
 mod record;
 mod taps;
 mod tenure;
-#[cfg(test)]
-mod tests;
 
 pub use dvr::DvrCore;

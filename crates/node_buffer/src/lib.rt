@@ -16,8 +16,9 @@
 //! that what a Read gives by the ledger is what a history answers, and that a call which the owner isn't refused is answered
 //! what its node gives.
 //!
-//! What is only tested: that the steps are those meant, on values worked by hand. What isn't proved: time. An item is copied
-//! once into the ring and once out of it.
+//! What is only tested, in `node_tests`: that the steps are those meant, on values worked by hand. What isn't proved: time.
+//! An item is copied once into the ring and once out of it. `act_for_owner` is a macro, the body that both kinds of node give
+//! to a call of their owner: what it answers is proved at each, by that node's own contract.
 //!
 //! Limits: a size from 2 to 16,777,216 bytes, items of at least one byte, fewer than 2^64 bytes in a capture.
 //!
@@ -28,8 +29,7 @@
 mod answers;
 mod buffer;
 mod filter;
-#[cfg(test)]
-mod tests;
+mod owning;
 
 pub use answers::{NOTHING, done, plain, refused};
 pub use buffer::Buffer;

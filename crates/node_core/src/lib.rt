@@ -12,8 +12,8 @@
 //! batch of a Pass always. A Pass takes at most a step for each packet that the filter's PIDs name, and none where the filter
 //! doesn't run; no other call takes one. `number` and `entries` are the node's.
 //!
-//! What is only tested: that the rules are those meant, on replies worked by hand. What isn't proved: time. An item is
-//! copied once into the ring and once out of it, and a section once more where it is selected.
+//! What is only tested, in `node_tests`: that the rules are those meant, on replies worked by hand. What isn't proved: time.
+//! An item is copied once into the ring and once out of it, and a section once more where it is selected.
 //!
 //! Limits: fewer than 2^50 calls come before a call. The room that Pass and Read need was taken by the last Open or SetSize.
 //!
@@ -28,7 +28,5 @@ mod node;
 mod offer;
 mod tap;
 mod tenure;
-#[cfg(test)]
-mod tests;
 
 pub use node::NodeCore;
