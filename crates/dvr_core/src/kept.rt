@@ -20,8 +20,8 @@ ghost use Rattle.dvr_core.specs.Inside.KeptView.{knows_of, bytes_in, reply_to};
 use crate::record::record_all;
 use crate::taps::Taps;
 use crate::tenure::Tenure;
-use dmx_calls::{Answer, Call, Input, Reply, Tap};
-use node_buffer::{NOTHING, act_for_owner, done};
+use dmx_calls::{Answer, Call, Errno, Input, Reply, Tap};
+use node_buffer::{NOTHING, done, plain, refused};
 use pid_set::Pids;
 use std::alloc::Global;
 use std::sync::ledger::Ledger;
@@ -73,7 +73,21 @@ impl Kept {
         ensures sound { CoherentIn (knows_of self.new).facts.ledger }
         ensures bytes { bytes_in (knows_of self.new) ≤ bytes_in (knows_of self.old) }
     {
-        act_for_owner!(self, alloc, who, call)
+        let Some(tenure) = &mut self.tenure else {
+            return refused(Errno::Ebadf, call);
+        };
+        if tenure.owner != who {
+            return refused(Errno::Ebadf, call);
+        }
+        if let Some(errno) = tenure.refusal(&call) {
+            return refused(errno, call);
+        }
+        if let Call::Close = call {
+            let reply = tenure.close();
+            self.tenure = None;
+            return plain(reply);
+        }
+        tenure.act(alloc, self.has_ended, call)
     }
 
     /// A batch passes. Where the node is open and the packets come from the frontend, those that a tap names are

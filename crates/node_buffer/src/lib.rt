@@ -17,8 +17,7 @@
 //! what its node gives.
 //!
 //! What is only tested, in `node_tests`: that the steps are those meant, on values worked by hand. What isn't proved: time.
-//! An item is copied once into the ring and once out of it. `act_for_owner` is a macro, the body that both kinds of node give
-//! to a call of their owner: what it answers is proved at each, by that node's own contract.
+//! An item is copied once into the ring and once out of it.
 //!
 //! Limits: a size from 2 to 16,777,216 bytes, items of at least one byte, fewer than 2^64 bytes in a capture.
 //!
@@ -29,7 +28,6 @@
 mod answers;
 mod buffer;
 mod filter;
-mod owning;
 
 pub use answers::{NOTHING, done, plain, refused};
 pub use buffer::Buffer;

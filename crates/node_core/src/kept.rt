@@ -20,8 +20,8 @@ ghost use Rattle.node_core.specs.Inside.KeptView.{knows_of, bytes_in};
 use crate::filter::takes_from;
 use crate::offer::offer_all;
 use crate::tenure::Tenure;
-use dmx_calls::{Answer, Call, Input, Reply, State, Tap};
-use node_buffer::{NOTHING, act_for_owner, done};
+use dmx_calls::{Answer, Call, Errno, Input, Reply, State, Tap};
+use node_buffer::{NOTHING, done, plain, refused};
 use std::alloc::Global;
 use std::sync::ledger::Ledger;
 use steps::Steps;
@@ -70,7 +70,21 @@ impl Kept {
         ensures sound { IsSound (knows_of self.new) }
         ensures bytes { bytes_in (knows_of self.new) ≤ bytes_in (knows_of self.old) }
     {
-        act_for_owner!(self, alloc, who, call)
+        let Some(tenure) = &mut self.tenure else {
+            return refused(Errno::Ebadf, call);
+        };
+        if tenure.owner != who {
+            return refused(Errno::Ebadf, call);
+        }
+        if let Some(errno) = tenure.refusal(&call) {
+            return refused(errno, call);
+        }
+        if let Call::Close = call {
+            let reply = tenure.close();
+            self.tenure = None;
+            return plain(reply);
+        }
+        tenure.act(alloc, self.has_ended, call)
     }
 
     /// A batch passes. The filter may expire first; where it then still runs and takes this input, the packets that its PIDs name are looked at.
