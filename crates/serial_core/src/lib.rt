@@ -18,7 +18,7 @@
 //! passes each node once and in order, and no client makes more calls than its commands and the bytes allow. Worked runs are
 //! computed by the check.
 //!
-//! What is only tested: that memory isn't refused where there is enough of it.
+//! What is only tested, in `run_tests`: that memory isn't refused where there is enough of it.
 //!
 //! Only the clients' entries are kept node by node. The feeder's passes, which are the same on each, are kept once a batch.
 //!
@@ -35,8 +35,6 @@ mod nodes;
 mod run;
 mod runner;
 mod seat;
-#[cfg(test)]
-mod tests;
 
 pub use laws::{
     clients_are_within_budget, every_packet_passes_each_node_once, every_script_has_a_serial_run,

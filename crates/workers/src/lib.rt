@@ -20,8 +20,8 @@
 //! `histories_of_run` gives the 33 histories of a run of the script (`IsWholeRun` of `client_core`): they are the locks' own
 //! histories, entry by entry.
 //!
-//! What is only tested: that the threads run beside each other, that each moment is a reading of its own, that the gate is told
-//! of each step, and that memory isn't refused where there is enough.
+//! What is only tested, in `run_tests`: that the threads run beside each other, that each moment is a reading of its own, that
+//! the gate is told of each step, and that memory isn't refused where there is enough.
 //!
 //! What is neither: that a wait ends, who comes first, and how long anything takes. Where a thread can't be made its work is done
 //! behind that of another, and a waiting client may then wait for ever.
@@ -37,8 +37,6 @@ mod feeder_worker;
 mod laws;
 mod moment;
 mod run;
-#[cfg(test)]
-mod tests;
 mod threads;
 mod worked;
 

@@ -1,20 +1,13 @@
 // Small scripts, run over streams in memory. The replies are worked out by hand from the rules of the nodes.
 ghost use Rattle.std.specs.Prelude.{◌≤◌};
 
-use crate::{Ran, run_steps};
-use client_script::Script;
+use super::{add_packet, script_of};
 use dmx_calls::{Entry, OutcomeKind, Reply};
 use emu_io::MemSource;
 use feed_pull::Puller;
+use serial_core::{Ran, run_steps};
 use std::alloc::Global;
 use std::test::Fail;
-
-// A packet without adaptation field, of this PID and counter, whose payload is zeros.
-fn add_packet(stream: &mut Vec<u8>, pid: u8, counter: u8) -> Result<(), Fail> {
-    stream.extend_from_slice(&[0x47, 0x01, pid, 0x10 | (counter & 15)])?;
-    stream.extend_from_slice(&[0; 184])?;
-    Ok(())
-}
 
 // PID 256 with the counter 0, PID 257, and PID 256 with the counter 1.
 fn three_packets(alloc: Global) -> Result<Vec<u8>, Fail> {
@@ -36,14 +29,7 @@ fn four_packets(alloc: Global) -> Result<Vec<u8>, Fail> {
 
 // What the script leaves over this stream; the reads of these numbers fail.
 fn left_by(alloc: Global, script: &str, stream: Vec<u8>, fails: &[u64]) -> Result<Ran, Fail> {
-    let bytes = script.as_bytes();
-    if bytes.len() > 1000 {
-        return Err(Fail::from("a long script"));
-    }
-    let script = match Script::read(alloc, bytes) {
-        Ok(script) => script,
-        Err(_) => return Err(Fail::from("no script")),
-    };
+    let script = script_of(alloc, script)?;
     let mut source = MemSource::new(stream, 376, fails.to_vec(alloc)?);
     let puller = Puller::new(alloc, Vec::new(alloc), 0)?;
     match run_steps(alloc, &script, &mut source, puller, 1) {

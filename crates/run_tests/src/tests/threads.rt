@@ -1,9 +1,8 @@
 //! Small scripts, run by threads. The replies are worked out by hand from the rules of the nodes.
 ghost use Rattle.std.specs.Prelude.{◌≤◌, true, length};
 
-use crate::{Worked, work};
+use super::{add_packet, script_of};
 use adapter::Adapter;
-use client_script::Script;
 use dmx_calls::{Act, Entry, Errno, OutcomeKind, Reply};
 use emu_io::{Clock, FixedClock, Gate, MemSource, NoGate};
 use feed_pull::Puller;
@@ -14,6 +13,7 @@ use std::sync::atomic::Ordering::SeqCst;
 use std::test::Fail;
 use std::thread;
 use std::thread::Threads;
+use workers::{Worked, work};
 
 // How often a gate looks at most.
 const TURNS: u64 = 100_000_000;
@@ -83,13 +83,6 @@ impl Gate for Hold {
     }
 }
 
-// A packet without adaptation field, of PID 256 and this counter, whose payload is zeros.
-fn add_packet(stream: &mut Vec<u8>, counter: u8) -> Result<(), Fail> {
-    stream.extend_from_slice(&[0x47, 0x01, 0, 0x10 | (counter & 15)])?;
-    stream.extend_from_slice(&[0; 184])?;
-    Ok(())
-}
-
 // What the script leaves over this stream, in batches of one packet.
 fn left_by<R: Threads + Wait + Sync, C: Clock + Sync, G: Gate + Sync>(
     rt: &R,
@@ -99,14 +92,7 @@ fn left_by<R: Threads + Wait + Sync, C: Clock + Sync, G: Gate + Sync>(
     clock: &C,
     gate: &G,
 ) -> Result<Worked, Fail> {
-    let bytes = script.as_bytes();
-    if bytes.len() > 1000 {
-        return Err(Fail::from("a long script"));
-    }
-    let script = match Script::read(alloc, bytes) {
-        Ok(script) => script,
-        Err(_) => return Err(Fail::from("no script")),
-    };
+    let script = script_of(alloc, script)?;
     let (adapter, feeder, clients) = Adapter::new(alloc, script.clients())?;
     let mut source = MemSource::new(stream, 100, Vec::new(alloc));
     let puller = Puller::new(alloc, Vec::new(alloc), 0)?;
@@ -342,8 +328,8 @@ fn a_client_waits_until_a_batch_has_passed(rt: HostRuntime) -> Result<(), Fail> 
     // The feeder is held until the client has read once and is before its repeat.
     let gate = Hold::new((0, 0), (1, 4));
     let mut stream = Vec::new(alloc);
-    add_packet(&mut stream, 0)?;
-    add_packet(&mut stream, 1)?;
+    add_packet(&mut stream, 0, 0)?;
+    add_packet(&mut stream, 0, 1)?;
     let script =
         "c0 open n0\nc0 pes n0 256 frontend tsdemux_tap 20 0\nc0 start n0\nc0 readw n0 188\nstream\n";
     let worked = left_by(&rt, alloc, script, stream, &FixedClock::new(0), &gate)?;
