@@ -3,4 +3,3 @@ pub mod Outputs
 pub mod Answering
 pub mod Numbers
 pub mod Threading
-pub mod Alone

@@ -3,9 +3,9 @@ ghost use Rattle.std.specs.Prelude.{◌≡◌, ◌∷◌, [], map, string_bytes,
 
 use crate::in_memory::{Part, input_of};
 use crate::rows::{FIRST, OTHER, SECOND};
-use crate::{Status, serial};
 use client_script::FaultKind;
 use emu_io::{MemSink, MemSource};
+use emu_top::{Status, serial};
 use std::alloc::Global;
 use std::test::Fail;
 

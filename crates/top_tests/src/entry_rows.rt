@@ -1,7 +1,7 @@
 // Sessions and their whole reports as rows: a line of the script, and the entries that it makes on the nodes.
-use crate::Status;
 use crate::in_memory::{Part, input_of, told_of};
 use crate::rows::put_line;
+use emu_top::Status;
 use std::alloc::Global;
 use std::sync::Wait;
 use std::test::Fail;

@@ -1,10 +1,10 @@
 // Reads and writes that fail, on one thread and by threads, worked out by hand from the rules of the statuses.
-use crate::Status;
 use crate::in_memory::{Part, emulated, input_of, told_over};
 use crate::report_lines::replies_in;
 use crate::rows::{ENDED, FIRST, NOT_YET};
 use client_script::FaultKind;
 use emu_io::{FixedClock, MemSink, MemSource, Mute, NoGate};
+use emu_top::Status;
 use std::process::Abort;
 use std::sync::Wait;
 use std::test::Fail;

@@ -1,7 +1,7 @@
 // Sessions as rows: a line of the script, and what the calls that it makes are answered.
-use crate::Status;
 use crate::in_memory::{Part, input_of, told_of};
 use crate::report_lines::{reply_to, steps_in};
+use emu_top::Status;
 use std::alloc::Global;
 use std::sync::Wait;
 use std::test::Fail;

@@ -1,8 +1,8 @@
 // Sessions and their reports, scripts with a fault, words, and the session of a number.
-use crate::Status;
 use crate::in_memory::{Part, told, told_over};
 use client_script::FaultKind;
 use emu_io::{MemSink, MemSource};
+use emu_top::Status;
 use std::sync::Wait;
 use std::test::Fail;
 use std::thread::Threads;

@@ -1,9 +1,9 @@
 // Damaged streams and the longest section, on a section filter without mask that is started before all, worked out by hand from
 // the rules of the stream and of sections.
-use crate::Status;
 use crate::in_memory::{Part, input_of, told};
 use crate::report_lines::replies_in;
 use crate::rows::{ENDED, NOT_YET};
+use emu_top::Status;
 use std::alloc::Global;
 use std::test::Fail;
 

@@ -1,8 +1,8 @@
 // What `emulate` answers and writes over a source and a sink in memory.
 ghost use Rattle.std.specs.Prelude.{◌≡◌, ◌-◌, ◌^◌, ◌<◌};
 
-use crate::{Status, emulate};
 use emu_io::{Clock, FixedClock, Gate, MemSink, MemSource, NoGate, Sink, Source};
+use emu_top::{Status, emulate};
 use std::alloc::Global;
 use std::sync::Wait;
 use std::test::Fail;

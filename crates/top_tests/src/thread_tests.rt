@@ -2,13 +2,13 @@
 // to a step, and the session of a number.
 ghost use Rattle.std.specs.Prelude.{true};
 
-use crate::Status;
 use crate::holding_gate::{Hold, HoldingGate};
 use crate::in_memory::{Part, emulated, input_of};
 use crate::judge::{is_judged, stamped};
 use crate::report_lines::{number_in, reply_to, told_in};
 use crate::rows::{FIRST, SECOND};
 use emu_io::{Clock, FixedClock, Gate, MemSink, MemSource, NoGate};
+use emu_top::Status;
 use std::alloc::Global;
 use std::sync::Wait;
 use std::sync::atomic::AtomicU64;
