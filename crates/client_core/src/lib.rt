@@ -22,7 +22,7 @@
 //! calls a command, beside the reads that it repeats (`calls_are_few`); one reply more repeats at most one read more
 //! (`one_reply_repeats_once`). The worked examples of `examples` are computed by the check.
 //!
-//! What is only tested: that memory isn't refused where there is enough.
+//! What is only tested, in `script_tests`: that memory isn't refused where there is enough.
 //!
 //! Limits: `ClientCore::new` takes all memory of a client, two lists as long as its commands, `call_of` that of a Read's
 //! buffer, and `fitted` and `copied_outcomes` that of their copies. `take` passes over a row of commands on unbound slots in
@@ -40,8 +40,6 @@ mod machine;
 mod reply;
 mod stop;
 mod task;
-#[cfg(test)]
-mod tests;
 
 pub use call::call_of;
 pub use client::ClientCore;

@@ -1,6 +1,6 @@
 //! Clients of scripts, whose replies and calls were worked out by hand from what the commands do.
 
-use crate::{ClientCore, Event, MOST_CALLS, Stop, Want, call_of, fitted, settled};
+use client_core::{ClientCore, Event, MOST_CALLS, Stop, Want, call_of, fitted, settled};
 use client_script::{Script, ScriptError};
 use dmx_calls::{ByteBuf, Call, Outcome, OutcomeKind, Reply, Span, Tap};
 use pid_set::Pids;

@@ -1,5 +1,5 @@
 // Lines, what they ask for, and lines with a fault, worked out by hand from the rules.
-use crate::{Line, Target, Verb};
+use client_script::{Line, Target, Verb};
 use dmx_calls::{Input, Output, PesParams, SectionParams};
 use filter_match::SectionFilter;
 

@@ -1,7 +1,7 @@
 // Lines and what they ask for, scripts and what they give, and faults, worked out by hand from the rules.
 mod rows;
 
-use crate::{
+use client_script::{
     FaultKind, Line, MOST_BYTES, Script, ScriptError, ScriptFault, ScriptPart, Target, Verb, print,
 };
 use rows::{

@@ -1,0 +1,4 @@
+// The tests of scripts, and those of their clients.
+
+mod clients;
+mod scripts;
