@@ -257,8 +257,11 @@ fn a_size_is_set_by_the_state_of_the_node(rt: HostRuntime) -> Result<(), NoMemor
     check(&rt, rt.alloc(), SIZES)
 }
 
-// On a node of this size so many whole packets pass, and then it is read. A buffer of n bytes holds n - 1: as many packets of 188 bytes as fit into that, and then the room that is left.
-const FULL: &[(u32, usize, Want)] = &[
+// On a node of this size so many whole packets pass, and then it is read. A buffer of n bytes holds n - 1: as many packets of 188
+// bytes as fit into that, and then the room that is left.
+type Filled = (u32, usize, Want);
+
+const FULL: &[Filled] = &[
     (2, 1, Want::Overflow(0, 188, 0, 188, 1)),
     (188, 1, Want::Overflow(0, 188, 0, 188, 187)),
     (189, 1, Want::Data(&[(P0, 0, 188)])),
@@ -273,20 +276,23 @@ const FULL: &[(u32, usize, Want)] = &[
     ),
 ];
 
+// Whether so many packets, into a buffer of this size, are read as the row says.
+fn is_filled(alloc: Global, row: &Filled) -> Result<bool, NoMemory> {
+    let (size, packets, want) = *row;
+    let rows = [
+        OPEN,
+        (1, Step::Size(size), DONE),
+        (1, Step::Whole(256, 4), DONE),
+        (0, Step::Many(P0, packets), Want::Passed),
+        (1, Step::Read(65_536), want),
+    ];
+    Ok(odd_row(alloc, NodeCore::new(alloc, 31), 0, &rows, 64)?.is_none())
+}
+
 #[test]
 fn a_buffer_holds_one_byte_less_than_its_size(rt: HostRuntime) -> Result<(), NoMemory> {
-    for (size, packets, want) in FULL {
-        let node = NodeCore::new(rt.alloc(), 31);
-        assert_eq!(rt; node.entries(), 0);
-        let rows = [
-            OPEN,
-            (1, Step::Size(*size), DONE),
-            (1, Step::Whole(256, 4), DONE),
-            (0, Step::Many(P0, *packets), Want::Passed),
-            (1, Step::Read(65_536), *want),
-        ];
-        let odd = odd_row(rt.alloc(), node, 0, &rows, 64)?;
-        assert_eq!(rt; odd, None, "size {size}");
+    for (number, row) in FULL.iter().enumerate() {
+        assert!(rt; is_filled(rt.alloc(), row)?, "row {number}");
     }
     Ok(())
 }
@@ -294,6 +300,5 @@ fn a_buffer_holds_one_byte_less_than_its_size(rt: HostRuntime) -> Result<(), NoM
 #[test]
 fn a_node_has_its_number(rt: HostRuntime) {
     let node = NodeCore::new(rt.alloc(), 31);
-    assert_eq!(rt; node.number(), 31);
-    assert_eq!(rt; node.entries(), 0);
+    assert!(rt; node.number() == 31 && node.entries() == 0);
 }

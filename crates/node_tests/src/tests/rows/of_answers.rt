@@ -55,6 +55,9 @@ fn ready(readable: bool, error: PollError, at: u64, ended: bool) -> Reply {
 // The replies whose wants stand at the same places of `WANTS`.
 fn replies(alloc: Global) -> Result<Vec<Reply>, NoMemory> {
     let quiet = PollError::Quiet;
+    let none = data(alloc, &[])?;
+    let parts = data(alloc, &[0x20, 0x20, 0x47])?;
+    let bytes = data(alloc, &[0x20, 0x20, 0x48])?;
     Ok(vec![in alloc;
         done(0, 0, Tap::Keep),
         done(1, 2, Tap::Keep),
@@ -67,9 +70,9 @@ fn replies(alloc: Global) -> Result<Vec<Reply>, NoMemory> {
         Reply::Busy { owner: 2 },
         Reply::Refused(Errno::Ebadf),
         Reply::Refused(Errno::Einval),
-        data(alloc, &[])?,
-        data(alloc, &[0x20, 0x20, 0x47])?,
-        data(alloc, &[0x20, 0x20, 0x48])?,
+        none,
+        parts,
+        bytes,
         Reply::Again { ended: false },
         Reply::Again { ended: true },
         overflow(1, 2, 3, 4, 5),
@@ -127,15 +130,22 @@ const WANTS: &[Want] = &[
     Want::Passed,
 ];
 
+// Whether this reply is the one that the want of this place asks for, and the one of no other.
+fn is_told_apart(alloc: Global, place: usize, reply: &Reply) -> Result<bool, NoMemory> {
+    for (other, want) in WANTS.iter().enumerate() {
+        if is_wanted(alloc, reply, *want)? != (other == place) {
+            return Ok(false);
+        }
+    }
+    Ok(true)
+}
+
 #[test]
 fn each_reply_is_told_from_each_other(rt: HostRuntime) -> Result<(), NoMemory> {
     let replies = replies(rt.alloc())?;
-    assert_eq!(rt; replies.len(), WANTS.len());
-    for (i, reply) in replies.iter().enumerate() {
-        for (j, want) in WANTS.iter().enumerate() {
-            let found = is_wanted(rt.alloc(), reply, *want)?;
-            assert_eq!(rt; found, i == j, "reply {i}, want {j}");
-        }
+    assert!(rt; replies.len() == WANTS.len());
+    for (place, reply) in replies.iter().enumerate() {
+        assert!(rt; is_told_apart(rt.alloc(), place, reply)?, "reply {place}");
     }
     Ok(())
 }
@@ -156,7 +166,9 @@ const EMPTY: Want = Want::Data(&[]);
 const PACKETS: &[Cell] = &[P0];
 
 // A step, what is wanted of an answer that is this, whether the answer has a buffer and a batch, and whether it is the wanted one.
-const ANSWERS: &[(Step, Want, bool, bool, bool)] = &[
+type AnswerRow = (Step, Want, bool, bool, bool);
+
+const ANSWERS: &[AnswerRow] = &[
     (Step::Read(4), AGAIN, true, false, true),
     (Step::Read(4), AGAIN, false, false, false),
     (Step::Read(4), EMPTY, false, false, true),
@@ -172,32 +184,37 @@ const ANSWERS: &[(Step, Want, bool, bool, bool)] = &[
     (Step::Many(P0, 1), AGAIN, false, false, false),
 ];
 
+// An answer with the reply that is wanted, and with a buffer and a batch where the row says so.
+fn answer_of(alloc: Global, row: &AnswerRow) -> Result<Answer, NoMemory> {
+    let reply = match row.1 {
+        Want::Data(_) => data(alloc, &[])?,
+        _ => Reply::Again { ended: false },
+    };
+    let back = if row.2 {
+        Some(ByteBuf::new(alloc, 4)?)
+    } else {
+        None
+    };
+    let batch = if row.3 {
+        batch_of(alloc, PACKETS)?
+    } else {
+        None
+    };
+    Ok(Answer { reply, back, batch })
+}
+
+// Whether that answer is taken for the wanted one just where the row says so, and never for that of a pass.
+fn is_told(alloc: Global, row: &AnswerRow) -> Result<bool, NoMemory> {
+    let answer = answer_of(alloc, row)?;
+    let found = is_answered(alloc, row.0, &answer, row.1)?;
+    let passed = is_answered(alloc, row.0, &answer, Want::Passed)?;
+    Ok(found == row.4 && !passed)
+}
+
 #[test]
 fn buffers_and_batches_are_handed_back(rt: HostRuntime) -> Result<(), NoMemory> {
-    let alloc = rt.alloc();
-    for (number, (step, want, has_buffer, has_batch, wanted)) in ANSWERS.iter().enumerate() {
-        let answer = Answer {
-            reply: match want {
-                Want::Data(_) => data(alloc, &[])?,
-                _ => Reply::Again { ended: false },
-            },
-            back: if *has_buffer {
-                Some(ByteBuf::new(alloc, 4)?)
-            } else {
-                None
-            },
-            batch: if *has_batch {
-                batch_of(alloc, PACKETS)?
-            } else {
-                None
-            },
-        };
-        let found = is_answered(alloc, *step, &answer, *want)?;
-        assert_eq!(rt; found, *wanted, "row {number}");
-        assert!(rt;
-            !is_answered(alloc, *step, &answer, Want::Passed)?,
-            "row {number}"
-        );
+    for (number, row) in ANSWERS.iter().enumerate() {
+        assert!(rt; is_told(rt.alloc(), row)?, "row {number}");
     }
     Ok(())
 }
