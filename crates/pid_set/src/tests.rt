@@ -20,8 +20,8 @@ fn has_just<const N: usize>(set: &PidSet<N>, pids: &[u16]) -> bool {
     set.len() == pids.len() && set.get(pids.len()).is_none()
 }
 
-// Whether a set gives the answer of a step and then has its members, and has the step's PID where it was to be added and
-// wasn't refused.
+// Whether a set gives the answer of a step, and then has its members, and the step's PID where that was added or was
+// there.
 fn takes<const N: usize>(set: &mut PidSet<N>, step: &Step) -> bool {
     match *step {
         Step::Add(pid, answer, pids) => {
