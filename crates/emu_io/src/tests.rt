@@ -27,22 +27,31 @@ fn reads<S: Source>(alloc: Global, source: &mut S, room: usize) -> Result<Vec<u8
     Ok(all)
 }
 
+// A source's piece, the numbers of its reads that fail, the room of each read, and what the reads give.
+type Reads = (u32, &'static [u64], usize, &'static [u8]);
+
+static READS: [Reads; 7] = [
+    (8, &[], 8, b"abcdefgh|."),
+    (9, &[], 8, b"abcdefgh|."),
+    (3, &[], 8, b"abc|def|gh|."),
+    (8, &[], 5, b"abcde|fgh|."),
+    (3, &[0, 2], 8, b"!abc|!def|gh|."),
+    (8, &[1], 8, b"abcdefgh|!."),
+    (1, &[1, 8, 9], 8, b"a|!b|c|d|e|f|g|!"),
+];
+
+// Whether the reads of `abcdefgh` give what the row says, whose piece is at least 1.
+fn is_read(alloc: Global, row: &Reads) -> Result<bool, Fail> {
+    let (piece, fails, room, want) = *row;
+    let bytes = b"abcdefgh".to_vec(alloc)?;
+    let mut source = MemSource::new(bytes, piece.max(1), fails.to_vec(alloc)?);
+    Ok(reads(alloc, &mut source, room)?.as_slice() == want)
+}
+
 #[test]
 fn reads_come_in_pieces_and_fail_where_named(rt: HostRuntime) -> Result<(), Fail> {
-    let alloc = rt.alloc();
-    let cases: [(u32, &[u64], usize, &[u8]); 7] = [
-        (8, &[], 8, b"abcdefgh|."),
-        (9, &[], 8, b"abcdefgh|."),
-        (3, &[], 8, b"abc|def|gh|."),
-        (8, &[], 5, b"abcde|fgh|."),
-        (3, &[0, 2], 8, b"!abc|!def|gh|."),
-        (8, &[1], 8, b"abcdefgh|!."),
-        (1, &[1, 8, 9], 8, b"a|!b|c|d|e|f|g|!"),
-    ];
-    for (piece, fails, room, want) in cases {
-        let mut source = MemSource::new(b"abcdefgh".to_vec(alloc)?, piece, fails.to_vec(alloc)?);
-        let found = reads(alloc, &mut source, room)?;
-        assert_eq!(rt; found.as_slice(), want, "piece {piece}, room {room}");
+    for (i, row) in READS.iter().enumerate() {
+        assert!(rt; is_read(rt.alloc(), row)?, "row {i}");
     }
     Ok(())
 }
@@ -67,42 +76,52 @@ fn writes<K: Sink>(alloc: Global, sink: &mut K) -> Result<Vec<u8>, Fail> {
     Ok(answers)
 }
 
+// A sink's capacity, its piece, the numbers of its writes that fail, what the writes answer, and the bytes written.
+type Writes = (usize, u32, &'static [u64], &'static [u8], &'static [u8]);
+
+static WRITES: [Writes; 6] = [
+    (8, 8, &[], b"8", b"abcdefgh"),
+    (100, 3, &[], b"332", b"abcdefgh"),
+    (8, 3, &[1], b"3!32", b"abcdefgh"),
+    (100, 5, &[0, 2], b"!5!3", b"abcdefgh"),
+    (7, 3, &[], b"331!!!!!!", b"abcdefg"),
+    (0, 1, &[], b"!!!!!!!!!", b""),
+];
+
+// Whether the writes of `abcdefgh` answer what the row says, whose piece is at least 1, and its bytes are written.
+fn is_written(alloc: Global, row: &Writes) -> Result<bool, Fail> {
+    let (capacity, piece, fails, want, written) = *row;
+    let mut sink = MemSink::new(alloc, capacity, piece.max(1), fails.to_vec(alloc)?)?;
+    let answers = writes(alloc, &mut sink)?;
+    Ok(answers.as_slice() == want && sink.bytes() == written)
+}
+
 #[test]
 fn writes_are_taken_in_pieces_and_fail_where_named_or_full(rt: HostRuntime) -> Result<(), Fail> {
-    let alloc = rt.alloc();
-    let cases: [(usize, u32, &[u64], &[u8], &[u8]); 6] = [
-        (8, 8, &[], b"8", b"abcdefgh"),
-        (100, 3, &[], b"332", b"abcdefgh"),
-        (8, 3, &[1], b"3!32", b"abcdefgh"),
-        (100, 5, &[0, 2], b"!5!3", b"abcdefgh"),
-        (7, 3, &[], b"331!!!!!!", b"abcdefg"),
-        (0, 1, &[], b"!!!!!!!!!", b""),
-    ];
-    for (capacity, piece, fails, want, written) in cases {
-        let mut sink = MemSink::new(alloc, capacity, piece, fails.to_vec(alloc)?)?;
-        let answers = writes(alloc, &mut sink)?;
-        assert_eq!(rt;
-            answers.as_slice(),
-            want,
-            "capacity {capacity}, piece {piece}"
-        );
-        assert_eq!(rt; sink.bytes(), written, "capacity {capacity}, piece {piece}");
+    for (i, row) in WRITES.iter().enumerate() {
+        assert!(rt; is_written(rt.alloc(), row)?, "row {i}");
     }
     Ok(())
 }
 
-#[test]
-fn mute_ends_read_and_write_as_the_ones_inside(rt: HostRuntime) -> Result<(), Fail> {
-    let alloc = rt.alloc();
+// Whether the reads of a source inside a `Mute` come in pieces, and fail where named.
+fn mute_reads(alloc: Global) -> Result<bool, Fail> {
     let bytes = b"abcdefgh".to_vec(alloc)?;
     let mut source = Mute::new(MemSource::new(bytes, 3, [1u64].to_vec(alloc)?));
-    assert_eq!(rt;
-        reads(alloc, &mut source, 8)?.as_slice(),
-        b"abc|!def|gh|.".as_slice()
-    );
+    Ok(reads(alloc, &mut source, 8)?.as_slice() == b"abc|!def|gh|.".as_slice())
+}
+
+// Whether the writes to a sink inside a `Mute` are taken in pieces, and fail where named.
+fn mute_writes(alloc: Global) -> Result<bool, Fail> {
     let mut sink = Mute::new(MemSink::new(alloc, 8, 3, [1u64].to_vec(alloc)?)?);
-    assert_eq!(rt; writes(alloc, &mut sink)?.as_slice(), b"3!32".as_slice());
-    assert_eq!(rt; sink.inner.bytes(), b"abcdefgh".as_slice());
+    let answers = writes(alloc, &mut sink)?;
+    Ok(answers.as_slice() == b"3!32".as_slice() && sink.inner.bytes() == b"abcdefgh".as_slice())
+}
+
+#[test]
+fn mute_ends_read_and_write_as_the_ones_inside(rt: HostRuntime) -> Result<(), Fail> {
+    assert!(rt; mute_reads(rt.alloc())?);
+    assert!(rt; mute_writes(rt.alloc())?);
     Ok(())
 }
 

@@ -5,7 +5,6 @@ use std::alloc::{AllocError, Global};
 use std::test::*;
 
 // A header, and the fields that ISO/IEC 13818-1, 2.4.3, gives a packet with it.
-#[derive(Clone, Copy, Drop)]
 struct Row {
     name: &'static str,
     header: [u8; 6],
@@ -26,7 +25,7 @@ fn packet_of(header: [u8; 6]) -> Option<Packet> {
     Packet::of(bytes)
 }
 
-const ROWS: [Row; 11] = [
+static ROWS: [Row; 11] = [
     Row {
         name: "null packet",
         header: [0x47, 0x1f, 0xff, 0x10, 0xff, 0xff],
@@ -139,6 +138,33 @@ const ROWS: [Row; 11] = [
     },
 ];
 
+// Whether a packet's payload begins at this place and ends with byte 187, or there is none.
+fn has_payload_at(packet: &Packet, place: Option<usize>) -> bool {
+    match packet.payload() {
+        None => place == None,
+        Some(payload) => place == Some(PACKET_LEN - payload.len()) && payload.ends_with(&[187]),
+    }
+}
+
+// Whether a packet has the fields of a row.
+fn has_fields(packet: &Packet, row: &Row) -> bool {
+    packet.bytes().starts_with(&row.header)
+        && packet.pid() == row.pid
+        && packet.error() == row.error
+        && packet.unit_start() == row.unit_start
+        && packet.counter() == row.counter
+        && packet.discontinuity() == row.discontinuity
+        && has_payload_at(packet, row.payload_at)
+}
+
+// Whether a row's header begins a packet, which has the fields of the row.
+fn is_right(row: &Row) -> bool {
+    match packet_of(row.header) {
+        None => false,
+        Some(packet) => has_fields(&packet, row),
+    }
+}
+
 #[test]
 fn fields_are_those_of_the_standard(rt: HostRuntime) {
     assert!(rt; packet_of([0x46, 0x01, 0x00, 0x10, 0x00, 0x00]).is_none());
@@ -147,22 +173,8 @@ fn fields_are_those_of_the_standard(rt: HostRuntime) {
             .bytes()
             .starts_with(&[0x47, 0x1f, 0xff, 0x10, 0xff])
     );
-    for row in &ROWS {
-        let name = row.name;
-        let packet = packet_of(row.header).expect(&rt, name);
-        assert!(rt; packet.bytes().starts_with(&row.header), "{name}");
-        assert_eq!(rt; packet.pid(), row.pid, "{name}");
-        assert_eq!(rt; packet.error(), row.error, "{name}");
-        assert_eq!(rt; packet.unit_start(), row.unit_start, "{name}");
-        assert_eq!(rt; packet.counter(), row.counter, "{name}");
-        assert_eq!(rt; packet.discontinuity(), row.discontinuity, "{name}");
-        let payload_at = packet.payload().map(|payload| PACKET_LEN - payload.len());
-        assert_eq!(rt; payload_at, row.payload_at, "{name}");
-        assert_eq!(rt;
-            packet.payload().and_then(|payload| payload.last().copied()),
-            row.payload_at.map(|_| 187),
-            "{name}"
-        );
+    for row in ROWS.iter() {
+        assert!(rt; is_right(row), "{}", row.name);
     }
 }
 
@@ -198,24 +210,49 @@ fn wanted(alloc: Global) -> Result<Vec<u8>, AllocError> {
     Ok(wanted)
 }
 
-// Cuts the stream in pieces of at most `size` bytes, and gives the bytes of the packets and the tally.
-fn cut_by(alloc: Global, stream: &[u8], size: usize) -> Result<(Vec<u8>, Tally), AllocError>
+// Appends the bytes of these packets.
+fn add_all(bytes: &mut Vec<u8>, packets: &[Packet]) -> Result<(), AllocError> {
+    for packet in packets {
+        bytes.extend_from_slice(packet.bytes())?;
+    }
+    Ok(())
+}
+
+// Cuts the stream in pieces of at most `size` bytes, appends the bytes of the packets, and gives the tally.
+fn cut_by(found: &mut Vec<u8>, stream: &[u8], size: usize) -> Result<Tally, AllocError>
     requires some { 0 < size }
     requires few { length stream.now < 2 ^ 62 }
 {
     let mut cutter = Cutter::new();
     let mut packets = PacketBuf::new();
-    let mut found = Vec::new(alloc);
     let mut left = stream;
     'pieces: while !left.is_empty() {
         packets.clear();
         let taken = cutter.push(&left[..size.min(left.len())], &mut packets);
         left = &left[taken..];
-        for packet in packets.as_slice() {
-            found.extend_from_slice(packet.bytes())?;
-        }
+        add_all(found, packets.as_slice())?;
     }
-    Ok((found, cutter.finish()))
+    Ok(cutter.finish())
+}
+
+// Whether the stream cut in pieces of at most `size` bytes has the wanted packets.
+fn is_cut_alike(
+    alloc: Global,
+    stream: &[u8],
+    wanted: &[u8],
+    size: usize,
+) -> Result<bool, AllocError>
+    requires some { 0 < size }
+    requires few { length stream.now < 2 ^ 62 }
+{
+    let mut found = Vec::new(alloc);
+    let tally = cut_by(&mut found, stream, size)?;
+    let want = Tally {
+        packets: 4,
+        skipped: 5,
+        rest: 100,
+    };
+    Ok(tally == want && found.as_slice() == wanted)
 }
 
 #[test]
@@ -224,47 +261,55 @@ fn pieces_of_any_size_are_cut_alike(rt: HostRuntime) -> Result<(), Fail> {
     let wanted = wanted(rt.alloc())?;
     assert!(rt; stream.len() < 1000000);
     for size in [1, 7, 187, 188, 189, 1000] {
-        let (found, tally) = cut_by(rt.alloc(), &stream, size)?;
-        assert!(rt; found == wanted, "pieces of {size}");
-        let want = Tally {
-            packets: 4,
-            skipped: 5,
-            rest: 100,
-        };
-        assert_eq!(rt; tally, want, "pieces of {size}");
+        assert!(rt;
+            is_cut_alike(rt.alloc(), &stream, &wanted, size)?,
+            "pieces of {size}"
+        );
     }
     Ok(())
 }
 
-#[test]
-fn a_full_buffer_stops_the_cutter(rt: HostRuntime) -> Result<(), Fail> {
-    let mut stream = Vec::new(rt.alloc());
+// 70 packets, of whose payloads the first is of bytes 0, the next of bytes 1, and so on, and a byte 00.
+fn long_stream(alloc: Global) -> Result<Vec<u8>, AllocError> {
+    let mut stream = Vec::new(alloc);
     for i in 0..70u8 {
         add_packet(&mut stream, i % 16, i)?;
     }
     stream.push(0x00)?;
+    Ok(stream)
+}
+
+// Whether a buffer has 64 packets, the last of them with this last byte.
+fn is_full(packets: &PacketBuf, last: u8) -> bool {
+    packets.full() && packets.len() == 64 && packets.get(63).bytes()[187] == last
+}
+
+// Whether a buffer has six packets, the last of them with this counter.
+fn has_six(packets: &PacketBuf, counter: u8) -> bool {
+    packets.len() == 6 && packets.get(5).counter() == counter
+}
+
+#[test]
+fn a_full_buffer_stops_the_cutter(rt: HostRuntime) -> Result<(), Fail> {
+    let stream = long_stream(rt.alloc())?;
     assert!(rt; stream.len() == 70 * PACKET_LEN + 1);
     let mut cutter = Cutter::new();
     let mut packets = PacketBuf::new();
     let taken = cutter.push(&stream, &mut packets);
-    assert_eq!(rt; taken, 64 * PACKET_LEN);
-    assert!(rt; packets.full());
-    assert_eq!(rt; packets.len(), 64);
-    assert_eq!(rt; packets.get(63).bytes()[187], 63);
+    assert!(rt; taken == 64 * PACKET_LEN && is_full(&packets, 63));
     assert_eq!(rt; cutter.push(&stream[taken..], &mut packets), 0);
     packets.clear();
     assert_eq!(rt;
         cutter.push(&stream[taken..], &mut packets),
         6 * PACKET_LEN + 1
     );
-    assert_eq!(rt; packets.len(), 6);
-    assert_eq!(rt; packets.get(5).counter(), 5);
+    assert!(rt; has_six(&packets, 5));
     let want = Tally {
         packets: 70,
         skipped: 1,
         rest: 0,
     };
-    assert_eq!(rt; cutter.finish(), want);
+    assert!(rt; cutter.finish() == want);
     cutting_law();
     Ok(())
 }

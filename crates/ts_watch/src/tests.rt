@@ -51,7 +51,7 @@ const X1: Shown = ([0x47, 0x41, 0x00, 0x10, 0x00, 0x42], 0x22);
 
 const X2: Shown = ([0x47, 0x01, 0x00, 0x11, 0x22, 0x22], 0xff);
 
-const CASES: [Case; 13] = [
+static CASES: [Case; 13] = [
     Case {
         name: "sent twice",
         packets: &[X1, X1, X2],
@@ -147,16 +147,16 @@ const CASES: [Case; 13] = [
     },
 ];
 
+// Whether a watch that was shown the packets of a case has its row.
+fn is_counted(alloc: Global, case: &Case) -> Result<bool, Fail> {
+    let watch = watched(alloc, case.packets)?;
+    Ok(watch.row(case.pid.min(8191)) == row(case.row))
+}
+
 #[test]
 fn rows_are_counted(rt: HostRuntime) -> Result<(), Fail> {
-    for case in &CASES {
-        let watch = watched(rt.alloc(), case.packets)?;
-        assert_eq!(rt;
-            watch.row(case.pid.min(8191)),
-            row(case.row),
-            "{}",
-            case.name
-        );
+    for case in CASES.iter() {
+        assert!(rt; is_counted(rt.alloc(), case)?, "{}", case.name);
     }
     Ok(())
 }
