@@ -47,14 +47,10 @@ fn filled(first: &[u8], rest: u8) -> Packet {
     Packet::of(bytes).unwrap_or_default()
 }
 
-fn packet_of(sent: Sent) -> Packet {
-    filled(sent.0, sent.1)
-}
-
 fn packets_of(alloc: Global, stream: &[Sent]) -> Result<Vec<Packet>, AllocError> {
     let mut packets = Vec::new(alloc);
     for sent in stream {
-        packets.push(packet_of(*sent))?;
+        packets.push(filled(sent.0, sent.1))?;
     }
     Ok(packets)
 }
@@ -375,7 +371,7 @@ fn gives_a(assembler: &mut Assembler, packet: Sent) -> bool
     requires { assembler.old.ready ≡ [] }
     ensures { result ≡ true → assembler.new.ready ≡ [] }
 {
-    assembler.push(&packet_of(packet));
+    assembler.push(&filled(packet.0, packet.1));
     assembler.next() == Some(A.as_slice()) && assembler.next().is_none()
 }
 
@@ -384,7 +380,7 @@ fn gives_none(assembler: &mut Assembler, packet: Sent) -> bool
     requires { assembler.old.ready ≡ [] }
     ensures { result ≡ true → assembler.new.ready ≡ [] }
 {
-    assembler.push(&packet_of(packet));
+    assembler.push(&filled(packet.0, packet.1));
     assembler.next().is_none()
 }
 
@@ -395,11 +391,7 @@ fn an_assembler_begins_anew_where_it_is_cleared(rt: HostRuntime) -> Result<(), F
     assert!(rt; gives_none(&mut assembler, X1));
     assembler.clear(256);
     assert!(rt; gives_a(&mut assembler, X2));
-    assert!(rt;
-        gives_none(
-            &mut assembler,
-            Sent(&[0x47, 0x41, 0x01, 0x12, 0x00, 0x44, 0x30, 0x00], 0xff)
-        )
-    );
+    let other = Sent(&[0x47, 0x41, 0x01, 0x12, 0x00, 0x44, 0x30, 0x00], 0xff);
+    assert!(rt; gives_none(&mut assembler, other));
     Ok(())
 }
