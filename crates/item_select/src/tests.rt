@@ -1,18 +1,19 @@
 //! Items of small streams, worked out by hand from the rules of filters and of sections.
 
-ghost use Rattle.std.specs.Prelude.{◌≡◌, [], OnOk};
+ghost use Rattle.std.specs.Prelude.{◌≡◌, true, [], OnOk};
 
 mod packets;
 
 use super::*;
 use filter_match::{Place, SectionFilter};
 use packets::{
-    A, A_BEHIND, AB, B, BAD, BYTE, CHECKED, DAMAGED, EMPTY, FULL, NEW, OLD, OTHER, PAT, Sent,
-    VERSIONS, X1, X2, packet_of, x,
+    A_BEHIND, AB, BAD, BYTE, CHECKED, EMPTY, FULL, OTHER, Sent, VERSIONS, X1, X2, are_named,
+    packet_of,
 };
 use pid_set::Pids;
 use std::alloc::{AllocError, Global};
 use std::test::*;
+use ts_packet::Packet;
 
 fn pids_of(pids: &[u16]) -> Pids {
     let mut set = Pids::new();
@@ -39,6 +40,20 @@ fn items(
         }
     }
     Ok(found)
+}
+
+// Whether the items of these packets are the sections of these names.
+fn gives_named(
+    alloc: Global,
+    selector: &mut Selector,
+    stream: &[Sent],
+    names: &str,
+) -> Result<bool, AllocError>
+    requires { selector.old.ready ≡ [] }
+    ensures { OnOk result (selector.new.ready ≡ []) }
+{
+    let found = items(alloc, selector, stream)?;
+    Ok(are_named(&found, names))
 }
 
 // A section filter of PID 256 by its places, with or without a check and once, a stream, and the items by their names.
@@ -92,7 +107,7 @@ const BYTE_17: Place = Place {
     mode: 0x00,
 };
 
-const SECTIONS: [SectionRow; 15] = [
+static SECTIONS: [SectionRow; 15] = [
     (
         "a section in two packets",
         ANY,
@@ -166,26 +181,20 @@ const SECTIONS: [SectionRow; 15] = [
     ),
 ];
 
+// The rows: what they are is nothing to the test that goes over them.
+fn section_rows() -> &'static [SectionRow] {
+    &SECTIONS
+}
+
 #[test]
 fn sections_are_selected_as_the_rules_say(rt: HostRuntime) -> Result<(), Fail> {
     let mut selector = Selector::new(rt.alloc())?;
-    let x = x();
-    for (name, places, check, once, stream, wanted) in SECTIONS {
-        selector.set_sections(256, &SectionFilter::of(places), check, once);
-        let found = items(rt.alloc(), &mut selector, stream)?;
-        assert_eq!(rt; found.len(), wanted.len(), "{name}");
-        for (item, letter) in found.iter().zip(wanted.bytes()) {
-            let want: &[u8] = match letter {
-                b'A' => &A,
-                b'B' => &B,
-                b'O' => &OLD,
-                b'N' => &NEW,
-                b'P' => &PAT,
-                b'D' => &DAMAGED,
-                _ => &x,
-            };
-            assert!(rt; item.as_slice() == want, "{name}");
-        }
+    for (name, places, check, once, stream, wanted) in section_rows() {
+        selector.set_sections(256, &SectionFilter::of(places), *check, *once);
+        assert!(rt;
+            gives_named(rt.alloc(), &mut selector, stream, wanted)?,
+            "{name}"
+        );
     }
     Ok(())
 }
@@ -199,7 +208,7 @@ type PacketRow = (
     &'static [(usize, usize)],
 );
 
-const PACKETS: [PacketRow; 9] = [
+static PACKETS: [PacketRow; 9] = [
     (
         "whole packets of a PID",
         true,
@@ -259,21 +268,55 @@ const PACKETS: [PacketRow; 9] = [
     ("no PIDs", true, &[], &[FULL, OTHER], &[]),
 ];
 
+// The rows: what they are is nothing to the test that goes over them.
+fn packet_rows() -> &'static [PacketRow] {
+    &PACKETS
+}
+
+// Whether this is what the packet in this place of a stream has from this place on.
+fn is_from(item: &[u8], stream: &[Sent], (place, first): (usize, usize)) -> bool {
+    let sent = stream.get(place).copied().unwrap_or(OTHER);
+    packet_of(sent).bytes().get(first..) == Some(item)
+}
+
+// Whether the items of these packets are those of these places.
+fn gives_from(
+    alloc: Global,
+    selector: &mut Selector,
+    stream: &[Sent],
+    places: &[(usize, usize)],
+) -> Result<bool, AllocError>
+    requires { selector.old.ready ≡ [] }
+    ensures { OnOk result (selector.new.ready ≡ []) }
+{
+    let found = items(alloc, selector, stream)?;
+    Ok(
+        found.len() == places.len()
+            && found
+                .iter()
+                .zip(places)
+                .all(|(item, from)| is_from(item, stream, *from)),
+    )
+}
+
 #[test]
 fn packets_are_selected_as_the_rules_say(rt: HostRuntime) -> Result<(), Fail> {
     let mut selector = Selector::new(rt.alloc())?;
-    for (name, whole, pids, stream, wanted) in PACKETS {
-        selector.set_packets(whole, &pids_of(pids));
-        let found = items(rt.alloc(), &mut selector, stream)?;
-        assert_eq!(rt; found.len(), wanted.len(), "{name}");
-        for (item, (place, first)) in found.iter().zip(wanted) {
-            let sent = stream.get(*place).copied().unwrap_or(OTHER);
-            let packet = packet_of(sent);
-            let want = packet.bytes().get(*first..);
-            assert!(rt; want == Some(item.as_slice()), "{name}");
-        }
+    for (name, whole, pids, stream, wanted) in packet_rows() {
+        selector.set_packets(*whole, &pids_of(pids));
+        assert!(rt;
+            gives_from(rt.alloc(), &mut selector, stream, wanted)?,
+            "{name}"
+        );
     }
     Ok(())
+}
+
+// Whether this packet, whole, is the one item that waits.
+fn gives_just(selector: &mut Selector, packet: &Packet) -> bool
+    ensures { result ≡ true → selector.new.ready ≡ [] }
+{
+    selector.item() == Some(packet.bytes().as_slice()) && selector.item().is_none()
 }
 
 #[test]
@@ -284,13 +327,11 @@ fn new_pids_name_the_packets_behind_them(rt: HostRuntime) -> Result<(), Fail> {
     selector.set_packets(true, &pids_of(&[256]));
     selector.offer(&full);
     selector.set_pids(&pids_of(&[257]));
-    assert_eq!(rt; selector.item(), Some(full.bytes().as_slice()));
-    assert!(rt; selector.item().is_none());
+    assert!(rt; gives_just(&mut selector, &full));
     selector.offer(&full);
     assert!(rt; selector.item().is_none());
     selector.offer(&other);
-    assert_eq!(rt; selector.item(), Some(other.bytes().as_slice()));
-    assert!(rt; selector.item().is_none());
+    assert!(rt; gives_just(&mut selector, &other));
     Ok(())
 }
 
@@ -299,17 +340,13 @@ fn a_filter_that_begins_anew_knows_no_packet(rt: HostRuntime) -> Result<(), Fail
     let any = SectionFilter::of(ANY);
     let mut selector = Selector::new(rt.alloc())?;
     selector.set_sections(256, &any, false, false);
-    let first = items(rt.alloc(), &mut selector, &[X1])?;
-    assert!(rt; first.is_empty());
+    assert!(rt; gives_named(rt.alloc(), &mut selector, &[X1], "")?);
     selector.restart();
-    let second = items(rt.alloc(), &mut selector, &[X2])?;
-    assert!(rt; second.len() == 1 && second[0].as_slice() == A.as_slice());
+    assert!(rt; gives_named(rt.alloc(), &mut selector, &[X2], "A")?);
     selector.set_sections(256, &any, false, false);
-    let first = items(rt.alloc(), &mut selector, &[X1])?;
-    assert!(rt; first.is_empty());
+    assert!(rt; gives_named(rt.alloc(), &mut selector, &[X1], "")?);
     selector.set_sections(256, &any, false, false);
-    let second = items(rt.alloc(), &mut selector, &[X2])?;
-    assert!(rt; second.len() == 1 && second[0].as_slice() == A.as_slice());
+    assert!(rt; gives_named(rt.alloc(), &mut selector, &[X2], "A")?);
     Ok(())
 }
 
@@ -331,13 +368,10 @@ fn what_waits_is_gone_where_a_filter_begins_anew(rt: HostRuntime) -> Result<(), 
 fn a_one_shot_filter_gives_a_section_each_time_it_begins(rt: HostRuntime) -> Result<(), Fail> {
     let mut selector = Selector::new(rt.alloc())?;
     selector.set_sections(256, &SectionFilter::of(ANY), false, true);
-    let first = items(rt.alloc(), &mut selector, &[AB])?;
-    assert!(rt; first.len() == 1 && first[0].as_slice() == A.as_slice());
-    let behind = items(rt.alloc(), &mut selector, &[A_BEHIND])?;
-    assert!(rt; behind.is_empty());
+    assert!(rt; gives_named(rt.alloc(), &mut selector, &[AB], "A")?);
+    assert!(rt; gives_named(rt.alloc(), &mut selector, &[A_BEHIND], "")?);
     selector.restart();
-    let again = items(rt.alloc(), &mut selector, &[AB, A_BEHIND])?;
-    assert!(rt; again.len() == 1 && again[0].as_slice() == A.as_slice());
+    assert!(rt; gives_named(rt.alloc(), &mut selector, &[AB, A_BEHIND], "A")?);
     Ok(())
 }
 
@@ -345,20 +379,17 @@ fn a_one_shot_filter_gives_a_section_each_time_it_begins(rt: HostRuntime) -> Res
 fn nothing_is_selected_from_the_packets_of_another_pid(rt: HostRuntime) -> Result<(), Fail> {
     let mut selector = Selector::new(rt.alloc())?;
     selector.set_sections(257, &SectionFilter::of(ANY), false, false);
-    let found = items(rt.alloc(), &mut selector, &[X1, X2, AB])?;
-    assert!(rt; found.is_empty());
+    assert!(rt; gives_named(rt.alloc(), &mut selector, &[X1, X2, AB], "")?);
     Ok(())
 }
 
 #[test]
 fn nothing_is_selected_without_a_filter(rt: HostRuntime) -> Result<(), Fail> {
     let mut selector = Selector::new(rt.alloc())?;
-    let found = items(rt.alloc(), &mut selector, &[AB, FULL])?;
-    assert!(rt; found.is_empty());
+    assert!(rt; gives_named(rt.alloc(), &mut selector, &[AB, FULL], "")?);
     selector.set_packets(true, &pids_of(&[0x2000]));
     selector.set_none();
-    let found = items(rt.alloc(), &mut selector, &[AB, FULL])?;
-    assert!(rt; found.is_empty());
+    assert!(rt; gives_named(rt.alloc(), &mut selector, &[AB, FULL], "")?);
     all_items_are_given();
     one_shot_gives_no_more();
     one_shot_is_spent();

@@ -1,7 +1,9 @@
 //! Rings of small and of real sizes, against lists worked by hand.
 
+ghost use Rattle.std.specs.Prelude.{◌≤◌};
+
 use crate::Ring;
-use std::alloc::AllocError as NoMemory;
+use std::alloc::{AllocError as NoMemory, Global};
 
 /// One call of a ring and its answer.
 #[derive(Clone, Copy)]
@@ -14,21 +16,65 @@ enum Step {
     Skip(usize, &'static [u8]),
     /// All are dropped: so many.
     Flush(u64),
+    /// Room is left for so many bytes.
+    Room(u64),
 }
+
+// Whether a ring does this step as it says.
+fn does(ring: &mut Ring, step: Step) -> bool {
+    match step {
+        Step::Put(item, fits) => ring.put(item) == fits,
+        Step::Take(count, bytes) => {
+            let mut into = [0; 9];
+            let taken = ring.take(&mut into[..count.min(9)]);
+            count <= 9 && &into[..taken] == bytes
+        }
+        Step::Skip(count, left) => {
+            if count as u64 > ring.unread() {
+                return false;
+            }
+            ring.skip(count);
+            let (front, back) = ring.as_slices();
+            front.len() + back.len() == left.len()
+                && left.starts_with(front)
+                && left.ends_with(back)
+        }
+        Step::Flush(count) => ring.flush() == count,
+        Step::Room(count) => ring.room() == count,
+    }
+}
+
+static TWO: [Step; 6] = [
+    Step::Room(1),
+    Step::Put(&[1, 2], false),
+    Step::Put(&[3], true),
+    Step::Room(0),
+    Step::Flush(1),
+    Step::Room(1),
+];
 
 #[test]
 fn a_ring_of_size_two_holds_one_byte(rt: HostRuntime) -> Result<(), NoMemory> {
     let mut ring = Ring::new(rt.alloc(), 2)?;
-    assert_eq!(rt; ring.room(), 1);
-    assert!(rt; !ring.put(&[1, 2]));
-    assert!(rt; ring.put(&[3]));
-    assert_eq!(rt; ring.room(), 0);
-    assert_eq!(rt; ring.flush(), 1);
-    assert_eq!(rt; ring.room(), 1);
+    for (number, step) in TWO.iter().enumerate() {
+        assert!(rt; does(&mut ring, *step), "step {number}");
+    }
     Ok(())
 }
 
-// A packet has 188 bytes, so size 188 is one byte too small for one.
+// Whether a ring of this size holds so many packets, and then has so much room. A packet has 188 bytes, so size 188 is
+// one byte too small for one.
+fn holds(alloc: Global, size: u32, packets: u32, room: u64) -> Result<bool, NoMemory>
+    requires least { 2 ≤ size }
+    requires most { size ≤ 16777216 }
+{
+    let mut ring = Ring::new(alloc, size)?;
+    for _ in 0..100_000u32 {
+        ring.put(&[0x47; 188]);
+    }
+    Ok(ring.size() == size && ring.unread() == u64::from(packets) * 188 && ring.room() == room)
+}
+
 #[test]
 fn packets_fit_up_to_one_byte_less_than_the_size(rt: HostRuntime) -> Result<(), NoMemory> {
     for (size, packets, room) in [
@@ -39,13 +85,7 @@ fn packets_fit_up_to_one_byte_less_than_the_size(rt: HostRuntime) -> Result<(), 
         (8192, 43, 107),
         (16_777_216, 89_240, 95),
     ] {
-        let mut ring = Ring::new(rt.alloc(), size)?;
-        assert_eq!(rt; ring.size(), size);
-        for _ in 0..100_000u32 {
-            ring.put(&[0x47; 188]);
-        }
-        assert_eq!(rt; ring.unread(), packets * 188, "size {size}");
-        assert_eq!(rt; ring.room(), room, "size {size}");
+        assert!(rt; holds(rt.alloc(), size, packets, room)?, "size {size}");
     }
     Ok(())
 }
@@ -80,38 +120,26 @@ static STEPS: [Step; 22] = [
 fn bytes_come_in_the_order_in_which_they_were_put(rt: HostRuntime) -> Result<(), NoMemory> {
     let mut ring = Ring::new(rt.alloc(), 6)?;
     for (number, step) in STEPS.iter().enumerate() {
-        match *step {
-            Step::Put(item, fits) => assert_eq!(rt; ring.put(item), fits, "step {number}"),
-            Step::Take(count, bytes) => {
-                let mut into = [0; 9];
-                assert!(rt; count <= 9);
-                let taken = ring.take(&mut into[..count]);
-                assert_eq!(rt; &into[..taken], bytes, "step {number}");
-            }
-            Step::Skip(count, left) => {
-                assert!(rt; count as u64 <= ring.unread());
-                ring.skip(count);
-                let (front, back) = ring.as_slices();
-                assert!(rt; front.len() + back.len() == left.len(), "step {number}");
-                assert!(rt;
-                    left.starts_with(front) && left.ends_with(back),
-                    "step {number}"
-                );
-            }
-            Step::Flush(count) => assert_eq!(rt; ring.flush(), count, "step {number}"),
-        }
+        assert!(rt; does(&mut ring, *step), "step {number}");
     }
     Ok(())
+}
+
+// Whether an item of three bytes fits, and another size drops these three.
+fn drops_three(alloc: Global, ring: &mut Ring, size: u32, item: &[u8; 3]) -> Result<bool, NoMemory>
+    requires least { 2 ≤ size }
+    requires most { size ≤ 16777216 }
+{
+    let fits = ring.put(item);
+    let dropped = ring.resize(alloc, size)?;
+    Ok(fits && dropped == 3 && ring.size() == size && ring.room() == u64::from(size) - 1)
 }
 
 #[test]
 fn another_size_drops_what_is_unread(rt: HostRuntime) -> Result<(), NoMemory> {
     let mut ring = Ring::new(rt.alloc(), 8)?;
-    for (size, item, dropped) in [(4, [1, 2, 3], 3), (4, [4, 5, 6], 3), (100, [7, 8, 9], 3)] {
-        assert!(rt; ring.put(&item));
-        assert_eq!(rt; ring.resize(rt.alloc(), size)?, dropped);
-        assert_eq!(rt; ring.size(), size);
-        assert_eq!(rt; ring.room(), u64::from(size) - 1);
+    for (size, item) in [(4, [1, 2, 3]), (4, [4, 5, 6]), (100, [7, 8, 9])] {
+        assert!(rt; drops_three(rt.alloc(), &mut ring, size, &item)?, "{item:?}");
     }
     Ok(())
 }

@@ -1,5 +1,7 @@
 //! Sections of small streams, worked out by hand from the rules of ISO/IEC 13818-1, 2.4.4.
 
+ghost use Rattle.std.specs.Prelude.{◌≡◌, true, []};
+
 use super::*;
 use std::alloc::{AllocError, Global};
 use std::test::*;
@@ -36,10 +38,11 @@ const A2: Sent = Sent(
     0xff,
 );
 
-fn packet_of(sent: Sent) -> Packet {
-    let mut bytes = [sent.1; 188];
-    for (byte, first) in bytes.iter_mut().zip(sent.0) {
-        *byte = *first;
+// The packet of these first bytes whose others are all alike.
+fn filled(first: &[u8], rest: u8) -> Packet {
+    let mut bytes = [rest; 188];
+    for (byte, wanted) in bytes.iter_mut().zip(first) {
+        *byte = *wanted;
     }
     Packet::of(bytes).unwrap_or_default()
 }
@@ -47,7 +50,7 @@ fn packet_of(sent: Sent) -> Packet {
 fn packets_of(alloc: Global, stream: &[Sent]) -> Result<Vec<Packet>, AllocError> {
     let mut packets = Vec::new(alloc);
     for sent in stream {
-        packets.push(packet_of(*sent))?;
+        packets.push(filled(sent.0, sent.1))?;
     }
     Ok(packets)
 }
@@ -64,7 +67,7 @@ fn x() -> [u8; 203] {
 // A stream of PID 256, and its sections by their names.
 type Row = (&'static str, &'static [Sent], &'static str);
 
-const STREAMS: [Row; 26] = [
+static STREAMS: [Row; 26] = [
     ("one section in two packets, then another", &[X1, X2], "XA"),
     ("a repeat of the first packet", &[X1, X1, X2], "XA"),
     ("three times the first packet", &[X1, X1, X1, X2], "XA"),
@@ -275,82 +278,120 @@ const STREAMS: [Row; 26] = [
     ("no packets", &[], ""),
 ];
 
+// Whether this is the section of this name.
+fn is_named(section: &[u8], name: u8) -> bool {
+    match name {
+        b'A' => section == A.as_slice(),
+        b'B' => section == B.as_slice(),
+        b'C' => section == C.as_slice(),
+        _ => section == x().as_slice(),
+    }
+}
+
+// Whether these are the sections of these names.
+fn are_named(sections: &[Vec<u8>], names: &str) -> bool {
+    sections.len() == names.len()
+        && sections
+            .iter()
+            .zip(names.bytes())
+            .all(|(section, name)| is_named(section, name))
+}
+
+// The rows: what they are is nothing to the test that goes over them.
+fn streams() -> &'static [Row] {
+    &STREAMS
+}
+
 #[test]
 fn each_stream_has_the_sections_that_the_rules_give(rt: HostRuntime) -> Result<(), Fail> {
-    let x = x();
-    for (name, stream, wanted) in STREAMS {
+    for (name, stream, wanted) in streams() {
         let packets = packets_of(rt.alloc(), stream)?;
         let found = all_sections(rt.alloc(), 256, &packets)?;
-        assert_eq!(rt; found.len(), wanted.len(), "{name}");
-        for (section, letter) in found.iter().zip(wanted.bytes()) {
-            let want: &[u8] = match letter {
-                b'A' => &A,
-                b'B' => &B,
-                b'C' => &C,
-                _ => &x,
-            };
-            assert!(rt; section.as_slice() == want, "{name}");
-        }
+        assert!(rt; are_named(&found, wanted), "{name}");
     }
     Ok(())
 }
 
 // Y: 40 0f fd and 4093 bytes 0x22, of which the first packet carries 183 bytes, 21 packets 184, and the last one 49.
+fn packets_of_y(alloc: Global) -> Result<Vec<Packet>, AllocError> {
+    let mut packets = Vec::new(alloc);
+    packets.push(filled(&[0x47, 0x41, 0x00, 0x10, 0x00, 0x40, 0x0f, 0xfd], 0x22))?;
+    for i in 1..22u8 {
+        packets.push(filled(&[0x47, 0x01, 0x00, 0x10 + i % 16], 0x22))?;
+    }
+    let mut last = [0x22; 53];
+    last[..4].copy_from_slice(&[0x47, 0x01, 0x00, 0x16]);
+    packets.push(filled(&last, 0xff))?;
+    Ok(packets)
+}
+
+// Whether this is Y.
+fn is_y(section: &[u8]) -> bool {
+    section.len() == 4096
+        && section.starts_with(&[0x40, 0x0f, 0xfd])
+        && section.iter().skip(3).all(|byte| *byte == 0x22)
+}
+
 #[test]
 fn a_section_of_4096_bytes_comes_from_23_packets(rt: HostRuntime) -> Result<(), Fail> {
-    let mut packets = Vec::new(rt.alloc());
-    packets.push(packet_of(Sent(&[0x47, 0x41, 0x00, 0x10, 0x00, 0x40, 0x0f, 0xfd], 0x22)))?;
-    for i in 1..22u8 {
-        let mut bytes = [0x22; 188];
-        bytes[..4].copy_from_slice(&[0x47, 0x01, 0x00, 0x10 + i % 16]);
-        packets.push(Packet::of(bytes).unwrap_or_default())?;
-    }
-    let mut bytes = [0xff; 188];
-    bytes[..53].fill(0x22);
-    bytes[..4].copy_from_slice(&[0x47, 0x01, 0x00, 0x16]);
-    packets.push(Packet::of(bytes).unwrap_or_default())?;
+    let packets = packets_of_y(rt.alloc())?;
     let found = all_sections(rt.alloc(), 256, &packets)?;
     assert_eq!(rt; found.len(), 1);
-    let section = found[0].as_slice();
-    assert_eq!(rt; section.len(), 4096);
-    assert!(rt; section.starts_with(&[0x40, 0x0f, 0xfd]));
-    assert!(rt; section.iter().skip(3).all(|byte| *byte == 0x22));
+    assert!(rt; is_y(&found[0]));
     Ok(())
 }
 
-// A behind a pointer_field, its first bytes at the end of one packet and the others at the beginning of the next.
+// A behind a pointer_field, its first bytes (8 at most) at the end of one packet and the others at the beginning of the next.
+fn split_after(bytes: usize) -> [Packet; 2] {
+    let cut = bytes.min(8);
+    let mut first = [0xff; 188];
+    first[..6].copy_from_slice(&[0x47, 0x41, 0x00, 0x30, (182 - cut) as u8, 0x00]);
+    first[187 - cut] = 0x00;
+    first[188 - cut..].copy_from_slice(&A[..cut]);
+    let mut second = [0xff; 188];
+    second[..4].copy_from_slice(&[0x47, 0x01, 0x00, 0x11]);
+    second[4..12 - cut].copy_from_slice(&A[cut..]);
+    [
+        Packet::of(first).unwrap_or_default(),
+        Packet::of(second).unwrap_or_default(),
+    ]
+}
+
 #[test]
 fn a_section_is_found_wherever_it_is_split(rt: HostRuntime) -> Result<(), Fail> {
     for cut in 0..9usize {
-        let mut first = [0xff; 188];
-        first[..6].copy_from_slice(&[0x47, 0x41, 0x00, 0x30, (182 - cut) as u8, 0x00]);
-        first[187 - cut] = 0x00;
-        first[188 - cut..].copy_from_slice(&A[..cut]);
-        let mut second = [0xff; 188];
-        second[..4].copy_from_slice(&[0x47, 0x01, 0x00, 0x11]);
-        second[4..12 - cut].copy_from_slice(&A[cut..]);
-        let packets = [
-            Packet::of(first).unwrap_or_default(),
-            Packet::of(second).unwrap_or_default(),
-        ];
-        let found = all_sections(rt.alloc(), 256, &packets)?;
-        assert_eq!(rt; found.len(), 1, "after {cut} bytes");
-        assert!(rt; found[0].as_slice() == A.as_slice(), "after {cut} bytes");
+        let found = all_sections(rt.alloc(), 256, &split_after(cut))?;
+        assert!(rt; are_named(&found, "A"), "after {cut} bytes");
     }
     Ok(())
+}
+
+// Whether an assembler that takes in this packet gives the section A then, and no other.
+fn gives_a(assembler: &mut Assembler, packet: Sent) -> bool
+    requires { assembler.old.ready ≡ [] }
+    ensures { result ≡ true → assembler.new.ready ≡ [] }
+{
+    assembler.push(&filled(packet.0, packet.1));
+    assembler.next() == Some(A.as_slice()) && assembler.next().is_none()
+}
+
+// Whether an assembler that takes in this packet gives no section then.
+fn gives_none(assembler: &mut Assembler, packet: Sent) -> bool
+    requires { assembler.old.ready ≡ [] }
+    ensures { result ≡ true → assembler.new.ready ≡ [] }
+{
+    assembler.push(&filled(packet.0, packet.1));
+    assembler.next().is_none()
 }
 
 #[test]
 fn an_assembler_begins_anew_where_it_is_cleared(rt: HostRuntime) -> Result<(), Fail> {
     let mut assembler = Assembler::new(rt.alloc())?;
     assembler.clear(256);
-    assembler.push(&packet_of(X1));
-    assert!(rt; assembler.next().is_none());
+    assert!(rt; gives_none(&mut assembler, X1));
     assembler.clear(256);
-    assembler.push(&packet_of(X2));
-    assert_eq!(rt; assembler.next(), Some(A.as_slice()));
-    assert!(rt; assembler.next().is_none());
-    assembler.push(&packet_of(Sent(&[0x47, 0x41, 0x01, 0x12, 0x00, 0x44, 0x30, 0x00], 0xff)));
-    assert!(rt; assembler.next().is_none());
+    assert!(rt; gives_a(&mut assembler, X2));
+    let other = Sent(&[0x47, 0x41, 0x01, 0x12, 0x00, 0x44, 0x30, 0x00], 0xff);
+    assert!(rt; gives_none(&mut assembler, other));
     Ok(())
 }

@@ -22,27 +22,34 @@ fn numbers_are_written(rt: HostRuntime) -> Result<(), Fail> {
     Ok(())
 }
 
+// The least and the largest number, a word, and its number between them.
+type NumberRow = (u64, u64, &'static [u8], Option<u64>);
+
+static NUMBERS: [NumberRow; 12] = [
+    (1, 64, b"1", Some(1)),
+    (1, 64, b"64", Some(64)),
+    (1, 64, b"0", None),
+    (1, 64, b"65", None),
+    (1, 64, b"064", None),
+    (1, 64, b"", None),
+    (1, 64, b"+1", None),
+    (1, 64, b" 1", None),
+    (1, 64, b"1x", None),
+    (1, 64, b"18446744073709551680", None),
+    (
+        0,
+        u64::MAX,
+        b"18446744073709551615",
+        Some(18446744073709551615),
+    ),
+    (0, u64::MAX, b"18446744073709551616", None),
+];
+
 #[test]
 fn numbers_are_read(rt: HostRuntime) {
-    let words: [(&[u8], Option<u64>); 10] = [
-        (b"1", Some(1)),
-        (b"64", Some(64)),
-        (b"0", None),
-        (b"65", None),
-        (b"064", None),
-        (b"", None),
-        (b"+1", None),
-        (b" 1", None),
-        (b"1x", None),
-        (b"18446744073709551680", None),
-    ];
-    for (word, want) in words {
-        assert_eq!(rt; number_between(1, 64, word), want, "{word:?}");
+    for (least, most, word, want) in NUMBERS.iter() {
+        assert!(rt; number_between(*least, *most, word) == *want, "{word:?}");
     }
-    let most = number_between(0, u64::MAX, b"18446744073709551615");
-    assert_eq!(rt; most, Some(18446744073709551615));
-    let more = number_between(0, u64::MAX, b"18446744073709551616");
-    assert_eq!(rt; more, None);
 }
 
 #[test]
@@ -56,9 +63,8 @@ fn bytes_are_written_in_lower_case(rt: HostRuntime) -> Result<(), Fail> {
 
 #[test]
 fn digits_in_upper_case_are_none(rt: HostRuntime) {
-    assert_eq!(rt; hex_byte(b'a', b'0'), Some(0xa0));
-    assert_eq!(rt; hex_byte(b'A', b'0'), None);
-    assert_eq!(rt; hex_byte(b'0', b'g'), None);
+    let bytes = [hex_byte(b'a', b'0'), hex_byte(b'A', b'0'), hex_byte(b'0', b'g')];
+    assert_eq!(rt; bytes, [Some(0xa0), None, None]);
 }
 
 #[test]
@@ -81,10 +87,10 @@ fn words_of_inputs_and_outputs(rt: HostRuntime) -> Result<(), Fail> {
         out.as_slice(),
         b"frontend dvr decoder tap ts_tap tsdemux_tap ".as_slice()
     );
-    assert_eq!(rt; input_named(b"dvr"), Some(Input::Dvr));
-    assert_eq!(rt; input_named(b"tap"), None);
-    assert_eq!(rt; output_named(b"ts_tap"), Some(Output::TsTap));
-    assert_eq!(rt; output_named(b"tstap"), None);
+    let inputs = [input_named(b"dvr"), input_named(b"tap")];
+    assert!(rt; inputs == [Some(Input::Dvr), None]);
+    let outputs = [output_named(b"ts_tap"), output_named(b"tstap")];
+    assert!(rt; outputs == [Some(Output::TsTap), None]);
     Ok(())
 }
 
@@ -104,18 +110,16 @@ fn names_are_written(rt: HostRuntime) -> Result<(), Fail> {
 
 #[test]
 fn names_are_read(rt: HostRuntime) {
-    assert_eq!(rt; client_named(b"c7"), Some(7));
-    assert_eq!(rt; client_named(b"c8"), None);
-    assert_eq!(rt; client_named(b"c"), None);
-    assert_eq!(rt; demux_named(b"n31"), Some(31));
-    assert_eq!(rt; demux_named(b"n032"), None);
-    assert_eq!(rt; slot_named(b"h0"), Some(0));
-    assert_eq!(rt; slot_named(b"n0"), None);
-    assert_eq!(rt; who_named(b"feed"), Some(0));
-    assert_eq!(rt; who_named(b"c0"), Some(1));
-    assert_eq!(rt; node_named(b"31"), Some(31));
-    assert_eq!(rt; node_named(b"dvr"), Some(32));
-    assert_eq!(rt; node_named(b"32"), None);
+    let clients = [client_named(b"c7"), client_named(b"c8"), client_named(b"c")];
+    assert!(rt; clients == [Some(7), None, None]);
+    let demuxes = [demux_named(b"n31"), demux_named(b"n032")];
+    assert!(rt; demuxes == [Some(31), None]);
+    let slots = [slot_named(b"h0"), slot_named(b"n0")];
+    assert!(rt; slots == [Some(0), None]);
+    let callers = [who_named(b"feed"), who_named(b"c0")];
+    assert!(rt; callers == [Some(0), Some(1)]);
+    let nodes = [node_named(b"31"), node_named(b"dvr"), node_named(b"32")];
+    assert!(rt; nodes == [Some(31), Some(32), None]);
 }
 
 // A filter with three places that aren't 0.
@@ -139,24 +143,28 @@ fn places_that_are_not_zero_are_written(rt: HostRuntime) -> Result<(), Fail> {
     Ok(())
 }
 
+// Words for place 9, and what they ask for there.
+static PLACES: [(&[u8], Option<Place>); 7] = [
+    (
+        b"9=00/0a/f0",
+        Some(Place {
+            number: 9,
+            filter: 0x00,
+            mask: 0x0a,
+            mode: 0xf0,
+        }),
+    ),
+    (b"16=00/ff/00", None),
+    (b"8=00/ff/00", None),
+    (b"9=00/FF/00", None),
+    (b"9=00/ff/0", None),
+    (b"9=00-ff/00", None),
+    (b"=00/ff/00", None),
+];
+
 #[test]
 fn places_are_read(rt: HostRuntime) {
-    let want = Place {
-        number: 9,
-        filter: 0x00,
-        mask: 0x0a,
-        mode: 0xf0,
-    };
-    assert_eq!(rt; place_named(9, b"9=00/0a/f0"), Some(want));
-    let words: [&[u8]; 6] = [
-        b"16=00/ff/00",
-        b"8=00/ff/00",
-        b"9=00/FF/00",
-        b"9=00/ff/0",
-        b"9=00-ff/00",
-        b"=00/ff/00",
-    ];
-    for word in words {
-        assert_eq!(rt; place_named(9, word), None, "{word:?}");
+    for (word, want) in PLACES.iter() {
+        assert!(rt; place_named(9, word) == *want, "{word:?}");
     }
 }

@@ -110,3 +110,25 @@ pub fn x() -> [u8; 203] {
     x[2] = 0xc8;
     x
 }
+
+// Whether this is the section of this name.
+fn is_named(item: &[u8], name: u8) -> bool {
+    match name {
+        b'A' => item == A.as_slice(),
+        b'B' => item == B.as_slice(),
+        b'O' => item == OLD.as_slice(),
+        b'N' => item == NEW.as_slice(),
+        b'P' => item == PAT.as_slice(),
+        b'D' => item == DAMAGED.as_slice(),
+        _ => item == x().as_slice(),
+    }
+}
+
+/// Whether these are the sections of these names.
+pub fn are_named(items: &[Vec<u8>], names: &str) -> bool {
+    items.len() == names.len()
+        && items
+            .iter()
+            .zip(names.bytes())
+            .all(|(item, name)| is_named(item, name))
+}

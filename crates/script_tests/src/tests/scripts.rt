@@ -4,17 +4,15 @@ mod rows;
 use client_script::{
     FaultKind, Line, MOST_BYTES, Script, ScriptError, ScriptFault, ScriptPart, Target, Verb, print,
 };
-use rows::{
-    BYTES_FAULTS, CLIENT_FAULTS, COMMAND_FAULTS, COUNT_FAULTS, NAME_FAULTS, NUMBER_FAULTS, PES,
-    SECTIONS, SHORT, SIXTEEN, TARGET_FAULTS, command,
-};
+use rows::{SIXTEEN, filters, line_faults, short};
 use std::alloc::Global;
-use std::process::Abort;
 use std::test::Fail;
 
 // What a script gives.
-fn read(rt: &impl Abort, alloc: Global, bytes: &[u8]) -> Result<Result<Script, ScriptFault>, Fail> {
-    assert!(rt; bytes.len() <= MOST_BYTES);
+fn read(alloc: Global, bytes: &[u8]) -> Result<Result<Script, ScriptFault>, Fail> {
+    if bytes.len() > MOST_BYTES {
+        return Err(Fail::from("too many bytes"));
+    }
     match Script::read(alloc, bytes) {
         Ok(script) => Ok(Ok(script)),
         Err(ScriptError::Fault(fault)) => Ok(Err(fault)),
@@ -32,76 +30,59 @@ fn joined(alloc: Global, parts: &[&[u8]]) -> Result<Vec<u8>, Fail> {
 }
 
 // Whether a line alone, in front of the line `stream`, asks for this.
-fn asks(rt: &impl Abort, alloc: Global, line: &[u8], want: Line) -> Result<bool, Fail> {
+fn asks(alloc: Global, line: &[u8], want: &Line) -> Result<bool, Fail> {
     let bytes = joined(alloc, &[line, b"\nstream\n"])?;
-    match read(rt, alloc, &bytes)? {
-        Ok(script) => Ok(script.lines() == [want].as_slice()),
+    match read(alloc, &bytes)? {
+        Ok(script) => Ok(script.lines() == [*want].as_slice()),
         Err(_) => Ok(false),
     }
 }
 
 // Whether a script has this fault in this line.
-fn has_fault(
-    rt: &impl Abort,
-    alloc: Global,
-    bytes: &[u8],
-    line: u32,
-    kind: FaultKind,
-) -> Result<bool, Fail> {
-    match read(rt, alloc, bytes)? {
+fn has_fault(alloc: Global, bytes: &[u8], line: u32, kind: FaultKind) -> Result<bool, Fail> {
+    match read(alloc, bytes)? {
         Ok(_) => Ok(false),
         Err(fault) => Ok(fault == ScriptFault { line, kind }),
     }
 }
 
 // Whether these bytes and a line `stream` have this fault in line 1.
-fn line_has_fault(
-    rt: &impl Abort,
-    alloc: Global,
-    line: &[&[u8]],
-    kind: FaultKind,
-) -> Result<bool, Fail> {
+fn line_has_fault(alloc: Global, line: &[&[u8]], kind: FaultKind) -> Result<bool, Fail> {
     let line = joined(alloc, line)?;
     let bytes = joined(alloc, &[&line, b"\nstream\n"])?;
-    has_fault(rt, alloc, &bytes, 1, kind)
+    has_fault(alloc, &bytes, 1, kind)
 }
 
 #[test]
 fn a_line_asks_for_what_its_words_spell(rt: HostRuntime) -> Result<(), Fail> {
-    for (line, want) in SHORT {
-        assert!(rt; asks(&rt, rt.alloc(), line, want)?, "{line:?}");
+    for (line, want) in short() {
+        assert!(rt; asks(rt.alloc(), line, want)?, "{line:?}");
     }
     Ok(())
 }
 
 #[test]
 fn a_filter_is_what_its_words_spell(rt: HostRuntime) -> Result<(), Fail> {
-    for (line, params) in SECTIONS {
-        let want = command(0, Target::Node(0), Verb::Section(params));
-        assert!(rt; asks(&rt, rt.alloc(), line, want)?, "{line:?}");
-    }
-    for (line, params) in PES {
-        let want = command(0, Target::Node(0), Verb::Pes(params));
-        assert!(rt; asks(&rt, rt.alloc(), line, want)?, "{line:?}");
+    for (line, want) in filters() {
+        assert!(rt; asks(rt.alloc(), line, want)?, "{line:?}");
     }
     Ok(())
 }
 
+// The number of the first of these lines that has not this fault, if there is one.
+fn line_without(alloc: Global, lines: &[&[u8]], kind: FaultKind) -> Result<Option<usize>, Fail> {
+    for (i, line) in lines.iter().enumerate() {
+        if !line_has_fault(alloc, &[line], kind)? {
+            return Ok(Some(i));
+        }
+    }
+    Ok(None)
+}
+
 #[test]
 fn the_first_word_out_of_place_names_the_fault(rt: HostRuntime) -> Result<(), Fail> {
-    let tables: [(&[&[u8]], FaultKind); 7] = [
-        (&CLIENT_FAULTS, FaultKind::Client),
-        (&COMMAND_FAULTS, FaultKind::Command),
-        (&TARGET_FAULTS, FaultKind::Target),
-        (&NUMBER_FAULTS, FaultKind::Number),
-        (&NAME_FAULTS, FaultKind::Name),
-        (&BYTES_FAULTS, FaultKind::Bytes),
-        (&COUNT_FAULTS, FaultKind::Count),
-    ];
-    for (lines, kind) in tables {
-        for line in lines {
-            assert!(rt; line_has_fault(&rt, rt.alloc(), &[line], kind)?, "{line:?}");
-        }
+    for (lines, kind) in line_faults() {
+        assert_eq!(rt; line_without(rt.alloc(), lines, *kind)?, None, "{kind:?}");
     }
     Ok(())
 }
@@ -111,7 +92,7 @@ fn a_seventeenth_word_for_a_place_is_one_too_many(rt: HostRuntime) -> Result<(),
     let more: [&[u8]; 4] = [b" 15=00/ff/00", b" 16=00/ff/00", b" x", b" "];
     for word in more {
         assert!(rt;
-            line_has_fault(&rt, rt.alloc(), &[SIXTEEN, word], FaultKind::Count)?,
+            line_has_fault(rt.alloc(), &[SIXTEEN, word], FaultKind::Count)?,
             "{word:?}"
         );
     }
@@ -119,7 +100,7 @@ fn a_seventeenth_word_for_a_place_is_one_too_many(rt: HostRuntime) -> Result<(),
 }
 
 // Whole scripts with a fault, its line and its kind.
-const FAULTS: [(&[u8], u32, FaultKind); 15] = [
+static FAULTS: [(&[u8], u32, FaultKind); 15] = [
     (b"c0  open n0\nstream\n", 1, FaultKind::Command),
     (
         b"c0 open n0\nc0 close n0\nc0 strat n0\nstream\n",
@@ -141,16 +122,20 @@ const FAULTS: [(&[u8], u32, FaultKind); 15] = [
     (b"\n\n\n", 4, FaultKind::NoStream),
 ];
 
+fn faults() -> &'static [(&'static [u8], u32, FaultKind)] {
+    &FAULTS
+}
+
 #[test]
 fn the_first_fault_is_named_with_its_line(rt: HostRuntime) -> Result<(), Fail> {
-    for (bytes, line, kind) in FAULTS {
-        assert!(rt; has_fault(&rt, rt.alloc(), bytes, line, kind)?, "{bytes:?}");
+    for (bytes, line, kind) in faults() {
+        assert!(rt; has_fault(rt.alloc(), bytes, *line, *kind)?, "{bytes:?}");
     }
     Ok(())
 }
 
 // Whole scripts, with their lines and how many clients they have.
-const SCRIPTS: [(&[u8], &[Line], u32); 5] = [
+static SCRIPTS: [(&[u8], &[Line], u32); 5] = [
     (b"stream\n", &[], 0),
     (b"stream\nfeed 0\n", &[], 0),
     (
@@ -197,16 +182,22 @@ const SCRIPTS: [(&[u8], &[Line], u32); 5] = [
     ),
 ];
 
+fn scripts() -> &'static [(&'static [u8], &'static [Line], u32)] {
+    &SCRIPTS
+}
+
+// Whether a script gives these lines, and has so many clients.
+fn gives(alloc: Global, bytes: &[u8], lines: &[Line], clients: u32) -> Result<bool, Fail> {
+    match read(alloc, bytes)? {
+        Ok(script) => Ok(script.lines() == lines && script.clients() == clients),
+        Err(_) => Ok(false),
+    }
+}
+
 #[test]
 fn a_script_gives_its_lines_in_their_order(rt: HostRuntime) -> Result<(), Fail> {
-    for (bytes, lines, clients) in SCRIPTS {
-        match read(&rt, rt.alloc(), bytes)? {
-            Ok(script) => {
-                assert!(rt; script.lines() == lines, "{bytes:?}");
-                assert_eq!(rt; script.clients(), clients, "{bytes:?}");
-            }
-            Err(fault) => assert!(rt; false, "{bytes:?} has {fault:?}"),
-        }
+    for (bytes, lines, clients) in scripts() {
+        assert!(rt; gives(rt.alloc(), bytes, lines, *clients)?, "{bytes:?}");
     }
     Ok(())
 }
@@ -224,15 +215,15 @@ fn repeated(alloc: Global, byte: u8, count: usize) -> Result<Vec<u8>, Fail> {
 fn the_most_bytes_without_a_script(rt: HostRuntime) -> Result<(), Fail> {
     for (byte, line) in [(b'#', 1), (b'\n', 1_048_577)] {
         let bytes = repeated(rt.alloc(), byte, MOST_BYTES)?;
-        assert!(rt; has_fault(&rt, rt.alloc(), &bytes, line, FaultKind::NoStream)?);
+        assert!(rt; has_fault(rt.alloc(), &bytes, line, FaultKind::NoStream)?);
     }
     Ok(())
 }
 
 // The bytes that `print` appends for the lines of a script.
-fn printed(rt: &impl Abort, alloc: Global, bytes: &[u8]) -> Result<Vec<u8>, Fail> {
+fn printed(alloc: Global, bytes: &[u8]) -> Result<Vec<u8>, Fail> {
     let mut out = Vec::new(alloc);
-    if let Ok(script) = read(rt, alloc, bytes)? {
+    if let Ok(script) = read(alloc, bytes)? {
         for line in script.lines() {
             print(alloc, line, &mut out)?;
         }
@@ -241,32 +232,26 @@ fn printed(rt: &impl Abort, alloc: Global, bytes: &[u8]) -> Result<Vec<u8>, Fail
 }
 
 // Whether `print` of the line read from these bytes gives these bytes, with a line feed.
-fn is_its_spelling(rt: &impl Abort, alloc: Global, line: &[u8]) -> Result<bool, Fail> {
+fn is_its_spelling(alloc: Global, line: &[u8]) -> Result<bool, Fail> {
     let bytes = joined(alloc, &[line, b"\nstream\n"])?;
     let want = joined(alloc, &[line, b"\n"])?;
-    let out = printed(rt, alloc, &bytes)?;
+    let out = printed(alloc, &bytes)?;
     Ok(out == want)
 }
 
 #[test]
 fn a_line_is_printed_as_it_was_spelled(rt: HostRuntime) -> Result<(), Fail> {
-    for (line, _) in SHORT {
-        assert!(rt; is_its_spelling(&rt, rt.alloc(), line)?, "{line:?}");
+    for (line, _) in short().iter().chain(filters()) {
+        assert!(rt; is_its_spelling(rt.alloc(), line)?, "{line:?}");
     }
-    for (line, _) in SECTIONS {
-        assert!(rt; is_its_spelling(&rt, rt.alloc(), line)?, "{line:?}");
-    }
-    for (line, _) in PES {
-        assert!(rt; is_its_spelling(&rt, rt.alloc(), line)?, "{line:?}");
-    }
-    assert!(rt; is_its_spelling(&rt, rt.alloc(), b"c0 section n0 1 0 0 3=0a/ff/00")?);
+    assert!(rt; is_its_spelling(rt.alloc(), b"c0 section n0 1 0 0 3=0a/ff/00")?);
     Ok(())
 }
 
 #[test]
 fn places_of_zeros_are_not_printed(rt: HostRuntime) -> Result<(), Fail> {
     let script = b"# a comment\nc0 section n0 1 0 0 2=00/00/00 3=0a/ff/00\n\nfeed 1\nstream\n";
-    let out = printed(&rt, rt.alloc(), script)?;
+    let out = printed(rt.alloc(), script)?;
     assert_eq!(rt;
         out.as_slice(),
         b"c0 section n0 1 0 0 3=0a/ff/00\nfeed 1\n".as_slice()
@@ -296,24 +281,26 @@ fn a_script_part_ends_when_its_line_stream_is_whole(rt: HostRuntime) -> Result<(
     ];
     for (piece, end) in pieces {
         part.add(piece)?;
-        assert_eq!(rt; part.end(), end, "{piece:?}");
+        assert!(rt; part.end() == end, "{piece:?}");
     }
     assert_eq!(rt; part.bytes(), b"feed 1\nstream\nG\nstream\n".as_slice());
     Ok(())
 }
 
+static KINDS: [(FaultKind, &str); 8] = [
+    (FaultKind::Client, "client"),
+    (FaultKind::Command, "command"),
+    (FaultKind::Target, "target"),
+    (FaultKind::Number, "number"),
+    (FaultKind::Name, "name"),
+    (FaultKind::Bytes, "bytes"),
+    (FaultKind::Count, "count"),
+    (FaultKind::NoStream, "nostream"),
+];
+
 #[test]
 fn each_kind_of_fault_has_its_name(rt: HostRuntime) {
-    for (kind, want) in [
-        (FaultKind::Client, "client"),
-        (FaultKind::Command, "command"),
-        (FaultKind::Target, "target"),
-        (FaultKind::Number, "number"),
-        (FaultKind::Name, "name"),
-        (FaultKind::Bytes, "bytes"),
-        (FaultKind::Count, "count"),
-        (FaultKind::NoStream, "nostream"),
-    ] {
-        assert_eq!(rt; kind.name(), want);
+    for (kind, want) in KINDS.iter() {
+        assert!(rt; kind.name() == *want, "{want}");
     }
 }

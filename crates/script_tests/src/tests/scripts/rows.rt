@@ -1,171 +1,63 @@
 // Lines, what they ask for, and lines with a fault, worked out by hand from the rules.
-use client_script::{Line, Target, Verb};
+use client_script::{FaultKind, Line, Target, Verb};
 use dmx_calls::{Input, Output, PesParams, SectionParams};
 use filter_match::SectionFilter;
 
 // What the first line of a script asks for, where a client makes it.
-pub const fn command(client: u32, target: Target, verb: Verb) -> Line {
-    Line::Command {
-        line: 1,
-        client,
-        target,
-        verb,
-    }
+macro_rules! command {
+    ($client:expr, $target:expr, $verb:expr $(,)?) => {
+        Line::Command {
+            line: 1,
+            client: $client,
+            target: $target,
+            verb: $verb,
+        }
+    };
 }
 
 // Lines of the feeder and the clock, and commands with one argument or none.
-pub const SHORT: [(&[u8], Line); 20] = [
+static SHORT: [(&[u8], Line); 20] = [
     (b"feed 1", Line::Feed(1)),
     (b"feed 4294967295", Line::Feed(4294967295)),
     (b"tick 0", Line::Tick(0)),
     (b"tick 4294967295", Line::Tick(4294967295)),
-    (
-        b"c0 open n0",
-        Line::Command {
-            line: 1,
-            client: 0,
-            target: Target::Node(0),
-            verb: Verb::Open,
-        },
-    ),
-    (
-        b"c1 open n31",
-        Line::Command {
-            line: 1,
-            client: 1,
-            target: Target::Node(31),
-            verb: Verb::Open,
-        },
-    ),
-    (
-        b"c2 open h0",
-        Line::Command {
-            line: 1,
-            client: 2,
-            target: Target::Slot(0),
-            verb: Verb::Open,
-        },
-    ),
-    (
-        b"c3 close h31",
-        Line::Command {
-            line: 1,
-            client: 3,
-            target: Target::Slot(31),
-            verb: Verb::Close,
-        },
-    ),
-    (
-        b"c4 close dvr",
-        Line::Command {
-            line: 1,
-            client: 4,
-            target: Target::Dvr,
-            verb: Verb::Close,
-        },
-    ),
-    (
-        b"c5 start n9",
-        Line::Command {
-            line: 1,
-            client: 5,
-            target: Target::Node(9),
-            verb: Verb::Start,
-        },
-    ),
-    (
-        b"c6 stop h10",
-        Line::Command {
-            line: 1,
-            client: 6,
-            target: Target::Slot(10),
-            verb: Verb::Stop,
-        },
-    ),
-    (
-        b"c7 poll dvr",
-        Line::Command {
-            line: 1,
-            client: 7,
-            target: Target::Dvr,
-            verb: Verb::Poll,
-        },
-    ),
-    (
-        b"c0 add n0 0",
-        Line::Command {
-            line: 1,
-            client: 0,
-            target: Target::Node(0),
-            verb: Verb::Add(0),
-        },
-    ),
+    (b"c0 open n0", command!(0, Target::Node(0), Verb::Open)),
+    (b"c1 open n31", command!(1, Target::Node(31), Verb::Open)),
+    (b"c2 open h0", command!(2, Target::Slot(0), Verb::Open)),
+    (b"c3 close h31", command!(3, Target::Slot(31), Verb::Close)),
+    (b"c4 close dvr", command!(4, Target::Dvr, Verb::Close)),
+    (b"c5 start n9", command!(5, Target::Node(9), Verb::Start)),
+    (b"c6 stop h10", command!(6, Target::Slot(10), Verb::Stop)),
+    (b"c7 poll dvr", command!(7, Target::Dvr, Verb::Poll)),
+    (b"c0 add n0 0", command!(0, Target::Node(0), Verb::Add(0))),
     (
         b"c0 add n0 65535",
-        Line::Command {
-            line: 1,
-            client: 0,
-            target: Target::Node(0),
-            verb: Verb::Add(65535),
-        },
+        command!(0, Target::Node(0), Verb::Add(65535)),
     ),
     (
         b"c0 remove n0 8192",
-        Line::Command {
-            line: 1,
-            client: 0,
-            target: Target::Node(0),
-            verb: Verb::Remove(8192),
-        },
+        command!(0, Target::Node(0), Verb::Remove(8192)),
     ),
     (
         b"c0 size n0 4294967295",
-        Line::Command {
-            line: 1,
-            client: 0,
-            target: Target::Node(0),
-            verb: Verb::Size(4294967295),
-        },
+        command!(0, Target::Node(0), Verb::Size(4294967295)),
     ),
-    (
-        b"c0 read n0 0",
-        Line::Command {
-            line: 1,
-            client: 0,
-            target: Target::Node(0),
-            verb: Verb::Read(0),
-        },
-    ),
+    (b"c0 read n0 0", command!(0, Target::Node(0), Verb::Read(0))),
     (
         b"c0 read n0 65536",
-        Line::Command {
-            line: 1,
-            client: 0,
-            target: Target::Node(0),
-            verb: Verb::Read(65536),
-        },
+        command!(0, Target::Node(0), Verb::Read(65536)),
     ),
     (
         b"c0 readw h1 65536",
-        Line::Command {
-            line: 1,
-            client: 0,
-            target: Target::Slot(1),
-            verb: Verb::ReadWait(65536),
-        },
+        command!(0, Target::Slot(1), Verb::ReadWait(65536)),
     ),
     (
         b"c0 drain dvr 4096",
-        Line::Command {
-            line: 1,
-            client: 0,
-            target: Target::Dvr,
-            verb: Verb::Drain(4096),
-        },
+        command!(0, Target::Dvr, Verb::Drain(4096)),
     ),
 ];
 
-pub const CLIENT_FAULTS: [&[u8]; 12] = [
+const CLIENT_FAULTS: [&[u8]; 12] = [
     b" ",
     b"c8 open n0",
     b"c open n0",
@@ -180,7 +72,7 @@ pub const CLIENT_FAULTS: [&[u8]; 12] = [
     b"c8 strat n32",
 ];
 
-pub const COMMAND_FAULTS: [&[u8]; 7] = [
+const COMMAND_FAULTS: [&[u8]; 7] = [
     b"c0  open n0",
     b"c0 strat n0",
     b"c0 Open n0",
@@ -190,7 +82,7 @@ pub const COMMAND_FAULTS: [&[u8]; 7] = [
     b"c0 strat n32 x",
 ];
 
-pub const TARGET_FAULTS: [&[u8]; 9] = [
+const TARGET_FAULTS: [&[u8]; 9] = [
     b"c0 open n32",
     b"c0 open h32",
     b"c0 open n",
@@ -202,7 +94,7 @@ pub const TARGET_FAULTS: [&[u8]; 9] = [
     b"c0 open n32 x",
 ];
 
-pub const NUMBER_FAULTS: [&[u8]; 21] = [
+const NUMBER_FAULTS: [&[u8]; 21] = [
     b"feed 0",
     b"feed 4294967296",
     b"feed 01",
@@ -226,7 +118,7 @@ pub const NUMBER_FAULTS: [&[u8]; 21] = [
     b"c0 read n0 18446744073709551616",
 ];
 
-pub const NAME_FAULTS: [&[u8]; 5] = [
+const NAME_FAULTS: [&[u8]; 5] = [
     b"c0 pes n0 1 front tap 0 0",
     b"c0 pes n0 1 dvr taps 0 0",
     b"c0 pes n0 1 tap dvr 0 0",
@@ -234,7 +126,7 @@ pub const NAME_FAULTS: [&[u8]; 5] = [
     b"c0 pes n0 1 Dvr tap x",
 ];
 
-pub const BYTES_FAULTS: [&[u8]; 13] = [
+const BYTES_FAULTS: [&[u8]; 13] = [
     b"c0 section n0 1 0 0 3=00/ff/00 3=00/ff/00",
     b"c0 section n0 1 0 0 4=00/ff/00 3=00/ff/00",
     b"c0 section n0 1 0 0 16=00/ff/00",
@@ -250,7 +142,7 @@ pub const BYTES_FAULTS: [&[u8]; 13] = [
     b"c0 section n0 1 0 0 15=00/ff/00 x",
 ];
 
-pub const COUNT_FAULTS: [&[u8]; 23] = [
+const COUNT_FAULTS: [&[u8]; 23] = [
     b"feed",
     b"tick",
     b"feed 1 1",
@@ -276,92 +168,142 @@ pub const COUNT_FAULTS: [&[u8]; 23] = [
     b"c0 pes n0 1 frontend tap 1 0 0",
 ];
 
-// Section filters: the words behind the target, and what they set.
-pub const SECTIONS: [(&[u8], SectionParams); 3] = [
+// Filters: the line, and what it asks for.
+static FILTERS: [(&[u8], Line); 7] = [
+    // section filters
     (
         b"c0 section n0 0 0 0",
-        SectionParams {
-            pid: 0,
-            filter: SectionFilter {
-                filter: [0; 16],
-                mask: [0; 16],
-                mode: [0; 16],
-            },
-            timeout: 0,
-            flags: 0,
-        },
+        command!(
+            0,
+            Target::Node(0),
+            Verb::Section(SectionParams {
+                pid: 0,
+                filter: SectionFilter {
+                    filter: [0; 16],
+                    mask: [0; 16],
+                    mode: [0; 16],
+                },
+                timeout: 0,
+                flags: 0,
+            }),
+        ),
     ),
     (
         b"c0 section n0 65535 4294967295 7 0=42/ff/00 15=0a/f0/9e",
-        SectionParams {
-            pid: 65535,
-            filter: SectionFilter {
-                filter: [0x42, 0, 0, 0, 0, 0, 0, 0, 0, 0, 0, 0, 0, 0, 0, 0x0a],
-                mask: [0xff, 0, 0, 0, 0, 0, 0, 0, 0, 0, 0, 0, 0, 0, 0, 0xf0],
-                mode: [0, 0, 0, 0, 0, 0, 0, 0, 0, 0, 0, 0, 0, 0, 0, 0x9e],
-            },
-            timeout: 4294967295,
-            flags: 7,
-        },
+        command!(
+            0,
+            Target::Node(0),
+            Verb::Section(SectionParams {
+                pid: 65535,
+                filter: SectionFilter {
+                    filter: [0x42, 0, 0, 0, 0, 0, 0, 0, 0, 0, 0, 0, 0, 0, 0, 0x0a],
+                    mask: [0xff, 0, 0, 0, 0, 0, 0, 0, 0, 0, 0, 0, 0, 0, 0, 0xf0],
+                    mode: [0, 0, 0, 0, 0, 0, 0, 0, 0, 0, 0, 0, 0, 0, 0, 0x9e],
+                },
+                timeout: 4294967295,
+                flags: 7,
+            }),
+        ),
     ),
     (
         b"c0 section n0 1 2 3 0=00/01/00 1=01/01/00 2=02/01/00 3=03/01/00 4=04/01/00 5=05/01/00 6=06/01/00 7=07/01/00 8=08/01/00 9=09/01/00 10=0a/01/00 11=0b/01/00 12=0c/01/00 13=0d/01/00 14=0e/01/00 15=0f/01/00",
-        SectionParams {
-            pid: 1,
-            filter: SectionFilter {
-                filter: [0, 1, 2, 3, 4, 5, 6, 7, 8, 9, 10, 11, 12, 13, 14, 15],
-                mask: [1; 16],
-                mode: [0; 16],
-            },
-            timeout: 2,
-            flags: 3,
-        },
+        command!(
+            0,
+            Target::Node(0),
+            Verb::Section(SectionParams {
+                pid: 1,
+                filter: SectionFilter {
+                    filter: [0, 1, 2, 3, 4, 5, 6, 7, 8, 9, 10, 11, 12, 13, 14, 15],
+                    mask: [1; 16],
+                    mode: [0; 16],
+                },
+                timeout: 2,
+                flags: 3,
+            }),
+        ),
     ),
-];
-
-// PES filters: the words behind the target, and what they set.
-pub const PES: [(&[u8], PesParams); 4] = [
+    // PES filters
     (
         b"c0 pes n0 256 frontend tap 1 4",
-        PesParams {
-            pid: 256,
-            input: Input::Frontend,
-            output: Output::Tap,
-            pes_type: 1,
-            flags: 4,
-        },
+        command!(
+            0,
+            Target::Node(0),
+            Verb::Pes(PesParams {
+                pid: 256,
+                input: Input::Frontend,
+                output: Output::Tap,
+                pes_type: 1,
+                flags: 4,
+            }),
+        ),
     ),
     (
         b"c0 pes n0 8192 dvr ts_tap 20 0",
-        PesParams {
-            pid: 8192,
-            input: Input::Dvr,
-            output: Output::TsTap,
-            pes_type: 20,
-            flags: 0,
-        },
+        command!(
+            0,
+            Target::Node(0),
+            Verb::Pes(PesParams {
+                pid: 8192,
+                input: Input::Dvr,
+                output: Output::TsTap,
+                pes_type: 20,
+                flags: 0,
+            }),
+        ),
     ),
     (
         b"c0 pes n0 0 frontend tsdemux_tap 4294967295 4294967295",
-        PesParams {
-            pid: 0,
-            input: Input::Frontend,
-            output: Output::TsdemuxTap,
-            pes_type: 4294967295,
-            flags: 4294967295,
-        },
+        command!(
+            0,
+            Target::Node(0),
+            Verb::Pes(PesParams {
+                pid: 0,
+                input: Input::Frontend,
+                output: Output::TsdemuxTap,
+                pes_type: 4294967295,
+                flags: 4294967295,
+            }),
+        ),
     ),
     (
         b"c0 pes n0 65535 frontend decoder 0 0",
-        PesParams {
-            pid: 65535,
-            input: Input::Frontend,
-            output: Output::Decoder,
-            pes_type: 0,
-            flags: 0,
-        },
+        command!(
+            0,
+            Target::Node(0),
+            Verb::Pes(PesParams {
+                pid: 65535,
+                input: Input::Frontend,
+                output: Output::Decoder,
+                pes_type: 0,
+                flags: 0,
+            }),
+        ),
     ),
 ];
+
+// Tables as slices: what stands in them is nothing to the tests that go over them.
+pub fn short() -> &'static [(&'static [u8], Line)] {
+    &SHORT
+}
+
+pub fn filters() -> &'static [(&'static [u8], Line)] {
+    &FILTERS
+}
+
+// Lines with a fault, kind by kind.
+static LINE_FAULTS: [(&[&[u8]], FaultKind); 7] = [
+    (&CLIENT_FAULTS, FaultKind::Client),
+    (&COMMAND_FAULTS, FaultKind::Command),
+    (&TARGET_FAULTS, FaultKind::Target),
+    (&NUMBER_FAULTS, FaultKind::Number),
+    (&NAME_FAULTS, FaultKind::Name),
+    (&BYTES_FAULTS, FaultKind::Bytes),
+    (&COUNT_FAULTS, FaultKind::Count),
+];
+
+pub fn line_faults() -> &'static [(&'static [&'static [u8]], FaultKind)] {
+    &LINE_FAULTS
+}
 
 // Sixteen words for the places of a filter.
 pub const SIXTEEN: &[u8] =
