@@ -1,46 +1,88 @@
 // Words that are taken and words that are refused, by the rules.
 use crate::{Command, read_words};
-use std::alloc::Global;
-use std::test::Fail;
+use std::alloc::{AllocError as NoMemory, Global};
 
 // What these words mean.
-fn told(alloc: Global, words: &[&str]) -> Result<Option<Command>, Fail> {
+fn told(alloc: Global, words: &[&str]) -> Result<Option<Command>, NoMemory> {
     let mut texts = Vec::new(alloc);
     for word in words {
         texts.push(String::from_str(alloc, word)?)?;
     }
-    Ok(read_words(alloc, &texts)?)
+    read_words(alloc, &texts)
 }
 
+const MOST: u64 = 18446744073709551615;
+
+static TAKEN: [(&[&str], Command); 18] = [
+    (&["steps"], Command::Steps { batch: 64 }),
+    (&["steps", "--batch", "1"], Command::Steps { batch: 1 }),
+    (&["steps", "--batch", "64"], Command::Steps { batch: 64 }),
+    (&["steps", "--batch=64"], Command::Steps { batch: 64 }),
+    (&["steps", "--batch=7"], Command::Steps { batch: 7 }),
+    (&["run"], Command::Run { batch: 64 }),
+    (&["run", "--batch", "1"], Command::Run { batch: 1 }),
+    (&["run", "--batch=64"], Command::Run { batch: 64 }),
+    (&["make", "0"], Command::Make { number: 0 }),
+    (&["make", "7"], Command::Make { number: 7 }),
+    (
+        &["make", "18446744073709551615"],
+        Command::Make { number: MOST },
+    ),
+    (
+        &["selftest", "7"],
+        Command::SelfTest {
+            number: 7,
+            batch: 64,
+        },
+    ),
+    (
+        &["selftest", "18446744073709551615"],
+        Command::SelfTest {
+            number: MOST,
+            batch: 64,
+        },
+    ),
+    (
+        &["selftest", "7", "--batch", "2"],
+        Command::SelfTest {
+            number: 7,
+            batch: 2,
+        },
+    ),
+    (
+        &["selftest", "--batch", "2", "7"],
+        Command::SelfTest {
+            number: 7,
+            batch: 2,
+        },
+    ),
+    (
+        &["selftest", "7", "--batch=2"],
+        Command::SelfTest {
+            number: 7,
+            batch: 2,
+        },
+    ),
+    (
+        &["selftest", "--batch=2", "7"],
+        Command::SelfTest {
+            number: 7,
+            batch: 2,
+        },
+    ),
+    (
+        &["selftest", "1", "--batch", "1"],
+        Command::SelfTest {
+            number: 1,
+            batch: 1,
+        },
+    ),
+];
+
 #[test]
-fn words_are_taken(rt: HostRuntime) -> Result<(), Fail> {
-    const MOST: u64 = 18446744073709551615;
-    let steps = |batch| Command::Steps { batch };
-    let run = |batch| Command::Run { batch };
-    let make = |number| Command::Make { number };
-    let self_test = |number, batch| Command::SelfTest { number, batch };
-    let cases: [(&[&str], Command); 18] = [
-        (&["steps"], steps(64)),
-        (&["steps", "--batch", "1"], steps(1)),
-        (&["steps", "--batch", "64"], steps(64)),
-        (&["steps", "--batch=64"], steps(64)),
-        (&["steps", "--batch=7"], steps(7)),
-        (&["run"], run(64)),
-        (&["run", "--batch", "1"], run(1)),
-        (&["run", "--batch=64"], run(64)),
-        (&["make", "0"], make(0)),
-        (&["make", "7"], make(7)),
-        (&["make", "18446744073709551615"], make(MOST)),
-        (&["selftest", "7"], self_test(7, 64)),
-        (&["selftest", "18446744073709551615"], self_test(MOST, 64)),
-        (&["selftest", "7", "--batch", "2"], self_test(7, 2)),
-        (&["selftest", "--batch", "2", "7"], self_test(7, 2)),
-        (&["selftest", "7", "--batch=2"], self_test(7, 2)),
-        (&["selftest", "--batch=2", "7"], self_test(7, 2)),
-        (&["selftest", "1", "--batch", "1"], self_test(1, 1)),
-    ];
-    for (words, want) in cases {
-        assert_eq!(rt; told(rt.alloc(), words)?, Some(want), "{words:?}");
+fn words_are_taken(rt: HostRuntime) -> Result<(), NoMemory> {
+    for (words, want) in TAKEN.iter() {
+        assert!(rt; told(rt.alloc(), words)? == Some(*want), "{words:?}");
     }
     Ok(())
 }
@@ -101,9 +143,9 @@ static REFUSED: [&[&str]; 52] = [
 ];
 
 #[test]
-fn words_are_refused(rt: HostRuntime) -> Result<(), Fail> {
+fn words_are_refused(rt: HostRuntime) -> Result<(), NoMemory> {
     for words in REFUSED.iter() {
-        assert_eq!(rt; told(rt.alloc(), words)?, None, "{words:?}");
+        assert!(rt; told(rt.alloc(), words)?.is_none(), "{words:?}");
     }
     Ok(())
 }

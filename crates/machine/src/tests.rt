@@ -27,10 +27,15 @@ fn call_adder(adder: &mut Adder) -> (u64, u64)
     call_twice::<Adder, Brand>(adder, 7, 255, Blank::new(1))
 }
 
+// Whether an adder has this sum, of so many calls.
+fn has_come_to(adder: &Adder, sum: u64, made: u64) -> bool {
+    adder.sum() == sum && adder.made() == made
+}
+
 #[test]
 fn an_adder_adds(rt: HostRuntime) {
     let mut adder = Adder::new();
-    assert!(rt; adder.sum() == 0 && adder.made() == 0);
+    assert!(rt; has_come_to(&adder, 0, 0));
     assert!(rt; call_adder(&mut adder) == (7, 262));
-    assert!(rt; adder.sum() == 262 && adder.made() == 2);
+    assert!(rt; has_come_to(&adder, 262, 2));
 }

@@ -1,12 +1,12 @@
 //! A try beside a call that is held inside the machine.
-ghost use Rattle.std.specs.Prelude.{◌≡◌, ℕ, ◌+◌, ◌<◌, ◌≤◌, ◌^◌};
+ghost use Rattle.std.specs.Prelude.{◌≡◌, ℕ, ◌+◌, ◌<◌, ◌≤◌, ◌^◌, IfOk};
 ghost use Rattle.node_lock.specs.Passes.{IsFresh};
 
 use crate::lock::{Held, NodeLock};
 use crate::pass::Pass;
-use crate::tests::pair;
+use crate::tests::lock_of_two;
 use machine::Machine;
-use std::alloc::Global;
+use std::alloc::{AllocError as NoMemory, Global};
 use std::marker::Brand;
 use std::sync::atomic::AtomicU64;
 use std::sync::atomic::Ordering::SeqCst;
@@ -72,6 +72,22 @@ impl Machine for Gated {
     ghost names = { λ who call answer. refl };
 
     ghost counts = { λ m h is. is };
+}
+
+// A machine of no calls yet, and its two flags.
+fn shut_gate(
+    alloc: Global,
+) -> Result<(Gated, Arc<AtomicU64, Global>, Arc<AtomicU64, Global>), NoMemory>
+    ensures { IfOk result (λ r. r.0.made ≡ 0) }
+{
+    let entered = Arc::new(alloc, AtomicU64::new(0))?;
+    let go = Arc::new(alloc, AtomicU64::new(0))?;
+    let machine = Gated {
+        made: 0,
+        entered: Arc::try_clone(&entered)?,
+        go: Arc::try_clone(&go)?,
+    };
+    Ok((machine, entered, go))
 }
 
 fn hold(entered: &AtomicU64, go: &AtomicU64) {
@@ -169,25 +185,21 @@ fn beside<R: Threads + Wait + Sync>(
     held
 }
 
+// Whether the call is handed back as it was, with both numbers.
+const fn is_handed_back(call: &Call, held: &Held) -> bool {
+    matches!(call, Call::Count(7)) && held.served == 4 && held.tickets == 5
+}
+
 #[test]
-fn a_try_beside_a_held_call_tells_both_numbers_and_hands_its_call_back(
-    rt: HostRuntime,
-) -> Result<(), Fail> {
-    let entered = Arc::new(rt.alloc(), AtomicU64::new(0))?;
-    let go = Arc::new(rt.alloc(), AtomicU64::new(0))?;
-    let machine = Gated {
-        made: 0,
-        entered: Arc::try_clone(&entered)?,
-        go: Arc::try_clone(&go)?,
-    };
-    let Ok((lock, passes)) = NodeLock::new(rt.alloc(), machine, 2) else {
+fn a_try_beside_a_held_call_tells_both_numbers_and_hands_its_call_back(rt: HostRuntime) {
+    let Ok((machine, entered, go)) = shut_gate(rt.alloc()) else {
         panic!(rt; "no memory");
     };
-    let (one, two) = pair(&lock, passes);
+    let Some((lock, one, two)) = lock_of_two(rt.alloc(), machine) else {
+        panic!(rt; "no memory");
+    };
     let Some((call, held)) = beside(&rt, &lock, one, two, &entered, &go) else {
         panic!(rt; "the call was made");
     };
-    assert!(rt; matches!(call, Call::Count(7)));
-    assert!(rt; held.served == 4 && held.tickets == 5);
-    Ok(())
+    assert!(rt; is_handed_back(&call, &held));
 }

@@ -95,18 +95,20 @@ fn eight<R: Threads + Wait + Sync>(
     add_nothing::<Brand, R>(rt, lock, &mut passes[0], Blank::new(1))
 }
 
+// Whether both are this number.
+const fn are_both(want: u64, one: u64, other: u64) -> bool {
+    one == want && other == want
+}
+
 #[test]
-fn eight_threads_on_one_lock_are_answered_their_place_plus_one(
-    rt: HostRuntime,
-) -> Result<(), Fail> {
+fn eight_threads_on_one_lock_are_answered_their_place_plus_one(rt: HostRuntime) {
     let Ok((lock, mut passes)) = NodeLock::new(rt.alloc(), Adder::new(), 8) else {
         panic!(rt; "no memory");
     };
     let right = AtomicU64::new(0);
     let (place, sum) = eight(&rt, &lock, &mut passes, &right);
-    assert_eq!(rt; right.load(SeqCst), 800);
-    assert!(rt; place == 800 && sum == 800);
-    Ok(())
+    assert!(rt; right.load(SeqCst) == 800);
+    assert!(rt; are_both(800, place, sum));
 }
 
 // A call with a pass of the lock, that adds 1.
@@ -161,15 +163,22 @@ fn join_all_by_parity<R: Wait>(
     join_by_parity::<Brand, R>(rt, lock, passes, Blank::new(1))
 }
 
+// The first place whose pass has another number.
+fn first_out_of_place(passes: &[Pass<Adder>]) -> Option<usize> {
+    for (number, pass) in passes.iter().enumerate() {
+        if pass.who() as usize != number {
+            return Some(number);
+        }
+    }
+    None
+}
+
 #[test]
-fn passes_joined_in_an_odd_order_have_every_call(rt: HostRuntime) -> Result<(), Fail> {
+fn passes_joined_in_an_odd_order_have_every_call(rt: HostRuntime) {
     let Ok((lock, passes)) = NodeLock::new(rt.alloc(), Adder::new(), 64) else {
         panic!(rt; "no memory");
     };
-    for (number, pass) in passes.iter().enumerate() {
-        assert_eq!(rt; pass.who() as usize, number);
-    }
+    assert_eq!(rt; first_out_of_place(&passes), None);
     let (adder, len) = join_all_by_parity(&rt, lock, passes);
-    assert!(rt; adder.sum() == 64 && len == 64);
-    Ok(())
+    assert!(rt; are_both(64, adder.sum(), len));
 }

@@ -1,5 +1,5 @@
 //! Calls of one thread and of two, on a machine that adds.
-ghost use Rattle.std.specs.Prelude.{◌≡◌, ◌<◌, ◌≤◌, IfOk, vec_len};
+ghost use Rattle.std.specs.Prelude.{◌≡◌, [], ◌<◌, ◌≤◌, IfOk, IfSome, vec_len};
 ghost use Rattle.node_lock.specs.Passes.{IsFresh, AreFresh};
 
 use crate::lock::{Held, NodeLock};
@@ -92,26 +92,56 @@ pub(crate) fn pair<M: Machine>(lock: &NodeLock<M>, mut passes: Vec<Pass<M>>) -> 
     (one, two)
 }
 
-#[test]
-fn two_threads_make_a_thousand_calls_each(rt: HostRuntime) -> Result<(), Fail> {
-    let Ok((lock, passes)) = NodeLock::new(rt.alloc(), Adder::new(), 2) else {
-        panic!(rt; "no memory");
+// A lock of two callers round a machine, and their passes.
+pub(crate) fn lock_of_two<M: Machine + Drop>(
+    alloc: Global,
+    machine: M,
+) -> Option<(NodeLock<M>, Pass<M>, Pass<M>)>
+    requires { M.stands_for machine [] }
+    ensures { IfSome result (λ r. IsFresh r.0 2 0 r.1 × IsFresh r.0 2 1 r.2) }
+{
+    let Ok((lock, passes)) = NodeLock::new(alloc, machine, 2) else {
+        return None;
     };
     let (one, two) = pair(&lock, passes);
-    let Ok((adder, first, second)) = both(&rt, rt.alloc(), lock, one, two) else {
-        panic!(rt; "no memory");
+    Some((lock, one, two))
+}
+
+// Whether these calls have the places 0 to 1999, and each the answer of its place plus one.
+fn have_each_place(calls: &[(u64, u64)]) -> bool {
+    for (i, call) in calls.iter().enumerate() {
+        if call.0 != i as u64 || call.1 != i as u64 + 1 {
+            return false;
+        }
+    }
+    calls.len() == 2000
+}
+
+// The calls of both, in the order of their places.
+fn in_order(
+    mut first: Vec<(u64, u64)>,
+    second: &[(u64, u64)],
+) -> Result<Vec<(u64, u64)>, NoMemory> {
+    first.extend_from_slice(second)?;
+    first.sort()?;
+    Ok(first)
+}
+
+// Whether two threads make two thousand calls, each with the answer of its place; none where memory is wanting.
+fn are_beside<R: Threads + Wait + Sync>(rt: &R, alloc: Global) -> Option<bool> {
+    let (lock, one, two) = lock_of_two(alloc, Adder::new())?;
+    let Ok((adder, first, second)) = both(rt, alloc, lock, one, two) else {
+        return None;
     };
-    let mut all = first;
-    for call in second {
-        all.push(call)?;
+    match in_order(first, &second) {
+        Ok(all) => Some(have_each_place(&all) && adder.sum() == 2000),
+        Err(_) => None,
     }
-    all.sort()?;
-    assert_eq!(rt; all.len(), 2000);
-    for (i, call) in all.iter().enumerate() {
-        assert!(rt; call.0 == i as u64 && call.1 == i as u64 + 1);
-    }
-    assert_eq!(rt; adder.sum(), 2000);
-    Ok(())
+}
+
+#[test]
+fn two_threads_make_a_thousand_calls_each(rt: HostRuntime) {
+    assert!(rt; are_beside(&rt, rt.alloc()) == Some(true));
 }
 
 // Three calls, and what `len` answers then.
@@ -139,17 +169,22 @@ fn three_there<R: Wait>(rt: &R, lock: &NodeLock<Adder>, pass: &mut Pass<Adder>) 
     three::<Brand, R>(rt, lock, pass, Blank::new(1))
 }
 
+// Whether a pass is the caller's of this number, and so many calls may be made with it.
+fn is_right_of(pass: &Pass<Adder>, who: u32, left: u64) -> bool {
+    pass.who() == who && pass.left() == left
+}
+
+// Whether three calls of the first caller have the first places; none where memory is wanting.
+fn are_first<R: Wait>(rt: &R, alloc: Global) -> Option<bool> {
+    let (lock, mut one, two) = lock_of_two(alloc, Adder::new())?;
+    let (places, len) = three_there(rt, &lock, &mut one);
+    let passes = is_right_of(&one, 0, (1 << 44) - 3) && is_right_of(&two, 1, 1 << 44);
+    Some(passes && places == [0, 1, 2] && len == 3)
+}
+
 #[test]
-fn three_calls_have_the_first_places(rt: HostRuntime) -> Result<(), Fail> {
-    let Ok((lock, passes)) = NodeLock::new(rt.alloc(), Adder::new(), 2) else {
-        panic!(rt; "no memory");
-    };
-    let (mut one, two) = pair(&lock, passes);
-    let (places, len) = three_there(&rt, &lock, &mut one);
-    assert!(rt; places == [0, 1, 2] && len == 3);
-    assert!(rt; one.who() == 0 && one.left() == (1 << 44) - 3);
-    assert!(rt; two.who() == 1 && two.left() == 1 << 44);
-    Ok(())
+fn three_calls_have_the_first_places(rt: HostRuntime) {
+    assert!(rt; are_first(&rt, rt.alloc()) == Some(true));
 }
 
 // The place of a call that is tried.
@@ -173,11 +208,9 @@ fn try_there(lock: &NodeLock<Adder>, pass: &mut Pass<Adder>) -> Option<u64>
 }
 
 #[test]
-fn a_try_where_no_ticket_is_out_makes_the_call(rt: HostRuntime) -> Result<(), Fail> {
-    let Ok((lock, passes)) = NodeLock::new(rt.alloc(), Adder::new(), 2) else {
+fn a_try_where_no_ticket_is_out_makes_the_call(rt: HostRuntime) {
+    let Some((lock, mut one, _two)) = lock_of_two(rt.alloc(), Adder::new()) else {
         panic!(rt; "no memory");
     };
-    let (mut one, _two) = pair(&lock, passes);
-    assert_eq!(rt; try_there(&lock, &mut one), Some(0));
-    Ok(())
+    assert!(rt; try_there(&lock, &mut one) == Some(0));
 }

@@ -21,7 +21,6 @@ fn bytes_of_two() -> usize {
 }
 
 #[test]
-fn a_counter_takes_no_bytes(rt: HostRuntime) -> Result<(), Fail> {
-    assert_eq!(rt; bytes_of_two(), 0);
-    Ok(())
+fn a_counter_takes_no_bytes(rt: HostRuntime) {
+    assert!(rt; bytes_of_two() == 0);
 }
