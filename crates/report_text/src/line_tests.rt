@@ -106,11 +106,10 @@ fn line(alloc: Global, place: u64, who: u32, act: Act, reply: Reply) -> Result<V
     Ok(out)
 }
 
-#[test]
-fn each_call_has_its_text(rt: HostRuntime) -> Result<(), Fail> {
-    let alloc = rt.alloc();
+// Calls and their texts.
+fn calls() -> [(Act, &'static str); 20] {
     let most = 18_446_744_073_709_551_615;
-    let cases: [(Act, &str); 20] = [
+    [
         (Act::Open, "open"),
         (Act::Close, "close"),
         (
@@ -152,18 +151,26 @@ fn each_call_has_its_text(rt: HostRuntime) -> Result<(), Fail> {
         (attach(&[512, 0, 8192]), "attach node=31 pids=0,512,8192"),
         (attach(&[]), "attach node=31 pids=-"),
         (Act::Detach { node: 7 }, "detach node=7"),
-    ];
-    for (act, want) in cases {
-        let text = line(alloc, 2, 8, act, Reply::Passed)?;
-        let whole = format!(in alloc; "2 c7 12 {want} = passed\n")?;
-        assert_eq!(rt; text.as_slice(), whole.as_bytes());
+    ]
+}
+
+// Whether this call is told so.
+fn is_call_told(alloc: Global, act: Act, want: &str) -> Result<bool, Fail> {
+    let text = line(alloc, 2, 8, act, Reply::Passed)?;
+    let whole = format!(in alloc; "2 c7 12 {want} = passed\n")?;
+    Ok(text.as_slice() == whole.as_bytes())
+}
+
+#[test]
+fn each_call_has_its_text(rt: HostRuntime) -> Result<(), Fail> {
+    for (act, want) in calls() {
+        assert!(rt; is_call_told(rt.alloc(), act, want)?, "{want}");
     }
     Ok(())
 }
 
-#[test]
-fn each_reply_has_its_text(rt: HostRuntime) -> Result<(), Fail> {
-    let alloc = rt.alloc();
+// Replies and their texts.
+fn replies(alloc: Global) -> Result<[(Reply, &'static str); 20], Fail> {
     let lost = Reply::Overflow {
         from: 0,
         to: 564,
@@ -176,7 +183,7 @@ fn each_reply_has_its_text(rt: HostRuntime) -> Result<(), Fail> {
         now: 111,
         timeout: 100,
     };
-    let cases: [(Reply, &str); 20] = [
+    Ok([
         (done(0, 0, Tap::Keep), "done drop=0..0 tap=keep"),
         (done(376, 564, Tap::Detach), "done drop=376..564 tap=detach"),
         (
@@ -212,11 +219,20 @@ fn each_reply_has_its_text(rt: HostRuntime) -> Result<(), Fail> {
             "ready readable=1 error=timedout at=0 ended=0",
         ),
         (Reply::Passed, "passed"),
-    ];
-    for (reply, want) in cases {
-        let text = line(alloc, 6, 0, Act::Stop, reply)?;
-        let whole = format!(in alloc; "6 feed 12 stop = {want}\n")?;
-        assert_eq!(rt; text.as_slice(), whole.as_bytes());
+    ])
+}
+
+// Whether this reply is told so.
+fn is_reply_told(alloc: Global, reply: Reply, want: &str) -> Result<bool, Fail> {
+    let text = line(alloc, 6, 0, Act::Stop, reply)?;
+    let whole = format!(in alloc; "6 feed 12 stop = {want}\n")?;
+    Ok(text.as_slice() == whole.as_bytes())
+}
+
+#[test]
+fn each_reply_has_its_text(rt: HostRuntime) -> Result<(), Fail> {
+    for (reply, want) in replies(rt.alloc())? {
+        assert!(rt; is_reply_told(rt.alloc(), reply, want)?, "{want}");
     }
     Ok(())
 }
