@@ -139,7 +139,10 @@ fn drops_three(alloc: Global, ring: &mut Ring, size: u32, item: &[u8; 3]) -> Res
 fn another_size_drops_what_is_unread(rt: HostRuntime) -> Result<(), NoMemory> {
     let mut ring = Ring::new(rt.alloc(), 8)?;
     for (size, item) in [(4, [1, 2, 3]), (4, [4, 5, 6]), (100, [7, 8, 9])] {
-        assert!(rt; drops_three(rt.alloc(), &mut ring, size, &item)?, "{item:?}");
+        assert!(rt;
+            drops_three(rt.alloc(), &mut ring, size, &item)?,
+            "{item:?}"
+        );
     }
     Ok(())
 }

@@ -63,7 +63,11 @@ fn bytes_are_written_in_lower_case(rt: HostRuntime) -> Result<(), Fail> {
 
 #[test]
 fn digits_in_upper_case_are_none(rt: HostRuntime) {
-    let bytes = [hex_byte(b'a', b'0'), hex_byte(b'A', b'0'), hex_byte(b'0', b'g')];
+    let bytes = [
+        hex_byte(b'a', b'0'),
+        hex_byte(b'A', b'0'),
+        hex_byte(b'0', b'g'),
+    ];
     assert_eq!(rt; bytes, [Some(0xa0), None, None]);
 }
 
