@@ -1,4 +1,4 @@
-use Rattle.node_core.proofs.tenure.Tenure.act.Goals as goal
+use Rattle.node_core.proofs.tenure.Tenure.make.Goals as goal
 
 pub returns-in-SetFilter-clause-does : goal.returns-in-SetFilter-clause-does
 returns-in-SetFilter-clause-does c = rw (c.in-SetFilter.is, c.plain.ensures) (c.set_filter.ensures.does c.args.ended)
