@@ -1,5 +1,5 @@
 use Rattle.std.proofs.Common.{◌≡◌, length}
-use Rattle.report_text.proofs.tests.histories.Given as goal
+use Rattle.text_tests.proofs.tests.reports.nodes_of.Given as goal
 
 abbrev pub invariant-loop : goal.invariant-loop
 invariant-loop l = record {
