@@ -5,7 +5,7 @@ use Rattle.feed_pull.specs.declared.fault.Reading.{Reading}
 use Rattle.feed_pull.specs.declared.fault.Reading.TheVariants.{Going, Ended, Failed, TooMany}
 use Rattle.feed_pull.specs.Pulling.{fault_of}
 use Rattle.feed_pull.proofs.PullLemmas.{Follows-then}
-use Rattle.feed_pull.proofs.tests.count_all.Goals as goal
+use Rattle.stream_tests.proofs.tests.pulling.count_all.Goals as goal
 
 ended-without_fault : (r : Reading) → r ≢ Going → fault_of r ≡ None → r ≡ Ended
 ended-without_fault Going h e = absurd (h refl)

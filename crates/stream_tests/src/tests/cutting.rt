@@ -1,8 +1,8 @@
-ghost use Rattle.std.specs.Prelude.{◌≡◌, ◌+◌, ◌^◌, ◌<◌, ◌≤◌, length};
+// Packets written by hand: their fields, and the cutting of a stream into them.
 
-use super::*;
-use std::alloc::{AllocError, Global};
-use std::test::*;
+use super::{NoMemory, Part, bytes_of};
+use std::alloc::Global;
+use ts_packet::{Cutter, PACKET_LEN, Packet, PacketBuf, Tally, cutting_law};
 
 // A header, and the fields that ISO/IEC 13818-1, 2.4.3, gives a packet with it.
 struct Row {
@@ -14,15 +14,6 @@ struct Row {
     counter: u8,
     discontinuity: bool,
     payload_at: Option<usize>,
-}
-
-// The packet that begins with these bytes; its byte i is i from the sixth on.
-fn packet_of(header: [u8; 6]) -> Option<Packet> {
-    let mut bytes = [0; PACKET_LEN];
-    for (i, byte) in bytes.iter_mut().enumerate() {
-        *byte = if i < 6 { header[i] } else { i as u8 };
-    }
-    Packet::of(bytes)
 }
 
 static ROWS: [Row; 11] = [
@@ -138,6 +129,16 @@ static ROWS: [Row; 11] = [
     },
 ];
 
+// The packet that begins with these bytes; its byte i is i from the sixth on.
+fn packet_of(header: [u8; 6]) -> Option<Packet> {
+    let mut bytes = [0; PACKET_LEN];
+    for (i, byte) in bytes.iter_mut().enumerate() {
+        *byte = i as u8;
+    }
+    bytes[..6].copy_from_slice(&header);
+    Packet::of(bytes)
+}
+
 // Whether a packet's payload begins at this place and ends with byte 187, or there is none.
 fn has_payload_at(packet: &Packet, place: Option<usize>) -> bool {
     match packet.payload() {
@@ -157,12 +158,15 @@ fn has_fields(packet: &Packet, row: &Row) -> bool {
         && has_payload_at(packet, row.payload_at)
 }
 
-// Whether a row's header begins a packet, which has the fields of the row.
-fn is_right(row: &Row) -> bool {
-    match packet_of(row.header) {
-        None => false,
-        Some(packet) => has_fields(&packet, row),
+// The name of the first row whose header begins no packet, or one that hasn't the fields of the row.
+fn odd_row() -> Option<&'static str> {
+    for row in ROWS.iter() {
+        match packet_of(row.header) {
+            Some(packet) if has_fields(&packet, row) => {}
+            _ => return Some(row.name),
+        }
     }
+    None
 }
 
 #[test]
@@ -173,107 +177,89 @@ fn fields_are_those_of_the_standard(rt: HostRuntime) {
             .bytes()
             .starts_with(&[0x47, 0x1f, 0xff, 0x10, 0xff])
     );
-    for row in ROWS.iter() {
-        assert!(rt; is_right(row), "{}", row.name);
-    }
-}
-
-// Appends a packet of PID 256 with this counter, all of whose other bytes are `fill`.
-fn add_packet(stream: &mut Vec<u8>, counter: u8, fill: u8) -> Result<(), AllocError>
-    requires { counter < 16 }
-{
-    stream.extend_from_slice(&[0x47, 0x01, 0x00, 0x10 + counter])?;
-    stream.extend_from_slice(&[fill; 184])
+    assert_eq!(rt; odd_row(), None);
 }
 
 // Garbage, two packets, garbage that ends with 0x47, a packet that is cut one byte early for it, a packet, and a rest.
-fn stream(alloc: Global) -> Result<Vec<u8>, AllocError> {
-    let mut stream = Vec::new(alloc);
-    stream.extend_from_slice(&[0x11, 0x12, 0x13])?;
-    add_packet(&mut stream, 0, 0x47)?;
-    add_packet(&mut stream, 1, 0x01)?;
-    stream.extend_from_slice(&[0x22, 0x47])?;
-    add_packet(&mut stream, 2, 0x02)?;
-    add_packet(&mut stream, 3, 0x03)?;
-    stream.extend_from_slice(&[0x47; 100])?;
-    Ok(stream)
-}
+static STREAM: [Part; 7] = [
+    (&[0x11, 0x12, 0x13], 0, 0),
+    (&[0x47, 0x01, 0x00, 0x10], 184, 0x47),
+    (&[0x47, 0x01, 0x00, 0x11], 184, 0x01),
+    (&[0x22, 0x47], 0, 0),
+    (&[0x47, 0x01, 0x00, 0x12], 184, 0x02),
+    (&[0x47, 0x01, 0x00, 0x13], 184, 0x03),
+    (&[], 100, 0x47),
+];
 
-// The bytes of the packets of that stream, as the rule gives them.
-fn wanted(alloc: Global) -> Result<Vec<u8>, AllocError> {
-    let mut wanted = Vec::new(alloc);
-    add_packet(&mut wanted, 0, 0x47)?;
-    add_packet(&mut wanted, 1, 0x01)?;
-    wanted.extend_from_slice(&[0x47, 0x47, 0x01, 0x00, 0x12])?;
-    wanted.extend_from_slice(&[0x02; 183])?;
-    add_packet(&mut wanted, 3, 0x03)?;
-    Ok(wanted)
-}
+// The packets of that stream, as the rule gives them, and its tally.
+static WANTED: [Part; 4] = [
+    (&[0x47, 0x01, 0x00, 0x10], 184, 0x47),
+    (&[0x47, 0x01, 0x00, 0x11], 184, 0x01),
+    (&[0x47, 0x47, 0x01, 0x00, 0x12], 183, 0x02),
+    (&[0x47, 0x01, 0x00, 0x13], 184, 0x03),
+];
 
-// Appends the bytes of these packets.
-fn add_all(bytes: &mut Vec<u8>, packets: &[Packet]) -> Result<(), AllocError> {
+static TALLY: Tally = Tally {
+    packets: 4,
+    skipped: 5,
+    rest: 100,
+};
+
+// What stands behind the bytes of these packets; None where they aren't the front.
+fn behind<'a>(bytes: &'a [u8], packets: &[Packet]) -> Option<&'a [u8]> {
+    let mut left = bytes;
     for packet in packets {
-        bytes.extend_from_slice(packet.bytes())?;
+        left = left.strip_prefix(packet.bytes().as_slice())?;
     }
-    Ok(())
+    Some(left)
 }
 
-// Cuts the stream in pieces of at most `size` bytes, appends the bytes of the packets, and gives the tally.
-fn cut_by(found: &mut Vec<u8>, stream: &[u8], size: usize) -> Result<Tally, AllocError>
-    requires some { 0 < size }
-    requires few { length stream.now < 2 ^ 62 }
-{
+// Whether the stream, in pieces of at most `size` bytes, is cut into packets of the wanted bytes, with that tally.
+fn is_cut_alike(stream: &[u8], wanted: &[u8], size: usize) -> bool {
+    if size == 0 || stream.len() > 1_000_000 {
+        return false;
+    }
     let mut cutter = Cutter::new();
     let mut packets = PacketBuf::new();
     let mut left = stream;
+    let mut missing = wanted;
     'pieces: while !left.is_empty() {
         packets.clear();
         let taken = cutter.push(&left[..size.min(left.len())], &mut packets);
         left = &left[taken..];
-        add_all(found, packets.as_slice())?;
+        match behind(missing, packets.as_slice()) {
+            Some(rest) => missing = rest,
+            None => return false,
+        }
     }
-    Ok(cutter.finish())
+    missing.is_empty() && cutter.finish() == TALLY
 }
 
-// Whether the stream cut in pieces of at most `size` bytes has the wanted packets.
-fn is_cut_alike(
-    alloc: Global,
-    stream: &[u8],
-    wanted: &[u8],
-    size: usize,
-) -> Result<bool, AllocError>
-    requires some { 0 < size }
-    requires few { length stream.now < 2 ^ 62 }
-{
-    let mut found = Vec::new(alloc);
-    let tally = cut_by(&mut found, stream, size)?;
-    let want = Tally {
-        packets: 4,
-        skipped: 5,
-        rest: 100,
-    };
-    Ok(tally == want && found.as_slice() == wanted)
+static SIZES: [usize; 6] = [1, 7, 187, 188, 189, 1000];
+
+// The first of the sizes by which the stream isn't cut as wanted.
+fn odd_size(alloc: Global) -> Result<Option<usize>, NoMemory> {
+    let stream = bytes_of(alloc, &STREAM, 1)?;
+    let wanted = bytes_of(alloc, &WANTED, 1)?;
+    for size in SIZES.iter() {
+        if !is_cut_alike(&stream, &wanted, *size) {
+            return Ok(Some(*size));
+        }
+    }
+    Ok(None)
 }
 
 #[test]
-fn pieces_of_any_size_are_cut_alike(rt: HostRuntime) -> Result<(), Fail> {
-    let stream = stream(rt.alloc())?;
-    let wanted = wanted(rt.alloc())?;
-    assert!(rt; stream.len() < 1000000);
-    for size in [1, 7, 187, 188, 189, 1000] {
-        assert!(rt;
-            is_cut_alike(rt.alloc(), &stream, &wanted, size)?,
-            "pieces of {size}"
-        );
-    }
-    Ok(())
+fn pieces_of_any_size_are_cut_alike(rt: HostRuntime) {
+    assert_eq!(rt; odd_size(rt.alloc()), Ok(None));
 }
 
 // 70 packets, of whose payloads the first is of bytes 0, the next of bytes 1, and so on, and a byte 00.
-fn long_stream(alloc: Global) -> Result<Vec<u8>, AllocError> {
+fn long_stream(alloc: Global) -> Result<Vec<u8>, NoMemory> {
     let mut stream = Vec::new(alloc);
     for i in 0..70u8 {
-        add_packet(&mut stream, i % 16, i)?;
+        stream.extend_from_slice(&[0x47, 0x01, 0x00, 0x10 + i % 16])?;
+        stream.extend_from_slice(&[i; 184])?;
     }
     stream.push(0x00)?;
     Ok(stream)
@@ -289,27 +275,31 @@ fn has_six(packets: &PacketBuf, counter: u8) -> bool {
     packets.len() == 6 && packets.get(5).counter() == counter
 }
 
-#[test]
-fn a_full_buffer_stops_the_cutter(rt: HostRuntime) -> Result<(), Fail> {
-    let stream = long_stream(rt.alloc())?;
-    assert!(rt; stream.len() == 70 * PACKET_LEN + 1);
+// Whether the cutting of the long stream stops at 64 packets, and goes on to its end once the buffer is empty.
+fn stops_when_full(stream: &[u8]) -> bool {
+    if stream.len() != 70 * PACKET_LEN + 1 {
+        return false;
+    }
     let mut cutter = Cutter::new();
     let mut packets = PacketBuf::new();
-    let taken = cutter.push(&stream, &mut packets);
-    assert!(rt; taken == 64 * PACKET_LEN && is_full(&packets, 63));
-    assert_eq!(rt; cutter.push(&stream[taken..], &mut packets), 0);
+    let taken = cutter.push(stream, &mut packets);
+    let left = &stream[taken..];
+    if taken != 64 * PACKET_LEN || !is_full(&packets, 63) || cutter.push(left, &mut packets) != 0 {
+        return false;
+    }
     packets.clear();
-    assert_eq!(rt;
-        cutter.push(&stream[taken..], &mut packets),
-        6 * PACKET_LEN + 1
-    );
-    assert!(rt; has_six(&packets, 5));
     let want = Tally {
         packets: 70,
         skipped: 1,
         rest: 0,
     };
-    assert!(rt; cutter.finish() == want);
+    cutter.push(left, &mut packets) == 6 * PACKET_LEN + 1
+        && has_six(&packets, 5)
+        && cutter.finish() == want
+}
+
+#[test]
+fn a_full_buffer_stops_the_cutter(rt: HostRuntime) {
+    assert!(rt; matches!(long_stream(rt.alloc()), Ok(stream) if stops_when_full(&stream)));
     cutting_law();
-    Ok(())
 }

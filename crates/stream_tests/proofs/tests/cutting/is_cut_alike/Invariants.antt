@@ -1,6 +1,6 @@
 use Rattle.std.proofs.Common.{length, ◌≡◌, ◌+◌}
 use Rattle.ts_packet.specs.Cutting.{bytes_taken}
-use Rattle.ts_packet.proofs.tests.cut_by.Given as goal
+use Rattle.stream_tests.proofs.tests.cutting.is_cut_alike.Given as goal
 
 abbrev pub invariant-pieces : goal.invariant-pieces
 invariant-pieces l = bytes_taken l.cutter + length l.left ≡ length l.stream

@@ -1,9 +1,10 @@
-//! Sets against lists worked out by hand.
+// Sets of PIDs against lists worked out by hand.
 
-use crate::{ALL_PACKETS, PidSet, Pids, PidsFull};
-use std::alloc::AllocError as NoMemory;
+use super::NoMemory;
+use pid_set::{ALL_PACKETS, PidSet, Pids, PidsFull};
+use std::alloc::Global;
 
-/// One call of a set, its answer, and the members that the set then has.
+// One call of a set, its answer, and the members that the set then has.
 #[derive(Clone, Copy)]
 enum Step {
     Add(u16, Result<bool, PidsFull>, &'static [u16]),
@@ -68,13 +69,6 @@ static STEPS_OF_FOUR: [Step; 22] = [
     Step::Remove(8190, false, &[]),
 ];
 
-#[test]
-fn a_set_of_four_keeps_its_order(rt: HostRuntime) {
-    let mut set = PidSet::<4>::new();
-    assert!(rt; has_just(&set, &[]));
-    assert_eq!(rt; first_not_taken(&mut set, &STEPS_OF_FOUR), None);
-}
-
 static STEPS_OF_ONE: [Step; 6] = [
     Step::Add(7, Ok(true), &[7]),
     Step::Add(7, Ok(false), &[7]),
@@ -85,9 +79,16 @@ static STEPS_OF_ONE: [Step; 6] = [
 ];
 
 #[test]
-fn a_set_of_one_is_full_with_one(rt: HostRuntime) {
-    let mut set = PidSet::<1>::new();
-    assert_eq!(rt; first_not_taken(&mut set, &STEPS_OF_ONE), None);
+fn a_set_keeps_its_order_and_its_bound(rt: HostRuntime) {
+    assert!(rt; has_just(&PidSet::<4>::new(), &[]));
+    assert_eq!(rt;
+        first_not_taken(&mut PidSet::<4>::new(), &STEPS_OF_FOUR),
+        None
+    );
+    assert_eq!(rt;
+        first_not_taken(&mut PidSet::<1>::new(), &STEPS_OF_ONE),
+        None
+    );
 }
 
 // Adds 32 PIDs, from the highest, 4000, down to 900, and says whether each was new.
@@ -123,9 +124,7 @@ fn is_full_until_one_is_removed(set: &mut Pids) -> bool {
 #[test]
 fn the_pids_of_a_filter_are_32(rt: HostRuntime) {
     let mut set = Pids::new();
-    assert!(rt; adds_32(&mut set));
-    assert!(rt; has_32(&set));
-    assert!(rt; is_full_until_one_is_removed(&mut set));
+    assert!(rt; adds_32(&mut set) && has_32(&set) && is_full_until_one_is_removed(&mut set));
 }
 
 static PIDS: [u16; 6] = [0, 255, 256, 257, 0x1fff, 0x2000];
@@ -140,44 +139,52 @@ fn first_misnamed(set: &PidSet<2>, named: &[u16]) -> Option<u16> {
     None
 }
 
-// PID 0x2000 alone names a PID that isn't in the set.
+// Whether PID 0x2000 alone names a PID that isn't in the set.
+fn are_named_by_0x2000() -> bool {
+    let mut set = PidSet::<2>::of(256);
+    has_just(&set, &[256])
+        && first_misnamed(&set, &[256]).is_none()
+        && set.add(0x2000) == Ok(true)
+        && first_misnamed(&set, &PIDS).is_none()
+        && set.remove(0x2000)
+        && first_misnamed(&set, &[256]).is_none()
+        && first_misnamed(&PidSet::new(), &[]).is_none()
+}
+
 #[test]
 fn pid_0x2000_names_every_pid(rt: HostRuntime) {
-    let mut set = PidSet::<2>::of(256);
-    assert!(rt; ALL_PACKETS == 0x2000 && has_just(&set, &[256]));
-    assert_eq!(rt; first_misnamed(&set, &[256]), None);
-    assert!(rt; set.add(0x2000) == Ok(true));
-    assert_eq!(rt; first_misnamed(&set, &PIDS), None);
-    assert!(rt; set.remove(0x2000) && first_misnamed(&set, &[256]) == None);
-    assert!(rt; first_misnamed(&PidSet::new(), &[]) == None);
+    assert!(rt; ALL_PACKETS == 0x2000 && are_named_by_0x2000());
 }
 
-// Whether a set of PIDs 17 and 256 equals its two copies until PID 17 is removed from it, and they stay as they were.
-fn leaves_its_copies(set: &mut PidSet<4>, copy: &PidSet<4>, clone: &PidSet<4>) -> bool {
-    let were_equal = *copy == *set && *clone == *set;
-    were_equal
-        && set.remove(17)
-        && has_just(set, &[256])
-        && has_just(copy, &[17, 256])
-        && has_just(clone, &[17, 256])
-        && *copy != *set
-}
-
-#[test]
-fn a_copy_is_a_set_of_its_own(rt: HostRuntime) -> Result<(), NoMemory> {
+// Whether a set of two PIDs equals its two copies until one is removed from it, and these stay as they were.
+fn leaves_its_copies() -> Result<bool, NoMemory> {
     let mut set = PidSet::<4>::new();
-    assert!(rt; set.add(256) == Ok(true) && set.add(17) == Ok(true));
+    let is_made = set.add(256) == Ok(true) && set.add(17) == Ok(true);
     let copy = set.copied();
     let clone = set.clone()?;
-    assert!(rt; leaves_its_copies(&mut set, &copy, &clone));
-    Ok(())
+    let were_equal = copy == set && clone == set;
+    Ok(
+        is_made
+            && were_equal
+            && set.remove(17)
+            && has_just(&set, &[256])
+            && has_just(&copy, &[17, 256])
+            && has_just(&clone, &[17, 256])
+            && copy != set,
+    )
 }
 
 #[test]
-fn the_refusal_says_what_is_full(rt: HostRuntime) -> Result<(), NoMemory> {
-    assert_eq!(rt;
-        format!(in rt.alloc(); "{PidsFull}")?.as_str(),
-        "the set of PIDs is full"
-    );
-    Ok(())
+fn a_copy_is_a_set_of_its_own(rt: HostRuntime) {
+    assert_eq!(rt; leaves_its_copies(), Ok(true));
+}
+
+// Whether the refusal of a PID has this text.
+fn says(alloc: Global, text: &str) -> Result<bool, NoMemory> {
+    Ok(format!(in alloc; "{PidsFull}")?.as_str() == text)
+}
+
+#[test]
+fn the_refusal_says_what_is_full(rt: HostRuntime) {
+    assert_eq!(rt; says(rt.alloc(), "the set of PIDs is full"), Ok(true));
 }

@@ -2,7 +2,7 @@ use Rattle.std.proofs.Common.{◌≡◌, ℕ, ◌-◌, ◌*◌, List, [], length
 use Rattle.std.specs.Io.KnownBytes.{Consumes}
 use Rattle.feed_pull.specs.Pulling.{Pulls}
 use Rattle.feed_pull.specs.Steps.{Follows}
-use Rattle.feed_pull.proofs.tests.count_all.Given as goal
+use Rattle.stream_tests.proofs.tests.pulling.count_all.Given as goal
 
 abbrev pub invariant-all : goal.invariant-all
 invariant-all g l = record {
