@@ -4,242 +4,14 @@ ghost use Rattle.ts_packet.specs.Cut.{cut};
 ghost use Rattle.feed_pull.specs.Pulling.{Pulls, fault_of};
 ghost use Rattle.feed_pull.specs.declared.fault.Reading.TheVariants.{Going};
 
+mod rows;
+
 use super::{NoMemory, Part, bytes_of};
-use dmx_calls::{Head, PidRow};
+use dmx_calls::Head;
 use emu_io::{MemSource, Source};
-use feed_pull::{PullFault, Puller};
+use feed_pull::Puller;
+use rows::{PACKET, ROWS, Row, Told};
 use std::alloc::Global;
-use ts_packet::Tally;
-
-// What a stream is made of: bytes, how many of them stand ahead, and from which to which place they come from a source; how
-// many bytes a read gives at most, the numbers of the reads that fail, and how many reads were made before.
-type Given = (
-    (&'static [Part], u32),
-    usize,
-    (usize, usize),
-    u32,
-    &'static [u64],
-    u64,
-);
-
-// What a head says: the tally, the rows of the PIDs, and whether a read failed.
-type Told = (Tally, &'static [(u16, PidRow)], bool);
-
-// A stream, and how many packets are pulled in turn, by how many pulls at most. What is wanted: how many packets come, the
-// head once a pull gives none, why reading stopped, and how many bytes the source still gives to one read.
-struct Row {
-    given: Given,
-    turn: [u32; 3],
-    pulls: usize,
-    packets: u32,
-    head: Option<Told>,
-    fault: Option<PullFault>,
-    left: usize,
-}
-
-// A packet of PID 0 without a payload.
-const PACKET: Part = (&[0x47], 187, 0);
-
-// The first 200,032 bytes of a stream of such packets.
-const LONG: (&[Part], u32) = (&[PACKET], 1064);
-
-// Two bytes 00, four packets, and a byte 47. PID 256 has a packet, its duplicate, and one whose counter is not the next; PID 257
-// has one with the error bit.
-const MIXED: (&[Part], u32) = (
-    &[
-        (&[0, 0], 0, 0),
-        (&[0x47, 0x41, 0x00, 0x10], 184, 0x22),
-        (&[0x47, 0x81, 0x01, 0x10], 184, 0x00),
-        (&[0x47, 0x41, 0x00, 0x10], 184, 0x22),
-        (&[0x47, 0x01, 0x00, 0x12], 184, 0xff),
-        (&[0x47], 0, 0),
-    ],
-    1,
-);
-
-// The head of all bytes of it up to place 200,000: 1063 packets are 199,844 bytes.
-const ALL_OF_LONG: Told = (
-    Tally {
-        packets: 1063,
-        skipped: 0,
-        rest: 156,
-    },
-    &[(
-        0,
-        PidRow {
-            packets: 1063,
-            breaks: 0,
-            duplicates: 0,
-            errors: 0,
-        },
-    )],
-    false,
-);
-
-// The head of its first 65,536 bytes, where a read failed behind them: 348 packets are 65,424 bytes.
-const FIRST_READ_OF_LONG: Told = (
-    Tally {
-        packets: 348,
-        skipped: 0,
-        rest: 112,
-    },
-    &[(
-        0,
-        PidRow {
-            packets: 348,
-            breaks: 0,
-            duplicates: 0,
-            errors: 0,
-        },
-    )],
-    true,
-);
-
-// The head of its first 400 bytes: two packets are 376 bytes.
-const FRONT_OF_LONG: Told = (
-    Tally {
-        packets: 2,
-        skipped: 0,
-        rest: 24,
-    },
-    &[(
-        0,
-        PidRow {
-            packets: 2,
-            breaks: 0,
-            duplicates: 0,
-            errors: 0,
-        },
-    )],
-    false,
-);
-
-const MIXED_TALLY: Tally = Tally {
-    packets: 4,
-    skipped: 2,
-    rest: 1,
-};
-
-const MIXED_PIDS: &[(u16, PidRow)] = &[
-    (
-        256,
-        PidRow {
-            packets: 3,
-            breaks: 1,
-            duplicates: 1,
-            errors: 0,
-        },
-    ),
-    (
-        257,
-        PidRow {
-            packets: 1,
-            breaks: 0,
-            duplicates: 0,
-            errors: 1,
-        },
-    ),
-];
-
-static ROWS: [Row; 10] = [
-    // Of a long stream no more is read than is asked for.
-    Row {
-        given: (LONG, 0, (0, 200_000), 1_000_000, &[], 0),
-        turn: [64; 3],
-        pulls: 1,
-        packets: 64,
-        head: None,
-        fault: None,
-        left: 134_464,
-    },
-    Row {
-        given: (LONG, 0, (0, 200_000), 1_000_000, &[], 0),
-        turn: [64; 3],
-        pulls: 5,
-        packets: 320,
-        head: None,
-        fault: None,
-        left: 134_464,
-    },
-    Row {
-        given: (LONG, 0, (0, 200_000), 1_000_000, &[], 0),
-        turn: [64; 3],
-        pulls: 6,
-        packets: 384,
-        head: None,
-        fault: None,
-        left: 68_928,
-    },
-    // Batches of any size make it up, also where some of the bytes stand ahead, and where a read gives few.
-    Row {
-        given: (LONG, 0, (0, 200_000), 1_000_000, &[], 0),
-        turn: [1, 64, 7],
-        pulls: 1000,
-        packets: 1063,
-        head: Some(ALL_OF_LONG),
-        fault: None,
-        left: 0,
-    },
-    Row {
-        given: (LONG, 100, (100, 200_000), 1000, &[], 0),
-        turn: [1, 64, 7],
-        pulls: 1000,
-        packets: 1063,
-        head: Some(ALL_OF_LONG),
-        fault: None,
-        left: 0,
-    },
-    Row {
-        given: (LONG, 65_536, (65_536, 200_000), 1_000_000, &[], 0),
-        turn: [1, 64, 7],
-        pulls: 1000,
-        packets: 1063,
-        head: Some(ALL_OF_LONG),
-        fault: None,
-        left: 0,
-    },
-    // The second read fails, and the source isn't read any more.
-    Row {
-        given: (LONG, 0, (0, 200_000), 1_000_000, &[1], 0),
-        turn: [1, 64, 7],
-        pulls: 1000,
-        packets: 348,
-        head: Some(FIRST_READ_OF_LONG),
-        fault: Some(PullFault::ReadFault),
-        left: 134_464,
-    },
-    // All reads were made before.
-    Row {
-        given: (LONG, 400, (0, 1000), 1000, &[], 4_294_967_296),
-        turn: [1, 64, 7],
-        pulls: 1000,
-        packets: 2,
-        head: Some(FRONT_OF_LONG),
-        fault: Some(PullFault::TooLong {
-            turns: 4_294_967_296,
-        }),
-        left: 1000,
-    },
-    // Four reads give the 755 bytes; the read behind them may fail.
-    Row {
-        given: (MIXED, 0, (0, 755), 200, &[1000], 0),
-        turn: [3; 3],
-        pulls: 100,
-        packets: 4,
-        head: Some((MIXED_TALLY, MIXED_PIDS, false)),
-        fault: None,
-        left: 0,
-    },
-    Row {
-        given: (MIXED, 0, (0, 755), 200, &[4], 0),
-        turn: [3; 3],
-        pulls: 100,
-        packets: 4,
-        head: Some((MIXED_TALLY, MIXED_PIDS, true)),
-        fault: Some(PullFault::ReadFault),
-        left: 0,
-    },
-];
 
 // A puller, and the source that it pulls from.
 #[derive(Drop)]
@@ -259,43 +31,43 @@ fn puller_of(alloc: Global, ahead: Vec<u8>, turns: u64) -> Result<Option<Puller>
 }
 
 // A source of these bytes, of which no read has failed.
-fn source_of(alloc: Global, bytes: &[u8], given: &Given) -> Result<MemSource, NoMemory>
+fn source_of(alloc: Global, bytes: &[u8], piece: u32, fails: &[u64]) -> Result<MemSource, NoMemory>
     ensures { IfOk result (λ source. source.faults ≡ 0) }
 {
     let bytes = bytes.to_vec(alloc)?;
-    Ok(MemSource::new(bytes, given.3.max(1), given.4.to_vec(alloc)?))
+    Ok(MemSource::new(bytes, piece.max(1), fails.to_vec(alloc)?))
 }
 
 // The stream of a row, or None where its numbers don't fit.
-fn stream_of(alloc: Global, given: &Given) -> Result<Option<Stream>, NoMemory> {
-    let bytes = bytes_of(alloc, given.0.0, given.0.1)?;
-    let Some(ahead) = bytes.get(..given.1) else {
+fn stream_of(alloc: Global, row: &Row) -> Result<Option<Stream>, NoMemory> {
+    let bytes = bytes_of(alloc, row.bytes.0, row.bytes.1)?;
+    let Some(ahead) = bytes.get(..row.ahead) else {
         return Ok(None);
     };
-    let Some(own) = bytes.get(given.2.0..given.2.1) else {
+    let Some(own) = bytes.get(row.source.0..row.source.1) else {
         return Ok(None);
     };
-    let Some(puller) = puller_of(alloc, ahead.to_vec(alloc)?, given.5)? else {
+    let Some(puller) = puller_of(alloc, ahead.to_vec(alloc)?, row.turns)? else {
         return Ok(None);
     };
-    let source = source_of(alloc, own, given)?;
+    let source = source_of(alloc, own, row.piece, row.fails)?;
     Ok(Some(Stream { puller, source }))
 }
 
 impl Stream {
-    // Pulls so many packets in turn, by at most so many pulls: how many packets there were, and the head at the end. No packets
-    // where a batch has another number than that of the packets before it, or the tally isn't that of the head.
+    // Pulls so many packets, in turn, by at most so many pulls: how many there were, and the head at the end. No packets where a
+    // batch has another number than that of the packets before it, or the tally isn't that of the head.
     fn pulled(
         &mut self,
         alloc: Global,
-        turn: &[u32; 3],
+        sizes: &[u32; 3],
         pulls: usize,
     ) -> Result<(u32, Option<Head>), NoMemory> {
         let mut packets = 0u32;
         'pulls: for pull in 0..pulls {
             match self
                 .puller
-                .pull(&mut self.source, turn[pull % 3].clamp(1, 64))?
+                .pull(&mut self.source, sizes[pull % 3].clamp(1, 64))?
             {
                 None => {
                     let head = self.puller.head(alloc)?;
@@ -337,11 +109,11 @@ fn is_told(head: &Option<Head>, want: &Option<Told>) -> bool {
 
 // Whether a stream is pulled as the row says.
 fn is_pulled(alloc: Global, row: &Row, room: &mut [u8]) -> Result<bool, NoMemory> {
-    let Some(mut stream) = stream_of(alloc, &row.given)? else {
+    let Some(mut stream) = stream_of(alloc, row)? else {
         return Ok(false);
     };
     let was = stream.puller.fault();
-    let (packets, head) = stream.pulled(alloc, &row.turn, row.pulls)?;
+    let (packets, head) = stream.pulled(alloc, &row.sizes, row.pulls)?;
     Ok(
         was.is_none()
             && packets == row.packets
