@@ -58,8 +58,8 @@ const OTHER: Sent = Filled(&[0x47, 0x01, 0x01, 0x10], 0x44);
 // Any section.
 const ANY: &[Place] = &[];
 
-// The sections of table 0x42, and of table 0x43; those of version 0, and of any version but 0; and those whose byte 17 is 0, which is
-// behind the end of A.
+// The sections of table 0x42, and of table 0x43; those of version 0, and of any version but 0; and those whose byte 17 is 0,
+// which is behind the end of A.
 const TABLE_42: Place = at!(0, 0x42, 0xff, 0x00);
 
 const TABLE_43: Place = at!(0, 0x43, 0xff, 0x00);
