@@ -14,7 +14,8 @@
 //! of each bit what the API says: a masked bit with mode 0 has to be equal, and of the masked bits with mode 1, where there
 //! are any, one has to differ (`specs/Meaning.antt`).
 //!
-//! What is only tested: that this is what a user of the API expects, by filters worked out by hand.
+//! What is only tested: that this is what a user of the API expects, by filters worked out by hand. The tests stand in
+//! `section_tests`.
 //!
 //! Limits: no memory is taken. A section of at least 18 bytes is held against a filter in one step, sixteen bytes at a
 //! time; a shorter one in sixteen steps.
@@ -23,8 +24,6 @@
 mod compared;
 mod compiled;
 mod filter;
-#[cfg(test)]
-mod tests;
 
 pub use compiled::{Compiled, matches_means};
 pub use filter::{Place, SectionFilter};

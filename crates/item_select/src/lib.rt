@@ -13,7 +13,7 @@
 //! - Laws: packets in a row, each item taken before the next packet, give all their items; a one-shot filter that has given
 //!   its section has no further item, whatever packets follow.
 //!
-//! What is only tested: that ample memory is enough.
+//! What is only tested: that ample memory is enough. The tests stand in `section_tests`.
 //!
 //! Limits: only `new` takes memory. A filter of packets takes packets as they are, with errors, scrambled or sent twice.
 //! That a packet gives one item at most, however many PIDs name it, is this project's rule.
@@ -22,8 +22,6 @@
 mod laws;
 mod section;
 mod selector;
-#[cfg(test)]
-mod tests;
 
 pub use laws::{all_items_are_given, one_shot_gives_no_more, one_shot_is_spent};
 pub use selector::Selector;

@@ -1,15 +1,18 @@
 // What the rows share, and the rows.
 
 mod buffer;
+mod calls;
 mod cell;
 mod demux;
 mod dvr;
+mod refusals;
+mod ring;
 mod rows;
 mod run;
 mod step;
 mod want;
 
-use cell::{A, Cell, OTHER, P0, P1, P2, P3, batch_of, bytes_of};
+use cell::{A, Cell, OTHER, P0, P1, P2, P3, batch_at, batch_of, bytes_of};
 use run::odd_row;
 use step::{Step, call_of, pes, pids_of, sections};
 use want::{DONE, EBADF, EBUSY, EINVAL, Want, is_answered, is_wanted};

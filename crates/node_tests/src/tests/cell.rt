@@ -94,8 +94,13 @@ fn put_sections(bytes: &mut [u8; 188], pid: u16, counter: u8, pointer: u8, secti
     put(&mut bytes[5..], sections);
 }
 
-/// A batch of these packets; None of no packets, and of more than 64.
+/// A batch of these packets, the first of which has number 0 in its stream; None of no packets, and of more than 64.
 pub fn batch_of(alloc: Global, cells: &[Cell]) -> Result<Option<Arc<Batch>>, NoMemory> {
+    batch_at(alloc, 0, cells)
+}
+
+/// The same where the first has this number.
+pub fn batch_at(alloc: Global, first: u32, cells: &[Cell]) -> Result<Option<Arc<Batch>>, NoMemory> {
     let mut bytes = Vec::new(alloc);
     for cell in cells {
         bytes.extend_from_slice(&bytes_of(*cell))?;
@@ -107,5 +112,5 @@ pub fn batch_of(alloc: Global, cells: &[Cell]) -> Result<Option<Arc<Batch>>, NoM
     if packets.len() == 0 {
         return Ok(None);
     }
-    Ok(Some(Batch::of(alloc, 0, &packets)?))
+    Ok(Some(Batch::of(alloc, u64::from(first), &packets)?))
 }

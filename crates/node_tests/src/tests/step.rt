@@ -25,6 +25,8 @@ pub enum Step {
     Type(u32),
     /// Input DVR.
     FromDvr,
+    /// A PES filter.
+    Pes(PesParams),
     /// A section filter.
     Section(SectionParams),
     /// A filter of all sections: the PID, the timeout, the flags.
@@ -101,6 +103,7 @@ pub fn pids_of(pids: &[u16]) -> Pids {
 fn pes_of(step: Step) -> Option<PesParams> {
     let frontend = Input::Frontend;
     match step {
+        Step::Pes(params) => Some(params),
         Step::Whole(pid, flags) => Some(pes(pid, frontend, Output::TsdemuxTap, 20, flags)),
         Step::Payloads(pid, flags) => Some(pes(pid, frontend, Output::Tap, 20, flags)),
         Step::Record(pid, flags) => Some(pes(pid, frontend, Output::TsTap, 20, flags)),

@@ -1,7 +1,7 @@
 // What a row wants to be answered.
 
 use super::cell::{Cell, bytes_of};
-use super::step::Step;
+use super::step::{Step, pids_of};
 use dmx_calls::{Answer, Errno, PollError, Reply, Span, Tap};
 use std::alloc::{AllocError as NoMemory, Global};
 
@@ -46,16 +46,12 @@ pub const EBUSY: Want = Want::Refused(Errno::Ebusy);
 /// An argument is out of range, or the call doesn't fit the filter or the kind of node.
 pub const EINVAL: Want = Want::Refused(Errno::Einval);
 
-// The tap attaches just these PIDs, which ascend.
+// The tap attaches just these PIDs.
 fn attaches(tap: &Tap, wanted: &[u16]) -> bool {
     let Tap::Attach(pids) = tap else {
         return false;
     };
-    pids.len() == wanted.len()
-        && wanted
-            .iter()
-            .enumerate()
-            .all(|(i, pid)| pids.get(i) == Some(*pid))
+    *pids == pids_of(wanted)
 }
 
 // Done with these bytes dropped and this tap is the wanted reply.

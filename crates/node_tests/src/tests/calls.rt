@@ -1,0 +1,129 @@
+//! Buffers of reads, filled and emptied, and the histories of all nodes.
+
+use dmx_calls::{Act, ByteBuf, Entry, Fed, Histories, Reply};
+use std::alloc::{AllocError as NoMemory, Global};
+
+// Whether a buffer has room for so many bytes, and these in its front.
+fn is_filled(buf: &ByteBuf, count: u32, bytes: &[u8]) -> bool {
+    buf.count() == count && buf.bytes() == bytes
+}
+
+// Puts these bytes behind those that are there, where there is room for them.
+fn append(buf: &mut ByteBuf, bytes: &[u8]) {
+    if buf.bytes().len() + bytes.len() <= buf.count() as usize {
+        buf.append(bytes);
+    }
+}
+
+// Of a buffer for five bytes: whether it is emptied, the bytes that are put into it, and those that it has then.
+static FIVE: [(bool, &[u8], &[u8]); 6] = [
+    (false, &[], &[]),
+    (false, &[1, 2], &[1, 2]),
+    (false, &[], &[1, 2]),
+    (false, &[3, 4, 5], &[1, 2, 3, 4, 5]),
+    (true, &[], &[]),
+    (false, &[6], &[6]),
+];
+
+// The number of the first row at which the buffer has other bytes.
+fn odd_row(alloc: Global) -> Result<Option<usize>, NoMemory> {
+    let mut buf = ByteBuf::new(alloc, 5)?;
+    for (number, (clears, bytes, wanted)) in FIVE.iter().enumerate() {
+        if *clears {
+            buf.clear();
+        }
+        append(&mut buf, bytes);
+        if !is_filled(&buf, 5, wanted) {
+            return Ok(Some(number));
+        }
+    }
+    Ok(None)
+}
+
+#[test]
+fn a_buffer_takes_bytes_up_to_its_count_and_again_once_it_is_empty(
+    rt: HostRuntime,
+) -> Result<(), NoMemory> {
+    let odd = odd_row(rt.alloc())?;
+    assert_eq!(rt; odd, None);
+    Ok(())
+}
+
+// Whether a buffer of no bytes is empty, and one of the most takes so many.
+fn no_bytes_and_the_most_fit(alloc: Global) -> Result<bool, NoMemory> {
+    let none = ByteBuf::new(alloc, 0)?;
+    let mut most = ByteBuf::new(alloc, 65_536)?;
+    let bytes = vec![in alloc; 0x47; 65_536]?;
+    append(&mut most, &bytes);
+    Ok(is_filled(&none, 0, &[]) && is_filled(&most, 65_536, &bytes) && bytes.len() == 65_536)
+}
+
+// Whether a fitted copy has the bytes and room for no more, and the buffer is as it was.
+fn a_copy_is_fitted(alloc: Global) -> Result<bool, NoMemory> {
+    let mut buf = ByteBuf::new(alloc, 1000)?;
+    append(&mut buf, &[7, 8, 9]);
+    let copy = buf.fitted(alloc)?;
+    Ok(is_filled(&copy, 3, &[7, 8, 9]) && is_filled(&buf, 1000, &[7, 8, 9]))
+}
+
+#[test]
+fn buffers_of_no_bytes_of_the_most_and_of_a_copy(rt: HostRuntime) -> Result<(), NoMemory> {
+    let fit = no_bytes_and_the_most_fit(rt.alloc())?;
+    let is_fitted = a_copy_is_fitted(rt.alloc())?;
+    assert!(rt; fit && is_fitted);
+    Ok(())
+}
+
+// The one batch that passes.
+const FED: Fed = Fed {
+    first: 0,
+    count: 64,
+    now: 5,
+};
+
+// The histories in which that batch passed, and each node's buffer got its own number as its size.
+fn sizes_by_number(alloc: Global) -> Result<Option<Histories>, NoMemory> {
+    let mut nodes: Vec<Vec<Entry>> = Vec::with_capacity(alloc, 33)?;
+    for node in 0..33u32 {
+        let entry = Entry {
+            node,
+            place: 1,
+            step: 0,
+            who: 1,
+            act: Act::SetSize(node),
+            reply: Reply::Passed,
+        };
+        nodes.push(vec![in alloc; entry]?)?;
+    }
+    if nodes.len() != 33 {
+        return Ok(None);
+    }
+    Ok(Some(Histories::new(vec![in alloc; FED]?, nodes)))
+}
+
+// Whether these are the batches and the entries of this node there.
+fn are_of(node: u32, feeding: &[Fed], calls: &[Entry]) -> bool {
+    feeding == [FED].as_slice() && calls.len() == 1 && calls[0].act == Act::SetSize(node)
+}
+
+// Whether each node has its own.
+fn are_of_each_node(alloc: Global) -> Result<bool, NoMemory> {
+    let Some(histories) = sizes_by_number(alloc)? else {
+        return Ok(false);
+    };
+    for node in 0..33u32 {
+        let (feeding, calls) = histories.node(node);
+        if !are_of(node, feeding, calls) {
+            return Ok(false);
+        }
+    }
+    Ok(true)
+}
+
+#[test]
+fn histories_give_the_batches_and_the_entries_of_each_node(
+    rt: HostRuntime,
+) -> Result<(), NoMemory> {
+    assert!(rt; are_of_each_node(rt.alloc())?);
+    Ok(())
+}

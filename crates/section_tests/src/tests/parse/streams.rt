@@ -1,0 +1,330 @@
+// Streams of PID 256, and their sections by their names.
+
+use crate::tests::A;
+use crate::tests::Sent::{self, Filled, Run, X1, X2};
+
+// A alone, with counter 2.
+const A2: Sent = Filled(
+    &[
+        0x47, 0x41, 0x00, 0x12, 0x00, 0x42, 0x00, 0x05, 1, 2, 3, 4, 5,
+    ],
+    0xff,
+);
+
+// Y: 40 0f fd and 4093 bytes 0x22, of which the first packet carries 183 bytes, 21 packets 184, and the last one 49.
+const Y_SENT: &[Sent] = &[
+    Filled(&[0x47, 0x41, 0x00, 0x10, 0x00, 0x40, 0x0f, 0xfd], 0x22),
+    Filled(&[0x47, 0x01, 0x00, 0x11], 0x22),
+    Filled(&[0x47, 0x01, 0x00, 0x12], 0x22),
+    Filled(&[0x47, 0x01, 0x00, 0x13], 0x22),
+    Filled(&[0x47, 0x01, 0x00, 0x14], 0x22),
+    Filled(&[0x47, 0x01, 0x00, 0x15], 0x22),
+    Filled(&[0x47, 0x01, 0x00, 0x16], 0x22),
+    Filled(&[0x47, 0x01, 0x00, 0x17], 0x22),
+    Filled(&[0x47, 0x01, 0x00, 0x18], 0x22),
+    Filled(&[0x47, 0x01, 0x00, 0x19], 0x22),
+    Filled(&[0x47, 0x01, 0x00, 0x1a], 0x22),
+    Filled(&[0x47, 0x01, 0x00, 0x1b], 0x22),
+    Filled(&[0x47, 0x01, 0x00, 0x1c], 0x22),
+    Filled(&[0x47, 0x01, 0x00, 0x1d], 0x22),
+    Filled(&[0x47, 0x01, 0x00, 0x1e], 0x22),
+    Filled(&[0x47, 0x01, 0x00, 0x1f], 0x22),
+    Filled(&[0x47, 0x01, 0x00, 0x10], 0x22),
+    Filled(&[0x47, 0x01, 0x00, 0x11], 0x22),
+    Filled(&[0x47, 0x01, 0x00, 0x12], 0x22),
+    Filled(&[0x47, 0x01, 0x00, 0x13], 0x22),
+    Filled(&[0x47, 0x01, 0x00, 0x14], 0x22),
+    Filled(&[0x47, 0x01, 0x00, 0x15], 0x22),
+    Run(&[0x47, 0x01, 0x00, 0x16], 49, 0x22, &[]),
+];
+
+/// The packets of a stream, and its sections by their names.
+pub type Row = (&'static [Sent], &'static str);
+
+/// Repeats of packets, and breaks between them.
+pub const RUNS: &[Row] = &[
+    // one section in two packets, then another
+    (&[X1, X2], "XA"),
+    // a repeat of the first packet
+    (&[X1, X1, X2], "XA"),
+    // three times the first packet
+    (&[X1, X1, X1, X2], "XA"),
+    // the same packets once more, not as neighbours
+    (&[X1, X2, X1, X2], "XAXA"),
+    // the first part alone
+    (&[X1], ""),
+    // the last part alone
+    (&[X2], "A"),
+    // a counter that leaves one out
+    (
+        &[X1, Run(&[0x47, 0x41, 0x00, 0x12, 0x14], 20, 0x11, A)],
+        "A",
+    ),
+    // the same counter, but another payload
+    (
+        &[X1, Run(&[0x47, 0x41, 0x00, 0x10, 0x14], 20, 0x11, A)],
+        "A",
+    ),
+    // a counter from 15 to 0
+    (
+        &[
+            Filled(&[0x47, 0x41, 0x00, 0x1f, 0x00, 0x40, 0x00, 0xc8], 0x11),
+            Run(&[0x47, 0x41, 0x00, 0x10, 0x14], 20, 0x11, A),
+        ],
+        "XA",
+    ),
+    // a discontinuity_indicator
+    (
+        &[
+            X1,
+            Run(&[0x47, 0x41, 0x00, 0x31, 0x01, 0x80, 0x14], 20, 0x11, A),
+        ],
+        "A",
+    ),
+    // an adaptation field without it
+    (
+        &[
+            X1,
+            Run(&[0x47, 0x41, 0x00, 0x31, 0x01, 0x00, 0x14], 20, 0x11, A),
+        ],
+        "XA",
+    ),
+    // a packet without payload between them, with any counter
+    (
+        &[X1, Filled(&[0x47, 0x01, 0x00, 0x2c, 0xb7, 0x80], 0xff), X2],
+        "XA",
+    ),
+    // a packet with error bit between them
+    (
+        &[X1, Filled(&[0x47, 0xc1, 0x00, 0x11, 0x00], 0x00), X2],
+        "XA",
+    ),
+    // a packet of another PID between them
+    (
+        &[X1, Filled(&[0x47, 0x41, 0x01, 0x11, 0x00], 0x00), X2],
+        "XA",
+    ),
+    // no packets
+    (&[], ""),
+];
+
+/// What packets with payload_unit_start_indicator begin and end.
+pub const SEGMENTS: &[Row] = &[
+    // an unfinished section that the next unit start ends
+    (
+        &[
+            Filled(&[0x47, 0x41, 0x00, 0x11, 0x00, 0x40, 0x00, 0xc8], 0x11),
+            A2,
+        ],
+        "A",
+    ),
+    // a pointer_field behind the payload's end
+    (
+        &[X1, Filled(&[0x47, 0x41, 0x00, 0x11, 0xb8], 0x00), A2],
+        "A",
+    ),
+    // a pointer_field to the payload's end
+    (
+        &[
+            X1,
+            Filled(
+                &[
+                    0x47, 0x41, 0x00, 0x11, 0xb7, 0x11, 0x11, 0x11, 0x11, 0x11, 0x11, 0x11, 0x11,
+                    0x11, 0x11, 0x11, 0x11, 0x11, 0x11, 0x11, 0x11, 0x11, 0x11, 0x11, 0x11,
+                ],
+                0xff,
+            ),
+        ],
+        "X",
+    ),
+    // a section_length of 4095
+    (
+        &[
+            Filled(
+                &[
+                    0x47, 0x41, 0x00, 0x11, 0x00, 0x40, 0x0f, 0xff, 0x42, 0x00, 0x05, 1, 2, 3, 4, 5,
+                ],
+                0xff,
+            ),
+            A2,
+        ],
+        "A",
+    ),
+    // an adaptation field that leaves no payload
+    (&[Filled(&[0x47, 0x41, 0x00, 0x30, 0xff], 0x00)], ""),
+    // a packet with error bit alone
+    (
+        &[Filled(
+            &[
+                0x47, 0xc1, 0x00, 0x10, 0x00, 0x42, 0x00, 0x05, 1, 2, 3, 4, 5,
+            ],
+            0xff,
+        )],
+        "",
+    ),
+    // three in one packet
+    (
+        &[Filled(
+            &[
+                0x47, 0x41, 0x00, 0x10, 0x00, 0x42, 0x00, 0x05, 1, 2, 3, 4, 5, 0x43, 0x00, 0x02,
+                0x0a, 0x0b, 0x42, 0x00, 0x05, 1, 2, 3, 4, 5,
+            ],
+            0xff,
+        )],
+        "ABA",
+    ),
+    // a section of three bytes
+    (
+        &[Filled(
+            &[
+                0x47, 0x41, 0x00, 0x10, 0x00, 0x44, 0x30, 0x00, 0x43, 0x00, 0x02, 0x0a, 0x0b,
+            ],
+            0xff,
+        )],
+        "CB",
+    ),
+    // a section behind a pointer_field
+    (
+        &[Filled(
+            &[
+                0x47, 0x41, 0x00, 0x10, 0x02, 0x44, 0x30, 0x43, 0x00, 0x02, 0x0a, 0x0b,
+            ],
+            0xff,
+        )],
+        "B",
+    ),
+    // a section behind stuffing
+    (
+        &[Filled(
+            &[
+                0x47, 0x41, 0x00, 0x10, 0x00, 0xff, 0x43, 0x00, 0x02, 0x0a, 0x0b,
+            ],
+            0xff,
+        )],
+        "",
+    ),
+    // a payload before the first unit start
+    (
+        &[
+            Filled(
+                &[0x47, 0x01, 0x00, 0x11, 0x42, 0x00, 0x05, 1, 2, 3, 4, 5],
+                0xff,
+            ),
+            A2,
+        ],
+        "A",
+    ),
+];
+
+/// A section of 4096 bytes in 23 packets.
+pub const LONG: &[Row] = &[(Y_SENT, "Y")];
+
+/// A behind a pointer_field, its first bytes at the end of one packet and the others at the beginning of the next.
+pub const SPLIT: &[Row] = &[
+    (
+        &[
+            Run(&[0x47, 0x41, 0x00, 0x30, 182, 0x00], 181, 0xff, &[0x00]),
+            Filled(
+                &[0x47, 0x01, 0x00, 0x11, 0x42, 0x00, 0x05, 1, 2, 3, 4, 5],
+                0xff,
+            ),
+        ],
+        "A",
+    ),
+    (
+        &[
+            Run(
+                &[0x47, 0x41, 0x00, 0x30, 181, 0x00],
+                180,
+                0xff,
+                &[0x00, 0x42],
+            ),
+            Filled(&[0x47, 0x01, 0x00, 0x11, 0x00, 0x05, 1, 2, 3, 4, 5], 0xff),
+        ],
+        "A",
+    ),
+    (
+        &[
+            Run(
+                &[0x47, 0x41, 0x00, 0x30, 180, 0x00],
+                179,
+                0xff,
+                &[0x00, 0x42, 0x00],
+            ),
+            Filled(&[0x47, 0x01, 0x00, 0x11, 0x05, 1, 2, 3, 4, 5], 0xff),
+        ],
+        "A",
+    ),
+    (
+        &[
+            Run(
+                &[0x47, 0x41, 0x00, 0x30, 179, 0x00],
+                178,
+                0xff,
+                &[0x00, 0x42, 0x00, 0x05],
+            ),
+            Filled(&[0x47, 0x01, 0x00, 0x11, 1, 2, 3, 4, 5], 0xff),
+        ],
+        "A",
+    ),
+    (
+        &[
+            Run(
+                &[0x47, 0x41, 0x00, 0x30, 178, 0x00],
+                177,
+                0xff,
+                &[0x00, 0x42, 0x00, 0x05, 1],
+            ),
+            Filled(&[0x47, 0x01, 0x00, 0x11, 2, 3, 4, 5], 0xff),
+        ],
+        "A",
+    ),
+    (
+        &[
+            Run(
+                &[0x47, 0x41, 0x00, 0x30, 177, 0x00],
+                176,
+                0xff,
+                &[0x00, 0x42, 0x00, 0x05, 1, 2],
+            ),
+            Filled(&[0x47, 0x01, 0x00, 0x11, 3, 4, 5], 0xff),
+        ],
+        "A",
+    ),
+    (
+        &[
+            Run(
+                &[0x47, 0x41, 0x00, 0x30, 176, 0x00],
+                175,
+                0xff,
+                &[0x00, 0x42, 0x00, 0x05, 1, 2, 3],
+            ),
+            Filled(&[0x47, 0x01, 0x00, 0x11, 4, 5], 0xff),
+        ],
+        "A",
+    ),
+    (
+        &[
+            Run(
+                &[0x47, 0x41, 0x00, 0x30, 175, 0x00],
+                174,
+                0xff,
+                &[0x00, 0x42, 0x00, 0x05, 1, 2, 3, 4],
+            ),
+            Filled(&[0x47, 0x01, 0x00, 0x11, 5], 0xff),
+        ],
+        "A",
+    ),
+    (
+        &[
+            Run(
+                &[0x47, 0x41, 0x00, 0x30, 174, 0x00],
+                173,
+                0xff,
+                &[0x00, 0x42, 0x00, 0x05, 1, 2, 3, 4, 5],
+            ),
+            Filled(&[0x47, 0x01, 0x00, 0x11], 0xff),
+        ],
+        "A",
+    ),
+];
