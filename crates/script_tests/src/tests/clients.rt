@@ -1,14 +1,11 @@
 //! Clients of scripts, whose replies and calls were worked out by hand from what the commands do.
 
 use client_core::{ClientCore, Event, MOST_CALLS, Stop, Want, call_of, fitted, settled};
-use client_script::Script;
+use client_script::{MOST_BYTES, Script};
 use dmx_calls::{ByteBuf, Call, Outcome, OutcomeKind, Reply, Span, Tap};
 use pid_set::Pids;
 use std::alloc::{AllocError as NoMemory, Global};
 use std::process::Abort;
-
-// How many bytes a script has at most.
-const MOST_BYTES: usize = 1_048_576;
 
 // A client of the script of these bytes, before its first call.
 fn client_of(rt: &impl Abort, alloc: Global, script: &[u8], client: u32) -> ClientCore {
