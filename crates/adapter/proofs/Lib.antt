@@ -13,5 +13,3 @@ pub mod Tries
 pub mod Growing
 pub mod Everybody
 pub mod Pairs
-pub mod TwoCallers
-pub mod Beside

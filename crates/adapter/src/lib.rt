@@ -16,8 +16,8 @@
 //! history has. After `gather` or `finish` each node has one legal history, with just the calls of the feeder and the
 //! clients, each at the place that was told, and it begins with what each of them had seen; `finish` tells the lengths.
 //!
-//! What is only tested: the feeder and two clients on threads of their own, each of whose replies is replayed by plain code
-//! in the order of the places; and that a batch comes to the dvr node behind all others.
+//! What is only tested, in `run_tests`: the feeder and two clients on threads of their own, each of whose replies is replayed by
+//! plain code in the order of the places; and that a batch comes to the dvr node behind all others.
 //!
 //! What is neither proved nor tested: that a wait ends, fairness, time, in which order calls of two callers come, and that
 //! threads do run beside each other.
@@ -37,10 +37,3 @@ mod rows;
 pub use adapter::{Adapter, Finished};
 pub use client::Client;
 pub use feeder::Feeder;
-
-#[cfg(test)]
-mod beside_tests;
-#[cfg(test)]
-mod replay_tests;
-#[cfg(test)]
-mod tests;

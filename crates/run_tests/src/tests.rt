@@ -1,11 +1,45 @@
-// What the tests of both runs share.
+// What the tests share.
+ghost use Rattle.std.specs.Prelude.{◌≡◌, ◌∷◌, [], length, vec_capacity};
 
+mod adder;
+mod counter;
+mod locks;
+mod merging;
 mod serial;
+mod shared;
 mod threads;
 
 use client_script::Script;
 use std::alloc::Global;
+use std::sync::atomic::AtomicU64;
+use std::sync::atomic::Ordering::SeqCst;
 use std::test::Fail;
+use std::thread;
+
+// How often a thread looks at most for what another does.
+const TURNS: u64 = 100_000_000;
+
+// Waits until another thread has brought a counter to this number, and tells whether it has.
+fn comes_to(counter: &AtomicU64, number: u64) -> bool {
+    for _ in 0..TURNS {
+        if counter.load(SeqCst) == number {
+            return true;
+        }
+        thread::yield_now();
+    }
+    false
+}
+
+// Takes out the members of a list of two.
+fn two_of<T>(list: &mut Vec<T>) -> (T, T)
+    requires { length list.old.items ≡ 2 }
+    ensures two { list.old.items ≡ result.0 ∷ result.1 ∷ [] }
+    ensures room { (list.new.items ≡ []) × (vec_capacity list.new ≡ vec_capacity list.old) }
+{
+    let two = list.pop().unwrap();
+    let one = list.pop().unwrap();
+    (one, two)
+}
 
 // A packet without adaptation field, of the PID 256 and this number and of this counter, whose payload is zeros.
 fn add_packet(stream: &mut Vec<u8>, number: u8, counter: u8) -> Result<(), Fail> {

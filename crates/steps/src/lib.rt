@@ -5,7 +5,8 @@
 //!
 //! What a contract sees: the number of steps. What is proved: `new` stands at 0, and `tick` raises it by one. Nothing
 //! else changes it, since its fields are private. It is a ghost of the toolchain's ledger: it takes no bytes, and `tick`
-//! costs nothing when the program runs. `L` names the ledger; any will do.
+//! costs nothing when the program runs. `L` names the ledger; any will do. What is only tested, in `run_tests`: that a counter
+//! takes no bytes.
 #![tactic(auto)]
 
 ghost use Rattle.std.specs.Prelude.{◌≡◌, ◌+◌, ◌<◌};
@@ -49,6 +50,3 @@ impl<L: Ledger> Steps<L> {
         self.book.add(&mut self.share, 1);
     }
 }
-
-#[cfg(test)]
-mod tests;

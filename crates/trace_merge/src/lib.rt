@@ -9,14 +9,14 @@
 //! where the logs name no place twice, and none beyond the end of its history, each entry stands at the place that it names,
 //! and each history has as many entries as calls were made on its node.
 //!
+//! What is only tested, in `run_tests`: that memory isn't refused where there is enough.
+//!
 //! The cost: each log is gone through once, and a node's entries are then a row of runs, one for each client, which the
 //! stable sort finds and merges: linear in the entries for the few clients that there are. Memory is asked for the lists
 //! and for the sort's buffer.
 #![tactic(auto)]
 
 pub mod laws;
-#[cfg(test)]
-mod tests;
 
 ghost use Rattle.std.specs.Prelude.{◌≡◌, ◌+◌, ◌<◌, ◌++◌, ℕ, [], length, map, get_or, IfOk, OnOk};
 ghost use Rattle.std.specs.List.{All};

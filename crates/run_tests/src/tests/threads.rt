@@ -1,7 +1,7 @@
 //! Small scripts, run by threads. The replies are worked out by hand from the rules of the nodes.
 ghost use Rattle.std.specs.Prelude.{◌≤◌, true, length};
 
-use super::{add_packet, script_of};
+use super::{add_packet, comes_to, script_of};
 use adapter::Adapter;
 use dmx_calls::{Act, Entry, Errno, OutcomeKind, Reply};
 use emu_io::{Clock, FixedClock, Gate, MemSource, NoGate};
@@ -11,12 +11,8 @@ use std::sync::Wait;
 use std::sync::atomic::AtomicU64;
 use std::sync::atomic::Ordering::SeqCst;
 use std::test::Fail;
-use std::thread;
 use std::thread::Threads;
 use workers::{Worked, work};
-
-// How often a gate looks at most.
-const TURNS: u64 = 100_000_000;
 
 // A clock that counts its calls, and gives that number.
 #[derive(Drop)]
@@ -71,13 +67,7 @@ impl Gate for Hold {
         if (who, step) == self.until {
             self.is_there.store(1, SeqCst);
         }
-        if (who, step) == self.held {
-            for _ in 0..TURNS {
-                if self.is_there.load(SeqCst) == 1 {
-                    return;
-                }
-                thread::yield_now();
-            }
+        if (who, step) == self.held && !comes_to(&self.is_there, 1) {
             self.ran_out.store(1, SeqCst);
         }
     }
