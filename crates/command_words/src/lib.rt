@@ -14,7 +14,7 @@
 //! (`fault_of`). Before clap sees them, the code refuses more than two words, and the word `--`, behind which clap takes no
 //! word for an option.
 //!
-//! What is only tested: that memory isn't refused where there is enough.
+//! What is only tested, in `text_tests`: that memory isn't refused where there is enough.
 //!
 //! The rules are this project's own.
 #![tactic(auto)]
@@ -24,8 +24,6 @@ ghost use Rattle.command_words.specs.Meant.{IsInRange, command_of, meant};
 
 mod behind;
 mod options;
-#[cfg(test)]
-mod tests;
 
 use behind::{make, run, self_test, steps};
 use std::alloc::{AllocError as NoMemory, Global};

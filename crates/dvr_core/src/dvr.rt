@@ -67,6 +67,7 @@ fn act<L: Ledger>(
 {
     match call {
         Call::Open => plain(kept.open(alloc, who)),
+        Call::Close => plain(kept.close(who)),
         Call::Pass { input, batch, .. } => {
             kept.pass(input, &batch, steps);
             Answer {

@@ -6,12 +6,13 @@
 
 ghost use Rattle.std.specs.Prelude.{◌≡◌, ◌≤◌, ◌<◌, ◌+◌, ◌^◌, false, count_by, None};
 ghost use Rattle.dmx_calls.specs.declared.node.NodeKind.TheVariants.{Dvr};
-ghost use Rattle.dmx_calls.specs.Invocation.{Open, Pass, End, Attach, Detach};
+ghost use Rattle.dmx_calls.specs.Invocation.{Open, Close, Pass, End, Attach, Detach};
 ghost use Rattle.dmx_calls.specs.Response.{Passed};
 ghost use Rattle.dmx_calls.specs.Answer.{is_for_anybody};
 ghost use Rattle.dmx_calls.specs.Calls.{invocation_of, response_of};
 ghost use Rattle.dmx_calls.specs.Back.{GivesBack};
 ghost use Rattle.node_buffer.specs.Inside.Coherent.{CoherentIn};
+ghost use Rattle.node_buffer.specs.Inside.Gives.{is_close};
 ghost use Rattle.dvr_core.specs.Inside.Gives.{Gives};
 ghost use Rattle.dvr_core.specs.Inside.Step.{next};
 ghost use Rattle.dvr_core.specs.Tapped.{some_names};
@@ -21,7 +22,7 @@ use crate::record::record_all;
 use crate::taps::Taps;
 use crate::tenure::Tenure;
 use dmx_calls::{Answer, Call, Errno, Input, Reply, Tap};
-use node_buffer::{NOTHING, done, plain, refused};
+use node_buffer::{NOTHING, done, opened, refused};
 use pid_set::Pids;
 use std::alloc::Global;
 use std::sync::ledger::Ledger;
@@ -48,46 +49,43 @@ impl Kept {
         ensures sound { CoherentIn (knows_of self.new).facts.ledger }
         ensures bytes { bytes_in (knows_of self.new) ≤ bytes_in (knows_of self.old) }
     {
-        if let Some(tenure) = &self.tenure {
-            return Reply::Busy {
+        match &self.tenure {
+            Some(tenure) => Reply::Busy {
                 owner: tenure.owner,
-            };
-        }
-        match Tenure::new(alloc, who) {
-            Ok(tenure) => {
-                self.tenure = Some(tenure);
-                done(NOTHING, Tap::Keep)
-            }
-            Err(_) => Reply::NoMemory,
+            },
+            None => opened(&mut self.tenure, Tenure::new(alloc, who)),
         }
     }
 
-    /// A call that only the owner may make: the refusal comes first, EBADF to a caller that isn't the owner. A refused
-    /// call changes nothing. With a Close the node becomes free; its taps stay.
+    /// close(): the node becomes free; its taps stay. EBADF to a caller that isn't the owner.
+    pub fn close(&mut self, who: u32) -> Reply
+        requires { CoherentIn (knows_of self.old).facts.ledger }
+        ensures said { Gives (knows_of self.old) who Close (response_of result) }
+        ensures after { knows_of self.new ≡ next (knows_of self.old) who Close (response_of result) }
+        ensures sound { CoherentIn (knows_of self.new).facts.ledger }
+        ensures bytes { bytes_in (knows_of self.new) ≤ bytes_in (knows_of self.old) }
+    {
+        match self.tenure.take_if(|tenure| tenure.owner == who) {
+            Some(tenure) => tenure.close(),
+            None => Reply::Refused(Errno::Ebadf),
+        }
+    }
+
+    /// Another call that only the owner may make: EBADF to a caller that isn't the owner. A refused call changes nothing.
     pub fn act_for_owner(&mut self, alloc: Global, who: u32, call: Call) -> Answer
         requires sound { CoherentIn (knows_of self.old).facts.ledger }
         requires own { is_for_anybody Dvr (invocation_of call) ≡ false }
+        requires stays { is_close (invocation_of call) ≡ false }
         ensures said { Gives (knows_of self.old) who (invocation_of call) (response_of result.reply) }
         ensures after { knows_of self.new ≡ next (knows_of self.old) who (invocation_of call) (response_of result.reply) }
         ensures back { GivesBack call result }
         ensures sound { CoherentIn (knows_of self.new).facts.ledger }
         ensures bytes { bytes_in (knows_of self.new) ≤ bytes_in (knows_of self.old) }
     {
-        let Some(tenure) = &mut self.tenure else {
-            return refused(Errno::Ebadf, call);
-        };
-        if tenure.owner != who {
-            return refused(Errno::Ebadf, call);
+        match &mut self.tenure {
+            Some(tenure) if tenure.owner == who => tenure.act(alloc, self.has_ended, call),
+            _ => refused(Errno::Ebadf, call),
         }
-        if let Some(errno) = tenure.refusal(&call) {
-            return refused(errno, call);
-        }
-        if let Call::Close = call {
-            let reply = tenure.close();
-            self.tenure = None;
-            return plain(reply);
-        }
-        tenure.act(alloc, self.has_ended, call)
     }
 
     /// A batch passes. Where the node is open and the packets come from the frontend, those that a tap names are

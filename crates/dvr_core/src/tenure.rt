@@ -1,10 +1,9 @@
 // What the dvr node keeps for its owner, and what each call of the owner does to it.
 //
-// A call comes here only where it isn't refused. `Does` says what the owner is answered, how the node goes on, and what
-// then holds. No call of the owner looks at the taps, and none at its moment, since nothing expires here: it does so
+// `Does` says what the owner is answered to a call that isn't refused, how the node goes on, and what then holds. No call of the owner looks at the taps, and none at its moment, since nothing expires here: it does so
 // whichever they are. The dvr node has no tap of its own, so no Done tells of one.
 
-ghost use Rattle.std.specs.Prelude.{◌≡◌, ℕ, Bool, true, false, List, Option, IfOk, Some};
+ghost use Rattle.std.specs.Prelude.{◌≡◌, ◌≤◌, ℕ, Bool, true, false, List, Option, IfOk, Some};
 ghost use Rattle.dmx_calls.specs.declared.node.NodeKind.TheVariants.{Dvr};
 ghost use Rattle.dmx_calls.specs.declared.limits.TheConstants.{DVR_SIZE as size_of_open};
 ghost use Rattle.dmx_calls.specs.Invocation.{Close, SetSize, Read, Poll};
@@ -14,12 +13,14 @@ ghost use Rattle.dmx_calls.specs.Answer.{is_for_anybody};
 ghost use Rattle.dmx_calls.specs.Calls.{invocation_of, response_of};
 ghost use Rattle.dmx_calls.specs.Back.{BackOfRead, GivesBack};
 ghost use Rattle.node_buffer.specs.Inside.Capturing.{terms_of as terms_by, begun};
-ghost use Rattle.node_buffer.specs.Inside.Coherent.{CoherentIn};
+ghost use Rattle.node_buffer.specs.Inside.Coherent.{CoherentIn, total_of};
 ghost use Rattle.node_buffer.specs.Inside.Gives.{owner_refusal, is_close};
+ghost use Rattle.dvr_core.specs.Inside.Gives.{Gives};
+ghost use Rattle.dvr_core.specs.Inside.Step.{next};
 
 use dmx_calls::limits::DVR_SIZE;
 use dmx_calls::{Answer, ByteBuf, Call, Errno, NodeKind, Params, Reply, State, Tap, refusal};
-use node_buffer::{Buffer, NOTHING, done, plain, terms_of};
+use node_buffer::{Buffer, NOTHING, done, plain, refused, terms_of};
 use std::alloc::{AllocError as NoMemory, Global};
 
 /// What the node keeps for its owner.
@@ -47,9 +48,9 @@ impl Tenure {
         Ok(Tenure { owner, buffer })
     }
 
-    /// Why a call of the owner is refused, if it is: by the table of calls. A SetSize to the size that the node has is
-    /// never refused.
-    pub fn refusal(&self, call: &Call) -> Option<Errno>
+    // Why a call of the owner is refused, if it is: by the table of calls. A SetSize to the size that the node has is
+    // never refused.
+    fn refusal(&self, call: &Call) -> Option<Errno>
         ensures { result ≡ owner_refusal Dvr (facts_in true (Some self.now)) (invocation_of call.now) }
     {
         match call {
@@ -58,8 +59,25 @@ impl Tenure {
         }
     }
 
-    /// Makes a call of the owner, but for Close. `ended` says that the stream has ended.
+    /// Makes a call of the owner, but for Close, or refuses it. `ended` says that the stream has ended.
     pub fn act(&mut self, alloc: Global, ended: bool, call: Call) -> Answer
+        requires sound { CoherentIn self.old.buffer.ledger }
+        requires own { is_for_anybody Dvr (invocation_of call) ≡ false }
+        requires stays { is_close (invocation_of call) ≡ false }
+        ensures said { (taps : List (Option TapValue)) → Gives (knows_in ended taps (Some self.old)) self.old.owner (invocation_of call) (response_of result.reply) }
+        ensures after { (taps : List (Option TapValue)) → knows_in ended taps (Some self.new) ≡ next (knows_in ended taps (Some self.old)) self.old.owner (invocation_of call) (response_of result.reply) }
+        ensures back { GivesBack call result }
+        ensures sound { CoherentIn self.new.buffer.ledger }
+        ensures bytes { total_of self.new.buffer.ledger ≤ total_of self.old.buffer.ledger }
+    {
+        match self.refusal(&call) {
+            Some(errno) => refused(errno, call),
+            None => self.make(alloc, ended, call),
+        }
+    }
+
+    // Makes a call that isn't refused.
+    fn make(&mut self, alloc: Global, ended: bool, call: Call) -> Answer
         requires sound { CoherentIn self.old.buffer.ledger }
         requires granted { IsGranted self.old (invocation_of call) }
         requires own { is_for_anybody Dvr (invocation_of call) ≡ false }

@@ -1,9 +1,10 @@
 // What every node answers: that a call was done, and answers that hand back what the call brought.
 
-ghost use Rattle.std.specs.Prelude.{◌≡◌, Option, Some, None};
+ghost use Rattle.std.specs.Prelude.{◌≡◌, Option, Some, None, MatchResult};
 ghost use Rattle.dmx_calls.specs.Back.{GivesBack};
 
 use dmx_calls::{Answer, Call, Errno, Reply, Span, Tap};
+use std::alloc::AllocError as NoMemory;
 
 /// Of a call that drops nothing.
 pub const NOTHING: Span = Span { from: 0, to: 0 };
@@ -13,6 +14,19 @@ pub fn done(dropped: Span, tap: Tap) -> Reply
     ensures { result ≡ Reply.Done dropped tap }
 {
     Reply::Done { dropped, tap }
+}
+
+/// What is answered to open() of a free node: what was made for the owner is kept, or there was no memory for it and nothing changes.
+pub fn opened<T: Drop>(kept: &mut Option<T>, made: Result<T, NoMemory>) -> Reply
+    ensures { MatchResult made (λ t. (kept.new ≡ Some t) × (result ≡ Reply.Done NOTHING Tap.Keep)) (λ e. (kept.new ≡ kept.old) × (result ≡ Reply.NoMemory)) }
+{
+    match made {
+        Ok(made) => {
+            *kept = Some(made);
+            done(NOTHING, Tap::Keep)
+        }
+        Err(_) => Reply::NoMemory,
+    }
 }
 
 /// The answer to a call that brought neither a buffer nor a batch.

@@ -29,6 +29,6 @@ mod answers;
 mod buffer;
 mod filter;
 
-pub use answers::{NOTHING, done, plain, refused};
+pub use answers::{NOTHING, done, opened, plain, refused};
 pub use buffer::Buffer;
 pub use filter::{Terms, is_oneshot, terms_of};

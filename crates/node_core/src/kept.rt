@@ -5,12 +5,13 @@
 
 ghost use Rattle.std.specs.Prelude.{◌≡◌, ◌≢◌, ◌≤◌, ◌<◌, ◌+◌, ◌^◌, false};
 ghost use Rattle.dmx_calls.specs.declared.node.NodeKind.TheVariants.{Demux};
-ghost use Rattle.dmx_calls.specs.Invocation.{Open, Pass, End};
+ghost use Rattle.dmx_calls.specs.Invocation.{Open, Close, Pass, End};
 ghost use Rattle.dmx_calls.specs.Response.{Passed};
 ghost use Rattle.dmx_calls.specs.Facts.{state_of};
 ghost use Rattle.dmx_calls.specs.Answer.{is_for_anybody};
 ghost use Rattle.dmx_calls.specs.Calls.{invocation_of, response_of};
 ghost use Rattle.dmx_calls.specs.Back.{GivesBack};
+ghost use Rattle.node_buffer.specs.Inside.Gives.{is_close};
 ghost use Rattle.node_core.specs.Looks.{named_packets};
 ghost use Rattle.node_core.specs.Inside.Sound.{IsSound};
 ghost use Rattle.node_core.specs.Inside.Gives.{Gives};
@@ -20,8 +21,8 @@ ghost use Rattle.node_core.specs.Inside.KeptView.{knows_of, bytes_in};
 use crate::filter::takes_from;
 use crate::offer::offer_all;
 use crate::tenure::Tenure;
-use dmx_calls::{Answer, Call, Errno, Input, Reply, State, Tap};
-use node_buffer::{NOTHING, done, plain, refused};
+use dmx_calls::{Answer, Call, Errno, Input, Reply, State};
+use node_buffer::{opened, refused};
 use std::alloc::Global;
 use std::sync::ledger::Ledger;
 use steps::Steps;
@@ -45,46 +46,44 @@ impl Kept {
         ensures sound { IsSound (knows_of self.new) }
         ensures bytes { bytes_in (knows_of self.new) ≤ bytes_in (knows_of self.old) }
     {
-        if let Some(tenure) = &self.tenure {
-            return Reply::Busy {
+        match &self.tenure {
+            Some(tenure) => Reply::Busy {
                 owner: tenure.owner,
-            };
-        }
-        match Tenure::new(alloc, who) {
-            Ok(tenure) => {
-                self.tenure = Some(tenure);
-                done(NOTHING, Tap::Keep)
-            }
-            Err(_) => Reply::NoMemory,
+            },
+            None => opened(&mut self.tenure, Tenure::new(alloc, who)),
         }
     }
 
-    /// A call that only the owner may make: the refusal comes first, EBADF to a caller that isn't the owner. A refused call
-    /// changes nothing, and no time passes by it.
+    /// close(): the node becomes free. EBADF to a caller that isn't the owner.
+    pub fn close(&mut self, who: u32) -> Reply
+        requires { IsSound (knows_of self.old) }
+        ensures said { Gives (knows_of self.old) who Close (response_of result) }
+        ensures after { knows_of self.new ≡ next (knows_of self.old) who Close (response_of result) }
+        ensures sound { IsSound (knows_of self.new) }
+        ensures bytes { bytes_in (knows_of self.new) ≤ bytes_in (knows_of self.old) }
+    {
+        match self.tenure.take_if(|tenure| tenure.owner == who) {
+            Some(tenure) => tenure.close(),
+            None => Reply::Refused(Errno::Ebadf),
+        }
+    }
+
+    /// Another call that only the owner may make: EBADF to a caller that isn't the owner. A refused call changes nothing, and no
+    /// time passes by it.
     pub fn act_for_owner(&mut self, alloc: Global, who: u32, call: Call) -> Answer
         requires sound { IsSound (knows_of self.old) }
         requires own { is_for_anybody Demux (invocation_of call) ≡ false }
+        requires stays { is_close (invocation_of call) ≡ false }
         ensures said { Gives (knows_of self.old) who (invocation_of call) (response_of result.reply) }
         ensures after { knows_of self.new ≡ next (knows_of self.old) who (invocation_of call) (response_of result.reply) }
         ensures back { GivesBack call result }
         ensures sound { IsSound (knows_of self.new) }
         ensures bytes { bytes_in (knows_of self.new) ≤ bytes_in (knows_of self.old) }
     {
-        let Some(tenure) = &mut self.tenure else {
-            return refused(Errno::Ebadf, call);
-        };
-        if tenure.owner != who {
-            return refused(Errno::Ebadf, call);
+        match &mut self.tenure {
+            Some(tenure) if tenure.owner == who => tenure.act(alloc, self.has_ended, call),
+            _ => refused(Errno::Ebadf, call),
         }
-        if let Some(errno) = tenure.refusal(&call) {
-            return refused(errno, call);
-        }
-        if let Call::Close = call {
-            let reply = tenure.close();
-            self.tenure = None;
-            return plain(reply);
-        }
-        tenure.act(alloc, self.has_ended, call)
     }
 
     /// A batch passes. The filter may expire first; where it then still runs and takes this input, the packets that its PIDs name are looked at.

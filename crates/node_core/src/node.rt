@@ -69,6 +69,7 @@ fn act<L: Ledger>(
 {
     match call {
         Call::Open => plain(kept.open(alloc, who)),
+        Call::Close => plain(kept.close(who)),
         Call::Pass { input, batch, now } => {
             kept.pass(input, &batch, now, steps);
             Answer {

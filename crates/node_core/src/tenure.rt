@@ -1,9 +1,9 @@
 // What a node keeps for its owner, and what each call of the owner does to it.
 //
-// A call comes here only where it isn't refused. `Does` says what the owner is answered, how the node goes on, and what then
-// holds; it does so for a stream that has ended and for one that hasn't.
+// `Does` says what the owner is answered to a call that isn't refused, how the node goes on, and what then holds; it does so for
+// a stream that has ended and for one that hasn't.
 
-ghost use Rattle.std.specs.Prelude.{◌≡◌, [], Bool, true, false, IfOk, Some, None, if◌then◌else◌};
+ghost use Rattle.std.specs.Prelude.{◌≡◌, ◌≤◌, [], Bool, true, false, IfOk, Some, None, if◌then◌else◌};
 ghost use Rattle.dmx_calls.specs.declared.node.NodeKind.TheVariants.{Demux};
 ghost use Rattle.dmx_calls.specs.declared.limits.TheConstants.{DEMUX_SIZE, IMMEDIATE_START};
 ghost use Rattle.dmx_calls.specs.Invocation.{Close, SetFilter, SetPes, AddPid, RemovePid, Start, Stop, SetSize, Read, Poll};
@@ -16,7 +16,8 @@ ghost use Rattle.item_select.specs.Selecting.{begun as begun_selecting};
 ghost use Rattle.node_buffer.specs.Inside.Capturing.{terms_of as terms_by, begun};
 ghost use Rattle.node_buffer.specs.Inside.Gives.{owner_refusal, is_close};
 ghost use Rattle.node_core.specs.Offers.{choice_of, names_of};
-ghost use Rattle.node_core.specs.Inside.Step.{unset};
+ghost use Rattle.node_core.specs.Inside.Gives.{Gives};
+ghost use Rattle.node_core.specs.Inside.Step.{unset, next};
 
 use crate::filter::{rename, select, starts_at_once};
 use crate::tap::tap_of_idle;
@@ -26,7 +27,7 @@ use dmx_calls::{
     refusal,
 };
 use item_select::Selector;
-use node_buffer::{Buffer, NOTHING, done, plain, terms_of};
+use node_buffer::{Buffer, NOTHING, done, plain, refused, terms_of};
 use pid_set::Pids;
 use std::alloc::{AllocError as NoMemory, Global};
 
@@ -46,7 +47,7 @@ pub struct Tenure {
 }
 
 impl Tenure {
-    ghost use Rattle.node_core.specs.Inside.KeptView.{knows_in, is_recording_for, tap_told, IsSoundIn, IsGranted, reply_to, Does};
+    ghost use Rattle.node_core.specs.Inside.KeptView.{knows_in, bytes_in, is_recording_for, tap_told, IsSoundIn, IsGranted, reply_to, Does};
 
     /// A node that was just opened: it has the default size and no filter.
     pub fn new(alloc: Global, owner: u32) -> Result<Tenure, NoMemory>
@@ -92,9 +93,9 @@ impl Tenure {
         }
     }
 
-    /// Why a call of the owner is refused, if it is: by the table of calls and states. A SetSize to the size that the node has
-    /// is never refused.
-    pub fn refusal(&self, call: &Call) -> Option<Errno>
+    // Why a call of the owner is refused, if it is: by the table of calls and states. A SetSize to the size that the node has
+    // is never refused.
+    fn refusal(&self, call: &Call) -> Option<Errno>
         ensures { result ≡ owner_refusal Demux (knows_in true (Some self.now)).facts (invocation_of call.now) }
     {
         match call {
@@ -103,8 +104,25 @@ impl Tenure {
         }
     }
 
-    /// Makes a call of the owner, but for Close. `ended` says that the stream has ended.
+    /// Makes a call of the owner, but for Close, or refuses it. `ended` says that the stream has ended.
     pub fn act(&mut self, alloc: Global, ended: bool, call: Call) -> Answer
+        requires sound { IsSoundIn self.old }
+        requires own { is_for_anybody Demux (invocation_of call) ≡ false }
+        requires stays { is_close (invocation_of call) ≡ false }
+        ensures said { Gives (knows_in ended (Some self.old)) self.old.owner (invocation_of call) (response_of result.reply) }
+        ensures after { knows_in ended (Some self.new) ≡ next (knows_in ended (Some self.old)) self.old.owner (invocation_of call) (response_of result.reply) }
+        ensures back { GivesBack call result }
+        ensures sound { IsSoundIn self.new }
+        ensures bytes { bytes_in (knows_in ended (Some self.new)) ≤ bytes_in (knows_in ended (Some self.old)) }
+    {
+        match self.refusal(&call) {
+            Some(errno) => refused(errno, call),
+            None => self.make(alloc, ended, call),
+        }
+    }
+
+    // Makes a call that isn't refused.
+    fn make(&mut self, alloc: Global, ended: bool, call: Call) -> Answer
         requires sound { IsSoundIn self.old }
         requires granted { IsGranted self.old (invocation_of call) }
         requires own { is_for_anybody Demux (invocation_of call) ≡ false }

@@ -13,14 +13,12 @@
 //! `adding_and_removing` has as its contract the law that these are sets: adding a PID to an ascending list leaves it
 //! ascending, with that PID as its one new member, and removing one leaves all others (`specs/Sets.antt`).
 //!
-//! What is only tested: the text of `PidsFull`, and runs of many calls against lists worked out by hand.
+//! What is only tested, in `stream_tests`: the text of `PidsFull`, and runs of many calls against lists worked out by hand.
 //!
 //! Limits: no memory is taken; the members stand in an `ArrayVec`, so a set isn't `Copy`. A PID is found by halving, and
 //! adding or removing moves the members above it.
 #![tactic(auto)]
 
 mod set;
-#[cfg(test)]
-mod tests;
 
 pub use set::{ALL_PACKETS, PidSet, Pids, PidsFull, adding_and_removing};

@@ -15,7 +15,7 @@
 //! `numbers_are_read_again`, `bytes_are_read_again`, `words_are_read_again`, `script_names_are_read_again`,
 //! `report_names_are_read_again`, `places_are_read_again` and `filters_are_read_again`.
 //!
-//! What is only tested: that memory isn't refused where there is enough.
+//! What is only tested, in `text_tests`: that memory isn't refused where there is enough.
 //!
 //! Cost: a writing side asks for room once, and for none but in the bytes that it appends to. Numbers are written by
 //! `itoa`, bytes by two digits each.
@@ -30,8 +30,6 @@ mod names;
 mod number;
 mod places;
 mod room;
-#[cfg(test)]
-mod tests;
 mod words;
 
 pub use hex::{hex_byte, write_hex, write_hex_byte};

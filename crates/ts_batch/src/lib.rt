@@ -16,13 +16,11 @@
 //!
 //! There is no other way to the bytes of a packet than `packet`, so the counter of steps bounds how many were looked at.
 //!
-//! The number of packets in a batch and the counting of steps are this project's rules.
+//! The number of packets in a batch and the counting of steps are this project's rules. The tests stand in `stream_tests`.
 #![tactic(auto)]
 
 mod index;
 mod place_set;
-#[cfg(test)]
-mod tests;
 
 ghost use Rattle.std.specs.Prelude.{◌≡◌, ◌<◌, ◌≤◌, ◌+◌, ◌^◌, length, All, IfOk, slice_get};
 ghost use Rattle.ts_packet.specs.Fields.{IsPacket};

@@ -10,15 +10,13 @@
 //! What is proved, for every list of packets that the watch stood for: after `watch` it stands for that list with the packet
 //! behind it, and `row` answers the counts of that list as `ts_packet` defines them over its clean packets.
 //!
-//! What is only tested: that ample memory is enough.
+//! What is only tested, in `stream_tests`: that ample memory is enough.
 //!
 //! Limits: only `new` takes memory, room for one packet of each of the 8,192 PIDs; of that room only what stands for a PID
 //! that was seen is written to. A packet and a row cost a few steps whatever was seen before.
 #![tactic(auto)]
 
 mod seen;
-#[cfg(test)]
-mod tests;
 mod watch;
 
 pub use seen::WatchRow;

@@ -1,0 +1,14 @@
+use Rattle.std.proofs.Common.{◌≡◌, ℕ, ◌-◌, ◌*◌, List, [], length}
+use Rattle.std.specs.Io.KnownBytes.{Consumes}
+use Rattle.feed_pull.specs.Pulling.{Pulls}
+use Rattle.feed_pull.specs.Steps.{Follows}
+use Rattle.stream_tests.proofs.tests.pulling.count_all.Given as goal
+
+abbrev pub invariant-all : goal.invariant-all
+invariant-all g l = record {
+  stands : (taken : List ℕ) × (given : List (List ℕ)) × Consumes (g.S.Source.left l.initial.source) (g.S.Source.left l.source) taken × (l.count ≡ length given) × Pulls [] taken given l.puller;
+  follows : Follows l.initial.puller.reading l.puller.reading (g.S.Source.left l.initial.source) (g.S.Source.left l.source) (g.S.Source.faults l.initial.source) (g.S.Source.faults l.source);
+}
+
+abbrev pub decreases-all : goal.decreases-all
+decreases-all g l = 281474976776192 - 188 * l.puller.given
