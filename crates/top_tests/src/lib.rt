@@ -3,7 +3,7 @@
 //!
 //! `whole` has sessions with their whole outputs, and `rows` sessions whose lines stand beside the replies to their calls;
 //! `in_memory` runs a session, and `report_lines` reads the lines of its report; `judge` looks at the report of a run by threads,
-//! and `holding_gate` forces an order on its threads.
+//! `made_reads` at what a client of a made session read, and `holding_gate` forces an order on the threads.
 //!
 //! What is proved: that the tests are safe, and, but for those by threads, that they end. What is only tested: what the program
 //! tells of small sessions, of faults and of damaged streams, against reports worked out by hand from the rules; that the
@@ -18,6 +18,8 @@ mod holding_gate;
 mod in_memory;
 #[cfg(test)]
 mod judge;
+#[cfg(test)]
+mod made_reads;
 #[cfg(test)]
 mod node_tests;
 #[cfg(test)]

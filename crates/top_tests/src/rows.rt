@@ -2,6 +2,7 @@
 use crate::in_memory::{Ends, FAULTLESS, Part, input_of, told};
 use crate::report_lines::{command_in, is_text, reply_to};
 use emu_top::Status;
+use std::alloc::{AllocError as NoMemory, Global};
 use std::sync::Wait;
 use std::thread::Threads;
 
@@ -39,18 +40,24 @@ fn row_in(row: &str) -> (&str, &str) {
     }
 }
 
+// The script of a session with its line `stream`.
+fn script_of(alloc: Global, session: &Session) -> Result<String, NoMemory> {
+    let mut script = String::new(alloc);
+    for row in session.rows.lines() {
+        script.push_str(row_in(row).0)?;
+        script.push_str("\n")?;
+    }
+    script.push_str("stream\n")?;
+    Ok(script)
+}
+
 // The report of a session, where its status, its beginning and its end are as they have to be.
 fn report_of<R: AllocGlobal + Threads + Wait + Sync>(
     rt: &R,
     words: &str,
     session: &Session,
 ) -> Option<String> {
-    let mut script = String::new(rt.alloc());
-    for row in session.rows.lines() {
-        script.push_str(row_in(row).0).ok()?;
-        script.push_str("\n").ok()?;
-    }
-    script.push_str("stream\n").ok()?;
+    let script = script_of(rt.alloc(), session).ok()?;
     let input = input_of(rt.alloc(), script.as_str(), session.stream).ok()?;
     let (status, written) = told(rt, words, input, session.ends).ok()?;
     let report = String::from_utf8(written).ok()?;

@@ -256,6 +256,11 @@ static REPORTS: [Whole; 5] = [
             line 3 steps 1..2 done\n\
             line 5 steps 2..3 done\n\
             line 9 steps 3..4 done\n\
+            client 2\n\
+            client 3\n\
+            client 4\n\
+            client 5\n\
+            client 6\n\
             client 7\n\
             line 10 steps 0..1 done\n\
             node 0\n\

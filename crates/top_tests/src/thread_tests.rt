@@ -5,10 +5,11 @@ ghost use Rattle.std.specs.Prelude.{true};
 use crate::holding_gate::{Hold, HoldingGate};
 use crate::in_memory::{FIRST, Part, SECOND, emulated, input_of};
 use crate::judge::{is_judged, stamped};
-use crate::report_lines::{is_text, number_in, reply_to, told_in};
+use crate::made_reads::{read_on_seven, tapped};
+use crate::report_lines::{is_text, number_in, reply_to};
 use emu_io::{Clock, FixedClock, Gate, MemSink, MemSource, NoGate};
 use emu_top::Status;
-use std::alloc::{AllocError as NoMemory, Global};
+use std::alloc::AllocError as NoMemory;
 use std::sync::Wait;
 use std::sync::atomic::AtomicU64;
 use std::sync::atomic::Ordering::SeqCst;
@@ -134,17 +135,22 @@ impl Clock for CountingClock {
     }
 }
 
-// When a read was started that came too late, when it was answered, and its timeout, by a clock that goes on.
-fn late_read<R: AllocGlobal + Threads + Wait + Sync>(rt: &R) -> Option<(u64, u64, u64)> {
-    let script = "c0 open n0\nc0 section n0 256 1 0\nc0 start n0\nc0 readw n0 1\nstream\n";
-    let input = input_of(rt.alloc(), script, &[]).ok()?;
-    let report = ran(rt, "run", input, &CountingClock::new(false), &NoGate::new())?;
+// When the read was started that came too late, when it was answered, and its timeout.
+fn late_in(report: &str) -> Option<(u64, u64, u64)> {
     let line = report.lines().find(|line| line.contains(" = timedout "))?;
     Some((
         number_in(line, " started=")?,
         number_in(line, " now=")?,
         number_in(line, " timeout=")?,
     ))
+}
+
+// The same of a run by a clock that goes on.
+fn late_read<R: AllocGlobal + Threads + Wait + Sync>(rt: &R) -> Option<(u64, u64, u64)> {
+    let script = "c0 open n0\nc0 section n0 256 1 0\nc0 start n0\nc0 readw n0 1\nstream\n";
+    let input = input_of(rt.alloc(), script, &[]).ok()?;
+    let report = ran(rt, "run", input, &CountingClock::new(false), &NoGate::new())?;
+    late_in(report.as_str())
 }
 
 // That each moment is a reading of its own: the clauses allow a run that reads the clock once, and the read of that run
@@ -167,18 +173,22 @@ struct Held {
     replies: &'static [(&'static str, u64, &'static str)],
 }
 
-// Whether each hold was kept, and a report in order has these replies.
+// Whether a report has these replies.
+fn has_replies(report: &str, replies: &[(&str, u64, &str)]) -> bool {
+    replies.iter().all(|(who, step, want)| match reply_to(report, who, *step) {
+        Some(reply) => is_text(reply.as_bytes(), want),
+        None => false,
+    })
+}
+
+// Whether each hold was kept, and a report in order has the replies.
 fn is_held<R: AllocGlobal + Threads + Wait + Sync>(rt: &R, case: &Held) -> Option<bool> {
     let alloc = rt.alloc();
     let gate = HoldingGate::new(alloc, case.holds).ok()?;
     let input = input_of(alloc, case.script, case.stream).ok()?;
     let report = ran(rt, case.words, input, &FixedClock::new(0), &gate)?;
-    for (who, step, want) in case.replies {
-        if !is_text(reply_to(report.as_str(), who, *step)?.as_bytes(), want) {
-            return Some(false);
-        }
-    }
-    Some(gate.has_kept_all() && is_judged(alloc, report.as_str(), case.packets).ok()?)
+    let is_judged = is_judged(alloc, report.as_str(), case.packets).ok()?;
+    Some(is_judged && has_replies(report.as_str(), case.replies) && gate.has_kept_all())
 }
 
 // Client 1 is held, and client 0.
@@ -308,66 +318,6 @@ impl Gate for ShufflingGate {
             std::thread::yield_now();
         }
     }
-}
-
-// The value of a hexadecimal digit in lower case.
-fn digit(letter: u8) -> Option<u8> {
-    match letter {
-        b'0'..=b'9' => Some(letter - b'0'),
-        b'a'..=b'f' => Some(letter - b'a' + 10),
-        _ => None,
-    }
-}
-
-// Appends the bytes of hexadecimal digits, two for each.
-fn put_bytes(bytes: &mut Vec<u8>, digits: &str) -> Result<bool, NoMemory> {
-    for pair in digits.as_bytes().chunks(2) {
-        let [high, low] = pair else {
-            return Ok(false);
-        };
-        match (digit(*high), digit(*low)) {
-            (Some(high), Some(low)) => bytes.push(high << 4 | low)?,
-            _ => return Ok(false),
-        }
-    }
-    Ok(true)
-}
-
-// How many packets had passed node 7 when it was started, and the bytes that were read of it.
-fn read_on_seven(alloc: Global, report: &str) -> Result<(u64, Vec<u8>), NoMemory> {
-    let (mut here, mut passed, mut first) = (false, 0u64, 0u64);
-    let mut bytes = Vec::new(alloc);
-    for line in report.lines() {
-        if line.starts_with("node ") {
-            here = line == "node 7";
-        }
-        let Some(told) = told_in(line) else { continue };
-        if !here {
-            continue;
-        }
-        if told.act.starts_with("start ") {
-            first = passed;
-        }
-        passed = passed.saturating_add(number_in(told.act, " count=").unwrap_or(0));
-        if let Some(digits) = told.reply.strip_prefix("data ") {
-            put_bytes(&mut bytes, digits)?;
-        }
-    }
-    Ok((first, bytes))
-}
-
-// The packets of the PIDs 0 and 512 of a stream, from this one on.
-fn tapped(alloc: Global, stream: &[u8], first: u64) -> Result<Vec<u8>, NoMemory> {
-    let mut bytes = Vec::new(alloc);
-    for packet in stream.chunks(188).skip(first as usize) {
-        if let [_, high, low, ..] = packet {
-            let pid = u16::from(*high & 0x1f) * 256 + u16::from(*low);
-            if pid == 0 || pid == 512 {
-                bytes.extend_from_slice(packet)?;
-            }
-        }
-    }
-    Ok(bytes)
 }
 
 // The script of a made session has 656 bytes.
