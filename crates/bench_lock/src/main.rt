@@ -136,8 +136,8 @@ fn through_mutex<R: Threads + Wait + Sync>(
 ) -> Result<u64, NoMemory>
     requires { 1 ≤ threads }
 {
-    let shared = Mutex::new(Adder::new());
     let mut lasts = vec![in alloc; 0u64; threads as usize]?;
+    let shared = Mutex::new(Adder::new());
     let work = |_: usize, last: &mut u64| *last = call_mutex(rt, &shared, calls);
     thread::for_each_mut(rt, &mut lasts, threads as usize, &work);
     Ok(shared.lock(rt).sum())
@@ -148,11 +148,16 @@ fn number(word: Option<String>) -> u32 {
     word.and_then(|text| text.parse().ok()).unwrap_or(1)
 }
 
-fn main(rt: HostRuntime) -> anyhow::Result<()> {
-    let mut words = env::args(&rt)?.skip(1);
+// What the words ask for: whether the lock is called, the number of threads, and the calls of each.
+fn asked(rt: &HostRuntime) -> anyhow::Result<(bool, u32, u32)> {
+    let mut words = env::args(rt)?.skip(1);
     let lock = words.next().is_some_and(|word| word.as_str() == "lock");
-    let threads = number(words.next()).clamp(1, 64);
-    let calls = number(words.next());
+    Ok((lock, number(words.next()), number(words.next())))
+}
+
+fn main(rt: HostRuntime) -> anyhow::Result<()> {
+    let (lock, threads, calls) = asked(&rt)?;
+    let threads = threads.clamp(1, 64);
     let sum = if lock {
         through_lock(&rt, rt.alloc(), threads, calls)?
     } else {

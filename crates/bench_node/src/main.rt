@@ -31,7 +31,7 @@ const READ: usize = 65536;
 // More reads than a stream needs: with READ bytes each they give fewer than 2^63 bytes.
 const READS: u64 = 4_294_967_296;
 
-// Cuts the whole piece, and passes its packets.
+// Cuts the whole piece, passes its packets, and reads what the node has then.
 fn pass_all<L: Ledger>(
     station: &mut Station<L>,
     cutter: &mut Cutter,
@@ -48,18 +48,15 @@ fn pass_all<L: Ledger>(
         station.pass(packets)?;
         rest = &rest[taken..];
     }
-    Ok(())
+    station.read_all()
 }
 
-// Passes the whole stream through a node with this filter, or by a node without an owner.
-fn measure<L: Ledger>(
+// What a node gives of the whole stream: one with this filter, or without an owner.
+fn pass_stream<L: Ledger>(
     rt: &HostRuntime,
+    station: &mut Station<L>,
     filter: Option<Filter>,
-    blank: Blank,
-) -> anyhow::Result<Given>
-    requires ledger { (blank.name ≡ L.name) × (blank.parts ≡ L.parts) × (0 < L.parts) }
-{
-    let mut station = Station::<L>::new(rt.alloc(), blank);
+) -> anyhow::Result<Given> {
     if let Some(filter) = filter {
         station.open(filter)?;
     }
@@ -72,10 +69,21 @@ fn measure<L: Ledger>(
         if read == 0 {
             break;
         }
-        pass_all(&mut station, &mut cutter, &mut packets, &chunk[..read])?;
-        station.read_all()?;
+        pass_all(station, &mut cutter, &mut packets, &chunk[..read])?;
     }
     Ok(station.given)
+}
+
+// The same of a new node.
+fn measure<L: Ledger>(
+    rt: &HostRuntime,
+    filter: Option<Filter>,
+    blank: Blank,
+) -> anyhow::Result<Given>
+    requires ledger { (blank.name ≡ L.name) × (blank.parts ≡ L.parts) × (0 < L.parts) }
+{
+    let mut station = Station::<L>::new(rt.alloc(), blank);
+    pass_stream(rt, &mut station, filter)
 }
 
 fn filter_of(word: Option<&str>) -> Option<Filter> {

@@ -8,12 +8,13 @@
 //! all sections before it were taken. What it prints is tested.
 #![tactic(auto)]
 
-ghost use Rattle.std.specs.Prelude.{◌≡◌, ◌+◌, ◌^◌, ◌<◌, [], length};
+ghost use Rattle.std.specs.Prelude.{◌≡◌, ◌+◌, ◌^◌, ◌<◌, [], length, IfOk};
 ghost use Rattle.ts_packet.specs.Cutting.{bytes_taken};
 
 use section_parse::Assembler;
-use std::env;
+use std::alloc::{AllocError as NoMemory, Global};
 use std::io::Read;
+use std::{env, io};
 use ts_packet::{Cutter, Packet, PacketBuf};
 
 // The bytes asked of one read.
@@ -71,31 +72,78 @@ fn count_packets(
     }
 }
 
-// Gives the whole piece to the cutter, and counts the sections of its packets.
-fn count_all(
-    cutter: &mut Cutter,
-    packets: &mut PacketBuf,
-    first: &mut Assembler,
-    second: &mut Assembler,
-    count: &mut Count,
-    work: Work,
-    piece: &[u8],
-)
-    requires few { bytes_taken cutter.old + length piece.now < 2 ^ 63 }
-    requires first { first.old.ready ≡ [] }
-    requires second { second.old.ready ≡ [] }
-    ensures taken { bytes_taken cutter.new ≡ bytes_taken cutter.old + length piece.now }
-    ensures first { first.new.ready ≡ [] }
-    ensures second { second.new.ready ≡ [] }
-{
-    let mut rest = piece;
-    'pieces: while !rest.is_empty() {
-        packets.clear();
-        let taken = cutter.push(rest, packets);
-        if work == Work::Assemble {
-            count_packets(first, second, packets, count);
+// The cutter, the packets that it cut last, the assemblers of the two PIDs, and what was counted.
+#[derive(Drop)]
+struct Station {
+    cutter: Cutter,
+    packets: PacketBuf,
+    first: Assembler,
+    second: Assembler,
+    count: Count,
+}
+
+impl Station {
+    fn new(alloc: Global) -> Result<Station, NoMemory>
+        ensures taken { IfOk result (λ station. bytes_taken station.cutter ≡ 0) }
+        ensures ready { IfOk result (λ station. (station.first.ready ≡ []) × (station.second.ready ≡ [])) }
+    {
+        let mut first = Assembler::new(alloc)?;
+        let mut second = Assembler::new(alloc)?;
+        first.clear(0);
+        second.clear(512);
+        Ok(Station {
+            cutter: Cutter::new(),
+            packets: PacketBuf::new(),
+            first,
+            second,
+            count: Count {
+                sections: 0,
+                bytes: 0,
+                sum: 0,
+            },
+        })
+    }
+
+    // Gives the whole piece to the cutter, and counts the sections of its packets.
+    fn take(&mut self, work: Work, piece: &[u8])
+        requires few { bytes_taken self.old.cutter + length piece.now < 2 ^ 63 }
+        requires ready { (self.old.first.ready ≡ []) × (self.old.second.ready ≡ []) }
+        ensures taken { bytes_taken self.new.cutter ≡ bytes_taken self.old.cutter + length piece.now }
+        ensures ready { (self.new.first.ready ≡ []) × (self.new.second.ready ≡ []) }
+    {
+        let mut rest = piece;
+        'pieces: while !rest.is_empty() {
+            self.packets.clear();
+            let taken = self.cutter.push(rest, &mut self.packets);
+            if work == Work::Assemble {
+                count_packets(
+                    &mut self.first,
+                    &mut self.second,
+                    &self.packets,
+                    &mut self.count,
+                );
+            }
+            rest = &rest[taken..];
         }
-        rest = &rest[taken..];
+    }
+
+    // Does the work with the whole stream.
+    fn read_all(&mut self, rt: &HostRuntime, work: Work) -> io::Result<()>
+        requires new { bytes_taken self.old.cutter ≡ 0 }
+        requires ready { (self.old.first.ready ≡ []) × (self.old.second.ready ≡ []) }
+    {
+        let mut input = rt.stdin();
+        let mut chunk = [0; READ];
+        'reads: for turn in 0..READS {
+            let read = input.read(&mut chunk)?;
+            if read == 0 {
+                break;
+            }
+            if work != Work::Read {
+                self.take(work, &chunk[..read]);
+            }
+        }
+        Ok(())
     }
 }
 
@@ -108,41 +156,14 @@ fn work_of(word: Option<&str>) -> Work {
 }
 
 fn main(rt: HostRuntime) -> anyhow::Result<()> {
-    let word = env::args(&rt)?.nth(1);
-    let work = work_of(word.as_deref());
-    let mut input = rt.stdin();
-    let mut chunk = [0; READ];
-    let mut cutter = Cutter::new();
-    let mut packets = PacketBuf::new();
-    let mut first = Assembler::new(rt.alloc())?;
-    let mut second = Assembler::new(rt.alloc())?;
-    first.clear(0);
-    second.clear(512);
-    let mut count = Count {
-        sections: 0,
-        bytes: 0,
-        sum: 0,
-    };
-    'reads: for turn in 0..READS {
-        let read = input.read(&mut chunk)?;
-        if read == 0 {
-            break;
-        }
-        if work != Work::Read {
-            count_all(
-                &mut cutter,
-                &mut packets,
-                &mut first,
-                &mut second,
-                &mut count,
-                work,
-                &chunk[..read],
-            );
-        }
-    }
-    println!(rt;
-        "sections={} bytes={} sum={}",
-        count.sections, count.bytes, count.sum
-    )?;
+    let work = work_of(env::args(&rt)?.nth(1).as_deref());
+    let mut station = Station::new(rt.alloc())?;
+    station.read_all(&rt, work)?;
+    let Count {
+        sections,
+        bytes,
+        sum,
+    } = station.count;
+    println!(rt; "sections={sections} bytes={bytes} sum={sum}")?;
     Ok(())
 }

@@ -1,9 +1,8 @@
 // A gate that holds one caller of a run by threads until another has come to a step.
 use emu_io::Gate;
-use std::alloc::Global;
+use std::alloc::{AllocError as NoMemory, Global};
 use std::sync::atomic::AtomicU64;
 use std::sync::atomic::Ordering::SeqCst;
-use std::test::Fail;
 
 // How long one thread is held for another, in turns.
 const TURNS: u64 = 100_000_000;
@@ -28,7 +27,7 @@ pub struct HoldingGate {
 }
 
 impl HoldingGate {
-    pub fn new(alloc: Global, holds: &[Hold]) -> Result<HoldingGate, Fail> {
+    pub fn new(alloc: Global, holds: &[Hold]) -> Result<HoldingGate, NoMemory> {
         Ok(HoldingGate {
             holds: holds.to_vec(alloc)?,
             come: [AtomicU64::new(0), AtomicU64::new(0), AtomicU64::new(0)],

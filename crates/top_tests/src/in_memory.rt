@@ -1,31 +1,63 @@
 // What `emulate` answers and writes over a source and a sink in memory.
-ghost use Rattle.std.specs.Prelude.{◌≡◌, ◌-◌, ◌^◌, ◌<◌};
+ghost use Rattle.std.specs.Prelude.{◌≡◌, ◌-◌, ◌^◌, ◌<◌, IfOk};
 
-use emu_io::{Clock, FixedClock, Gate, MemSink, MemSource, NoGate, Sink, Source};
+use emu_io::{Clock, FixedClock, Gate, MemSink, MemSource, Mute, NoGate, Sink, Source};
 use emu_top::{Status, emulate};
-use std::alloc::Global;
+use std::alloc::{AllocError as NoMemory, Global};
 use std::sync::Wait;
-use std::test::Fail;
 use std::thread::Threads;
 
 /// A part of an input: some bytes, and behind them so many bytes of one kind.
 pub type Part = (&'static [u8], usize, u8);
 
-/// The bytes of these parts.
-pub fn input_of(alloc: Global, parts: &[Part]) -> Result<Vec<u8>, Fail> {
-    let mut input = Vec::new(alloc);
+/// Packets whose payload is zeros: PID 256 with the counters 0, 1 and 2, and PID 257.
+pub const FIRST: Part = (b"\x47\x01\x00\x10", 184, 0);
+
+pub const SECOND: Part = (b"\x47\x01\x00\x11", 184, 0);
+
+pub const THIRD: Part = (b"\x47\x01\x00\x12", 184, 0);
+
+pub const OTHER: Part = (b"\x47\x01\x01\x10", 184, 0);
+
+/// Both ends of a session: what a read gives at most, which reads fail, what the sink holds, what a write takes at most, and which
+/// writes fail.
+pub struct Ends {
+    pub piece: u32,
+    pub reads: &'static [u64],
+    pub capacity: usize,
+    pub width: u32,
+    pub writes: &'static [u64],
+}
+
+/// Ends without faults.
+pub const FAULTLESS: Ends = Ends {
+    piece: 1000,
+    reads: &[],
+    capacity: 100_000,
+    width: 1000,
+    writes: &[],
+};
+
+// Appends the bytes of these parts.
+fn put_parts(input: &mut Vec<u8>, parts: &[Part]) -> Result<(), NoMemory> {
     for (bytes, count, byte) in parts {
         input.extend_from_slice(bytes)?;
-        for _ in 0..*count {
-            input.push(*byte)?;
-        }
+        input.resize(input.len().saturating_add(*count), *byte)?;
     }
+    Ok(())
+}
+
+/// The input of a script and a stream.
+pub fn input_of(alloc: Global, script: &str, stream: &[Part]) -> Result<Vec<u8>, NoMemory> {
+    let mut input = Vec::new(alloc);
+    input.extend_from_slice(script.as_bytes())?;
+    put_parts(&mut input, stream)?;
     Ok(input)
 }
 
-fn words_of(alloc: Global, words: &[&str]) -> Result<Vec<String>, Fail> {
+fn words_of(alloc: Global, words: &str) -> Result<Vec<String>, NoMemory> {
     let mut all = Vec::new(alloc);
-    for word in words {
+    for word in words.split_whitespace() {
         all.push(String::from_str(alloc, word)?)?;
     }
     Ok(all)
@@ -38,47 +70,55 @@ pub fn emulated<
     K: Sink,
     C: Clock + Sync,
     G: Gate + Sync,
->(rt: &R, words: &[&str], source: &mut S, sink: &mut K, clock: &C, gate: &G) -> Result<Status, Fail>
+>(
+    rt: &R,
+    words: &str,
+    source: &mut S,
+    sink: &mut K,
+    clock: &C,
+    gate: &G,
+) -> Result<Status, NoMemory>
     requires source_can_count { S.faults source.old < 2 ^ 64 - 1 }
     requires sink_can_count { K.faults sink.old < 2 ^ 64 - 1 }
 {
-    let alloc = rt.alloc();
-    let words = words_of(alloc, words)?;
-    Ok(emulate(rt, alloc, &words, source, sink, clock, gate))
+    let words = words_of(rt.alloc(), words)?;
+    Ok(emulate(rt, rt.alloc(), &words, source, sink, clock, gate))
 }
 
-/// What `emulate` answers and writes over these ends, at moment 0.
-pub fn told_over<R: AllocGlobal + Threads + Wait + Sync>(
-    rt: &R,
-    words: &[&str],
-    source: MemSource,
-    sink: MemSink,
-) -> Result<(Status, Vec<u8>), Fail>
-    requires { (source.faults ≡ 0) × (sink.faults ≡ 0) }
+// The source of an input, and a sink.
+fn opened(alloc: Global, input: Vec<u8>, ends: &Ends) -> Result<(MemSource, MemSink), NoMemory>
+    ensures { IfOk result (λ both. (both.0.faults ≡ 0) × (both.1.faults ≡ 0)) }
 {
-    let (mut source, mut sink) = (source, sink);
-    let (clock, gate) = (FixedClock::new(0), NoGate::new());
-    let status = emulated(rt, words, &mut source, &mut sink, &clock, &gate)?;
-    Ok((status, sink.bytes().to_vec(rt.alloc())?))
+    let (reads, writes) = (ends.reads.to_vec(alloc)?, ends.writes.to_vec(alloc)?);
+    let sink = MemSink::new(alloc, ends.capacity, ends.width.max(1), writes)?;
+    Ok((MemSource::new(input, ends.piece.max(1), reads), sink))
 }
 
-/// The same for an input and ends without faults.
-pub fn told_of<R: AllocGlobal + Threads + Wait + Sync>(
-    rt: &R,
-    words: &[&str],
-    input: Vec<u8>,
-) -> Result<(Status, Vec<u8>), Fail> {
-    let alloc = rt.alloc();
-    let source = MemSource::new(input, 1000, Vec::new(alloc));
-    let sink = MemSink::new(alloc, 100000, 1000, Vec::new(alloc))?;
-    told_over(rt, words, source, sink)
-}
-
-/// The same for the parts of an input.
+/// What `emulate` answers and writes for an input at moment 0.
 pub fn told<R: AllocGlobal + Threads + Wait + Sync>(
     rt: &R,
-    words: &[&str],
-    parts: &[Part],
-) -> Result<(Status, Vec<u8>), Fail> {
-    told_of(rt, words, input_of(rt.alloc(), parts)?)
+    words: &str,
+    input: Vec<u8>,
+    ends: &Ends,
+) -> Result<(Status, Vec<u8>), NoMemory> {
+    let alloc = rt.alloc();
+    let (mut source, mut sink) = opened(alloc, input, ends)?;
+    let (clock, gate) = (FixedClock::new(0), NoGate::new());
+    let status = emulated(rt, words, &mut source, &mut sink, &clock, &gate)?;
+    Ok((status, sink.bytes().to_vec(alloc)?))
+}
+
+/// The same over ends that tell no content, as standard input and output.
+pub fn told_mute<R: AllocGlobal + Threads + Wait + Sync>(
+    rt: &R,
+    words: &str,
+    input: Vec<u8>,
+    ends: &Ends,
+) -> Result<(Status, Vec<u8>), NoMemory> {
+    let alloc = rt.alloc();
+    let (source, sink) = opened(alloc, input, ends)?;
+    let (mut source, mut sink) = (Mute::new(source), Mute::new(sink));
+    let (clock, gate) = (FixedClock::new(0), NoGate::new());
+    let status = emulated(rt, words, &mut source, &mut sink, &clock, &gate)?;
+    Ok((status, sink.inner.bytes().to_vec(alloc)?))
 }

@@ -1,7 +1,6 @@
 // A judge of the reports of runs by threads, whatever the order of their calls.
-use crate::report_lines::{Told, number_in, steps_in, told_in};
-use std::alloc::Global;
-use std::test::Fail;
+use crate::report_lines::{Told, command_in, number_in, told_in};
+use std::alloc::{AllocError as NoMemory, Global};
 
 // What a judge has seen of a report.
 #[derive(Drop)]
@@ -81,7 +80,7 @@ impl Judge {
     }
 
     // Whether a line of a node may stand there.
-    fn takes_entry(&mut self, told: Told<'_>) -> Result<bool, Fail> {
+    fn takes_entry(&mut self, told: Told<'_>) -> Result<bool, NoMemory> {
         let place = self.places;
         self.places = self.places.saturating_add(1);
         if told.place != place || told.reply.starts_with("overflow") {
@@ -100,7 +99,7 @@ impl Judge {
 
     // Whether a command's line begins with the step where the last one ended.
     fn takes_command(&mut self, line: &str) -> bool {
-        let Some((from, to)) = steps_in(line) else {
+        let Some((_, from, to)) = command_in(line) else {
             return false;
         };
         match self.calls.last_mut() {
@@ -114,7 +113,7 @@ impl Judge {
     }
 
     // Whether a line of a report may stand there.
-    fn takes(&mut self, line: &str) -> Result<bool, Fail> {
+    fn takes(&mut self, line: &str) -> Result<bool, NoMemory> {
         if line.starts_with("client ") {
             self.calls.push(0)?;
             return Ok(true);
@@ -135,7 +134,7 @@ impl Judge {
 }
 
 // The steps below so many of each client, each with its client.
-fn all_steps(alloc: Global, calls: &[u64]) -> Result<Vec<u64>, Fail> {
+fn all_steps(alloc: Global, calls: &[u64]) -> Result<Vec<u64>, NoMemory> {
     let mut steps = Vec::new(alloc);
     for (client, count) in calls.iter().enumerate() {
         for step in 0..*count {
@@ -148,7 +147,7 @@ fn all_steps(alloc: Global, calls: &[u64]) -> Result<Vec<u64>, Fail> {
 /// Whether a report of a run over so many packets is in order: on each node the places are 0, 1, 2 and so on, the batches are
 /// the stream with one end behind it, and each caller's steps rise; over all nodes each step of a client stands once; nothing
 /// overflowed.
-pub fn is_judged(alloc: Global, report: &str, stream: u64) -> Result<bool, Fail> {
+pub fn is_judged(alloc: Global, report: &str, stream: u64) -> Result<bool, NoMemory> {
     let mut judge = Judge::new(alloc, stream);
     for line in report.lines() {
         if !judge.takes(line)? {

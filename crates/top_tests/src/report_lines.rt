@@ -1,6 +1,4 @@
 // What the lines of a report tell.
-use std::alloc::Global;
-use std::test::Fail;
 
 /// A line of a node in a report.
 #[derive(Clone, Copy)]
@@ -37,12 +35,13 @@ pub fn number_in(line: &str, name: &str) -> Option<u64> {
     digits.parse::<u64>().ok()
 }
 
-/// The steps A and B of a line `line L steps A..B done`.
-pub fn steps_in(line: &str) -> Option<(u64, u64)> {
-    let (_, behind) = line.split_once(" steps ")?;
+/// The numbers L, A and B of a line `line L steps A..B done`.
+pub fn command_in(line: &str) -> Option<(u64, u64, u64)> {
+    let behind = line.strip_prefix("line ")?;
+    let (number, behind) = behind.split_once(" steps ")?;
     let (from, behind) = behind.split_once("..")?;
     let (to, _) = behind.split_once(" ")?;
-    Some((from.parse::<u64>().ok()?, to.parse::<u64>().ok()?))
+    Some((number.parse().ok()?, from.parse().ok()?, to.parse().ok()?))
 }
 
 /// The reply to a client's call of this step.
@@ -57,15 +56,25 @@ pub fn reply_to<'a>(report: &'a str, who: &str, step: u64) -> Option<&'a str> {
     None
 }
 
-/// The replies of the clients' calls in a report, in their order.
-pub fn replies_in(alloc: Global, report: &str) -> Result<Vec<&str>, Fail> {
-    let mut replies = Vec::new(alloc);
-    for line in report.lines() {
-        if let Some(told) = told_in(line) {
-            if told.who != "feed" {
-                replies.push(told.reply)?;
-            }
+// A piece of a text, and how often it stands.
+fn times(piece: &str) -> (&str, usize) {
+    match piece.split_once("*") {
+        Some((word, count)) => (word, count.parse().unwrap_or(0)),
+        None => (piece, 1),
+    }
+}
+
+/// Whether bytes are this text. In it `|` parts pieces, and `0*368` is 368 times `0`.
+pub fn is_text(bytes: &[u8], want: &str) -> bool {
+    let mut rest = bytes;
+    for piece in want.split("|") {
+        let (word, count) = times(piece);
+        for _ in 0..count {
+            let Some(behind) = rest.strip_prefix(word.as_bytes()) else {
+                return false;
+            };
+            rest = behind;
         }
     }
-    Ok(replies)
+    rest.is_empty()
 }

@@ -1,111 +1,136 @@
-// Sessions as rows: a line of the script, and what the calls that it makes are answered.
-use crate::in_memory::{Part, input_of, told_of};
-use crate::report_lines::{reply_to, steps_in};
+// Sessions as rows: the lines of a script, and what the calls that each makes are answered.
+use crate::in_memory::{Ends, FAULTLESS, Part, input_of, told};
+use crate::report_lines::{command_in, is_text, reply_to};
 use emu_top::Status;
-use std::alloc::Global;
+use std::alloc::{AllocError as NoMemory, Global};
 use std::sync::Wait;
-use std::test::Fail;
 use std::thread::Threads;
 
-/// A line of a script without its line feed, and the replies to its calls, joined by line feeds. A line that makes no call has
-/// no reply.
-pub type Row = (&'static str, &'static [Part]);
-
-pub const NO_CALL: &[Part] = &[];
-
-pub const DONE: &[Part] = &[(b"done drop=0..0 tap=keep", 0, 0)];
-
-/// What a read is answered that finds nothing, before the end of the stream and behind it.
-pub const NOT_YET: Part = (b"again ended=0", 0, 0);
-
-pub const ENDED: Part = (b"again ended=1", 0, 0);
-
-pub const AGAIN: &[Part] = &[NOT_YET];
-
-pub const NOT_READY: &[Part] = &[(b"ready readable=0 error=none at=0 ended=0", 0, 0)];
-
-pub const NO_BYTES: &[Part] = &[(b"data -", 0, 0)];
-
-pub const EINVAL: &[Part] = &[(b"EINVAL", 0, 0)];
-
-pub const EBADF: &[Part] = &[(b"EBADF", 0, 0)];
-
-pub const EBUSY: &[Part] = &[(b"EBUSY", 0, 0)];
-
-/// Packets whose payload is zeros: PID 256 with the counters 0, 1 and 2, and PID 257.
-pub const FIRST: Part = (b"\x47\x01\x00\x10", 184, 0);
-
-pub const SECOND: Part = (b"\x47\x01\x00\x11", 184, 0);
-
-pub const THIRD: Part = (b"\x47\x01\x00\x12", 184, 0);
-
-pub const OTHER: Part = (b"\x47\x01\x01\x10", 184, 0);
-
-/// Appends a line.
-pub fn put_line(text: &mut Vec<u8>, line: &[u8]) -> Result<(), Fail> {
-    text.extend_from_slice(line)?;
-    text.push(b'\n')?;
-    Ok(())
+/// A session, the replies to its calls, and how it ends.
+pub struct Session {
+    /// The words, those of each run on a line.
+    pub words: &'static str,
+    pub ends: &'static Ends,
+    /// The lines of the script but `stream`. Behind ` = ` stand the replies to the line's calls, parted by ` ; `, as `is_text`
+    /// reads them. A line without replies makes no call.
+    pub rows: &'static str,
+    pub stream: &'static [Part],
+    pub status: Status,
+    /// What the report begins and ends with.
+    pub head: &'static str,
+    pub last: &'static str,
 }
 
-// The script of these rows with its line `stream`, and behind it a stream.
-fn session_of(alloc: Global, rows: &[Row], stream: &[Part]) -> Result<Vec<u8>, Fail> {
-    let mut session = Vec::new(alloc);
-    for (command, _) in rows {
-        put_line(&mut session, command.as_bytes())?;
+/// What most sessions have: each is run by single packets and by large batches.
+pub const BATCHES: Session = Session {
+    words: "steps --batch 1\nsteps --batch 64",
+    ends: &FAULTLESS,
+    rows: "",
+    stream: &[],
+    status: Status::Ok,
+    head: "dvbemu 1\n",
+    last: "\nend\n",
+};
+
+// The command of a row, and the replies.
+fn row_in(row: &str) -> (&str, &str) {
+    match row.split_once(" = ") {
+        Some((command, replies)) => (command, replies),
+        None => (row, ""),
     }
-    put_line(&mut session, b"stream")?;
-    session.extend_from_slice(&input_of(alloc, stream)?)?;
-    Ok(session)
 }
 
-// The steps of a command, by the number of its line.
-fn steps_of(alloc: Global, report: &str, number: usize) -> Result<Option<(u64, u64)>, Fail> {
-    let front = format!(in alloc; "line {number} steps ")?;
-    for line in report.lines() {
-        if line.starts_with(front.as_str()) {
-            return Ok(steps_in(line));
-        }
+// The script of a session with its line `stream`.
+fn script_of(alloc: Global, session: &Session) -> Result<String, NoMemory> {
+    let mut script = String::new(alloc);
+    for row in session.rows.lines() {
+        script.push_str(row_in(row).0)?;
+        script.push_str("\n")?;
     }
-    Ok(None)
+    script.push_str("stream\n")?;
+    Ok(script)
 }
 
-// The replies to the calls of a client's command, joined by line feeds.
-fn replies_to(alloc: Global, report: &str, who: &str, number: usize) -> Result<Vec<u8>, Fail> {
-    let mut replies = Vec::new(alloc);
-    let (from, to) = steps_of(alloc, report, number)?.unwrap_or((0, 0));
-    for step in from..to {
-        if step > from {
-            replies.push(b'\n')?;
-        }
-        let reply = reply_to(report, who, step).unwrap_or("no reply");
-        replies.extend_from_slice(reply.as_bytes())?;
-    }
-    Ok(replies)
-}
-
-/// The number of the first line of a session, in batches of this size, that isn't answered as its row says, or 0 where the
-/// session has no report.
-pub fn odd_line<R: AllocGlobal + Threads + Wait + Sync>(
+// The report of a session, where its status, its beginning and its end are as they have to be.
+fn report_of<R: AllocGlobal + Threads + Wait + Sync>(
     rt: &R,
-    batch: &str,
-    rows: &[Row],
-    stream: &[Part],
-) -> Result<Option<usize>, Fail> {
-    let alloc = rt.alloc();
-    let session = session_of(alloc, rows, stream)?;
-    let (status, written) = told_of(rt, &["steps", "--batch", batch], session)?;
-    if status != Status::Ok {
-        return Ok(Some(0));
-    }
-    let report = String::from_utf8(written)?;
-    for (place, (command, want)) in rows.iter().enumerate() {
-        let number = place.saturating_add(1);
-        let who = command.get(..2).unwrap_or("");
-        let replies = replies_to(alloc, report.as_str(), who, number)?;
-        if replies.as_slice() != input_of(alloc, want)?.as_slice() {
-            return Ok(Some(number));
+    words: &str,
+    session: &Session,
+) -> Option<String> {
+    let script = script_of(rt.alloc(), session).ok()?;
+    let input = input_of(rt.alloc(), script.as_str(), session.stream).ok()?;
+    let (status, written) = told(rt, words, input, session.ends).ok()?;
+    let report = String::from_utf8(written).ok()?;
+    let is_right = status == session.status
+        && report.starts_with(session.head)
+        && report.ends_with(session.last);
+    is_right.then_some(report)
+}
+
+// The first and the last step of a command, by the number of its line.
+fn steps_of(report: &str, number: u64) -> Option<(u64, u64)> {
+    for line in report.lines() {
+        if let Some((at, from, to)) = command_in(line) {
+            if at == number {
+                return Some((from, to));
+            }
         }
     }
-    Ok(None)
+    None
+}
+
+// Whether the calls of a line are answered as its row says.
+fn is_answered(report: &str, number: u64, row: &str) -> bool {
+    let (command, replies) = row_in(row);
+    let Some((from, to)) = steps_of(report, number) else {
+        return replies.is_empty();
+    };
+    let who = command.get(..2).unwrap_or("");
+    let mut step = from;
+    for want in replies.split(" ; ") {
+        let reply = reply_to(report, who, step).unwrap_or("no reply");
+        if !is_text(reply.as_bytes(), want) {
+            return false;
+        }
+        step = step.saturating_add(1);
+    }
+    step == to
+}
+
+// The number of the first line that isn't answered as its row says, or 0 where there is no such report. By threads it is open
+// how the reads fall.
+fn odd_line<R: AllocGlobal + Threads + Wait + Sync>(
+    rt: &R,
+    words: &str,
+    session: &Session,
+) -> Option<u64> {
+    let Some(report) = report_of(rt, words, session) else {
+        return Some(0);
+    };
+    if words.starts_with("run") {
+        return None;
+    }
+    let mut number = 0u64;
+    for row in session.rows.lines() {
+        number = number.saturating_add(1);
+        if !is_answered(report.as_str(), number, row) {
+            return Some(number);
+        }
+    }
+    None
+}
+
+/// The place, the words and the line of the first session that is answered otherwise than its rows say, if there is one.
+pub fn odd_session<R: AllocGlobal + Threads + Wait + Sync>(
+    rt: &R,
+    sessions: &'static [Session],
+) -> Option<(usize, &'static str, u64)> {
+    for (place, session) in sessions.iter().enumerate() {
+        for words in session.words.lines() {
+            if let Some(line) = odd_line(rt, words, session) {
+                return Some((place, words, line));
+            }
+        }
+    }
+    None
 }
