@@ -10,10 +10,9 @@ mod shared;
 mod threads;
 
 use client_script::Script;
-use std::alloc::Global;
+use std::alloc::{AllocError as NoMemory, Global};
 use std::sync::atomic::AtomicU64;
 use std::sync::atomic::Ordering::SeqCst;
-use std::test::Fail;
 use std::thread;
 
 // How often a thread looks at most for what another does.
@@ -41,21 +40,30 @@ fn two_of<T>(list: &mut Vec<T>) -> (T, T)
     (one, two)
 }
 
-// A packet without adaptation field, of the PID 256 and this number and of this counter, whose payload is zeros.
-fn add_packet(stream: &mut Vec<u8>, number: u8, counter: u8) -> Result<(), Fail> {
-    stream.extend_from_slice(&[0x47, 0x01, number, 0x10 | (counter & 15)])?;
-    stream.extend_from_slice(&[0; 184])?;
-    Ok(())
+// Whether these bytes are a packet without adaptation field, of the PID 256 and this number and of this counter, whose payload is
+// zeros.
+fn is_packet(bytes: &[u8], (number, counter): (u8, u8)) -> bool {
+    match bytes.strip_prefix(&[0x47, 0x01, number, 0x10 | (counter & 15)]) {
+        Some(payload) => payload == [0; 184].as_slice(),
+        None => false,
+    }
 }
 
-// The script of these bytes, at most 1000.
-fn script_of(alloc: Global, text: &str) -> Result<Script, Fail> {
+// A stream of such packets.
+fn stream_of(alloc: Global, packets: &[(u8, u8)]) -> Result<Vec<u8>, NoMemory> {
+    let mut stream = Vec::new(alloc);
+    for (number, counter) in packets {
+        stream.extend_from_slice(&[0x47, 0x01, *number, 0x10 | (counter & 15)])?;
+        stream.extend_from_slice(&[0; 184])?;
+    }
+    Ok(stream)
+}
+
+// The script of these bytes, at most 1000, where it has no fault.
+fn script_of(alloc: Global, text: &str) -> Option<Script> {
     let bytes = text.as_bytes();
     if bytes.len() > 1000 {
-        return Err(Fail::from("a long script"));
+        return None;
     }
-    match Script::read(alloc, bytes) {
-        Ok(script) => Ok(script),
-        Err(_) => Err(Fail::from("no script")),
-    }
+    Script::read(alloc, bytes).ok()
 }

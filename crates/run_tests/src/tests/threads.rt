@@ -1,7 +1,7 @@
 //! Small scripts, run by threads. The replies are worked out by hand from the rules of the nodes.
 ghost use Rattle.std.specs.Prelude.{◌≤◌, true, length};
 
-use super::{add_packet, comes_to, script_of};
+use super::{comes_to, script_of, stream_of};
 use adapter::Adapter;
 use dmx_calls::{Act, Entry, Errno, OutcomeKind, Reply};
 use emu_io::{Clock, FixedClock, Gate, MemSource, NoGate};
@@ -10,7 +10,6 @@ use std::alloc::Global;
 use std::sync::Wait;
 use std::sync::atomic::AtomicU64;
 use std::sync::atomic::Ordering::SeqCst;
-use std::test::Fail;
 use std::thread::Threads;
 use workers::{Worked, work};
 
@@ -73,20 +72,23 @@ impl Gate for Hold {
     }
 }
 
-// What the script leaves over this stream, in batches of one packet.
+// What the script leaves over a stream of these packets, in batches of one packet, where there is memory.
 fn left_by<R: Threads + Wait + Sync, C: Clock + Sync, G: Gate + Sync>(
     rt: &R,
     alloc: Global,
     script: &str,
-    stream: Vec<u8>,
+    packets: &[(u8, u8)],
     clock: &C,
     gate: &G,
-) -> Result<Worked, Fail> {
-    let script = script_of(alloc, script)?;
-    let (adapter, feeder, clients) = Adapter::new(alloc, script.clients())?;
+) -> Option<Worked> {
+    let stream = stream_of(alloc, packets).ok()?;
     let mut source = MemSource::new(stream, 100, Vec::new(alloc));
-    let puller = Puller::new(alloc, Vec::new(alloc), 0)?;
-    match work(
+    let script = script_of(alloc, script)?;
+    let puller = Puller::new(alloc, Vec::new(alloc), 0).ok()?;
+    let Ok((adapter, feeder, clients)) = Adapter::new(alloc, script.clients()) else {
+        return None;
+    };
+    work(
         rt,
         alloc,
         &adapter,
@@ -98,10 +100,8 @@ fn left_by<R: Threads + Wait + Sync, C: Clock + Sync, G: Gate + Sync>(
         1,
         clock,
         gate,
-    ) {
-        Ok(worked) => Ok(worked),
-        Err(_) => Err(Fail::from("no run")),
-    }
+    )
+    .ok()
 }
 
 // The calls of a client.
@@ -134,215 +134,193 @@ fn moment_in(entry: &Entry) -> Option<u64> {
     }
 }
 
-#[test]
-fn an_open_stands_before_or_behind_the_end(rt: HostRuntime) -> Result<(), Fail> {
-    let alloc = rt.alloc();
-    let clock = FixedClock::new(7);
-    let worked = left_by(
-        &rt,
-        alloc,
-        "c0 open n0\nstream\n",
-        Vec::new(alloc),
-        &clock,
-        &NoGate::new(),
-    )?;
-    match log_of(&worked, 0) {
-        [open] => {
-            assert!(rt; is_done(open));
-            assert!(rt; open.place <= 1);
-            assert_eq!(rt; (open.node, open.step, open.who), (0, 0, 1));
-        }
-        _ => return Err(Fail::from("not one call")),
-    }
-    assert_eq!(rt; worked.feeding.len(), 0);
-    assert_eq!(rt; worked.head.tally.packets, 0);
-    match worked.outcomes.as_slice() {
-        [those] => match those.as_slice() {
-            [one] => {
-                assert_eq!(rt; (one.line, one.from, one.to), (1, 0, 1));
-                assert_eq!(rt; one.kind, OutcomeKind::Done);
-            }
-            _ => return Err(Fail::from("not one command")),
-        },
-        _ => return Err(Fail::from("not one client")),
-    }
-    Ok(())
+// Whether the one call is a client's open, before or behind the stream's end, and nothing passed.
+fn has_one_open(worked: &Worked) -> bool {
+    let [open] = log_of(worked, 0) else {
+        return false;
+    };
+    is_done(open)
+        && open.place <= 1
+        && (open.node, open.step, open.who) == (0, 0, 1)
+        && worked.feeding.is_empty()
+        && worked.head.tally.packets == 0
+}
+
+// Whether the one command was done by the first call.
+fn has_one_outcome(worked: &Worked) -> bool {
+    let [those] = worked.outcomes.as_slice() else {
+        return false;
+    };
+    let [one] = those.as_slice() else {
+        return false;
+    };
+    (one.line, one.from, one.to) == (1, 0, 1) && one.kind == OutcomeKind::Done
 }
 
 #[test]
-fn a_poll_has_the_moment_of_the_clock(rt: HostRuntime) -> Result<(), Fail> {
-    let alloc = rt.alloc();
+fn an_open_stands_before_or_behind_the_end(rt: HostRuntime) {
     let clock = FixedClock::new(7);
-    let worked = left_by(
-        &rt,
-        alloc,
-        "c0 poll n0\nstream\n",
-        Vec::new(alloc),
-        &clock,
-        &NoGate::new(),
-    )?;
-    match log_of(&worked, 0) {
-        [poll] => {
-            assert_eq!(rt; poll.act, Act::Poll { now: 7 });
-            assert!(rt; matches!(poll.reply, Reply::Refused(Errno::Ebadf)));
-        }
-        _ => return Err(Fail::from("not one call")),
-    }
-    Ok(())
+    let script = "c0 open n0\nstream\n";
+    let worked = left_by(&rt, rt.alloc(), script, &[], &clock, &NoGate::new());
+    assert!(rt; matches!(&worked, Some(worked) if has_one_open(worked) && has_one_outcome(worked)));
+}
+
+// Whether the one call is a poll at moment 7, of a node that the client doesn't own.
+fn has_one_poll(worked: &Worked) -> bool {
+    let [poll] = log_of(worked, 0) else {
+        return false;
+    };
+    poll.act == Act::Poll { now: 7 } && matches!(poll.reply, Reply::Refused(Errno::Ebadf))
 }
 
 #[test]
-fn each_call_reads_the_clock_anew(rt: HostRuntime) -> Result<(), Fail> {
-    let alloc = rt.alloc();
+fn a_poll_has_the_moment_of_the_clock(rt: HostRuntime) {
+    let clock = FixedClock::new(7);
+    let script = "c0 poll n0\nstream\n";
+    let worked = left_by(&rt, rt.alloc(), script, &[], &clock, &NoGate::new());
+    assert!(rt; matches!(&worked, Some(worked) if has_one_poll(worked)));
+}
+
+// Whether the last of four calls was told that the timeout of 1 ms is over, at a later moment than that of the start.
+fn has_timed_out(worked: &Worked) -> bool {
+    let [_, _, _, read] = log_of(worked, 0) else {
+        return false;
+    };
+    match read.reply {
+        Reply::TimedOut {
+            started,
+            now,
+            timeout,
+        } => timeout == 1 && now > started,
+        _ => false,
+    }
+}
+
+#[test]
+fn each_call_reads_the_clock_anew(rt: HostRuntime) {
     let clock = Counting {
         calls: AtomicU64::new(0),
     };
     let script = "c0 open n0\nc0 section n0 256 1 0\nc0 start n0\nc0 readw n0 1\nstream\n";
-    let worked = left_by(&rt, alloc, script, Vec::new(alloc), &clock, &NoGate::new())?;
-    match log_of(&worked, 0) {
-        [_, _, _, read] => match &read.reply {
-            Reply::TimedOut {
-                started,
-                now,
-                timeout,
-            } => {
-                assert_eq!(rt; *timeout, 1);
-                assert!(rt; now > started);
-            }
-            _ => return Err(Fail::from("not timed out")),
-        },
-        _ => return Err(Fail::from("not four calls")),
-    }
+    let worked = left_by(&rt, rt.alloc(), script, &[], &clock, &NoGate::new());
+    assert!(rt; matches!(&worked, Some(worked) if has_timed_out(worked)));
     assert_eq!(rt; clock.calls.load(SeqCst), 3);
-    Ok(())
 }
 
-// Two clients open a node, of which this one is held until the other has; the clients' calls.
-fn two_opens<R: Threads + Wait + Sync>(
-    rt: &R,
-    alloc: Global,
-    held: u32,
-    other: u32,
-) -> Result<(Worked, u64), Fail> {
-    let gate = Hold::new((held, 0), (other, 1));
+// Whether of the opens of two callers that of the first is done, and that of the second, which stands behind it, names the first.
+fn is_first(worked: &Worked, first: u32, second: u32) -> bool {
+    let [one] = log_of(worked, first.saturating_sub(1) as usize) else {
+        return false;
+    };
+    let [two] = log_of(worked, second.saturating_sub(1) as usize) else {
+        return false;
+    };
+    is_done(one) && owner_in(two) == first && one.place < two.place
+}
+
+// Two clients open a node, of which the second caller is held until the first has: whether the node is the first one's.
+fn opens_first<R: Threads + Wait + Sync>(rt: &R, alloc: Global, first: u32, second: u32) -> bool {
+    let gate = Hold::new((second, 0), (first, 1));
     let script = "c0 open n0\nc1 open n0\nstream\n";
-    let worked = left_by(
-        rt,
-        alloc,
-        script,
-        Vec::new(alloc),
-        &FixedClock::new(0),
-        &gate,
-    )?;
-    Ok((worked, gate.ran_out.load(SeqCst)))
+    let worked = left_by(rt, alloc, script, &[], &FixedClock::new(0), &gate);
+    gate.ran_out.load(SeqCst) == 0
+        && matches!(&worked, Some(worked) if is_first(worked, first, second))
 }
 
 #[test]
-fn the_first_of_two_clients_opens_the_node(rt: HostRuntime) -> Result<(), Fail> {
-    for (held, other) in [(2, 1), (1, 2)] {
-        let (worked, ran_out) = two_opens(&rt, rt.alloc(), held, other)?;
-        assert_eq!(rt; ran_out, 0);
-        match (log_of(&worked, 0), log_of(&worked, 1)) {
-            ([one], [two]) => {
-                let (first, second) = if other == 1 { (one, two) } else { (two, one) };
-                assert!(rt; is_done(first));
-                assert_eq!(rt; owner_in(second), other);
-                assert!(rt; first.place < second.place);
-            }
-            _ => return Err(Fail::from("not one call each")),
-        }
-    }
-    Ok(())
+fn the_first_of_two_clients_opens_the_node(rt: HostRuntime) {
+    assert!(rt; opens_first(&rt, rt.alloc(), 1, 2));
+    assert!(rt; opens_first(&rt, rt.alloc(), 2, 1));
 }
 
-#[test]
-fn one_of_eight_clients_opens_the_node(rt: HostRuntime) -> Result<(), Fail> {
-    let alloc = rt.alloc();
-    let script =
-        "c0 open n0\nc1 open n0\nc2 open n0\nc3 open n0\nc4 open n0\nc5 open n0\nc6 open n0\nc7 open n0\nstream\n";
-    let worked = left_by(
-        &rt,
-        alloc,
-        script,
-        Vec::new(alloc),
-        &FixedClock::new(0),
-        &NoGate::new(),
-    )?;
+// How many of eight clients have opened a node, and how many are told its owner; None where a client has made another number of
+// calls than one, or two calls have the same place.
+fn opens_of(worked: &Worked) -> Option<(u32, u32)> {
     let mut done = 0u32;
     let mut busy = 0u32;
     let mut places = [false; 9];
     for client in 0..8usize {
-        match log_of(&worked, client) {
-            [open] => {
-                assert!(rt; open.place < 9);
-                let place = open.place as usize;
-                assert!(rt; !places[place]);
-                places[place] = true;
-                if is_done(open) {
-                    done = done.saturating_add(1);
-                }
-                if owner_in(open) > 0 {
-                    busy = busy.saturating_add(1);
-                }
-            }
-            _ => return Err(Fail::from("not one call each")),
+        let [open] = log_of(worked, client) else {
+            return None;
+        };
+        let place = places.get_mut(open.place as usize)?;
+        if *place {
+            return None;
+        }
+        *place = true;
+        if is_done(open) {
+            done = done.saturating_add(1);
+        }
+        if owner_in(open) > 0 {
+            busy = busy.saturating_add(1);
         }
     }
-    assert_eq!(rt; (done, busy), (1, 7));
-    assert_eq!(rt; worked.clients.len(), 8);
-    Ok(())
+    Some((done, busy))
 }
 
 #[test]
-fn moments_may_go_back(rt: HostRuntime) -> Result<(), Fail> {
-    let alloc = rt.alloc();
+fn one_of_eight_clients_opens_the_node(rt: HostRuntime) {
+    let clock = FixedClock::new(0);
+    let script =
+        "c0 open n0\nc1 open n0\nc2 open n0\nc3 open n0\nc4 open n0\nc5 open n0\nc6 open n0\nc7 open n0\nstream\n";
+    let worked = left_by(&rt, rt.alloc(), script, &[], &clock, &NoGate::new());
+    assert!(rt;
+        matches!(&worked, Some(worked) if opens_of(worked) == Some((1, 7)) && worked.clients.len() == 8)
+    );
+}
+
+// Whether three calls have the moments of a clock that runs backwards.
+fn have_falling_moments(worked: &Worked) -> bool {
+    let [one, two, three] = log_of(worked, 0) else {
+        return false;
+    };
+    moment_in(one) == Some(u64::MAX)
+        && moment_in(two) == Some(u64::MAX - 1)
+        && moment_in(three) == Some(u64::MAX - 2)
+}
+
+#[test]
+fn moments_may_go_back(rt: HostRuntime) {
     let clock = Backwards {
         calls: AtomicU64::new(0),
     };
     let script = "c0 poll n0\nc0 poll n1\nc0 poll dvr\nstream\n";
-    let worked = left_by(&rt, alloc, script, Vec::new(alloc), &clock, &NoGate::new())?;
-    match log_of(&worked, 0) {
-        [one, two, three] => {
-            assert_eq!(rt; moment_in(one), Some(u64::MAX));
-            assert_eq!(rt; moment_in(two), Some(u64::MAX - 1));
-            assert_eq!(rt; moment_in(three), Some(u64::MAX - 2));
-        }
-        _ => return Err(Fail::from("not three calls")),
-    }
-    Ok(())
+    let worked = left_by(&rt, rt.alloc(), script, &[], &clock, &NoGate::new());
+    assert!(rt; matches!(&worked, Some(worked) if have_falling_moments(worked)));
 }
 
+// Whether the first of two reads found nothing, behind three calls, and the second, behind a batch, a packet.
+fn has_waited(worked: &Worked) -> bool {
+    let [_, _, _, first, second] = log_of(worked, 0) else {
+        return false;
+    };
+    let Reply::Data(buf) = &second.reply else {
+        return false;
+    };
+    matches!(first.reply, Reply::Again { ended: false })
+        && first.place == 3
+        && second.place > 4
+        && buf.bytes().len() == 188
+}
+
+// Whether two packets passed, one by one.
+fn has_passed_two(worked: &Worked) -> bool {
+    let [one, two] = worked.feeding.as_slice() else {
+        return false;
+    };
+    worked.head.tally.packets == 2
+        && (one.first, one.count) == (0, 1)
+        && (two.first, two.count) == (1, 1)
+}
+
+// The feeder is held until the client has read once and is before its repeat.
 #[test]
-fn a_client_waits_until_a_batch_has_passed(rt: HostRuntime) -> Result<(), Fail> {
-    let alloc = rt.alloc();
-    // The feeder is held until the client has read once and is before its repeat.
+fn a_client_waits_until_a_batch_has_passed(rt: HostRuntime) {
     let gate = Hold::new((0, 0), (1, 4));
-    let mut stream = Vec::new(alloc);
-    add_packet(&mut stream, 0, 0)?;
-    add_packet(&mut stream, 0, 1)?;
     let script =
         "c0 open n0\nc0 pes n0 256 frontend tsdemux_tap 20 0\nc0 start n0\nc0 readw n0 188\nstream\n";
-    let worked = left_by(&rt, alloc, script, stream, &FixedClock::new(0), &gate)?;
+    let clock = FixedClock::new(0);
+    let worked = left_by(&rt, rt.alloc(), script, &[(0, 0), (0, 1)], &clock, &gate);
     assert_eq!(rt; gate.ran_out.load(SeqCst), 0);
-    match log_of(&worked, 0) {
-        [_, _, _, first, second] => {
-            assert!(rt; matches!(first.reply, Reply::Again { ended: false }));
-            assert_eq!(rt; first.place, 3);
-            assert!(rt; second.place > 4);
-            match &second.reply {
-                Reply::Data(buf) => assert_eq!(rt; buf.bytes().len(), 188),
-                _ => return Err(Fail::from("no bytes")),
-            }
-        }
-        _ => return Err(Fail::from("not five calls")),
-    }
-    assert_eq!(rt; worked.head.tally.packets, 2);
-    match worked.feeding.as_slice() {
-        [one, two] => {
-            assert_eq!(rt; (one.first, one.count), (0, 1));
-            assert_eq!(rt; (two.first, two.count), (1, 1));
-        }
-        _ => return Err(Fail::from("not two batches")),
-    }
-    Ok(())
+    assert!(rt; matches!(&worked, Some(worked) if has_waited(worked) && has_passed_two(worked)));
 }
