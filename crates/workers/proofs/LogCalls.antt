@@ -13,7 +13,6 @@ use Rattle.dmx_calls.specs.declared.log.Act.TheVariants.{Read as ReadAct}
 use Rattle.dmx_calls.specs.Log.{LogEntry, act_of}
 use Rattle.dmx_calls.specs.History.{Entry}
 use Rattle.client_script.specs.declared.line.Line.{Line}
-use Rattle.client_core.specs.declared.event.Want.TheVariants as want
 use Rattle.client_core.specs.Events.{next_event}
 use Rattle.client_core.specs.IsRun.{replies}
 use Rattle.adapter.specs.Rows.{column}
