@@ -6,7 +6,7 @@
 //! `open` on a slot that is bound to no node makes no call. Where a demux node's reply changes its tap, the client's next
 //! call tells the dvr node of it. All of this is this project's own.
 //!
-//! What a contract sees: a `ClientCore` as the record `Core` of `specs/Core.antt`, which holds no history;
+//! What a contract sees: a `ClientCore` as the record `Core` of `specs/Inside/Core.antt`, which holds no history;
 //! `IsAfter client lines replies core` says that it stands after these replies to this client of the script. The
 //! definitions are functions of the script and of the replies alone: `done` says what a command does
 //! (`specs/Commands.antt`), and `progress`, `next_event`, `waits_on` and `outcomes` how far a client is

@@ -10,7 +10,7 @@
 //! What is proved: `crc` gives just what the rule gives, for any bytes. `with_its_crc_is_zero` has as its contract the
 //! law for which the CRC is made: over bytes with their own CRC behind them, the most significant byte first, it is 0.
 //! `Tables::crc` gives the same by tables of one's own, which `Tables::new` makes bit by bit. Table j has for each byte
-//! the register after that byte and j bytes of 0, from a register of 0 (`specs/Tables.antt`). K such tables take K bytes
+//! the register after that byte and j bytes of 0, from a register of 0 (`specs/Inside/Tables.antt`). K such tables take K bytes
 //! at once: the register after K bytes is the sum, modulo 2 in each bit, of one entry of each.
 //!
 //! `crc` has eight such tables written out (`src/rows.rt`), so that no call makes them, and takes eight bytes at a time.
