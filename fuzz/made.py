@@ -1,5 +1,5 @@
 #!/usr/bin/env python3
-"""A plain second generator: the session of a number, by the rules of docs/BEHAVIOUR.md and nothing else.
+"""A plain second generator: the session of a number, by the rules of docs/MADE.md and docs/BEHAVIOUR.md alone.
 
     made.py NUMBER              writes the session of the number
     made.py --sums NUMBER [B]   writes the sums of its run in batches of B packets, 64 without B, by the second program
