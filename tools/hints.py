@@ -3,8 +3,8 @@
 RULES has for each kind of stumble the heading or paragraph of docs/BEHAVIOUR.md and words that stand there; tools/check looks
 for them.
 """
+from fields import pid_text
 from reports import DVR
-
 from sentences import NAMES, lines_text, many, node_name, node_text, pids_text
 
 RULES = {
@@ -28,6 +28,10 @@ RULES = {
     "read of ts_tap": ("Items of a PES filter", "none: the packet goes to the dvr node, below"),
     "part": ("Read", "So a read of a section filter gives one section or a part of one"),
     "no packet": ("Captures", "Its items are what the filter selects from these packets"),
+    "late": ("Captures", "The packets offered to a capture are those that pass while the node is in Go."),
+    "late in run": ("The threads of `run`", "In which order the calls of two callers come is open."),
+    "late on dvr": ("The dvr node", "Its items are the packets of the frontend that pass while it goes on"),
+    "skipped": ("Cutting", "At any other byte, this one byte is skipped."),
     "unbound": ("What a client's commands do", "A command other than `open` on a slot that is bound to no node makes no call"),
 }
 
@@ -57,6 +61,18 @@ def pid_words(stumble):
     return f"{of}; {rules[stumble.kind]}"
 
 
+def late_words(stumble):
+    """The words of the stumbles over a stream that had ended."""
+    facts = stumble.facts
+    what = "the dvr node is opened or resized" if stumble.node == DVR else "the filter is started"
+    shown = f"{what} when the stream had ended (End is entry {facts['end']} of its history, this call entry {facts['begin']})"
+    none = f"{shown}, so no packet comes to it"
+    if stumble.kind == "late":
+        return f"{none}; a `feed`, `readw` or `drain` before it has taken the stream to its end"
+    clock = f"the moments begin at {facts['moment']}, as those of `run` do, whose feeder waits for no client"
+    return f"{none}; {clock}: let tools/pace write the stream at its own pace, or try the filter with `steps`"
+
+
 def words(stumble):
     """What the report shows of a stumble."""
     facts = stumble.facts
@@ -65,7 +81,7 @@ def words(stumble):
     if stumble.kind == "never started":
         return "the filter that is set there is never started"
     if stumble.kind == "timed out":
-        shown = f"though the stream has {many(facts['packets'], 'packet')} of its PID, {facts['pid']}"
+        shown = f"though the stream has {many(facts['packets'], 'packet')} of its PID, {pid_text(facts['pid'])}"
         why = "they came before the capture or too late, or brought no section that is selected"
         return f"the section filter timed out, {shown}; {why}"
     if stumble.kind in ("larger", "first size"):
@@ -83,6 +99,11 @@ def words(stumble):
         return f"a read of {facts['count']} bytes gives a part {of}; the next read goes on behind it"
     if stumble.kind == "read of ts_tap":
         return "a read finds nothing on a node whose filter has the output TS_TAP"
+    if stumble.kind in ("late", "late in run"):
+        return late_words(stumble)
+    if stumble.kind == "skipped":
+        of = f"{facts['skipped']:,} of the {many(facts['whole'], 'byte')} were skipped"
+        return f"{of}: what stands behind the line `stream` isn't a stream of packets of 188 bytes that begin with 0x47"
     if stumble.kind == "unbound":
         return "the command names a slot that no open has bound, so it makes no call"
     return pid_words(stumble)
@@ -90,11 +111,13 @@ def words(stumble):
 
 def hint_text(stumble):
     """A hint in words, without its rule."""
+    if stumble.client is None:
+        return f"The stream: {words(stumble)}."
     where = f"Client {stumble.client}, {lines_text(stumble.lines)}"
     if stumble.node is not None:
         where += f", {node_text(stumble.node)}"
     more = len(stumble.lines) - 1
-    first = ", at first" if more and stumble.kind in ("dropped", "larger", "first size", "part") else ""
+    first = ", at first" if more and stumble.kind in ("dropped", "larger", "first size", "part", "late", "late in run") else ""
     return f"{where}{first}: {words(stumble)}."
 
 
@@ -103,6 +126,10 @@ def rule_texts(stumble):
     kinds = [stumble.kind]
     if stumble.kind == "first size" and stumble.node == DVR:
         kinds = ["first size of dvr"]
+    if stumble.kind == "late in run":
+        kinds.append("late on dvr" if stumble.node == DVR else "late")
+    if stumble.kind == "late" and stumble.node == DVR:
+        kinds = ["late on dvr"]
     if stumble.kind == "timed out":
         kinds.append("timed out in a pass")
     return [f"Rule: '{heading}': \"{quoted}\"" for heading, quoted in (RULES[kind] for kind in kinds)]

@@ -6,6 +6,7 @@ import sys
 from functools import lru_cache
 from typing import NamedTuple
 
+FORMAT = "dvbemu 1"
 DVR = 32
 CLIENTS = 8
 LARGEST_PID = 0x1FFF
@@ -342,7 +343,10 @@ class Lines:
 
 def head_of(lines):
     """The numbers of the stream's cutting."""
-    lines.want(lines.text == "dvbemu 1", "`dvbemu 1`")
+    if lines.starts("dvbemu ") and lines.text != FORMAT:
+        what = f"a report of a format that this tool doesn't know; it knows `{FORMAT}`, found {shown(lines.text)}"
+        raise NotAReport(lines.line, what)
+    lines.want(lines.text == FORMAT, f"`{FORMAT}`")
     lines.go_on()
     lines.want(lines.text is not None, "`packets=.. skipped=.. rest=..`")
     found = read_places("", ("packets=", "skipped=", "rest="), lines.text.split(" "))

@@ -1,11 +1,14 @@
 """Calls and replies of a report in plain words, for tools/explain."""
-from reports import act_of, moment, node_name, reply_of
-
-from story import ALL_PACKETS, DVR, PACKET
+from fields import NAMES as FIELD_NAMES
+from fields import filter_texts, head_text, pid_text, stream_text, table_text
+from refusals import ALL_PACKETS
+from reports import DVR, act_of, moment, node_name, reply_of
+from story import PACKET
+from walk import FLAGS
 
 WIDTH = 100
 GATHERED = 9
-FLAGS = {1: "DMX_CHECK_CRC", 2: "DMX_ONESHOT", 4: "DMX_IMMEDIATE_START"}
+TABLES, VALUES = 4, 6
 NAMES = {"section": "SetFilter", "pes": "SetPes", "start": "Start", "size": "SetSize", "close": "Close"}
 LOOKS = ("read", "poll")
 GIVEN = "gave data"
@@ -47,7 +50,8 @@ def pids_text(pids):
     pids = sorted(pids)
     if not pids:
         return "no PID"
-    return ("PID " if len(pids) == 1 else "PIDs ") + joined(f"{pid} (every packet)" if pid == ALL_PACKETS else pid for pid in pids)
+    names = [f"{pid} (every packet)" if pid == ALL_PACKETS else pid_text(pid) for pid in pids]
+    return ("PID " if len(pids) == 1 else "PIDs ") + joined(names)
 
 
 def node_text(number):
@@ -64,21 +68,10 @@ def flags_text(flags):
     return "no flag" if not names else ("flag " if len(names) == 1 else "flags ") + joined(names)
 
 
-def bytes_text(places):
-    """The filter bytes of a section filter in words."""
-    words = []
-    for place, (value, mask, mode) in places.items():
-        if place == 0 and (mask, mode) == (0xFF, 0):
-            words.append(f"table_id 0x{value:02X}")
-        else:
-            words.append(f"filter byte {place} {value:02x}/{mask:02x}/{mode:02x}")
-    return ", ".join(words) or "every section"
-
-
 def section_text(act, on):
     """A SetFilter in words."""
     timeout = f"timeout {act['timeout']}" if act["timeout"] else "no timeout"
-    filtered = f"PID {act['pid']}, {bytes_text(act['bytes'])}"
+    filtered = f"{pids_text([act['pid']])}, {', '.join(filter_texts(act['bytes'])) or 'every section'}"
     return f"sets a section filter on {on} ({filtered}, {timeout}, {flags_text(act['flags'])})"
 
 
@@ -100,7 +93,7 @@ def act_text(call):
     if call.act == "size":
         return f"sets the buffer size of {on} to {act['size']}"
     if call.act in ("add", "remove"):
-        return f"{'adds PID' if call.act == 'add' else 'removes PID'} {act['pid']} on {on}"
+        return f"{'adds' if call.act == 'add' else 'removes'} {pids_text([act['pid']])} on {on}"
     if call.act == "attach":
         return f"attaches the tap of {node_name(act['node'])} to the dvr node ({pids_text(act['pids'])})"
     if call.act == "detach":
@@ -138,6 +131,18 @@ def ready_text(reply):
     return text + ("; the stream has ended" if reply["ended"] else "")
 
 
+def data_text(call):
+    """Data in words: how much, and what stands in it."""
+    length = call.length()
+    text = f"Data of {many(length, 'byte') if length else 'no bytes'}" + (f", {call.reason}" if call.reason else "")
+    if call.head:
+        text += f": {head_text(call.head)}"
+    if call.streams:
+        packets = many(len(call.streams), "PES packet")
+        text += f", in which the stream_id of {packets} stands: {joined(map(stream_text, sorted(set(call.streams))))}"
+    return text
+
+
 def reply_text(call):
     """What a call was answered, in words."""
     reply = reply_of(call.entry)
@@ -146,8 +151,7 @@ def reply_text(call):
     if call.reply == "busy":
         return f"Busy, {call.reason}"
     if call.reply == "data":
-        length = call.length()
-        return f"Data of {many(length, 'byte') if length else 'no bytes'}" + (f", {call.reason}" if call.reason else "")
+        return data_text(call)
     if call.reply == "again":
         return "Again, nothing is unread" + (" and the stream has ended" if reply["ended"] else "")
     if call.reply == "overflow":
@@ -275,10 +279,35 @@ def got_text(key, got):
         return head + f"no bytes by {many(got.reads, 'read')}"
     text = head + f"{many(got.bytes, 'byte')} by {got.with_data:,} of {many(got.reads, 'read')}"
     if kind == "section":
-        return text + f", {many(got.items, 'section')} read to the end"
+        return text + f", {many(got.items, 'section')} read to the end" + tables_text(got.tables)
     if number == DVR or output == "tsdemux_tap":
         return text + f", {many(got.items, 'whole packet')} of {PACKET} bytes"
-    return text + ", payloads"
+    return text + ", payloads" + streams_text(got.streams)
+
+
+def values_text(values):
+    """Numbers in ascending order, of many the first ones."""
+    shown = sorted(values)
+    if len(shown) <= VALUES:
+        return joined(shown)
+    return f"{', '.join(map(str, shown[: VALUES - 1]))} and {len(shown) - VALUES + 1:,} more up to {shown[-1]}"
+
+
+def tables_text(tables):
+    """What stands in the heads of the sections that were read, by table_id and table_id_extension."""
+    texts = []
+    for (table, _), values in list(tables.items())[:TABLES]:
+        named = zip(FIELD_NAMES[1:], values[1:])
+        fields = [f"table_id {table_text(table)}", *(f"{name} {values_text(known)}" for name, known in named if known)]
+        texts.append(", ".join(fields))
+    more = len(tables) - len(texts)
+    return (": " if texts else "") + "; ".join(texts) + (f"; and of {many(more, 'more table')}" if more > 0 else "")
+
+
+def streams_text(streams):
+    """Which PES packets begin in the payloads that were read."""
+    found = [f"{many(count, 'PES packet')} of stream_id {stream_text(stream)}" for stream, count in sorted(streams.items())]
+    return f", with {joined(found)}" if found else ""
 
 
 def lost_text(line, call, span):
@@ -308,7 +337,7 @@ def waits_text(number, waits):
 def timed_text(line, call, pid):
     """A TimedOut in words."""
     reply = reply_of(call.entry)
-    of = f" of PID {pid}" if pid is not None else ""
+    of = f" of {pids_text([pid])}" if pid is not None else ""
     moments = f"started at {reply['started']} with timeout {reply['timeout']}, expired at {reply['now']}"
     return f"line {line}, {node_text(call.node)}: the section filter{of}, {moments}"
 

@@ -3,46 +3,13 @@
 Nothing here works out a reply anew: what a node does is taken from its replies, and only the states that follow from the calls
 accepted so far are kept beside them.
 """
-from bisect import bisect_right
+from captures import Capture, Filter
+from clients import Call, Client, Got, Waits
+from refusals import ALL_PACKETS, refusal
+from reports import DVR, act_of, moment, reply_of
+from walk import Walk
 
-from reports import DVR, act_of, reply_of
-from walk import IMMEDIATE, Walk
-
-SMALLEST_SIZE, LARGEST_SIZE = 2, 16777216
-PACKET, MOST_PIDS, ALL_PACKETS, LARGEST_PID = 188, 32, 0x2000, 0x1FFF
-CRC, ONESHOT = 1, 2
-
-
-class Filter:
-    """A filter of a demux node: what its set call asked, the PIDs that it has, and whether it was ever started."""
-
-    def __init__(self, act, line):
-        self.kind, self.pid, self.line = act["name"], act["pid"], line
-        self.output = act.get("output", "")
-        self.pids, self.ever, self.started = {self.pid}, {self.pid}, False
-
-
-class Capture:
-    """What is known of a capture: how many bytes were answered, and where in a section the reader stands."""
-
-    def __init__(self):
-        self.answered, self.polled = 0, None
-        self.have, self.head = 0, ""
-
-    def take_section(self, digits):
-        """Takes a read of a section filter; gives the section's length where it is known, and whether the section is whole."""
-        if self.have < 3:
-            self.head += digits[: 6 - 2 * self.have]
-        self.have += len(digits) // 2
-        length = (int(self.head[2:6], 16) & 0x0FFF) + 3 if self.have >= 3 else None
-        whole = length is not None and self.have >= length
-        if whole:
-            self.have, self.head = 0, ""
-        return length, whole
-
-    def skip_to(self, answered):
-        """Takes an Overflow, behind which an item begins."""
-        self.answered, self.have, self.head = answered, 0, ""
+PACKET = 188
 
 
 class Node(Walk):
@@ -51,21 +18,27 @@ class Node(Walk):
     def __init__(self, number, story):
         super().__init__(number)
         self.story, self.runs, self.ended_by = story, False, ""
-        self.passes, self.ends, self.calls = 0, 0, 0
+        self.passes, self.calls, self.end = 0, 0, None
         self.waiting, self.busy = {}, {}
         self.taps, self.free_packets = {}, 0
 
     def begin_capture(self, entry):
         """A capture begins; on a demux node the filter runs from here on."""
-        self.capture = Capture()
+        is_late, due = self.end is not None, None
         if self.filter:
             self.runs, self.filter.started = True, True
+            due = moment(entry) + self.filter.timeout if self.filter.timeout else None
+        self.capture = Capture(due, is_late)
+        if is_late:
+            self.story.note_late(self, entry)
 
     def end_capture(self, entry, reply):
         """The capture ends, where there is one."""
         if self.capture and entry.act.startswith("size "):
             self.ended_by = "SetSize to another size has ended the capture"
         self.story.leave_capture(self)
+        if self.filter:
+            self.filter.leave()
 
     def set_filter(self, entry, act):
         """Another filter, which doesn't run yet."""
@@ -81,52 +54,6 @@ class Node(Walk):
         self.runs = False
 
 
-class Call:
-    """A call of a client: its node, its entry, the names of its act and its reply, and a reason that the entry hasn't."""
-
-    __slots__ = ("node", "entry", "act", "reply", "reason")
-
-    def __init__(self, node, entry):
-        self.node, self.entry, self.reason = node, entry, ""
-        self.act = entry.act.partition(" ")[0]
-        self.reply = entry.reply.partition(" ")[0]
-
-    def length(self):
-        """How many bytes a read gave."""
-        return 0 if self.reply != "data" or self.entry.reply == "data -" else (len(self.entry.reply) - 5) // 2
-
-
-class Got:
-    """What the reads of a node through one kind of filter gave."""
-
-    def __init__(self):
-        self.reads, self.with_data, self.bytes, self.items, self.pids = 0, 0, 0, 0, set()
-
-
-class Waits:
-    """How often a client waited on a node, and until what."""
-
-    def __init__(self):
-        self.lines, self.passes, self.ends, self.others = [], 0, 0, 0
-
-
-class Client:
-    """What one client asked and got."""
-
-    def __init__(self, number, outcomes):
-        self.number, self.outcomes = number, outcomes
-        calling = [outcome for outcome in outcomes if outcome.first < outcome.after]
-        self.firsts, self.lines = [outcome.first for outcome in calling], [outcome.line for outcome in calling]
-        self.begins = set(self.firsts)
-        self.calls, self.got, self.waits = [], {}, {}
-        self.lost, self.timed, self.refused = [], [], []
-
-    def line_of(self, step):
-        """The line of the command that made this call, or 0 where no command did."""
-        place = bisect_right(self.firsts, step) - 1
-        return self.lines[place] if place >= 0 else 0
-
-
 class Stumble:
     """Something that a receiver's writer would stumble over: its kind, where it is, and the facts of its first time."""
 
@@ -134,62 +61,13 @@ class Stumble:
         self.kind, self.client, self.node, self.facts, self.lines = kind, client, node, facts, []
 
 
-# ------ refusals
-
-
-def wrong_argument(act):
-    """Why a call is refused by its arguments alone, or nothing."""
-    name = act["name"]
-    most = LARGEST_PID if name == "section" else ALL_PACKETS
-    if act.get("pid", 0) > most:
-        return f"a PID above 0x{most:X}"
-    if name == "size" and not SMALLEST_SIZE <= act["size"] <= LARGEST_SIZE:
-        return "a size below 2 or above 16,777,216"
-    if name not in ("section", "pes"):
-        return ""
-    if act["flags"] & ~(CRC | ONESHOT | IMMEDIATE):
-        return "a flag bit other than 1, 2 and 4"
-    if act.get("type", 0) > 20:
-        return "a PES type above 20"
-    if act.get("output") == "decoder":
-        return "output DECODER"
-    return "input DVR" if act.get("input") == "dvr" else ""
-
-
-def wrong_pids(node, act):
-    """Why an AddPid or RemovePid is refused by the node's state: the error and the reason, or None."""
-    if node.filter is None:
-        return "EINVAL", f"{'AddPid' if act['name'] == 'add' else 'RemovePid'} without a filter"
-    if node.filter.kind == "section":
-        return "EINVAL", f"{'AddPid' if act['name'] == 'add' else 'RemovePid'} on a section filter"
-    if act["name"] == "remove" or act["pid"] in node.filter.pids:
-        return None
-    if node.filter.output != "tsdemux_tap" and node.filter.pids:
-        return "EINVAL", "only TSDEMUX_TAP takes more than one PID"
-    return ("ENOSPC", "32 PIDs are in the set") if len(node.filter.pids) >= MOST_PIDS else None
-
-
-def refusal(node, client, act):
-    """The error that the rules give for a call in the node's state, and its reason; None where they give none."""
-    if node.owner is None:
-        return "EBADF", "the node is Free"
-    if node.owner != client:
-        return "EBADF", f"client {node.owner} is its owner"
-    wrong, name = wrong_argument(act), act["name"]
-    if node.number == DVR and name in ("section", "pes", "add", "remove", "start", "stop"):
-        return "EINVAL", "the dvr node takes no such call"
-    if wrong:
-        return "EINVAL", wrong
-    if name in ("add", "remove"):
-        return wrong_pids(node, act)
-    if name == "start" and node.filter is None:
-        return "EINVAL", "Start without a filter"
-    if name == "size" and act["size"] != node.size and node.runs:
-        return "EBUSY", "SetSize to another size while the filter is started and not stopped"
-    return None
-
-
 # ------ the nodes gone through
+
+
+def first_moment(report):
+    """The least moment that an entry carries: 0 in a report of `steps`, but where a script begins with a `tick`."""
+    moments = (moment(entry) for entries in report.nodes.values() for entry in entries)
+    return min((at for at in moments if at is not None), default=0)
 
 
 class Story:
@@ -200,6 +78,8 @@ class Story:
         self.clients = {number: Client(number, outcomes) for number, outcomes in enumerate(report.clients)}
         self.packets = {row.pid: row for row in report.pids}
         self.stumbles = {}
+        self.first_moment = first_moment(report)
+        self.look_at_skipped()
         for number, entries in sorted(report.nodes.items()):
             node = Node(number, self)
             for entry in entries:
@@ -215,6 +95,13 @@ class Story:
     def line_of(self, entry):
         """The line of the command that made this entry's call."""
         return self.clients[int(entry.who[1])].line_of(entry.step)
+
+    def look_at_skipped(self):
+        """Notes that most of the stream's bytes were skipped."""
+        report = self.report
+        whole = PACKET * report.packets + report.skipped + report.rest
+        if 2 * report.skipped > whole:
+            self.stumble("skipped", None, None, None, skipped=report.skipped, whole=whole)
 
     def look_at_slots(self, client):
         """Notes the commands on a slot that is bound to no node."""
@@ -259,21 +146,25 @@ class Story:
     def take_feed(self, node, entry):
         """A batch or End passes a node."""
         if entry.act == "end":
-            node.ends += 1
+            node.end = entry.place
             return
+        act = act_of(entry)
         node.passes += 1
         if node.taps and node.owner is None:
-            node.free_packets += act_of(entry)["count"]
+            node.free_packets += act["count"]
+        if node.runs and node.capture and not node.filter.once:
+            if node.capture.due is None or act["at"] < node.capture.due:
+                node.filter.take(act)
 
     def end_wait(self, node, client, call, line):
         """Where the call before was a wait of the same command, notes what came in between."""
-        step, passes, ends, calls = node.waiting.pop(client.number, (None, 0, 0, 0))
+        step, passes, end, calls = node.waiting.pop(client.number, (None, 0, None, 0))
         if step is None or call.entry.step != step + 1 or call.entry.step in client.begins:
             return
         waits = client.waits.setdefault(node.number, Waits())
         if line not in waits.lines[-1:]:
             waits.lines.append(line)
-        if node.ends > ends:
+        if node.end != end:
             waits.ends += 1
         elif node.passes > passes:
             waits.passes += 1
@@ -367,10 +258,13 @@ class Story:
         return [self.packets[pid]] if pid in self.packets else []
 
     def look_at_pid(self, node, used, pid):
-        """Notes the breaks and duplicates in the stream of a PID of a filter that ran."""
+        """Notes the breaks and duplicates in the stream of a PID of a filter that ran, where one at least was offered to it: a report
+        doesn't tell where they are, so there have to be more than may lie elsewhere."""
+        rows = self.rows_of(pid)
+        hidden = used.offered[pid].may_hide(self.report.packets, len(rows)) if pid in used.offered else self.report.packets
         for name in ("break", "duplicate"):
-            count = sum(getattr(row, name + "s") for row in self.rows_of(pid))
-            if count:
+            count = sum(getattr(row, name + "s") for row in rows)
+            if count > hidden:
                 kind = f"{name} of {'sections' if used.kind == 'section' else 'packets'}"
                 self.stumble(kind, node.owner, node, used.line, pid, pid=pid, count=count)
 
@@ -380,9 +274,16 @@ class Story:
         if capture and capture.polled is not None and node.owner is not None:
             self.note_timeout(node, node.owner, capture.polled)
 
+    def note_late(self, node, entry):
+        """Notes that a capture begins behind End."""
+        client = int(entry.who[1])
+        kind = "late in run" if self.first_moment else "late"
+        facts = {"end": node.end, "begin": entry.place, "moment": self.first_moment}
+        self.stumble(kind, client, node, self.line_of(entry), **facts)
+
     def note_timeout(self, node, client, line):
-        """Notes a timeout of a section filter whose PID has packets in the stream."""
-        if node.filter and node.filter.pid in self.packets:
+        """Notes a timeout of a section filter whose PID has packets in the stream, which hadn't ended before."""
+        if node.filter and node.filter.pid in self.packets and not (node.capture and node.capture.is_late):
             pid = node.filter.pid
             self.stumble("timed out", client, node, line, pid, pid=pid, packets=self.packets[pid].packets)
 
@@ -401,7 +302,7 @@ class Story:
             if node.filter and node.filter.output == "ts_tap":
                 self.stumble("read of ts_tap", client.number, node, line)
             if call.entry.reply == "again ended=0":
-                node.waiting[client.number] = (call.entry.step, node.passes, node.ends, node.calls)
+                node.waiting[client.number] = (call.entry.step, node.passes, node.end, node.calls)
         elif call.reply == "overflow":
             self.take_overflow(node, client, call, line)
         elif call.reply == "timedout":
@@ -427,12 +328,27 @@ class Story:
         if node.number == DVR or (node.filter and node.filter.output == "tsdemux_tap"):
             got.items += capture.answered // PACKET - before
         elif node.filter and node.filter.kind == "section":
-            begun = capture.have > 0
-            of, whole = capture.take_section(call.entry.reply[5:])
-            got.items += whole
-            call.reason = ("the end of a section" if begun else "a section") if whole else "a part of a section"
-            if not whole:
-                self.stumble("part", client.number, node, line, count=act_of(call.entry)["count"], of=of)
+            self.take_section(node, client, call, line, got)
+        elif node.filter and node.filter.output == "tap":
+            self.take_payload(capture, call, got)
+
+    def take_section(self, node, client, call, line, got):
+        """A section or a part of one."""
+        begun = node.capture.have > 0
+        of, head, whole = node.capture.take_section(call.entry.reply[5:])
+        if whole:
+            got.items += 1
+            got.take_head(head)
+        else:
+            self.stumble("part", client.number, node, line, count=act_of(call.entry)["count"], of=of)
+        call.reason = ("the end of a section" if begun else "a section") if whole else "a part of a section"
+        call.head = None if begun else head
+
+    def take_payload(self, capture, call, got):
+        """Payloads, in which PES packets begin."""
+        call.streams = capture.take_payload(call.entry.reply[5:])
+        for stream in call.streams:
+            got.streams[stream] = got.streams.get(stream, 0) + 1
 
     def take_no_bytes(self, node, client, call, line):
         """Data of no bytes: why, as far as the state says."""

@@ -1,0 +1,60 @@
+"""The clients of a report, what they called, and what they got, for tools/explain."""
+from bisect import bisect_right
+
+from fields import NAMES
+
+
+class Call:
+    """A call of a client: its node, its entry, the names of its act and its reply, a reason that the entry hasn't, the head of the
+    section that it begins to give, and the stream_ids of the PES packets that begin in its bytes."""
+
+    __slots__ = ("node", "entry", "act", "reply", "reason", "head", "streams")
+
+    def __init__(self, node, entry):
+        self.node, self.entry, self.reason, self.head, self.streams = node, entry, "", None, ()
+        self.act = entry.act.partition(" ")[0]
+        self.reply = entry.reply.partition(" ")[0]
+
+    def length(self):
+        """How many bytes a read gave."""
+        return 0 if self.reply != "data" or self.entry.reply == "data -" else (len(self.entry.reply) - 5) // 2
+
+
+class Got:
+    """What the reads of a node through one kind of filter gave: of sections the values of each field by table_id and
+    table_id_extension, of payloads how often each stream_id stands in them."""
+
+    def __init__(self):
+        self.reads, self.with_data, self.bytes, self.items, self.pids = 0, 0, 0, 0, set()
+        self.tables, self.streams = {}, {}
+
+    def take_head(self, head):
+        """Takes the head of a section that was read to its end."""
+        values = self.tables.setdefault(head[:2], [set() for _ in NAMES])
+        for known, value in zip(values, head):
+            if value is not None:
+                known.add(value)
+
+
+class Waits:
+    """How often a client waited on a node, and until what."""
+
+    def __init__(self):
+        self.lines, self.passes, self.ends, self.others = [], 0, 0, 0
+
+
+class Client:
+    """What one client asked and got."""
+
+    def __init__(self, number, outcomes):
+        self.number, self.outcomes = number, outcomes
+        calling = [outcome for outcome in outcomes if outcome.first < outcome.after]
+        self.firsts, self.lines = [outcome.first for outcome in calling], [outcome.line for outcome in calling]
+        self.begins = set(self.firsts)
+        self.calls, self.got, self.waits = [], {}, {}
+        self.lost, self.timed, self.refused = [], [], []
+
+    def line_of(self, step):
+        """The line of the command that made this call, or 0 where no command did."""
+        place = bisect_right(self.firsts, step) - 1
+        return self.lines[place] if place >= 0 else 0
