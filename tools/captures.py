@@ -39,6 +39,14 @@ class Filter:
         self.pids, self.ever, self.started = {self.pid}, {self.pid}, False
         self.offered = {}
 
+    def change_pids(self, name, pid):
+        """Takes an AddPid or RemovePid."""
+        if name == "add":
+            self.pids.add(pid)
+            self.ever.add(pid)
+        else:
+            self.pids.discard(pid)
+
     def take(self, act):
         """Takes a batch that is surely offered to the capture."""
         for pid in self.pids:

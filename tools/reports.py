@@ -297,6 +297,12 @@ def moment(entry):
     return int(after.partition(" ")[0]) if sign else None
 
 
+def first_moment(report):
+    """The least moment that an entry carries: 0 in a report of `steps`, but where a script begins with a `tick`."""
+    moments = (moment(entry) for entries in report.nodes.values() for entry in entries)
+    return min((at for at in moments if at is not None), default=0)
+
+
 def node_name(node):
     """The node's name in a script: `n0` to `n31`, or `dvr`."""
     return "dvr" if node == DVR else f"n{node}"

@@ -6,7 +6,11 @@ accepted so far are kept beside them.
 from captures import Capture, Filter
 from clients import Call, Client, Got, Waits
 from refusals import ALL_PACKETS, refusal
+<<<<<<< HEAD
 from reports import DVR, act_of, moment, reply_of
+=======
+from reports import DVR, act_of, first_moment, moment, reply_of
+>>>>>>> 660f80a21d09ced243ce02a4985417e0eb03748f
 from walk import Walk
 
 PACKET = 188
@@ -43,6 +47,10 @@ class Node(Walk):
     def set_filter(self, entry, act):
         """Another filter, which doesn't run yet."""
         self.filter, self.runs, self.ended_by = Filter(act, self.story.line_of(entry)), False, ""
+
+    def change_pids(self, entry, act):
+        """An accepted AddPid or RemovePid."""
+        self.filter.change_pids(act["name"], act["pid"])
 
     def end_filter(self):
         """The filter's time is over."""
@@ -216,18 +224,7 @@ class Story:
         act, reply = act_of(call.entry), reply_of(call.entry)
         if reply["drop"][1] > reply["drop"][0]:
             self.take_drop(node, client, call, line, reply["drop"])
-        if call.act in ("add", "remove") and node.filter:
-            self.change_pids(node, call.act, act["pid"])
-        else:
-            node.accept(call.entry, act, reply)
-
-    def change_pids(self, node, name, pid):
-        """An accepted AddPid or RemovePid."""
-        if name == "add":
-            node.filter.pids.add(pid)
-            node.filter.ever.add(pid)
-        else:
-            node.filter.pids.discard(pid)
+        node.accept(call.entry, act, reply)
 
     def take_drop(self, node, client, call, line, span):
         """A Done that names unread bytes."""

@@ -77,8 +77,10 @@ def counted(number, name):
 def short_number(value):
     """A number in at most four characters, rounded down."""
     for unit, letter in ((10**9, "G"), (10**6, "M"), (10**3, "k")):
-        if value >= unit:
+        if value >= 10 * unit:
             return f"{value // unit}{letter}" if value < 1000 * unit else "lots"
+        if value >= unit:
+            return f"{value // unit}.{value * 10 // unit % 10}{letter}"
     return str(value)
 
 

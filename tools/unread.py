@@ -1,20 +1,26 @@
 """What the entries of one node tell of its captures, its buffer and its unread bytes.
 
 A report doesn't say how many bytes a pass brings. What is told, some entries later, is how many bytes of the capture have
-arrived: by reads, by polls that find nothing, by overflow spans and by what a call drops. Between two such entries the bytes
-are spread evenly over the packets that passed. Before an overflow that a read tells, the fill is the one that the first lost
-item found.
+arrived: by reads, by polls that find nothing, by overflow spans and by what a call drops. Behind the passes between two such
+entries only bounds are known: the sum before, or what reads have given since, and the sum behind. Where a capture of whole packets
+got as many as passed, each pass brought its packets. Before an overflow that a read tells, the fill is the one that the first
+lost item found.
 """
 from typing import NamedTuple
 
 import reports
+from fields import pid_text
 from walk import Walk
+
+PACKET, ALL_PACKETS, MOST_NAMED = 188, 0x2000, 4
 
 
 class Loss(NamedTuple):
-    """An overflow span: the place from which it is drawn, the place of the read that tells it, and the reply's numbers."""
+    """An overflow span: the first place behind which it may have come, the first behind which it has, the place of the read that
+    tells it, and the reply's numbers."""
 
     first: int
+    sure: int
     told: int
     begin: int
     end: int
@@ -27,16 +33,19 @@ class Untold(NamedTuple):
     """An overflow that no read tells: the place where a poll or a drop shows it, and the last place of its capture."""
 
     first: int
+    sure: int
     told: int
 
 
 class Step(NamedTuple):
-    """What is known behind an entry of a capture: packets offered, bytes answered, bytes that have arrived at least."""
+    """What is known behind an entry of a capture: packets offered, bytes answered, bytes that have arrived at least, and whether
+    an overflow is told to be pending."""
 
     place: int
     packets: int
     answered: int
     least: int
+    is_over: bool = False
 
 
 class Known(NamedTuple):
@@ -64,19 +73,20 @@ class Drop(NamedTuple):
 
 class Capture:
     """A capture: its first place and, where it has ended, the place of the call that ended it; `quiet` is where it takes no
-    further packets, by a stop or a timeout."""
+    further packets, by a stop or a timeout; `labels` has what it takes from which place on, in words and in fewer."""
 
     def __init__(self, begin, moment, words, kind, label, timeout):
-        self.begin, self.end, self.quiet, self.words, self.kind, self.label = begin, None, None, words, kind, label
+        self.begin, self.end, self.quiet, self.words, self.kind = begin, None, None, words, kind
+        self.labels = [(begin, label)]
         self.started, self.timeout = moment, timeout
         self.due, self.expiry, self.losses = None, None, []
         self.packets, self.told_packets, self.answered = 0, 0, 0
         self.known, self.steps = [Known(begin, 0, 0)], [Step(begin, 0, 0, 0)]
         self.clear, self.pending = 0, None
 
-    def keep(self, place, least=0):
+    def keep(self, place, least=0, is_over=False):
         """Keeps what is known behind an entry."""
-        self.steps.append(Step(place, self.packets, self.answered, max(least, self.answered)))
+        self.steps.append(Step(place, self.packets, self.answered, max(least, self.answered), is_over))
 
     def know(self, place, arrived):
         """Keeps that just so many bytes have arrived."""
@@ -84,7 +94,7 @@ class Capture:
 
     def tell(self, place, least=0, is_clear=True):
         """Keeps what a read or a poll tells; it is clear where no overflow is pending behind it."""
-        self.keep(place, least)
+        self.keep(place, least, not is_clear)
         self.told_packets = self.packets
         if is_clear:
             self.clear = len(self.steps) - 1
@@ -92,22 +102,23 @@ class Capture:
     def lose(self, place, reply):
         """Keeps an overflow span with the number of the last step behind which none was pending, and that of the read's."""
         begin, end = reply["span"]
-        loss = Loss(place, place, begin, end, reply["item"], reply["need"], reply["room"])
+        loss = Loss(place, place, place, begin, end, reply["item"], reply["need"], reply["room"])
         self.losses.append((self.clear, len(self.steps), loss))
         self.pending = None
 
 
 class History(Walk):
-    """A node's captures, its size behind each entry, and the bytes unread behind each entry (None where nothing tells them)."""
+    """A node's captures, its size behind each entry, and the least and the most bytes that may be unread behind each entry (None
+    where nothing tells them)."""
 
     def __init__(self, node, entries):
         super().__init__(node)
-        self.entries = entries
+        self.entries, self.pids = entries, set()
         self.sizes, self.captures, self.drops = [], [], []
         for entry in entries:
             self.take(entry, reports.act_of(entry), reports.reply_of(entry))
             self.sizes.append(self.size)
-        self.unread = [0] * len(entries)
+        self.low, self.high = [0] * len(entries), [0] * len(entries)
         for capture in self.captures:
             self.fill(capture)
 
@@ -191,13 +202,23 @@ class History(Walk):
 
     def begin_capture(self, entry):
         """A capture begins: of the filter, or on the dvr node of what the taps name."""
-        kind, label, moment, timeout = "dvr", "tapped packets", 0, 0
+        kind, moment, timeout = "dvr", 0, 0
         if self.number != reports.DVR:
             kind = self.filter["name"] if self.filter["name"] == "section" else self.filter["output"]
-            label, moment = f"{kind} of PID {self.filter['pid']}", reports.moment(entry)
-            timeout = self.filter.get("timeout", 0)
+            moment, timeout = reports.moment(entry), self.filter.get("timeout", 0)
+        label = ("tapped packets", "tapped") if kind == "dvr" else pids_labels(self.pids)
         self.capture = Capture(entry.place, moment, entry.act, kind, label, timeout)
         self.captures.append(self.capture)
+
+    def set_filter(self, entry, act):
+        """A filter, with the PID that it names."""
+        self.filter, self.pids = act, {act["pid"]}
+
+    def change_pids(self, entry, act):
+        """Another PID, or one less; a capture takes them from here on."""
+        self.pids = self.pids | {act["pid"]} if act["name"] == "add" else self.pids - {act["pid"]}
+        if self.capture:
+            self.capture.labels.append((entry.place, pids_labels(self.pids)))
 
     def stop(self, entry):
         """The capture takes no further packets."""
@@ -222,41 +243,69 @@ class History(Walk):
     def fill(self, capture):
         """Fills in the bytes unread behind each entry of a capture, and where its overflow spans are drawn from."""
         last = len(self.entries) if capture.end is None else capture.end
-        levels = [max(arrived, step.least) - step.answered for arrived, step in zip(arrived_at(capture), capture.steps)]
-        capture.losses = [self.fill_before(loss, capture, levels) for loss in capture.losses]
+        bounds = [(low - step.answered, high - step.answered) for step, (low, high) in zip(capture.steps, bounds_of(capture))]
+        capture.losses = [self.fill_before(loss, capture, bounds) for loss in capture.losses]
         if capture.pending is not None:
-            capture.losses.append(Untold(capture.pending, min(last, len(self.entries) - 1)))
+            capture.losses.append(Untold(capture.pending, capture.pending, min(last, len(self.entries) - 1)))
         places = [step.place for step in capture.steps] + [last]
         for number, step in enumerate(capture.steps):
             is_told = step.packets <= capture.told_packets or capture.kind == "ts_tap"
-            level = self.within(levels[number], step.place) if is_told else None
+            low, high = (self.within(level, step.place) if is_told else None for level in bounds[number])
             place, until = places[number : number + 2]
-            self.unread[place:until] = [level] * (until - place)
+            self.low[place:until], self.high[place:until] = [low] * (until - place), [high] * (until - place)
 
     def within(self, level, place):
         """A level that the buffer can have at this place."""
         return max(0, min(level, (self.sizes[place] or 1) - 1))
 
-    def fill_before(self, kept, capture, levels):
-        """The overflow span from the place where the buffer first is as full as it says; from there on it stays so."""
+    def fill_before(self, kept, capture, bounds):
+        """The overflow span with the places behind which it may have come and has come: the buffer is as full then as it says, and
+        stays so."""
         clear, told, loss = kept
         most = (self.sizes[loss.told] or 1) - 1 - loss.room
-        full = [number for number in range(clear + 1, told) if levels[number] > most]
-        first = full[0] if full else max(clear + 1, told - 1)
-        levels[first:told] = [most] * (told - first)
-        return loss._replace(first=capture.steps[min(first, told)].place)
+        between = range(clear + 1, told)
+        last = max(clear + 1, told - 1)
+        sure = next((number for number in between if bounds[number][0] > most or capture.steps[number].is_over), last)
+        first = min(sure, next((number for number in between if bounds[number][1] > most), last))
+        for number in range(first, told):
+            bounds[number] = (most if number >= sure else min(bounds[number][0], most), most)
+        first, sure = (capture.steps[min(number, told)].place for number in (first, sure))
+        return loss._replace(first=first, sure=sure)
 
 
-def arrived_at(capture):
-    """The bytes that have arrived at each step: where they aren't known they rise evenly with the packets."""
+def pids_labels(pids):
+    """PIDs in a few words, and shorter for where there is less room."""
+    names = ["all packets" if pid == ALL_PACKETS else pid_text(pid) for pid in sorted(pids)]
+    if not pids:
+        return "no PID", "none"
+    if len(pids) == 1:
+        return names[0] if ALL_PACKETS in pids else f"PID {names[0]}", names[0].partition(" (")[0]
+    short = f"{len(pids)} PIDs"
+    return f"PIDs {', '.join(names)}" if len(pids) <= MOST_NAMED else short, short
+
+
+def bounds_of(capture):
+    """The least and the most bytes that may have arrived behind each step."""
     known = [*capture.known, Known(float("inf"), capture.told_packets, capture.answered)]
-    found, here = [], 0
+    least, found, here = {}, [], 0
+    for step in capture.steps:
+        least[step.packets] = max(least.get(step.packets, 0), step.least)
     for step in capture.steps:
         while known[here + 1].place <= step.place:
             here += 1
-        before, after = known[here], known[here + 1]
-        packets = after.packets - before.packets
-        passed = min(step.packets, after.packets) - before.packets
-        bytes_between = after.arrived - before.arrived
-        found.append(before.arrived + (bytes_between * passed // packets if packets > 0 else 0))
+        found.append(bounds_at(step, known[here], known[here + 1], least, capture.kind in ("dvr", "tsdemux_tap")))
     return found
+
+
+def bounds_at(step, before, after, least, is_whole):
+    """The bounds behind a step between two entries that tell how many bytes have arrived; least has the bytes that reads show to
+    have come with so many packets."""
+    if step.packets <= before.packets:
+        low = high = before.arrived
+    elif step.packets >= after.packets:
+        low = high = after.arrived
+    elif is_whole and after.arrived - before.arrived == PACKET * (after.packets - before.packets):
+        low = high = before.arrived + PACKET * (step.packets - before.packets)
+    else:
+        low, high = max(before.arrived, least[step.packets]), after.arrived
+    return max(low, step.least), max(high, step.least)

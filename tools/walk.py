@@ -38,6 +38,8 @@ class Walk:
             self.set_filter(entry, act)
             if act["flags"] & IMMEDIATE:
                 self.begin_capture(entry)
+        elif name in ("add", "remove") and self.filter:
+            self.change_pids(entry, act)
         elif name == "start" and self.filter:
             self.end_capture(entry, reply)
             self.begin_capture(entry)
@@ -64,6 +66,9 @@ class Walk:
     def set_filter(self, entry, act):
         """A set call is accepted."""
         self.filter = act
+
+    def change_pids(self, entry, act):
+        """An AddPid or RemovePid is accepted."""
 
     def end_filter(self):
         """The filter, where there is one, is set no longer."""

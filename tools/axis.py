@@ -1,0 +1,195 @@
+"""The axis that all lanes of tools/picture share: a column for each batch of the feeder, and between two batches columns for the
+calls, in the order of each node and of each client.
+
+A call stands behind the batches that had passed its node. So in a report of `run`, where a batch passes one node after another, two
+calls on two nodes can stand on two sides of a batch though they came the other way round; those on one node never do.
+"""
+import reports
+from svg import LEFT, WIDTH
+
+COLUMN, CELL, MOST_DENSE = 32, 18, 4
+
+
+class Gap:
+    """The calls between two batches: those of each node and those of each client, in their order."""
+
+    def __init__(self):
+        self.nodes, self.clients, self.width = {}, {}, 0
+
+    def add(self, node, client, step):
+        """Adds a call; node is None for a command that makes none."""
+        call = (client, step)
+        if node is not None:
+            self.nodes.setdefault(node, []).append(call)
+        self.clients.setdefault(client, []).append((step, node))
+
+    def place(self):
+        """A place from 0 on for each call, greater than those of the calls before it on its node and by its client."""
+        waiting = {node: list(reversed(calls)) for node, calls in self.nodes.items()}
+        own = {client: sorted(calls, reverse=True) for client, calls in self.clients.items()}
+        places, behind = {}, {}
+        while any(own.values()):
+            if not self.place_some(waiting, own, places, behind):
+                break  # no report of a program: two callers each before the other
+        self.width = max(places.values(), default=-1) + 1
+        return places
+
+    def place_some(self, waiting, own, places, behind):
+        """Places the calls that are the next ones of their client and their node; tells whether there was one."""
+        count = len(places)
+        for client, calls in own.items():
+            while calls and (calls[-1][1] is None or waiting[calls[-1][1]][-1] == (client, calls[-1][0])):
+                step, node = calls.pop()
+                keys = [("client", client)] + ([("node", node)] if node is not None else [])
+                places[client, step] = max(behind.get(key, 0) for key in keys)
+                behind.update(dict.fromkeys(keys, places[client, step] + 1))
+                if node is not None:
+                    waiting[node].pop()
+        return len(places) > count
+
+
+class Axis:
+    """The columns from left to right. Where there are too many they are gathered in cells, and narrower."""
+
+    def __init__(self, report):
+        self.gaps = self.gaps_of(report)
+        self.calls, self.starts, column = {}, [], 0
+        for gap in self.gaps:
+            self.calls.update({call: column + place for call, place in gap.place().items()})
+            self.starts.append(column)
+            column += gap.width + 1
+        self.count = column - 1
+        self.batches = [start + gap.width for start, gap in zip(self.starts[:-1], self.gaps)]
+        self.gathers = self.count * CELL > WIDTH
+        self.edges = self.gathered_edges() if self.gathers else self.plain_edges()
+        self.right = self.edges[-1]
+
+    def gaps_of(self, report):
+        """The calls between the batches, and the commands that make none."""
+        found, seen = [Gap()], {}
+        for node, entries in report.nodes.items():
+            passed = 0
+            for entry in entries:
+                if entry.who == "feed":
+                    passed += 1
+                    if passed == len(found):
+                        found.append(Gap())
+                else:
+                    client = int(entry.who[1])
+                    found[passed].add(node, client, entry.step)
+                    seen[client, entry.step] = passed
+        for client, outcomes in enumerate(report.clients):
+            for number, outcome in enumerate(outcomes):
+                if outcome.first == outcome.after:
+                    passed = seen.get((client, outcome.first - 1), 0)
+                    found[passed].add(None, client, self.step_of(outcome, number))
+        return found
+
+    @staticmethod
+    def step_of(outcome, number):
+        """A step for a command that makes no call: between the calls before and behind it, in the order of the commands."""
+        return outcome.first - 1 / (number + 2)
+
+    def command(self, client, number, outcome):
+        """The first and the last column of a command."""
+        if outcome.first == outcome.after:
+            column = self.calls.get((client, self.step_of(outcome, number)), 0)
+            return column, column
+        columns = [self.calls.get((client, step), 0) for step in (outcome.first, outcome.after - 1)]
+        return min(columns), max(columns)
+
+    def columns_of(self, entries):
+        """The column of each entry of a node."""
+        found, passed = [], 0
+        for entry in entries:
+            if entry.who == "feed":
+                found.append(self.batches[passed])
+                passed += 1
+            else:
+                found.append(self.calls.get((int(entry.who[1]), entry.step), self.starts[passed]))
+        return found
+
+    # ------ from columns to places on the paper
+
+    def plain_edges(self):
+        """The edges of columns that all have the same width."""
+        wide = min(COLUMN, WIDTH / max(self.count, 1))
+        return [LEFT + wide * column for column in range(self.count + 1)]
+
+    def gathered_edges(self):
+        """The edges of columns that are too many. The calls before the first batch and behind End, and those of a few gaps that have
+        far more than the others, get zones of their own, together at most half of the width; each batch has as much as the others."""
+        dense = self.dense_gaps()
+        columns = sum(gap.width * (number not in dense) + 1 for number, gap in enumerate(self.gaps)) - 1
+        pool = max(min(columns * CELL, WIDTH / 2), WIDTH - sum(self.gaps[number].width * CELL for number in dense))
+        zones = shares({number: self.gaps[number].width * CELL for number in dense}, WIDTH - min(pool, columns * CELL))
+        unit = min(pool, columns * CELL) / max(len(self.batches), 1)
+        edges = [LEFT]
+        for number, gap in enumerate(self.gaps):
+            if number in dense:
+                edges += parts(edges[-1], zones[number], gap.width)
+            inside = (0 if number in dense else gap.width) + (number < len(self.batches))
+            edges += parts(edges[-1], unit if number < len(self.batches) else 0, inside)
+        return edges
+
+    def dense_gaps(self):
+        """The first and the last gap, and at most four others that have far more calls than most."""
+        usual = sorted(gap.width for gap in self.gaps)[len(self.gaps) // 2]
+        most = sorted(range(1, len(self.gaps) - 1), key=lambda number: -self.gaps[number].width)[:MOST_DENSE]
+        inner = [number for number in most if self.gaps[number].width >= max(4, 3 * usual)]
+        return sorted({0, len(self.gaps) - 1, *inner})
+
+    def left(self, column):
+        """The left edge of a column."""
+        return self.edges[column]
+
+    def middle(self, column):
+        """The middle of a column."""
+        return (self.edges[column] + self.edges[column + 1]) / 2
+
+    def cell(self, column):
+        """The number of the cell that a column falls into."""
+        return int((self.middle(column) - LEFT) // CELL) if self.gathers else column
+
+    def cell_middle(self, cell):
+        """The middle of a cell."""
+        return LEFT + (cell + 0.5) * CELL if self.gathers else self.middle(cell)
+
+    def cell_width(self):
+        """The width of a cell."""
+        return CELL if self.gathers else self.edges[1] - self.edges[0]
+
+    def gather(self, things, column_of):
+        """Lists of the things that fall into the same cell, by the cell, from left to right."""
+        found = {}
+        for thing in things:
+            found.setdefault(self.cell(column_of(thing)), []).append(thing)
+        return sorted(found.items())
+
+
+def parts(begin, wide, count):
+    """The right edges of so many equal parts."""
+    return [begin + wide * (part + 1) / count for part in range(count)]
+
+
+def shares(wanted, room):
+    """How much of the room each gets that wants so much: what is left by those that want less goes to the others."""
+    given = {}
+    for key in sorted(wanted, key=wanted.get):
+        given[key] = min(wanted[key], (room - sum(given.values())) / (len(wanted) - len(given)))
+    return given
+
+
+def moments_of(report, axis):
+    """The columns at which the moment rises, each with the moment."""
+    found = {}
+    for entries in report.nodes.values():
+        for entry, column in zip(entries, axis.columns_of(entries)):
+            at = reports.moment(entry)
+            if at is not None:
+                found[column] = max(at, found.get(column, 0))
+    changes = []
+    for column, at in sorted(found.items()):
+        if not changes or at > changes[-1][1]:
+            changes.append((column, at))
+    return changes
