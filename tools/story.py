@@ -6,11 +6,7 @@ accepted so far are kept beside them.
 from captures import Capture, Filter
 from clients import Call, Client, Got, Waits
 from refusals import ALL_PACKETS, refusal
-<<<<<<< HEAD
-from reports import DVR, act_of, moment, reply_of
-=======
 from reports import DVR, act_of, first_moment, moment, reply_of
->>>>>>> 660f80a21d09ced243ce02a4985417e0eb03748f
 from walk import Walk
 
 PACKET = 188
@@ -70,12 +66,6 @@ class Stumble:
 
 
 # ------ the nodes gone through
-
-
-def first_moment(report):
-    """The least moment that an entry carries: 0 in a report of `steps`, but where a script begins with a `tick`."""
-    moments = (moment(entry) for entries in report.nodes.values() for entry in entries)
-    return min((at for at in moments if at is not None), default=0)
 
 
 class Story:
