@@ -15,6 +15,7 @@ OUTPUTS = ["decoder", "tap", "ts_tap", "tsdemux_tap"]
 # ------ the stream
 
 
+# RULES: 65c34dff The stream
 def cut(stream):
     """Packets, skipped bytes, rest."""
     packets, skipped, place = [], 0, 0
@@ -69,6 +70,7 @@ def clean(packets, pid):
     return kept, duplicates
 
 
+# RULES: 3cee7a09 Sections
 def joins(before, packet):
     return counter_of(packet) == (counter_of(before) + 1) % 16 and not discontinuity(packet)
 
@@ -143,12 +145,15 @@ def matches(places, section):
 # ------ the nodes
 
 
+# RULES: 0289b1a0 Captures
+# RULES: 56213de9 The ledger
 class Capture:
     def __init__(self, moment):
         self.started, self.stopped, self.expired, self.told = moment, False, None, False
         self.offered, self.items, self.total, self.answered, self.over = [], [], 0, 0, None
 
 
+# RULES: 794b3511 A demux node
 class Node:
     """What a demux node and the dvr node have in common."""
 
@@ -164,6 +169,7 @@ class Node:
             capture.items.append(item)
             capture.total += len(item)
 
+    # RULES: de2ad7f0 What is dropped
     def drop(self):
         """The span that a call drops, as its reply names it."""
         capture, self.capture = self.capture, None
@@ -183,6 +189,7 @@ class Node:
     def is_untold(self):
         return self.capture.expired is not None and not self.capture.told
 
+    # RULES: fbc7efd0 Read
     def read(self, count, timeout):
         capture = self.capture
         if capture is None:
@@ -205,6 +212,7 @@ class Node:
         capture.answered += most
         return "data " + b"".join(capture.items)[answered : answered + most].hex()
 
+    # RULES: d40d9bf1 Poll
     def poll(self):
         capture = self.capture
         if capture is None:
@@ -236,6 +244,7 @@ class Demux(Node):
     def is_one_shot(self):
         return self.filter[0] == "section" and self.filter[4] & 2 != 0
 
+    # RULES: 86d96b07 States
     def state(self):
         if self.owner is None:
             return "Free"
@@ -249,9 +258,11 @@ class Demux(Node):
             return "Done"
         return "Go"
 
+    # RULES: 5fe952aa The tap
     def records(self):
         return self.state() == "Go" and self.filter[0] == "pes" and self.filter[3] == "ts_tap"
 
+    # RULES: 7fb1fb79 Timeouts
     def expire(self, moment):
         if self.timeout() and self.state() == "Go" and not self.capture.items:
             if moment >= self.capture.started + self.timeout():
@@ -282,6 +293,7 @@ class Demux(Node):
             elif self.filter[3] == "tap" and payload_of(packet) is not None:
                 self.arrive([payload_of(packet)])
 
+    # RULES: 1d4b202a Refusals
     def refused(self, who, act):
         """The refusals, in their order; act is a name and its arguments."""
         name, args = act[0], act[1:]
@@ -312,6 +324,7 @@ class Demux(Node):
                 return "EBUSY"
         return None
 
+    # RULES: d0c799e0 Calls
     def call(self, who, act, moment):
         name, args = act[0], act[1:]
         if name == "open":
@@ -361,6 +374,7 @@ class Demux(Node):
         return done(span, "detach" if recorded and not self.records() else "keep")
 
 
+# RULES: ae896f16 The dvr node
 class Dvr(Node):
     def __init__(self):
         super().__init__()
@@ -459,6 +473,7 @@ def take(words):
     return words.pop(0)
 
 
+# RULES: 4f1fcee1 The script
 def read_line(line):
     words = line.split(b" ")
     first = words.pop(0)
@@ -531,6 +546,7 @@ def act_text(act, moment):
     return " ".join([kind, *map(str, args)])
 
 
+# RULES: b3dd7bd7 The order of `steps`
 class Run:
     def __init__(self, lines, packets, batch):
         self.lines, self.packets, self.batch = lines, packets, batch
@@ -598,6 +614,7 @@ class Run:
             if reply == "again ended=0":
                 self.run_pass(self.batch)
 
+    # RULES: 9be98716 What a client's commands do
     def command(self, asked):
         verb, client, on, args = asked
         if on == "dvr":
@@ -633,6 +650,7 @@ class Run:
             pass
 
 
+# RULES: 033f1c6f The report
 def pid_rows(packets):
     rows = []
     for pid in sorted(set(map(pid_of, packets))):
@@ -672,6 +690,7 @@ def bytes_read(node):
     return sum(len(reply[5:]) // 2 for _, _, _, reply in node.entries if reply.startswith("data ") and reply != "data -")
 
 
+# RULES: d5119fac The line of sums
 def sums(session, batch):
     """The sums of the same run in one line."""
     run, packets, _, _ = run_of(session, batch)
