@@ -1,5 +1,5 @@
 -- The bytes read are the argument that was written, which asks for the request.
-use Rattle.std.proofs.Common.{◌≡◌, ℕ, ◌-◌, ◌++◌, take, drop, replicate, ap, ◌∙◌, sym, subst, length, List, Ok}
+use Rattle.std.proofs.Common.{◌≡◌, ℕ, ◌-◌, ◌++◌, take, ap, ◌∙◌, sym, subst, length, List}
 use Rattle.std.proofs.Math.Seq.{take-append_seam}
 use Rattle.dmx_abi.specs.Layout.{Spells}
 use Rattle.dmx_abi.specs.Written.{argument_of as argument_of_request, number_of as number_of_request}
