@@ -58,6 +58,8 @@ written_spells (request.SetFilter pid filter mask mode timeout flags) r =
       sym (taken 16 filter (mask ++ (mode ++ ys)) r.1),
       sym (second filter mask mode ys r.1 r.2 r.3),
       sym (third filter mask mode ys r.1 r.2 r.3),
-      sym (ap (λ xs. little_number 4 xs) (behind filter mask mode ys r.1 r.2 r.3 2) ∙ little_number-reads_back 4 timeout (little_bytes 4 flags) r.4),
-      sym (ap (λ xs. little_number 4 xs) (behind filter mask mode ys r.1 r.2 r.3 6) ∙ little_number-reads_back 4 flags [] r.5),
+      sym (ap (λ xs. little_number 4 xs) (behind filter mask mode ys r.1 r.2 r.3 2)
+          ∙ little_number-reads_back 4 timeout (little_bytes 4 flags) r.4),
+      sym (ap (λ xs. little_number 4 xs) (behind filter mask mode ys r.1 r.2 r.3 6)
+          ∙ little_number-reads_back 4 flags [] r.5),
     )

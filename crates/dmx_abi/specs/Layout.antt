@@ -1,6 +1,6 @@
--- The requests of the demux device as a program makes them: a request number and the bytes of its argument. Source: the
--- headings DMX_START to DMX_REMOVE_PID of the Linux media API (Digital TV demux), and linux/dvb/dmx.h on the usual ABI of
--- 64 bits, whose numbers have their lowest byte first.
+-- The requests of the demux device as a program makes them: a request number and the bytes of its argument. Source:
+-- the headings DMX_START to DMX_REMOVE_PID of the Linux media API (Digital TV demux), and linux/dvb/dmx.h on the usual
+-- ABI of 64 bits, whose numbers have their lowest byte first.
 use Rattle.std.specs.Prelude.{◌≡◌, ◌≢◌, ℕ, ◌+◌, ◌*◌, ◌^◌, ◌==◌, List, [], length, take, drop, Option, Some, None, if◌then◌else◌}
 use Rattle.byteorder.specs.Endian.{little_number}
 use Rattle.dmx_abi.specs.declared.numbers.TheConstants.{START, STOP, SET_FILTER, SET_PES_FILTER, SET_BUFFER_SIZE, GET_STC, ADD_PID, REMOVE_PID}
@@ -17,9 +17,9 @@ field at bytes argument = little_number bytes (drop at argument)
 abbrev pub sixteen : (at : ℕ) → List ℕ → List ℕ
 sixteen at argument = take 16 (drop at argument)
 
--- What a number and an argument ask for. The bytes that no field has may be any: those at 50 and 51 of SET_FILTER, those
--- at 2 and 3 of SET_PES_FILTER, and `base` and `stc` from byte 4 of GET_STC on, which the device answers. The argument of
--- SET_BUFFER_SIZE is the size itself; that it has four bytes here is this project's rule.
+-- What a number and an argument ask for. The bytes that no field has may be any: those at 50 and 51 of SET_FILTER,
+-- those at 2 and 3 of SET_PES_FILTER, and `base` and `stc` from byte 4 of GET_STC on, which the device answers. The
+-- argument of SET_BUFFER_SIZE is the size itself; that it has four bytes here is this project's rule.
 abbrev pub Spells : (number : ℕ) → (argument : List ℕ) → Request → Type 0
 Spells number argument request.Start = (number ≡ START) × (argument ≡ [])
 Spells number argument request.Stop = (number ≡ STOP) × (argument ≡ [])
@@ -54,14 +54,16 @@ argument_len number =
     else (if number == ADD_PID then Some 2
     else (if number == REMOVE_PID then Some 2 else None)))))))
 
--- Why a number and an argument ask for nothing: no request has the number, or its request has an argument of another length.
+-- Why a number and an argument ask for nothing: no request has the number, or its request has an argument of another
+-- length.
 abbrev pub IsFault : (number : ℕ) → (argument : List ℕ) → AbiFault → Type 0
 IsFault number argument (Unknown told) = (argument_len number ≡ None) × (told ≡ number)
 IsFault number argument (Length want found) =
     (argument_len number ≡ Some want) × (found ≡ length argument) × (found ≢ want)
 
--- A request number is made of four parts (asm-generic/ioctl.h): which ways the structure goes (1 from the program, 2 to the
--- program, 3 both), how many bytes it has, the letter `o` of the DVB devices, and the place of the request in their list.
+-- A request number is made of four parts (asm-generic/ioctl.h): which ways the structure goes (1 from the program, 2
+-- to the program, 3 both), how many bytes it has, the letter `o` of the DVB devices, and the place of the request in
+-- their list.
 abbrev pub request_number : (ways len place : ℕ) → ℕ
 request_number ways len place = ways * 2 ^ 30 + len * 2 ^ 16 + 0x6f * 2 ^ 8 + place
 

@@ -21,7 +21,8 @@ abbrev pub argument_of : Request → List ℕ
 argument_of request.Start = []
 argument_of request.Stop = []
 argument_of (request.SetFilter pid filter mask mode timeout flags) =
-    little_bytes 2 pid ++ (filter ++ (mask ++ (mode ++ (replicate 2 0 ++ (little_bytes 4 timeout ++ little_bytes 4 flags)))))
+    little_bytes 2 pid ++ (filter ++ (mask ++ (mode ++ (replicate 2 0
+    ++ (little_bytes 4 timeout ++ little_bytes 4 flags)))))
 argument_of (request.SetPes pid input output pes_type flags) =
     little_bytes 2 pid ++ (replicate 2 0 ++ (little_bytes 4 input ++ (little_bytes 4 output
     ++ (little_bytes 4 pes_type ++ little_bytes 4 flags))))
@@ -33,7 +34,8 @@ argument_of (request.GetStc num) = little_bytes 4 num ++ replicate 12 0
 -- Each number fits its field, and filter, mask and mode have 16 bytes. The types of the fields say so.
 abbrev pub Fits : Request → Type 0
 Fits (request.SetFilter pid filter mask mode timeout flags) =
-    (pid < 2 ^ 16) × (length filter ≡ 16) × (length mask ≡ 16) × (length mode ≡ 16) × (timeout < 2 ^ 32) × (flags < 2 ^ 32)
+    (pid < 2 ^ 16) × (length filter ≡ 16) × (length mask ≡ 16) × (length mode ≡ 16) × (timeout < 2 ^ 32)
+    × (flags < 2 ^ 32)
 Fits (request.SetPes pid input output pes_type flags) =
     (pid < 2 ^ 16) × (input < 2 ^ 32) × (output < 2 ^ 32) × (pes_type < 2 ^ 32) × (flags < 2 ^ 32)
 Fits (request.SetSize size) = size < 2 ^ 32

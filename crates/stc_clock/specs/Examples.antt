@@ -2,7 +2,8 @@
 use Rattle.std.specs.Prelude.{◌≡◌, ℕ, List, ◌∷◌, ◌++◌, replicate, take, Some, None}
 use Rattle.stc_clock.specs.Clock.{pcr_of, clock_of}
 
--- a packet of PID 256 that is an adaptation field alone, with these flags, these bytes behind them, and the stuffing bytes
+-- a packet of PID 256 that is an adaptation field alone, with these flags, these bytes behind them, and the stuffing
+-- bytes
 abbrev pub field_with : (flags a b c d e f : ℕ) → List ℕ
 field_with flags a b c d e f =
     0x47 ∷ 0x01 ∷ 0x00 ∷ 0x20 ∷ 0xb7 ∷ flags ∷ a ∷ b ∷ c ∷ d ∷ e ∷ f ∷ replicate 176 0xff
