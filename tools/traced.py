@@ -1,4 +1,4 @@
-"""Runs a program and tells its system calls, those of its threads and of the processes that it starts too: ptrace on x86-64 Linux."""
+"""Runs a program and tells its system calls, and those of its threads and of processes that it starts: ptrace, x86-64 Linux."""
 import ctypes
 import os
 import signal
@@ -18,7 +18,7 @@ libc.ptrace.restype = ctypes.c_long
 
 
 class Event(NamedTuple):
-    """What a thread does: it enters or leaves a system call, has made another thread or process, has begun a program, or has ended."""
+    """What a thread does: it enters or leaves a system call, has made another thread or process, begins a program, or has ended."""
 
     kind: str
     thread: int
