@@ -1,6 +1,7 @@
 // What the tests share: bytes in parts, and packets.
 
 mod batches;
+mod clocks;
 mod cutting;
 mod ends;
 mod making;

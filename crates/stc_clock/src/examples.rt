@@ -1,0 +1,12 @@
+// Worked examples, written by hand and computed by the checker.
+ghost use Rattle.stc_clock.specs.Examples.{ClockIsRead, LargestIsRead, NoneIsRead, LastClockCounts, HalfAPacketHasNone};
+
+/// Clocks of packets and of bytes. It has nothing to do.
+#[tactic(auto, unfolding(ts_packet::specs::Cut::cut, ts_packet::specs::Cut::cut_after))]
+pub fn clocks()
+    ensures clock_is_read { ClockIsRead }
+    ensures largest_is_read { LargestIsRead }
+    ensures none_is_read { NoneIsRead }
+    ensures last_clock_counts { LastClockCounts }
+    ensures half_a_packet_has_none { HalfAPacketHasNone }
+{}

@@ -1,0 +1,149 @@
+"""Runs a program and tells its system calls, and those of its threads and of processes that it starts: ptrace, x86-64 Linux."""
+import ctypes
+import os
+import signal
+import struct
+from typing import NamedTuple
+
+TRACEME, SYSCALL, SETOPTIONS, GETEVENTMSG, GET_SYSCALL_INFO = 0, 24, 0x4200, 0x4201, 0x420E
+# A mark on stops at system calls; forks, threads and exec are followed and told; nobody outlives this process.
+OPTIONS = 0x01 | 0x02 | 0x04 | 0x08 | 0x10 | 0x100000
+BORN, EXEC = (1, 2, 3), 4
+X86_64 = 0xC000003E
+ALL = 0x40000000  # __WALL: threads too
+
+libc = ctypes.CDLL(None, use_errno=True)
+libc.ptrace.argtypes = [ctypes.c_long, ctypes.c_long, ctypes.c_void_p, ctypes.c_void_p]
+libc.ptrace.restype = ctypes.c_long
+
+
+class Event(NamedTuple):
+    """What a thread does: it enters or leaves a system call, has made another thread or process, begins a program, or has ended."""
+
+    kind: str
+    thread: int
+    # The number of a system call and its six words; its result alone; the other's number; the exit status.
+    words: tuple = ()
+
+
+def ptrace(request, thread, at=None, data=None):
+    """One request of ptrace; an OSError where it is refused."""
+    answer = libc.ptrace(request, thread, at, data)
+    if answer < 0:
+        raise OSError(ctypes.get_errno(), f"ptrace: {os.strerror(ctypes.get_errno())}")
+    return answer
+
+
+class Traced:
+    """A program that runs, and all that it starts."""
+
+    def __init__(self, words):
+        self.first = os.fork()
+        if self.first == 0:
+            try:
+                ptrace(TRACEME, 0)
+                os.execvp(words[0], words)
+            except OSError as error:
+                os.write(2, f"{words[0]}: {error.strerror}\n".encode())
+            os._exit(127)
+        self.threads, self.early, self.fresh = {self.first}, set(), set()
+        _, self.status = os.waitpid(self.first, 0)
+        if os.WIFSTOPPED(self.status):
+            ptrace(SETOPTIONS, self.first, None, OPTIONS)
+            self.go_on(self.first)
+        else:
+            self.threads.clear()
+
+    def go_on(self, thread, number=0):
+        """Lets a thread run to its next stop, with a signal. One that was killed meanwhile tells its end."""
+        try:
+            ptrace(SYSCALL, thread, None, number)
+        except ProcessLookupError:
+            pass
+
+    def events(self):
+        """All that happens, in the order in which it is told. A thread stands still until the next event is asked for."""
+        while self.threads:
+            thread, status = os.waitpid(-1, ALL)
+            if os.WIFSTOPPED(status):
+                yield from self.stopped(thread, status >> 8)
+            elif thread in self.threads:
+                self.threads.discard(thread)
+                if thread == self.first:
+                    self.status = status
+                yield Event("ended", thread)
+
+    def stopped(self, thread, why):
+        """What a stop tells; then the thread goes on."""
+        number, event = why & 0xFF, why >> 8
+        if thread not in self.threads:
+            self.early.add(thread)  # its maker hasn't told yet
+            return
+        if event in BORN:
+            yield from self.born(thread, self.message(thread))
+        elif event == EXEC:
+            if (former := self.message(thread)) != thread:
+                self.threads.discard(former)
+            yield Event("began", thread, (former,))
+        elif number == signal.SIGTRAP | 0x80:
+            yield from self.called(thread)
+        elif number == signal.SIGSTOP and thread in self.fresh:
+            self.fresh.discard(thread)
+        elif not event:
+            self.go_on(thread, number)
+            return
+        self.go_on(thread)
+
+    def born(self, maker, thread):
+        """A new thread or process, which stops once by itself before its first step."""
+        self.threads.add(thread)
+        yield Event("born", maker, (thread,))
+        if thread in self.early:
+            self.early.discard(thread)
+            self.go_on(thread)
+        else:
+            self.fresh.add(thread)
+
+    def message(self, thread):
+        """The number that comes with an event."""
+        number = ctypes.c_ulong()
+        ptrace(GETEVENTMSG, thread, None, ctypes.addressof(number))
+        return number.value
+
+    def called(self, thread):
+        """The system call at whose edge a thread stands. Those of programs of 32 bits aren't told."""
+        told = ctypes.create_string_buffer(88)
+        ptrace(GET_SYSCALL_INFO, thread, len(told), ctypes.addressof(told))
+        kind, machine = struct.unpack_from("<B3xI", told)
+        if machine == X86_64 and kind == 1:
+            yield Event("enters", thread, struct.unpack_from("<7Q", told, 24))
+        elif machine == X86_64 and kind == 2:
+            yield Event("leaves", thread, struct.unpack_from("<q", told, 24))
+
+
+def bytes_at(thread, place, count):
+    """Bytes of a stopped thread's memory; fewer, or none, where it has none there."""
+    try:
+        with open(f"/proc/{thread}/mem", "rb", buffering=0) as memory:
+            memory.seek(place)
+            return memory.read(count)
+    except OSError:
+        return b""
+
+
+def path_of(thread, descriptor):
+    """The path of an open file; None where the descriptor is closed."""
+    try:
+        return os.readlink(f"/proc/{thread}/fd/{descriptor}")
+    except OSError:
+        return None
+
+
+def waits(thread, descriptor):
+    """Whether reads of a descriptor wait for bytes: O_NONBLOCK isn't set."""
+    try:
+        with open(f"/proc/{thread}/fdinfo/{descriptor}", encoding="ascii") as file:
+            flags = next(line for line in file if line.startswith("flags:"))
+    except OSError:
+        return True
+    return not int(flags.split()[1], 8) & os.O_NONBLOCK
