@@ -10,6 +10,7 @@ NODES, DVR, CLIENTS = 32, 32, 8
 SCRIPT_MOST = 1048576
 LARGEST_READ = 65536
 LARGEST_SIZE = 16777216
+KEEP = 256
 OUTPUTS = ["decoder", "tap", "ts_tap", "tsdemux_tap"]
 
 # ------ the stream
@@ -150,7 +151,8 @@ def matches(places, section):
 class Capture:
     def __init__(self, moment):
         self.started, self.stopped, self.expired, self.told = moment, False, None, False
-        self.offered, self.items, self.total, self.answered, self.over = [], [], 0, 0, None
+        self.offered, self.items, self.total, self.answered = [], [], 0, 0
+        self.over, self.lost_from = None, 0
 
 
 # RULES: 794b3511 A demux node
@@ -165,7 +167,7 @@ class Node:
         for item in items:
             room = self.size - 1 - (capture.total - capture.answered)
             if capture.over is None and len(item) > room:
-                capture.over = (len(capture.items), len(item), room)
+                capture.over, capture.lost_from = (len(capture.items), len(item), room), capture.total
             capture.items.append(item)
             capture.total += len(item)
 
@@ -186,6 +188,19 @@ class Node:
                 return end - self.capture.answered
         return 0
 
+    def keeps(self):
+        return False
+
+    def edge(self):
+        """The place up to which reads give bytes."""
+        capture = self.capture
+        if capture.over is None:
+            return capture.total
+        return capture.lost_from if self.keeps() else capture.answered
+
+    def tells_overflow(self):
+        return self.capture.over is not None and self.capture.answered == self.edge()
+
     def is_untold(self):
         return self.capture.expired is not None and not self.capture.told
 
@@ -195,7 +210,7 @@ class Node:
         if capture is None:
             return "data -"
         total, answered = capture.total, capture.answered
-        if capture.over:
+        if self.tells_overflow():
             item, need, room = capture.over
             capture.over, capture.answered = None, total
             return f"overflow {answered}..{total} item={item} need={need} room={room}"
@@ -206,7 +221,7 @@ class Node:
             return "data -"
         if answered == total:
             return f"again ended={int(self.ended)}"
-        most = min(count, total - answered)
+        most = min(count, self.edge() - answered)
         if self.by_sections():
             most = min(most, self.rest_of_section())
         capture.answered += most
@@ -217,7 +232,7 @@ class Node:
         capture = self.capture
         if capture is None:
             return f"ready readable=0 error=none at=0 ended={int(self.ended)}"
-        error = "overflow" if capture.over else "timedout" if self.is_untold() else "none"
+        error = "overflow" if self.tells_overflow() else "timedout" if self.is_untold() else "none"
         readable = error != "none" or capture.total > capture.answered
         return f"ready readable={int(readable)} error={error} at={capture.answered} ended={int(self.ended)}"
 
@@ -233,7 +248,10 @@ def pids_text(pids):
 class Demux(Node):
     def __init__(self):
         super().__init__()
-        self.filter, self.pids = None, set()
+        self.filter, self.pids, self.flags = None, set(), 0
+
+    def keeps(self):
+        return self.flags & KEEP != 0
 
     def by_sections(self):
         return self.filter[0] == "section"
@@ -301,11 +319,11 @@ class Demux(Node):
             return "EBADF"
         if name == "section":
             pid, _, _, flags = args
-            if pid > 0x1FFF or flags & ~7:
+            if pid > 0x1FFF or flags & ~(7 | KEEP):
                 return "EINVAL"
         elif name == "pes":
             pid, source, output, kind, flags = args
-            if pid > 0x2000 or source == "dvr" or output == "decoder" or kind > 20 or flags & ~7:
+            if pid > 0x2000 or source == "dvr" or output == "decoder" or kind > 20 or flags & ~(7 | KEEP):
                 return "EINVAL"
         elif name in ("add", "remove"):
             if args[0] > 0x2000 or self.filter is None or self.filter[0] != "pes":
@@ -349,7 +367,7 @@ class Demux(Node):
             else:
                 self.filter = ("pes", args[0], args[1], args[2], args[3])
                 flags = args[4]
-            self.pids = {args[0]}
+            self.pids, self.flags = {args[0]}, flags
             if flags & 4:
                 self.capture = Capture(moment)
         elif name == "start":

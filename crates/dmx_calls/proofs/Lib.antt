@@ -3,6 +3,9 @@ pub mod Growth
 pub mod Ledgers
 pub mod After
 pub mod Nodes
+pub mod Edges
+pub mod Reading
+pub mod Fitting
 pub mod Accounting
 pub mod LawsHold
 pub mod Pieces

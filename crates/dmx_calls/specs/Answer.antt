@@ -1,5 +1,5 @@
 -- The answer that a history gives to a call.
-use Rattle.std.specs.Prelude.{ℕ, zero, suc, ◌-◌, min, Bool, true, false, not, nat_eq, [], ◌∷◌, take, Option, Some, None, if◌then◌else◌}
+use Rattle.std.specs.Prelude.{ℕ, min, Bool, true, false, not, nat_eq, List, [], ◌∷◌, length, take, Option, Some, None, option_map, if◌then◌else◌}
 use Rattle.pid_set.specs.Pids.{has_pid}
 use Rattle.dmx_calls.specs.declared.node.NodeKind.{NodeKind}
 use Rattle.dmx_calls.specs.declared.node.NodeKind.TheVariants.{Dvr}
@@ -80,31 +80,65 @@ tap_of_done f call g =
 
 -- ------ Read and Poll
 
+-- it is a filter of sections
+abbrev pub is_section : Params → Bool
+is_section (Section p) = true
+is_section _ = false
+
+-- what a Read goes by besides the ledger
+pub record ReadTerms : Type 0 where
+  -- End has passed the node
+  pub has_ended : Bool
+  -- it gives no bytes behind the end of a section
+  pub by_section : Bool
+  -- the filter's timeout, in milliseconds
+  pub timeout : ℕ
+
+abbrev pub read_terms : Facts → ReadTerms
+read_terms f = record { has_ended = f.has_ended; by_section = is_section f.params; timeout = timeout_of f.params }
+
+abbrev pub is_no_byte : List ℕ → Bool
+is_no_byte [] = true
+is_no_byte (byte ∷ bytes) = false
+
+-- the pending overflow at the edge: nothing before it is unread
+abbrev pub over_at_edge : Ledger → Option Misfit
+over_at_edge l = if is_no_byte l.unread then l.over else None
+
+abbrev pub overflow_of : Ledger → Option Response
+overflow_of l = option_map (λ x. Overflow l.answered l.total x.item x.need x.room) (over_at_edge l)
+
+-- the expiry, where no Read was told of it
+abbrev pub timed_out_of : ReadTerms → Ledger → (expired : Option ℕ) → Option Response
+timed_out_of t l expired = if l.is_told then None else option_map (λ moment. TimedOut l.started moment t.timeout) expired
+
 -- as many bytes as the least of the count, what is unread and, on a section filter, the rest of the section
-abbrev pub most_bytes : Params → Ledger → (count : ℕ) → ℕ
-most_bytes (Section p) l count = min (min count (l.total - l.answered)) l.rest
-most_bytes _ l count = min count (l.total - l.answered)
+abbrev pub most_bytes : (by_section : Bool) → Ledger → (count : ℕ) → ℕ
+most_bytes by_section l count =
+    if by_section then min (min count (length l.unread)) l.rest else min count (length l.unread)
 
-abbrev pub read_bytes : Facts → Ledger → (count : ℕ) → Response
-read_bytes f l zero = Data []
-read_bytes f l (suc fewer) =
-    if nat_eq l.answered l.total then Again f.has_ended
-    else Data (take (most_bytes f.params l (suc fewer)) l.unread)
+-- the first that is there, and else the last
+abbrev pub first_of : List (Option Response) → (last : Response) → Response
+first_of [] last = last
+first_of (None ∷ responses) last = first_of responses last
+first_of (Some response ∷ responses) last = response
 
-abbrev pub read_timeout : Facts → Ledger → (expired : Option ℕ) → (count : ℕ) → Response
-read_timeout f l None count = read_bytes f l count
-read_timeout f l (Some moment) count =
-    if l.is_told then read_bytes f l count else TimedOut l.started moment (timeout_of f.params)
+-- The response of a Read is the first of these that applies: no bytes without a capture; else the pending overflow, once
+-- nothing before it is unread; else the expiry, once; else no bytes for a count of 0; else Again where all is answered;
+-- else bytes.
+abbrev pub response_of_read : ReadTerms → Option Ledger → (expired : Option ℕ) → (count : ℕ) → Response
+response_of_read t None expired count = Data []
+response_of_read t (Some l) expired count = first_of (
+    overflow_of l
+    ∷ timed_out_of t l expired
+    ∷ (if nat_eq count 0 then Some (Data []) else None)
+    ∷ (if nat_eq l.answered l.total then Some (Again t.has_ended) else None)
+    ∷ []
+    )
+    (Data (take (most_bytes t.by_section l count) l.unread))
 
-abbrev pub read_over : Facts → Ledger → Option Misfit → (expired : Option ℕ) → (count : ℕ) → Response
-read_over f l (Some x) expired count = Overflow l.answered l.total x.item x.need x.room
-read_over f l None expired count = read_timeout f l expired count
-
--- The response of a Read is the first of these that applies: no bytes without a capture; else the pending overflow;
--- else the expiry, once; else no bytes for a count of 0; else Again where all is answered; else bytes.
 abbrev pub read_response : Facts → Option Ledger → (expired : Option ℕ) → (count : ℕ) → Response
-read_response f None expired count = Data []
-read_response f (Some l) expired count = read_over f l l.over expired count
+read_response f ledger expired count = response_of_read (read_terms f) ledger expired count
 
 -- neither Again nor Data of no bytes
 abbrev pub is_readable : Response → Bool
@@ -112,26 +146,21 @@ is_readable (Again ended) = false
 is_readable (Data []) = false
 is_readable _ = true
 
-abbrev pub pending_timeout : (is_told : Bool) → (expired : Option ℕ) → PollError
-pending_timeout is_told None = Quiet
-pending_timeout is_told (Some moment) = if is_told then Quiet else TimeoutPending
-
-abbrev pub pending_over : Option Misfit → (is_told : Bool) → (expired : Option ℕ) → PollError
-pending_over (Some misfit) is_told expired = OverflowPending
-pending_over None is_told expired = pending_timeout is_told expired
-
-abbrev pub pending : Option Ledger → (expired : Option ℕ) → PollError
-pending None expired = Quiet
-pending (Some l) expired = pending_over l.over l.is_told expired
+-- what this Read tells that is pending
+abbrev pub pending : Response → PollError
+pending (Overflow from to item need room) = OverflowPending
+pending (TimedOut started now timeout) = TimeoutPending
+pending _ = Quiet
 
 abbrev pub answered_of : Option Ledger → ℕ
 answered_of None = 0
 answered_of (Some l) = l.answered
 
--- A Poll: whether a Read of one byte would give something, what is pending, and the place up to which all is answered.
+-- A Poll: whether a Read of one byte would give something, whether it would tell an overflow or an expiry, and the place
+-- up to which all is answered.
 abbrev pub poll_response : Facts → (expired : Option ℕ) → Response
 poll_response f expired =
-    Ready (is_readable (read_response f f.ledger expired 1)) (pending f.ledger expired)
+    Ready (is_readable (read_response f f.ledger expired 1)) (pending (read_response f f.ledger expired 1))
     (answered_of f.ledger) f.has_ended
 
 -- ------ all calls

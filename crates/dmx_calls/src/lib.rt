@@ -24,8 +24,8 @@
 //! The tests stand in `node_tests`.
 //!
 //! Sources: the Linux media API, chapter Digital TV demux, for calls, filters, states and errors; ISO/IEC 13818-1 for
-//! packets and sections; what these leave open is this project's rule, as are the numbers of `limits` but the flags,
-//! the PIDs and the PES types. `ByteBuf::new` and `ByteBuf::fitted` alone take memory.
+//! packets and sections; what these leave open is this project's rule, as are the numbers of `limits` but the flags other than
+//! KEEP, the PIDs and the PES types. `ByteBuf::new` and `ByteBuf::fitted` alone take memory.
 #![tactic(auto)]
 
 mod byte_buf;

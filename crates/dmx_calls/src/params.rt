@@ -65,7 +65,7 @@ pub struct SectionParams {
     pub filter: SectionFilter,
     /// How long to wait for the first section, in milliseconds; 0 waits for ever.
     pub timeout: u32,
-    /// The bits of the section flags.
+    /// The bits of the flags: DMX_CHECK_CRC, DMX_ONESHOT, DMX_IMMEDIATE_START and KEEP.
     pub flags: u32,
 }
 
@@ -80,7 +80,7 @@ pub struct PesParams {
     pub output: Output,
     /// The PES type, 0 to 20.
     pub pes_type: u32,
-    /// The bits of the flags. Only DMX_IMMEDIATE_START has an effect.
+    /// The bits of the flags. Only DMX_IMMEDIATE_START and KEEP have an effect.
     pub flags: u32,
 }
 

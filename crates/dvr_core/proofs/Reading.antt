@@ -1,17 +1,18 @@
 -- The same for a Read.
-use Rattle.std.proofs.Common.{ℕ, zero, suc, ◌≡◌, refl, sym, ◌∙◌, Bool, true, false, List, [], ◌∷◌, Option, Some, None, zero-add}
+use Rattle.std.proofs.Common.{ℕ, ◌≡◌, refl, sym, ◌∙◌, Bool, true, false, List, [], ◌∷◌, Option, Some, None, take, zero-add}
 use Rattle.std.proofs.Math.Nat.{sub-add_cancel}
-use Rattle.std.specs.Prelude.{if◌then◌else◌, nat_eq, option_map}
+use Rattle.std.specs.Prelude.{option_map}
 use Rattle.dmx_calls.specs.Invocation.{Read}
 use Rattle.dmx_calls.specs.Response.{Response, Data, Again, Overflow, Passed, is_accepted}
 use Rattle.dmx_calls.specs.History.{Entry, History, entry_of, Since}
 use Rattle.dmx_calls.specs.Capture.{dvr_capture}
 use Rattle.dmx_calls.specs.Rules.{dvr}
-use Rattle.dmx_calls.specs.Ledger.{Misfit, total, answered, over}
-use Rattle.dmx_calls.specs.Facts.{ledger_at, ledger_of, facts}
-use Rattle.dmx_calls.specs.Answer.{read_bytes, read_over, read_response, expired_of}
+use Rattle.dmx_calls.specs.Ledger.{total, answered}
+use Rattle.dmx_calls.specs.Facts.{Ledger, ledger_at, ledger_of, facts}
+use Rattle.dmx_calls.specs.Answer.{ReadTerms, read_terms, most_bytes, read_response, expired_of}
 use Rattle.node_buffer.specs.Inside.Capturing.{with_response}
 use Rattle.node_buffer.specs.Inside.Coherent.{Coherent, CoherentIn}
+use Rattle.dmx_calls.proofs.Reading.{read_each}
 use Rattle.dvr_core.proofs.Going.{Stays, facts_goes}
 use Rattle.dvr_core.proofs.Ledgers.{ledger_read, ledger_told}
 use Rattle.dvr_core.proofs.Moves.{Moves, known_by, taps_stay, coherent}
@@ -37,17 +38,17 @@ module _ (h : History) (sound : CoherentIn (facts dvr h).ledger) (who now count 
       → ledger_at dvr (entry_of who (Read now count) r ∷ h) ≡ with_response false r (ledger_at dvr h)
   ledger_after s runs _ ok (gives_bytes bytes) =
       let c : Coherent (ledger_at dvr h) = coherent h sound s runs in
-      ledger_read (entry_of who (Read now count) (Data bytes)) h s (stays_read (Data bytes) ok) runs refl refl c.answered
+      ledger_read (entry_of who (Read now count) (Data bytes)) h s (stays_read (Data bytes) ok) runs refl c refl
   ledger_after s runs _ ok (gives_again ended) =
       let c : Coherent (ledger_at dvr h) = coherent h sound s runs in
-      ledger_read (entry_of who (Read now count) (Again ended)) h s (stays_read (Again ended) ok) runs refl refl c.answered ∙ rw (zero-add (answered dvr h)) refl
+      ledger_read (entry_of who (Read now count) (Again ended)) h s (stays_read (Again ended) ok) runs refl c refl ∙ rw (zero-add (answered dvr h)) refl
   ledger_after s runs _ ok (gives_over item need room) =
       let c : Coherent (ledger_at dvr h) = coherent h sound s runs in
       let r : Response = Overflow (answered dvr h) (total dvr h) item need room in
       ledger_told (entry_of who (Read now count) r) h s (stays_read r ok) runs refl refl (sub-add_cancel c.answered)
   ledger_after s runs _ ok gives_nothing =
       let c : Coherent (ledger_at dvr h) = coherent h sound s runs in
-      ledger_read (entry_of who (Read now count) Passed) h s (stays_read Passed ok) runs refl refl c.answered ∙ rw (zero-add (answered dvr h)) refl
+      ledger_read (entry_of who (Read now count) Passed) h s (stays_read Passed ok) runs refl c refl ∙ rw (zero-add (answered dvr h)) refl
 
   pub read_moves : (r : Response) → Fine h r → Moves h who (Read now count) r
   unfolding facts
@@ -58,21 +59,24 @@ module _ (h : History) (sound : CoherentIn (facts dvr h).ledger) (who now count 
 -- ------ the answer to it
 
 module _ (h : History) (count : ℕ) where
-  bytes_fine : (count : ℕ) → Fine h (read_bytes (facts dvr h) (ledger_at dvr h) count)
-  bytes_fine zero = (refl, λ s runs. gives_bytes [])
-  bytes_fine (suc fewer) = by_place (nat_eq (answered dvr h) (total dvr h)) _ where
-    by_place : (b : Bool) (bytes : List ℕ) → Fine h (if b then Again (facts dvr h).has_ended else Data bytes)
-    by_place true bytes = (refl, λ s runs. gives_again (facts dvr h).has_ended)
-    by_place false bytes = (refl, λ s runs. gives_bytes bytes)
+  none_expired : (moment : ℕ) → None ≡ Some moment → ⊥
+  none_expired moment is = cc
 
-  over_fine : (o : Option Misfit) → Fine h (read_over (facts dvr h) (ledger_at dvr h) o None count)
-  over_fine None = bytes_fine count
-  over_fine (Some x) = (refl, λ s runs. gives_over x.item x.need x.room)
+  ledger_fine : Fine h (read_response (facts dvr h) (Some (ledger_at dvr h)) None count)
+  ledger_fine =
+      let l : Ledger = ledger_at dvr h in
+      let t : ReadTerms = read_terms (facts dvr h) in
+      read_each (Fine h) t l None count
+      (λ x is none. (refl, λ s runs. gives_over x.item x.need x.room))
+      (λ moment is. absurd (none_expired moment is))
+      (refl, λ s runs. gives_bytes [])
+      (refl, λ s runs. gives_again t.has_ended)
+      (refl, λ s runs. gives_bytes (take (most_bytes t.by_section l count) l.unread))
 
   -- Passed stands for any response
   answer_by_capture : (o : Option Since) → dvr_capture h ≡ o → Fine h (read_response (facts dvr h) (ledger_of dvr h o) (expired_of (option_map (with_response false Passed) (ledger_of dvr h o))) count)
   answer_by_capture None none = (refl, λ s runs. absurd (let k : None ≡ Some s = sym none ∙ runs in cc))
-  answer_by_capture (Some s) runs = over_fine (over dvr h)
+  answer_by_capture (Some s) runs = ledger_fine
 
   pub answer_fine : Fine h (read_response (facts dvr h) (facts dvr h).ledger (expired_of (option_map (with_response false Passed) (facts dvr h).ledger)) count)
   unfolding facts

@@ -1,13 +1,12 @@
 -- A call that is not refused is accepted, unless it opens a node that has an owner.
-use Rattle.std.proofs.Common.{ℕ, zero, suc, ◌≡◌, refl, sym, ◌∙◌, ap, Bool, true, false, Option, Some, None, take, inl, inr}
+use Rattle.std.proofs.Common.{ℕ, ◌≡◌, refl, sym, ◌∙◌, ap, Bool, true, false, Option, Some, None, inl, inr}
 use Rattle.std.specs.Prelude.{◌⊎◌, if◌then◌else◌, nat_eq}
 use Rattle.dmx_calls.specs.Invocation.{Invocation, Open, Close, SetFilter, SetPes, AddPid, RemovePid, Start, Stop, SetSize, Read, Poll, Pass, End, Attach, Detach}
 use Rattle.dmx_calls.specs.declared.reply.Tap.{Tap as TapChange}
-use Rattle.dmx_calls.specs.Response.{Response, Busy, Data, Again, TimedOut, is_accepted}
-use Rattle.dmx_calls.specs.Items.{timeout_of}
-use Rattle.dmx_calls.specs.Ledger.{Misfit}
+use Rattle.dmx_calls.specs.Response.{Response, Busy, is_accepted}
 use Rattle.dmx_calls.specs.Facts.{Ledger, Facts}
-use Rattle.dmx_calls.specs.Answer.{most_bytes, read_bytes, read_timeout, read_over, read_response, expired_of, open_response, done_dropping, response_to}
+use Rattle.dmx_calls.specs.Answer.{read_terms, read_response, expired_of, open_response, done_dropping, response_to}
+use Rattle.dmx_calls.proofs.Reading.{read_each}
 use Rattle.node_buffer.proofs.Silences.{accepted_of, dropping}
 
 pub dropping_accepted : (o : Option Ledger) (tap : TapChange) → is_accepted (done_dropping o tap) ≡ true
@@ -17,22 +16,9 @@ either_accepted : (b : Bool) (x y : Response) → is_accepted x ≡ true → is_
 either_accepted true x y ok_x ok_y = ok_x
 either_accepted false x y ok_x ok_y = ok_y
 
-module _ (f : Facts) (l : Ledger) where
-  bytes_accepted : (count : ℕ) → is_accepted (read_bytes f l count) ≡ true
-  bytes_accepted zero = refl
-  bytes_accepted (suc fewer) = either_accepted (nat_eq l.answered l.total) (Again f.has_ended) (Data (take (most_bytes f.params l (suc fewer)) l.unread)) refl refl
-
-  timeout_accepted : (x : Option ℕ) (count : ℕ) → is_accepted (read_timeout f l x count) ≡ true
-  timeout_accepted None count = bytes_accepted count
-  timeout_accepted (Some m) count = either_accepted l.is_told (read_bytes f l count) (TimedOut l.started m (timeout_of f.params)) (bytes_accepted count) refl
-
-  over_accepted : (o : Option Misfit) (x : Option ℕ) (count : ℕ) → is_accepted (read_over f l o x count) ≡ true
-  over_accepted (Some m) x count = refl
-  over_accepted None x count = timeout_accepted x count
-
 pub read_accepted : (f : Facts) (o : Option Ledger) (x : Option ℕ) (count : ℕ) → is_accepted (read_response f o x count) ≡ true
 read_accepted f None x count = refl
-read_accepted f (Some l) x count = over_accepted f l l.over x count
+read_accepted f (Some l) x count = read_each (λ r. is_accepted r ≡ true) (read_terms f) l x count (λ m is none. refl) (λ moment is. refl) refl refl refl
 
 open_or : (call : Invocation) → (call ≡ Open) ⊎ ((f g : Facts) → is_accepted (response_to f g call) ≡ true)
 open_or Open = inl refl

@@ -1,158 +1,223 @@
 -- Items that arrive one by one, and the same items at once.
-use Rattle.std.proofs.Common.{ℕ, zero, suc, drop, add-one, ◌+◌, ◌-◌, ◌≤◌, ◌≡◌, refl, sym, ◌∙◌, ap, Bool, true, false, List, [], ◌∷◌, ◌++◌, Option, Some, None, length, arith, append_assoc, length-append, add-zero, zero-add, add_assoc, one-add}
+use Rattle.std.proofs.Common.{ℕ, zero, suc, take, drop, add-one, ◌+◌, ◌-◌, ◌<◌, ◌≤◌, ◌≡◌, refl, sym, ◌∙◌, ap, subst, Bool, true, false, List, [], ◌∷◌, ◌++◌, Option, Some, None, length, arith, append_assoc, length-append, length-take, length-drop, add-zero, zero-add, add_assoc, one-add}
 use Rattle.std.specs.Prelude.{nat_eq, nat_lt, if◌then◌else◌, slice_get}
-use Rattle.std.specs.Option.{option_or}
 use Rattle.std.specs.List.{concat}
 use Rattle.std.proofs.lemmas.Bool.Decides.{nat_tests}
-use Rattle.std.proofs.lemmas.List.{append-nil}
+use Rattle.std.proofs.lemmas.List.{append-nil, take-append-le, take_all}
+use Rattle.dmx_calls.specs.History.{History}
 use Rattle.dmx_calls.specs.Tenure.{Params, Empty, Section, Pes}
-use Rattle.dmx_calls.specs.Ledger.{Misfit, misfit}
-use Rattle.dmx_calls.specs.Facts.{Ledger, unread_of, rest_of_item, rest_of}
-use Rattle.dmx_calls.proofs.Ledgers.{over_after, ledger_next}
-use Rattle.node_buffer.specs.Inside.Capturing.{is_section, rest_with, with_lost, with_misfit, with_kept, with_item_by, with_item, with_items}
-use Rattle.node_buffer.specs.Inside.Coherent.{UnreadFits}
-use Rattle.node_buffer.proofs.Rests.{rest_more}
+use Rattle.dmx_calls.specs.Rules.{Rules}
+use Rattle.dmx_calls.specs.Ledger.{Misfit, keeps, edge_of, joined, total, answered, over, edge}
+use Rattle.dmx_calls.specs.Facts.{Ledger, rest_of_item, rest_of, ledger_at}
+use Rattle.dmx_calls.proofs.Ledgers.{concat-append, PlacedIn, rest_of-end, over_none, ledger_next}
+use Rattle.dmx_calls.specs.Answer.{is_section}
+use Rattle.node_buffer.specs.Inside.Capturing.{terms_of, rest_with, with_lost, with_misfit, with_kept, with_item_by, with_item, with_items}
+use Rattle.node_buffer.specs.Inside.Coherent.{UnreadFits, Coherent}
+use Rattle.node_buffer.specs.declared.filter.Terms.{Terms}
+use Rattle.node_buffer.proofs.Rests.{rest_some, rest_before, rest_behind_all}
 
--- while an overflow is pending nothing is left of a section
-abbrev pub RestFits : Option Misfit → ℕ → Type 0
-RestFits (Some misfit) rest = rest ≡ 0
-RestFits None rest = Unit {0}
+-- ------ lists
 
-pub record Fits (l : Ledger) : Type 0 where
-  pub answered : l.answered ≤ l.total
-  pub unread : UnreadFits l.over l.unread (l.total - l.answered)
-  pub rest : RestFits l.over l.rest
+-- the first n of bytes and then others, where there are n of them, are those bytes
+first_are : (n : ℕ) (us xs : List ℕ) → n ≡ length us → take n (us ++ xs) ≡ us
+first_are n us xs is = take-append-le n us xs (omega (arith, is)) ∙ take_all n us (omega (arith, is))
 
--- what is left of the section at the front, once these items have arrived
-abbrev pub rest_once : (by_section : Bool) → Option Misfit → (rest : ℕ) → List (List ℕ) → ℕ
-rest_once by_section (Some misfit) rest items = 0
-rest_once true None rest items = if nat_eq rest 0 then rest_of_item items 0 else rest
-rest_once false None rest items = rest
-
-abbrev pub at_once : (by_section : Bool) → (capacity : ℕ) → Ledger → List (List ℕ) → Ledger
-at_once by_section capacity l items = record l {
-  count = l.count + length items;
-  total = l.total + length (concat items);
-  over = over_after capacity l items;
-  unread = unread_of (over_after capacity l items) 0 (l.unread ++ concat items);
-  rest = rest_once by_section (over_after capacity l items) l.rest items;
-}
+joined_length : (xs : List (List ℕ)) (x : List ℕ) → length (concat (xs ++ x ∷ [])) ≡ length (concat xs) + length x
+joined_length xs x = ap length (concat-append xs (x ∷ [])) ∙ (length-append (concat xs) (x ++ []) ∙ ap (λ ys. length (concat xs) + length ys) (append-nil x))
 
 -- ------ what is left of the section
 
-rest_once-nil : (b : Bool) (r : ℕ) → rest_once b None r [] ≡ r
-rest_once-nil false r = refl
-rest_once-nil true r = by_zero (nat_eq r 0) refl where
-  by_zero : (z : Bool) → nat_eq r 0 ≡ z → (if z then 0 else r) ≡ r
-  by_zero true yea = grind (arith, nat_tests)
-  by_zero false nay = refl
+-- up to the edge items that arrive change nothing of it
+rest_same : (set : Params) (to : ℕ) (old new : List (List ℕ)) (n : ℕ) → to ≤ length (concat old) → rest_of set to old n ≡ rest_of set to (old ++ new) n
+rest_same Empty to old new n within = refl
+rest_same (Pes p) to old new n within = refl
+rest_same (Section p) to old new n within = by_test (nat_lt n to) refl where
+  by_test : (b : Bool) → nat_lt n to ≡ b → (if b then rest_of_item old n else 0) ≡ (if b then rest_of_item (old ++ new) n else 0)
+  by_test false past = refl
+  by_test true before = let lt : n < to = grind (arith, nat_tests) in sym (rest_before old new n (omega (arith, lt, within)))
 
-rest_once-cons : (b : Bool) (o : Option Misfit) (r : ℕ) (x : List ℕ) (xs : List (List ℕ)) → rest_once b o (rest_with b r x) xs ≡ rest_once b o r (x ∷ xs)
-rest_once-cons b (Some m) r x xs = refl
-rest_once-cons false None r x xs = refl
-rest_once-cons true None r x xs = by_zero (nat_eq r 0) refl where
-  by_length : (b : Bool) → nat_lt 0 (length x) ≡ b
-      → (if nat_eq (length x) 0 then rest_of_item xs 0 else length x) ≡ (if b then length x - 0 else rest_of_item xs (0 - length x))
-  by_length true yea = let some : nat_eq (length x) 0 ≡ false = grind (arith, nat_tests) in rw some (omega arith)
-  by_length false nay =
-      let none : nat_eq (length x) 0 ≡ true = grind (arith, nat_tests) in
-      rw none (ap (rest_of_item xs) (omega arith))
+-- an item that is kept is at the front where nothing was unread
+rest_kept : (set : Params) (old : List (List ℕ)) (x : List ℕ) (n total : ℕ) → total ≡ length (concat old) → n ≤ total
+    → rest_with (is_section set) (rest_of set total old n) x ≡ rest_of set (total + length x) (old ++ x ∷ []) n
+rest_kept Empty old x n total is le = refl
+rest_kept (Pes p) old x n total is le = refl
+rest_kept (Section p) old x n total is le = by_test (nat_lt n total) refl where
+  at_end : (b : Bool) → nat_lt n (total + length x) ≡ b → n ≡ total → length x ≡ (if b then rest_of_item (old ++ x ∷ []) n else 0)
+  at_end false past here = let few : total + length x ≤ n = grind (arith, nat_tests) in omega (arith, few, here)
+  at_end true more here =
+      let some : nat_lt 0 (length x) ≡ true = let lt : n < total + length x = grind (arith, nat_tests) in grind (arith, nat_tests, lt, here) in
+      let whole : rest_of_item (x ∷ []) 0 ≡ length x = rw some (omega arith) in
+      rw (here, is) (sym (rest_behind_all old (x ∷ []) ∙ whole))
 
-  by_zero : (z : Bool) → nat_eq r 0 ≡ z
-      → (if nat_eq (if z then length x else r) 0 then rest_of_item xs 0 else (if z then length x else r))
-      ≡ (if z then (if nat_lt 0 (length x) then length x - 0 else rest_of_item xs (0 - length x)) else r)
-  by_zero true yea = by_length (nat_lt 0 (length x)) refl
-  by_zero false nay = rw nay refl
+  by_test : (b : Bool) → nat_lt n total ≡ b
+      → rest_with true (if b then rest_of_item old n else 0) x ≡ (if nat_lt n (total + length x) then rest_of_item (old ++ x ∷ []) n else 0)
+  by_test true before =
+      let lt : n < total = grind (arith, nat_tests) in
+      let some : 0 < rest_of_item old n = rest_some old n (omega (arith, lt, is)) in
+      let test : nat_eq (rest_of_item old n) 0 ≡ false = grind (arith, nat_tests) in
+      let also : nat_lt n (total + length x) ≡ true = grind (arith, nat_tests) in
+      rw (test, also) (sym (rest_before old (x ∷ []) n (omega (arith, lt, is))))
+  by_test false past = let ge : total ≤ n = grind (arith, nat_tests) in at_end (nat_lt n (total + length x)) refl (omega (arith, ge, le))
+
+-- ------ a ledger of these items
+
+abbrev pub edge_in : Params → Ledger → ℕ
+edge_in set l = edge_of (keeps set) l.over l.total l.answered
+
+-- it is that of a capture which has had these items
+pub record Fits (set : Params) (old : List (List ℕ)) (l : Ledger) : Type 0 where
+  pub total : l.total ≡ length (concat old)
+  pub answered : l.answered ≤ l.total
+  pub placed : PlacedIn l.over l.answered l.total
+  pub unread : length l.unread ≡ edge_in set l - l.answered
+  pub rest : l.rest ≡ rest_of set (edge_in set l) old l.answered
 
 -- ------ one by one, and at once
 
-module _ (sec : Bool) (cap : ℕ) where
-  at_once-nil : (l : Ledger) (o : Option Misfit) → l.over ≡ o → Fits l → l ≡ at_once sec cap l []
-  at_once-nil l (Some o) is c =
-      let k : l.unread ≡ [] = rw is at c.unread in
-      let z : l.rest ≡ 0 = rw is at c.rest in
-      rw (is, add-zero l.count, add-zero l.total) (rw (← k, ← z, ← is) refl)
-  at_once-nil l None is c = rw (is, add-zero l.count, add-zero l.total, append-nil l.unread, rest_once-nil sec l.rest) (rw (← is) refl)
+module _ (set : Params) (cap : ℕ) where
+  abbrev Next : List (List ℕ) → Ledger → List (List ℕ) → Ledger
+  Next old l new = ledger_next cap set old l 0 false false l.expired new
 
-  fits-lost : (l : Ledger) (o : Misfit) (x : List ℕ) → l.over ≡ Some o → Fits l → Fits (with_lost l x)
-  fits-lost l o x is c =
-      let k : l.unread ≡ [] = rw is at c.unread in
-      let z : l.rest ≡ 0 = rw is at c.rest in
-      record { answered = omega (arith, c.answered); unread = rw is k; rest = rw is z }
+  next-nil : (old : List (List ℕ)) (l : Ledger) → Fits set old l → l ≡ Next old l []
+  next-nil old l fits =
+      rw (over_none l.over, add-zero l.count, add-zero l.total, zero-add l.answered, append-nil l.unread, append-nil old, ← fits.unread, take_all (length l.unread) l.unread (omega arith), ← fits.rest) refl
 
-  fits-misfit : (l : Ledger) (x : List ℕ) (room : ℕ) → Fits l → Fits (with_misfit room l x)
-  fits-misfit l x room c = record { answered = omega (arith, c.answered); unread = refl; rest = refl }
+  -- behind an item that didn't fit
+  module _ (old : List (List ℕ)) (x : List ℕ) (l : Ledger) (m : Misfit) (is : l.over ≡ Some m) (fits : Fits set old l) where
+    placed : PlacedIn (Some m) l.answered l.total
+    placed = subst (λ o. PlacedIn o l.answered l.total) is fits.placed
 
-  fits-kept : (l : Ledger) (x : List ℕ) → l.over ≡ None → Fits l → Fits (with_kept sec l x)
-  fits-kept l x is c = let k : length l.unread ≡ l.total - l.answered = rw is at c.unread in record {
-    answered = omega (arith, c.answered);
-    unread = rw is (omega (arith, length-append l.unread x, k, c.answered));
-    rest = rw is tt;
-  }
+    abbrev edge_here : ℕ
+    edge_here = if keeps set then m.place else l.answered
 
-  room_is : (l : Ledger) → l.over ≡ None → Fits l → length l.unread ≡ l.total - l.answered
-  room_is l is c = rw is at c.unread
+    within : edge_here ≤ l.total
+    within = by_keep (keeps set) where
+      by_keep : (b : Bool) → (if b then m.place else l.answered) ≤ l.total
+      by_keep true = placed.1
+      by_keep false = fits.answered
 
-  once-lost : (x : List ℕ) (xs : List (List ℕ)) (l : Ledger) (o : Misfit) → l.over ≡ Some o → at_once sec cap (with_lost l x) xs ≡ at_once sec cap l (x ∷ xs)
-  once-lost x xs l o is = rw (is, length-append x (concat xs), add_assoc l.count 1 (length xs), add_assoc l.total (length x) (length (concat xs)), one-add (length xs)) refl
+    fits-lost : Fits set (old ++ x ∷ []) (with_lost l x)
+    fits-lost = record {
+      total = omega (arith, fits.total, joined_length old x);
+      answered = omega (arith, fits.answered);
+      placed = rw is (placed.0, omega (arith, placed.1));
+      unread = rw is (let u = fits.unread in rw is at u);
+      rest = rw is (let r : l.rest ≡ rest_of set edge_here old l.answered = rw is at fits.rest in r ∙ rest_same set edge_here old (x ∷ []) l.answered (omega (arith, within, fits.total)));
+    }
 
-  once-misfit : (x : List ℕ) (xs : List (List ℕ)) (l : Ledger) → l.over ≡ None → length l.unread ≡ l.total - l.answered → nat_lt (cap - (l.total - l.answered)) (length x) ≡ true
-      → at_once sec cap (with_misfit (cap - length l.unread) l x) xs ≡ at_once sec cap l (x ∷ xs)
-  once-misfit x xs l is room y = rw (is, room, y, length-append x (concat xs), add_assoc l.count 1 (length xs), add_assoc l.total (length x) (length (concat xs)), one-add (length xs)) refl
+    next-lost : (xs : List (List ℕ)) → Next (old ++ x ∷ []) (with_lost l x) xs ≡ Next old l (x ∷ xs)
+    next-lost xs =
+        let u : length l.unread ≡ edge_here - l.answered = rw is at fits.unread in
+        let same : take (edge_here - l.answered) (l.unread ++ concat xs) ≡ take (edge_here - l.answered) (l.unread ++ (x ++ concat xs)) =
+        first_are (edge_here - l.answered) l.unread (concat xs) (sym u) ∙ sym (first_are (edge_here - l.answered) l.unread (x ++ concat xs) (sym u)) in
+        rw (is, zero-add l.answered, same, append_assoc old (x ∷ []) xs, length-append x (concat xs), add_assoc l.count 1 (length xs), add_assoc l.total (length x) (length (concat xs)), one-add (length xs)) refl
 
-  once-kept : (x : List ℕ) (xs : List (List ℕ)) (l : Ledger) → l.over ≡ None → nat_lt (cap - (l.total - l.answered)) (length x) ≡ false
-      → at_once sec cap (with_kept sec l x) xs ≡ at_once sec cap l (x ∷ xs)
-  once-kept x xs l is n =
-      rw (rest_once-cons sec (over_after cap (with_kept sec l x) xs) l.rest x xs)
-      (rw (is, n, length-append x (concat xs), add_assoc l.count 1 (length xs), add_assoc l.total (length x) (length (concat xs)), one-add (length xs), append_assoc l.unread x (concat xs)) refl)
+  -- before any
+  module _ (old : List (List ℕ)) (x : List ℕ) (l : Ledger) (is : l.over ≡ None) (fits : Fits set old l) where
+    all_unread : length l.unread ≡ l.total - l.answered
+    all_unread = rw is at fits.unread
 
-  more-kept : (x : List ℕ) (xs : List (List ℕ)) (l : Ledger) (b : Bool) → ((l : Ledger) → Fits l → with_items sec cap l xs ≡ at_once sec cap l xs)
-      → l.over ≡ None → Fits l → nat_lt (cap - (l.total - l.answered)) (length x) ≡ b
-      → with_items sec cap (if b then with_misfit (cap - length l.unread) l x else with_kept sec l x) xs ≡ at_once sec cap l (x ∷ xs)
-  more-kept x xs l true ih is c y = ih (with_misfit (cap - length l.unread) l x) (fits-misfit l x (cap - length l.unread) c) ∙ once-misfit x xs l is (room_is l is c) y
-  more-kept x xs l false ih is c n = ih (with_kept sec l x) (fits-kept l x is c) ∙ once-kept x xs l is n
+    rest_here : l.rest ≡ rest_of set l.total old l.answered
+    rest_here = rw is at fits.rest
 
-  more : (x : List ℕ) (xs : List (List ℕ)) (l : Ledger) (o : Option Misfit) → ((l : Ledger) → Fits l → with_items sec cap l xs ≡ at_once sec cap l xs)
-      → l.over ≡ o → Fits l → with_items sec cap (with_item_by o sec cap l x) xs ≡ at_once sec cap l (x ∷ xs)
-  more x xs l (Some o) ih is c = ih (with_lost l x) (fits-lost l o x is c) ∙ once-lost x xs l o is
-  more x xs l None ih is c =
-      let same : nat_lt (cap - length l.unread) (length x) ≡ nat_lt (cap - (l.total - l.answered)) (length x) = ap (λ n. nat_lt (cap - n) (length x)) (room_is l is c) in
-      ap (λ b. with_items sec cap (if b then with_misfit (cap - length l.unread) l x else with_kept sec l x) xs) same
-      ∙ more-kept x xs l (nat_lt (cap - (l.total - l.answered)) (length x)) ih is c refl
+    fits-kept : Fits set (old ++ x ∷ []) (with_kept (is_section set) l x)
+    fits-kept = record {
+      total = omega (arith, fits.total, joined_length old x);
+      answered = omega (arith, fits.answered);
+      placed = rw is tt;
+      unread = rw is (omega (arith, length-append l.unread x, all_unread, fits.answered));
+      rest = rw (is, rest_here) (rest_kept set old x l.answered l.total fits.total fits.answered);
+    }
 
-  pub with_items-at_once : (xs : List (List ℕ)) (l : Ledger) → Fits l → with_items sec cap l xs ≡ at_once sec cap l xs
-  with_items-at_once [] l c = at_once-nil l l.over refl c
-  with_items-at_once (x ∷ xs) l c = more x xs l l.over (λ l' c'. with_items-at_once xs l' c') refl c
+    fits-misfit : (room : ℕ) → Fits set (old ++ x ∷ []) (with_misfit (keeps set) room l x)
+    fits-misfit room = by_keep (keeps set) refl where
+      by_keep : (b : Bool) → keeps set ≡ b → Fits set (old ++ x ∷ []) (with_misfit b room l x)
+      by_keep true kept = record {
+        total = omega (arith, fits.total, joined_length old x);
+        answered = omega (arith, fits.answered);
+        placed = (fits.answered, omega arith);
+        unread = rw kept all_unread;
+        rest = rw kept (rest_here ∙ rest_same set l.total old (x ∷ []) l.answered (omega (arith, fits.total)));
+      }
+      by_keep false lost = record {
+        total = omega (arith, fits.total, joined_length old x);
+        answered = omega (arith, fits.answered);
+        placed = (fits.answered, omega arith);
+        unread = rw lost (omega arith);
+        rest = rw lost (sym (rest_of-end set l.answered (old ++ x ∷ [])));
+      }
 
--- ------ the ledger of the history with these items
+    next-kept : (xs : List (List ℕ)) → nat_lt (cap - (l.total - l.answered)) (length x) ≡ false → Next (old ++ x ∷ []) (with_kept (is_section set) l x) xs ≡ Next old l (x ∷ xs)
+    next-kept xs room =
+        rw (is, room, append_assoc l.unread x (concat xs), append_assoc old (x ∷ []) xs, length-append x (concat xs), add_assoc l.count 1 (length xs), add_assoc l.total (length x) (length (concat xs)), one-add (length xs)) refl
 
-rest_arrives : (set : Params) (o x : Option Misfit) (old new : List (List ℕ)) (n : ℕ) → n ≤ length (concat old)
-    → rest_of set (option_or o x) (old ++ new) n ≡ rest_once (is_section set) (option_or o x) (rest_of set o old n) new
-rest_arrives Empty None None old new n le = refl
-rest_arrives Empty None (Some m) old new n le = refl
-rest_arrives Empty (Some m) x old new n le = refl
-rest_arrives (Section p) None None old new n le = rest_more old new n le
-rest_arrives (Section p) None (Some m) old new n le = refl
-rest_arrives (Section p) (Some m) x old new n le = refl
-rest_arrives (Pes p) None None old new n le = refl
-rest_arrives (Pes p) None (Some m) old new n le = refl
-rest_arrives (Pes p) (Some m) x old new n le = refl
+    next-misfit : (xs : List (List ℕ)) → nat_lt (cap - (l.total - l.answered)) (length x) ≡ true
+        → Next (old ++ x ∷ []) (with_misfit (keeps set) (cap - length l.unread) l x) xs ≡ Next old l (x ∷ xs)
+    next-misfit xs room =
+        rw (is, all_unread, room, same (keeps set), append_assoc old (x ∷ []) xs, length-append x (concat xs), add_assoc l.count 1 (length xs), add_assoc l.total (length x) (length (concat xs)), one-add (length xs)) refl where
+          same : (b : Bool) → take ((if b then l.total else 0 + l.answered) - (0 + l.answered)) ((if b then l.unread else []) ++ concat xs)
+              ≡ take ((if b then l.total else 0 + l.answered) - (0 + l.answered)) (l.unread ++ (x ++ concat xs))
+          same true =
+              first_are (l.total - (0 + l.answered)) l.unread (concat xs) (omega (arith, all_unread)) ∙ sym (first_are (l.total - (0 + l.answered)) l.unread (x ++ concat xs) (omega (arith, all_unread)))
+          same false = let none : 0 + l.answered - (0 + l.answered) ≡ 0 = omega arith in rw none refl
 
--- It is the ledger with them at once, where this moment is that of its expiry.
-pub arrives : (set : Params) (cap : ℕ) (old new : List (List ℕ)) (l : Ledger) (expired : Option ℕ)
-    → l.answered ≤ length (concat old) → l.rest ≡ rest_of set l.over old l.answered
-    → ledger_next cap set old l 0 false false expired new ≡ record (at_once (is_section set) cap l new) { expired = expired }
-arrives set cap old new l expired le rest =
-    let same : rest_of set (over_after cap l new) (old ++ new) l.answered ≡ rest_once (is_section set) (over_after cap l new) l.rest new =
-    rest_arrives set l.over (misfit cap l.count l.total l.answered new) old new l.answered le ∙ ap (λ r. rest_once (is_section set) (over_after cap l new) r new) (sym rest) in
-    rw (zero-add l.answered, same) refl
+  one-by-one : (x : List ℕ) (xs old : List (List ℕ)) (l : Ledger) (o : Option Misfit)
+      → ((old : List (List ℕ)) (l : Ledger) → Fits set old l → with_items (terms_of set) cap l xs ≡ Next old l xs)
+      → l.over ≡ o → Fits set old l → with_items (terms_of set) cap (with_item_by o (terms_of set) cap l x) xs ≡ Next old l (x ∷ xs)
+  one-by-one x xs old l (Some m) ih is fits = ih (old ++ x ∷ []) (with_lost l x) (fits-lost old x l m is fits) ∙ next-lost old x l m is fits xs
+  one-by-one x xs old l None ih is fits = by_room (nat_lt (cap - (l.total - l.answered)) (length x)) refl where
+    same : nat_lt (cap - length l.unread) (length x) ≡ nat_lt (cap - (l.total - l.answered)) (length x)
+    same = ap (λ n. nat_lt (cap - n) (length x)) (all_unread old x l is fits)
+
+    by_room : (b : Bool) → nat_lt (cap - (l.total - l.answered)) (length x) ≡ b
+        → with_items (terms_of set) cap (with_item_by None (terms_of set) cap l x) xs ≡ Next old l (x ∷ xs)
+    by_room true long =
+        ap (λ b. with_items (terms_of set) cap (if b then with_misfit (keeps set) (cap - length l.unread) l x else with_kept (is_section set) l x) xs) (same ∙ long)
+        ∙ (ih (old ++ x ∷ []) (with_misfit (keeps set) (cap - length l.unread) l x) (fits-misfit old x l is fits (cap - length l.unread)) ∙ next-misfit old x l is fits xs long)
+    by_room false short =
+        ap (λ b. with_items (terms_of set) cap (if b then with_misfit (keeps set) (cap - length l.unread) l x else with_kept (is_section set) l x) xs) (same ∙ short)
+        ∙ (ih (old ++ x ∷ []) (with_kept (is_section set) l x) (fits-kept old x l is fits) ∙ next-kept old x l is fits xs short)
+
+  -- It is the ledger with them at once.
+  pub with_items-next : (xs old : List (List ℕ)) (l : Ledger) → Fits set old l → with_items (terms_of set) cap l xs ≡ Next old l xs
+  with_items-next [] old l fits = next-nil old l fits
+  with_items-next (x ∷ xs) old l fits = one-by-one x xs old l l.over (λ old' l' fits'. with_items-next xs old' l' fits') refl fits
+
+-- ------ the ledger of a history
+
+pub placed_by : (o : Option Misfit) (us : List ℕ) (answered total : ℕ) → UnreadFits o us answered total → PlacedIn o answered total
+placed_by None us answered total fits = tt
+placed_by (Some m) us answered total fits = (omega (arith, fits.0), fits.1)
+
+edge_by : (k : Bool) (o : Option Misfit) (answered total : ℕ) → answered ≤ total → PlacedIn o answered total → (answered ≤ edge_of k o total answered) × (edge_of k o total answered ≤ total)
+edge_by k None answered total le placed = (le, omega arith)
+edge_by true (Some m) answered total le placed = (placed.0, placed.1)
+edge_by false (Some m) answered total le placed = (omega arith, le)
+
+module _ (node : Rules) (h : History) (c : Coherent (ledger_at node h)) where
+  pub placed_in : PlacedIn (over node h) (answered node h) (total node h)
+  placed_in = placed_by (over node h) (ledger_at node h).unread (answered node h) (total node h) c.unread
+
+  -- what is answered is before the edge, and the edge before the end
+  pub around_edge : (answered node h ≤ edge node h) × (edge node h ≤ total node h)
+  unfolding edge
+  around_edge = edge_by (keeps (node.params h)) (over node h) (answered node h) (total node h) c.answered placed_in
+
+  pub unread_length : length (ledger_at node h).unread ≡ edge node h - answered node h
+  unfolding total
+  unread_length =
+      omega (arith, around_edge.0, around_edge.1, length-take (edge node h - answered node h) (drop (answered node h) (joined node h)), length-drop (answered node h) (joined node h))
+
+  pub fits_here : (expired : Option ℕ) → Fits (node.params h) (node.items h) (record (ledger_at node h) { expired = expired })
+  unfolding edge total joined
+  fits_here expired = record { total = refl; answered = c.answered; placed = placed_in; unread = unread_length; rest = refl }
 
 -- ------ items of one part, and then those of the rest
 
-pub with_items-append : (by_section : Bool) (capacity : ℕ) (xs ys : List (List ℕ)) (l : Ledger)
-    → with_items by_section capacity l (xs ++ ys) ≡ with_items by_section capacity (with_items by_section capacity l xs) ys
-with_items-append by_section capacity [] ys l = refl
-with_items-append by_section capacity (x ∷ xs) ys l = with_items-append by_section capacity xs ys (with_item by_section capacity l x)
+pub with_items-append : (terms : Terms) (capacity : ℕ) (xs ys : List (List ℕ)) (l : Ledger)
+    → with_items terms capacity l (xs ++ ys) ≡ with_items terms capacity (with_items terms capacity l xs) ys
+with_items-append terms capacity [] ys l = refl
+with_items-append terms capacity (x ∷ xs) ys l = with_items-append terms capacity xs ys (with_item terms capacity l x)
 
 -- the element in place i, and then those behind it
 pub drop-one : {X : Type 0} (xs : List X) (i : ℕ) (x : X) → slice_get xs i ≡ Some x → drop i xs ≡ x ∷ drop (i + 1) xs

@@ -1,5 +1,6 @@
 pub mod Bytes
 pub mod Rests
+mod Holding
 pub mod Arrivals
 pub mod Answering
 pub mod Readings

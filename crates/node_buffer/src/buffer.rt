@@ -1,15 +1,15 @@
 // A ring, and what is kept of the capture whose bytes it holds: its ledger, and what it keeps of its filter.
 
-ghost use Rattle.std.specs.Prelude.{[], ◌++◌, min, take, drop, ◌≡◌, ◌≤◌, ◌<◌, ◌+◌, ◌-◌, ◌^◌, length, Option, Some, None, option_map, IfOk, OnErr, if◌then◌else◌, nat_lt, slice_index, IfSome, MatchOption};
+ghost use Rattle.std.specs.Prelude.{[], ◌++◌, min, take, drop, ◌≡◌, ◌≤◌, ◌<◌, ◌+◌, ◌-◌, ◌^◌, length, Option, Some, None, option_map, IfOk, OnErr, if◌then◌else◌, nat_lt, slice_index, IfSome, is_some, not, ◌&&◌, false};
 ghost use Rattle.dmx_calls.specs.declared.limits.TheConstants.{SMALLEST_SIZE, LARGEST_SIZE};
 ghost use Rattle.dmx_calls.specs.Calls.{response_of};
-ghost use Rattle.dmx_calls.specs.Response.{Data, Ready};
+ghost use Rattle.dmx_calls.specs.Response.{Ready};
 ghost use Rattle.dmx_calls.specs.Back.{BackOfRead};
 ghost use Rattle.dmx_calls.specs.Tenure.{Empty};
-ghost use Rattle.dmx_calls.specs.Answer.{is_readable, pending, answered_of, expired_of};
-ghost use Rattle.node_buffer.specs.Inside.Capturing.{begun, terms_of as terms_by, is_due as due, expiring, state_by, with_item, with_stop, with_response, read_by, bytes_read, front_length as front_by};
+ghost use Rattle.dmx_calls.specs.Answer.{is_readable, pending, answered_of};
+ghost use Rattle.node_buffer.specs.Inside.Capturing.{begun, terms_of as terms_by, is_due as due, expiring, state_by, with_item, with_stop, with_response, read_by, over_in, front_length as front_by};
 ghost use Rattle.node_buffer.specs.Inside.Coherent.{CoherentIn, total_of};
-ghost use Rattle.node_buffer.specs.Inside.BufferView.{ledger_of};
+ghost use Rattle.node_buffer.specs.Inside.BufferView.{misfit_of, ledger_of, pending_by, told_by};
 
 use crate::filter::{Terms, terms_of};
 use dmx_calls::{ByteBuf, Params, PollError, Reply, Span, State};
@@ -22,6 +22,8 @@ use std::marker::Model;
 pub struct Lost {
     /// Its number in the capture, from 0.
     pub item: u64,
+    /// Its place: how many bytes of the capture came before it. With KEEP these are given before the overflow is told.
+    pub place: u64,
     /// Its length in bytes.
     pub need: u64,
     /// The room that it found, in bytes.
@@ -198,11 +200,11 @@ impl Buffer {
     }
 
     /// An item of at least one byte arrives. It is lost where one before it is; where it is longer than the room, the
-    /// overflow is pending and nothing that is unread will be given.
+    /// overflow is pending, and what is unread will be given before it where the filter keeps it, and else not at all.
     pub fn put(&mut self, item: &[u8])
         requires some { 0 < length item.now }
         requires total { total_of self.old.ledger + length item.now < 2 ^ 64 }
-        ensures after { self.new ≡ record { size = self.old.size; terms = self.old.terms; ledger = option_map (λ l. with_item self.old.terms.by_section (self.old.size - 1) l item.now) self.old.ledger } }
+        ensures after { self.new ≡ record { size = self.old.size; terms = self.old.terms; ledger = option_map (λ l. with_item self.old.terms (self.old.size - 1) l item.now) self.old.ledger } }
         ensures holds { CoherentIn self.new.ledger }
         ensures total { total_of self.new.ledger ≤ total_of self.old.ledger + length item.now }
     {
@@ -219,29 +221,33 @@ impl Buffer {
             } else {
                 capture.over = Some(Lost {
                     item: capture.items,
+                    place: capture.total,
                     need,
                     room,
                 });
-                capture.rest = 0;
-                self.ring.flush();
+                if !self.terms.keeps {
+                    capture.rest = 0;
+                    self.ring.flush();
+                }
             }
         }
         capture.items += 1;
         capture.total += need;
     }
 
-    /// The reply to a Read, with its buffer where the reply doesn't hold it: a pending overflow, else an expiry that wasn't
-    /// told, else bytes. `ended` says that the stream has ended, which Again tells.
+    /// The reply to a Read, with its buffer where the reply doesn't hold it: a pending overflow once nothing before it is
+    /// unread, else an expiry that wasn't told, else bytes. `ended` says that the stream has ended, which Again tells.
     pub fn read(&mut self, ended: bool, buf: ByteBuf) -> (Reply, Option<ByteBuf>)
         ensures said { response_of result.0 ≡ read_by ended self.old.terms self.old.ledger buf.count }
         ensures after { self.new ≡ record { size = self.old.size; terms = self.old.terms; ledger = option_map (with_response self.old.terms.by_section (response_of result.0)) self.old.ledger } }
         ensures back { BackOfRead buf result.0 result.1 }
         ensures holds { CoherentIn self.new.ledger }
     {
+        let at_edge = self.overflow_at_edge();
         let Some(capture) = &mut self.capture else {
             return (no_bytes(buf), None);
         };
-        if let Some(lost) = capture.over {
+        if let Some(lost) = at_edge {
             let from = capture.answered;
             capture.answered = capture.total;
             capture.over = None;
@@ -267,11 +273,20 @@ impl Buffer {
         self.read_bytes(ended, buf)
     }
 
-    // The reply to a Read where nothing is pending: no bytes for a count of 0, Again where all is answered, and else as many
-    // bytes as are asked for and there; on a section filter no more than are left of the section.
+    // The pending overflow, where nothing before it is unread.
+    fn overflow_at_edge(&self) -> Option<Lost>
+        ensures { option_map misfit_of result ≡ over_in self.now.ledger }
+    {
+        let capture = self.capture.as_ref()?;
+        told(capture.over, self.terms.keeps, capture.answered)
+    }
+
+    // The reply to a Read where nothing is pending, or bytes come before it: no bytes for a count of 0, Again where all is
+    // answered, and else as many bytes as are asked for and there; on a section filter no more than are left of the section.
     fn read_bytes(&mut self, ended: bool, buf: ByteBuf) -> (Reply, Option<ByteBuf>)
-        requires { IfSome self.old.ledger (λ l. l.over ≡ None) }
-        ensures said { MatchOption self.old.ledger (response_of result.0 ≡ Data []) (λ l. response_of result.0 ≡ bytes_read ended self.old.terms.by_section l buf.count) }
+        requires overflow { over_in self.old.ledger ≡ None }
+        requires expiry { IfSome self.old.ledger (λ l. is_some l.expired && not l.is_told ≡ false) }
+        ensures said { response_of result.0 ≡ read_by ended self.old.terms self.old.ledger buf.count }
         ensures after { self.new ≡ record { size = self.old.size; terms = self.old.terms; ledger = option_map (with_response self.old.terms.by_section (response_of result.0)) self.old.ledger } }
         ensures back { BackOfRead buf result.0 result.1 }
         ensures holds { CoherentIn self.new.ledger }
@@ -287,16 +302,14 @@ impl Buffer {
         let mut filled = buf;
         fill(&mut self.ring, &mut filled, most);
         capture.answered += most;
-        if by_section {
-            capture.rest = rest_behind(capture.rest, most, &self.ring);
-        }
+        capture.rest = rest_behind(by_section, capture.rest, most, &self.ring);
         (Reply::Data(filled), None)
     }
 
     /// The reply to a Poll: whether a Read of one byte would give something, what is pending, and the place up to which all is
     /// answered.
     pub fn poll(&self, ended: bool) -> Reply
-        ensures { response_of result ≡ Ready (is_readable (read_by ended self.now.terms self.now.ledger 1)) (pending self.now.ledger (expired_of self.now.ledger)) (answered_of self.now.ledger) ended }
+        ensures { response_of result ≡ Ready (is_readable (read_by ended self.now.terms self.now.ledger 1)) (pending (read_by ended self.now.terms self.now.ledger 1)) (answered_of self.now.ledger) ended }
     {
         let Some(capture) = &self.capture else {
             return Reply::Ready {
@@ -306,7 +319,7 @@ impl Buffer {
                 ended,
             };
         };
-        let error = pending_error(capture);
+        let error = pending_error(self.overflow_at_edge(), capture);
         let bytes = most_bytes(self.terms.by_section, capture.rest, self.ring.unread(), 1);
         Reply::Ready {
             readable: error != PollError::Quiet || bytes > 0,
@@ -327,11 +340,21 @@ fn is_due(capture: &Capture, timeout: u32, now: u64) -> bool
     }
 }
 
-// What is pending: an overflow, or an expiry that no Read was told of.
-fn pending_error(capture: &Capture) -> PollError
-    ensures { result ≡ pending (Some (ledger_of [] capture.now)) (capture.now.expired) }
+// The overflow, where all that is given before it is answered: with KEEP the bytes up to its place, and without KEEP none.
+fn told(over: Option<Lost>, keeps: bool, answered: u64) -> Option<Lost>
+    ensures { result ≡ told_by keeps answered over }
 {
-    if capture.over.is_some() {
+    match over {
+        Some(lost) if !keeps || lost.place == answered => Some(lost),
+        _ => None,
+    }
+}
+
+// What is pending: this overflow at the edge, or an expiry that no Read was told of.
+fn pending_error(at_edge: Option<Lost>, capture: &Capture) -> PollError
+    ensures { result ≡ pending_by at_edge capture.now }
+{
+    if at_edge.is_some() {
         PollError::Overflow
     } else if capture.expired.is_some() && !capture.is_told {
         PollError::TimedOut
@@ -375,11 +398,14 @@ fn most_bytes(by_section: bool, rest: u64, unread: u64, count: u32) -> u64
     if by_section { most.min(rest) } else { most }
 }
 
-// What is left of the section at the front, once so many bytes were taken from the ring and so many were left before.
-fn rest_behind(rest: u64, taken: u64, ring: &Ring) -> u64
-    ensures { result ≡ (if nat_lt taken rest then rest - taken else front_by ring.now.bytes) }
+// What is left of the section at the front, on a section filter, once so many bytes were taken from the ring and so many were
+// left before.
+fn rest_behind(by_section: bool, rest: u64, taken: u64, ring: &Ring) -> u64
+    ensures { result ≡ (if by_section then (if nat_lt taken rest then rest - taken else front_by ring.now.bytes) else rest) }
 {
-    if taken < rest {
+    if !by_section {
+        rest
+    } else if taken < rest {
         rest - taken
     } else {
         front_length(ring)

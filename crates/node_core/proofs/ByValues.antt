@@ -2,16 +2,16 @@
 use Rattle.std.proofs.Common.{ℕ, ◌≡◌, refl, ◌∙◌, ap, Bool, true, false, Option, Some, None}
 use Rattle.std.specs.Prelude.{option_map, if◌then◌else◌, not, is_some, ◌||◌}
 use Rattle.dmx_calls.specs.declared.node.State.TheVariants.{Go}
-use Rattle.dmx_calls.specs.Invocation.{Read}
-use Rattle.dmx_calls.specs.Response.{Response, Passed, is_accepted}
+use Rattle.dmx_calls.specs.Invocation.{Read, Poll}
+use Rattle.dmx_calls.specs.Response.{Response, Ready, Passed, is_accepted}
 use Rattle.dmx_calls.specs.Tenure.{Params, Empty, Section, Pes}
 use Rattle.dmx_calls.specs.Items.{timeout_of}
 use Rattle.dmx_calls.specs.Facts.{Ledger, state_of_filter, state_of_ledger}
-use Rattle.dmx_calls.specs.Answer.{expired_of, response_to}
-use Rattle.node_buffer.specs.Inside.Capturing.{is_section, terms_of, read_by, is_due, expiring, with_response}
+use Rattle.dmx_calls.specs.Answer.{is_section, is_readable, pending, answered_of, expired_of, response_to}
+use Rattle.node_buffer.specs.Inside.Capturing.{terms_of, read_by, is_due, expiring, with_response}
 use Rattle.node_buffer.proofs.Accepted.{read_accepted}
 use Rattle.node_buffer.proofs.Answering.{read_is}
-use Rattle.node_buffer.proofs.Readings.{expired_at, then_answered}
+use Rattle.node_buffer.proofs.Readings.{expired_at, then_answered, answered-expired}
 use Rattle.node_buffer.specs.Inside.Coherent.{CoherentIn}
 use Rattle.node_core.specs.Inside.Step.{Knows, next, moved}
 use Rattle.node_core.specs.Inside.Sound.{IsSoundBy}
@@ -48,6 +48,27 @@ pub read-sound : (set : Params) (r : Response) (now : ℕ) (o mid left : Option 
 read-sound Empty r now o mid left is after sound holds = none-read false r 0 now o mid left is after sound
 read-sound (Section p) r now o mid left is after sound holds = holds
 read-sound (Pes p) r now o mid left is after sound holds = holds
+
+-- ------ a Poll
+
+-- with the ledger behind the expiry
+pub poll-said : (k : Knows) (now : ℕ) (mid : Option Ledger) (r : Response) → mid ≡ option_map (expiring (timeout_of k.facts.params) now) k.facts.ledger
+    → r ≡ Ready (is_readable (read_by k.facts.has_ended (terms_of k.facts.params) mid 1)) (pending (read_by k.facts.has_ended (terms_of k.facts.params) mid 1)) (answered_of mid) k.facts.has_ended
+    → r ≡ reply_to k 0 (Poll now)
+poll-said k now mid r is said =
+    said ∙ rw (is, read_is k.facts k.facts.ledger now 1, answered-expired (timeout_of k.facts.params) now k.facts.ledger) refl
+
+pub poll-after : (k : Knows) (now : ℕ) (mid : Option Ledger) (r : Response) → is_accepted r ≡ true → mid ≡ option_map (expiring (timeout_of k.facts.params) now) k.facts.ledger
+    → record k { facts = record k.facts { ledger = mid } } ≡ next k 0 (Poll now) r
+poll-after k now mid r ok is = rw (ok, is) refl
+
+none-polled : (timeout now : ℕ) (o mid : Option Ledger) → mid ≡ option_map (expiring timeout now) o → o ≡ None → mid ≡ None
+none-polled timeout now o mid is none = rw (is, none) refl
+
+pub poll-sound : (set : Params) (now : ℕ) (o mid : Option Ledger) → mid ≡ option_map (expiring (timeout_of set) now) o → IsSoundBy set o → CoherentIn mid → IsSoundBy set mid
+poll-sound Empty now o mid is sound holds = none-polled 0 now o mid is sound
+poll-sound (Section p) now o mid is sound holds = holds
+poll-sound (Pes p) now o mid is sound holds = holds
 
 -- ------ a Pass
 

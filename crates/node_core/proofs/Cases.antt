@@ -192,7 +192,7 @@ module _ (h : History) (k : Selecting) (who : ℕ) (sound : IsSound (known h k))
       → (is_accepted (read_response (facts demux h) (ledger_of demux h o) x count) ≡ true)
       × ((s : Since) → capture h ≡ Some s → ReadGives h (read_response (facts demux h) (ledger_of demux h o) x count))
   read_fine None free x count = (refl, λ s runs. absurd (let n : None ≡ Some s = sym free ∙ runs in cc))
-  read_fine (Some s') is x count = let shape = read_shape h (over demux h) refl x count in (shape.1, λ s runs. shape.0)
+  read_fine (Some s') is x count = let shape = read_shape h x count in (shape.1, λ s runs. shape.0)
 
   read_answer : (x : Option ℕ) (count : ℕ)
       → (is_accepted (read_response (facts demux h) (facts demux h).ledger x count) ≡ true)

@@ -8,12 +8,13 @@ use Rattle.dmx_calls.specs.Tenure.{Params, params}
 use Rattle.dmx_calls.specs.Capture.{capture}
 use Rattle.dmx_calls.specs.Items.{timeout_of, items}
 use Rattle.dmx_calls.specs.Rules.{demux}
-use Rattle.dmx_calls.specs.Ledger.{joined, total, answered, over}
+use Rattle.dmx_calls.specs.Ledger.{joined, total, answered, edge}
 use Rattle.dmx_calls.specs.Facts.{Ledger, Facts, ledger_of, facts}
-use Rattle.dmx_calls.specs.Answer.{expired_of}
-use Rattle.node_buffer.specs.Inside.Capturing.{is_section, expiring}
+use Rattle.dmx_calls.specs.Answer.{is_section, expired_of}
+use Rattle.node_buffer.specs.Inside.Capturing.{expiring}
 use Rattle.node_buffer.specs.Inside.Coherent.{CoherentIn}
 use Rattle.node_buffer.specs.Causes.{Causes}
+use Rattle.node_buffer.proofs.Arrivals.{around_edge}
 use Rattle.node_buffer.proofs.ReadCausing.{Readable, still_by, expired_either}
 use Rattle.node_buffer.proofs.Causing.{causes_for}
 use Rattle.node_core.specs.Inside.Step.{Knows, moved, next}
@@ -27,7 +28,7 @@ use Rattle.node_core.proofs.Standing.{knows}
 readable_of : (h : History) (o : Option Since) → CoherentIn (ledger_of demux h o) → Readable (params h) (ledger_of demux h o)
 unfolding total joined
 readable_of h None c = tt
-readable_of h (Some s) c = (c, still_by (params h) (over demux h) (items h) (answered demux h))
+readable_of h (Some s) c = (c, still_by (params h) (edge demux h) (items h) (answered demux h) (around_edge demux h c).1)
 
 readable : (h : History) → CoherentIn (facts demux h).ledger → Readable (facts demux h).params (facts demux h).ledger
 unfolding facts

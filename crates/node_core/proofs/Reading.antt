@@ -1,9 +1,16 @@
 -- The same for a Read.
-use Rattle.std.proofs.Common.{ℕ, zero, suc, ◌+◌, ◌-◌, ◌≤◌, ◌≡◌, refl, ◌∙◌, ap, Bool, true, false, List, [], ◌∷◌, Option, Some, None, length, take, drop, arith, length-take, add_comm, zero-add, drop-drop}
+use Rattle.std.proofs.Common.{ℕ, zero, suc, ◌+◌, ◌-◌, ◌<◌, ◌≤◌, ◌≡◌, refl, sym, ◌∙◌, ap, subst, Bool, true, false, List, [], ◌∷◌, ◌++◌, Option, Some, None, length, take, drop, arith, length-take, length-drop, add_comm, zero-add, drop-drop}
 use Rattle.std.proofs.Math.Nat.{sub-add_cancel}
 use Rattle.std.specs.Prelude.{if◌then◌else◌, nat_eq, nat_lt}
 use Rattle.std.specs.List.{All, concat}
+use Rattle.std.proofs.lemmas.Bool.Decides.{nat_tests}
+use Rattle.std.proofs.lemmas.List.{append-nil, drop-append-le}
+use Rattle.std.proofs.lemmas.List.Elements.{All-head, All-tail, All-nil, All-cons}
+use Rattle.std.proofs.Math.Seq.{take-append_seam}
+use Rattle.std.proofs.Math.ListN.{drop_of_length-le}
+use native.Mathlib.Decide.{dec_le}
 use Rattle.section_parse.specs.Sections.{IsSection}
+use Rattle.dmx_calls.specs.declared.params.SectionParams.{SectionParams}
 use Rattle.dmx_calls.specs.Invocation.{Read}
 use Rattle.dmx_calls.specs.Response.{Response, Data, Again, Overflow, TimedOut, Passed, is_accepted}
 use Rattle.dmx_calls.specs.History.{Entry, History, entry_of, Since}
@@ -11,17 +18,22 @@ use Rattle.dmx_calls.specs.Tenure.{tenure, Params, Empty, Section, Pes, params, 
 use Rattle.dmx_calls.specs.Capture.{capture}
 use Rattle.dmx_calls.specs.Items.{timeout_of, items}
 use Rattle.dmx_calls.specs.Rules.{demux}
-use Rattle.dmx_calls.specs.Ledger.{Misfit, joined, total, answered, over}
-use Rattle.dmx_calls.specs.Facts.{Ledger, unread_of, rest_of, ledger_at, facts}
-use Rattle.dmx_calls.specs.Answer.{most_bytes, read_bytes, read_timeout, read_over}
+use Rattle.dmx_calls.specs.Ledger.{Misfit, keeps, edge_of, joined, total, answered, over, edge}
+use Rattle.dmx_calls.specs.Facts.{Ledger, unread_of, rest_of_item, rest_of, ledger_at, facts}
+use Rattle.dmx_calls.specs.Answer.{is_section, ReadTerms, read_terms, most_bytes, read_response}
 use Rattle.dmx_calls.proofs.Going.{Stays}
+use Rattle.dmx_calls.proofs.Nodes.{demux_keeps}
+use Rattle.dmx_calls.proofs.Ledgers.{concat-append, rest_of-end, edge_then}
+use Rattle.dmx_calls.proofs.Edges.{IsCut, cut_of}
+use Rattle.dmx_calls.proofs.Reading.{read_each}
 use Rattle.dmx_calls.proofs.After.{expired_then, facts_goes, ledger_still, ledger_told, stays_read, pids_stay}
 use Rattle.item_select.specs.Selecting.{Selecting}
-use Rattle.node_buffer.specs.Inside.Capturing.{is_section, expiring, front_length, rest_behind, with_response}
+use Rattle.node_buffer.specs.Inside.Capturing.{expiring, front_length, rest_behind, with_response}
 use Rattle.node_core.specs.Offers.{HasSelected}
 use Rattle.node_buffer.specs.Inside.Coherent.{Coherent}
 use Rattle.node_core.specs.Inside.Sound.{IsSound}
-use Rattle.node_buffer.proofs.Rests.{rest_read}
+use Rattle.node_buffer.proofs.Arrivals.{placed_in, around_edge}
+use Rattle.node_buffer.proofs.Rests.{rest_before, rest_none, rest_read}
 use Rattle.node_core.proofs.WholeSections.{items_whole}
 use Rattle.node_core.proofs.Expiries.{never, expiring_is}
 use Rattle.node_core.proofs.Takings.{selected_goes, selected_quiet}
@@ -34,7 +46,7 @@ StaysWithin _ read rest = Unit {0}
 
 -- what a Read answers in a capture; Passed stands for any response by which it is accepted
 pub data ReadGives (h : History) : Response → Type 0 where
-  gives_bytes : (bytes : List ℕ) → over demux h ≡ None → StaysWithin (params h) (length bytes) (ledger_at demux h).rest → ReadGives h (Data bytes)
+  gives_bytes : (bytes : List ℕ) → StaysWithin (params h) (length bytes) (ledger_at demux h).rest → ReadGives h (Data bytes)
   gives_again : (ended : Bool) → ReadGives h (Again ended)
   gives_over : (item need room : ℕ) → ReadGives h (Overflow (answered demux h) (total demux h) item need room)
   gives_timeout : (started now timeout : ℕ) → ReadGives h (TimedOut started now timeout)
@@ -42,20 +54,66 @@ pub data ReadGives (h : History) : Response → Type 0 where
 
 -- ------ what is left of the section
 
-rest_after : (set : Params) (xs : List (List ℕ)) (n r : ℕ) → StaysWithin set r (rest_of set None xs n) → ((p : _) → set ≡ Section p → All IsSection xs)
-    → rest_of set None xs (r + n) ≡ (if is_section set then (if nat_lt r (rest_of set None xs n) then rest_of set None xs n - r else front_length (drop r (drop n (concat xs)))) else rest_of set None xs n)
-rest_after Empty xs n r fits whole = refl
-rest_after (Pes p) xs n r fits whole = refl
-rest_after (Section p) xs n r fits whole =
-    let behind : drop r (drop n (concat xs)) ≡ drop (r + n) (concat xs) = drop-drop r n (concat xs) ∙ ap (λ m. drop m (concat xs)) (add_comm n r) in
-    rw behind (rest_read xs n r fits (whole p refl))
+-- what is left up to the end of the first items is what is left of them
+module _ (p : SectionParams) (xs ys : List (List ℕ)) (to : ℕ) (end : to ≡ length (concat xs)) where
+  rest_of_first : (n : ℕ) → rest_of (Section p) to (xs ++ ys) n ≡ rest_of_item xs n
+  rest_of_first n = by_test (nat_lt n to) refl where
+    by_test : (b : Bool) → nat_lt n to ≡ b → (if b then rest_of_item (xs ++ ys) n else 0) ≡ rest_of_item xs n
+    by_test true before = let lt : n < to = grind (arith, nat_tests) in rest_before xs ys n (omega (arith, lt, end))
+    by_test false past = let le : to ≤ n = grind (arith, nat_tests) in sym (rest_none xs n (omega (arith, le, end)))
 
-rest_is : (h : History) (r : ℕ) → over demux h ≡ None → StaysWithin (params h) r (ledger_at demux h).rest
-    → rest_of (params h) (over demux h) (items h) (r + answered demux h) ≡ rest_behind (is_section (params h)) r (ledger_at demux h)
-unfolding joined
-rest_is h r none fits =
-    let fits' : StaysWithin (params h) r (rest_of (params h) None (items h) (answered demux h)) = rw none at fits in
-    rw none (rest_after (params h) (items h) (answered demux h) r fits' (λ p set. items_whole h p set))
+  unread_of_first : (n : ℕ) → unread_of to n (concat (xs ++ ys)) ≡ drop n (concat xs)
+  unread_of_first n = by_place (dec_le n to) where
+    by_place : Dec (n ≤ to) → unread_of to n (concat (xs ++ ys)) ≡ drop n (concat xs)
+    by_place (yes le) =
+        let whole : to - n ≡ length (drop n (concat xs)) = omega (arith, end, length-drop n (concat xs)) in
+        rw (concat-append xs ys, drop-append-le n (concat xs) (concat ys) (omega (arith, le, end)), whole) (take-append_seam (drop n (concat xs)) (concat ys))
+    by_place (no far) =
+        let none : to - n ≡ 0 = omega (arith, far) in rw none (sym (drop_of_length-le (concat xs) (omega (arith, far, end))))
+
+  -- so many bytes are read, none of them behind the section at the front
+  rest_after_first : (n r : ℕ) → r ≤ rest_of (Section p) to (xs ++ ys) n → All IsSection xs
+      → rest_of (Section p) to (xs ++ ys) (r + n)
+      ≡ (if nat_lt r (rest_of (Section p) to (xs ++ ys) n) then rest_of (Section p) to (xs ++ ys) n - r else front_length (drop r (unread_of to n (concat (xs ++ ys)))))
+  rest_after_first n r fits whole =
+      let behind : drop r (drop n (concat xs)) ≡ drop (r + n) (concat xs) = drop-drop r n (concat xs) ∙ ap (λ m. drop m (concat xs)) (add_comm n r) in
+      rw (rest_of_first n, rest_of_first (r + n), unread_of_first n, behind) (rest_read xs n r (rw (← rest_of_first n) fits) whole)
+
+all_first : (P : List ℕ → Type 0) (xs ys : List (List ℕ)) → All P (xs ++ ys) → All P xs
+all_first P [] ys all = All-nil P
+all_first P (x ∷ xs) ys all = All-cons P x xs (All-head P x (xs ++ ys) all) (all_first P xs ys (All-tail P x (xs ++ ys) all))
+
+-- the same up to the edge, which moves only where nothing is unread
+rest_after : (set : Params) (k : Bool) (o : Option Misfit) (xs : List (List ℕ)) (n r : ℕ) → IsCut o xs
+    → StaysWithin set r (rest_of set (edge_of k o (length (concat xs)) n) xs n) → ((p : SectionParams) → set ≡ Section p → All IsSection xs)
+    → rest_of set (edge_of k o (length (concat xs)) (r + n)) xs (r + n)
+    ≡ (if is_section set
+    then (if nat_lt r (rest_of set (edge_of k o (length (concat xs)) n) xs n)
+    then rest_of set (edge_of k o (length (concat xs)) n) xs n - r
+    else front_length (drop r (unread_of (edge_of k o (length (concat xs)) n) n (concat xs))))
+    else rest_of set (edge_of k o (length (concat xs)) n) xs n)
+rest_after Empty k o xs n r cut fits whole = refl
+rest_after (Pes p) k o xs n r cut fits whole = refl
+rest_after (Section p) k None xs n r cut fits whole =
+    let all : xs ++ [] ≡ xs = append-nil xs in
+    let P : List (List ℕ) → Type 0 = λ ys. r ≤ rest_of (Section p) (length (concat xs)) ys n → rest_of (Section p) (length (concat xs)) ys (r + n)
+    ≡ (if nat_lt r (rest_of (Section p) (length (concat xs)) ys n) then rest_of (Section p) (length (concat xs)) ys n - r else front_length (drop r (unread_of (length (concat xs)) n (concat ys)))) in
+    subst P all (λ within. rest_after_first p xs [] (length (concat xs)) refl n r within (whole p refl)) fits
+rest_after (Section p) true (Some x) xs n r cut fits whole =
+    let P : List (List ℕ) → Type 0 = λ ys. r ≤ rest_of (Section p) x.place ys n → rest_of (Section p) x.place ys (r + n)
+    ≡ (if nat_lt r (rest_of (Section p) x.place ys n) then rest_of (Section p) x.place ys n - r else front_length (drop r (unread_of x.place n (concat ys)))) in
+    let first : All IsSection cut.before = all_first IsSection cut.before cut.behind (subst (All IsSection) cut.whole (whole p refl)) in
+    subst P (sym cut.whole) (λ within. rest_after_first p cut.before cut.behind x.place cut.end n r within first) fits
+rest_after (Section p) false (Some x) xs n r cut fits whole =
+    let none : rest_of (Section p) n xs n ≡ 0 = rest_of-end (Section p) n xs in
+    let zero : r ≡ 0 = omega (arith, fits, none) in
+    let self : n - n ≡ 0 = omega arith in
+    rw (none, zero, self, rest_of-end (Section p) (0 + n) xs) refl
+
+rest_is : (h : History) (r : ℕ) → StaysWithin (params h) r (ledger_at demux h).rest
+    → rest_of (params h) (edge_then (params h) (ledger_at demux h) r) (items h) (r + answered demux h) ≡ rest_behind (is_section (params h)) r (ledger_at demux h)
+unfolding joined total edge
+rest_is h r fits = rest_after (params h) (keeps (params h)) (over demux h) (items h) (answered demux h) r (cut_of demux demux_keeps h) fits (λ p set. items_whole h p set)
 
 -- ------ the ledger after a Read
 
@@ -70,18 +128,19 @@ module _ (h : History) (k : Selecting) (t s : Since) (who now count : ℕ) (held
 
   ledger_read : (r : Response) → (ok : is_accepted r ≡ true) → ReadGives h r
       → ledger_at demux (entry_of who (Read now count) r ∷ h) ≡ with_response (is_section (params h)) r (expiring (timeout_of (params h)) now (ledger_at demux h))
-  ledger_read _ ok (gives_bytes bytes none fits) =
+  unfolding edge
+  ledger_read _ ok (gives_bytes bytes fits) =
       let c : Coherent (ledger_at demux h) = coherent h k s sound runs in
-      stepped (Data bytes) _ (ledger_still (entry_of who (Read now count) (Data bytes)) h t s (stays_read h who (Data bytes) ok now count) held runs refl c.answered (λ input. refl)
+      stepped (Data bytes) _ (ledger_still (entry_of who (Read now count) (Data bytes)) h t s (stays_read h who (Data bytes) ok now count) held runs refl (around_edge demux h c).0 (placed_in demux h c) (λ input. refl)
       ∙ ap (λ rest. record (ledger_at demux h) {
         expired = expired_at;
         answered = length bytes + answered demux h;
-        unread = drop (length bytes) (unread_of (over demux h) (answered demux h) (joined demux h));
+        unread = drop (length bytes) (ledger_at demux h).unread;
         rest = rest;
-      }) (rest_is h (length bytes) none fits))
+      }) (rest_is h (length bytes) fits))
   ledger_read _ ok (gives_again ended) =
       let c : Coherent (ledger_at demux h) = coherent h k s sound runs in
-      stepped (Again ended) _ (ledger_still (entry_of who (Read now count) (Again ended)) h t s (stays_read h who (Again ended) ok now count) held runs refl c.answered (λ input. refl)
+      stepped (Again ended) _ (ledger_still (entry_of who (Read now count) (Again ended)) h t s (stays_read h who (Again ended) ok now count) held runs refl (around_edge demux h c).0 (placed_in demux h c) (λ input. refl)
       ∙ rw (zero-add (answered demux h)) refl)
   ledger_read _ ok (gives_over item need room) =
       let c : Coherent (ledger_at demux h) = coherent h k s sound runs in
@@ -89,11 +148,11 @@ module _ (h : History) (k : Selecting) (t s : Since) (who now count : ℕ) (held
       stepped r _ (ledger_told (entry_of who (Read now count) r) h t s (stays_read h who r ok now count) held runs refl (λ input. refl) (sub-add_cancel c.answered))
   ledger_read _ ok (gives_timeout a b d) =
       let c : Coherent (ledger_at demux h) = coherent h k s sound runs in
-      stepped (TimedOut a b d) _ (ledger_still (entry_of who (Read now count) (TimedOut a b d)) h t s (stays_read h who (TimedOut a b d) ok now count) held runs refl c.answered (λ input. refl)
+      stepped (TimedOut a b d) _ (ledger_still (entry_of who (Read now count) (TimedOut a b d)) h t s (stays_read h who (TimedOut a b d) ok now count) held runs refl (around_edge demux h c).0 (placed_in demux h c) (λ input. refl)
       ∙ rw (zero-add (answered demux h)) refl)
   ledger_read _ ok gives_nothing =
       let c : Coherent (ledger_at demux h) = coherent h k s sound runs in
-      stepped Passed _ (ledger_still (entry_of who (Read now count) Passed) h t s (stays_read h who Passed ok now count) held runs refl c.answered (λ input. refl)
+      stepped Passed _ (ledger_still (entry_of who (Read now count) Passed) h t s (stays_read h who Passed ok now count) held runs refl (around_edge demux h c).0 (placed_in demux h c) (λ input. refl)
       ∙ rw (zero-add (answered demux h)) refl)
 
 pub read_moves : (h : History) (k : Selecting) (t : Since) (who now count : ℕ) → tenure h ≡ Some t → IsSound (known h k) → HasSelected h k
@@ -110,10 +169,10 @@ read_moves h k t who now count held sound has r ok gives =
 
 -- ------ the answer to a Read
 
-stays_within : (set : Params) (l : Ledger) (count : ℕ) (us : List ℕ) → StaysWithin set (length (take (most_bytes set l count) us)) l.rest
+stays_within : (set : Params) (l : Ledger) (count : ℕ) (us : List ℕ) → StaysWithin set (length (take (most_bytes (is_section set) l count) us)) l.rest
 stays_within Empty l count us = tt
 stays_within (Pes p) l count us = tt
-stays_within (Section p) l count us = omega (arith, length-take (most_bytes (Section p) l count) us)
+stays_within (Section p) l count us = omega (arith, length-take (most_bytes true l count) us)
 
 none_within : (set : Params) (rest : ℕ) → StaysWithin set 0 rest
 none_within Empty rest = tt
@@ -121,27 +180,15 @@ none_within (Pes p) rest = tt
 none_within (Section p) rest = omega arith
 
 -- in a capture, whatever its expiry is
-pub read_shape : (h : History) (o : Option Misfit) → over demux h ≡ o → (expired : Option ℕ) (count : ℕ)
-    → ReadGives h (read_over (facts demux h) (ledger_at demux h) o expired count) × (is_accepted (read_over (facts demux h) (ledger_at demux h) o expired count) ≡ true)
+pub read_shape : (h : History) (expired : Option ℕ) (count : ℕ)
+    → ReadGives h (read_response (facts demux h) (Some (ledger_at demux h)) expired count) × (is_accepted (read_response (facts demux h) (Some (ledger_at demux h)) expired count) ≡ true)
 unfolding facts
-read_shape h (Some x) is expired count = (gives_over x.item x.need x.room, refl)
-read_shape h None is expired count = by_expiry expired where
-  Fine : Response → Type 0
-  Fine r = ReadGives h r × (is_accepted r ≡ true)
-
-  by_bytes : (b : Bool) (n : ℕ) → Fine (if b then Again (facts demux h).has_ended else Data (take (most_bytes (params h) (ledger_at demux h) n) (ledger_at demux h).unread))
-  by_bytes true n = (gives_again (facts demux h).has_ended, refl)
-  by_bytes false n =
-      (gives_bytes (take (most_bytes (params h) (ledger_at demux h) n) (ledger_at demux h).unread) is (stays_within (params h) (ledger_at demux h) n (ledger_at demux h).unread), refl)
-
-  by_count : (count : ℕ) → Fine (read_bytes (facts demux h) (ledger_at demux h) count)
-  by_count zero = (gives_bytes [] is (none_within (params h) (ledger_at demux h).rest), refl)
-  by_count (suc fewer) = by_bytes (nat_eq (answered demux h) (total demux h)) (suc fewer)
-
-  by_told : (b : Bool) (m : ℕ) → Fine (if b then read_bytes (facts demux h) (ledger_at demux h) count else TimedOut (ledger_at demux h).started m (timeout_of (params h)))
-  by_told true m = by_count count
-  by_told false m = (gives_timeout (ledger_at demux h).started m (timeout_of (params h)), refl)
-
-  by_expiry : (x : Option ℕ) → Fine (read_timeout (facts demux h) (ledger_at demux h) x count)
-  by_expiry None = by_count count
-  by_expiry (Some m) = by_told (ledger_at demux h).is_told m
+read_shape h expired count =
+    let l : Ledger = ledger_at demux h in
+    let t : ReadTerms = read_terms (facts demux h) in
+    read_each (λ r. ReadGives h r × (is_accepted r ≡ true)) t l expired count
+    (λ x is none. (gives_over x.item x.need x.room, refl))
+    (λ moment is. (gives_timeout l.started moment t.timeout, refl))
+    (gives_bytes [] (none_within (params h) l.rest), refl)
+    (gives_again t.has_ended, refl)
+    (gives_bytes (take (most_bytes t.by_section l count) l.unread) (stays_within (params h) l count l.unread), refl)

@@ -9,11 +9,11 @@ use Rattle.dmx_calls.specs.declared.reply.Tap.{Tap as TapChange}
 use Rattle.dmx_calls.specs.Response.{Response, NoMemory}
 use Rattle.dmx_calls.specs.History.{History}
 use Rattle.dmx_calls.specs.Rules.{Rules, rules_at}
-use Rattle.dmx_calls.specs.Ledger.{Misfit}
 use Rattle.dmx_calls.specs.Facts.{Ledger, Facts, facts}
-use Rattle.dmx_calls.specs.Answer.{answer, with_call, response_unless, refusal_to, response_to, read_response, read_over, read_timeout, read_bytes, expired_of, open_response, done_dropping}
+use Rattle.dmx_calls.specs.Answer.{ReadTerms, read_terms, answer, with_call, response_unless, refusal_to, response_to, response_of_read, expired_of, open_response, done_dropping}
 use Rattle.dmx_calls.specs.Legal.{IsLegalFor}
 use Rattle.dmx_calls.specs.Log.{LogEntry, IsOfStream, act_of, filled_entry, filled}
+use Rattle.dmx_calls.proofs.Reading.{read_each}
 use Rattle.dmx_calls.proofs.Telling.{fills}
 use Rattle.serial_core.specs.Nodes.{Told, Node, history_in, history_of, answered, log_in}
 use Rattle.serial_core.proofs.Places.{get_cases, entries_of}
@@ -40,21 +40,9 @@ dropping_found : (o : Option Ledger) (tap : TapChange) → IsFound (done_droppin
 dropping_found None tap = tt
 dropping_found (Some l) tap = tt
 
-bytes_found : (f : Facts) (l : Ledger) (count : ℕ) → IsFound (read_bytes f l count)
-bytes_found f l zero = tt
-bytes_found f l (suc n) = if_found (nat_eq l.answered l.total) _ _ tt tt
-
-timeout_found : (f : Facts) (l : Ledger) (expired : Option ℕ) (count : ℕ) → IsFound (read_timeout f l expired count)
-timeout_found f l None count = bytes_found f l count
-timeout_found f l (Some moment) count = if_found l.is_told (read_bytes f l count) _ (bytes_found f l count) tt
-
-over_found : (f : Facts) (l : Ledger) (o : Option Misfit) (expired : Option ℕ) (count : ℕ) → IsFound (read_over f l o expired count)
-over_found f l None expired count = timeout_found f l expired count
-over_found f l (Some x) expired count = tt
-
-read_found : (f : Facts) (o : Option Ledger) (expired : Option ℕ) (count : ℕ) → IsFound (read_response f o expired count)
-read_found f None expired count = tt
-read_found f (Some l) expired count = over_found f l l.over expired count
+read_found : (t : ReadTerms) (o : Option Ledger) (expired : Option ℕ) (count : ℕ) → IsFound (response_of_read t o expired count)
+read_found t None expired count = tt
+read_found t (Some l) expired count = read_each IsFound t l expired count (λ x is none. tt) (λ moment is. tt) tt tt tt
 
 response_found : (f g : Facts) (c : Invocation) → IsFound (response_to f g c)
 response_found f g call.Open = open_found f.owner
@@ -66,7 +54,7 @@ response_found f g (call.RemovePid n) = tt
 response_found f g (call.Start now) = dropping_found f.ledger _
 response_found f g call.Stop = tt
 response_found f g (call.SetSize n) = if_found (nat_eq n f.size) _ (done_dropping f.ledger _) tt (dropping_found f.ledger _)
-response_found f g (call.Read now count) = read_found f f.ledger (expired_of g.ledger) count
+response_found f g (call.Read now count) = read_found (read_terms f) f.ledger (expired_of g.ledger) count
 response_found f g (call.Poll now) = tt
 response_found f g (call.Pass i first ps now) = tt
 response_found f g call.End = tt

@@ -292,7 +292,10 @@ static CALLS: [Session; 17] = [
     // arguments out of range
     Session {
         rows: "c0 open n0 = done drop=0..0 tap=keep\n\
-            c0 section n0 256 0 8 = EINVAL\n",
+            c0 section n0 256 0 8 = EINVAL\n\
+            c0 section n0 256 0 264 = EINVAL\n\
+            c0 pes n0 256 frontend tap 20 264 = EINVAL\n\
+            c0 pes n0 256 frontend tap 20 512 = EINVAL\n",
         ..BATCHES
     },
     Session {

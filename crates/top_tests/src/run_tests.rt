@@ -9,7 +9,7 @@ const FOURTH: Part = (b"\x47\x01\x00\x13", 184, 0);
 // PID 300, which no session has a filter for.
 const UNNAMED: Part = (b"\x47\x01\x2c\x10", 184, 0);
 
-static SESSIONS: [Session; 8] = [
+static SESSIONS: [Session; 11] = [
     // A read of less than a packet.
     Session {
         rows: "c0 open n0 = done drop=0..0 tap=keep\n\
@@ -55,6 +55,50 @@ static SESSIONS: [Session; 8] = [
             c0 read n0 100 = data 47010010|0*192\n\
             feed 2\n\
             c0 read n0 188 = overflow 100..752 item=2 need=188 room=100\n",
+        stream: &[FIRST, SECOND, THIRD, FOURTH],
+        ..BATCHES
+    },
+    // The same two with KEEP: what was unread comes first, and a poll tells the overflow only behind it.
+    Session {
+        rows: "c0 open n0 = done drop=0..0 tap=keep\n\
+            c0 size n0 377 = done drop=0..0 tap=keep\n\
+            c0 pes n0 256 frontend tsdemux_tap 20 256 = done drop=0..0 tap=keep\n\
+            c0 start n0 = done drop=0..0 tap=keep\n\
+            feed 3\n\
+            c0 read n0 188 = data 47010010|0*368\n\
+            c0 read n0 376 = data 47010011|0*368\n\
+            c0 read n0 188 = overflow 376..564 item=2 need=188 room=0\n\
+            feed 1\n\
+            c0 read n0 188 = data 47010013|0*368\n",
+        stream: &[FIRST, SECOND, THIRD, FOURTH],
+        ..BATCHES
+    },
+    Session {
+        rows: "c0 open n0 = done drop=0..0 tap=keep\n\
+            c0 size n0 377 = done drop=0..0 tap=keep\n\
+            c0 pes n0 256 frontend tsdemux_tap 20 256 = done drop=0..0 tap=keep\n\
+            c0 start n0 = done drop=0..0 tap=keep\n\
+            feed 2\n\
+            c0 read n0 100 = data 47010010|0*192\n\
+            feed 2\n\
+            c0 poll n0 = ready readable=1 error=none at=100 ended=0\n\
+            c0 read n0 300 = data 0*176|47010011|0*368\n\
+            c0 poll n0 = ready readable=1 error=overflow at=376 ended=0\n\
+            c0 read n0 188 = overflow 376..752 item=2 need=188 room=100\n",
+        stream: &[FIRST, SECOND, THIRD, FOURTH],
+        ..BATCHES
+    },
+    // With KEEP and a stop before the first read.
+    Session {
+        rows: "c0 open n0 = done drop=0..0 tap=keep\n\
+            c0 size n0 377 = done drop=0..0 tap=keep\n\
+            c0 pes n0 256 frontend tsdemux_tap 20 256 = done drop=0..0 tap=keep\n\
+            c0 start n0 = done drop=0..0 tap=keep\n\
+            feed 3\n\
+            c0 stop n0 = done drop=0..0 tap=keep\n\
+            c0 read n0 188 = data 47010010|0*368\n\
+            c0 read n0 376 = data 47010011|0*368\n\
+            c0 read n0 188 = overflow 376..564 item=2 need=188 room=0\n",
         stream: &[FIRST, SECOND, THIRD, FOURTH],
         ..BATCHES
     },

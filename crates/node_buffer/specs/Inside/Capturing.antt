@@ -1,22 +1,18 @@
 -- What a capture keeps of its filter, and how its ledger goes on: it begins, items arrive in
 -- it, it expires, it is read, it is stopped.
-use Rattle.std.specs.Prelude.{ℕ, zero, suc, min, take, ◌+◌, ◌-◌, Bool, true, false, not, ◌&&◌, ◌||◌, nat_eq, nat_lt, nat_le, if◌then◌else◌, List, [], ◌∷◌, ◌++◌, length, drop, Option, Some, None, is_some}
+use Rattle.std.specs.Prelude.{ℕ, ◌+◌, ◌-◌, Bool, true, false, not, ◌&&◌, ◌||◌, nat_eq, nat_lt, nat_le, if◌then◌else◌, List, [], ◌∷◌, ◌++◌, length, drop, Option, Some, None, is_some}
 use Rattle.section_parse.specs.Sections.{section_length}
-use Rattle.dmx_calls.specs.Response.{Response, Data, Again, Overflow, TimedOut}
+use Rattle.dmx_calls.specs.Response.{Response, Data, Overflow, TimedOut}
 use Rattle.dmx_calls.specs.declared.node.State.{State}
 use Rattle.dmx_calls.specs.declared.node.State.TheVariants.{Set, Go, Done, TimedOut as Expired}
 use Rattle.dmx_calls.specs.Tenure.{Params, Section}
 use Rattle.dmx_calls.specs.Items.{is_oneshot as once_by, timeout_of}
-use Rattle.dmx_calls.specs.Ledger.{Misfit}
+use Rattle.dmx_calls.specs.Ledger.{Misfit, keeps}
 use Rattle.dmx_calls.specs.Facts.{Ledger}
+use Rattle.dmx_calls.specs.Answer.{is_section, ReadTerms, over_at_edge, response_of_read, expired_of}
 use Rattle.node_buffer.specs.declared.filter.Terms.{Terms}
 
 -- ------ the filter
-
--- it is one of sections
-abbrev pub is_section : Params → Bool
-is_section (Section p) = true
-is_section _ = false
 
 -- it is one of sections, with DMX_ONESHOT
 abbrev pub is_oneshot : Params → Bool
@@ -25,7 +21,12 @@ is_oneshot _ = false
 
 -- what a capture keeps of it
 abbrev pub terms_of : Params → Terms
-terms_of set = record { by_section = is_section set; is_oneshot = is_oneshot set; timeout = timeout_of set }
+terms_of set = record {
+  by_section = is_section set;
+  is_oneshot = is_oneshot set;
+  timeout = timeout_of set;
+  keeps = keeps set;
+}
 
 -- ------ the ledger
 
@@ -53,15 +54,15 @@ rest_with by_section rest item = if by_section && nat_eq rest 0 then length item
 abbrev pub with_lost : Ledger → List ℕ → Ledger
 with_lost l item = record l { count = l.count + 1; total = l.total + length item }
 
--- an item arrives and doesn't fit
-abbrev pub with_misfit : (room : ℕ) → Ledger → List ℕ → Ledger
-with_misfit room l item =
+-- an item arrives and doesn't fit: with KEEP what is unread stays
+abbrev pub with_misfit : (keeps : Bool) → (room : ℕ) → Ledger → List ℕ → Ledger
+with_misfit keeps room l item =
     record l {
       count = l.count + 1;
       total = l.total + length item;
-      over = Some (record { item = l.count; need = length item; room = room });
-      unread = [];
-      rest = 0;
+      over = Some (record { item = l.count; place = l.total; need = length item; room = room });
+      unread = if keeps then l.unread else [];
+      rest = if keeps then l.rest else 0;
     }
 
 -- an item arrives and is kept
@@ -75,20 +76,20 @@ with_kept by_section l item =
     }
 
 -- an item arrives: behind one that didn't fit it is lost, and else it is kept where it isn't longer than the room
-abbrev pub with_item_by : Option Misfit → (by_section : Bool) → (capacity : ℕ) → Ledger → List ℕ → Ledger
-with_item_by (Some misfit) by_section capacity l item = with_lost l item
-with_item_by None by_section capacity l item =
-    if nat_lt (capacity - length l.unread) (length item) then with_misfit (capacity - length l.unread) l item
-    else with_kept by_section l item
+abbrev pub with_item_by : Option Misfit → Terms → (capacity : ℕ) → Ledger → List ℕ → Ledger
+with_item_by (Some misfit) terms capacity l item = with_lost l item
+with_item_by None terms capacity l item =
+    if nat_lt (capacity - length l.unread) (length item)
+    then with_misfit terms.keeps (capacity - length l.unread) l item
+    else with_kept terms.by_section l item
 
-abbrev pub with_item : (by_section : Bool) → (capacity : ℕ) → Ledger → List ℕ → Ledger
-with_item by_section capacity l item = with_item_by l.over by_section capacity l item
+abbrev pub with_item : Terms → (capacity : ℕ) → Ledger → List ℕ → Ledger
+with_item terms capacity l item = with_item_by l.over terms capacity l item
 
 -- these items arrive, one after another
-abbrev pub with_items : (by_section : Bool) → (capacity : ℕ) → Ledger → List (List ℕ) → Ledger
-with_items by_section capacity l [] = l
-with_items by_section capacity l (item ∷ items) =
-    with_items by_section capacity (with_item by_section capacity l item) items
+abbrev pub with_items : Terms → (capacity : ℕ) → Ledger → List (List ℕ) → Ledger
+with_items terms capacity l [] = l
+with_items terms capacity l (item ∷ items) = with_items terms capacity (with_item terms capacity l item) items
 
 -- an entry of this moment: a filter with a timeout expires where it is due, still runs, and has no item
 abbrev pub is_due : (timeout now : ℕ) → Ledger → Bool
@@ -107,29 +108,18 @@ state_by terms (Some l) =
     else (if terms.is_oneshot && nat_lt 0 l.count then Done
     else Go))
 
--- What a Read answers, once the entry may have expired the filter: no bytes without a capture; else the pending
--- overflow; else the expiry, once; else no bytes for a count of 0; else Again where all is answered; else bytes.
-abbrev pub most_read : (by_section : Bool) → Ledger → (count : ℕ) → ℕ
-most_read by_section l count =
-    if by_section then min (min count (l.total - l.answered)) l.rest else min count (l.total - l.answered)
+-- the pending overflow, if nothing before it is unread
+abbrev pub over_in : Option Ledger → Option Misfit
+over_in None = None
+over_in (Some l) = over_at_edge l
 
-abbrev pub bytes_read : (ended by_section : Bool) → Ledger → (count : ℕ) → Response
-bytes_read ended by_section l zero = Data []
-bytes_read ended by_section l (suc fewer) =
-    if nat_eq l.answered l.total then Again ended else Data (take (most_read by_section l (suc fewer)) l.unread)
-
-abbrev pub timeout_read : (expired : Option ℕ) → (ended : Bool) → Terms → Ledger → (count : ℕ) → Response
-timeout_read None ended terms l count = bytes_read ended terms.by_section l count
-timeout_read (Some moment) ended terms l count =
-    if l.is_told then bytes_read ended terms.by_section l count else TimedOut l.started moment terms.timeout
-
-abbrev pub over_read : Option Misfit → (ended : Bool) → Terms → Ledger → (count : ℕ) → Response
-over_read (Some x) ended terms l count = Overflow l.answered l.total x.item x.need x.room
-over_read None ended terms l count = timeout_read l.expired ended terms l count
+-- what a Read answers, once the entry may have expired the filter
+abbrev pub read_terms_of : (ended : Bool) → Terms → ReadTerms
+read_terms_of ended terms =
+    record { has_ended = ended; by_section = terms.by_section; timeout = terms.timeout }
 
 abbrev pub read_by : (ended : Bool) → Terms → Option Ledger → (count : ℕ) → Response
-read_by ended terms None count = Data []
-read_by ended terms (Some l) count = over_read l.over ended terms l count
+read_by ended terms ledger count = response_of_read (read_terms_of ended terms) ledger (expired_of ledger) count
 
 -- how long the section at the front of these bytes is, by its section_length; 0 where there are no bytes
 abbrev pub front_length : List ℕ → ℕ

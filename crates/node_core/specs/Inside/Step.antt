@@ -11,7 +11,8 @@ use Rattle.dmx_calls.specs.Items.{is_same_input, timeout_of}
 use Rattle.dmx_calls.specs.Facts.{Ledger, Facts, has_had_its_section}
 use Rattle.item_select.specs.Items.{Nothing}
 use Rattle.item_select.specs.Selecting.{Selecting, begun as begun_selecting, begun_again, with_pids, items_found, kept_after}
-use Rattle.node_buffer.specs.Inside.Capturing.{begun, is_section, with_items, expiring, with_response, with_stop}
+use Rattle.dmx_calls.specs.Answer.{is_section}
+use Rattle.node_buffer.specs.Inside.Capturing.{begun, terms_of, with_items, expiring, with_response, with_stop}
 use Rattle.node_core.specs.Offers.{choice_of, names_of, input_of}
 
 -- what a node knows: what its history says to the next call, and what its selector keeps
@@ -32,7 +33,7 @@ is_taking set input l =
 -- the capture after a pass that brings these packets, once it may have expired the filter
 abbrev pub passed : Params → (capacity : ℕ) → Input → List (List ℕ) → Selecting → Ledger → Ledger
 passed set capacity input packets s l =
-    if is_taking set input l then with_items (is_section set) capacity l (items_found s packets) else l
+    if is_taking set input l then with_items (terms_of set) capacity l (items_found s packets) else l
 
 -- the selector after it
 abbrev pub passed_by : Params → Input → List (List ℕ) → Selecting → Option Ledger → Selecting

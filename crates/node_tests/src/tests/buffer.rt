@@ -15,7 +15,8 @@ use std::process::Abort;
 #[derive(Clone, Copy, Drop)]
 enum Filter {
     Empty,
-    Packets,
+    /// Whole packets: the flags.
+    Packets(u32),
     /// Sections: the timeout in milliseconds, the flags.
     Sections(u32, u32),
 }
@@ -54,8 +55,8 @@ fn params_of(filter: Filter) -> Params {
     match filter {
         Filter::Empty => Params::Empty,
         Filter::Sections(timeout, flags) => Params::Section(sections(256, 0, 0, timeout, flags)),
-        Filter::Packets => Params::Pes {
-            params: pes(256, Input::Frontend, Output::TsdemuxTap, 20, 0),
+        Filter::Packets(flags) => Params::Pes {
+            params: pes(256, Input::Frontend, Output::TsdemuxTap, 20, flags),
             pids: Pids::new(),
         },
     }
@@ -127,15 +128,20 @@ fn check<A: Abort>(
 }
 
 #[test]
-fn only_a_section_filter_has_terms(rt: HostRuntime) {
+fn each_filter_has_its_terms(rt: HostRuntime) {
     for (filter, wanted) in [
-        (Filter::Sections(100, 2), (true, true, 100)),
-        (Filter::Sections(0, 5), (true, false, 0)),
-        (Filter::Packets, (false, false, 0)),
-        (Filter::Empty, (false, false, 0)),
+        (Filter::Sections(100, 2), (true, true, 100, false)),
+        (Filter::Sections(0, 5), (true, false, 0, false)),
+        (Filter::Sections(100, 258), (true, true, 100, true)),
+        (Filter::Packets(7), (false, false, 0, false)),
+        (Filter::Packets(256), (false, false, 0, true)),
+        (Filter::Empty, (false, false, 0, false)),
     ] {
         let terms = terms_of(&params_of(filter));
-        assert_eq!(rt; (terms.by_section, terms.is_oneshot, terms.timeout), wanted);
+        assert_eq!(rt;
+            (terms.by_section, terms.is_oneshot, terms.timeout, terms.keeps),
+            wanted
+        );
     }
 }
 

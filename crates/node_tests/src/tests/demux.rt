@@ -83,6 +83,52 @@ fn an_overflow_names_the_first_item_that_did_not_fit(rt: HostRuntime) -> Result<
     check(&rt, rt.alloc(), OVERFLOWS)
 }
 
+// The same buffer, and a filter with KEEP (256).
+const KEPT: &[Row] = &[
+    OPEN,
+    (1, Step::Size(377), Want::Done(0, 0)),
+    (1, Step::Whole(256, 256), Want::Done(0, 0)),
+    START,
+    // nothing was read before the third packet came
+    (0, Step::Feed(&[P0, P1, P2]), Want::Passed),
+    (1, Step::Read(188), Want::Data(&[(P0, 0, 188)])),
+    // it would fit by now
+    (0, Step::Feed(&[P3]), Want::Passed),
+    (1, Step::Read(377), Want::Data(&[(P1, 0, 188)])),
+    (1, Step::Read(188), Want::Overflow(376, 752, 2, 188, 0)),
+    (0, Step::Feed(&[P0]), Want::Passed),
+    (1, Step::Read(188), Want::Data(&[(P0, 0, 188)])),
+    (1, Step::Read(188), Want::Again(false)),
+    // a part was read before, and a stop leaves the rest
+    (1, Step::Start, Want::Done(940, 940)),
+    (0, Step::Feed(&[P0, P1]), Want::Passed),
+    (1, Step::Read(100), Want::Data(&[(P0, 0, 100)])),
+    (0, Step::Feed(&[P2, P3]), Want::Passed),
+    (1, Step::Stop, Want::Done(0, 0)),
+    (1, Step::Read(0), Want::Data(&[])),
+    (
+        1,
+        Step::Read(300),
+        Want::Data(&[(P0, 100, 188), (P1, 0, 188)]),
+    ),
+    (1, Step::Read(0), Want::Overflow(376, 752, 2, 188, 100)),
+    // a start drops what is kept, and the overflow
+    (1, Step::Start, Want::Done(752, 752)),
+    (0, Step::Feed(&[P0, P1, P2]), Want::Passed),
+    (1, Step::Read(188), Want::Data(&[(P0, 0, 188)])),
+    (1, Step::Start, Want::Done(188, 564)),
+    (1, Step::Read(188), Want::Again(false)),
+    // a set call without it takes it away
+    (1, Step::Whole(256, 4), Want::Done(0, 0)),
+    (0, Step::Feed(&[P0, P1, P2]), Want::Passed),
+    (1, Step::Read(188), Want::Overflow(0, 564, 2, 188, 0)),
+];
+
+#[test]
+fn with_keep_the_overflow_comes_behind_what_was_unread(rt: HostRuntime) -> Result<(), NoMemory> {
+    check(&rt, rt.alloc(), KEPT)
+}
+
 const LOST: &[Row] = &[
     OPEN,
     (1, Step::Size(100), Want::Done(0, 0)),

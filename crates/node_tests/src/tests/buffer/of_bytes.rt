@@ -48,7 +48,7 @@ const PIECES: &[Step] = &[
 
 #[test]
 fn bytes_are_read_in_order_by_pieces(rt: HostRuntime) -> Result<(), NoMemory> {
-    check(&rt, rt.alloc(), 10, Filter::Packets, PIECES)
+    check(&rt, rt.alloc(), 10, Filter::Packets(0), PIECES)
 }
 
 // A buffer of 6 bytes holds 5.
@@ -97,7 +97,57 @@ const OVERFLOWS: &[Step] = &[
 fn an_overflow_names_the_span_and_the_first_item_that_did_not_fit(
     rt: HostRuntime,
 ) -> Result<(), NoMemory> {
-    check(&rt, rt.alloc(), 6, Filter::Packets, OVERFLOWS)
+    check(&rt, rt.alloc(), 6, Filter::Packets(0), OVERFLOWS)
+}
+
+// The same buffer with KEEP.
+const KEPT: &[Step] = &[
+    Begin(0),
+    Put(&[1, 2, 3]),
+    Put(&[4, 5]),
+    Put(&[6]),
+    Poll(true, PollError::Quiet, 0),
+    Unread(0, 6),
+    Read(3, Bytes(&[1, 2, 3])),
+    // there is room for it, but no item is kept before the overflow is told
+    Put(&[7]),
+    Poll(true, PollError::Quiet, 3),
+    Read(0, Bytes(&[])),
+    Read(9, Bytes(&[4, 5])),
+    Poll(true, PollError::Overflow, 5),
+    Put(&[8]),
+    Read(0, Overflow(5, 8, 2, 1, 0)),
+    Poll(false, PollError::Quiet, 8),
+    Read(9, AGAIN),
+    Put(&[9]),
+    Read(9, Bytes(&[9])),
+    // nothing is unread before an item that is larger than the whole buffer
+    Put(&[1, 2, 3, 4, 5, 6]),
+    Poll(true, PollError::Overflow, 9),
+    Read(9, Overflow(9, 15, 6, 6, 5)),
+    // a part was read before, and a stop leaves the rest
+    Begin(0),
+    Put(&[1, 2, 3]),
+    Read(2, Bytes(&[1, 2])),
+    Put(&[4, 5, 6, 7]),
+    Put(&[8]),
+    Stop,
+    Read(4, Bytes(&[3, 4, 5, 6])),
+    Read(4, Bytes(&[7])),
+    Read(4, Overflow(7, 8, 2, 1, 0)),
+    Read(4, AGAIN),
+    // what begins anew has neither the bytes nor the overflow
+    Begin(0),
+    Put(&[1]),
+    Put(&[2, 3, 4, 5, 6]),
+    Begin(0),
+    Poll(false, PollError::Quiet, 0),
+    Read(9, AGAIN),
+];
+
+#[test]
+fn with_keep_the_unread_bytes_come_before_the_overflow(rt: HostRuntime) -> Result<(), NoMemory> {
+    check(&rt, rt.alloc(), 6, Filter::Packets(256), KEPT)
 }
 
 const SIZES: &[Step] = &[
@@ -124,7 +174,7 @@ const SIZES: &[Step] = &[
 
 #[test]
 fn another_size_ends_the_capture(rt: HostRuntime) -> Result<(), NoMemory> {
-    check(&rt, rt.alloc(), 2, Filter::Packets, SIZES)
+    check(&rt, rt.alloc(), 2, Filter::Packets(0), SIZES)
 }
 
 const NO_FILTER: &[Step] = &[SET, Begin(0), GO, Put(&[1]), Read(9, Bytes(&[1]))];

@@ -37,6 +37,38 @@ fn a_read_of_sections_gives_one_at_most(rt: HostRuntime) -> Result<(), NoMemory>
     check(&rt, rt.alloc(), 20, Filter::Sections(0, 0), SECTIONS)
 }
 
+// A buffer of 12 bytes holds 11.
+const KEPT: &[Step] = &[
+    Begin(0),
+    Put(&[0x42, 0xf0, 5, 1, 2, 3, 4, 5]),
+    Put(&[0x44, 0x70, 0]),
+    Put(&[0x43, 0, 2, 10, 11]),
+    Read(5, Bytes(&[0x42, 0xf0, 5, 1, 2])),
+    Read(100, Bytes(&[3, 4, 5])),
+    // it would fit by now
+    Put(&[0x46, 0, 0]),
+    Poll(true, PollError::Quiet, 8),
+    Read(100, Bytes(&[0x44, 0x70, 0])),
+    Poll(true, PollError::Overflow, 11),
+    Read(100, Overflow(11, 19, 2, 5, 0)),
+    Read(100, AGAIN),
+    Put(&[0x45, 0, 0]),
+    Put(&[0x44, 0x70, 0]),
+    Read(100, Bytes(&[0x45, 0, 0])),
+    Read(100, Bytes(&[0x44, 0x70, 0])),
+    // nothing was read before
+    Begin(0),
+    Put(&[0x42, 0xf0, 5, 1, 2, 3, 4, 5]),
+    Put(&[0x43, 0, 2, 10, 11]),
+    Read(100, Bytes(&[0x42, 0xf0, 5, 1, 2, 3, 4, 5])),
+    Read(100, Overflow(8, 13, 1, 5, 3)),
+];
+
+#[test]
+fn with_keep_whole_sections_come_before_the_overflow(rt: HostRuntime) -> Result<(), NoMemory> {
+    check(&rt, rt.alloc(), 12, Filter::Sections(0, 256), KEPT)
+}
+
 // A section of 259 bytes, so one whose length needs more than the eight bits of byte 2, between two of 5 bytes.
 #[test]
 fn a_long_section_is_read_by_pieces(rt: HostRuntime) -> Result<(), NoMemory> {

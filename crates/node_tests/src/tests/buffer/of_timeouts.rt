@@ -68,5 +68,5 @@ const NO_TIMEOUT: &[Step] = &[
 #[test]
 fn a_timeout_of_0_never_comes(rt: HostRuntime) -> Result<(), NoMemory> {
     check(&rt, rt.alloc(), 20, Filter::Sections(0, 0), NO_TIMEOUT)?;
-    check(&rt, rt.alloc(), 20, Filter::Packets, NO_TIMEOUT)
+    check(&rt, rt.alloc(), 20, Filter::Packets(0), NO_TIMEOUT)
 }

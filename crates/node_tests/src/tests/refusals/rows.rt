@@ -97,6 +97,10 @@ pub const SETS: &[Row] = &[
     (Sections, packets!(256, Frontend, Tap, 20, 0), NOT_DVR),
     (SEVERAL, packets!(8192, Frontend, TsTap, 0, 7), NOT_DVR),
     (PAYLOADS, packets!(0, Frontend, TsdemuxTap, 1, 4), NOT_DVR),
+    (SEVERAL, sections!(256, 256), NOT_DVR),
+    (Sections, sections!(256, 263), NOT_DVR),
+    (Sections, packets!(256, Frontend, Tap, 20, 256), NOT_DVR),
+    (SEVERAL, packets!(256, Frontend, TsTap, 20, 260), NOT_DVR),
 ];
 
 /// PIDs that are added and removed.
@@ -162,6 +166,10 @@ pub const OUT_OF_RANGE: &[Row] = &[
     (Sections, sections!(8192, 0), REFUSED),
     (Sections, sections!(65_535, 0), REFUSED),
     (Sections, sections!(256, 8), REFUSED),
+    (Sections, sections!(256, 128), REFUSED),
+    (SEVERAL, sections!(256, 264), REFUSED),
+    (Sections, sections!(256, 512), REFUSED),
+    (Sections, sections!(256, 768), REFUSED),
     (SEVERAL, sections!(256, 4_294_967_295), REFUSED),
     (SEVERAL, packets!(8193, Frontend, Tap, 20, 0), REFUSED),
     (SEVERAL, packets!(256, Dvr, Tap, 20, 0), REFUSED),
@@ -170,6 +178,8 @@ pub const OUT_OF_RANGE: &[Row] = &[
     (SEVERAL, packets!(256, Frontend, Tap, 21, 0), REFUSED),
     (SEVERAL, packets!(256, Frontend, Tap, 20, 8), REFUSED),
     (SEVERAL, packets!(256, Frontend, Tap, 20, 16), REFUSED),
+    (SEVERAL, packets!(256, Frontend, Tap, 20, 264), REFUSED),
+    (Sections, packets!(256, Frontend, Tap, 20, 512), REFUSED),
     (SEVERAL, Step::Add(8193), REFUSED),
     (NO_PAYLOADS, Step::Add(65_535), REFUSED),
     (SEVERAL, Step::Remove(8193), REFUSED),
