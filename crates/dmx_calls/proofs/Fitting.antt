@@ -10,7 +10,7 @@ use Rattle.dmx_calls.specs.declared.reply.Tap.{Tap as TapChange}
 use Rattle.dmx_calls.specs.Response.{Response, Done, Busy, Refused, NoMemory, Data, Again, Overflow, TimedOut, Ready, Passed, is_accepted}
 use Rattle.dmx_calls.specs.History.{Event, History, event, entry_of, Since}
 use Rattle.dmx_calls.specs.Rules.{Rules}
-use Rattle.dmx_calls.specs.Ledger.{joined, total, answered, over, edge, answered_in, is_overflow}
+use Rattle.dmx_calls.specs.Ledger.{joined, total, answered, edge, answered_in, is_overflow}
 use Rattle.dmx_calls.specs.Facts.{Ledger, Facts, unread_of, ledger_at, ledger_of, facts}
 use Rattle.dmx_calls.specs.Answer.{ReadTerms, read_terms, is_no_byte, refusal_to, most_bytes, response_of_read, expired_of, open_response, done_dropping, response_to, response_unless, answer, with_call}
 use Rattle.dmx_calls.specs.Legal.{May}

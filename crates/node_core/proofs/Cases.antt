@@ -15,7 +15,6 @@ use Rattle.dmx_calls.specs.History.{Entry, History, entry_of, Since}
 use Rattle.dmx_calls.specs.Tenure.{tenure, size, Params, setting}
 use Rattle.dmx_calls.specs.Capture.{capture}
 use Rattle.dmx_calls.specs.Rules.{demux}
-use Rattle.dmx_calls.specs.Ledger.{over}
 use Rattle.dmx_calls.specs.Facts.{Facts, ledger_of, facts, state_of}
 use Rattle.dmx_calls.specs.Refusal.{is_allocated, is_pes, add_refusal}
 use Rattle.dmx_calls.specs.Answer.{is_owned_by, refusal_to, read_response, response_to, with_call, answer}
