@@ -1,6 +1,6 @@
 """What is known of the filters and captures of a report, for tools/explain."""
 from fields import HEAD, head_of, streams_in
-from walk import ONESHOT
+from walk import KEEP, ONESHOT
 
 
 class Offered:
@@ -29,13 +29,14 @@ class Offered:
 
 
 class Filter:
-    """A filter of a demux node: what its set call asked, the PIDs that it has and ever had, whether it was ever started, and what
-    of the stream it was offered, by PID."""
+    """A filter of a demux node: what its set call asked, with KEEP or without, the PIDs that it has and ever had, whether it was
+    ever started, and what of the stream it was offered, by PID."""
 
     def __init__(self, act, line):
         self.kind, self.pid, self.line = act["name"], act["pid"], line
         self.output, self.timeout = act.get("output", ""), act.get("timeout", 0)
         self.once = self.kind == "section" and bool(act["flags"] & ONESHOT)
+        self.keeps = bool(act["flags"] & KEEP)
         self.pids, self.ever, self.started = {self.pid}, {self.pid}, False
         self.offered = {}
 

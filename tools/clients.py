@@ -6,12 +6,13 @@ from fields import NAMES
 
 class Call:
     """A call of a client: its node, its entry, the names of its act and its reply, a reason that the entry hasn't, the head of the
-    section that it begins to give, and the stream_ids of the PES packets that begin in its bytes."""
+    section that it begins to give, the stream_ids of the PES packets that begin in its bytes, and whether KEEP has kept what was
+    unread before the Overflow that it is answered."""
 
-    __slots__ = ("node", "entry", "act", "reply", "reason", "head", "streams")
+    __slots__ = ("node", "entry", "act", "reply", "reason", "head", "streams", "kept")
 
     def __init__(self, node, entry):
-        self.node, self.entry, self.reason, self.head, self.streams = node, entry, "", None, ()
+        self.node, self.entry, self.reason, self.head, self.streams, self.kept = node, entry, "", None, (), False
         self.act = entry.act.partition(" ")[0]
         self.reply = entry.reply.partition(" ")[0]
 

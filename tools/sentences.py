@@ -318,6 +318,8 @@ def lost_text(line, call, span):
         return head + f"unread when {NAMES.get(call.act, call.act)} dropped them"
     room = f"item {reply['item']} needs {reply['need']:,} and found room for {reply['room']:,}"
     buffer = f"in a buffer of size {call.reason}, which holds {int(call.reason) - 1}"
+    if call.kept:
+        return head + f"all items from {reply['item']} on until an Overflow told it, behind those that KEEP has kept: {room}, {buffer}"
     return head + f"all that was unread at an Overflow: {room}, {buffer}"
 
 

@@ -351,7 +351,7 @@ class Story:
         """An Overflow that a read answered."""
         reply = reply_of(call.entry)
         client.lost.append((line, call, reply["span"]))
-        call.reason = str(node.size)
+        call.reason, call.kept = str(node.size), bool(node.filter and node.filter.keeps)
         if node.capture:
             node.capture.skip_to(reply["span"][1])
         facts = {"item": reply["item"], "need": reply["need"], "size": node.size}

@@ -5,9 +5,9 @@ The rules are those of docs/BEHAVIOUR.md, 'Captures' and 'The dvr node'. Nothing
 from reports import DVR
 
 DEMUX_SIZE, DVR_SIZE = 8192, 1925120
-CRC, ONESHOT, IMMEDIATE = 1, 2, 4
+CRC, ONESHOT, IMMEDIATE, KEEP = 1, 2, 4, 256
 # The flags that a set call takes, by their bits.
-FLAGS = {CRC: "DMX_CHECK_CRC", ONESHOT: "DMX_ONESHOT", IMMEDIATE: "DMX_IMMEDIATE_START"}
+FLAGS = {CRC: "DMX_CHECK_CRC", ONESHOT: "DMX_ONESHOT", IMMEDIATE: "DMX_IMMEDIATE_START", KEEP: "KEEP"}
 
 
 class Walk:
