@@ -10,7 +10,7 @@ from typing import NamedTuple
 
 import reports
 from fields import pid_text
-from walk import Walk
+from walk import KEEP, Walk
 
 PACKET, ALL_PACKETS, MOST_NAMED = 188, 0x2000, 4
 
@@ -73,7 +73,8 @@ class Drop(NamedTuple):
 
 class Capture:
     """A capture: its first place and, where it has ended, the place of the call that ended it; `quiet` is where it takes no
-    further packets, by a stop or a timeout; `labels` has what it takes from which place on, in words and in fewer."""
+    further packets, by a stop or a timeout; `labels` has what it takes from which place on, in words and in fewer; `keeps` says
+    that the filter was set with KEEP."""
 
     def __init__(self, begin, moment, words, kind, label, timeout):
         self.begin, self.end, self.quiet, self.words, self.kind = begin, None, None, words, kind
@@ -82,7 +83,7 @@ class Capture:
         self.due, self.expiry, self.losses = None, None, []
         self.packets, self.told_packets, self.answered = 0, 0, 0
         self.known, self.steps = [Known(begin, 0, 0)], [Step(begin, 0, 0, 0)]
-        self.clear, self.pending = 0, None
+        self.clear, self.pending, self.keeps = 0, None, False
 
     def keep(self, place, least=0, is_over=False):
         """Keeps what is known behind an entry."""
@@ -92,11 +93,11 @@ class Capture:
         """Keeps that just so many bytes have arrived."""
         self.known.append(Known(place, self.packets, arrived))
 
-    def tell(self, place, least=0, is_clear=True):
-        """Keeps what a read or a poll tells; it is clear where no overflow is pending behind it."""
-        self.keep(place, least, not is_clear)
+    def tell(self, place, least=0, is_over=False, is_empty=True):
+        """Keeps what a read or a poll tells: that an overflow is pending, that none is, or neither where with KEEP bytes come first."""
+        self.keep(place, least, is_over)
         self.told_packets = self.packets
-        if is_clear:
+        if not is_over and (is_empty or not self.keeps):
             self.clear = len(self.steps) - 1
 
     def lose(self, place, reply):
@@ -170,11 +171,11 @@ class History(Walk):
             self.expire(entry)
         elif name == "data":
             capture.answered += reply["length"]
-            if capture.kind != "section" and reply["length"] < act["count"]:
+            if capture.kind != "section" and not capture.keeps and reply["length"] < act["count"]:
                 capture.know(entry.place, capture.answered)
         else:
             capture.know(entry.place, capture.answered)
-        capture.tell(entry.place)
+        capture.tell(entry.place, is_empty=name != "data")
 
     def take_poll(self, entry, act, reply):
         """A poll and what it tells."""
@@ -188,9 +189,8 @@ class History(Walk):
             capture.pending = entry.place
         if reply["readable"] == 0:
             capture.know(entry.place, capture.answered)
-        is_clear = reply["error"] != "overflow"
         has_more = reply["readable"] == 1 and reply["error"] == "none"
-        capture.tell(entry.place, capture.answered + has_more, is_clear)
+        capture.tell(entry.place, capture.answered + has_more, reply["error"] == "overflow", not has_more)
 
     def expire(self, entry):
         """The timeout is told here."""
@@ -208,6 +208,7 @@ class History(Walk):
             moment, timeout = reports.moment(entry), self.filter.get("timeout", 0)
         label = ("tapped packets", "tapped") if kind == "dvr" else pids_labels(self.pids)
         self.capture = Capture(entry.place, moment, entry.act, kind, label, timeout)
+        self.capture.keeps = kind != "dvr" and bool(self.filter["flags"] & KEEP)
         self.captures.append(self.capture)
 
     def set_filter(self, entry, act):
@@ -260,15 +261,16 @@ class History(Walk):
 
     def fill_before(self, kept, capture, bounds):
         """The overflow span with the places behind which it may have come and has come: the buffer is as full then as it says, and
-        stays so."""
+        stays so; with KEEP it holds what comes before the span, and reads go on to take from it."""
         clear, told, loss = kept
-        most = (self.sizes[loss.told] or 1) - 1 - loss.room
+        full = (self.sizes[loss.told] or 1) - 1 - loss.room
+        most = [loss.begin - step.answered if capture.keeps else full for step in capture.steps]
         between = range(clear + 1, told)
         last = max(clear + 1, told - 1)
-        sure = next((number for number in between if bounds[number][0] > most or capture.steps[number].is_over), last)
-        first = min(sure, next((number for number in between if bounds[number][1] > most), last))
+        sure = next((number for number in between if bounds[number][0] > most[number] or capture.steps[number].is_over), last)
+        first = min(sure, next((number for number in between if bounds[number][1] > most[number]), last))
         for number in range(first, told):
-            bounds[number] = (most if number >= sure else min(bounds[number][0], most), most)
+            bounds[number] = (most[number] if number >= sure else min(bounds[number][0], most[number]), most[number])
         first, sure = (capture.steps[min(number, told)].place for number in (first, sure))
         return loss._replace(first=first, sure=sure)
 
