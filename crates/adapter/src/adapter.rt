@@ -77,8 +77,10 @@ impl Adapter {
     /// What each of them had seen of a node then begins one legal history of it, whose entries are just their calls.
     pub fn gather(&self, feeder: Feeder, clients: Vec<Client>)
         requires all { AreAllCallers self.now (clients.items ++ feeder ∷ []) }
-        ensures { HaveHistories (clients.items ++ feeder ∷ []) }
+        ensures histories { HaveHistories (clients.items ++ feeder ∷ []) }
+        ensures locks { length self.now ≡ nodes + 1 }
     {
+        let _ = &self.demux;
         let _lengths = self.lengths(feeder, clients);
     }
 

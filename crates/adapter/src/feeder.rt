@@ -1,5 +1,6 @@
 //! The feeder of the adapter: what passes the nodes comes from it.
 ghost use Rattle.std.specs.Prelude.{◌≡◌, ℕ, ◌+◌, ◌*◌, ◌<◌, ◌≤◌, List, length};
+ghost use Rattle.dmx_calls.specs.declared.limits.TheConstants.{DEMUX_NODES};
 ghost use Rattle.adapter.specs.Rows.{Fits};
 ghost use Rattle.adapter.specs.Nodes.{MakesEachEntry, fed, ended};
 ghost use Rattle.adapter.specs.Callers.{IsSameCaller};
@@ -66,11 +67,13 @@ impl Feeder {
         requires own { Fits adapter.now self.old.passes }
         requires left { 1 ≤ self.old.left }
         ensures entries { MakesEachEntry ended result self.old.passes self.new.passes }
+        ensures nodes { length self.new.passes ≡ DEMUX_NODES + 1 }
         ensures cost { steps.new ≤ steps.old }
         ensures left { self.new.left + 1 ≡ self.old.left }
         ensures same { IsSameCaller self.old self.new }
         ensures own { Fits adapter.now self.new.passes }
     {
+        let _ = &adapter.demux;
         let places = self.passes.end(rt, adapter, steps);
         self.left -= 1;
         places

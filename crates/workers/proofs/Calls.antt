@@ -24,7 +24,7 @@ use Rattle.workers.proofs.Members.{at_has, has_at}
 pub has_all : {A : Type 0} (P : A → Type 0) (xs : List A) → All P xs → (x : A) → Has xs x → P x
 has_all P xs all x has = let i = at_has xs x has in subst P (get_or_from_slice_get xs i.0 x x i.1) (all i.0 x (slice_get_within xs i.0 x i.1))
 
-all_has : {A : Type 0} (P : A → Type 0) (xs : List A) → ((x : A) → Has xs x → P x) → All P xs
+pub all_has : {A : Type 0} (P : A → Type 0) (xs : List A) → ((x : A) → Has xs x → P x) → All P xs
 all_has P xs each k d low = each (get_or xs k d) (has_at xs (get_or xs k d) k (slice_get-get_or xs k d low))
 
 pub has_moved : {A : Type 0} (xs ys : List A) → IsPermutation xs ys → (y : A) → Has ys y → Has xs y

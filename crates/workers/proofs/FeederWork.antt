@@ -1,11 +1,15 @@
 -- The turns of the feeder.
-use Rattle.std.proofs.Common.{◌≡◌, ◌≢◌, inl, inr, ⊎_elim, sym, ap, subst, ◌∙◌, ℕ, Bool, ◌+◌, ◌<◌, ◌≤◌, List, [], ◌∷◌, ◌++◌, length, length-append, append-nil, arith, Vec, Global, Result, Ok, Err, OnOk}
-use Rattle.std.specs.Prelude.{IsTrue, IsOk, All}
+use Rattle.std.proofs.Common.{◌≡◌, ◌≢◌, inl, inr, ⊎_elim, refl, sym, ap, subst, ◌∙◌, ℕ, Bool, ◌+◌, ◌<◌, ◌≤◌, List, [], ◌∷◌, ◌++◌, length, length-append, append-nil, arith, Vec, Global, Result, Ok, Err, OnOk}
+use Rattle.std.specs.Prelude.{IsTrue, IsOk, All, slice_index}
 use Rattle.std.proofs.lemmas.List.Elements.{All-push}
 use Rattle.std.proofs.lemmas.Bool.{cases_lt}
 use Rattle.std.specs.declared.option.Option.{Option}
+use lib.ListN.{get_elem?}
+use Rattle.atomic_table.proofs.Lists.{at_last}
 use Rattle.ts_batch.specs.Batch.{Packets}
 use Rattle.dmx_calls.specs.declared.histories.Fed.{Fed}
+use Rattle.dmx_calls.specs.declared.limits.TheConstants.{DEMUX_NODES}
+use Rattle.dmx_calls.specs.History.{Entry}
 use Rattle.feed_pull.specs.declared.fault.Reading.TheVariants.{Going}
 use Rattle.feed_pull.specs.Pulling.{Pulling, Pulls, IsDone}
 use Rattle.feed_pull.specs.Steps.{ReadsNothing}
@@ -13,8 +17,9 @@ use Rattle.feed_pull.specs.Streams.{Draws}
 use Rattle.adapter.specs.Callers.{Caller}
 use Rattle.adapter.specs.Nodes.{MakesEachEntry, fed, ended}
 use Rattle.workers.specs.declared.feeder_worker.FeederWorker.{FeederWorker}
-use Rattle.workers.specs.Feeding.{AreFullBatches, HasFed}
+use Rattle.workers.specs.Feeding.{AreFullBatches, HasEnded, HasFed}
 use Rattle.workers.specs.Inside.FeederWork.{AreFullSoFar, HasPassed, HasPassedAll}
+use Rattle.adapter.proofs.Lists.{at_place}
 use Rattle.feed_pull.proofs.Drawing.{draws_then, none_given}
 use Rattle.workers.proofs.Feeding.{fed_more, fed_end, full_push}
 
@@ -77,3 +82,19 @@ passed_all most may content x before l first f g places h done puller feeding wh
   fed = subst (λ (es : Vec Fed Global). HasFed most may h.packets (ended ∷ []) g.feeder es.items) (sym feeding) (fed_end most may h.packets f.feeder g.feeder f.feeding.items places who h.fed entries);
   full = λ ahead taken given pulls. subst (λ (es : Vec Fed Global). AreFullBatches most es.items) (sym feeding) (h.full ahead taken given pulls).0;
 }
+
+-- its last call on each node is End
+pub has_ended : (c d : Caller) (places : List ℕ) → MakesEachEntry ended places c.passes d.passes → length d.passes ≡ DEMUX_NODES + 1 → HasEnded d
+has_ended c d places entries nodes node low =
+    let p = at_place d.passes node (omega (arith, nodes, low)) in let long = entries.long in
+    let q = at_place c.passes node (omega (arith, nodes, long, low)) in
+    let o = entries.each node q.0 p.0 q.1 p.1 in (
+      p.0,
+      p.1,
+      record {
+        before = q.0.1.own;
+        place = slice_index places node;
+        own = o.told ∙ ap (λ (n : ℕ). q.0.1.own ++ (n, slice_index places node) ∷ []) (sym o.same.1);
+        at = ap (get_elem? p.0.1.seen) o.at ∙ (ap (λ (h : List Entry). get_elem? h (length o.before)) o.now ∙ at_last o.before ended (length o.before) refl);
+      },
+    )

@@ -1,8 +1,7 @@
--- The feeder's entries in a history are those that its pass has made, in their order; and alone they are legal.
-use Rattle.std.proofs.Common.{◌≡◌, ◌≢◌, inl, inr, ⊎_elim, ℕ, zero, suc, eq-eqb, ne_eqb, ◌+◌, ◌<◌, ◌≤◌, List, [], ◌∷◌, ◌++◌, map, filter, reverse, slice_get, Some, refl, ap, sym, ◌∙◌, subst, arith, append_assoc, append-nil}
-use Rattle.std.specs.Prelude.{if◌then◌else◌, take, drop}
+-- The feeder's entries in a history are those that its pass has made, in their order.
+use Rattle.std.proofs.Common.{◌≡◌, ◌≢◌, inl, inr, ⊎_elim, ℕ, zero, suc, eq-eqb, ne_eqb, ◌+◌, ◌<◌, ◌≤◌, List, [], ◌∷◌, ◌++◌, map, filter, slice_get, Some, refl, ap, sym, ◌∙◌, subst, arith}
+use Rattle.std.specs.Prelude.{if◌then◌else◌}
 use Rattle.std.specs.List.{AllByRecursion}
-use Rattle.std.proofs.lemmas.List.{reverse-append}
 use mathlib.Core.Logic.{dite}
 use mathlib.Core.Option.{some, some-injective, some-ne-none}
 use mathlib.Core.List.{IsPrefix}
@@ -11,15 +10,9 @@ use lib.ListN.{get_elem?}
 use Rattle.node_lock.specs.Inside.Lists.{Has}
 use Rattle.node_lock.proofs.Views.{prefix_at}
 use Rattle.dmx_calls.specs.declared.histories.Fed.{Fed}
-use Rattle.dmx_calls.specs.declared.params.Input.TheVariants.{Frontend}
-use Rattle.dmx_calls.specs.Invocation.{Pass}
-use Rattle.dmx_calls.specs.Response.{Passed}
-use Rattle.dmx_calls.specs.History.{Entry, History, entry_of}
-use Rattle.dmx_calls.specs.Rules.{Rules, rules_at}
-use Rattle.dmx_calls.specs.Answer.{answer}
-use Rattle.dmx_calls.specs.Legal.{May, IsLegalFor}
+use Rattle.dmx_calls.specs.History.{Entry}
 use Rattle.dmx_calls.specs.Histories.{feeder_acts}
-use Rattle.adapter.specs.Nodes.{IsLegalAt, ended}
+use Rattle.adapter.specs.Nodes.{ended}
 use Rattle.workers.specs.Feeding.{fed_entry, fed_entries, StandAt}
 use Rattle.workers.proofs.Weaves.{fed_of, by_feeder}
 
@@ -133,31 +126,3 @@ fed_is stream (f ∷ fs) = ap (λ l. fed_entry stream f ∷ l) (fed_is stream fs
 pub fed_zero : (stream : List (List ℕ)) (fs : List Fed) → AllByRecursion (λ (x : Entry). x.who ≡ 0) (fed_of stream (feeder_acts fs))
 fed_zero stream [] = (refl, tt)
 fed_zero stream (f ∷ fs) = (refl, fed_zero stream fs)
-
-pub zeros_pass : (h : List Entry) → AllByRecursion (λ (x : Entry). x.who ≡ 0) h → filter by_feeder h ≡ h
-zeros_pass [] zeros = refl
-zeros_pass (x ∷ h) zeros = ap (λ b. if b then x ∷ filter by_feeder h else filter by_feeder h) (eq-eqb x.who 0 zeros.0) ∙ ap (λ l. x ∷ l) (zeros_pass h zeros.1)
-
--- ------ alone they are legal
-
-abbrev GoesBy : Rules → Entry → Type 0
-GoesBy rules x = (past : History) → May rules past x.who x.invocation x.response
-
-pass_goes_by : (rules : Rules) (first : ℕ) (packets : List (List ℕ)) (now : ℕ) → GoesBy rules (entry_of 0 (Pass Frontend first packets now) Passed)
-unfolding answer
-pass_goes_by rules first packets now past = inl refl
-
-end_goes_by : (rules : Rules) → GoesBy rules ended
-unfolding answer
-end_goes_by rules past = inl refl
-
-all_go_by : (rules : Rules) (stream : List (List ℕ)) (fs : List Fed) → AllByRecursion (GoesBy rules) (fed_of stream (feeder_acts fs))
-all_go_by rules stream [] = (end_goes_by rules, tt)
-all_go_by rules stream (f ∷ fs) = (pass_goes_by rules f.first (take f.count (drop f.first stream)) f.now, all_go_by rules stream fs)
-
-legal_onto : (rules : Rules) (h : List Entry) (past : History) → AllByRecursion (GoesBy rules) h → IsLegalFor rules past → IsLegalFor rules (reverse h ++ past)
-legal_onto rules [] past go legal = legal
-legal_onto rules (x ∷ h) past go legal = subst (IsLegalFor rules) (sym (ap (λ (l : List Entry). l ++ past) (reverse-append (x ∷ []) h) ∙ append_assoc (reverse h) (x ∷ []) past)) (legal_onto rules h (x ∷ past) go.1 (legal, go.0 past))
-
-pub fed_legal : (node : ℕ) (stream : List (List ℕ)) (fs : List Fed) → IsLegalAt node (fed_of stream (feeder_acts fs))
-fed_legal node stream fs = subst (IsLegalFor (rules_at node)) (append-nil (reverse (fed_of stream (feeder_acts fs)))) (legal_onto (rules_at node) (fed_of stream (feeder_acts fs)) [] (all_go_by (rules_at node) stream fs) tt)

@@ -5,6 +5,7 @@ pub mod Feeders
 pub mod Columns
 pub mod Owning
 pub mod Batches
+pub mod Merged
 pub mod Ended
 mod Beginning
 mod Feeding

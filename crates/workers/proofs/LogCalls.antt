@@ -22,13 +22,14 @@ use Rattle.adapter.proofs.Lists.{at_place, at_before, at_last, at_either, place_
 use Rattle.workers.specs.Logged.{Tells, HasCalled, calls_on}
 use Rattle.workers.specs.Budget.{IsRunning}
 use Rattle.workers.proofs.MadeCalls.{Made, made_by, seen_there, LoggedCall, logged_call}
-use Rattle.workers.proofs.Owning.{IsNoPass, no_pass}
+use Rattle.workers.specs.Telling.{PassesNone}
+use Rattle.workers.proofs.Owning.{no_pass}
 use Rattle.workers.proofs.Repeating.{Asked, asked_by}
 use Rattle.workers.proofs.ReadReplies.{IsAnyReadReply, read_there}
 
 -- ------ one call
 
-none_brought : (c : Invocation) → IsNoPass (act_of c) → brought c ≡ []
+none_brought : (c : Invocation) → PassesNone (act_of c) → brought c ≡ []
 none_brought (Pass input first packets now) is = absurd is
 none_brought Open is = refl
 none_brought Close is = refl
@@ -70,7 +71,7 @@ module _ (lines : List Line) (may : ℕ → Bool) (client : ℕ) (c : Caller) (l
   pub brings_none : (i : ℕ) (e : LogEntry) (x : Entry) → slice_get log i ≡ Some e → Tells e x → brought x.invocation ≡ []
   brings_none i e x is tells =
       let a : Asked (next_event client lines (replies (take i log))) e = asked_by (next_event client lines (replies (take i log))) e (called.events i e is) in
-      none_brought x.invocation (subst IsNoPass (sym a.act ∙ tells.act) (no_pass a.event.want a.moment))
+      none_brought x.invocation (subst PassesNone (sym a.act ∙ tells.act) (no_pass a.event.want a.moment))
 
   pub has_number : (i : ℕ) (e : LogEntry) (x : Entry) → slice_get log i ≡ Some e → Tells e x → x.who ≡ client + 1
   has_number i e x is tells = sym tells.who ∙ (called.logged.steps i e is).1 ∙ called.who

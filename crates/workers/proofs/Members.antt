@@ -10,6 +10,7 @@ use Rattle.dmx_calls.specs.Log.{LogEntry}
 use Rattle.dmx_calls.specs.Histories.{pass_act, feeder_acts, feeder_entry, feeder_entries, before_entry, woven_from}
 use Rattle.client_core.specs.IsRun.{Step, feeding, steps_of}
 use Rattle.workers.specs.Feeding.{Tiles, batch_of}
+use Rattle.workers.specs.Telling.{steps_from}
 
 -- ------ each entry
 
@@ -74,10 +75,6 @@ has_at (y ∷ xs) x (suc i) at = inr (has_at xs x i at)
 
 -- ------ the feeder's steps
 
-abbrev steps_from : (step : ℕ) → List Act → List Step
-steps_from step [] = []
-steps_from step (a ∷ acts) = record { step = step; act = a } ∷ steps_from (suc step) acts
-
 abbrev step_of : LogEntry → Step
 step_of e = record { step = e.step; act = e.act }
 
@@ -97,14 +94,12 @@ module _ (node : ℕ) (e : LogEntry) (calls : List LogEntry) (not : e.who ≢ 0)
     by_test true rest = ap (λ (l : List Step). record { step = step; act = a } ∷ l) rest
     by_test false rest = passed_over e (woven_from node calls (suc place) step (a ∷ acts)) (steps_from step (a ∷ acts)) not (later (suc place) step (a ∷ acts))
 
-steps_woven : (node : ℕ) (calls : List LogEntry) → AllByRecursion (λ (e : LogEntry). e.who ≢ 0) calls → (place step : ℕ) (acts : List Act) → steps_of 0 (woven_from node calls place step acts) ≡ steps_from step acts
+-- the feeder's steps on a node are that its batches pass, and then End
+pub steps_woven : (node : ℕ) (calls : List LogEntry) → AllByRecursion (λ (e : LogEntry). e.who ≢ 0) calls → (place step : ℕ) (acts : List Act) → steps_of 0 (woven_from node calls place step acts) ≡ steps_from step acts
 steps_woven node [] others place step acts = steps_fed node place step acts
 steps_woven node (e ∷ calls) others place step acts = steps_before node e calls others.0 (λ p s bs. steps_woven node calls others.1 p s bs) place step acts
 
-steps_tile : (most first end step : ℕ) (fs : List Fed) → Tiles most first end fs → steps_from step (map pass_act fs ++ EndAct ∷ []) ≡ feeding first step (map batch_of fs)
+-- the steps of batches that tile a stream are those of a run
+pub steps_tile : (most first end step : ℕ) (fs : List Fed) → Tiles most first end fs → steps_from step (map pass_act fs ++ EndAct ∷ []) ≡ feeding first step (map batch_of fs)
 steps_tile most first end step [] tiles = refl
 steps_tile most first end step (f ∷ fs) tiles = rw (tiles.0) (ap (λ (l : List Step). record { step = step; act = pass_act (record { first = first; count = f.count; now = f.now }) } ∷ l) (steps_tile most (first + f.count) end (suc step) fs tiles.3))
-
--- the feeder's steps on a node are that its batches pass, and then End
-pub feeder_steps : (node most end : ℕ) (fs : List Fed) (calls : List LogEntry) → AllByRecursion (λ (e : LogEntry). e.who ≢ 0) calls → Tiles most 0 end fs → steps_of 0 (woven_from node calls 0 0 (feeder_acts fs)) ≡ feeding 0 0 (map batch_of fs)
-feeder_steps node most end fs calls others tiles = steps_woven node calls others 0 0 (feeder_acts fs) ∙ steps_tile most 0 end 0 fs tiles

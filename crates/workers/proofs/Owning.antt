@@ -1,5 +1,5 @@
 -- Each entry of a node's history is in a client's log, or is the feeder's; so the logs and the batches tell the history.
-use Rattle.std.proofs.Common.{◌≡◌, ◌≢◌, ◌⊎◌, inl, inr, ⊎_elim, ℕ, suc, Bool, eq-eqb, ne_eqb, ◌+◌, List, [], ◌∷◌, ◌++◌, length, filter, take, slice_get, Option, Some, None, refl, ap, sym, ◌∙◌, subst, arith}
+use Rattle.std.proofs.Common.{◌≡◌, ◌≢◌, ◌⊎◌, inl, inr, ⊎_elim, ℕ, suc, Bool, eq-eqb, ne_eqb, ◌+◌, ◌<◌, List, [], ◌∷◌, ◌++◌, length, filter, slice_get, Option, Some, None, refl, ap, sym, ◌∙◌, subst, arith}
 use Rattle.std.specs.Prelude.{if◌then◌else◌}
 use mathlib.Core.Logic.{dite}
 use mathlib.Core.List.{IsPrefix}
@@ -9,43 +9,36 @@ use Rattle.node_lock.specs.declared.view.View.{View}
 use Rattle.node_lock.specs.Inside.Lists.{Has}
 use Rattle.node_lock.proofs.Views.{prefix_at}
 use Rattle.dmx_calls.specs.declared.histories.Fed.{Fed}
-use Rattle.dmx_calls.specs.declared.outcome.Outcome.{Outcome}
 use Rattle.dmx_calls.specs.Invocation as call
 use Rattle.dmx_calls.specs.Invocation.{Invocation}
 use Rattle.dmx_calls.specs.History.{Entry, entry_of}
 use Rattle.dmx_calls.specs.declared.log.Act.{Act}
-use Rattle.dmx_calls.specs.declared.log.Act.TheVariants.{Pass as PassAct}
 use Rattle.dmx_calls.specs.Log.{LogEntry, IsOfStream, act_of, filled_act, filled_entry}
 use Rattle.dmx_calls.specs.Histories.{feeder_acts}
 use Rattle.dmx_calls.proofs.Telling.{fills}
-use Rattle.client_script.specs.declared.line.Line.{Line}
 use Rattle.client_core.specs.declared.event.Event.{Event}
 use Rattle.client_core.specs.declared.event.Want.{Want}
 use Rattle.client_core.specs.declared.event.Want.TheVariants as want
 use Rattle.client_core.specs.Commands.{call_of}
-use Rattle.client_core.specs.Events.{next_event}
-use Rattle.client_core.specs.IsRun.{IsEvent, replies}
+use Rattle.client_core.specs.IsRun.{IsEvent}
 use Rattle.adapter.specs.Rows.{column}
-use Rattle.adapter.specs.Callers.{Caller, AreAllCallers}
+use Rattle.adapter.specs.Callers.{Caller}
 use Rattle.adapter.specs.Ends.{IsHistory, rows_of}
-use Rattle.adapter.specs.Nodes.{IsLegalAt, ended}
+use Rattle.adapter.specs.Nodes.{ended}
 use Rattle.adapter.proofs.Lists.{at_place, place_below, at_either, at_last, at_before, one_value}
-use Rattle.workers.specs.Logged.{Tells, calls_on, HasCalled}
+use Rattle.workers.specs.Logged.{Tells, calls_on}
 use Rattle.workers.specs.Feeding.{HasMade, fed_entries}
-use Rattle.workers.specs.Worked.{HasWorked, AreWorked}
+use Rattle.workers.specs.Telling.{PassesNone, HasLogged, HaveCalled}
 use Rattle.workers.proofs.Weaves.{AreTold, fed_of, by_feeder}
-use Rattle.workers.proofs.Members.{all_at}
+use Rattle.workers.proofs.Members.{has_at}
+use Rattle.workers.proofs.Calls.{has_all}
 use Rattle.adapter.proofs.Everybody.{in_column, of_column}
 use Rattle.workers.proofs.Columns.{some_calls}
-use Rattle.workers.proofs.Feeders.{Picks, got, got_back, ups_from, picked, stand_picks, has_own, fed_is, fed_zero, zeros_pass, fed_legal}
+use Rattle.workers.proofs.Feeders.{Picks, got, got_back, ups_from, picked, stand_picks, has_own, fed_is, fed_zero}
 
 -- ------ a client passes no batch
 
-abbrev pub IsNoPass : Act → Type 0
-IsNoPass (PassAct input first count now) = ⊥
-IsNoPass _ = Unit {0}
-
-pub no_pass : (w : Want) (now : ℕ) → IsNoPass (act_of (call_of w now))
+pub no_pass : (w : Want) (now : ℕ) → PassesNone (act_of (call_of w now))
 no_pass want.Open now = tt
 no_pass want.Close now = tt
 no_pass (want.Section p) now = tt
@@ -60,7 +53,7 @@ no_pass want.Poll now = tt
 no_pass (want.Attach n ps) now = tt
 no_pass (want.Detach n) now = tt
 
-of_stream : (stream : List (List ℕ)) (c : Invocation) → IsNoPass (act_of c) → IsOfStream stream c
+of_stream : (stream : List (List ℕ)) (c : Invocation) → PassesNone (act_of c) → IsOfStream stream c
 of_stream stream call.Open bare = tt
 of_stream stream call.Close bare = tt
 of_stream stream (call.SetFilter p now) bare = tt
@@ -77,15 +70,15 @@ of_stream stream call.End bare = tt
 of_stream stream (call.Attach n ps) bare = tt
 of_stream stream (call.Detach n) bare = tt
 
-event_passes_none : (o : Option Event) (e : LogEntry) → IsEvent o e → IsNoPass e.act
+pub event_passes_none : (o : Option Event) (e : LogEntry) → IsEvent o e → PassesNone e.act
 event_passes_none None e is = absurd is
-event_passes_none (Some event) e is = subst IsNoPass (sym is.1.1) (no_pass event.want is.1.0)
+event_passes_none (Some event) e is = subst PassesNone (sym is.1.1) (no_pass event.want is.1.0)
 
 -- an entry of a client, filled with the stream, is the one that it tells
-fills_entry : (stream : List (List ℕ)) (e : LogEntry) (x : Entry) → Tells e x → IsNoPass e.act → filled_entry stream e ≡ x
+fills_entry : (stream : List (List ℕ)) (e : LogEntry) (x : Entry) → Tells e x → PassesNone e.act → filled_entry stream e ≡ x
 fills_entry stream e x t bare =
     ap (λ w. entry_of w (filled_act stream e.act) e.response) t.who ∙ ap (λ a. entry_of x.who (filled_act stream a) e.response) t.act
-    ∙ ap (λ c. entry_of x.who c e.response) (fills stream x.invocation (of_stream stream x.invocation (subst IsNoPass t.act bare))) ∙ ap (entry_of x.who x.invocation) t.response
+    ∙ ap (λ c. entry_of x.who c e.response) (fills stream x.invocation (of_stream stream x.invocation (subst PassesNone t.act bare))) ∙ ap (entry_of x.who x.invocation) t.response
 
 -- ------ the entries of logs
 
@@ -112,23 +105,26 @@ pub record IsLoggedAt (books : List (List LogEntry)) (node who place : ℕ) : Ty
   pub by : entry.who ≡ who
   pub there : entry.place ≡ place
 
-module _ (lines : List Line) (most : ℕ) (may : ℕ → Bool) (stream : List (List ℕ)) (feeder : Caller) (feeding : List Fed) (others : List Caller) (books : List (List LogEntry)) (told : List (List Outcome))
-    (w : AreWorked lines most may stream feeder feeding others books told) where
-  -- the client of a log, and what became of it
-  pub client_of : (c : ℕ) (log : List LogEntry) → slice_get books c ≡ Some log → (client : Caller) × (slice_get others c ≡ Some client) × ((became : List Outcome) × (slice_get told c ≡ Some became) × HasWorked lines c may client log became)
+module _ (stream : List (List ℕ)) (feeder : Caller) (feeding : List Fed) (others : List Caller) (books : List (List LogEntry)) (w : HaveCalled stream feeder feeding others books) where
+  -- the client of a log
+  client_of : (c : ℕ) (log : List LogEntry) → slice_get books c ≡ Some log → (client : Caller) × (slice_get others c ≡ Some client) × HasLogged c client log
   client_of c log at =
-      let low = place_below books c log at in let a = w.clients in let b = w.logs in let d = w.outcomes in
-      let client = at_place others c (omega arith) in let became = at_place told c (omega arith) in
-      (client.0, client.1, (became.0, became.1, w.each c client.0 log became.0 client.1 at became.1))
+      let low = place_below books c log at in let n = w.logs in
+      let client = at_place others c (omega arith) in
+      (client.0, client.1, w.each c client.0 log client.1 at)
 
-  pub log_of : (c : ℕ) (client : Caller) → slice_get others c ≡ Some client → (log : List LogEntry) × (slice_get books c ≡ Some log) × HasCalled lines c may client log
+  log_of : (c : ℕ) (client : Caller) → slice_get others c ≡ Some client → (log : List LogEntry) × (slice_get books c ≡ Some log) × HasLogged c client log
   log_of c client at =
-      let low = place_below others c client at in let a = w.clients in let b = w.logs in let d = w.outcomes in
-      let log = at_place books c (omega arith) in let became = at_place told c (omega arith) in
-      (log.0, log.1, (w.each c client log.0 became.0 at log.1 became.1).called)
+      let low = place_below others c client at in let n = w.logs in
+      let log = at_place books c (omega arith) in
+      (log.0, log.1, w.each c client log.0 at log.1)
 
   pub called : (c : ℕ) (log : List LogEntry) (i : ℕ) (e : LogEntry) → slice_get books c ≡ Some log → slice_get log i ≡ Some e → (e.step ≡ i) × (e.who ≡ c + 1)
-  called c log i e at there = let k = client_of c log at in let l = k.2.2.called in let s = l.logged.steps i e there in (s.0, s.1 ∙ l.who)
+  called c log i e at there = let k = client_of c log at in let s = k.2.logged.steps i e there in (s.0, s.1 ∙ k.2.who)
+
+  -- on each node the places of a log rise
+  pub log_rises : (c : ℕ) (log : List LogEntry) → slice_get books c ≡ Some log → (i j : ℕ) (e f : LogEntry) → i < j → slice_get log i ≡ Some e → slice_get log j ≡ Some f → e.node ≡ f.node → e.place < f.place
+  log_rises c log at = (client_of c log at).2.logged.rises
 
   module _ (node : ℕ) (h : List Entry) (is : IsHistory node (column node (rows_of (others ++ feeder ∷ []))) h) where
     begins : (k : ℕ) (c : Caller) (p : TableId × View Entry) → slice_get (others ++ feeder ∷ []) k ≡ Some c → slice_get c.passes node ≡ Some p → IsPrefix p.1.seen h
@@ -137,10 +133,10 @@ module _ (lines : List Line) (most : ℕ) (may : ℕ → Bool) (stream : List (L
     -- the entry of a log stands at its place
     pub logged_there : (c : ℕ) (log : List LogEntry) (i : ℕ) (e : LogEntry) → slice_get books c ≡ Some log → slice_get log i ≡ Some e → e.node ≡ node → slice_get h e.place ≡ Some (filled_entry stream e)
     logged_there c log i e at there on =
-        let k = client_of c log at in let l = k.2.2.called in let t = l.logged.tells i e there in
+        let k = client_of c log at in let t = k.2.logged.tells i e there in
         let begun = begins c k.0 t.0 (at_before others (feeder ∷ []) c k.0 k.1) (subst (λ n. slice_get k.0.passes n ≡ Some t.0) on t.1) in
         got h e.place t.2.0 (prefix_at t.0.1.seen h e.place t.2.0 begun t.2.1)
-        ∙ ap (λ z. Some z) (sym (fills_entry stream e t.2.0 t.2.2 (event_passes_none (next_event c lines (replies (take i log))) e (l.events i e there))))
+        ∙ ap (λ z. Some z) (sym (fills_entry stream e t.2.0 t.2.2 (has_all (λ (e : LogEntry). PassesNone e.act) log k.2.passes e (has_at log e i there))))
 
     -- a call of the feeder's pass
     abbrev IsFeeders : (who place : ℕ) → Type 0
@@ -162,7 +158,7 @@ module _ (lines : List Line) (most : ℕ) (may : ℕ → Bool) (stream : List (L
     -- the feeder's entries are just those that its pass has made
     made_is : (p : TableId × View Entry) → slice_get feeder.passes node ≡ Some p → filter by_feeder h ≡ fed_of stream (feeder_acts feeding)
     made_is p there =
-        let m = w.fed.fed.made node p there in
+        let m = w.fed node p there in
         let begun = begins (length others) feeder p (at_last others feeder) there in
         picked h 0 (fed_of stream (feeder_acts feeding)) m.places (ups_from 0 m.places (λ i q at. omega arith) m.rise)
         (subst (λ l. Picks 0 h l m.places) (fed_is stream feeding) (stand_picks p.1.seen h begun (fed_entries stream feeding ++ ended ∷ []) m.places m.stand))
@@ -176,7 +172,7 @@ module _ (lines : List Line) (most : ℕ) (may : ℕ → Bool) (stream : List (L
               subst (Has m.places) n (has_own m.places who i (subst (λ (z : List (ℕ × ℕ)). Has z (who, i)) m.own has)).1
 
     feeders_zero : (who place : ℕ) → IsFeeders who place → who ≡ 0
-    feeders_zero who place f = let m = w.fed.fed.made node f.0 f.1 in (has_own m.places who place (subst (λ (z : List (ℕ × ℕ)). Has z (who, place)) m.own f.2)).0
+    feeders_zero who place f = let m = w.fed node f.0 f.1 in (has_own m.places who place (subst (λ (z : List (ℕ × ℕ)). Has z (who, place)) m.own f.2)).0
 
     -- the entries of all logs on the node, in any order
     module _ (calls : List LogEntry)
@@ -185,35 +181,11 @@ module _ (lines : List Line) (most : ℕ) (may : ℕ → Bool) (stream : List (L
       not_feeder : (j : ℕ) (e : LogEntry) → slice_get calls j ≡ Some e → e.who ≢ 0
       not_feeder j e at zero_is = let s = of_some j e at in let c = called s.1.0 s.1.1 s.1.2 e s.1.3 s.1.4 in absurd (omega (arith, c.1, zero_is))
 
-      told_here : (p : TableId × View Entry) → slice_get feeder.passes node ≡ Some p → AreTold stream 0 (feeder_acts feeding) calls h
+      -- the batches and the logs tell the history
+      pub told_here : (p : TableId × View Entry) → slice_get feeder.passes node ≡ Some p → AreTold stream 0 (feeder_acts feeding) calls h
       told_here p there = record {
         feeder = made_is p there;
         callers = not_feeder;
         each = λ j e at. let s = of_some j e at in (e.place, omega arith, logged_there s.1.0 s.1.1 s.1.2 e s.1.3 s.1.4 s.0);
         only = λ i x at other. ⊎_elim (λ l. let j = merged l.client l.log l.index l.entry l.book l.at l.on in let t = l.there in (j.0, l.entry, j.1, omega (arith, t))) (λ f. absurd (other (feeders_zero x.who i f))) (owner i x at);
       }
-
-      -- where the feeder has no pass of the node, nobody has called it
-      no_calls : (locks : List TableId) → AreAllCallers locks (others ++ feeder ∷ []) → slice_get feeder.passes node ≡ None → (j : ℕ) (e : LogEntry) → slice_get calls j ≡ Some e → ⊥
-      no_calls locks all none j e at =
-          let s = of_some j e at in let k = client_of s.1.0 s.1.1 s.1.3 in let t = k.2.2.called.logged.tells s.1.2 e s.1.4 in
-          let low = place_below k.0.passes node t.0 (subst (λ n. slice_get k.0.passes n ≡ Some t.0) s.0 t.1) in
-          let a = (all.fits s.1.0 k.0 (at_before others (feeder ∷ []) s.1.0 k.0 k.1)).0 in
-          let b = (all.fits (length others) feeder (at_last others feeder)).0 in
-          let q = at_place feeder.passes node (omega arith) in let no : None ≡ Some q.0 = sym none ∙ q.1 in cc no
-
-      -- then the batches alone are its history
-      told_alone : (locks : List TableId) → AreAllCallers locks (others ++ feeder ∷ []) → slice_get feeder.passes node ≡ None → AreTold stream 0 (feeder_acts feeding) calls (fed_of stream (feeder_acts feeding))
-      told_alone locks all none = record {
-        feeder = zeros_pass (fed_of stream (feeder_acts feeding)) (fed_zero stream feeding);
-        callers = not_feeder;
-        each = λ j e at. absurd (no_calls locks all none j e at);
-        only = λ i x at other. absurd (other (all_at (λ (x : Entry). x.who ≡ 0) (fed_of stream (feeder_acts feeding)) (fed_zero stream feeding) i x at));
-      }
-
-      -- a legal history of the node that the batches and the logs tell
-      pub history_told : (locks : List TableId) → AreAllCallers locks (others ++ feeder ∷ []) → (g : List Entry) × IsLegalAt node g × AreTold stream 0 (feeder_acts feeding) calls g
-      history_told locks all = go (slice_get feeder.passes node) refl where
-        go : (o : Option (TableId × View Entry)) → slice_get feeder.passes node ≡ o → (g : List Entry) × IsLegalAt node g × AreTold stream 0 (feeder_acts feeding) calls g
-        go (Some p) there = (h, is.legal, told_here p there)
-        go None none = (fed_of stream (feeder_acts feeding), fed_legal node stream feeding, told_alone locks all none)

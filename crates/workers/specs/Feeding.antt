@@ -5,6 +5,7 @@ use lib.ListN.{get_elem?}
 use Rattle.atomic_table.specs.Seated.{TableId}
 use Rattle.node_lock.specs.declared.view.View.{View}
 use Rattle.dmx_calls.specs.declared.histories.Fed.{Fed}
+use Rattle.dmx_calls.specs.declared.limits.TheConstants.{DEMUX_NODES}
 use Rattle.dmx_calls.specs.declared.params.Input.TheVariants.{Frontend}
 use Rattle.dmx_calls.specs.Invocation.{Pass}
 use Rattle.dmx_calls.specs.Response.{Passed}
@@ -60,6 +61,18 @@ pub record HasFed (most : ℕ) (may : ℕ → Bool) (packets : List (List ℕ)) 
   pub moments : All (λ fed. IsTrue (may fed.now)) feeding
   pub made : (node : ℕ) (p : TableId × View Entry) → slice_get c.passes node ≡ Some p
       → HasMade (fed_entries packets feeding ++ behind) p
+
+-- the last call of this pass is that the stream has ended
+pub record HasEndedBy (p : TableId × View Entry) : Type 0 where
+  pub before : List (ℕ × ℕ)
+  pub place : ℕ
+  pub own : p.1.own ≡ before ++ (p.1.number, place) ∷ []
+  pub at : get_elem? p.1.seen place ≡ some ended
+
+-- Whatever the feeder has passed, its last call on each of the 33 nodes is End.
+abbrev pub HasEnded : Caller → Type 0
+HasEnded c = (node : ℕ) → node ≤ DEMUX_NODES
+    → (p : TableId × View Entry) × (slice_get c.passes node ≡ Some p) × HasEndedBy p
 
 -- The whole stream has passed, in full batches but for the last, and then its end.
 pub record HasFedAll (most : ℕ) (may : ℕ → Bool) (stream : List (List ℕ)) (c : Caller)

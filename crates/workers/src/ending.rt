@@ -6,6 +6,7 @@ ghost use Rattle.client_script.specs.declared.line.Line.{Line};
 ghost use Rattle.client_core.specs.WholeRun.{IsWholeRun};
 ghost use Rattle.adapter.specs.Callers.{AreAllCallers};
 ghost use Rattle.trace_merge.specs.Merging.{AreOnNodes};
+ghost use Rattle.workers.specs.Telling.{HaveCalled, TellWhatWasCalled};
 ghost use Rattle.workers.specs.Worked.{AreWorked};
 
 use adapter::{Adapter, Client, Feeder};
@@ -15,7 +16,9 @@ use trace_merge::histories;
 
 /// Ends the adapter, and brings the calls of its feeder and of its clients together, in the order of their places.
 ///
-/// These are the histories of a run: of whatever script the logs are the calls, and whatever stream was fed.
+/// These are the histories of the adapter's locks, entry by entry: each call that a client has logged stands in them on its
+/// node, at its place and with its reply, and all others are the feeder's. Where the logs are the calls of a script, whatever
+/// script it is, they are the histories of a run of it.
 ///
 /// # Errors
 ///
@@ -30,10 +33,13 @@ pub fn histories_of_run(
 ) -> Result<Histories, NoMemory>
     requires all { AreAllCallers adapter (clients.items ++ feeder ∷ []) }
     requires nodes { All (λ log. AreOnNodes log.items) logs.items }
-    ensures { IfOk result (λ hs. (lines : List Line) (most : ℕ) (may : ℕ → Bool) (stream : List (List ℕ)) (told : List (List Outcome))
+    // They tell what was called, and nothing else; it needs no script.
+    ensures tells { IfOk result (λ hs. (stream : List (List ℕ)) → HaveCalled stream feeder feeding.items clients.items (map (λ log. map told_entry log.items) logs.items)
+        → TellWhatWasCalled stream feeder feeding.items clients.items (map (λ log. map told_entry log.items) logs.items) hs) }
+    ensures run { IfOk result (λ hs. (lines : List Line) (most : ℕ) (may : ℕ → Bool) (stream : List (List ℕ)) (told : List (List Outcome))
         → AreWorked lines most may stream feeder feeding.items clients.items (map (λ log. map told_entry log.items) logs.items) told
         → IsWholeRun lines most may stream told hs) }
 {
-    let _ = adapter.finish(feeder, clients);
+    adapter.gather(feeder, clients);
     histories(alloc, feeding, logs)
 }

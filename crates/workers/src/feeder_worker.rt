@@ -131,7 +131,8 @@ impl FeederWorker {
         self.stop = self.stop_of(passed);
     }
 
-    /// Passes the stream in batches of so many packets, the last one with what is left, and then its end.
+    /// Passes the stream in batches of so many packets, the last one with what is left, and then its end. Where memory is
+    /// refused the end passes all the same: whatever stops the feeder, its last call on each node is End.
     pub fn work<S: Source, R: Wait, C: Clock, G: Gate>(
         &mut self,
         rt: &R,

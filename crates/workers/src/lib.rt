@@ -13,12 +13,17 @@
 //! What is proved, whatever the order in which the threads act: `work` leaves all that `AreWorked` says, over the stream that
 //! stood ahead in the puller and the bytes that were taken, in full batches but for the last, each moment one that the clock may
 //! give; the head is that of the stream. The source failed just where its count rose, and else it has nothing left; however the
-//! run ends, at most one read has failed. `TooLong`
-//! comes only where so many reads were made, or where the commands and the bytes allow a client so many calls: at each moment of
-//! a run no client makes more calls than that (`calls_are_within_budget`), since each repeated read is paid for by another
-//! caller's entry or by a byte. Where the run stops early, what was taken of the source is told as the puller's pulls tell it.
-//! `histories_of_run` gives the 33 histories of a run of the script (`IsWholeRun` of `client_core`): they are the locks' own
-//! histories, entry by entry.
+//! run ends, at most one read has failed. `TooLong` comes only where so many reads were made, or where the commands and the bytes
+//! allow a client so many calls: at each moment of a run no client makes more calls than that (`calls_are_within_budget`), since
+//! each repeated read is paid for by another caller's entry or by a byte. Where the run stops early, what was taken of the source is told as the puller's pulls tell it.
+//! Whatever stops the feeder, want of memory too, its last call on each of the 33 nodes is End (`HasEnded`): that is a clause of
+//! the feeder's worker, since the feeder is gone where `work` answers an error.
+//!
+//! `histories_of_run` gives the histories of the adapter's locks, whatever was called (`TellWhatWasCalled`): each call that a
+//! client has logged stands in them on its node, at its place and with the reply that it was told; each other entry is the
+//! feeder's, its batches in their order and then End; and each list, entry by entry, is the only history that its lock can have
+//! had, by what all passes know. What `work` leaves was called so (`workers_have_called`), and then they are the histories of a
+//! run of the script (`IsWholeRun` of `client_core`).
 //!
 //! What is only tested, in `run_tests`: that the threads run beside each other, that each moment is a reading of its own, that
 //! the gate is told of each step, and that memory isn't refused where there is enough.
@@ -41,6 +46,8 @@ mod threads;
 mod worked;
 
 pub use ending::histories_of_run;
-pub use laws::{calls_are_within_budget, few_bytes_are_few_calls, many_calls_are_too_long};
+pub use laws::{
+    calls_are_within_budget, few_bytes_are_few_calls, many_calls_are_too_long, workers_have_called,
+};
 pub use run::work;
 pub use worked::Worked;

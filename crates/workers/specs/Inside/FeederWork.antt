@@ -10,7 +10,7 @@ use Rattle.adapter.specs.Callers.{IsSameCaller}
 use Rattle.adapter.specs.Rows.{Fits}
 use Rattle.adapter.specs.Nodes.{ended}
 use Rattle.workers.specs.declared.feeder_worker.FeederWorker.{FeederWorker}
-use Rattle.workers.specs.Feeding.{AreFullBatches, HasFed}
+use Rattle.workers.specs.Feeding.{AreFullBatches, HasEnded, HasFed}
 
 -- It has a pass of each of these locks, and made one call for each of its batches, of which
 -- there are no more than packets were given.
@@ -52,12 +52,13 @@ pub record HasPassedAll (most : ℕ) (may : ℕ → Bool) (content left : Option
   pub full : (ahead taken : List ℕ) (given : List (List ℕ)) → Pulls ahead taken given first
       → AreFullBatches most f.feeding.items
 
--- The feeder has worked to its end. Where memory wasn't refused the whole stream and its end have passed; it answers
--- TooLong only where so many reads were made.
+-- The feeder has worked to its end: whatever stopped it, its last call on each node is End. Where memory wasn't refused
+-- the whole stream has passed before; it answers TooLong only where so many reads were made.
 pub record HasFedToEnd (most : ℕ) (may : ℕ → Bool) (content left : Option (List ℕ)) (before after : ℕ)
     (old new : FeederWorker) : Type 0 where
   pub same : IsSameCaller old.feeder new.feeder
   pub draws : (packets : List (List ℕ)) × Draws content left before after old.puller new.puller packets
+  pub ended : HasEnded new.feeder
   pub all : new.stop ≢ Some NoMemory → HasPassedAll most may content left before after old.puller new
   pub few : new.stop ≡ None → new.puller.reading ≢ TooMany
   pub too_long : (turns : ℕ) → new.stop ≡ Some (TooLong turns)

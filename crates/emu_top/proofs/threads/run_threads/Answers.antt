@@ -16,6 +16,6 @@ returns-in-Ok-histories_of_run-clause-makes g c =
     IfOk-weaker c.reported.result _ _
     (λ output told content first con h. threads_made c.args.batch _ c.args.session.script worked.head worked.feeder worked.feeding.items worked.clients.items _ _
     content _ _ _ _ first c.args.session.puller c.in-Ok-histories_of_run.histories output.read_fault _ output.text.items
-    con h left.worked (λ stream w. c.in-Ok-histories_of_run.ensures c.args.session.script c.args.batch _ stream _ w) left.rose left.later left.end
+    con h left.worked (λ stream w. c.in-Ok-histories_of_run.ensures.run c.args.session.script c.args.batch _ stream _ w) left.rose left.later left.end
     told.0 (ap (map (λ those. those.items)) c.deref.ensures.value) told.1)
     c.reported.ensures.told

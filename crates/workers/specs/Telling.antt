@@ -1,0 +1,87 @@
+-- What the merged histories tell: just what the feeder and the clients have called, entry by entry as the locks have it.
+use Rattle.std.specs.Prelude.{◌≡◌, ◌⊎◌, ◌≤◌, ◌+◌, ℕ, suc, Bool, List, [], ◌∷◌, ◌++◌, length, map, slice_get, Some, All}
+use Rattle.atomic_table.specs.Seated.{TableId}
+use Rattle.node_lock.specs.declared.view.View.{View}
+use Rattle.dmx_calls.specs.declared.histories.Fed.{Fed}
+use Rattle.dmx_calls.specs.declared.limits.TheConstants.{DEMUX_NODES}
+use Rattle.dmx_calls.specs.declared.log.Act.{Act}
+use Rattle.dmx_calls.specs.declared.log.Act.TheVariants.{Pass as PassAct}
+use Rattle.dmx_calls.specs.declared.outcome.Outcome.{Outcome}
+use Rattle.dmx_calls.specs.Histories.{feeder_acts, feeder_entry}
+use Rattle.dmx_calls.specs.History.{Entry}
+use Rattle.dmx_calls.specs.Log.{LogEntry, filled_entry}
+use Rattle.client_core.specs.IsRun.{Step, StandsIn, steps_of}
+use Rattle.client_script.specs.declared.line.Line.{Line}
+use Rattle.adapter.specs.Rows.{column}
+use Rattle.adapter.specs.Callers.{Caller}
+use Rattle.adapter.specs.Ends.{IsHistory, rows_of}
+use Rattle.adapter.specs.Nodes.{ended}
+use Rattle.workers.specs.Logged.{IsLogged}
+use Rattle.workers.specs.Feeding.{HasMade, fed_entries}
+use Rattle.workers.specs.Worked.{AreWorked}
+
+-- ------ what was called
+
+-- no packets pass by this call
+abbrev pub PassesNone : Act → Type 0
+PassesNone (PassAct input first count now) = ⊥
+PassesNone _ = Unit {0}
+
+-- A client has made just the calls of this log, each at the place and with the reply that it was told (IsLogged); by
+-- none of them packets pass.
+pub record HasLogged (client : ℕ) (c : Caller) (log : List LogEntry) : Type 0 where
+  pub who : c.who ≡ client + 1
+  pub logged : IsLogged c log
+  pub passes : All (λ e. PassesNone e.act) log
+
+-- The feeder has passed these batches of the stream through its nodes, and then the end, and has made no other call; and
+-- each client has made just the calls of its log.
+pub record HaveCalled (stream : List (List ℕ)) (feeder : Caller) (feeding : List Fed) (clients : List Caller)
+    (books : List (List LogEntry)) : Type 0 where
+  pub fed : (node : ℕ) (p : TableId × View Entry) → slice_get feeder.passes node ≡ Some p
+      → HasMade (fed_entries stream feeding ++ ended ∷ []) p
+  pub logs : length books ≡ length clients
+  pub each : (c : ℕ) (client : Caller) (log : List LogEntry) → slice_get clients c ≡ Some client
+      → slice_get books c ≡ Some log → HasLogged c client log
+
+-- What the threads of a run of a script leave was called so.
+abbrev pub WorkersHaveCalled : Type 0
+WorkersHaveCalled =
+    (lines : List Line) (most : ℕ) (may : ℕ → Bool) (stream : List (List ℕ)) (feeder : Caller) (feeding : List Fed)
+    (clients : List Caller) (books : List (List LogEntry)) (told : List (List Outcome))
+    → AreWorked lines most may stream feeder feeding clients books told
+    → HaveCalled stream feeder feeding clients books
+
+-- ------ what is told
+
+-- the entry is one of a client's log
+abbrev pub IsLoggedIn : List (List LogEntry) → LogEntry → Type 0
+IsLoggedIn books e =
+    (c : ℕ) × (log : List LogEntry) × (i : ℕ) × (slice_get books c ≡ Some log) × (slice_get log i ≡ Some e)
+
+-- these calls with the numbers that they have among their caller's, from this one on
+abbrev pub steps_from : (step : ℕ) → List Act → List Step
+steps_from step [] = []
+steps_from step (a ∷ acts) = record { step = step; act = a } ∷ steps_from (suc step) acts
+
+-- the history of a node's lock, of which these are all passes: there is no other
+abbrev pub IsTheHistory : (node : ℕ) → (passes : List (TableId × View Entry)) → List Entry → Type 0
+IsTheHistory node passes h =
+    IsHistory node passes h × ((other : List Entry) → IsHistory node passes other → other ≡ h)
+
+-- The histories tell what these callers have called, and nothing else.
+pub record TellWhatWasCalled (stream : List (List ℕ)) (feeder : Caller) (feeding : List Fed) (clients : List Caller)
+    (books : List (List LogEntry)) (hs : List (List LogEntry)) : Type 0 where
+  -- there is a list for each of the 33 nodes
+  pub nodes : length hs ≡ DEMUX_NODES + 1
+  -- each call that a client has logged stands in them as it was logged: on its node, at its place, with its reply
+  pub logged : (e : LogEntry) → IsLoggedIn books e → StandsIn hs e
+  -- any other entry is one of the feeder's, of this node and this place, and is answered Passed
+  pub others : (node place : ℕ) (h : List LogEntry) (e : LogEntry) → slice_get hs node ≡ Some h
+      → slice_get h place ≡ Some e → IsLoggedIn books e ⊎ (e ≡ feeder_entry node place e.step e.act)
+  -- the feeder's calls on each node are that its batches pass, one after another, and then End
+  pub fed : (node : ℕ) (h : List LogEntry) → slice_get hs node ≡ Some h
+      → steps_of 0 h ≡ steps_from 0 (feeder_acts feeding)
+  -- the list of each node, with the packets of the stream, is the history of its lock, entry by entry
+  pub locks : (node : ℕ) (h : List LogEntry) → slice_get hs node ≡ Some h
+      → IsTheHistory node (column node (rows_of (clients ++ feeder ∷ []))) (map (filled_entry stream) h)
