@@ -1,4 +1,4 @@
--- What the merged histories tell: just what the feeder and the clients have called, entry by entry as the locks have it.
+-- What the merged histories tell: just what the feeder and the clients have called, as the locks have it.
 use Rattle.std.specs.Prelude.{◌≡◌, ◌⊎◌, ◌≤◌, ◌+◌, ℕ, suc, Bool, List, [], ◌∷◌, ◌++◌, length, map, slice_get, Some, All}
 use Rattle.atomic_table.specs.Seated.{TableId}
 use Rattle.node_lock.specs.declared.view.View.{View}
@@ -34,8 +34,8 @@ pub record HasLogged (client : ℕ) (c : Caller) (log : List LogEntry) : Type 0 
   pub logged : IsLogged c log
   pub passes : All (λ e. PassesNone e.act) log
 
--- The feeder has passed these batches of the stream through its nodes, and then the end, and has made no other call; and
--- each client has made just the calls of its log.
+-- The feeder has passed these batches of the stream through its nodes, and then the end, and has made no other call;
+-- and each client has made just the calls of its log.
 pub record HaveCalled (stream : List (List ℕ)) (feeder : Caller) (feeding : List Fed) (clients : List Caller)
     (books : List (List LogEntry)) : Type 0 where
   pub fed : (node : ℕ) (p : TableId × View Entry) → slice_get feeder.passes node ≡ Some p

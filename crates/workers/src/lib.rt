@@ -15,9 +15,9 @@
 //! give; the head is that of the stream. The source failed just where its count rose, and else it has nothing left; however the
 //! run ends, at most one read has failed. `TooLong` comes only where so many reads were made, or where the commands and the bytes
 //! allow a client so many calls: at each moment of a run no client makes more calls than that (`calls_are_within_budget`), since
-//! each repeated read is paid for by another caller's entry or by a byte. Where the run stops early, what was taken of the source is told as the puller's pulls tell it.
-//! Whatever stops the feeder, want of memory too, its last call on each of the 33 nodes is End (`HasEnded`): that is a clause of
-//! the feeder's worker, since the feeder is gone where `work` answers an error.
+//! each repeated read is paid for by another caller's entry or by a byte. Where the run stops early, what was taken of the source
+//! is told as the puller's pulls tell it. Whatever stops the feeder, want of memory too, its last call on each of the 33 nodes is
+//! End (`HasEnded`): that is a clause of the feeder's worker, since the feeder is gone where `work` answers an error.
 //!
 //! `histories_of_run` gives the histories of the adapter's locks, whatever was called (`TellWhatWasCalled`): each call that a
 //! client has logged stands in them on its node, at its place and with the reply that it was told; each other entry is the
