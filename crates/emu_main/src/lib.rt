@@ -1,7 +1,9 @@
 //! What a program of this project does: what the words of its command line say, over standard input and output.
 //!
 //! `emu_main` hands the real words, source, sink and clock to `emu_top`'s `emulate`, tells on standard error how it ended, and
-//! answers the exit status. It is a crate of its own so that the gate runs it by several programs, each with one list of words
+//! answers the exit status. Behind the line of a script's fault a second one says what stands there and what was expected
+//! (`fault_hints`), by the script's bytes, which are kept as they are read; where memory for them is refused it is left out, and
+//! nothing else changes. It is a crate of its own so that the gate runs it by several programs, each with one list of words
 //! and one input: `dvbemu`, and `dvbemu_faults` and `dvbemu_words`, which end with a status other than 0.
 //!
 //! What a contract sees: nothing. Words, standard input and output and the exit status are the operating system's.
@@ -12,8 +14,10 @@
 //! doesn't compare standard error in those runs; `faults/check` does.
 #![tactic(auto)]
 
+use client_script::ScriptFault;
 use emu_io::{NoGate, StdClock, StdSink, StdSource};
 use emu_top::{Status, emulate};
+use fault_hints::{Keeping, hint};
 use std::env;
 use std::io::ErrorKind;
 use std::process::ExitCode;
@@ -28,19 +32,34 @@ const USAGE: &str = "  dvbemu steps [--batch B] < SESSION > REPORT
   B is the greatest number of packets of a batch, 1 to 64; without it, 64
   N is the number of a session, 0 to 18446744073709551615";
 
-// Tells on standard error how it ended. Where that is closed there is nobody to tell; the exit status still tells it.
-fn tell(rt: &HostRuntime, status: Status) {
-    let name = status.name();
-    let _ = match status {
-        Status::Ok => Ok(()),
-        Status::Script { line, kind } => {
-            let kind = kind.name();
-            eprintln!(rt; "dvbemu: {name} line {line}: {kind}")
-        }
-        _ => eprintln!(rt; "dvbemu: {name}"),
+// Tells what stands at a script's fault and what was expected, where the script was kept and there is memory to say it.
+fn explain(rt: &HostRuntime, script: Option<&[u8]>, fault: ScriptFault) {
+    let Some(script) = script else {
+        return;
     };
-    if status == Status::Usage {
-        let _ = rt.eprintln(USAGE);
+    if let Ok(Some(text)) = hint(rt.alloc(), script, fault) {
+        let _ = rt.eprintln(text.as_str());
+    }
+}
+
+// Tells on standard error how it ended, with the bytes that were kept of the script. Where that is closed there is nobody to
+// tell; the exit status still tells it.
+fn tell(rt: &HostRuntime, status: Status, script: Option<&[u8]>) {
+    let name = status.name();
+    match status {
+        Status::Ok => {}
+        Status::Script { line, kind } => {
+            let kind_name = kind.name();
+            let _ = eprintln!(rt; "dvbemu: {name} line {line}: {kind_name}");
+            explain(rt, script, ScriptFault { line, kind });
+        }
+        Status::Usage => {
+            let _ = eprintln!(rt; "dvbemu: {name}");
+            let _ = rt.eprintln(USAGE);
+        }
+        _ => {
+            let _ = eprintln!(rt; "dvbemu: {name}");
+        }
     }
 }
 
@@ -56,16 +75,19 @@ fn words(rt: &HostRuntime) -> Result<Vec<String>, Status> {
     }
 }
 
-// Does what the words say over the real source, sink and clock, with threads where they ask for them.
+// Does what the words say over the real source, sink and clock, with threads where they ask for them, and tells how it ended.
 fn run<R: Threads + Wait + Sync>(rt: &HostRuntime, threads: &R) -> Status {
     let words = match words(rt) {
         Ok(words) => words,
-        Err(status) => return status,
+        Err(status) => {
+            tell(rt, status, None);
+            return status;
+        }
     };
-    let mut source = StdSource::new(rt);
+    let mut source = Keeping::new(rt.alloc(), StdSource::new(rt));
     let mut sink = StdSink::new(rt);
     let clock = StdClock::new(rt);
-    emulate(
+    let status = emulate(
         threads,
         rt.alloc(),
         &words,
@@ -73,13 +95,14 @@ fn run<R: Threads + Wait + Sync>(rt: &HostRuntime, threads: &R) -> Status {
         &mut sink,
         &clock,
         &NoGate::new(),
-    )
+    );
+    tell(rt, status, source.kept());
+    status
 }
 
 /// Does what the words say, on threads where they ask for them, and tells on standard error how it ended. Answers the
 /// number of the status. A program gives its runtime twice, since `main` alone may pass it on as one that has threads.
 pub fn emu_main<R: Threads + Wait + Sync>(rt: &HostRuntime, threads: &R) -> ExitCode {
     let status = run(rt, threads);
-    tell(rt, status);
     ExitCode::from(status.number())
 }

@@ -1,4 +1,5 @@
 // Lines and what they ask for, scripts and what they give, and faults, worked out by hand from the rules.
+mod hints;
 mod rows;
 
 use client_script::{
