@@ -11,7 +11,11 @@
 //! What is proved: that it is safe. What it does in between is `emu_top`'s, whose calls are proved for every source and sink.
 //!
 //! What is only tested, by the runs of those programs: the words, standard input and output, and the exit status. The gate
-//! doesn't compare standard error in those runs; `faults/check` does.
+//! doesn't compare standard error in those runs; `faults/check` does. It also has reads and writes that move fewer bytes than
+//! they are offered, ends that fail, and a timeout by the machine's clock.
+//!
+//! What is tried by nothing: the exit status 4 and the line `too long`. They would take 4,294,967,296 reads of a byte each. That
+//! `Status` has this number and this name is a clause of `emu_top`, and tested; that they are passed on is neither.
 #![tactic(auto)]
 
 use client_script::ScriptFault;
