@@ -24,7 +24,7 @@ class Lane:
         self.has_chart = any(level != 0 for level in self.history.high) or bool(self.history.losses())
         self.chart_y = y + 32
         self.rows_y = self.chart_y + (CHART + 6 if self.has_chart else -6)
-        self.band_y = self.rows_y + ROW * len(self.rows)
+        self.band_y = self.rows_y + sum(row.height for row in self.rows)
         self.bottom = self.band_y + (ROW if self.history.captures else 0) + 10
         self.top = self.top_of_scale()
 
@@ -53,8 +53,10 @@ class Lane:
         if self.has_chart:
             found += self.axis_of_bytes() + self.area() + self.unknown() + self.losses() + self.size_line()
         found += self.expiries()
-        for number, row in enumerate(self.rows):
-            found += row.draw(self.axis, self.rows_y + ROW * number)
+        y = self.rows_y
+        for row in self.rows:
+            found += row.draw(self.axis, y)
+            y += row.height
         self.used |= {row.key for row in self.rows}
         return found + self.bands()
 
