@@ -254,8 +254,8 @@ BOXES = {
 }
 NOTES = {
     "size line": "Black line: the buffer's size; where it is dotted, the size is above the scale.",
-    "perhaps": "A report doesn't tell how many bytes a batch brings, only, later, how many had come: where several batches may have "
-    "brought them, they are drawn in full from the last of these on and pale from the first.",
+    "perhaps": "A report doesn't tell how many bytes a batch brings, only, later, how many had come: where several batches may "
+    "have brought them, they are drawn in full from the last of these on and pale from the first.",
     "count": "A number in a mark: so many here. Where several entries share a point of the area, it is full up to their least and "
     "pale up to their most.",
 }

@@ -52,7 +52,8 @@ class Strip:
         for cell, group in axis.gather(list(enumerate(self.passes)), lambda thing: axis.batches[thing[0]]):
             x, wide = axis.cell_middle(cell), axis.cell_width() - 1.5
             packets = sum(reports.act_of(entry)["count"] for _, entry in group if entry.act != "end")
-            words = f"batches {group[0][0]} to {group[-1][0]}: {counted(packets, 'packet')}" + (", then End" if has_end(group) else "")
+            end = ", then End" if has_end(group) else ""
+            words = f"batches {group[0][0]} to {group[-1][0]}: {counted(packets, 'packet')}{end}"
             found.append(rect(x - wide / 2, y + 4, wide, 16, f'fill="{SKY}" fill-opacity="0.5"', words))
             said = short_number(packets) if packets else "end"
             found.append(text(x, y + 15, said, 8 if wide > 24 else 7, MIDDLE))
@@ -62,7 +63,8 @@ class Strip:
     def draw_moments(self):
         """A tick where the moment rises, with the time since the first where there is room."""
         y, first, drawn = self.passes_y + 34, reports.first_moment(self.report), -10
-        found, labels = [side(y + 13, "ms since first" if first else "moment, ms")], Labels(y + 13, LEFT - 4, self.axis.right + RIGHT)
+        found = [side(y + 13, "ms since first" if first else "moment, ms")]
+        labels = Labels(y + 13, LEFT - 4, self.axis.right + RIGHT)
         for column, moment in moments_of(self.report, self.axis):
             x = self.axis.middle(column)
             if x - drawn >= 4:
