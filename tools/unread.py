@@ -260,7 +260,7 @@ class History(Walk):
 
     def fill_before(self, kept, capture, bounds):
         """The overflow span with the places behind which it may have come and has come: the buffer is as full then as it says, and
-        stays so."""
+        from then on only what is read leaves it."""
         clear, told, loss = kept
         most = (self.sizes[loss.told] or 1) - 1 - loss.room
         between = range(clear + 1, told)
@@ -268,7 +268,8 @@ class History(Walk):
         sure = next((number for number in between if bounds[number][0] > most or capture.steps[number].is_over), last)
         first = min(sure, next((number for number in between if bounds[number][1] > most), last))
         for number in range(first, told):
-            bounds[number] = (most if number >= sure else min(bounds[number][0], most), most)
+            left = most - (capture.steps[number].answered - capture.steps[min(first, told - 1)].answered)
+            bounds[number] = (left if number >= sure else min(bounds[number][0], left), left)
         first, sure = (capture.steps[min(number, told)].place for number in (first, sure))
         return loss._replace(first=first, sure=sure)
 
