@@ -52,8 +52,7 @@ class Strip:
         for cell, group in axis.gather(list(enumerate(self.passes)), lambda thing: axis.batches[thing[0]]):
             x, wide = axis.cell_middle(cell), axis.cell_width() - 1.5
             packets = sum(reports.act_of(entry)["count"] for _, entry in group if entry.act != "end")
-            end = ", then End" if has_end(group) else ""
-            words = f"batches {group[0][0]} to {group[-1][0]}: {counted(packets, 'packet')}{end}"
+            words = words_of(group, lambda thing: f"feed {thing[1].step} {thing[1].act}")
             found.append(rect(x - wide / 2, y + 4, wide, 16, f'fill="{SKY}" fill-opacity="0.5"', words))
             said = short_number(packets) if packets else "end"
             found.append(text(x, y + 15, said, 8 if wide > 24 else 7, MIDDLE))
@@ -151,12 +150,12 @@ class Strip:
 
     def command_words(self, client, command):
         """A command with its first and its last call."""
-        words = f"line {command.line}, calls {command.first}..{command.after}, {command.kind}"
+        words = f"line {command.line}, steps {command.first}..{command.after}, {command.kind}"
         steps = sorted({command.first, command.after - 1}) if command.after > command.first else []
         for step in steps:
             if (client, step) in self.calls:
                 node, entry = self.calls[client, step]
-                words += f"; call {step} on {reports.node_name(node)}: {entry.act} = {reply_words(entry.reply)}"
+                words += f"; step {step} on {reports.node_name(node)}: {entry.act} = {reply_words(entry.reply)}"
         return words
 
     def look_of(self, commands):
@@ -165,11 +164,6 @@ class Strip:
         kind = next((kind for kind in ("EMFILE", "unbound") if kind in kinds), "done")
         self.used.add(kind)
         return BOXES[kind][0]
-
-
-def has_end(group):
-    """Whether End is among these passes."""
-    return any(entry.act == "end" for _, entry in group)
 
 
 def calls_by_step(report):
