@@ -1,8 +1,8 @@
 """The axis that all lanes of tools/picture share: a column for each batch of the feeder, and between two batches columns for the
 calls, in the order of each node and of each client.
 
-A call stands behind the batches that had passed its node. So in a report of `run`, where a batch passes one node after another, two
-calls on two nodes can stand on two sides of a batch though they came the other way round; those on one node never do.
+A call stands behind the batches that had passed its node. So in a report of `run`, where a batch passes one node after another,
+two calls on two nodes can stand on two sides of a batch though they came the other way round; those on one node never do.
 """
 import reports
 from svg import LEFT, WIDTH
@@ -117,8 +117,9 @@ class Axis:
         return [LEFT + wide * column for column in range(self.count + 1)]
 
     def gathered_edges(self):
-        """The edges of columns that are too many. The calls before the first batch and behind End, and those of a few gaps that have
-        far more than the others, get zones of their own, together at most half of the width; each batch has as much as the others."""
+        """The edges of columns that are too many. The calls before the first batch and behind End, and those of a few gaps that
+        have far more than the others, get zones of their own, together at most half of the width; each batch has as much as the
+        others."""
         dense = self.dense_gaps()
         columns = sum(gap.width * (number not in dense) + 1 for number, gap in enumerate(self.gaps)) - 1
         pool = max(min(columns * CELL, WIDTH / 2), WIDTH - sum(self.gaps[number].width * CELL for number in dense))

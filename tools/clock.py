@@ -1,4 +1,4 @@
-"""The program clock of a transport stream: its PCRs, and when each packet is due by them (ISO/IEC 13818-1, 2.4.2.2 and 2.4.3.5)."""
+"""The program clock of a transport stream: its PCRs, and when a packet is due by them (ISO/IEC 13818-1, 2.4.2.2, 2.4.3.5)."""
 
 SYNC, PACKET = 0x47, 188
 TICKS = 27_000_000

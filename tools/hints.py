@@ -96,7 +96,7 @@ def words(stumble):
         return f"{tap}, and {passed} of the stream passed it then, which nobody can read there"
     if stumble.kind == "part":
         of = f"of the {many(facts['of'], 'byte')} of a section" if facts["of"] else "of a section"
-        return f"a read of {facts['count']} bytes gives a part {of}; the next read goes on behind it"
+        return f"a read of {many(facts['count'], 'byte')} gives a part {of}; the next read goes on behind it"
     if stumble.kind == "read of ts_tap":
         return "a read finds nothing on a node whose filter has the output TS_TAP"
     if stumble.kind in ("late", "late in run"):

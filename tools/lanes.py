@@ -24,7 +24,7 @@ class Lane:
         self.has_chart = any(level != 0 for level in self.history.high) or bool(self.history.losses())
         self.chart_y = y + 32
         self.rows_y = self.chart_y + (CHART + 6 if self.has_chart else -6)
-        self.band_y = self.rows_y + ROW * len(self.rows)
+        self.band_y = self.rows_y + sum(row.height for row in self.rows)
         self.bottom = self.band_y + (ROW if self.history.captures else 0) + 10
         self.top = self.top_of_scale()
 
@@ -53,8 +53,10 @@ class Lane:
         if self.has_chart:
             found += self.axis_of_bytes() + self.area() + self.unknown() + self.losses() + self.size_line()
         found += self.expiries()
-        for number, row in enumerate(self.rows):
-            found += row.draw(self.axis, self.rows_y + ROW * number)
+        y = self.rows_y
+        for row in self.rows:
+            found += row.draw(self.axis, y)
+            y += row.height
         self.used |= {row.key for row in self.rows}
         return found + self.bands()
 
@@ -226,12 +228,15 @@ class Lane:
 
 
 class Quiet:
-    """The nodes on which nothing was done but opens, closes, sizes and refusals, in one line."""
+    """The nodes on which nothing was done but opens, closes, sizes and refusals, in one lane."""
 
     def __init__(self, lanes, axis, y):
-        self.lanes, self.axis, self.y, self.bottom, self.used = lanes, axis, y, y + 27 + ROW, {"refused"}
+        self.lanes, self.axis, self.y = lanes, axis, y
         placed = [pair for lane in lanes for pair in zip(lane.columns, lane.entries)]
         self.calls = [(column, entry) for column, entry in placed if entry.who != "feed"]
+        self.rows = rows_of(self.calls, axis)
+        self.bottom = y + 36 + sum(row.height for row in self.rows)
+        self.used = {row.key for row in self.rows}
 
     def draw(self):
         """The nodes' names, what was called, and where it was refused."""
@@ -245,10 +250,10 @@ class Quiet:
         rule = line(8, self.y + 2, self.axis.right, self.y + 2, f'stroke="{PALE}"')
         words = f"{names}: nothing but opens, closes, sizes and refusals ({told})"
         found = [rule, heading(8, self.y + 18, title), text(LEFT, self.y + 18, words, 10, f'fill="{GREY}"')]
-        for row in rows_of(self.calls, self.axis):
-            if row.name == "refused":
-                found += row.draw(self.axis, self.y + 26)
-                self.used.add(row.key)
+        y = self.y + 26
+        for row in self.rows:
+            found += row.draw(self.axis, y)
+            y += row.height
         return found
 
 

@@ -3,8 +3,8 @@ import textwrap
 
 import reports
 from svg import (
-    BLACK, BLUE, GREEN, GREY, LEAST_WIDTH, MIDDLE, ORANGE, PALE, PURPLE, RED, SKY, WHITE, YELLOW, circle, counted, grouped, heading,
-    path, rect, short_number, side, text, width_of,
+    BLACK, BLUE, GREEN, GREY, LEAST_WIDTH, MIDDLE, ORANGE, PALE, PURPLE, RED, SKY, WHITE, YELLOW, circle, counted, grouped,
+    heading, path, rect, short_number, side, text, upright, width_of,
 )
 
 ROW, NAME_SIZE = 17, 7.5
@@ -95,6 +95,8 @@ class Row:
     """A row of marks of one kind: its name at the left, the entries, how one is drawn, the colours of a count, and what is
     written beside a mark where there is room. An entry comes with its column."""
 
+    height = ROW
+
     def __init__(self, name, entries, mark, colours, beside=lambda entry: ""):
         self.name, self.entries, self.mark, self.colours, self.beside = name, entries, mark, colours, beside
         self.key = "call" if name in CALLS else name
@@ -130,6 +132,42 @@ class WordRow(Row):
             found.append(rect(x - wide / 2, y + 2, wide, 13, f'rx="3" {self.look}', words_of(entries, entry_words)))
             found.append(text(x, y + 11.5, self.word(entries[0]) + more, NAME_SIZE if not more else 6.5, MIDDLE))
         return found
+
+
+class UprightRow(Row):
+    """A row of boxes with the names of calls, upright, one or two a cell."""
+
+    height = 38
+
+    def __init__(self, entries):
+        super().__init__("calls", entries, None, None)
+        self.key = "calls in words"
+
+    @staticmethod
+    def holds(axis, entries):
+        """Whether no cell has more names than it has room for."""
+        cells = axis.gather(entries, lambda thing: thing[0])
+        return all(len({name_of(entry) for _, entry in things}) <= 2 for _, things in cells)
+
+    def draw(self, axis, y):
+        """The boxes."""
+        found, wide = [side(y + 20, self.name)], axis.cell_width() - 1.5
+        for cell, things in axis.gather(self.entries, lambda thing: thing[0]):
+            x, entries = axis.cell_middle(cell), [entry for _, entry in things]
+            names = counts_of(map(name_of, entries))
+            found.append(rect(x - wide / 2, y + 1, wide, 35, f'rx="3" {CALL_LOOK}', words_of(entries, entry_words)))
+            places = [x] if len(names) == 1 else [x - 4, x + 4]
+            for at, (name, count) in zip(places, names.items()):
+                found.append(upright(at, y + 18.5, name if count == 1 else f"{name} x{count}", 6.5 if count > 1 else NAME_SIZE))
+        return found
+
+
+def counts_of(names):
+    """How often each name comes, in the order of the first of each."""
+    found = {}
+    for name in names:
+        found[name] = found.get(name, 0) + 1
+    return found
 
 
 CALLS = ("open", "close", "section", "pes", "add", "remove", "start", "stop", "size", "attach", "detach")
@@ -186,6 +224,8 @@ def rows_of(placed, axis):
                 found[kind].append((column, entry))
     calls, has_room = found.pop("call"), axis.cell_width() >= 31
     rows = [Row(kind, things, *MARKS[kind][:2], BESIDE.get(kind, lambda entry: "")) for kind, things in found.items() if things]
+    if not has_room and calls and UprightRow.holds(axis, calls):
+        return [*rows, UprightRow(calls)]
     if not has_room:
         by_name = [(name, [thing for thing in calls if name_of(thing[1]) == name]) for name in CALLS]
         return rows + [Row(name, things, call_mark, (PALE, GREY, BLACK)) for name, things in by_name if things]
@@ -214,8 +254,8 @@ BOXES = {
 }
 NOTES = {
     "size line": "Black line: the buffer's size; where it is dotted, the size is above the scale.",
-    "perhaps": "A report doesn't tell how many bytes a batch brings, only, later, how many had come: where several batches may have "
-    "brought them, they are drawn in full from the last of these on and pale from the first.",
+    "perhaps": "A report doesn't tell how many bytes a batch brings, only, later, how many had come: where several batches may "
+    "have brought them, they are drawn in full from the last of these on and pale from the first.",
     "count": "A number in a mark: so many here. Where several entries share a point of the area, it is full up to their least and "
     "pale up to their most.",
 }

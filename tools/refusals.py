@@ -17,7 +17,7 @@ def wrong_argument(act):
     if name not in ("section", "pes"):
         return ""
     if act["flags"] & ~sum(FLAGS):
-        return "a flag bit other than 1, 2, 4 and 256"
+        return f"a flag bit other than {', '.join(map(str, FLAGS))}"
     if act.get("type", 0) > LARGEST_TYPE:
         return "a PES type above 20"
     if act.get("output") == "decoder":

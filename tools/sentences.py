@@ -294,14 +294,23 @@ def values_text(values):
 
 
 def tables_text(tables):
-    """What stands in the heads of the sections that were read, by table_id and table_id_extension."""
-    texts = []
-    for (table, _), values in list(tables.items())[:TABLES]:
+    """What stands in the heads of the sections that were read, by table_id and table_id_extension; of many by table_id alone."""
+    texts, tables = [], tables if len(tables) <= TABLES else merged(tables)
+    for (table, *_), values in list(tables.items())[:TABLES]:
         named = zip(FIELD_NAMES[1:], values[1:])
         fields = [f"table_id {table_text(table)}", *(f"{name} {values_text(known)}" for name, known in named if known)]
         texts.append(", ".join(fields))
     more = len(tables) - len(texts)
-    return (": " if texts else "") + "; ".join(texts) + (f"; and of {many(more, 'more table')}" if more > 0 else "")
+    return (": " if texts else "") + "; ".join(texts) + (f"; and {more:,} more table_ids" if more > 0 else "")
+
+
+def merged(tables):
+    """What stands in the heads of sections, by table_id."""
+    found = {}
+    for (table, _), values in tables.items():
+        for known, more in zip(found.setdefault((table,), [set() for _ in FIELD_NAMES]), values):
+            known |= more
+    return found
 
 
 def streams_text(streams):

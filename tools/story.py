@@ -245,8 +245,8 @@ class Story:
         return [self.packets[pid]] if pid in self.packets else []
 
     def look_at_pid(self, node, used, pid):
-        """Notes the breaks and duplicates in the stream of a PID of a filter that ran, where one at least was offered to it: a report
-        doesn't tell where they are, so there have to be more than may lie elsewhere."""
+        """Notes the breaks and duplicates in the stream of a PID of a filter that ran, where one at least was offered to it: a
+        report doesn't tell where they are, so there have to be more than may lie elsewhere."""
         rows = self.rows_of(pid)
         hidden = used.offered[pid].may_hide(self.report.packets, len(rows)) if pid in used.offered else self.report.packets
         for name in ("break", "duplicate"):

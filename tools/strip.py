@@ -4,7 +4,7 @@ from axis import CELL, moments_of
 from marks import BOXES, NAME_SIZE, reply_words, words_of
 from svg import (
     BLACK, END, GREY, LEAST_WIDTH, LEFT, MIDDLE, PURPLE, RIGHT, SKY, Labels, counted, heading, line, rect, short_number, side,
-    text, width_of,
+    text, upright, width_of,
 )  # fmt: skip
 
 BOX = 54
@@ -52,7 +52,7 @@ class Strip:
         for cell, group in axis.gather(list(enumerate(self.passes)), lambda thing: axis.batches[thing[0]]):
             x, wide = axis.cell_middle(cell), axis.cell_width() - 1.5
             packets = sum(reports.act_of(entry)["count"] for _, entry in group if entry.act != "end")
-            words = f"batches {group[0][0]} to {group[-1][0]}: {counted(packets, 'packet')}" + (", then End" if has_end(group) else "")
+            words = words_of(group, lambda thing: f"feed {thing[1].step} {thing[1].act}")
             found.append(rect(x - wide / 2, y + 4, wide, 16, f'fill="{SKY}" fill-opacity="0.5"', words))
             said = short_number(packets) if packets else "end"
             found.append(text(x, y + 15, said, 8 if wide > 24 else 7, MIDDLE))
@@ -62,7 +62,8 @@ class Strip:
     def draw_moments(self):
         """A tick where the moment rises, with the time since the first where there is room."""
         y, first, drawn = self.passes_y + 34, reports.first_moment(self.report), -10
-        found, labels = [side(y + 13, "ms since first" if first else "moment, ms")], Labels(y + 13, LEFT - 4, self.axis.right + RIGHT)
+        found = [side(y + 13, "ms since first" if first else "moment, ms")]
+        labels = Labels(y + 13, LEFT - 4, self.axis.right + RIGHT)
         for column, moment in moments_of(self.report, self.axis):
             x = self.axis.middle(column)
             if x - drawn >= 4:
@@ -86,10 +87,12 @@ class Strip:
         found = [text(LEFT - 8, y + 14, f"client {client}", 10, f'{END} font-weight="bold"')]
         found += [side(y + 25, "call, last reply", 8), side(y + BOX + 11, "line", 8)]
         numbers = Labels(y + BOX + 11, LEFT - 4, self.axis.right + RIGHT, f'fill="{GREY}"')
-        for x, to, commands in self.boxes(client, outcomes):
+        boxes = self.boxes(client, outcomes)
+        for (x, to, commands), room in zip(boxes, [box[0] for box in boxes[1:]] + [self.axis.right]):
             words = words_of(commands, lambda command: self.command_words(client, command))
             found.append(rect(x, y + 2, max(to - x - 1.5, 1), BOX, f'rx="3" {self.look_of(commands)}', words))
-            found += self.command_texts(client, commands, x, to - 1.5, y + 2)
+            found += self.command_texts(client, commands, x, to - 1.5, y + 2) if to - x >= 9 else []
+            found += self.words_beside(client, commands, to, room, y + 2) if to - x < 9 else []
             lines = [str(commands[0].line)] + ([f"{commands[0].line}-{commands[-1].line}"] if len(commands) > 1 else [])
             found += numbers.at((x + to - 1.5) / 2, lines[-1])
         return found
@@ -120,13 +123,21 @@ class Strip:
         if width_of(call, NAME_SIZE) > wide:
             lines = [call, reply] if reply and wide >= 16 else [call]
             places = [middle - 4, middle + 4] if len(lines) > 1 else [middle]
-            return [upright(x, y + BOX / 2, words) for x, words in zip(places, lines)] if wide >= 8 else []
+            return [upright(x, y + BOX / 2, words, NAME_SIZE) for x, words in zip(places, lines)]
         found = [text(middle, y + 14, call, NAME_SIZE, MIDDLE)]
         if width_of(reply, 6.5) <= wide:
             found.append(text(middle, y + 25, reply, 6.5, f'{MIDDLE} fill="{GREY}"'))
         if width_of(count, 7) <= wide:
             found.append(text(middle, y + 37, count, 7, MIDDLE))
         return found
+
+    def words_beside(self, client, commands, x, room, y):
+        """The texts of a box that is too narrow for any, beside it where there is room."""
+        steps = commands[-1].after - commands[0].first
+        names = counted(len(commands), "command") if len(commands) > 1 else self.call_names(client, commands[0])[0]
+        words = [f"{names}, {counted(steps, 'call')}" if steps > 1 else names, names]
+        fitting = [told for told in words if x + 2 + width_of(told, NAME_SIZE) <= room]
+        return [text(x + 2, y + BOX / 2, told, NAME_SIZE) for told in fitting[:1]]
 
     def call_names(self, client, command):
         """The names of a command's first call and of its last reply, or its kind where it made none."""
@@ -139,12 +150,12 @@ class Strip:
 
     def command_words(self, client, command):
         """A command with its first and its last call."""
-        words = f"line {command.line}, calls {command.first}..{command.after}, {command.kind}"
+        words = f"line {command.line}, steps {command.first}..{command.after}, {command.kind}"
         steps = sorted({command.first, command.after - 1}) if command.after > command.first else []
         for step in steps:
             if (client, step) in self.calls:
                 node, entry = self.calls[client, step]
-                words += f"; call {step} on {reports.node_name(node)}: {entry.act} = {reply_words(entry.reply)}"
+                words += f"; step {step} on {reports.node_name(node)}: {entry.act} = {reply_words(entry.reply)}"
         return words
 
     def look_of(self, commands):
@@ -153,16 +164,6 @@ class Strip:
         kind = next((kind for kind in ("EMFILE", "unbound") if kind in kinds), "done")
         self.used.add(kind)
         return BOXES[kind][0]
-
-
-def has_end(group):
-    """Whether End is among these passes."""
-    return any(entry.act == "end" for _, entry in group)
-
-
-def upright(x, y, words):
-    """Words that stand upright, in the middle of a place."""
-    return text(x + NAME_SIZE / 3, y, words, NAME_SIZE, f'{MIDDLE} transform="rotate(-90 {x + NAME_SIZE / 3:.1f} {y:.1f})"')
 
 
 def calls_by_step(report):

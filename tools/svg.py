@@ -56,6 +56,12 @@ def side(y, words, size=9):
     return text(LEFT - 8, y, words, size, f'{END} fill="{GREY}"')
 
 
+def upright(x, y, words, size):
+    """Words that stand upright, with their middle at a place."""
+    at = f"{fixed(x + size / 3)} {fixed(y)}"
+    return text(x + size / 3, y, words, size, f'{MIDDLE} transform="rotate(-90 {at})"')
+
+
 MIDDLE, END = 'text-anchor="middle"', 'text-anchor="end"'
 
 

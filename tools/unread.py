@@ -261,7 +261,7 @@ class History(Walk):
 
     def fill_before(self, kept, capture, bounds):
         """The overflow span with the places behind which it may have come and has come: the buffer is as full then as it says, and
-        stays so; with KEEP it holds what comes before the span, and reads go on to take from it."""
+        from then on only what is read leaves it; with KEEP it holds what comes before the span."""
         clear, told, loss = kept
         full = (self.sizes[loss.told] or 1) - 1 - loss.room
         most = [loss.begin - step.answered if capture.keeps else full for step in capture.steps]
@@ -270,7 +270,9 @@ class History(Walk):
         sure = next((number for number in between if bounds[number][0] > most[number] or capture.steps[number].is_over), last)
         first = min(sure, next((number for number in between if bounds[number][1] > most[number]), last))
         for number in range(first, told):
-            bounds[number] = (most[number] if number >= sure else min(bounds[number][0], most[number]), most[number])
+            read = capture.steps[number].answered - capture.steps[min(first, told - 1)].answered
+            left = most[number] if capture.keeps else full - read
+            bounds[number] = (left if number >= sure else min(bounds[number][0], left), left)
         first, sure = (capture.steps[min(number, told)].place for number in (first, sure))
         return loss._replace(first=first, sure=sure)
 

@@ -11,8 +11,8 @@ FLAGS = {CRC: "DMX_CHECK_CRC", ONESHOT: "DMX_ONESHOT", IMMEDIATE: "DMX_IMMEDIATE
 
 
 class Walk:
-    """A node behind some entries. What a filter and a capture are, and what happens where one begins or ends, is said by the classes
-    below this one; filter and capture are None where there is none."""
+    """A node behind some entries. What a filter and a capture are, and what happens where one begins or ends, is said by the
+    classes below this one; filter and capture are None where there is none."""
 
     def __init__(self, number):
         self.number, self.owner, self.size = number, None, None
