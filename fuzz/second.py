@@ -147,7 +147,7 @@ def matches(places, section):
 
 
 # RULES: 0289b1a0 Captures
-# RULES: 56213de9 The ledger
+# RULES: 71c92885 The ledger
 class Capture:
     def __init__(self, moment):
         self.started, self.stopped, self.expired, self.told = moment, False, None, False
@@ -204,7 +204,7 @@ class Node:
     def is_untold(self):
         return self.capture.expired is not None and not self.capture.told
 
-    # RULES: fbc7efd0 Read
+    # RULES: f1240e5c Read
     def read(self, count, timeout):
         capture = self.capture
         if capture is None:
@@ -227,7 +227,7 @@ class Node:
         capture.answered += most
         return "data " + b"".join(capture.items)[answered : answered + most].hex()
 
-    # RULES: d40d9bf1 Poll
+    # RULES: f3389275 Poll
     def poll(self):
         capture = self.capture
         if capture is None:
@@ -311,7 +311,7 @@ class Demux(Node):
             elif self.filter[3] == "tap" and payload_of(packet) is not None:
                 self.arrive([payload_of(packet)])
 
-    # RULES: 1d4b202a Refusals
+    # RULES: af087d17 Refusals
     def refused(self, who, act):
         """The refusals, in their order; act is a name and its arguments."""
         name, args = act[0], act[1:]
@@ -342,7 +342,7 @@ class Demux(Node):
                 return "EBUSY"
         return None
 
-    # RULES: d0c799e0 Calls
+    # RULES: c02034d9 Calls
     def call(self, who, act, moment):
         name, args = act[0], act[1:]
         if name == "open":
@@ -392,7 +392,7 @@ class Demux(Node):
         return done(span, "detach" if recorded and not self.records() else "keep")
 
 
-# RULES: ae896f16 The dvr node
+# RULES: 9bed4a44 The dvr node
 class Dvr(Node):
     def __init__(self):
         super().__init__()

@@ -188,7 +188,7 @@ const UNREAD: Ends = Ends {
 static NUMBERS: [Whole; 2] = [
     // The sink is full.
     Whole {
-        words: "make 7",
+        words: "make 7\nmake 8",
         ends: &Ends {
             capacity: 12,
             ..UNREAD
