@@ -59,7 +59,7 @@ fn least_behind(place: Place, word: &[u8]) -> u32 {
 
 /// The first word of a line that isn't what its place asks for; None where each is.
 pub fn first_fault(line: &[u8]) -> Option<Found<'_>> {
-    let (mut form, mut least, mut command) = (Form::Open, 0, &line[..0]);
+    let (mut form, mut least, mut command) = (Form::Begun, 0, &line[..0]);
     let mut rest = Some(line);
     'words: for number in 1..=LAST_WORD {
         let place = form.place(number, least);

@@ -9,7 +9,7 @@ use text_forms::{
 #[derive(Clone, Copy, Debug, PartialEq, Eq, Drop)]
 pub enum Form {
     /// Nothing is told yet, or only that it is a client's command.
-    Open,
+    Begun,
     /// `feed N`.
     Feed,
     /// `tick N`.
@@ -133,7 +133,7 @@ impl Form {
     /// What stands behind the command in a line of this form; None where the form isn't told by a command.
     pub fn behind_command(self) -> Option<&'static str> {
         match self {
-            Form::Open | Form::Feed | Form::Tick => None,
+            Form::Begun | Form::Feed | Form::Tick => None,
             Form::Bare => Some("T"),
             Form::Section => Some("T PID TIMEOUT FLAGS, and up to 16 words I=FF/MM/DD"),
             Form::Pes => Some("T PID INPUT OUTPUT TYPE FLAGS"),
