@@ -139,7 +139,12 @@ fn each_filter_has_its_terms(rt: HostRuntime) {
     ] {
         let terms = terms_of(&params_of(filter));
         assert_eq!(rt;
-            (terms.by_section, terms.is_oneshot, terms.timeout, terms.keeps),
+            (
+                terms.by_section,
+                terms.is_oneshot,
+                terms.timeout,
+                terms.keeps
+            ),
             wanted
         );
     }
