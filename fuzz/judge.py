@@ -71,7 +71,7 @@ class Told(second.Run):
         return entry.reply
 
 
-# RULES: 98734205 The threads of `run`
+# RULES: 18083868 The threads of `run`
 def feeder(entries, packets, batch):
     """The batches of the feeder's entries: all packets, all batches but the last full, and then the end."""
     fed = [entry for entry in entries if entry.who == "feed"]
