@@ -6,7 +6,7 @@ use emu_top::Status;
 
 const EMPTY: &str = "dvbemu 1\npackets=0 skipped=0 rest=0\nend\n";
 
-static SESSIONS: [Whole; 6] = [
+static SESSIONS: [Whole; 7] = [
     Whole {
         output: EMPTY,
         ..PLAIN
@@ -46,6 +46,16 @@ static SESSIONS: [Whole; 6] = [
         output: "dvbemu 1\n\
             packets=400 skipped=0 rest=0\n\
             pid 1863 packets=400 breaks=0 duplicates=0 errors=0\n\
+            end\n",
+        ..PLAIN
+    },
+    // More than 65,536 packets.
+    Whole {
+        words: "steps\nrun",
+        stream: &[(b"", 100_000 * 188, 0x47)],
+        output: "dvbemu 1\n\
+            packets=100000 skipped=0 rest=0\n\
+            pid 1863 packets=100000 breaks=0 duplicates=0 errors=0\n\
             end\n",
         ..PLAIN
     },
