@@ -1,6 +1,6 @@
-//! Passes the stream on standard input through a demux node or the dvr node, in batches of 64 packets at most, and reads what the node has
-//! after each piece of 65,536 bytes, with reads of that many bytes. Prints how many reads gave bytes, how many bytes, and the
-//! sum of the last byte of each.
+//! Passes the stream on standard input through a demux node or the dvr node, in batches of 64 packets at most, and reads what
+//! the node has after each piece of 65,536 bytes, with reads of that many bytes. Prints how many reads gave bytes, how many
+//! bytes, and the sum of the last byte of each.
 //!
 //! A program to measure a node with; `bench/node` runs it. With the word `sections` the node has a section filter with CRC
 //! check on PID 512, with `payloads` a tap of payloads on PID 256, with `packets` a tap of whole packets on the PIDs 256 and

@@ -1,7 +1,8 @@
 // What the dvr node keeps for its owner, and what each call of the owner does to it.
 //
-// `Does` says what the owner is answered to a call that isn't refused, how the node goes on, and what then holds. No call of the owner looks at the taps, and none at its moment, since nothing expires here: it does so
-// whichever they are. The dvr node has no tap of its own, so no Done tells of one.
+// `Does` says what the owner is answered to a call that isn't refused, how the node goes on, and what then holds. No call of
+// the owner looks at the taps, and none at its moment, since nothing expires here: it does so whichever they are. The dvr node
+// has no tap of its own, so no Done tells of one.
 
 ghost use Rattle.std.specs.Prelude.{◌≡◌, ◌≤◌, ℕ, Bool, true, false, List, Option, IfOk, Some};
 ghost use Rattle.dmx_calls.specs.declared.node.NodeKind.TheVariants.{Dvr};

@@ -86,7 +86,8 @@ impl Kept {
         }
     }
 
-    /// A batch passes. The filter may expire first; where it then still runs and takes this input, the packets that its PIDs name are looked at.
+    /// A batch passes. The filter may expire first; where it then still runs and takes this input, the packets that its PIDs
+    /// name are looked at.
     pub fn pass<L: Ledger>(&mut self, input: Input, batch: &Batch, now: u64, steps: &mut Steps<L>)
         requires sound { IsSound (knows_of self.old) }
         requires bytes { bytes_in (knows_of self.old) + 12032 < 2 ^ 64 }
