@@ -282,10 +282,16 @@ fn forgets(first: &Packet, second: &Packet) -> bool {
         && clock.value() == Some(18_900_000)
 }
 
+// The same of the packets of two rows.
+fn forgets_rows(first: &Row, second: &Row) -> bool {
+    match (packet_of(&first.front), packet_of(&second.front)) {
+        (Some(first), Some(second)) => forgets(&first, &second),
+        _ => false,
+    }
+}
+
 #[test]
 fn a_cleared_clock_begins_anew(rt: HostRuntime) {
-    let first = packet_of(&ROWS[0].front);
-    let second = packet_of(&ROWS[10].front);
-    assert!(rt; matches!((first, second), (Some(first), Some(second)) if forgets(&first, &second)));
+    assert!(rt; forgets_rows(&ROWS[0], &ROWS[10]));
     stc_clock::examples::clocks();
 }
