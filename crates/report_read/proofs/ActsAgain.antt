@@ -1,8 +1,7 @@
 -- Calls are read again.
-use Rattle.std.proofs.Common.{◌≡◌, ◌<◌, ◌^◌, refl, ℕ, List, [], ◌∷◌, ◌++◌, Some, codes, arith, append_assoc}
+use Rattle.std.proofs.Common.{◌≡◌, refl, ℕ, List, ◌++◌, Some, codes, append_assoc}
 use Rattle.std.specs.Fmt.{decimal}
 use Rattle.dmx_calls.specs.declared.params.Input.{Input}
-use Rattle.dmx_calls.specs.declared.params.Output.{Output}
 use Rattle.dmx_calls.specs.declared.params.SectionParams.{SectionParams}
 use Rattle.dmx_calls.specs.declared.params.PesParams.{PesParams}
 use Rattle.dmx_calls.specs.declared.log.Act.{Act}
@@ -10,9 +9,8 @@ use Rattle.dmx_calls.specs.declared.log.Act.TheVariants.{Open as OpenAct, Close 
 use Rattle.dmx_calls.specs.Names.{input_text, output_text}
 use Rattle.text_forms.specs.Places.{filter_text}
 use Rattle.report_text.specs.Acts.{pids_text, act_text}
-use Rattle.report_read.specs.Inside.Reading.{number16, number32, number64}
-use Rattle.report_read.specs.Inside.Parts.{input_in, output_in, pids_in, filter_in, section_in, pes_in, pass_in, read_in, attach_in, other_act_in, plain_act_in, act_in}
-use Rattle.report_read.specs.Ranges.{IsActInRange, IsPidSet}
+use Rattle.report_read.specs.Inside.Parts.{section_in, pes_in, pass_in, read_in, attach_in, other_act_in, plain_act_in, act_in}
+use Rattle.report_read.specs.Ranges.{IsActInRange}
 use Rattle.report_read.proofs.WordsAgain.{number16_again, number32_again, number64_again, input_again, output_again}
 use Rattle.report_read.proofs.SetsAgain.{pids_again, filter_again, filter_ends}
 

@@ -1,8 +1,8 @@
 -- Lists that are written one after another are read again.
-use Rattle.std.proofs.Common.{◌≡◌, ◌<◌, ◌≤◌, ◌+◌, ◌-◌, refl, ap, ◌∙◌, ℕ, zero, suc, List, [], ◌∷◌, ◌++◌, Bool, true, false, length, Some, None, arith, append_assoc, append-nil, length-append}
+use Rattle.std.proofs.Common.{◌≡◌, ◌<◌, ◌≤◌, ◌-◌, refl, ap, ◌∙◌, ℕ, zero, suc, List, [], ◌∷◌, ◌++◌, Bool, true, false, length, Some, None, arith, append_assoc, append-nil, length-append}
 use Rattle.std.proofs.lemmas.List.Elements.{All-head, All-tail, All-nil, All-push}
 use Rattle.std.specs.List.{All, flat_map}
-use Rattle.report_read.specs.Inside.Reading.{Reading, and_then, onto, many}
+use Rattle.report_read.specs.Inside.Reading.{Reading, onto, many}
 
 -- how the text of a value is read: it is read again whatever stands behind it that may end it, it begins as such a text does,
 -- it may end another, and it has a byte

@@ -1,5 +1,5 @@
 -- Callers and replies are read again.
-use Rattle.std.proofs.Common.{◌≡◌, ◌<◌, ◌^◌, ◌+◌, ◌-◌, refl, ap, ◌∙◌, ℕ, List, [], ◌∷◌, ◌++◌, Bool, true, false, length, nat_le, Some, None, codes, arith, append_assoc}
+use Rattle.std.proofs.Common.{◌≡◌, ◌<◌, ◌^◌, ◌+◌, ◌-◌, refl, ap, ℕ, List, [], ◌∷◌, ◌++◌, Bool, true, false, length, nat_le, Some, None, codes, arith, append_assoc}
 use Rattle.std.proofs.lemmas.Bool.Decides.{nat_tests}
 use Rattle.std.specs.Prelude.{◌==◌}
 use Rattle.std.specs.Fmt.{decimal}
@@ -14,8 +14,8 @@ use Rattle.dmx_calls.specs.Response.{Response, Done, Busy, Refused, NoMemory, Da
 use Rattle.text_forms.specs.Hex.{hex_text, digit_text}
 use Rattle.text_forms.specs.Names.{who_text}
 use Rattle.report_text.specs.Replies.{flag_text, data_text, tap_text, response_text}
-use Rattle.report_read.specs.Inside.Reading.{behind, choose, number_in, number64, begins_number}
-use Rattle.report_read.specs.Inside.Parts.{who_in, flag_in, pending_in, tap_in, done_in, data_in, overflow_in, timed_out_in, ready_in, other_response_in, refusal_in, response_in}
+use Rattle.report_read.specs.Inside.Reading.{behind, choose, number_in, begins_number}
+use Rattle.report_read.specs.Inside.Parts.{who_in, tap_in, done_in, data_in, overflow_in, timed_out_in, ready_in, other_response_in, refusal_in, response_in}
 use Rattle.report_read.specs.Ranges.{IsTapInRange, IsResponseInRange}
 use Rattle.report_read.proofs.WordsAgain.{number_again, number32_again, number64_again, bytes_again, flag_again, pending_again}
 use Rattle.report_read.proofs.SetsAgain.{pids_again}

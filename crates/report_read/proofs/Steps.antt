@@ -5,7 +5,7 @@ use Rattle.std.specs.List.{All}
 use Rattle.filter_match.specs.declared.filter.Place.{Place}
 use Rattle.filter_match.specs.Places.{with_place}
 use Rattle.text_forms.specs.Places.{HasBytes, IsFilter}
-use Rattle.std.proofs.Common.{◌≡◌, ◌<◌, ◌≤◌, ◌-◌, take, drop, get_or, refl, sym, ap, ◌∙◌, ℕ, zero, suc, List, [], ◌∷◌, length, true, false, arith, Some, None, codes, replicate}
+use Rattle.std.proofs.Common.{◌≡◌, ◌<◌, ◌≤◌, ◌-◌, take, drop, get_or, refl, ap, ◌∙◌, ℕ, zero, suc, List, [], ◌∷◌, length, true, false, arith, Some, None, codes, replicate}
 use Rattle.filter_match.specs.declared.filter.SectionFilter.{SectionFilter}
 use Rattle.report_read.specs.Inside.Reading.{behind, choose, bytes_in, with_first}
 use Rattle.text_forms.specs.Hex.{hex_byte}

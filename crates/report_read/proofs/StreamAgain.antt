@@ -1,5 +1,5 @@
 -- What a report says of the stream, and the commands of a client, are read again.
-use Rattle.std.proofs.Common.{◌≡◌, ◌<◌, refl, ℕ, List, ◌++◌, Bool, true, false, length, Some, codes, arith, append_assoc}
+use Rattle.std.proofs.Common.{◌≡◌, refl, ℕ, List, ◌++◌, false, Some, codes, arith, append_assoc}
 use Rattle.std.specs.List.{All, flat_map}
 use Rattle.std.specs.Fmt.{decimal}
 use Rattle.ts_packet.specs.declared.cutter.Tally.{Tally}

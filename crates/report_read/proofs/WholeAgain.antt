@@ -1,5 +1,5 @@
 -- Nodes and whole reports are read again.
-use Rattle.std.proofs.Common.{◌≡◌, ◌<◌, ◌≤◌, ◌+◌, refl, sym, ap, ◌∙◌, ℕ, List, [], ◌∷◌, ◌++◌, Bool, true, false, length, Some, None, codes, arith, append_assoc, append-nil}
+use Rattle.std.proofs.Common.{◌≡◌, ◌<◌, ◌≤◌, refl, ◌∙◌, ℕ, List, [], ◌∷◌, ◌++◌, Bool, true, false, length, Some, None, codes, arith, append_assoc}
 use Rattle.std.proofs.lemmas.Bool.Decides.{nat_tests}
 use Rattle.std.proofs.lemmas.Fmt.{decimal_nonempty}
 use Rattle.std.specs.Prelude.{◌≢◌, ◌==◌}
@@ -11,13 +11,12 @@ use Rattle.dmx_calls.specs.declared.outcome.Outcome.{Outcome}
 use Rattle.text_forms.specs.Names.{node_text}
 use Rattle.text_forms.proofs.Decimals.{decimal-digits}
 use Rattle.report_text.specs.Entries.{entry_text}
-use Rattle.report_text.specs.Report.{tally_text, row_text, clients_text, end_text}
+use Rattle.report_text.specs.Report.{row_text, clients_text, end_text}
 use Rattle.report_text.specs.Told.{ToldNode, Told, told_node_text, text_of}
-use Rattle.report_read.specs.Inside.Reading.{Reading, behind, many, choose, number_in, begins_number, begins_with}
-use Rattle.report_read.specs.Inside.Entries.{entry_in}
-use Rattle.report_read.specs.Inside.Whole.{node_name_in, node_line_in, node_in, nodes_in, end_in, first_in, tally_in, rows_in, clients_in, told_in}
+use Rattle.report_read.specs.Inside.Reading.{Reading, behind, choose, number_in, begins_number, begins_with}
+use Rattle.report_read.specs.Inside.Whole.{node_name_in, node_in, nodes_in, end_in, told_in}
 use Rattle.report_read.specs.Ranges.{IsNodeInRange, IsInRange}
-use Rattle.report_read.specs.Report.{are_rows, are_nodes, IsInOrder, IsNoReport}
+use Rattle.report_read.specs.Report.{are_rows, are_nodes, IsNoReport}
 use Rattle.report_read.proofs.Many.{IsSpelled, all_again}
 use Rattle.report_read.proofs.WordsAgain.{first_digit, number_again}
 use Rattle.report_read.proofs.Again.{node_again, one_value}

@@ -1,7 +1,7 @@
 -- Which texts are reports (this project's own).
 use Rattle.std.specs.Prelude.{◌≡◌, ◌≢◌, ℕ, suc, ◌&&◌, Bool, true, List, [], ◌∷◌, map, nat_eq, nat_le, nat_lt}
 use Rattle.std.specs.List.{list_any}
-use Rattle.dmx_calls.specs.declared.limits.TheConstants.{DEMUX_NODES, LARGEST_PID}
+use Rattle.dmx_calls.specs.declared.limits.TheConstants.{LARGEST_PID}
 use Rattle.dmx_calls.specs.declared.head.PidRow.{PidRow}
 use Rattle.dmx_calls.specs.Calls.{told_entry}
 use Rattle.dmx_calls.specs.Head.{told_head}

@@ -1,4 +1,4 @@
-use Rattle.std.proofs.Common.{◌≡◌, ◌∙◌, ◌++◌, List, ◌∷◌, [], rules, arith, map, true, Some, codes}
+use Rattle.std.proofs.Common.{◌≡◌, ◌∙◌, List, ◌∷◌, [], rules, arith, map, true, Some, codes}
 use Rattle.std.proofs.lemmas.List.{map-append}
 use Rattle.std.proofs.lemmas.List.Elements.{All-push}
 use Rattle.dmx_calls.specs.Calls.{told_entry}

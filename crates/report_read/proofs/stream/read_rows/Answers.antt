@@ -1,4 +1,4 @@
-use Rattle.std.proofs.Common.{◌≡◌, ◌∙◌, ◌++◌, ◌∷◌, [], rules, arith, true, Some, codes}
+use Rattle.std.proofs.Common.{◌≡◌, ◌∙◌, rules, arith, true, Some, codes}
 use Rattle.std.proofs.lemmas.List.Elements.{All-push}
 use Rattle.report_read.specs.Inside.Reading.{begins_with}
 use Rattle.report_read.specs.Inside.Whole.{row_in}
