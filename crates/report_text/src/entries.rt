@@ -139,15 +139,15 @@ fn add_entries(
     add_turns_behind(out, feeding, lines, calls.len(), step)
 }
 
-// Whether a client made one of these calls.
-fn is_called(calls: &[Entry]) -> bool
+/// Whether a client made one of these calls.
+pub fn is_called(calls: &[Entry]) -> bool
     ensures { result ≡ list_any is_of_client (map told_entry calls.now) }
 {
     calls.iter().any(|entry| entry.who > 0)
 }
 
-// `node ` and the name of the node.
-fn add_node(out: &mut Vec<u8>, node: u32) -> Result<(), NoMemory>
+/// `node ` and the name of the node.
+pub fn add_node(out: &mut Vec<u8>, node: u32) -> Result<(), NoMemory>
     ensures { OnOk result (out.new.items ≡ out.old.items ++ (codes "node " ++ node_text node)) }
 {
     out.extend_from_slice(b"node ")?;

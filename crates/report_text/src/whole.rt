@@ -78,8 +78,8 @@ fn add_client(out: &mut Vec<u8>, client: usize, outcomes: &[Outcome]) -> Result<
     add_outcomes(out, outcomes)
 }
 
-// All clients with their commands.
-fn add_clients(out: &mut Vec<u8>, outcomes: &[Vec<Outcome>]) -> Result<(), NoMemory>
+/// All clients with their commands.
+pub fn add_clients(out: &mut Vec<u8>, outcomes: &[Vec<Outcome>]) -> Result<(), NoMemory>
     ensures { OnOk result (out.new.items ≡ out.old.items ++ clients_text 0 (map (λ o. o.items) outcomes.now)) }
 {
     'clients: for client in 0..outcomes.len() {
@@ -100,9 +100,9 @@ fn add_histories(alloc: Global, out: &mut Vec<u8>, histories: &Histories) -> Res
     Ok(())
 }
 
-// The last line.
+/// The last line.
 #[tactic(auto, unfolding(crate::specs::Report::end_text))]
-fn add_end(out: &mut Vec<u8>, read_fault: bool) -> Result<(), NoMemory>
+pub fn add_end(out: &mut Vec<u8>, read_fault: bool) -> Result<(), NoMemory>
     ensures { OnOk result (out.new.items ≡ out.old.items ++ end_text read_fault) }
 {
     if read_fault {
@@ -112,8 +112,8 @@ fn add_end(out: &mut Vec<u8>, read_fault: bool) -> Result<(), NoMemory>
     }
 }
 
-// The first line, the stream and its PIDs.
-fn add_head(out: &mut Vec<u8>, head: &Head) -> Result<(), NoMemory>
+/// The first line, the stream and its PIDs.
+pub fn add_head(out: &mut Vec<u8>, head: &Head) -> Result<(), NoMemory>
     ensures { OnOk result (out.new.items ≡ out.old.items ++ (codes "dvbemu 1\n" ++ (tally_text head.now.tally ++ flat_map row_text head.now.rows.items))) }
 {
     out.extend_from_slice(b"dvbemu 1\n")?;

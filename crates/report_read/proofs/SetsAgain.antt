@@ -1,0 +1,194 @@
+-- Sets of PIDs and filters are read again.
+use Rattle.std.proofs.Common.{◌≡◌, ◌<◌, ◌≤◌, ◌^◌, ◌+◌, ◌/◌, ◌%◌, refl, ap, ◌∙◌, ℕ, zero, suc, List, [], ◌∷◌, ◌++◌, Bool, true, false, length, map, fold, get_or, Some, None, codes, arith, append_assoc, append-nil, length-append}
+use Rattle.std.proofs.lemmas.Bool.Decides.{nat_tests}
+use Rattle.std.proofs.lemmas.List.{length-map}
+use Rattle.std.proofs.lemmas.List.Elements.{All-nil, All-get_or, All-from_get_or, All-push, All-head, All-tail, All-map, All-filter}
+use Rattle.std.specs.Prelude.{nat_lt, nat_eq, not, ◌&&◌}
+use Rattle.std.specs.List.{All, filter, flat_map}
+use Rattle.std.specs.Str.{all_ascii_digits}
+use Rattle.std.specs.Char.{is_ascii_digit}
+use Rattle.std.specs.Fmt.{decimal}
+use Rattle.std.proofs.lemmas.Fmt.{decimal_nonempty}
+use Rattle.pid_set.specs.Pids.{has_pid, with_pid}
+use Rattle.pid_set.proofs.Rising.{Above, Below, Rising, rising-from}
+use Rattle.filter_match.specs.declared.filter.SectionFilter.{SectionFilter}
+use Rattle.filter_match.specs.declared.filter.Place.{Place}
+use Rattle.filter_match.specs.Places.{place_at, with_place, filter_with}
+use Rattle.filter_match.specs.Match.{below}
+use Rattle.text_forms.specs.Hex.{hex_byte, digit_text}
+use Rattle.text_forms.specs.Places.{HasBytes, IsFilter, is_zero, place_text, filter_text, filter_places, filter_words}
+use Rattle.text_forms.proofs.Decimals.{decimal-digits}
+use Rattle.text_forms.proofs.HexPairs.{hex_byte-byte_text}
+use Rattle.text_forms.proofs.PlacesRead.{bytes_behind}
+use Rattle.text_forms.proofs.FiltersRead.{filter_text-words, filter_with-filter_places, length-filter_words}
+use Rattle.report_text.specs.Acts.{next_pid_text, pids_text}
+use Rattle.report_read.specs.Inside.Reading.{behind, choose, number_in, number16, byte_in, begins_number}
+use Rattle.report_read.specs.Inside.Parts.{is_full_for, pid_step, more_pids, pids_in, place_in, begins_place, place_step, more_places, filter_in}
+use Rattle.report_read.specs.Ranges.{IsPidSet}
+use Rattle.report_read.proofs.WordsAgain.{first_digit, number_again, number16_again}
+
+-- ------ the first byte of a number
+
+apart : (d mark : ℕ) (text : List ℕ) → is_ascii_digit d ≡ true → is_ascii_digit mark ≡ false → behind (mark ∷ []) (d ∷ text) ≡ None
+apart d mark text is other = grind (arith, nat_tests)
+
+apart_of : (mark : ℕ) (ds rest : List ℕ) → all_ascii_digits ds ≡ true → 0 < length ds → is_ascii_digit mark ≡ false → behind (mark ∷ []) (ds ++ rest) ≡ None
+apart_of mark [] rest a some other = absurd (omega arith)
+apart_of mark (d ∷ ds) rest a some other =
+    let parts = first_digit d (all_ascii_digits ds) a in
+    apart d mark (ds ++ rest) parts.0 other
+
+-- a number doesn't begin with a byte that is no digit
+pub number_apart : (mark n : ℕ) (rest : List ℕ) → n < 2 ^ 64 → is_ascii_digit mark ≡ false → behind (mark ∷ []) (decimal n ++ rest) ≡ None
+number_apart mark n rest fits other = apart_of mark (decimal n) rest (decimal-digits n fits) (decimal_nonempty n fits) other
+
+begins_of : (ds rest : List ℕ) → all_ascii_digits ds ≡ true → 0 < length ds → begins_number (ds ++ rest) ≡ true
+begins_of [] rest a some = absurd (omega arith)
+begins_of (d ∷ ds) rest a some = let parts = first_digit d (all_ascii_digits ds) a in parts.0
+
+pub number_begins : (n : ℕ) (rest : List ℕ) → n < 2 ^ 64 → begins_number (decimal n ++ rest) ≡ true
+number_begins n rest fits = begins_of (decimal n) rest (decimal-digits n fits) (decimal_nonempty n fits)
+
+-- ------ sets
+
+low_all : (pid : ℕ) (ps : List ℕ) → Below pid ps → filter (λ p. nat_lt p pid) ps ≡ ps
+low_all pid [] b = refl
+low_all pid (p ∷ ps) b =
+    let is : nat_lt p pid ≡ true = grind (arith, nat_tests, b.0) in
+    rw (is, low_all pid ps b.1) refl
+
+high_none : (pid : ℕ) (ps : List ℕ) → Below pid ps → filter (λ p. nat_lt pid p) ps ≡ []
+high_none pid [] b = refl
+high_none pid (p ∷ ps) b =
+    let is : nat_lt pid p ≡ false = grind (arith, nat_tests, b.0) in
+    rw (is, high_none pid ps b.1) refl
+
+with_last : (pid : ℕ) (ps : List ℕ) → Below pid ps → with_pid pid ps ≡ ps ++ pid ∷ []
+unfolding with_pid
+with_last pid ps b = rw (low_all pid ps b, high_none pid ps b) refl
+
+above_in : (p q : ℕ) (xs ys : List ℕ) → Above p (xs ++ q ∷ ys) → p < q
+above_in p q [] ys a = a.0
+above_in p q (x ∷ xs) ys a = above_in p q xs ys a.1
+
+below_front : (pid : ℕ) (xs ys : List ℕ) → Rising (xs ++ pid ∷ ys) → Below pid xs
+below_front pid [] ys r = tt
+below_front pid (x ∷ xs) ys r = (above_in x pid xs ys r.0, below_front pid xs ys r.1)
+
+-- what may stand behind a set
+abbrev pub EndsSet : List ℕ → Type 0
+EndsSet rest = (begins_number rest ≡ false) × (behind (codes ",") rest ≡ None)
+
+comma : (pids rest : List ℕ) → begins_number rest ≡ false → begins_number (flat_map next_pid_text pids ++ rest) ≡ false
+comma [] rest stops = stops
+comma (pid ∷ pids) rest stops = refl
+
+fits_first : (set : List ℕ) (pid : ℕ) (pids : List ℕ) → All (λ p. p < 65536) (pid ∷ pids) → pid < 65536
+fits_first set pid pids all = All-head (λ p. p < 65536) pid pids all
+
+not_full : (set : List ℕ) (pid n : ℕ) → length set + (1 + n) ≤ 32 → is_full_for pid set ≡ false
+not_full set pid n room =
+    let few : nat_eq (length set) 32 ≡ false = grind (arith, nat_tests) in
+    rw few (no_more (not (has_pid pid set)))
+  where
+    no_more : (b : Bool) → (b && false) ≡ false
+    no_more true = refl
+    no_more false = refl
+
+more_again : (left : ℕ) (set pids rest : List ℕ) → length pids ≤ left → length set + length pids ≤ 32 → Rising (set ++ pids) → All (λ p. p < 65536) pids → EndsSet rest
+    → more_pids left set (flat_map next_pid_text pids ++ rest) ≡ Some (set ++ pids, rest)
+unfolding more_pids pid_step
+more_again zero set [] rest few room up all ends = rw (append-nil set) refl
+more_again zero set (pid ∷ pids) rest few room up all ends = absurd (omega arith)
+more_again (suc left) set [] rest few room up all ends = rw (append-nil set, ends.1) refl
+more_again (suc left) set (pid ∷ pids) rest few room up all ends =
+    let long : length (set ++ pid ∷ []) ≡ length set + 1 = length-append set (pid ∷ []) in
+    let open_ : is_full_for pid set ≡ false = not_full set pid (length pids) (omega arith) in
+    let fits : pid < 65536 = All-head (λ p. p < 65536) pid pids all in
+    let one : number16 (decimal pid ++ (flat_map next_pid_text pids ++ rest)) ≡ Some (pid, flat_map next_pid_text pids ++ rest) = number16_again pid (flat_map next_pid_text pids ++ rest) fits (comma pids rest ends.0) in
+    let last : with_pid pid set ≡ set ++ pid ∷ [] = with_last pid set (below_front pid set pids up) in
+    let same : (set ++ pid ∷ []) ++ pids ≡ set ++ pid ∷ pids = append_assoc set (pid ∷ []) pids in
+    let later : more_pids left (set ++ pid ∷ []) (flat_map next_pid_text pids ++ rest) ≡ Some ((set ++ pid ∷ []) ++ pids, rest) =
+    more_again left (set ++ pid ∷ []) pids rest (omega arith) (omega arith) (rw same up) (All-tail (λ p. p < 65536) pid pids all) ends in
+    rw (append_assoc (decimal pid) (flat_map next_pid_text pids) rest, one, open_, last, later, same) refl
+
+all_small : (pids : List ℕ) → ((i : ℕ) → i < length pids → get_or pids i 0 < 2 ^ 16) → All (λ p. p < 65536) pids
+all_small pids each = All-from_get_or (λ p. p < 65536) pids 0 (λ i below. omega (arith, each i below))
+
+pub pids_again : (pids rest : List ℕ) → IsPidSet pids → EndsSet rest → pids_in (pids_text pids ++ rest) ≡ Some (pids, rest)
+unfolding pids_in pids_text
+pids_again [] rest is ends = refl
+pids_again (pid ∷ pids) rest is ends =
+    let all : All (λ p. p < 65536) (pid ∷ pids) = all_small (pid ∷ pids) (λ i below. is.0.fits i) in
+    let fits : pid < 65536 = All-head (λ p. p < 65536) pid pids all in
+    let one : number16 (decimal pid ++ (flat_map next_pid_text pids ++ rest)) ≡ Some (pid, flat_map next_pid_text pids ++ rest) = number16_again pid (flat_map next_pid_text pids ++ rest) fits (comma pids rest ends.0) in
+    let dash : behind (45 ∷ []) (decimal pid ++ (flat_map next_pid_text pids ++ rest)) ≡ None = number_apart 45 pid (flat_map next_pid_text pids ++ rest) (omega arith) refl in
+    let later : more_pids 31 (pid ∷ []) (flat_map next_pid_text pids ++ rest) ≡ Some (pid ∷ pids, rest) =
+    more_again 31 (pid ∷ []) pids rest (omega (arith, is.1)) (omega (arith, is.1)) (rising-from (pid ∷ pids) is.0.ascending) (All-tail (λ p. p < 65536) pid pids all) ends in
+    let whole : pids_in (decimal pid ++ (flat_map next_pid_text pids ++ rest)) ≡ Some (pid ∷ pids, rest) = rw (dash, choose, one, later) refl in
+    rw (append_assoc (decimal pid) (flat_map next_pid_text pids) rest) whole
+
+-- ------ filters
+
+pub place_again : (p : Place) (rest : List ℕ) → p.number ≤ 15 → HasBytes p → place_in (place_text p ++ rest) ≡ Some (p, rest)
+unfolding place_in byte_in
+place_again p rest low bytes =
+    let n : number_in 0 15 (decimal p.number ++ (bytes_behind p ++ rest)) ≡ Some (p.number, bytes_behind p ++ rest) = number_again 0 15 p.number (bytes_behind p ++ rest) (omega arith) (omega arith) low refl in
+    let f : hex_byte (digit_text (p.filter / 16)) (digit_text (p.filter % 16)) ≡ Some p.filter = hex_byte-byte_text p.filter bytes.0 in
+    let m : hex_byte (digit_text (p.mask / 16)) (digit_text (p.mask % 16)) ≡ Some p.mask = hex_byte-byte_text p.mask bytes.1 in
+    let d : hex_byte (digit_text (p.mode / 16)) (digit_text (p.mode % 16)) ≡ Some p.mode = hex_byte-byte_text p.mode bytes.2 in
+    rw (append_assoc (decimal p.number) (bytes_behind p) rest, n, f, m, d) refl
+
+-- a place with its number and bytes in their ranges
+abbrev pub IsPlace : Place → Type 0
+IsPlace p = (p.number ≤ 15) × HasBytes p
+
+places_again : (left : ℕ) (g : SectionFilter) (ps : List Place) (rest : List ℕ) → length ps ≤ left → All IsPlace ps → begins_place rest ≡ false
+    → more_places left g (flat_map (λ word. codes " " ++ word) (map place_text ps) ++ rest) ≡ Some (fold with_place g ps, rest)
+unfolding more_places place_step
+places_again zero g [] rest few all ends = refl
+places_again zero g (p ∷ ps) rest few all ends = absurd (omega arith)
+places_again (suc left) g [] rest few all ends = rw ends refl
+places_again (suc left) g (p ∷ ps) rest few all ends =
+    let is : IsPlace p = All-head IsPlace p ps all in
+    let more : List ℕ = flat_map (λ word. codes " " ++ word) (map place_text ps) ++ rest in
+    let one : place_in (place_text p ++ (flat_map (λ word. codes " " ++ word) (map place_text ps) ++ rest)) ≡ Some (p, flat_map (λ word. codes " " ++ word) (map place_text ps) ++ rest) =
+    place_again p (flat_map (λ word. codes " " ++ word) (map place_text ps) ++ rest) is.0 is.1 in
+    let begins : begins_number (decimal p.number ++ (bytes_behind p ++ (flat_map (λ word. codes " " ++ word) (map place_text ps) ++ rest))) ≡ true = number_begins p.number (bytes_behind p ++ (flat_map (λ word. codes " " ++ word) (map place_text ps) ++ rest)) (omega arith) in
+    let later = places_again left (with_place g p) ps rest (omega arith) (All-tail IsPlace p ps all) ends in
+    let same : (place_text p ++ flat_map (λ word. codes " " ++ word) (map place_text ps)) ++ rest ≡ place_text p ++ (flat_map (λ word. codes " " ++ word) (map place_text ps) ++ rest) = append_assoc (place_text p) (flat_map (λ word. codes " " ++ word) (map place_text ps)) rest in
+    let front : begins_number (place_text p ++ (flat_map (λ word. codes " " ++ word) (map place_text ps) ++ rest)) ≡ true = rw (append_assoc (decimal p.number) (bytes_behind p) (flat_map (λ word. codes " " ++ word) (map place_text ps) ++ rest)) begins in
+    rw (same, front, one) later
+
+below_each : (P : ℕ → Type 0) (n : ℕ) → ((i : ℕ) → i < n → P i) → All P (below n)
+unfolding below
+below_each P zero each = All-nil P
+below_each P (suc n) each = All-push P (below n) n (below_each P n (λ i few. each i (omega arith))) (each n (omega arith))
+
+at_is : (f : SectionFilter) (i : ℕ) → IsFilter f → i < 16 → IsPlace (place_at f i)
+at_is f i is few =
+    let a : i < length f.filter = rw is.0.0 few in
+    let b : i < length f.mask = rw is.1.0 few in
+    let c : i < length f.mode = rw is.2.0 few in
+    (omega arith, (All-get_or (λ byte. byte < 256) f.filter i 0 a is.0.1, All-get_or (λ byte. byte < 256) f.mask i 0 b is.1.1, All-get_or (λ byte. byte < 256) f.mode i 0 c is.2.1))
+
+places_are : (f : SectionFilter) → IsFilter f → All IsPlace (filter_places f)
+places_are f is =
+    All-filter (λ p. not (is_zero p)) IsPlace (map (place_at f) (below 16))
+    (All-map IsPlace (place_at f) (below 16) (below_each (λ i. IsPlace (place_at f i)) 16 (λ i few. at_is f i is few)))
+
+pub filter_again : (f : SectionFilter) (rest : List ℕ) → IsFilter f → begins_place rest ≡ false → filter_in (filter_text f ++ rest) ≡ Some (f, rest)
+unfolding filter_in
+filter_again f rest is ends =
+    let few : length (filter_places f) ≤ 16 = omega (arith, length-filter_words f, length-map (filter_places f) place_text) in
+    let all = places_again 16 (filter_with []) (filter_places f) rest few (places_are f is) ends in
+    let same : Some (filter_with (filter_places f), rest) ≡ Some (f, rest) = ap (λ (g : SectionFilter). Some (g, rest)) (filter_with-filter_places f is) in
+    rw (filter_text-words f) (all ∙ same)
+
+-- a filter's text begins with no digit
+words_end : (words : List (List ℕ)) (rest : List ℕ) → begins_number rest ≡ false → begins_number (flat_map (λ word. codes " " ++ word) words ++ rest) ≡ false
+words_end [] rest stops = stops
+words_end (word ∷ words) rest stops = refl
+
+pub filter_ends : (f : SectionFilter) (rest : List ℕ) → begins_number rest ≡ false → begins_number (filter_text f ++ rest) ≡ false
+filter_ends f rest stops = rw (filter_text-words f) (words_end (filter_words f) rest stops)

@@ -1,0 +1,17 @@
+use Rattle.std.proofs.Common.{◌≡◌, map}
+use Rattle.dmx_calls.specs.Calls.{told_entry}
+use Rattle.std.specs.List.{All}
+use Rattle.report_read.specs.Ranges.{IsEntryOf}
+use Rattle.report_read.specs.Inside.Reading.{onto, many, all_in, begins_number}
+use Rattle.report_read.specs.Inside.Entries.{entry_in}
+use Rattle.report_read.proofs.entries.read_entries.Given as goal
+
+abbrev pub invariant-entries : goal.invariant-entries
+invariant-entries l = record {
+  so_far : all_in begins_number (entry_in l.node) l.fn.bytes
+      ≡ onto (map told_entry l.entries.items) (many begins_number (entry_in l.node) l.left l.bytes);
+  range : All (IsEntryOf l.node) (map told_entry l.entries.items);
+}
+
+abbrev pub decreases-entries : goal.decreases-entries
+decreases-entries l = l.left

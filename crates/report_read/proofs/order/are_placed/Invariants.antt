@@ -1,0 +1,13 @@
+use Rattle.std.proofs.Common.{◌≡◌, ◌+◌, length, map}
+use Rattle.dmx_calls.specs.Calls.{told_entry}
+use Rattle.report_read.specs.Report.{are_placed}
+use Rattle.report_read.proofs.order.are_placed.Given as goal
+
+abbrev pub invariant-entries : goal.invariant-entries
+invariant-entries l = record {
+  so_far : are_placed 0 (map told_entry l.fn.entries) ≡ are_placed l.place (map told_entry l.rest);
+  left : length l.fn.entries ≡ l.place + length l.rest;
+}
+
+abbrev pub decreases-entries : goal.decreases-entries
+decreases-entries l = length l.rest

@@ -1,0 +1,5 @@
+use Rattle.report_read.proofs.Steps.{with_place_filter}
+use Rattle.report_read.proofs.sets.put.Goals as goal
+
+pub returns-clause-range : goal.returns-clause-range
+returns-clause-range c = rw c.set.ensures (with_place_filter c.args.filter c.args.place c.requires.filter c.requires.place)

@@ -1,0 +1,220 @@
+// Replies.
+ghost use Rattle.std.specs.Prelude.{◌≡◌, ◌+◌, ◌*◌, ◌≤◌, ◌++◌, length, true, false, Some, None, IfOk, IfSome, ◌<◌};
+ghost use Rattle.std.specs.List.{All};
+ghost use Rattle.report_read.specs.Ranges.{IsTapInRange, IsResponseInRange};
+ghost use Rattle.std.specs.Option.{option_map};
+ghost use Rattle.dmx_calls.specs.Calls.{response_of};
+ghost use Rattle.report_read.specs.Inside.Reading.{Reads, made, bytes_in};
+ghost use Rattle.dmx_calls.specs.Response.{Busy};
+ghost use Rattle.report_read.specs.Inside.Parts.{tap_in, done_in, data_in, overflow_in, timed_out_in, ready_in, other_response_in, refusal_in, response_in, who_in};
+
+use crate::bytes::Bytes;
+use crate::parts::{read_flag, read_pending, read_who};
+use crate::sets::read_pids;
+use dmx_calls::limits::LARGEST_READ;
+use dmx_calls::{ByteBuf, Errno, Reply, Span, Tap};
+use std::alloc::{AllocError as NoMemory, Global};
+
+#[tactic(auto, unfolding(crate::specs::Inside::Parts::tap_in))]
+fn read_tap(bytes: &mut Bytes<'_>) -> Option<Tap>
+    ensures value { Reads result bytes.new (tap_in bytes.old) }
+    ensures range { IfSome result IsTapInRange }
+{
+    if bytes.passes(b"keep") {
+        return Some(Tap::Keep);
+    }
+    if bytes.passes(b"attach:") {
+        return Some(Tap::Attach(read_pids(bytes)?));
+    }
+    bytes.past(b"detach")?;
+    Some(Tap::Detach)
+}
+
+#[tactic(auto, unfolding(crate::specs::Inside::Parts::done_in))]
+fn read_done(bytes: &mut Bytes<'_>) -> Option<Reply>
+    ensures value { Reads (option_map response_of result) bytes.new (done_in bytes.old) }
+    ensures range { IfSome result (λ r. IsResponseInRange (response_of r)) }
+{
+    let from = bytes.number64()?;
+    bytes.past(b"..")?;
+    let to = bytes.number64()?;
+    bytes.past(b" tap=")?;
+    let tap = read_tap(bytes)?;
+    Some(Reply::Done {
+        dropped: Span { from, to },
+        tap,
+    })
+}
+
+#[tactic(auto, unfolding(crate::specs::Inside::Parts::overflow_in))]
+fn read_overflow(bytes: &mut Bytes<'_>) -> Option<Reply>
+    ensures value { Reads (option_map response_of result) bytes.new (overflow_in bytes.old) }
+    ensures range { IfSome result (λ r. IsResponseInRange (response_of r)) }
+{
+    let from = bytes.number64()?;
+    bytes.past(b"..")?;
+    let to = bytes.number64()?;
+    bytes.past(b" item=")?;
+    let item = bytes.number64()?;
+    bytes.past(b" need=")?;
+    let need = bytes.number64()?;
+    bytes.past(b" room=")?;
+    let room = bytes.number64()?;
+    Some(Reply::Overflow {
+        from,
+        to,
+        item,
+        need,
+        room,
+    })
+}
+
+#[tactic(auto, unfolding(crate::specs::Inside::Parts::timed_out_in))]
+fn read_timed_out(bytes: &mut Bytes<'_>) -> Option<Reply>
+    ensures value { Reads (option_map response_of result) bytes.new (timed_out_in bytes.old) }
+    ensures range { IfSome result (λ r. IsResponseInRange (response_of r)) }
+{
+    let started = bytes.number64()?;
+    bytes.past(b" now=")?;
+    let now = bytes.number64()?;
+    bytes.past(b" timeout=")?;
+    let timeout = bytes.number32()?;
+    Some(Reply::TimedOut {
+        started,
+        now,
+        timeout,
+    })
+}
+
+#[tactic(auto, unfolding(crate::specs::Inside::Parts::ready_in))]
+fn read_ready(bytes: &mut Bytes<'_>) -> Option<Reply>
+    ensures value { Reads (option_map response_of result) bytes.new (ready_in bytes.old) }
+    ensures range { IfSome result (λ r. IsResponseInRange (response_of r)) }
+{
+    let readable = read_flag(bytes)?;
+    bytes.past(b" error=")?;
+    let error = read_pending(bytes)?;
+    bytes.past(b" at=")?;
+    let at = bytes.number64()?;
+    bytes.past(b" ended=")?;
+    let ended = read_flag(bytes)?;
+    Some(Reply::Ready {
+        readable,
+        error,
+        at,
+        ended,
+    })
+}
+
+// The bytes whose digits stand at the front.
+fn read_bytes(alloc: Global, bytes: &mut Bytes<'_>) -> Result<Vec<u8>, NoMemory>
+    ensures value { IfOk result (λ read. bytes_in bytes.old ≡ (read.items, bytes.new)) }
+    ensures range { IfOk result (λ read. All (λ byte. byte < 256) read.items) }
+{
+    let mut read = Vec::new(alloc);
+    'bytes: while let Some(byte) = bytes.pair() {
+        read.push(byte)?;
+    }
+    Ok(read)
+}
+
+// The buffer of a read that gave these bytes.
+fn filled(alloc: Global, bytes: &[u8]) -> Result<ByteBuf, NoMemory>
+    requires { length bytes.now ≤ 65536 }
+    ensures { IfOk result (λ buf. buf.bytes ≡ bytes.now) }
+{
+    let mut buf = ByteBuf::new(alloc, bytes.len() as u32)?;
+    buf.append(bytes);
+    Ok(buf)
+}
+
+#[tactic(auto, unfolding(crate::specs::Inside::Parts::data_in))]
+fn read_data(alloc: Global, bytes: &mut Bytes<'_>) -> Result<Option<Reply>, NoMemory>
+    ensures value { IfOk result (λ reply. Reads (option_map response_of reply) bytes.new (data_in bytes.old)) }
+    ensures range { IfOk result (λ reply. IfSome reply (λ r. IsResponseInRange (response_of r))) }
+{
+    if bytes.passes(b"-") {
+        return Ok(Some(Reply::Data(ByteBuf::new(alloc, 0)?)));
+    }
+    let read = read_bytes(alloc, bytes)?;
+    if read.len() > LARGEST_READ as usize {
+        return Ok(None);
+    }
+    let buf = filled(alloc, &read)?;
+    Ok(Some(Reply::Data(buf)))
+}
+
+// A reply that takes no memory, but for the first and the refusals.
+#[tactic(auto, unfolding(crate::specs::Inside::Parts::other_response_in))]
+fn read_other(alloc: Global, bytes: &mut Bytes<'_>) -> Result<Option<Reply>, NoMemory>
+    ensures value { IfOk result (λ reply. Reads (option_map response_of reply) bytes.new (other_response_in bytes.old)) }
+    ensures range { IfOk result (λ reply. IfSome reply (λ r. IsResponseInRange (response_of r))) }
+{
+    if bytes.passes(b"data ") {
+        return read_data(alloc, bytes);
+    }
+    if bytes.passes(b"again ended=") {
+        return Ok(read_flag(bytes).map(|ended| Reply::Again { ended }));
+    }
+    if bytes.passes(b"overflow ") {
+        return Ok(read_overflow(bytes));
+    }
+    if bytes.passes(b"timedout started=") {
+        return Ok(read_timed_out(bytes));
+    }
+    if bytes.passes(b"ready readable=") {
+        return Ok(read_ready(bytes));
+    }
+    if bytes.passes(b"passed") {
+        return Ok(Some(Reply::Passed));
+    }
+    Ok(None)
+}
+
+// A refusal, or one of those.
+#[tactic(auto, unfolding(crate::specs::Inside::Parts::refusal_in))]
+fn read_refusal(alloc: Global, bytes: &mut Bytes<'_>) -> Result<Option<Reply>, NoMemory>
+    ensures value { IfOk result (λ reply. Reads (option_map response_of reply) bytes.new (refusal_in bytes.old)) }
+    ensures range { IfOk result (λ reply. IfSome reply (λ r. IsResponseInRange (response_of r))) }
+{
+    if bytes.passes(b"EBADF") {
+        return Ok(Some(Reply::Refused(Errno::Ebadf)));
+    }
+    if bytes.passes(b"EBUSY") {
+        return Ok(Some(Reply::Refused(Errno::Ebusy)));
+    }
+    if bytes.passes(b"EINVAL") {
+        return Ok(Some(Reply::Refused(Errno::Einval)));
+    }
+    if bytes.passes(b"ENOSPC") {
+        return Ok(Some(Reply::Refused(Errno::Enospc)));
+    }
+    if bytes.passes(b"ENOMEM") {
+        return Ok(Some(Reply::NoMemory));
+    }
+    read_other(alloc, bytes)
+}
+
+// Who owns the node.
+fn read_busy(bytes: &mut Bytes<'_>) -> Option<Reply>
+    ensures value { Reads (option_map response_of result) bytes.new (made Busy (who_in bytes.old)) }
+    ensures range { IfSome result (λ r. IsResponseInRange (response_of r)) }
+{
+    let owner = read_who(bytes)?;
+    Some(Reply::Busy { owner })
+}
+
+/// A reply.
+#[tactic(auto, unfolding(crate::specs::Inside::Parts::response_in))]
+pub fn read_reply(alloc: Global, bytes: &mut Bytes<'_>) -> Result<Option<Reply>, NoMemory>
+    ensures value { IfOk result (λ reply. Reads (option_map response_of reply) bytes.new (response_in bytes.old)) }
+    ensures range { IfOk result (λ reply. IfSome reply (λ r. IsResponseInRange (response_of r))) }
+{
+    if bytes.passes(b"done drop=") {
+        return Ok(read_done(bytes));
+    }
+    if bytes.passes(b"busy owner=") {
+        return Ok(read_busy(bytes));
+    }
+    read_refusal(alloc, bytes)
+}
