@@ -82,7 +82,7 @@ static SESSIONS: [Session; 11] = [
             c0 read n0 100 = data 47010010|0*192\n\
             feed 2\n\
             c0 poll n0 = ready readable=1 error=none at=100 ended=0\n\
-            c0 read n0 300 = data 0*176|47010011|0*368\n\
+            c0 read n0 300 = data |0*176|47010011|0*368\n\
             c0 poll n0 = ready readable=1 error=overflow at=376 ended=0\n\
             c0 read n0 188 = overflow 376..752 item=2 need=188 room=100\n",
         stream: &[FIRST, SECOND, THIRD, FOURTH],
