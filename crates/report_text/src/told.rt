@@ -55,9 +55,9 @@ pub fn told_report(
     nodes: &[(u32, Vec<Entry>)],
 ) -> Result<Vec<u8>, NoMemory>
     ensures { IfOk result (λ text. text.items ≡ text_of (record {
-        head = told_head head.now;
-        outcomes = map (λ o. o.items) outcomes.now;
-        nodes = map (λ n. record { node = n.0; entries = map told_entry n.1.items }) nodes.now
+      head = told_head head.now;
+      outcomes = map (λ o. o.items) outcomes.now;
+      nodes = map (λ n. record { node = n.0; entries = map told_entry n.1.items }) nodes.now;
     })) }
 {
     let mut out = Vec::with_capacity(alloc, room)?;
