@@ -1,5 +1,6 @@
-// The tests of spellings, those of the words of the command line, and those of reports.
+// The tests of spellings, of the words of the command line, of reports that are written, and of those that are read.
 
 mod commands;
+mod reading;
 mod reports;
 mod spellings;
