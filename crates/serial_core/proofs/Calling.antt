@@ -1,15 +1,17 @@
 -- A client's call is paid for: what it adds to the repeats, it adds to the bytes, or the client waits.
-use Rattle.std.proofs.Common.{◌≡◌, refl, sym, ap, subst, ℕ, zero, suc, ◌+◌, ◌*◌, ◌≤◌, Bool, true, false, ◌||◌, nat_eq, List, [], ◌∷◌, ◌++◌, Option, Some, None, length, ◌⊎◌, inl, inr, arith, length-append}
-use Rattle.std.specs.Prelude.{if◌then◌else◌, slice_index_or, slice_set, sum_by, is_some, option_map}
+use Rattle.std.proofs.Common.{◌≡◌, refl, sym, ap, subst, ℕ, ◌+◌, ◌*◌, ◌≤◌, Bool, true, false, ◌||◌, nat_lt, List, [], ◌∷◌, ◌++◌, Option, Some, None, length, ◌⊎◌, inl, inr, arith, length-append}
+use Rattle.std.specs.Prelude.{if◌then◌else◌, slice_index_or, slice_set, sum_by, is_some}
 use Rattle.std.specs.List.{All}
 use Rattle.std.proofs.lemmas.List.Sums.{sum_by-append, sum_by-cons}
 use Rattle.dmx_calls.specs.declared.limits.TheConstants.{DEMUX_NODES}
-use Rattle.dmx_calls.specs.Response.{Response, Again}
-use Rattle.dmx_calls.specs.Bytes.{OverflowNamesAByte}
-use Rattle.dmx_calls.specs.History.{History}
-use Rattle.dmx_calls.specs.Rules as rules
-use Rattle.dmx_calls.specs.Rules.{Rules}
+use Rattle.dmx_calls.specs.declared.reply.Errno.TheVariants.{Ebadf}
+use Rattle.dmx_calls.specs.Invocation as call
+use Rattle.dmx_calls.specs.Response.{Response, Again, Refused}
+use Rattle.dmx_calls.specs.Tenure.{tenure, owner}
+use Rattle.dmx_calls.specs.Facts.{facts}
 use Rattle.dmx_calls.specs.Answer.{answer}
+use Rattle.dmx_calls.specs.Bytes.{OverflowNamesAByte}
+use Rattle.dmx_calls.specs.Rules.{demux, dvr, rules_at}
 use Rattle.dmx_calls.proofs.Nodes.{demux_keeps, dvr_keeps}
 use Rattle.dmx_calls.proofs.Pending.{names_a_byte}
 use Rattle.client_script.specs.declared.line.Line.{Line}
@@ -17,17 +19,16 @@ use Rattle.client_core.specs.declared.event.Event.{Event}
 use Rattle.client_core.specs.declared.event.Want.{Want}
 use Rattle.client_core.specs.declared.event.Want.TheVariants.{Open, Close, Section, Pes, Add, Remove, Start, Stop, Size, Read, Poll, Attach, Detach}
 use Rattle.client_core.specs.Commands.{call_of, commands_of, ends_drain}
-use Rattle.client_core.specs.Events.{Standing, progress, next_event, next_of_line, standing_at, waits_on}
+use Rattle.client_core.specs.Events.{progress, next_event, waits_on}
 use Rattle.client_core.specs.Budget.{bytes_in, repeats}
 use Rattle.client_core.specs.Inside.More.{added_by}
 use Rattle.client_core.proofs.FirstCalls.{few}
-use Rattle.client_core.proofs.Options.{none_ne_some}
 use Rattle.client_core.proofs.More.{one_reply_more, some_of}
-use Rattle.serial_core.specs.Nodes.{Node, history_of}
+use Rattle.serial_core.specs.Nodes.{Node, uncalled, answer_by, history_of}
 use Rattle.serial_core.specs.SerialRun.{Run, ended, replies_of}
 use Rattle.serial_core.specs.Budget.{bytes_to, bytes_by, bytes_by_all, one_if, HasBrought, IsPaid}
 use Rattle.client_core.proofs.ReadReplies.{IsReadReply, IsOpenAgain, not_ended, reads}
-use Rattle.serial_core.proofs.Paid.{Brought}
+use Rattle.serial_core.proofs.Replies.{index_set}
 
 -- ------ one reply
 
@@ -78,53 +79,48 @@ added_one Poll r = omega arith
 added_one (Attach n ps) r = omega arith
 added_one (Detach n) r = omega arith
 
-module _ (node : Rules) (names : OverflowNamesAByte node) where
-  -- the answer of a node to the call of a client
-  answers : (ended : Bool) (n who now : ℕ) (h : History) (w : Want) → HasBrought node n ended h → IsAnswer ended w (answer node h who (call_of w now))
-  answers ended n who now h (Read count) b = subst (λ has. IsReadReply has (answer node h who (call_of (Read count) now))) b.ended (reads node names h who now count b.legal)
-  answers ended n who now h Open b = tt
-  answers ended n who now h Close b = tt
-  answers ended n who now h (Section p) b = tt
-  answers ended n who now h (Pes p) b = tt
-  answers ended n who now h (Add p) b = tt
-  answers ended n who now h (Remove p) b = tt
-  answers ended n who now h Start b = tt
-  answers ended n who now h Stop b = tt
-  answers ended n who now h (Size p) b = tt
-  answers ended n who now h Poll b = tt
-  answers ended n who now h (Attach m ps) b = tt
-  answers ended n who now h (Detach m) b = tt
+names_at : (number : ℕ) → OverflowNamesAByte (rules_at number)
+unfolding rules_at
+names_at number = go (nat_lt number DEMUX_NODES) where
+  go : (b : Bool) → OverflowNamesAByte (if b then demux else dvr)
+  go true = names_a_byte demux demux_keeps
+  go false = names_a_byte dvr dvr_keeps
 
-pub demux_answers : (ended : Bool) (n : ℕ) (node : Node) (who now : ℕ) (w : Want) → HasBrought rules.demux n ended (history_of node) → IsAnswer ended w (answer rules.demux (history_of node) who (call_of w now))
-demux_answers ended n node who now w b = answers rules.demux (names_a_byte rules.demux demux_keeps) ended n who now (history_of node) w b
+-- only a read asks for something
+is_answer : (ended : Bool) (w : Want) (r : Response) → ((count : ℕ) → w ≡ Read count → IsReadReply ended r) → IsAnswer ended w r
+is_answer ended (Read count) r read = read count refl
+is_answer ended Open r read = tt
+is_answer ended Close r read = tt
+is_answer ended (Section p) r read = tt
+is_answer ended (Pes p) r read = tt
+is_answer ended (Add p) r read = tt
+is_answer ended (Remove p) r read = tt
+is_answer ended Start r read = tt
+is_answer ended Stop r read = tt
+is_answer ended (Size p) r read = tt
+is_answer ended Poll r read = tt
+is_answer ended (Attach m ps) r read = tt
+is_answer ended (Detach m) r read = tt
 
-pub dvr_answers : (ended : Bool) (n : ℕ) (node : Node) (who now : ℕ) (w : Want) → HasBrought rules.dvr n ended (history_of node) → IsAnswer ended w (answer rules.dvr (history_of node) who (call_of w now))
-dvr_answers ended n node who now w b = answers rules.dvr (names_a_byte rules.dvr dvr_keeps) ended n who now (history_of node) w b
+-- the answer of a node to the call of a client
+pub answers : (ended : Bool) (n who now : ℕ) (node : Node) (w : Want) → HasBrought n ended node → IsAnswer ended w (answer_by who (call_of w now) node)
+answers ended n who now node w b =
+    is_answer ended w (answer_by who (call_of w now) node)
+    (λ count is. subst (λ v. IsReadReply ended (answer_by who (call_of v now) node)) (sym is)
+    (subst (λ has. IsReadReply has (answer_by who (call_of (Read count) now) node)) b.ended (reads (rules_at node.number) (names_at node.number) (history_of node) who now count b.legal)))
 
--- ------ the replies of all clients
+-- a node on which no call was made refuses a read
+read_refused : (number who now count : ℕ) → answer (rules_at number) [] who (call.Read now count) ≡ Refused Ebadf
+unfolding answer facts owner tenure rules_at
+read_refused number who now count = go (nat_lt number DEMUX_NODES) where
+  go : (b : Bool) → answer (if b then demux else dvr) [] who (call.Read now count) ≡ Refused Ebadf
+  go true = refl
+  go false = refl
 
--- another client's replies stay, and so do those of a client that isn't there
-pub index_set : (xs : List (List Response)) (i j : ℕ) (y : List Response) → (slice_index_or (slice_set xs i y) j [] ≡ slice_index_or xs j []) ⊎ (j ≡ i) × (slice_index_or (slice_set xs i y) j [] ≡ y)
-index_set [] i j y = inl refl
-index_set (x ∷ xs) zero zero y = inr (refl, refl)
-index_set (x ∷ xs) zero (suc j) y = inl refl
-index_set (x ∷ xs) (suc i) zero y = inl refl
-index_set (x ∷ xs) (suc i) (suc j) y = go (index_set xs i j y) where
-  go : (slice_index_or (slice_set xs i y) j [] ≡ slice_index_or xs j []) ⊎ (j ≡ i) × (slice_index_or (slice_set xs i y) j [] ≡ y)
-      → (slice_index_or (slice_set (x ∷ xs) (suc i) y) (suc j) [] ≡ slice_index_or (x ∷ xs) (suc j) []) ⊎ (suc j ≡ suc i) × (slice_index_or (slice_set (x ∷ xs) (suc i) y) (suc j) [] ≡ y)
-  go (inl same) = inl same
-  go (inr mine) = inr (ap suc mine.0, mine.1)
-
--- what stands at a line stands next
-pub next_at_line : (client : ℕ) (lines : List Line) (line : ℕ) (rs : List Response) (e : Event) → next_of_line client lines line rs ≡ Some e → next_event client lines rs ≡ Some e
-next_at_line client lines line rs e is = go (progress client lines rs).standing is where
-  by_line : (s : Standing) (b : Bool) → (if b then Some s.event else None) ≡ Some e → Some s.event ≡ Some e
-  by_line s true at = at
-  by_line s false at = absurd (none_ne_some e at)
-
-  go : (o : Option Standing) → standing_at line o ≡ Some e → option_map (λ s. s.event) o ≡ Some e
-  go None at = absurd (none_ne_some e at)
-  go (Some s) at = by_line s (nat_eq s.line line) at
+pub answers_fresh : (ended : Bool) (number who now : ℕ) (w : Want) → IsAnswer ended w (answer_by who (call_of w now) (uncalled number))
+answers_fresh ended number who now w =
+    is_answer ended w (answer_by who (call_of w now) (uncalled number))
+    (λ count is. subst (λ v. IsReadReply ended (answer_by who (call_of v now) (uncalled number))) (sym is) (subst (IsReadReply ended) (sym (read_refused number who now count)) tt))
 
 module _ (lines : List Line) (packets : List (List ℕ)) where
   -- the repeats of a client are paid for by so many turns, where it does not wait
@@ -132,13 +128,12 @@ module _ (lines : List Line) (packets : List (List ℕ)) where
   IsReady client r = repeats client lines (replies_of client r) ≤ r.turns + bytes_to client r + one_if r.has_ended
 
   -- the run with a client's call: these nodes, and the reply behind the client's replies
-  abbrev with_call : (client : ℕ) → Response → List Node → Node → Run → Run
-  with_call client x ds d r = record r { demux = ds; dvr = d; replies = slice_set r.replies client (replies_of client r ++ x ∷ []) }
+  abbrev with_call : (client : ℕ) → Response → List Node → Run → Run
+  with_call client x ns r = record r { nodes = ns; replies = slice_set r.replies client (replies_of client r ++ x ∷ []) }
 
-  module _ (client : ℕ) (x : Response) (e : Event) (ds : List Node) (d : Node) (r : Run) (p : IsPaid lines packets r) (ready : IsReady client r)
+  module _ (client : ℕ) (x : Response) (e : Event) (ns : List Node) (r : Run) (p : IsPaid lines packets r) (ready : IsReady client r)
       (stands : next_event client lines (replies_of client r) ≡ Some e) (is : IsAnswer r.has_ended e.want x)
-      (long : length ds ≡ DEMUX_NODES) (demux : All (Brought r.first r.has_ended) ds) (dvr : HasBrought rules.dvr r.first r.has_ended (history_of d))
-      (bytes : sum_by bytes_by ds + bytes_by d ≡ bytes_by_all r + bytes_in x) where
+      (long : length ns ≡ DEMUX_NODES + 1) (brought : All (HasBrought r.first r.has_ended) ns) (bytes : sum_by bytes_by ns ≡ bytes_by_all r + bytes_in x) where
     more_bytes : sum_by bytes_in (replies_of client r ++ x ∷ []) ≡ bytes_to client r + bytes_in x
     more_bytes = omega (arith, sum_by-append bytes_in (replies_of client r) (x ∷ []), sum_by-cons bytes_in x [])
 
@@ -184,7 +179,7 @@ module _ (lines : List Line) (packets : List (List ℕ)) where
           one_ended false = omega arith
 
     abbrev after : Run
-    after = with_call client x ds d r
+    after = with_call client x ns r
 
     abbrev IsEither : (other : ℕ) → Type 0
     IsEither other = (replies_of other after ≡ replies_of other r) ⊎ (other ≡ client) × (replies_of other after ≡ replies_of client r ++ x ∷ [])
@@ -215,8 +210,7 @@ module _ (lines : List Line) (packets : List (List ℕ)) where
       nodes = long;
       whole = p.whole;
       are_packets = p.are_packets;
-      demux = demux;
-      dvr = dvr;
+      brought = brought;
       turns = p.turns;
       bytes = λ other. all_bytes other (either other);
       repeats = λ other. all_repeats other (either other);

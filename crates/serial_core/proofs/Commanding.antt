@@ -1,8 +1,7 @@
 -- How the calls of a command bring the run further.
-use Rattle.std.proofs.Common.{◌≡◌, refl, sym, ap, subst, ◌∙◌, ℕ, ◌<◌, ◌≤◌, Bool, true, false, List, [], ◌∷◌, ◌++◌, Option, Some, None, length, nat_lt, if◌then◌else◌, arith}
+use Rattle.std.proofs.Common.{◌≡◌, refl, sym, ap, subst, ◌∙◌, ℕ, ◌<◌, ◌≤◌, Bool, true, false, List, [], ◌∷◌, ◌++◌, Option, Some, None, length, if◌then◌else◌, arith}
 use Rattle.std.specs.Prelude.{is_some, slice_index_or}
 use Rattle.std.proofs.lemmas.List.{get_or-set_same, get_or-set_other, length-set}
-use Rattle.dmx_calls.specs.declared.limits.TheConstants.{DEMUX_NODES}
 use Rattle.client_script.specs.declared.line.Line.{Line}
 use Rattle.client_core.specs.declared.event.Event.{Event}
 use Rattle.client_core.specs.Inside.Core.{Core, IsAfter}
@@ -10,27 +9,14 @@ use Rattle.client_core.specs.Events.{next_of_line, waits_on}
 use Rattle.serial_core.specs.declared.nodes.Nodes.{Nodes}
 use Rattle.serial_core.specs.declared.runner.Runner.{Runner}
 use Rattle.serial_core.specs.SerialRun.{Run, replies_of, called, made, reply_to, after_waiting, turned, calls}
-use Rattle.serial_core.specs.Budget.{one_if}
+use Rattle.serial_core.specs.Budget.{one_if, IsPaid}
 use Rattle.serial_core.specs.Inside.Standing.{IsNodes}
 use Rattle.serial_core.specs.Inside.Moving.{Moves, ComesByCalls}
 use Rattle.feed_pull.proofs.Drawing.{draws_none}
-use Rattle.serial_core.proofs.Replies.{waiting_replies}
-use Rattle.serial_core.proofs.Within.{paid_next_of_line}
+use Rattle.serial_core.proofs.Keeping.{kept_called, waiting_replies}
+use Rattle.serial_core.proofs.Within.{paid_steps}
 
 -- ------ one call
-
--- a call on a node leaves the stream and the moment
-record Leaves (r s : Run) : Type 0 where
-  left : s.left ≡ r.left
-  first : s.first ≡ r.first
-  moment : s.moment ≡ r.moment
-
-if_leaves : (b : Bool) (x y r : Run) → Leaves r x → Leaves r y → Leaves r (if b then x else y)
-if_leaves true x y r a b = a
-if_leaves false x y r a b = b
-
-made_leaves : (client : ℕ) (e : Event) (r : Run) → Leaves r (made client e r)
-made_leaves client e r = if_leaves (nat_lt e.node DEMUX_NODES) _ _ r (record { left = refl; first = refl; moment = refl }) (record { left = refl; first = refl; moment = refl })
 
 pub moves_called : (x : Option (List ℕ)) (n : ℕ) (old : Runner) (v : Nodes) (client : ℕ) (e : Event) (P : Run → Type 0)
     → ((r : Run) → old.moment ≡ r.moment → IsNodes old.nodes r → IsNodes v (made client e r)) → ((r : Run) → old.moment ≡ r.moment → IsNodes old.nodes r → P r)
@@ -39,16 +25,11 @@ moves_called x n old v client e P goes says = record {
   packets = [];
   draws = draws_none x n old.puller;
   at = λ ahead taken given later r pulls stops at left.
-      let k = goes r at.moment at.nodes in
-      let m = made_leaves client e r in (
+      let k = goes r at.moment at.nodes in (
         called client e r,
         (refl, says r at.moment at.nodes),
-        record {
-          nodes = record { demux = k.demux; dvr = k.dvr; turns = k.turns; has_ended = k.has_ended };
-          first = at.first ∙ sym m.first;
-          moment = at.moment ∙ sym m.moment;
-        },
-        m.left ∙ left,
+        record { nodes = record { seats = k.seats; turns = k.turns; has_ended = k.has_ended }; first = at.first; moment = at.moment },
+        left,
       );
   done = λ ahead taken given pulls done. (done, refl);
 }
@@ -88,7 +69,7 @@ comes_on lines batch client line first now s core next e some lt comes is to aft
       clients = length-set waited.replies client _ ∙ long;
       others = λ other ne. get_or-set_other waited.replies client other _ [] ne ∙ (ap (λ rs. slice_index_or rs other []) same ∙ comes.others other ne);
       worked = λ t w. comes.worked t (calls now t e is w);
-      paid = λ packets p. paid_next_of_line lines packets batch client line now e some (comes.paid packets p) is;
+      paid = λ packets p. kept_called lines batch 8 (IsPaid lines packets) (paid_steps lines packets batch 8 some) client line now e lt is (comes.paid packets p);
     }
 
 pub none_by : (o : Option Event) → ((x : Event) → o ≡ Some x → ⊥) → o ≡ None

@@ -2,7 +2,7 @@
 use Rattle.std.proofs.Common.{length-append, Option, Result, Ok, Err, IfOk, ◌≡◌, refl, sym, ap, subst, ◌∙◌, ℕ, suc, ◌+◌, ◌≤◌, ◌<◌, true, List, [], ◌∷◌, ◌++◌, length, map, fold, max, add-one, append-nil, arith}
 use Rattle.std.specs.Prelude.{All, slice_index_or}
 use Rattle.std.specs.List.{range_with_len}
-use Rattle.std.proofs.lemmas.List.{map-append, length-map, get_or-replicate, get_or_append_left}
+use Rattle.std.proofs.lemmas.List.{length-map, get_or-replicate, get_or_append_left}
 use Rattle.ts_packet.specs.Fields.{IsPacket}
 use Rattle.ts_packet.specs.Cut.{cut}
 use Rattle.std.proofs.lemmas.List.Elements.{All-nil, All-cons}
@@ -15,7 +15,6 @@ use Rattle.dmx_calls.specs.Log.{LogEntry}
 use Rattle.dmx_calls.specs.Histories.{feeder_acts, histories_of, woven, woven_nodes}
 use Rattle.client_script.specs.declared.line.Line.{Line}
 use Rattle.client_script.specs.Script.{clients_of, clients_in}
-use Rattle.node_core.specs.Stands.{CoreValue as DemuxCore}
 use Rattle.serial_core.specs.declared.seat.Seat.{Seat}
 use Rattle.serial_core.specs.declared.nodes.Nodes.{Nodes}
 use Rattle.client_core.specs.Inside.Core.{Core, IsAfter}
@@ -28,7 +27,7 @@ use Rattle.serial_core.specs.declared.run.Ran.{Ran}
 use Rattle.serial_core.specs.declared.runner.Runner.{Runner}
 use Rattle.serial_core.specs.Nodes.{Node, log_of}
 use Rattle.serial_core.specs.SerialRun.{Run, begun, replies_of, IsSerialRun}
-use Rattle.serial_core.specs.Inside.Standing.{Pairs, IsDemux, IsNodes, acts_on, acts_of}
+use Rattle.serial_core.specs.Inside.Standing.{Pairs, IsSeat, IsNodes, acts_on, acts_of}
 use Rattle.serial_core.specs.Inside.Legal.{AreLegal}
 use Rattle.serial_core.specs.Inside.Moving.{IsAt, Moves}
 use Rattle.serial_core.specs.Inside.Lines.{AreAfter, IsWholeBy, Overruns}
@@ -54,41 +53,25 @@ clients_within lines = each_client 0 lines
 
 -- ------ histories
 
-entries_of : Node → List LogEntry
-entries_of n = (log_of n).entries
-
-demux_woven : (first : ℕ) (acts : List Act) (seats : List (Seat DemuxCore)) (ns : List Node) (last : List (List LogEntry)) → Pairs (IsDemux acts) seats ns
-    → map (λ n. n.number) ns ≡ range_with_len first (length ns)
-    → woven_nodes first acts (map (λ seat. map told_entry seat.entries.items) seats ++ last) ≡ map (λ n. (log_of n).entries) ns ++ woven_nodes (first + length ns) acts last
-demux_woven first acts [] [] last p numbers = let e : first + 0 ≡ first = omega arith in rw e refl
-demux_woven first acts [] (n ∷ ns) last p numbers = absurd p
-demux_woven first acts (seat ∷ seats) [] last p numbers = absurd p
-demux_woven first acts (seat ∷ seats) (n ∷ ns) last p numbers =
+nodes_woven : (first : ℕ) (acts : List Act) (seats : List Seat) (ns : List Node) → Pairs (IsSeat acts) seats ns → map (λ n. n.number) ns ≡ range_with_len first (length ns)
+    → woven_nodes first acts (map (λ seat. map told_entry seat.entries.items) seats) ≡ map (λ n. (log_of n).entries) ns
+nodes_woven first acts [] [] p numbers = refl
+nodes_woven first acts [] (n ∷ ns) p numbers = absurd p
+nodes_woven first acts (seat ∷ seats) [] p numbers = absurd p
+nodes_woven first acts (seat ∷ seats) (n ∷ ns) p numbers =
     let here : n.number ≡ first = cc in
     let behind : map (λ n. n.number) ns ≡ range_with_len (suc first) (length ns) = rw (sym (add-one first)) (cc) in
-    let sum : suc first + length ns ≡ first + suc (length ns) = omega arith in
     let one : woven first acts (map told_entry seat.entries.items) ≡ (log_of n).entries = subst (λ k. woven k acts (map told_entry seat.entries.items) ≡ (log_of n).entries) here p.0.log in
-    ap (λ l. l ∷ woven_nodes (suc first) acts (map (λ seat. map told_entry seat.entries.items) seats ++ last)) one
-    ∙ ap (λ l. (log_of n).entries ∷ l) (demux_woven (suc first) acts seats ns last p.1 behind ∙ ap (λ k. map (λ n. (log_of n).entries) ns ++ woven_nodes k acts last) sum)
+    rw (one, nodes_woven (suc first) acts seats ns p.1 behind) refl
 
-pub all_woven : (v : Nodes) (r : Run) → IsNodes v r → v.has_ended ≡ true → AreLegal r
-    → histories_of v.feeding.items (map (λ seat. seat.entries.items) v.demux.items ++ v.dvr.entries.items ∷ []) ≡ histories_in r
+pub all_woven : (v : Nodes) (r : Run) → IsNodes v r → v.has_ended ≡ true → AreLegal r → histories_of v.feeding.items (map (λ seat. seat.entries.items) v.seats.items) ≡ histories_in r
 all_woven v r at over legal =
     let acts : List Act = acts_on v in
     let same : feeder_acts v.feeding.items ≡ acts = sym (ap (acts_of v.feeding.items) over) in
-    let count : length r.demux ≡ DEMUX_NODES = sym (length-map r.demux (λ n. n.number)) ∙ (ap length legal.numbers ∙ length-range_with_len 0 DEMUX_NODES) in
-    let numbers : map (λ n. n.number) r.demux ≡ range_with_len 0 (length r.demux) = legal.numbers ∙ ap (range_with_len 0) (sym count) in
-    let own : map (λ calls. map told_entry calls) (map (λ seat. seat.entries.items) v.demux.items ++ v.dvr.entries.items ∷ [])
-    ≡ map (λ seat. map told_entry seat.entries.items) v.demux.items ++ map told_entry v.dvr.entries.items ∷ [] =
-    map-append (λ calls. map told_entry calls) (map (λ seat. seat.entries.items) v.demux.items) (v.dvr.entries.items ∷ [])
-    ∙ ap (λ l. l ++ map told_entry v.dvr.entries.items ∷ []) (map-map (λ calls. map told_entry calls) (λ seat. seat.entries.items) v.demux.items) in
-    let last : woven (0 + length r.demux) acts (map told_entry v.dvr.entries.items) ≡ (log_of r.dvr).entries =
-    subst (λ k. woven k acts (map told_entry v.dvr.entries.items) ≡ (log_of r.dvr).entries) (legal.dvr_number ∙ (sym count ∙ omega arith)) at.dvr.log in
-    ap (λ a. woven_nodes 0 a (map (λ calls. map told_entry calls) (map (λ seat. seat.entries.items) v.demux.items ++ v.dvr.entries.items ∷ []))) same
-    ∙ (ap (woven_nodes 0 acts) own
-    ∙ (demux_woven 0 acts v.demux.items r.demux (map told_entry v.dvr.entries.items ∷ []) at.demux numbers
-    ∙ (ap (λ l. map (λ n. (log_of n).entries) r.demux ++ l ∷ []) last
-    ∙ sym (map-append (λ n. (log_of n).entries) r.demux (r.dvr ∷ [])))))
+    let count : length r.nodes ≡ DEMUX_NODES + 1 = sym (length-map r.nodes (λ n. n.number)) ∙ (ap length legal.numbers ∙ length-range_with_len 0 (DEMUX_NODES + 1)) in
+    ap (λ a. woven_nodes 0 a (map (λ calls. map told_entry calls) (map (λ seat. seat.entries.items) v.seats.items))) same
+    ∙ (ap (woven_nodes 0 acts) (map-map (λ calls. map told_entry calls) (λ seat. seat.entries.items) v.seats.items)
+    ∙ nodes_woven 0 acts v.seats.items r.nodes at.seats (legal.numbers ∙ ap (range_with_len 0) (sym count)))
 
 -- ------ the whole run
 

@@ -14,10 +14,9 @@ use Rattle.client_core.specs.Budget.{most_calls}
 use Rattle.serial_core.specs.SerialRun.{Run, begun, fed, ticked, replies_of, reply_to, called, after_waiting, IsWorked, through, calls, AreDone, finished}
 use Rattle.serial_core.specs.Budget.{IsPaid}
 use Rattle.serial_core.specs.Runs.{HaveSerialRuns}
-use Rattle.serial_core.proofs.Replies.{waiting_replies}
-use Rattle.serial_core.proofs.Throughout.{fed_replies}
-use Rattle.serial_core.proofs.Paid.{paid_fed, paid_ticked}
-use Rattle.serial_core.proofs.Within.{paid_begun, paid_next_of_line, paid_worked, within}
+use Rattle.serial_core.proofs.Keeping.{kept_called, kept_fed, kept_worked, fed_replies, waiting_replies}
+use Rattle.serial_core.proofs.Paid.{paid_feeds, paid_ticked}
+use Rattle.serial_core.proofs.Within.{paid_begun, paid_steps, within}
 
 module _ (lines : List Line) (batch : ℕ) (packets : List (List ℕ)) (one : 1 ≤ batch) where
   -- the most calls of a client
@@ -44,7 +43,7 @@ module _ (lines : List Line) (batch : ℕ) (packets : List (List ℕ)) (one : 1 
   command_ends : (fuel client line : ℕ) (r : Run) → client < 8 → length r.replies ≡ 8 → IsPaid lines packets r → length (replies_of client r) + fuel ≡ most client + 1 → (s : Run) × IsWorked lines batch client line r s
   command_ends zero client line r lt eight p is = absurd (omega (arith, is, paid_most client r p))
   command_ends (suc fuel) client line r lt eight p is =
-      go (λ e at. command_ends fuel client line (called client e (after_waiting lines batch client r)) lt (call_clients client e r eight) (paid_next_of_line lines packets batch client line r e one p at)
+      go (λ e at. command_ends fuel client line (called client e (after_waiting lines batch client r)) lt (call_clients client e r eight) (kept_called lines batch 8 (IsPaid lines packets) (paid_steps lines packets batch 8 one) client line r e lt at p)
       (omega (arith, is, call_replies client e r lt eight))) (next_of_line client lines line (replies_of client r)) refl where
         go : ((e : Event) → next_of_line client lines line (replies_of client r) ≡ Some e → (s : Run) × IsWorked lines batch client line (called client e (after_waiting lines batch client r)) s)
             → (o : Option Event) → next_of_line client lines line (replies_of client r) ≡ o → (s : Run) × IsWorked lines batch client line r s
@@ -58,13 +57,13 @@ module _ (lines : List Line) (batch : ℕ) (packets : List (List ℕ)) (one : 1 
   lines_end : (more : List Line) (r : Run) → All IsInRange more → length r.replies ≡ 8 → IsPaid lines packets r → (t : Run) × AreDone lines batch more r t
   lines_end [] r ranges eight p = (r, refl)
   lines_end (Feed count ∷ more) r ranges eight p =
-      lines_end more (fed batch count r) (All-tail IsInRange (Feed count) more ranges) (ap length (fed_replies batch count r) ∙ eight) (paid_fed lines packets batch count r one p)
-  lines_end (Tick time ∷ more) r ranges eight p = lines_end more (ticked time r) (All-tail IsInRange (Tick time) more ranges) eight (paid_ticked lines packets time r p)
+      lines_end more (fed batch count r) (All-tail IsInRange (Feed count) more ranges) (ap length (fed_replies batch count r) ∙ eight) (kept_fed batch (IsPaid lines packets) (paid_feeds lines packets batch one) count r p)
+  lines_end (Tick time ∷ more) r ranges eight p = lines_end more (ticked time r) (All-tail IsInRange (Tick time) more ranges) eight (paid_ticked lines packets r time p)
   lines_end (Command line client target verb ∷ more) r ranges eight p =
       let lt : client < 8 = omega (arith, (All-head IsInRange (Command line client target verb) more ranges).2) in
       let within : length (replies_of client r) ≤ most client = paid_most client r p in
       let done = command_ends (most client + 1 - length (replies_of client r)) client line r lt eight p (omega (arith, within)) in
-      let later = lines_end more done.0 (All-tail IsInRange (Command line client target verb) more ranges) (worked_clients client line r done.0 done.1 eight) (paid_worked lines packets batch client line r done.0 one done.1 p) in
+      let later = lines_end more done.0 (All-tail IsInRange (Command line client target verb) more ranges) (worked_clients client line r done.0 done.1 eight) (kept_worked lines batch 8 (IsPaid lines packets) (paid_steps lines packets batch 8 one) client line r done.0 lt done.1 p) in
       (later.0, (done.0, done.1, later.1))
 
 pub have_runs : HaveSerialRuns

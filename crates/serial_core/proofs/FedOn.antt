@@ -5,11 +5,9 @@ use Rattle.dmx_calls.specs.declared.limits.TheConstants.{DEMUX_NODES}
 use Rattle.dmx_calls.specs.Invocation.{Invocation}
 use Rattle.dmx_calls.specs.declared.log.Act.{Act}
 use Rattle.dmx_calls.specs.Log.{act_of}
-use Rattle.dmx_calls.specs.Rules as rules
-use Rattle.node_core.specs.Stands.{CoreValue as DemuxCore}
 use Rattle.serial_core.specs.declared.seat.Seat.{Seat}
 use Rattle.serial_core.specs.Nodes.{Node, answered}
-use Rattle.serial_core.specs.Inside.Standing.{Pairs, IsDemux, IsUnder, AreUnder}
+use Rattle.serial_core.specs.Inside.Standing.{Pairs, IsSeat, IsUnder, AreUnder, entries_in}
 use Rattle.serial_core.proofs.Pairs.{map_replicate, same_length}
 
 -- ------ lists of which a front has come to stand in another relation
@@ -53,41 +51,41 @@ module _ {X Y : Type 0} (R S : X → Y → Type 0) (f : Y → Y) where
 -- ------ the feeder's call on one node after the other
 
 -- it was made on the first so many of these nodes
-pub record FedOn (c : Invocation) (start now : List (Seat DemuxCore)) (count : ℕ) : Type 0 where
-  pub at : (acts : List Act) (ns : List Node) → Pairs (IsDemux acts) start ns
-      → Through (IsDemux acts) (IsDemux (acts ++ act_of c ∷ [])) (answered rules.demux 0 (length acts) c) count now ns
-  pub under : (most : ℕ) → AreUnder start most → Through IsUnder IsUnder (λ n. n + 1) count now (replicate DEMUX_NODES most)
+pub record FedOn (c : Invocation) (start now : List Seat) (count : ℕ) : Type 0 where
+  pub at : (acts : List Act) (ns : List Node) → Pairs (IsSeat acts) start ns
+      → Through (IsSeat acts) (IsSeat (acts ++ act_of c ∷ [])) (answered 0 (length acts) c) count now ns
+  pub under : (most : ℕ) → AreUnder start most → Through IsUnder IsUnder (λ n. n + 1) count now (replicate (DEMUX_NODES + 1) most)
 
 -- the next node takes the call
-pub fed_more : (c : Invocation) (start now : List (Seat DemuxCore)) (i : ℕ) (seat d : Seat DemuxCore) → i < length now
-    → ((acts : List Act) (n : Node) → IsDemux acts (get_or now i d) n → IsDemux (acts ++ act_of c ∷ []) seat (answered rules.demux 0 (length acts) c n))
-    → seat.core.entries ≡ (get_or now i d).core.entries + 1
+pub fed_more : (c : Invocation) (start now : List Seat) (i : ℕ) (seat d : Seat) → i < length now
+    → ((acts : List Act) (n : Node) → IsSeat acts (get_or now i d) n → IsSeat (acts ++ act_of c ∷ []) seat (answered 0 (length acts) c n))
+    → entries_in seat.core ≡ entries_in (get_or now i d).core + 1
     → FedOn c start now i → FedOn c start (set now i seat) (i + 1)
 fed_more c start now i seat d there goes rises fed = record {
-  at = λ acts ns p. through_more (IsDemux acts) (IsDemux (acts ++ act_of c ∷ [])) (answered rules.demux 0 (length acts) c) i now ns seat d there (goes acts) (fed.at acts ns p);
-  under = λ most p. through_more IsUnder IsUnder (λ n. n + 1) i now (replicate DEMUX_NODES most) seat d there (λ m u. omega (arith, rises, u)) (fed.under most p);
+  at = λ acts ns p. through_more (IsSeat acts) (IsSeat (acts ++ act_of c ∷ [])) (answered 0 (length acts) c) i now ns seat d there (goes acts) (fed.at acts ns p);
+  under = λ most p. through_more IsUnder IsUnder (λ n. n + 1) i now (replicate (DEMUX_NODES + 1) most) seat d there (λ m u. omega (arith, rises, u)) (fed.under most p);
 }
 
-same_through : (count i : ℕ) (xs : List (Seat DemuxCore)) (most : ℕ) → Through IsUnder IsUnder (λ n. n + 1) i xs (replicate count most) → length xs ≡ count
+same_through : (count i : ℕ) (xs : List Seat) (most : ℕ) → Through IsUnder IsUnder (λ n. n + 1) i xs (replicate count most) → length xs ≡ count
 same_through count zero xs most p = same_length IsUnder xs (replicate count most) p ∙ length-replicate count most
 same_through zero (suc i) [] most p = refl
 same_through zero (suc i) (x ∷ xs) most p = absurd p
 same_through (suc count) (suc i) [] most p = absurd p
 same_through (suc count) (suc i) (x ∷ xs) most p = ap suc (same_through count i xs most p.1)
 
-pub fed_few : (c : Invocation) (start now : List (Seat DemuxCore)) (i : ℕ) (d : Seat DemuxCore) → i < length now → AreUnder start (2 ^ 50 - 1) → FedOn c start now i
-    → (get_or now i d).core.entries < 2 ^ 50
+pub fed_few : (c : Invocation) (start now : List Seat) (i : ℕ) (d : Seat) → i < length now → AreUnder start (2 ^ 50 - 1) → FedOn c start now i
+    → entries_in (get_or now i d).core < 2 ^ 50
 fed_few c start now i d there few fed =
     let p = fed.under (2 ^ 50 - 1) few in
-    let here : i < DEMUX_NODES = omega (arith, there, same_through DEMUX_NODES i now (2 ^ 50 - 1) p) in
-    let u : (get_or now i d).core.entries ≤ get_or (replicate DEMUX_NODES (2 ^ 50 - 1)) i (2 ^ 50 - 1) = through_at IsUnder IsUnder (λ n. n + 1) i now (replicate DEMUX_NODES (2 ^ 50 - 1)) d (2 ^ 50 - 1) there p in
-    omega (arith, u, get_or-replicate DEMUX_NODES i (2 ^ 50 - 1) (2 ^ 50 - 1) here)
+    let here : i < (DEMUX_NODES + 1) = omega (arith, there, same_through (DEMUX_NODES + 1) i now (2 ^ 50 - 1) p) in
+    let u : entries_in (get_or now i d).core ≤ get_or (replicate (DEMUX_NODES + 1) (2 ^ 50 - 1)) i (2 ^ 50 - 1) = through_at IsUnder IsUnder (λ n. n + 1) i now (replicate (DEMUX_NODES + 1) (2 ^ 50 - 1)) d (2 ^ 50 - 1) there p in
+    omega (arith, u, get_or-replicate (DEMUX_NODES + 1) i (2 ^ 50 - 1) (2 ^ 50 - 1) here)
 
-pub fed_at : (c : Invocation) (start now : List (Seat DemuxCore)) (i : ℕ) → length now ≤ i → FedOn c start now i
-    → (acts : List Act) (ns : List Node) → Pairs (IsDemux acts) start ns → Pairs (IsDemux (acts ++ act_of c ∷ [])) now (map (answered rules.demux 0 (length acts) c) ns)
-fed_at c start now i all fed acts ns p = through_all (IsDemux acts) (IsDemux (acts ++ act_of c ∷ [])) (answered rules.demux 0 (length acts) c) i now ns all (fed.at acts ns p)
+pub fed_at : (c : Invocation) (start now : List Seat) (i : ℕ) → length now ≤ i → FedOn c start now i
+    → (acts : List Act) (ns : List Node) → Pairs (IsSeat acts) start ns → Pairs (IsSeat (acts ++ act_of c ∷ [])) now (map (answered 0 (length acts) c) ns)
+fed_at c start now i all fed acts ns p = through_all (IsSeat acts) (IsSeat (acts ++ act_of c ∷ [])) (answered 0 (length acts) c) i now ns all (fed.at acts ns p)
 
-pub fed_under : (c : Invocation) (start now : List (Seat DemuxCore)) (i : ℕ) → length now ≤ i → FedOn c start now i
+pub fed_under : (c : Invocation) (start now : List Seat) (i : ℕ) → length now ≤ i → FedOn c start now i
     → (most : ℕ) → AreUnder start most → AreUnder now (most + 1)
 fed_under c start now i all fed most p =
-    subst (λ ms. Pairs IsUnder now ms) (map_replicate DEMUX_NODES (λ n. n + 1) most) (through_all IsUnder IsUnder (λ n. n + 1) i now (replicate DEMUX_NODES most) all (fed.under most p))
+    subst (λ ms. Pairs IsUnder now ms) (map_replicate (DEMUX_NODES + 1) (λ n. n + 1) most) (through_all IsUnder IsUnder (λ n. n + 1) i now (replicate (DEMUX_NODES + 1) most) all (fed.under most p))

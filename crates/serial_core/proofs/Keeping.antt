@@ -1,35 +1,50 @@
 -- What each step of a serial run keeps, the whole run keeps.
-use Rattle.std.proofs.Common.{◌≡◌, refl, sym, ap, subst, ◌∙◌, ℕ, zero, suc, ◌+◌, ◌/◌, ◌%◌, ◌==◌, ◌<◌, ◌≤◌, Bool, true, false, nat_lt, nat_eq, List, [], ◌∷◌, ◌++◌, Some, length, drop, fold, replicate, min, arith, length-drop}
+use Rattle.std.proofs.Common.{◌≡◌, refl, sym, ap, subst, ◌∙◌, ℕ, zero, suc, ◌+◌, ◌/◌, ◌%◌, ◌==◌, ◌<◌, ◌≤◌, Bool, true, false, nat_lt, nat_eq, List, [], ◌∷◌, ◌++◌, Some, length, drop, fold, max, replicate, min, zero-add, arith, length-drop}
 use Rattle.std.specs.Prelude.{if◌then◌else◌, sum, is_some, slice_index_or}
 use Rattle.std.proofs.lemmas.Bool.Decides.{nat_tests}
-use Rattle.std.proofs.lemmas.List.Sums.{sum_by-cons}
+use Rattle.std.proofs.lemmas.List.Sums.{sum_by-append, sum_by-cons}
+use Rattle.std.proofs.lemmas.List.Folds.{sum_by-replicate}
+use Rattle.std.proofs.lemmas.Nat.{div-add-mod'}
 use Rattle.dmx_calls.specs.Invocation as call
+use Rattle.client_script.specs.Script.{clients_of, clients_in}
 use Rattle.client_script.specs.declared.line.Line.{Line}
 use Rattle.client_script.specs.declared.line.Line.TheVariants.{Feed, Tick, Command}
 use Rattle.client_core.specs.declared.event.Event.{Event}
-use Rattle.client_core.specs.Events.{next_event, waits_on}
-use Rattle.serial_core.specs.SerialRun.{Run, begun, fed_to_all, passed, batch_sizes, all_passed, ended, fed, turned, ticked, replies_of, called, after_waiting, IsWorked, through, calls, AreDone, finished}
-use Rattle.serial_core.proofs.Sizes.{sizes_sum, sizes_some, AreSome}
-use Rattle.serial_core.proofs.Replies.{waiting_replies}
-use Rattle.serial_core.proofs.Calling.{next_at_line}
+use Rattle.client_core.specs.Events.{next_event, next_of_line, waits_on}
+use Rattle.serial_core.specs.Budget.{IsBegun, no_call, one_call, AreBegun, IsMoment}
+use Rattle.serial_core.specs.SerialRun.{Run, begun, fed_to_all, passed, batch_sizes, all_passed, ended, fed, turned, ticked, replies_of, called, after_waiting, IsWorked, through, calls, AreDone, IsSerialRun}
+use Rattle.serial_core.proofs.Replies.{next_at_line}
 
 -- ------ sizes
 
--- none is larger than a batch
-abbrev pub AreWithin : (batch : ℕ) → List ℕ → Type 0
-AreWithin batch [] = Unit {0}
-AreWithin batch (size ∷ sizes) = (size ≤ batch) × AreWithin batch sizes
+tail_sum : (over : ℕ) → sum (if over == 0 then [] else over ∷ []) ≡ over
+tail_sum zero = refl
+tail_sum (suc n) = let some : (suc n == 0) ≡ false = grind (arith, nat_tests) in rw some (zero-add (suc n))
 
-tail_within : (batch over : ℕ) → over ≤ batch → AreWithin batch (if over == 0 then [] else over ∷ [])
-tail_within batch zero le = tt
-tail_within batch (suc n) le = let some : (suc n == 0) ≡ false = grind (arith, nat_tests) in rw some (le, tt)
+-- together they are as many packets as pass
+pub sizes_sum : (batch count : ℕ) → sum (batch_sizes batch count) ≡ count
+sizes_sum batch count =
+    sum_by-append (λ n. n) (replicate (count / batch) batch) (if count % batch == 0 then [] else count % batch ∷ [])
+    ∙ rw (sum_by-replicate (λ n. n) (count / batch) batch, tail_sum (count % batch)) (div-add-mod' count batch)
 
-before_within : (k batch : ℕ) (sizes : List ℕ) → AreWithin batch sizes → AreWithin batch (replicate k batch ++ sizes)
-before_within zero batch sizes within = within
-before_within (suc k) batch sizes within = (omega arith, before_within k batch sizes within)
+-- where a batch has at least one packet, so has this one, and it is no larger
+abbrev pub IsFit : (batch size : ℕ) → Type 0
+IsFit batch size = 1 ≤ batch → (1 ≤ size) × (size ≤ batch)
 
-sizes_within : (batch count : ℕ) → 1 ≤ batch → AreWithin batch (batch_sizes batch count)
-sizes_within batch count one = before_within (count / batch) batch (if count % batch == 0 then [] else count % batch ∷ []) (tail_within batch (count % batch) (omega (arith, one)))
+abbrev AreFit : (batch : ℕ) → List ℕ → Type 0
+AreFit batch [] = Unit {0}
+AreFit batch (size ∷ sizes) = IsFit batch size × AreFit batch sizes
+
+tail_fit : (batch over : ℕ) → (1 ≤ batch → over ≤ batch) → AreFit batch (if over == 0 then [] else over ∷ [])
+tail_fit batch zero le = tt
+tail_fit batch (suc n) le = let some : (suc n == 0) ≡ false = grind (arith, nat_tests) in rw some (λ one. (omega arith, le one), tt)
+
+before_fit : (k batch : ℕ) (sizes : List ℕ) → AreFit batch sizes → AreFit batch (replicate k batch ++ sizes)
+before_fit zero batch sizes fit = fit
+before_fit (suc k) batch sizes fit = (λ one. (one, omega arith), before_fit k batch sizes fit)
+
+sizes_fit : (batch count : ℕ) → AreFit batch (batch_sizes batch count)
+sizes_fit batch count = before_fit (count / batch) batch (if count % batch == 0 then [] else count % batch ∷ []) (tail_fit batch (count % batch) (λ one. omega (arith, one)))
 
 left_sizes : (sizes : List ℕ) (r : Run) → sum sizes ≤ length r.left → length (fold passed r sizes).left + sum sizes ≡ length r.left
 left_sizes [] r le = omega arith
@@ -42,6 +57,62 @@ left_sizes (size ∷ sizes) r le =
 pub none_left : (batch : ℕ) (r : Run) → length (all_passed batch (length r.left) r).left ≡ 0
 none_left batch r = omega (arith, left_sizes (batch_sizes batch (length r.left)) r (omega (arith, sizes_sum batch (length r.left))), sizes_sum batch (length r.left))
 
+-- ------ the feeder
+
+-- what the feeder's calls keep
+pub record IsFedOn (batch : ℕ) (P : Run → Type 0) : Type 0 where
+  pub passes : (r : Run) (size : ℕ) → IsFit batch size → size ≤ length r.left → P r → P (passed r size)
+  pub ends : (r : Run) → length r.left ≡ 0 → r.has_ended ≡ false → P r → P (record (fed_to_all call.End r) { has_ended = true })
+
+module _ (batch : ℕ) (P : Run → Type 0) (keeps : IsFedOn batch P) where
+  pub kept_ended : (r : Run) → length r.left ≡ 0 → P r → P (ended r)
+  kept_ended r none p = go r.has_ended refl where
+    go : (b : Bool) → r.has_ended ≡ b → P (ended r)
+    go true is = subst (λ b. P (if b then r else record (fed_to_all call.End r) { has_ended = true })) (sym is) p
+    go false is = subst (λ b. P (if b then r else record (fed_to_all call.End r) { has_ended = true })) (sym is) (keeps.ends r none is p)
+
+  kept_sizes : (sizes : List ℕ) (r : Run) → AreFit batch sizes → sum sizes ≤ length r.left → P r → P (fold passed r sizes)
+  kept_sizes [] r fit le p = p
+  kept_sizes (size ∷ sizes) r fit le p =
+      let split : sum (size ∷ sizes) ≡ size + sum sizes = sum_by-cons (λ n. n) size sizes in
+      kept_sizes sizes (passed r size) fit.1 (omega (arith, le, split, length-drop size r.left)) (keeps.passes r size fit.0 (omega (arith, le, split)) p)
+
+  kept_all : (count : ℕ) (r : Run) → count ≤ length r.left → P r → P (all_passed batch count r)
+  kept_all count r le p = kept_sizes (batch_sizes batch count) r (sizes_fit batch count) (omega (arith, le, sizes_sum batch count)) p
+
+  pub kept_fed : (count : ℕ) (r : Run) → P r → P (fed batch count r)
+  kept_fed count r p = go (nat_lt (length r.left) count) refl where
+    go : (b : Bool) → nat_lt (length r.left) count ≡ b → P (if b then ended (all_passed batch (length r.left) r) else all_passed batch count r)
+    go true is = kept_ended (all_passed batch (length r.left) r) (none_left batch r) (kept_all (length r.left) r (omega arith) p)
+    go false is = kept_all count r (grind (arith, nat_tests, is)) p
+
+  pub kept_turned : (r : Run) → P r → P (turned batch r)
+  kept_turned r p = go (nat_eq (length r.left) 0) refl where
+    go : (b : Bool) → nat_eq (length r.left) 0 ≡ b → P (if b then ended r else passed r (min batch (length r.left)))
+    go true is = kept_ended r (grind (arith, nat_tests, is)) p
+    go false is =
+        let some : 1 ≤ length r.left = grind (arith, nat_tests, is) in
+        keeps.passes r (min batch (length r.left)) (λ one. (omega (arith, one, some), omega arith)) (omega arith) p
+
+  pub kept_finished : (r : Run) → P r → P (ended (all_passed batch (length r.left) r))
+  kept_finished r p = kept_ended (all_passed batch (length r.left) r) (none_left batch r) (kept_all (length r.left) r (omega arith) p)
+
+-- the replies of the clients
+same_replies : (batch : ℕ) (r : Run) → IsFedOn batch (λ s. s.replies ≡ r.replies)
+same_replies batch r = record { passes = λ s size fit le p. p; ends = λ s none unended p. p }
+
+pub fed_replies : (batch count : ℕ) (r : Run) → (fed batch count r).replies ≡ r.replies
+fed_replies batch count r = kept_fed batch (λ s. s.replies ≡ r.replies) (same_replies batch r) count r refl
+
+pub finished_replies : (batch : ℕ) (r : Run) → (ended (all_passed batch (length r.left) r)).replies ≡ r.replies
+finished_replies batch r = kept_finished batch (λ s. s.replies ≡ r.replies) (same_replies batch r) r refl
+
+pub waiting_replies : (lines : List Line) (batch client : ℕ) (r : Run) → (after_waiting lines batch client r).replies ≡ r.replies
+waiting_replies lines batch client r = go (is_some (waits_on client lines (replies_of client r))) where
+  go : (w : Bool) → (if w then turned batch r else r).replies ≡ r.replies
+  go true = kept_turned batch (λ s. s.replies ≡ r.replies) (same_replies batch r) r refl
+  go false = refl
+
 -- ------ the run
 
 -- the clients that lines name are below this number
@@ -51,67 +122,70 @@ AreBelow clients (Command line client target verb ∷ lines) = (client < clients
 AreBelow clients (Feed n ∷ lines) = AreBelow clients lines
 AreBelow clients (Tick n ∷ lines) = AreBelow clients lines
 
-module _ (lines : List Line) (batch clients : ℕ) (one : 1 ≤ batch) (P : Run → Type 0)
-    (passes : (r : Run) (size : ℕ) → 1 ≤ size → size ≤ batch → size ≤ length r.left → P r → P (passed r size))
-    (ending : (r : Run) → length r.left ≡ 0 → r.has_ended ≡ false → P r → P (record (fed_to_all call.End r) { has_ended = true }))
-    (ticks : (r : Run) (time : ℕ) → P r → P (ticked time r))
-    (calling : (r : Run) (client : ℕ) (e : Event) → client < clients → next_event client lines (replies_of client r) ≡ Some e → P r → P (called client e r)) where
-  kept_ended : (r : Run) → length r.left ≡ 0 → P r → P (ended r)
-  kept_ended r none p = go r.has_ended refl where
-    go : (b : Bool) → r.has_ended ≡ b → P (ended r)
-    go true is = subst (λ b. P (if b then r else record (fed_to_all call.End r) { has_ended = true })) (sym is) p
-    go false is = subst (λ b. P (if b then r else record (fed_to_all call.End r) { has_ended = true })) (sym is) (ending r none is p)
+above_first : (m : ℕ) (lines : List Line) → m ≤ fold (λ most line. max most (clients_of line)) m lines
+above_first m [] = omega arith
+above_first m (line ∷ lines) = omega (arith, above_first (max m (clients_of line)) lines)
 
-  kept_sizes : (sizes : List ℕ) (r : Run) → AreSome sizes → AreWithin batch sizes → sum sizes ≤ length r.left → P r → P (fold passed r sizes)
-  kept_sizes [] r some within le p = p
-  kept_sizes (size ∷ sizes) r some within le p =
-      let split : sum (size ∷ sizes) ≡ size + sum sizes = sum_by-cons (λ n. n) size sizes in
-      let fits : size ≤ length r.left = omega (arith, le, split) in
-      kept_sizes sizes (passed r size) some.1 within.1 (omega (arith, le, split, length-drop size r.left)) (passes r size some.0 within.0 fits p)
+below_fold : (lines : List Line) (m n : ℕ) → fold (λ most line. max most (clients_of line)) m lines ≤ n → AreBelow n lines
+below_fold [] m n le = tt
+below_fold (Feed k ∷ lines) m n le = below_fold lines (max m 0) n le
+below_fold (Tick k ∷ lines) m n le = below_fold lines (max m 0) n le
+below_fold (Command line client target verb ∷ lines) m n le = (omega (arith, above_first (max m (client + 1)) lines, le), below_fold lines (max m (client + 1)) n le)
 
-  kept_all : (count : ℕ) (r : Run) → count ≤ length r.left → P r → P (all_passed batch count r)
-  kept_all count r le p = kept_sizes (batch_sizes batch count) r (sizes_some batch count one) (sizes_within batch count one) (omega (arith, le, sizes_sum batch count)) p
+pub all_below : (lines : List Line) → AreBelow (clients_in lines) lines
+all_below lines = below_fold lines 0 (clients_in lines) (omega arith)
 
-  kept_fed : (count : ℕ) (r : Run) → P r → P (fed batch count r)
-  kept_fed count r p = go (nat_lt (length r.left) count) refl where
-    go : (b : Bool) → nat_lt (length r.left) count ≡ b → P (fed batch count r)
-    go true is = subst (λ b. P (if b then ended (all_passed batch (length r.left) r) else all_passed batch count r)) (sym is)
-        (kept_ended (all_passed batch (length r.left) r) (none_left batch r) (kept_all (length r.left) r (omega arith) p))
-    go false is =
-        let le : count ≤ length r.left = grind (arith, nat_tests, is) in
-        subst (λ b. P (if b then ended (all_passed batch (length r.left) r) else all_passed batch count r)) (sym is) (kept_all count r le p)
+-- what each step of the run keeps; a client's call, as the turn before it where the client waits, keeps it
+pub record IsKept (lines : List Line) (batch clients : ℕ) (P : Run → Type 0) : Type 0 where
+  pub feeds : IsFedOn batch P
+  pub ticks : (r : Run) (time : ℕ) → P r → P (ticked time r)
+  pub calls : (r : Run) (client : ℕ) (e : Event) → client < clients → next_event client lines (replies_of client (after_waiting lines batch client r)) ≡ Some e
+      → P r → P (after_waiting lines batch client r) → P (called client e (after_waiting lines batch client r))
 
-  kept_turned : (r : Run) → P r → P (turned batch r)
-  kept_turned r p = go (nat_eq (length r.left) 0) refl where
-    go : (b : Bool) → nat_eq (length r.left) 0 ≡ b → P (turned batch r)
-    go true is =
-        let none : length r.left ≡ 0 = grind (arith, nat_tests, is) in
-        subst (λ b. P (if b then ended r else passed r (min batch (length r.left)))) (sym is) (kept_ended r none p)
-    go false is =
-        let some : 1 ≤ length r.left = grind (arith, nat_tests, is) in
-        let size : 1 ≤ min batch (length r.left) = omega (arith, one, some) in
-        let within : min batch (length r.left) ≤ batch = omega arith in
-        let fits : min batch (length r.left) ≤ length r.left = omega arith in
-        subst (λ b. P (if b then ended r else passed r (min batch (length r.left)))) (sym is) (passes r (min batch (length r.left)) size within fits p)
-
-  kept_waited : (client : ℕ) (r : Run) → P r → P (after_waiting lines batch client r)
+module _ (lines : List Line) (batch clients : ℕ) (P : Run → Type 0) (keeps : IsKept lines batch clients P) where
+  pub kept_waited : (client : ℕ) (r : Run) → P r → P (after_waiting lines batch client r)
   kept_waited client r p = go (is_some (waits_on client lines (replies_of client r))) where
     go : (w : Bool) → P (if w then turned batch r else r)
-    go true = kept_turned r p
+    go true = kept_turned batch P keeps.feeds r p
     go false = p
 
-  kept_worked : (client line : ℕ) (r s : Run) → client < clients → IsWorked lines batch client line r s → P r → P s
-  kept_worked client line r s lt (through _ none) p = p
-  kept_worked client line r s lt (calls _ _ e is w) p =
+  pub kept_called : (client line : ℕ) (r : Run) (e : Event) → client < clients → next_of_line client lines line (replies_of client r) ≡ Some e → P r → P (called client e (after_waiting lines batch client r))
+  kept_called client line r e lt is p =
       let same : replies_of client (after_waiting lines batch client r) ≡ replies_of client r = ap (λ rs. slice_index_or rs client []) (waiting_replies lines batch client r) in
-      kept_worked client line _ s lt w
-      (calling (after_waiting lines batch client r) client e lt (ap (λ rs. next_event client lines rs) same ∙ next_at_line client lines line (replies_of client r) e is) (kept_waited client r p))
+      keeps.calls r client e lt (ap (λ rs. next_event client lines rs) same ∙ next_at_line client lines line (replies_of client r) e is) p (kept_waited client r p)
 
-  kept_done : (more : List Line) (r t : Run) → AreBelow clients more → AreDone lines batch more r t → P r → P t
+  pub kept_worked : (client line : ℕ) (r s : Run) → client < clients → IsWorked lines batch client line r s → P r → P s
+  kept_worked client line r s lt (through _ none) p = p
+  kept_worked client line r s lt (calls _ _ e is w) p = kept_worked client line _ s lt w (kept_called client line r e lt is p)
+
+  pub kept_done : (more : List Line) (r t : Run) → AreBelow clients more → AreDone lines batch more r t → P r → P t
   kept_done [] r t below same p = subst P (sym same) p
-  kept_done (Feed count ∷ more) r t below d p = kept_done more (fed batch count r) t below d (kept_fed count r p)
-  kept_done (Tick time ∷ more) r t below d p = kept_done more (ticked time r) t below d (ticks r time p)
+  kept_done (Feed count ∷ more) r t below d p = kept_done more (fed batch count r) t below d (kept_fed batch P keeps.feeds count r p)
+  kept_done (Tick time ∷ more) r t below d p = kept_done more (ticked time r) t below d (keeps.ticks r time p)
   kept_done (Command line client target verb ∷ more) r t below d p = kept_done more d.0 t below.1 d.2 (kept_worked client line r d.0 below.0 d.1 p)
 
-  pub kept : (packets : List (List ℕ)) (r : Run) → AreBelow clients lines → AreDone lines batch lines (begun packets) r → P (begun packets) → P (finished lines batch r)
-  kept packets r below d p = kept_ended (all_passed batch (length r.left) r) (none_left batch r) (kept_all (length r.left) r (omega arith) (kept_done lines (begun packets) r below d p))
+  pub kept : (packets : List (List ℕ)) (t : Run) → AreBelow clients lines → IsSerialRun lines batch packets t → P (begun packets) → P t
+  kept packets t below is p = subst P (sym is.2) (kept_finished batch P keeps.feeds is.0 (kept_done lines (begun packets) is.0 below is.1 p))
+
+  -- ------ a moment on the way
+
+  kept_begun : (client line : ℕ) (r s : Run) → client < clients → IsBegun lines batch client line r s → P r → P s
+  kept_begun client line r s lt (no_call _) p = p
+  kept_begun client line r s lt (one_call _ _ e is w) p = kept_begun client line _ s lt w (kept_called client line r e lt is p)
+
+  kept_line : (more : List Line) (r s : Run) → AreBelow clients more → AreBegun lines batch more r s → P r → P s
+  kept_line [] r s below same p = subst P (sym same) p
+  kept_line (Feed count ∷ more) r s below same p = subst P (sym same) p
+  kept_line (Tick time ∷ more) r s below same p = subst P (sym same) p
+  kept_line (Command line client target verb ∷ more) r s below w p = kept_begun client line r s below.0 w p
+
+  both_below : (before more : List Line) → AreBelow clients (before ++ more) → AreBelow clients before × AreBelow clients more
+  both_below [] more below = (tt, below)
+  both_below (Feed count ∷ before) more below = both_below before more below
+  both_below (Tick time ∷ before) more below = both_below before more below
+  both_below (Command line client target verb ∷ before) more below = let k = both_below before more below.1 in ((below.0, k.0), k.1)
+
+  pub kept_moment : (packets : List (List ℕ)) (s : Run) → AreBelow clients lines → IsMoment lines batch packets s → P (begun packets) → P s
+  kept_moment packets s below (before, more, whole, r, d, w) p =
+      let k = both_below before more (subst (AreBelow clients) (sym whole) below) in
+      kept_line more r s k.1 w (kept_done before (begun packets) r k.0 d p)

@@ -1,5 +1,5 @@
 -- What a line does to the run, and lines one after another.
-use Rattle.std.proofs.Common.{◌≡◌, ◌≢◌, refl, sym, ap, subst, ◌∙◌, ℕ, ◌+◌, ◌*◌, ◌<◌, ◌≤◌, Bool, true, false, List, [], ◌∷◌, Option, length, drop, nat_lt, nat_eq, fold, if◌then◌else◌, get_or, set, arith}
+use Rattle.std.proofs.Common.{◌≡◌, ◌≢◌, refl, sym, ap, subst, ◌∙◌, ℕ, ◌+◌, ◌*◌, ◌<◌, ◌≤◌, Bool, true, false, List, [], ◌∷◌, Option, length, drop, nat_eq, get_or, set, arith}
 use Rattle.std.specs.Prelude.{slice_index_or}
 use Rattle.std.proofs.lemmas.List.{drop_all, get_or-set_same, get_or-set_other, length-set}
 use Rattle.std.proofs.lemmas.List.Sums.{sum_by-le}
@@ -11,25 +11,16 @@ use Rattle.client_script.specs.declared.line.Verb.{Verb}
 use Rattle.client_core.specs.Inside.Core.{Core, IsAfter}
 use Rattle.feed_pull.specs.Pulling.{Pulling, IsDone}
 use Rattle.serial_core.specs.declared.runner.Runner.{Runner}
-use Rattle.serial_core.specs.SerialRun.{Run, replies_of, passed, batch_sizes, all_passed, ended, fed, finished, ticked, through, AreDone}
+use Rattle.serial_core.specs.SerialRun.{Run, replies_of, fed, finished, ticked, through, AreDone}
 use Rattle.serial_core.specs.Inside.Moving.{IsAt, Moves, IsDoneBy, ComesBy, ComesByCalls}
 use Rattle.feed_pull.specs.Streams.{Draws}
 use Rattle.serial_core.specs.Inside.Lines.{AreAfter, calls_by, AreInBudget, ComesByLines, IsLineBy, IsFrontBy, IsWholeBy, Overruns, OverrunsBy}
 use Rattle.feed_pull.proofs.Drawing.{draws_none}
-use Rattle.serial_core.proofs.Replies.{ended_replies}
-use Rattle.serial_core.proofs.Paid.{paid_fed, paid_ticked}
+use Rattle.serial_core.specs.Budget.{IsPaid}
+use Rattle.serial_core.proofs.Keeping.{kept_fed, fed_replies, finished_replies}
+use Rattle.serial_core.proofs.Paid.{paid_feeds, paid_ticked}
 
 -- ------ a feed
-
-passes_replies : (sizes : List ℕ) (r : Run) → (fold passed r sizes).replies ≡ r.replies
-passes_replies [] r = refl
-passes_replies (size ∷ sizes) r = passes_replies sizes (passed r size)
-
-fed_replies : (batch count : ℕ) (r : Run) → (fed batch count r).replies ≡ r.replies
-fed_replies batch count r = go (nat_lt (length r.left) count) where
-  go : (b : Bool) → (if b then ended (all_passed batch (length r.left) r) else all_passed batch count r).replies ≡ r.replies
-  go true = ended_replies (all_passed batch (length r.left) r) ∙ passes_replies (batch_sizes batch (length r.left)) r
-  go false = passes_replies (batch_sizes batch count) r
 
 after_same : (lines : List Line) (r s : Run) (cores : List Core) → s.replies ≡ r.replies → AreAfter lines r cores → AreAfter lines s cores
 after_same lines r s cores same after c d lt = subst (λ rs. IsAfter c lines (slice_index_or rs c []) (slice_index_or cores c d)) (sym same) (after c d lt)
@@ -39,7 +30,7 @@ feed_done batch count cores r s some is lines rest clients after =
     subst (λ x. ComesByLines lines batch rest (Feed count ∷ rest) r x cores) (sym is) record {
       clients = ap length (fed_replies batch count r) ∙ clients;
       after = after_same lines r (fed batch count r) cores (fed_replies batch count r) after;
-      paid = λ packets p. paid_fed lines packets batch count r some p;
+      paid = λ packets p. kept_fed batch (IsPaid lines packets) (paid_feeds lines packets batch some) count r p;
       done = λ t d. d;
     }
 
@@ -49,7 +40,7 @@ pub tick_done : (batch time : ℕ) (cores : List Core) (r : Run) → IsLineBy ba
 tick_done batch time cores r lines rest clients after = record {
   clients = clients;
   after = after;
-  paid = λ packets p. paid_ticked lines packets time r p;
+  paid = λ packets p. paid_ticked lines packets r time p;
   done = λ t d. d;
 }
 
@@ -130,9 +121,6 @@ front_overruns batch count lines a b r s t front over clients after =
 
 -- ------ the whole run
 
-finished_replies : (lines : List Line) (batch : ℕ) (r : Run) → (finished lines batch r).replies ≡ r.replies
-finished_replies lines batch r = ended_replies (all_passed batch (length r.left) r) ∙ passes_replies (batch_sizes batch (length r.left)) r
-
 pub whole_by : (batch : ℕ) (lines : List Line) (a b : List Core) (r s t : Run) → IsFrontBy batch lines (length lines) a b r s → ((lines : List Line) → t ≡ finished lines batch s) → IsWholeBy batch lines a b r t
 whole_by batch lines a b r s t front ends clients after =
     let f = front clients after in
@@ -140,5 +128,5 @@ whole_by batch lines a b r s t front ends clients after =
       before = s;
       done = f.done s (subst (λ ls. AreDone lines batch ls s s) (sym (drop_all (length lines) lines (omega arith))) refl);
       ends = ends lines;
-      after = subst (λ x. AreAfter lines x b) (sym (ends lines)) (after_same lines s (finished lines batch s) b (finished_replies lines batch s) f.after);
+      after = subst (λ x. AreAfter lines x b) (sym (ends lines)) (after_same lines s (finished lines batch s) b (finished_replies batch s) f.after);
     }

@@ -3,23 +3,6 @@ use Rattle.std.proofs.Common.{ℕ, zero, suc, ◌+◌, ◌<◌, ◌≤◌, ◌�
 use Rattle.std.proofs.Math.Numerals.{add-one}
 use Rattle.serial_core.specs.Inside.Standing.{Pairs}
 
--- the first so many elements are changed
-abbrev pub changed_front : {Y : Type 0} → (count : ℕ) → (Y → Y) → List Y → List Y
-changed_front zero f ys = ys
-changed_front (suc count) f [] = []
-changed_front (suc count) f (y ∷ ys) = f y ∷ changed_front count f ys
-
-pub changed_all : {Y : Type 0} (count : ℕ) (f : Y → Y) (ys : List Y) → length ys ≤ count → changed_front count f ys ≡ map f ys
-changed_all zero f [] le = refl
-changed_all zero f (y ∷ ys) le = absurd (omega (arith, le))
-changed_all (suc count) f [] le = refl
-changed_all (suc count) f (y ∷ ys) le = ap (λ zs. f y ∷ zs) (changed_all count f ys (omega (arith, le)))
-
-pub front_length : {Y : Type 0} (count : ℕ) (f : Y → Y) (ys : List Y) → length (changed_front count f ys) ≡ length ys
-front_length zero f ys = refl
-front_length (suc count) f [] = refl
-front_length (suc count) f (y ∷ ys) = ap suc (front_length count f ys)
-
 pub map_replicate : {Y : Type 0} (count : ℕ) (f : Y → Y) (y : Y) → map f (replicate count y) ≡ replicate count (f y)
 map_replicate zero f y = refl
 map_replicate (suc count) f y = ap (λ ys. f y ∷ ys) (map_replicate count f y)
@@ -30,19 +13,6 @@ module _ {X Y : Type 0} (R : X → Y → Type 0) where
   same_length [] (y ∷ ys) p = absurd p
   same_length (x ∷ xs) [] p = absurd p
   same_length (x ∷ xs) (y ∷ ys) p = ap suc (same_length xs ys p.1)
-
-  -- one more element of each is changed
-  front_suc : (f : Y → Y) (i : ℕ) (xs : List X) (ys : List Y) (x' d : X) → i < length xs → ((y : Y) → R (get_or xs i d) y → R x' (f y))
-      → Pairs R xs (changed_front i f ys) → Pairs R (set xs i x') (changed_front (suc i) f ys)
-  front_suc f i [] ys x' d lt more p = absurd (omega (arith, lt))
-  front_suc f zero (x ∷ xs) [] x' d lt more p = absurd p
-  front_suc f (suc i) (x ∷ xs) [] x' d lt more p = absurd p
-  front_suc f zero (x ∷ xs) (y ∷ ys) x' d lt more p = (more y p.0, p.1)
-  front_suc f (suc i) (x ∷ xs) (y ∷ ys) x' d lt more p = (p.0, front_suc f i xs ys x' d (omega (arith, lt)) more p.1)
-
-  pub front_more : (f : Y → Y) (i : ℕ) (xs : List X) (ys : List Y) (x' d : X) → i < length xs → ((y : Y) → R (get_or xs i d) y → R x' (f y))
-      → Pairs R xs (changed_front i f ys) → Pairs R (set xs i x') (changed_front (i + 1) f ys)
-  front_more f i xs ys x' d lt more p = subst (λ n. Pairs R (set xs i x') (changed_front n f ys)) (sym (add-one i)) (front_suc f i xs ys x' d lt more p)
 
   -- one element of each is replaced
   pub set_pair : (i : ℕ) (xs : List X) (ys : List Y) (x' : X) (y' : Y) → R x' y' → Pairs R xs ys → Pairs R (set xs i x') (set ys i y')
@@ -59,33 +29,12 @@ module _ {X Y : Type 0} (R : X → Y → Type 0) where
   pair_at zero (x ∷ xs) (y ∷ ys) d e lt p = p.0
   pair_at (suc i) (x ∷ xs) (y ∷ ys) d e lt p = pair_at i xs ys d e (omega (arith, lt)) p.1
 
-  -- the same behind the changed front
-  pub front_at : (f : Y → Y) (i count : ℕ) (xs : List X) (m : Y) (d : X) → i < length xs → Pairs R xs (changed_front i f (replicate count m)) → R (get_or xs i d) m
-  front_at f i count [] m d lt p = absurd (omega (arith, lt))
-  front_at f zero zero (x ∷ xs) m d lt p = absurd p
-  front_at f (suc i) zero (x ∷ xs) m d lt p = absurd p
-  front_at f zero (suc count) (x ∷ xs) m d lt p = p.0
-  front_at f (suc i) (suc count) (x ∷ xs) m d lt p = front_at f i count xs m d (omega (arith, lt)) p.1
-
-  -- at the end all are changed
-  pub front_all : (f : Y → Y) (i : ℕ) (xs : List X) (ys : List Y) → length xs ≤ i → Pairs R xs (changed_front i f ys) → Pairs R xs (map f ys)
-  front_all f i xs ys le p =
-      let long : length ys ≤ i = omega (arith, le, same_length xs (changed_front i f ys) p, front_length i f ys) in
-      subst (λ zs. Pairs R xs zs) (changed_all i f ys long) p
-
   -- one more element at the end of each
   pub pair_push : (xs : List X) (ys : List Y) (x : X) (y : Y) → Pairs R xs ys → R x y → Pairs R (xs ++ x ∷ []) (ys ++ y ∷ [])
   pair_push [] [] x y p r = (r, tt)
   pair_push [] (b ∷ ys) x y p r = absurd p
   pair_push (a ∷ xs) [] x y p r = absurd p
   pair_push (a ∷ xs) (b ∷ ys) x y p r = (p.0, pair_push xs ys x y p.1 r)
-
-  -- what follows of each pair
-  pub equal_by : {Z : Type 0} (f : X → Z) (g : Y → Z) → ((x : X) (y : Y) → R x y → f x ≡ g y) → (xs : List X) (ys : List Y) → Pairs R xs ys → map f xs ≡ map g ys
-  equal_by f g each [] [] p = refl
-  equal_by f g each [] (y ∷ ys) p = absurd p
-  equal_by f g each (x ∷ xs) [] p = absurd p
-  equal_by f g each (x ∷ xs) (y ∷ ys) p = rw (each x y p.0, equal_by f g each xs ys p.1) refl
 
   -- all against the same
   pub same_weaker : (count : ℕ) (xs : List X) (m n : Y) → ((x : X) → R x m → R x n) → Pairs R xs (replicate count m) → Pairs R xs (replicate count n)

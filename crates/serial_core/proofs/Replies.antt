@@ -1,19 +1,37 @@
--- The feeder's turns leave the replies of the clients as they are.
-use Rattle.std.proofs.Common.{◌≡◌, refl, ℕ, Bool, true, false, nat_eq, length}
-use Rattle.std.specs.Prelude.{if◌then◌else◌, is_some, List}
+-- The replies of the clients, and what stands at a line.
+use Rattle.std.proofs.Common.{◌≡◌, refl, ap, ℕ, zero, suc, Bool, true, false, nat_eq, List, [], ◌∷◌, Option, Some, None, length, ◌⊎◌, inl, inr}
+use Rattle.std.specs.Prelude.{if◌then◌else◌, option_map, replicate, slice_index_or, slice_set}
+use Rattle.dmx_calls.specs.Response.{Response}
 use Rattle.client_script.specs.declared.line.Line.{Line}
-use Rattle.client_core.specs.Events.{waits_on}
-use Rattle.serial_core.specs.SerialRun.{Run, replies_of, turned, ended, after_waiting}
+use Rattle.client_core.specs.declared.event.Event.{Event}
+use Rattle.client_core.specs.Events.{Standing, progress, next_event, next_of_line, standing_at}
+use Rattle.client_core.proofs.Options.{none_ne_some}
 
-if_replies : (b : Bool) (x y r : Run) → x.replies ≡ r.replies → y.replies ≡ r.replies → (if b then x else y).replies ≡ r.replies
-if_replies true x y r a b = a
-if_replies false x y r a b = b
+-- another client's replies stay, and so do those of a client that isn't there
+pub index_set : (xs : List (List Response)) (i j : ℕ) (y : List Response) → (slice_index_or (slice_set xs i y) j [] ≡ slice_index_or xs j []) ⊎ (j ≡ i) × (slice_index_or (slice_set xs i y) j [] ≡ y)
+index_set [] i j y = inl refl
+index_set (x ∷ xs) zero zero y = inr (refl, refl)
+index_set (x ∷ xs) zero (suc j) y = inl refl
+index_set (x ∷ xs) (suc i) zero y = inl refl
+index_set (x ∷ xs) (suc i) (suc j) y = go (index_set xs i j y) where
+  go : (slice_index_or (slice_set xs i y) j [] ≡ slice_index_or xs j []) ⊎ (j ≡ i) × (slice_index_or (slice_set xs i y) j [] ≡ y)
+      → (slice_index_or (slice_set (x ∷ xs) (suc i) y) (suc j) [] ≡ slice_index_or (x ∷ xs) (suc j) []) ⊎ (suc j ≡ suc i) × (slice_index_or (slice_set (x ∷ xs) (suc i) y) (suc j) [] ≡ y)
+  go (inl same) = inl same
+  go (inr mine) = inr (ap suc mine.0, mine.1)
 
-pub ended_replies : (r : Run) → (ended r).replies ≡ r.replies
-ended_replies r = if_replies r.has_ended r _ r refl refl
+-- what stands at a line stands next
+pub next_at_line : (client : ℕ) (lines : List Line) (line : ℕ) (rs : List Response) (e : Event) → next_of_line client lines line rs ≡ Some e → next_event client lines rs ≡ Some e
+next_at_line client lines line rs e is = go (progress client lines rs).standing is where
+  by_line : (s : Standing) (b : Bool) → (if b then Some s.event else None) ≡ Some e → Some s.event ≡ Some e
+  by_line s true at = at
+  by_line s false at = absurd (none_ne_some e at)
 
-pub turned_replies : (batch : ℕ) (r : Run) → (turned batch r).replies ≡ r.replies
-turned_replies batch r = if_replies (nat_eq (length r.left) 0) (ended r) _ r (ended_replies r) refl
+  go : (o : Option Standing) → standing_at line o ≡ Some e → option_map (λ s. s.event) o ≡ Some e
+  go None at = absurd (none_ne_some e at)
+  go (Some s) at = by_line s (nat_eq s.line line) at
 
-pub waiting_replies : (lines : List Line) (batch client : ℕ) (r : Run) → (after_waiting lines batch client r).replies ≡ r.replies
-waiting_replies lines batch client r = if_replies (is_some (waits_on client lines (replies_of client r))) (turned batch r) r r (turned_replies batch r) refl
+-- before the first call none has got a reply
+pub none_said : (n client : ℕ) → slice_index_or (replicate {A = List Response} n []) client [] ≡ []
+none_said zero client = refl
+none_said (suc n) zero = refl
+none_said (suc n) (suc client) = none_said n client

@@ -3,7 +3,7 @@ use Rattle.std.proofs.Common.{◌≡◌, ◌≢◌, refl, sym, ap, subst, ◌∙
 use Rattle.std.specs.Prelude.{if◌then◌else◌, slice_set, slice_get}
 use Rattle.std.specs.List.{All}
 use Rattle.std.proofs.lemmas.Bool.Decides.{nat_tests}
-use Rattle.std.proofs.lemmas.List.{length-set, get_or-set_same, get_or-set_other, drop-drop}
+use Rattle.std.proofs.lemmas.List.{length-map, length-set, get_or-set_same, get_or-set_other, drop-drop}
 use Rattle.std.proofs.lemmas.List.Elements.{All-nil, All-head, All-tail}
 use Rattle.std.proofs.lemmas.List.FromFn.{get_or-map-range_with_len}
 use Rattle.dmx_calls.specs.declared.limits.TheConstants.{DEMUX_NODES}
@@ -12,7 +12,6 @@ use Rattle.dmx_calls.specs.Invocation as call
 use Rattle.dmx_calls.specs.Invocation.{Invocation}
 use Rattle.dmx_calls.specs.Response.{NoMemory}
 use Rattle.dmx_calls.specs.Rules.{demux, dvr, rules_at}
-use Rattle.dmx_calls.specs.Answer.{answer}
 use Rattle.dmx_calls.specs.Legal.{IsLegalFor}
 use Rattle.dmx_calls.specs.Accounted.{IsAccounted}
 use Rattle.dmx_calls.specs.declared.log.Act.TheVariants.{Pass as PassAct}
@@ -29,29 +28,19 @@ use Rattle.client_core.specs.Commands.{call_of}
 use Rattle.client_core.specs.Events.{next_event}
 use Rattle.client_core.specs.IsRun.{IsFed, HasDone, feeding, steps_of}
 use Rattle.client_core.proofs.Numbering.{next_is_numbered}
-use Rattle.serial_core.specs.Nodes.{Node, uncalled, history_of, answered}
-use Rattle.serial_core.specs.SerialRun.{Run, begun, fed_to_all, passed, ended, ticked, all_passed, demux_node, replies_of, reply_to, made, called, AreDone, finished}
+use Rattle.serial_core.specs.Nodes.{Node, uncalled, history_of, answer_by, answered}
+use Rattle.serial_core.specs.SerialRun.{Run, begun, fed_to_all, passed, ended, ticked, all_passed, node_at, replies_of, reply_to, called, after_waiting, IsSerialRun}
 use Rattle.serial_core.specs.Ran.{histories_in}
 use Rattle.serial_core.specs.Runs.{IsAccountedRun, SerialRunsAreRuns}
-use Rattle.serial_core.proofs.Places.{node_at, fed_at, called_at, IsCalledAt, reply_at, entries_of, entries_at, entry_for, entries_answered, histories_get, histories_length, histories_is}
+use Rattle.serial_core.proofs.Logs.{fed_at, called_at, IsCalledAt, entries_of, entries_at, entry_for, entries_answered, histories_get, histories_is}
 use Rattle.serial_core.proofs.Sound.{IsSound, sound_answered, sound_placed, sound_filled}
 use Rattle.serial_core.proofs.Making.{AreMade, others_made, mine_made}
 use Rattle.serial_core.proofs.Feeding.{AreFed, fed_pass, fed_end, fed_other, none_fed, all_fed, passes_of, end_of}
-use Rattle.serial_core.proofs.Keeping.{AreBelow, kept}
+use Rattle.serial_core.proofs.Keeping.{AreBelow, all_below, kept}
 use Rattle.serial_core.proofs.Throughout.{none_stands}
-use Rattle.serial_core.proofs.Within.{none_said}
+use Rattle.serial_core.proofs.Replies.{none_said}
 
 -- ------ clients
-
-above_first : (m : ℕ) (lines : List Line) → m ≤ fold (λ most line. max most (clients_of line)) m lines
-above_first m [] = omega arith
-above_first m (line ∷ lines) = omega (arith, above_first (max m (clients_of line)) lines)
-
-below_fold : (lines : List Line) (m n : ℕ) → fold (λ most line. max most (clients_of line)) m lines ≤ n → AreBelow n lines
-below_fold [] m n le = tt
-below_fold (Feed k ∷ lines) m n le = below_fold lines (max m 0) n le
-below_fold (Tick k ∷ lines) m n le = below_fold lines (max m 0) n le
-below_fold (Command line client target verb ∷ lines) m n le = (omega (arith, above_first (max m (client + 1)) lines, le), below_fold lines (max m (client + 1)) n le)
 
 few_in : (line : Line) → IsInRange line → clients_of line ≤ 8
 few_in (Feed k) is = omega arith
@@ -79,24 +68,9 @@ of_stream packets want.Poll now = tt
 of_stream packets (want.Attach n ps) now = tt
 of_stream packets (want.Detach n) now = tt
 
--- what a client's call leaves as it was
-record IsLeft (s r : Run) : Type 0 where
-  nodes : length s.demux ≡ length r.demux
-  turns : s.turns ≡ r.turns
-  left : s.left ≡ r.left
-  first : s.first ≡ r.first
-  ended : s.has_ended ≡ r.has_ended
-
-made_left : (client : ℕ) (e : Event) (r : Run) → IsLeft (made client e r) r
-made_left client e r = go (nat_lt e.node DEMUX_NODES) where
-  go : (b : Bool) → IsLeft (if b then record r { demux = slice_set r.demux e.node (answered demux (client + 1) e.step (call_of e.want r.moment) (demux_node e.node r)) }
-      else record r { dvr = answered dvr (client + 1) e.step (call_of e.want r.moment) r.dvr }) r
-  go true = record { nodes = length-set r.demux e.node (answered demux (client + 1) e.step (call_of e.want r.moment) (demux_node e.node r)); turns = refl; left = refl; first = refl; ended = refl }
-  go false = record { nodes = refl; turns = refl; left = refl; first = refl; ended = refl }
-
 module _ (lines : List Line) (batch : ℕ) (packets : List (List ℕ)) (clients : ℕ) (few : clients ≤ 8) (ranges : All IsInRange lines) where
   pub record IsSoFar (r : Run) : Type 0 where
-    pub nodes : length r.demux ≡ DEMUX_NODES
+    pub nodes : length r.nodes ≡ DEMUX_NODES + 1
     pub eight : length r.replies ≡ 8
     pub left : r.left ≡ drop r.first packets
     pub first : r.first + length r.left ≡ length packets
@@ -106,23 +80,17 @@ module _ (lines : List Line) (batch : ℕ) (packets : List (List ℕ)) (clients 
     pub made : (client : ℕ) → client < clients → AreMade lines client (λ node. entries_at node r) (replies_of client r)
 
   -- a call of the feeder
-  fed_length : (c : Invocation) (r : Run) → length (fed_to_all c r).demux ≡ length r.demux
-  fed_length c r = go r.demux where
-    go : (ns : List Node) → length (map (answered demux 0 r.turns c) ns) ≡ length ns
-    go [] = refl
-    go (n ∷ ns) = ap suc (go ns)
+  fed_entries : (node : ℕ) (c : Invocation) (r : Run) → length r.nodes ≡ DEMUX_NODES + 1 → node ≤ DEMUX_NODES → entries_at node (fed_to_all c r) ≡ entries_at node r ++ entry_for 0 r.turns c (node_at node r) ∷ []
+  fed_entries node c r long le = ap entries_of (fed_at node c r long le) ∙ entries_answered 0 r.turns c (node_at node r)
 
-  fed_entries : (node : ℕ) (c : Invocation) (r : Run) → length r.demux ≡ DEMUX_NODES → entries_at node (fed_to_all c r) ≡ entries_at node r ++ entry_for (rules_at node) 0 r.turns c (node_at node r) ∷ []
-  fed_entries node c r long = ap entries_of (fed_at node c r long) ∙ entries_answered (rules_at node) 0 r.turns c (node_at node r)
+  fed_sound : (node : ℕ) (c : Invocation) (r : Run) → length r.nodes ≡ DEMUX_NODES + 1 → node ≤ DEMUX_NODES → IsOfStream packets c → IsSound packets clients node (node_at node r) → IsSound packets clients node (node_at node (fed_to_all c r))
+  fed_sound node c r long le of s = subst (IsSound packets clients node) (sym (fed_at node c r long le)) (sound_answered packets clients node (node_at node r) 0 r.turns c (omega arith) of s)
 
-  fed_sound : (node : ℕ) (c : Invocation) (r : Run) → length r.demux ≡ DEMUX_NODES → IsOfStream packets c → IsSound packets clients node (node_at node r) → IsSound packets clients node (node_at node (fed_to_all c r))
-  fed_sound node c r long of s = subst (IsSound packets clients node) (sym (fed_at node c r long)) (sound_answered packets clients node (node_at node r) 0 r.turns c (omega arith) of s)
-
-  fed_made : (client : ℕ) (c : Invocation) (r : Run) → length r.demux ≡ DEMUX_NODES → AreMade lines client (λ node. entries_at node r) (replies_of client r)
+  fed_made : (client : ℕ) (c : Invocation) (r : Run) → length r.nodes ≡ DEMUX_NODES + 1 → AreMade lines client (λ node. entries_at node r) (replies_of client r)
       → AreMade lines client (λ node. entries_at node (fed_to_all c r)) (replies_of client r)
   fed_made client c r long m =
       others_made lines client (λ node. entries_at node r) (λ node. entries_at node (fed_to_all c r)) (replies_of client r)
-      (λ node le. inr (entry_for (rules_at node) 0 r.turns c (node_at node r), fed_entries node c r long, λ same. absurd (omega (arith, same)))) m
+      (λ node le. inr (entry_for 0 r.turns c (node_at node r), fed_entries node c r long le, λ same. absurd (omega (arith, same)))) m
 
   not_ended : (r : Run) → IsSoFar r → 1 ≤ length r.left → r.has_ended ≡ false
   not_ended r p some = go r.has_ended refl where
@@ -138,15 +106,15 @@ module _ (lines : List Line) (batch : ℕ) (packets : List (List ℕ)) (clients 
       let of : take size r.left ≡ take (length (take size r.left)) (drop r.first packets) = ap (take size) p.left ∙ ap (λ n. take n (drop r.first packets)) (sym long) in
       let before : AreFed batch (λ node. entries_at node r) r.turns r.first false = subst (λ b. AreFed batch (λ node. entries_at node r) r.turns r.first b) unended p.fed in
       record {
-        nodes = fed_length c r ∙ p.nodes;
+        nodes = length-map r.nodes (answered 0 r.turns c) ∙ p.nodes;
         eight = p.eight;
         left = ap (drop size) p.left ∙ drop-drop size r.first packets;
         first = omega (arith, p.first, length-drop size r.left, fits);
         ended = λ is. omega (arith, p.ended is, length-drop size r.left);
-        sound = λ node le. fed_sound node c r p.nodes of (p.sound node le);
+        sound = λ node le. fed_sound node c r p.nodes le of (p.sound node le);
         fed = subst (λ b. AreFed batch (λ node. entries_at node (fed_to_all c r)) (r.turns + 1) (r.first + size) b) (sym unended)
             (fed_pass batch (λ node. entries_at node r) (λ node. entries_at node (fed_to_all c r)) r.turns r.first size r.moment some within before
-            (λ node le. (entry_for (rules_at node) 0 r.turns c (node_at node r), fed_entries node c r p.nodes, refl, refl, ap (λ n. PassAct Frontend r.first n r.moment) long)));
+            (λ node le. (entry_for 0 r.turns c (node_at node r), fed_entries node c r p.nodes le, refl, refl, ap (λ n. PassAct Frontend r.first n r.moment) long)));
         made = λ client lt. fed_made client c r p.nodes (p.made client lt);
       }
 
@@ -154,14 +122,14 @@ module _ (lines : List Line) (batch : ℕ) (packets : List (List ℕ)) (clients 
   end_keeps r none unended p =
       let before : AreFed batch (λ node. entries_at node r) r.turns r.first false = subst (λ b. AreFed batch (λ node. entries_at node r) r.turns r.first b) unended p.fed in
       record {
-        nodes = fed_length call.End r ∙ p.nodes;
+        nodes = length-map r.nodes (answered 0 r.turns call.End) ∙ p.nodes;
         eight = p.eight;
         left = p.left;
         first = p.first;
         ended = λ is. none;
-        sound = λ node le. fed_sound node call.End r p.nodes tt (p.sound node le);
+        sound = λ node le. fed_sound node call.End r p.nodes le tt (p.sound node le);
         fed = fed_end batch (λ node. entries_at node r) (λ node. entries_at node (fed_to_all call.End r)) r.turns r.first before
-            (λ node le. (entry_for (rules_at node) 0 r.turns call.End (node_at node r), fed_entries node call.End r p.nodes, refl, refl, refl));
+            (λ node le. (entry_for 0 r.turns call.End (node_at node r), fed_entries node call.End r p.nodes le, refl, refl, refl));
         made = λ client lt. fed_made client call.End r p.nodes (p.made client lt);
       }
 
@@ -180,11 +148,8 @@ module _ (lines : List Line) (batch : ℕ) (packets : List (List ℕ)) (clients 
     numbered : (e.step ≡ length (replies_of client r)) × (e.node ≤ DEMUX_NODES)
     numbered = next_is_numbered client lines (replies_of client r) e ranges stands
 
-    same : IsLeft (made client e r) r
-    same = made_left client e r
-
-    at : (node : ℕ) → node ≤ DEMUX_NODES → IsCalledAt client e r node
-    at node le = called_at client e r node p.nodes numbered.1 le
+    at : (node : ℕ) → IsCalledAt client e r node
+    at node = called_at client e r node p.nodes numbered.1
 
     call_sound : (node : ℕ) → node ≤ DEMUX_NODES → IsCalledAt client e r node → IsSound packets clients node (node_at node after)
     call_sound node le (inl here) =
@@ -194,17 +159,17 @@ module _ (lines : List Line) (batch : ℕ) (packets : List (List ℕ)) (clients 
     -- the log of a node has the call's entry behind it, or is the same
     call_fed : (node : ℕ) → IsCalledAt client e r node → steps_of 0 (entries_at node after) ≡ steps_of 0 (entries_at node r)
     call_fed node (inl here) =
-        ap (steps_of 0) (ap entries_of here.1 ∙ entries_answered (rules_at node) (client + 1) e.step c (node_at node r))
-        ∙ none_fed (entries_at node r) (entry_for (rules_at node) (client + 1) e.step c (node_at node r)) (λ is. absurd (omega (arith, is)))
+        ap (steps_of 0) (ap entries_of here.1 ∙ entries_answered (client + 1) e.step c (node_at node r))
+        ∙ none_fed (entries_at node r) (entry_for (client + 1) e.step c (node_at node r)) (λ is. absurd (omega (arith, is)))
     call_fed node (inr there) = ap (steps_of 0) (ap entries_of there.1)
 
     abbrev x : LogEntry
-    x = record { node = e.node; place = length (entries_at e.node r); step = e.step; who = client + 1; act = act_of c; response = answer (rules_at e.node) (history_of (node_at e.node r)) (client + 1) c }
+    x = record { node = e.node; place = length (entries_at e.node r); step = e.step; who = client + 1; act = act_of c; response = answer_by (client + 1) c (node_at e.node r) }
 
     here : IsCalledAt client e r e.node → entries_at e.node after ≡ entries_at e.node r ++ x ∷ []
     here (inl is) =
-        ap entries_of is.1 ∙ entries_answered (rules_at e.node) (client + 1) e.step c (node_at e.node r)
-        ∙ ap (λ n. entries_at e.node r ++ record { node = n; place = length (entries_at e.node r); step = e.step; who = client + 1; act = act_of c; response = answer (rules_at e.node) (history_of (node_at e.node r)) (client + 1) c } ∷ []) (p.sound e.node numbered.1).number
+        ap entries_of is.1 ∙ entries_answered (client + 1) e.step c (node_at e.node r)
+        ∙ ap (λ n. entries_at e.node r ++ record { node = n; place = length (entries_at e.node r); step = e.step; who = client + 1; act = act_of c; response = answer_by (client + 1) c (node_at e.node r) } ∷ []) (p.sound e.node numbered.1).number
     here (inr not) = absurd (not.0 refl)
 
     elsewhere : (node : ℕ) → node ≢ e.node → IsCalledAt client e r node → entries_at node after ≡ entries_at node r
@@ -214,7 +179,6 @@ module _ (lines : List Line) (batch : ℕ) (packets : List (List ℕ)) (clients 
     my_replies : replies_of client after ≡ replies_of client r ++ x.response ∷ []
     my_replies =
         get_or-set_same r.replies client (replies_of client r ++ reply_to client e r ∷ []) [] (omega (arith, lt, few, p.eight))
-        ∙ ap (λ q. replies_of client r ++ q ∷ []) (reply_at client e r)
 
     call_made : (other : ℕ) → other < clients → (b : Bool) → nat_eq other client ≡ b → AreMade lines other (λ node. entries_at node after) (replies_of other after)
     call_made other less true yea =
@@ -222,40 +186,34 @@ module _ (lines : List Line) (batch : ℕ) (packets : List (List ℕ)) (clients 
         subst (λ o. AreMade lines o (λ node. entries_at node after) (replies_of o after)) (sym eq)
         (subst (λ rs. AreMade lines client (λ node. entries_at node after) rs) (sym my_replies)
         (mine_made lines client (λ node. entries_at node r) (λ node. entries_at node after) (replies_of client r) x e r.moment (p.made client lt) stands refl numbered.1 numbered.0 refl refl refl
-        (here (at e.node numbered.1)) (λ node le ne. elsewhere node ne (at node le))))
+        (here (at e.node)) (λ node le ne. elsewhere node ne (at node))))
     call_made other less false nay =
         let ne : other ≢ client = λ is. grind (arith, nat_tests, nay, is) in
         let theirs : replies_of other after ≡ replies_of other r = get_or-set_other r.replies client other (replies_of client r ++ reply_to client e r ∷ []) [] ne in
         subst (λ rs. AreMade lines other (λ node. entries_at node after) rs) (sym theirs)
-        (others_made lines other (λ node. entries_at node r) (λ node. entries_at node after) (replies_of other r) (λ node le. others node ne (at node le)) (p.made other less)) where
+        (others_made lines other (λ node. entries_at node r) (λ node. entries_at node after) (replies_of other r) (λ node le. others node ne (at node)) (p.made other less)) where
           others : (node : ℕ) → other ≢ client → IsCalledAt client e r node
               → (entries_at node after ≡ entries_at node r) ⊎ ((y : LogEntry) × (entries_at node after ≡ entries_at node r ++ y ∷ []) × (y.who ≢ other + 1))
           others node ne (inl is) =
-              inr (entry_for (rules_at node) (client + 1) e.step c (node_at node r), ap entries_of is.1 ∙ entries_answered (rules_at node) (client + 1) e.step c (node_at node r), λ eq. absurd (ne (omega (arith, eq))))
+              inr (entry_for (client + 1) e.step c (node_at node r), ap entries_of is.1 ∙ entries_answered (client + 1) e.step c (node_at node r), λ eq. absurd (ne (omega (arith, eq))))
           others node ne (inr not) = inl (ap entries_of not.1)
 
     call_keeps : IsSoFar after
     call_keeps = record {
-      nodes = same.nodes ∙ p.nodes;
+      nodes = length-set r.nodes e.node (answered (client + 1) e.step c (node_at e.node r)) ∙ p.nodes;
       eight = length-set r.replies client (replies_of client r ++ reply_to client e r ∷ []) ∙ p.eight;
-      left = same.left ∙ p.left ∙ ap (λ n. drop n packets) (sym same.first);
-      first = omega (arith, same.first, ap length same.left, p.first);
-      ended = λ is. ap length same.left ∙ p.ended (sym same.ended ∙ is);
-      sound = λ node le. call_sound node le (at node le);
-      fed = subst (λ t. AreFed batch (λ node. entries_at node after) t after.first after.has_ended) (sym same.turns)
-          (subst (λ n. AreFed batch (λ node. entries_at node after) r.turns n after.has_ended) (sym same.first)
-          (subst (λ b. AreFed batch (λ node. entries_at node after) r.turns r.first b) (sym same.ended)
-          (fed_other batch (λ node. entries_at node r) (λ node. entries_at node after) r.turns r.first r.has_ended p.fed (λ node le. call_fed node (at node le)))));
+      left = p.left;
+      first = p.first;
+      ended = p.ended;
+      sound = λ node le. call_sound node le (at node);
+      fed = fed_other batch (λ node. entries_at node r) (λ node. entries_at node after) r.turns r.first r.has_ended p.fed (λ node le. call_fed node (at node));
       made = λ other less. call_made other less (nat_eq other client) refl;
     }
 
   -- ------ at the beginning
 
   begun_at : (node : ℕ) → node ≤ DEMUX_NODES → node_at node (begun packets) ≡ uncalled node
-  begun_at node le = go (nat_lt node DEMUX_NODES) refl where
-    go : (b : Bool) → nat_lt node DEMUX_NODES ≡ b → (if b then demux_node node (begun packets) else (begun packets).dvr) ≡ uncalled node
-    go true is = let lt : node < DEMUX_NODES = grind (arith, nat_tests, is) in get_or-map-range_with_len uncalled 0 DEMUX_NODES node node (uncalled node) lt (omega arith)
-    go false is = let eq : DEMUX_NODES ≡ node = grind (arith, nat_tests, is, le) in ap uncalled eq
+  begun_at node le = get_or-map-range_with_len uncalled 0 (DEMUX_NODES + 1) node node (uncalled node) (omega (arith, le)) (omega arith)
 
   no_entry : (place : ℕ) (e : LogEntry) (h : List LogEntry) → h ≡ [] → slice_get h place ≡ Some e → ⊥
   no_entry place e h none is = let k : slice_get {X = LogEntry} [] place ≡ Some e = subst (λ l. slice_get l place ≡ Some e) none is in absurd (cc)
@@ -280,11 +238,12 @@ module _ (lines : List Line) (batch : ℕ) (packets : List (List ℕ)) (clients 
 
   -- ------ the whole run
 
-  below : clients_in lines ≤ clients → AreBelow clients lines
-  below le = below_fold lines 0 clients le
-
-  run_so_far : (one : 1 ≤ batch) (r : Run) → clients_in lines ≤ clients → AreDone lines batch lines (begun packets) r → IsSoFar (finished lines batch r)
-  run_so_far one r le d = kept lines batch clients one IsSoFar pass_keeps end_keeps tick_keeps (λ r client e lt stands p. call_keeps r client e lt stands p) packets r (below le) d begun_so_far
+  run_so_far : (one : 1 ≤ batch) (r : Run) → AreBelow clients lines → IsSerialRun lines batch packets r → IsSoFar r
+  run_so_far one r below run = kept lines batch clients IsSoFar record {
+    feeds = record { passes = λ r size fit le p. pass_keeps r size (fit one).0 (fit one).1 le p; ends = end_keeps };
+    ticks = tick_keeps;
+    calls = λ r client e lt stands was p. call_keeps (after_waiting lines batch client r) client e lt stands p;
+  } packets r below run begun_so_far
 
   module _ (r : Run) (p : IsSoFar r) (through : (client : ℕ) → next_event client lines (replies_of client r) ≡ None) (over : r.has_ended ≡ true) where
     whole : r.first ≡ length packets
@@ -299,7 +258,8 @@ module _ (lines : List Line) (batch : ℕ) (packets : List (List ℕ)) (clients 
     run_legal node h log =
         let w = histories_is r node h p.nodes log in
         subst (λ l. IsLegalFor (rules_at node) (filled packets l)) w.1
-        (subst (IsLegalFor (rules_at node)) (sym (sound_filled packets clients node (node_at node r) (p.sound node w.0))) (p.sound node w.0).legal)
+        (subst (IsLegalFor (rules_at node)) (sym (sound_filled packets clients node (node_at node r) (p.sound node w.0)))
+        (subst (λ n. IsLegalFor (rules_at n) (history_of (node_at node r))) (p.sound node w.0).number (p.sound node w.0).legal))
 
     run_fed : IsFed batch (length packets) (histories_in r)
     run_fed = record {
@@ -345,13 +305,13 @@ pub are_runs : SerialRunsAreRuns
 unfolding run_done
 are_runs lines batch packets t ranges one run =
     let few : clients_in lines ≤ 8 = few_clients lines 0 (omega arith) ranges in
-    subst (IsAccountedRun lines batch packets) (sym run.2)
-    (whole_of few (finished lines batch run.0) (run_so_far lines batch packets (clients_in lines) few ranges one run.0 (omega arith) run.1) (none_stands lines batch packets run.0 run.1)
-    (ended_over (all_passed batch (length run.0.left) run.0))) where
+    whole_of few t (run_so_far lines batch packets (clients_in lines) few ranges one t (all_below lines) run)
+    (λ client. ap (λ s. next_event client lines (replies_of client s)) run.2 ∙ none_stands lines batch packets run.0 run.1 client)
+    (ap (λ s. s.has_ended) run.2 ∙ ended_over (all_passed batch (length run.0.left) run.0)) where
       whole_of : (few : clients_in lines ≤ 8) (r : Run) → IsSoFar lines batch packets (clients_in lines) few ranges r → ((client : ℕ) → next_event client lines (replies_of client r) ≡ None) → r.has_ended ≡ true → IsAccountedRun lines batch packets r
       whole_of few r p through over = record {
         run = record {
-          nodes = histories_length r p.nodes;
+          nodes = length-map r.nodes entries_of ∙ p.nodes;
           places = run_placed lines batch packets (clients_in lines) few ranges r p through over;
           legal = run_legal lines batch packets (clients_in lines) few ranges r p through over;
           fed = run_fed lines batch packets (clients_in lines) few ranges r p through over;

@@ -2,13 +2,13 @@
 use Rattle.std.proofs.Common.{◌≡◌, refl, sym, ap, subst, ◌∙◌, ℕ, ◌+◌, List, [], ◌∷◌, ◌++◌, length, map, length-append, add-one, arith}
 use Rattle.std.proofs.lemmas.List.{map-append}
 use Rattle.dmx_calls.specs.declared.node.NodeKind.{NodeKind}
-use Rattle.dmx_calls.specs.declared.node.NodeKind.TheVariants.{Demux, Dvr}
+use Rattle.dmx_calls.specs.declared.node.NodeKind.TheVariants as kind
 use Rattle.dmx_calls.specs.Invocation.{Invocation, Open, Close, SetFilter, SetPes, AddPid, RemovePid, Start, Stop, SetSize, Read, Poll, Pass, End, Attach, Detach}
 use Rattle.dmx_calls.specs.Response.{Passed}
 use Rattle.dmx_calls.specs.History.{History, entry_of}
-use Rattle.dmx_calls.specs.Rules.{Rules}
+use Rattle.dmx_calls.specs.Rules.{Rules, rules_at}
 use Rattle.dmx_calls.specs.Facts.{Facts, facts}
-use Rattle.dmx_calls.specs.Answer.{answer, answer_by, with_call}
+use Rattle.dmx_calls.specs.Answer.{answer, answer_by as dmx_answer, with_call}
 use Rattle.dmx_calls.specs.declared.log.Act.{Act}
 use Rattle.dmx_calls.specs.Log.{LogEntry, act_of}
 use Rattle.dmx_calls.specs.Histories.{feeder_entry, woven, AreInPlace}
@@ -16,29 +16,31 @@ use Rattle.dmx_calls.proofs.Weaving.{in_place-append, woven-call, woven-fed}
 use Rattle.dmx_calls.specs.declared.log.Entry.{Entry as CodeEntry}
 use Rattle.dmx_calls.specs.Calls.{told_entry}
 use Rattle.serial_core.specs.declared.seat.Seat.{Seat}
-use Rattle.serial_core.specs.Nodes.{Node, Told, history_in, history_of, uncalled, answered, log_in, log_of}
-use Rattle.serial_core.specs.Inside.Standing.{IsFeeding, IsSeat}
+use Rattle.serial_core.specs.declared.node.AnyCore.{AnyCore}
+use Rattle.serial_core.specs.declared.node.AnyCore.TheVariants.{Demux, Dvr}
+use Rattle.serial_core.specs.Nodes.{Node, Told, history_in, history_of, uncalled, answer_by, answered, log_in, log_of}
+use Rattle.serial_core.specs.Inside.Standing.{IsFeeding, IsSeat, StandsAt, entries_in}
 
 -- ------ the feeder's calls are answered Passed
 
-passed_by : (kind : NodeKind) (f g : Facts) (who : ℕ) (c : Invocation) → IsFeeding c → answer_by kind f g who c ≡ Passed
-passed_by Demux f g who (Pass input first packets now) is = refl
-passed_by Dvr f g who (Pass input first packets now) is = refl
-passed_by Demux f g who End is = refl
-passed_by Dvr f g who End is = refl
-passed_by kind f g who Open is = absurd is
-passed_by kind f g who Close is = absurd is
-passed_by kind f g who (SetFilter params now) is = absurd is
-passed_by kind f g who (SetPes params now) is = absurd is
-passed_by kind f g who (AddPid pid) is = absurd is
-passed_by kind f g who (RemovePid pid) is = absurd is
-passed_by kind f g who (Start now) is = absurd is
-passed_by kind f g who Stop is = absurd is
-passed_by kind f g who (SetSize size) is = absurd is
-passed_by kind f g who (Read now count) is = absurd is
-passed_by kind f g who (Poll now) is = absurd is
-passed_by kind f g who (Attach node pids) is = absurd is
-passed_by kind f g who (Detach node) is = absurd is
+passed_by : (k : NodeKind) (f g : Facts) (who : ℕ) (c : Invocation) → IsFeeding c → dmx_answer k f g who c ≡ Passed
+passed_by kind.Demux f g who (Pass input first packets now) is = refl
+passed_by kind.Dvr f g who (Pass input first packets now) is = refl
+passed_by kind.Demux f g who End is = refl
+passed_by kind.Dvr f g who End is = refl
+passed_by k f g who Open is = absurd is
+passed_by k f g who Close is = absurd is
+passed_by k f g who (SetFilter params now) is = absurd is
+passed_by k f g who (SetPes params now) is = absurd is
+passed_by k f g who (AddPid pid) is = absurd is
+passed_by k f g who (RemovePid pid) is = absurd is
+passed_by k f g who (Start now) is = absurd is
+passed_by k f g who Stop is = absurd is
+passed_by k f g who (SetSize size) is = absurd is
+passed_by k f g who (Read now count) is = absurd is
+passed_by k f g who (Poll now) is = absurd is
+passed_by k f g who (Attach node pids) is = absurd is
+passed_by k f g who (Detach node) is = absurd is
 
 pub is_passed : (node : Rules) (h : History) (who : ℕ) (c : Invocation) → IsFeeding c → answer node h who c ≡ Passed
 unfolding answer
@@ -65,49 +67,53 @@ same_entry a b node place step who act response =
     let moved : a ≡ record { node = b.node; place = b.place; step = b.step; who = b.who; act = b.act; response = b.response } = rw (sym node, sym place, sym step, sym who, sym act, sym response) refl in
     moved
 
-module _ {Core : Type 0} (stands : Core → History → Type 0) (rules : Rules) where
-  -- a node before the first call
-  pub seat_fresh : (seat : Seat Core) (number : ℕ) → stands seat.core [] → seat.node ≡ number → seat.entries.items ≡ [] → IsSeat stands [] seat (uncalled number)
-  seat_fresh seat number core node entries = record {
-    core = core;
-    number = node;
-    log = ap (λ es. woven number [] (map told_entry es)) entries;
-  }
+-- a core has as many entries as each history that it stands for
+pub entries_count : (core : AnyCore) (number : ℕ) (h : History) → StandsAt core number h → entries_in core ≡ length h
+entries_count (Demux core) number h at = at.1.count
+entries_count (Dvr core) number h at = at.1.count
 
-  -- a call of the feeder
-  pub seat_fed : (acts : List Act) (old new : Seat Core) (n : Node) (c : Invocation) → IsFeeding c → new.node ≡ old.node → new.entries ≡ old.entries
-      → stands new.core (entry_of 0 c (answer rules (history_of n) 0 c) ∷ history_of n) → IsSeat stands acts old n
-      → IsSeat stands (acts ++ act_of c ∷ []) new (answered rules 0 (length acts) c n)
-  seat_fed acts old new n c feeding node entries core at =
-      let all : List LogEntry = (log_of n).entries in
-      let next : woven n.number (acts ++ act_of c ∷ []) (map told_entry old.entries.items) ≡ all ++ feeder_entry n.number (length all) (length acts) (act_of c) ∷ [] =
-      woven-fed n.number acts (map told_entry old.entries.items) (act_of c) (subst (λ es. AreInPlace 0 es) (sym at.log) (log_in_place n.number n.calls))
-      ∙ ap (λ es. es ++ feeder_entry n.number (length es) (length acts) (act_of c) ∷ []) at.log in
-      let said : feeder_entry n.number (length all) (length acts) (act_of c)
-      ≡ record { node = (log_of n).node; place = length all; step = length acts; who = 0; act = act_of c; response = answer rules (history_of n) 0 c } =
-      same_entry _ _ (sym (log_node n.number n.calls)) refl refl refl refl (sym (is_passed rules (history_of n) 0 c feeding)) in
-      record {
-        core = core;
-        number = node ∙ at.number;
-        log = ap (λ es. woven n.number (acts ++ act_of c ∷ []) (map told_entry es.items)) entries ∙ (next ∙ ap (λ e. all ++ e ∷ []) said);
-      }
+-- a node before the first call
+pub seat_fresh : (seat : Seat) (number : ℕ) → StandsAt seat.core number [] → seat.node ≡ number → seat.entries.items ≡ [] → IsSeat [] seat (uncalled number)
+seat_fresh seat number core node entries = record {
+  core = core;
+  number = node;
+  log = ap (λ es. woven number [] (map told_entry es)) entries;
+}
 
-  -- a call of a client
-  pub seat_called : (acts : List Act) (old new : Seat Core) (n : Node) (who step : ℕ) (c : Invocation) (e : CodeEntry)
-      → new.node ≡ old.node → new.entries.items ≡ old.entries.items ++ e ∷ []
-      → e.node ≡ old.node → e.place ≡ length (history_of n) → e.step ≡ step → e.who ≡ who → (told_entry e).act ≡ act_of c → (told_entry e).response ≡ answer rules (history_of n) who c
-      → stands new.core (entry_of who c (answer rules (history_of n) who c) ∷ history_of n) → IsSeat stands acts old n
-      → IsSeat stands acts new (answered rules who step c n)
-  seat_called acts old new n who step c e node entries on place steps by act response core at =
-      let all : List LogEntry = (log_of n).entries in
-      let here : (told_entry e).place ≡ length all = place ∙ sym (log_length n.number n.calls) in
-      let next : woven n.number acts (map told_entry old.entries.items ++ told_entry e ∷ []) ≡ all ++ told_entry e ∷ [] =
-      woven-call n.number acts (map told_entry old.entries.items) (told_entry e) (here ∙ ap length (sym at.log)) ∙ ap (λ es. es ++ told_entry e ∷ []) at.log in
-      let said : told_entry e ≡ record { node = (log_of n).node; place = length all; step = step; who = who; act = act_of c; response = answer rules (history_of n) who c } =
-      same_entry _ _ (on ∙ (at.number ∙ sym (log_node n.number n.calls))) here steps by act response in
-      let own : map told_entry new.entries.items ≡ map told_entry old.entries.items ++ told_entry e ∷ [] = ap (map told_entry) entries ∙ map-append told_entry old.entries.items (e ∷ []) in
-      record {
-        core = core;
-        number = node ∙ at.number;
-        log = ap (woven n.number acts) own ∙ (next ∙ ap (λ x. all ++ x ∷ []) said);
-      }
+-- a call of the feeder
+pub seat_fed : (acts : List Act) (old new : Seat) (n : Node) (c : Invocation) → IsFeeding c → new.node ≡ old.node → new.entries ≡ old.entries
+    → StandsAt new.core n.number (entry_of 0 c (answer_by 0 c n) ∷ history_of n) → IsSeat acts old n
+    → IsSeat (acts ++ act_of c ∷ []) new (answered 0 (length acts) c n)
+seat_fed acts old new n c feeding node entries core at =
+    let all : List LogEntry = (log_of n).entries in
+    let next : woven n.number (acts ++ act_of c ∷ []) (map told_entry old.entries.items) ≡ all ++ feeder_entry n.number (length all) (length acts) (act_of c) ∷ [] =
+    woven-fed n.number acts (map told_entry old.entries.items) (act_of c) (subst (λ es. AreInPlace 0 es) (sym at.log) (log_in_place n.number n.calls))
+    ∙ ap (λ es. es ++ feeder_entry n.number (length es) (length acts) (act_of c) ∷ []) at.log in
+    let said : feeder_entry n.number (length all) (length acts) (act_of c)
+    ≡ record { node = (log_of n).node; place = length all; step = length acts; who = 0; act = act_of c; response = answer_by 0 c n } =
+    same_entry _ _ (sym (log_node n.number n.calls)) refl refl refl refl (sym (is_passed (rules_at n.number) (history_of n) 0 c feeding)) in
+    record {
+      core = core;
+      number = node ∙ at.number;
+      log = ap (λ es. woven n.number (acts ++ act_of c ∷ []) (map told_entry es.items)) entries ∙ (next ∙ ap (λ e. all ++ e ∷ []) said);
+    }
+
+-- a call of a client
+pub seat_called : (acts : List Act) (old new : Seat) (n : Node) (who step : ℕ) (c : Invocation) (e : CodeEntry)
+    → new.node ≡ old.node → new.entries.items ≡ old.entries.items ++ e ∷ []
+    → e.node ≡ old.node → e.place ≡ length (history_of n) → e.step ≡ step → e.who ≡ who → (told_entry e).act ≡ act_of c → (told_entry e).response ≡ answer_by who c n
+    → StandsAt new.core n.number (entry_of who c (answer_by who c n) ∷ history_of n) → IsSeat acts old n
+    → IsSeat acts new (answered who step c n)
+seat_called acts old new n who step c e node entries on place steps by act response core at =
+    let all : List LogEntry = (log_of n).entries in
+    let here : (told_entry e).place ≡ length all = place ∙ sym (log_length n.number n.calls) in
+    let next : woven n.number acts (map told_entry old.entries.items ++ told_entry e ∷ []) ≡ all ++ told_entry e ∷ [] =
+    woven-call n.number acts (map told_entry old.entries.items) (told_entry e) (here ∙ ap length (sym at.log)) ∙ ap (λ es. es ++ told_entry e ∷ []) at.log in
+    let said : told_entry e ≡ record { node = (log_of n).node; place = length all; step = step; who = who; act = act_of c; response = answer_by who c n } =
+    same_entry _ _ (on ∙ (at.number ∙ sym (log_node n.number n.calls))) here steps by act response in
+    let own : map told_entry new.entries.items ≡ map told_entry old.entries.items ++ told_entry e ∷ [] = ap (map told_entry) entries ∙ map-append told_entry old.entries.items (e ∷ []) in
+    record {
+      core = core;
+      number = node ∙ at.number;
+      log = ap (woven n.number acts) own ∙ (next ∙ ap (λ x. all ++ x ∷ []) said);
+    }

@@ -16,7 +16,7 @@ use Rattle.dmx_calls.specs.Log.{LogEntry, IsOfStream, act_of, filled_entry, fill
 use Rattle.dmx_calls.proofs.Reading.{read_each}
 use Rattle.dmx_calls.proofs.Telling.{fills}
 use Rattle.serial_core.specs.Nodes.{Told, Node, history_in, history_of, answered, log_in}
-use Rattle.serial_core.proofs.Places.{get_cases, entries_of}
+use Rattle.serial_core.proofs.Logs.{get_cases, entries_of}
 
 -- ------ an answer is never want of memory
 
@@ -78,14 +78,14 @@ module _ (packets : List (List ℕ)) (clients : ℕ) where
 
   pub record IsSound (node : ℕ) (n : Node) : Type 0 where
     pub number : n.number ≡ node
-    pub legal : IsLegalFor (rules_at node) (history_of n)
+    pub legal : IsLegalFor (rules_at n.number) (history_of n)
     pub good : AreGood n.calls
 
-  pub sound_answered : (node : ℕ) (n : Node) (who step : ℕ) (c : Invocation) → who ≤ clients → IsOfStream packets c → IsSound node n → IsSound node (answered (rules_at node) who step c n)
+  pub sound_answered : (node : ℕ) (n : Node) (who step : ℕ) (c : Invocation) → who ≤ clients → IsOfStream packets c → IsSound node n → IsSound node (answered who step c n)
   sound_answered node n who step c le of s = record {
     number = s.number;
     legal = (s.legal, inl refl);
-    good = (s.good, le, answer_found (rules_at node) (history_of n) who c, of);
+    good = (s.good, le, answer_found (rules_at n.number) (history_of n) who c, of);
   }
 
   -- what a log says of its entries

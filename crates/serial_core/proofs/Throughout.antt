@@ -1,5 +1,5 @@
 -- After all lines, all commands are through.
-use Rattle.std.proofs.Common.{◌≡◌, refl, sym, ap, subst, ◌∙◌, ℕ, Bool, true, false, nat_eq, nat_lt, List, [], ◌∷◌, ◌++◌, None, length, fold, append_assoc, append-nil, arith, ◌⊎◌, inl, inr}
+use Rattle.std.proofs.Common.{◌≡◌, refl, sym, ap, subst, ◌∙◌, ℕ, ◌+◌, ◌<◌, Bool, true, false, nat_eq, nat_lt, List, [], ◌∷◌, ◌++◌, None, length, fold, append_assoc, append-nil, arith, ◌⊎◌, inl, inr}
 use Rattle.std.specs.Prelude.{if◌then◌else◌, slice_index_or, slice_set, option_map}
 use Rattle.std.proofs.lemmas.Bool.Decides.{nat_tests}
 use Rattle.std.proofs.lemmas.Grind.{flat_map-append}
@@ -14,22 +14,12 @@ use Rattle.client_core.specs.Commands.{commands_in, commands_of}
 use Rattle.client_core.specs.Events.{progress, progress_from, no_slots, next_event, next_of_line, standing_at}
 use Rattle.client_core.proofs.Numbering.{AreThrough, through_more, through_next}
 use Rattle.serial_core.specs.SerialRun.{Run, begun, passed, batch_sizes, all_passed, ended, fed, ticked, replies_of, reply_to, called, after_waiting, IsWorked, through, calls, AreDone, finished}
-use Rattle.serial_core.proofs.Replies.{ended_replies, waiting_replies}
-use Rattle.serial_core.proofs.Calling.{index_set}
+use Rattle.serial_core.proofs.Replies.{index_set}
+use Rattle.serial_core.proofs.Keeping.{IsKept, kept_worked, fed_replies, finished_replies}
 
 -- these lines of a client are through
 abbrev pub IsThrough : (client : ℕ) → List Line → List Response → Type 0
 IsThrough client before rs = AreThrough no_slots 0 (commands_of client before) rs
-
-passed_replies : (sizes : List ℕ) (r : Run) → (fold passed r sizes).replies ≡ r.replies
-passed_replies [] r = refl
-passed_replies (size ∷ sizes) r = passed_replies sizes (passed r size)
-
-pub fed_replies : (batch count : ℕ) (r : Run) → (fed batch count r).replies ≡ r.replies
-fed_replies batch count r = go (nat_lt (length r.left) count) where
-  go : (b : Bool) → (if b then ended (all_passed batch (length r.left) r) else all_passed batch count r).replies ≡ r.replies
-  go true = ended_replies (all_passed batch (length r.left) r) ∙ passed_replies (batch_sizes batch (length r.left)) r
-  go false = passed_replies (batch_sizes batch count) r
 
 -- one call more of any client
 through_called : (client : ℕ) (before : List Line) (who : ℕ) (e : Event) (r : Run) → IsThrough client before (replies_of client r) → IsThrough client before (replies_of client (called who e r))
@@ -56,13 +46,15 @@ abbrev in_line : (line : ℕ) → Target → Verb → Bool → List ClientComman
 in_line line target verb b = if b then record { line = line; target = target; verb = verb } ∷ [] else []
 
 module _ (lines : List Line) (batch : ℕ) where
-  through_waited : (client : ℕ) (before : List Line) (who : ℕ) (r : Run) → IsThrough client before (replies_of client r) → IsThrough client before (replies_of client (after_waiting lines batch who r))
-  through_waited client before who r is = subst (λ rs. IsThrough client before (slice_index_or rs client [])) (sym (waiting_replies lines batch who r)) is
+  steps : (client : ℕ) (before : List Line) (clients : ℕ) → IsKept lines batch clients (λ r. IsThrough client before (replies_of client r))
+  steps client before clients = record {
+    feeds = record { passes = λ r size fit le is. is; ends = λ r none unended is. is };
+    ticks = λ r time is. is;
+    calls = λ r who e lt stands was is. through_called client before who e (after_waiting lines batch who r) is;
+  }
 
   through_worked : (client : ℕ) (before : List Line) (who line : ℕ) (r s : Run) → IsWorked lines batch who line r s → IsThrough client before (replies_of client r) → IsThrough client before (replies_of client s)
-  through_worked client before who line r s (through _ none) is = is
-  through_worked client before who line r s (calls _ _ e at w) is =
-      through_worked client before who line _ s w (through_called client before who e (after_waiting lines batch who r) (through_waited client before who r is))
+  through_worked client before who line r s w is = kept_worked lines batch (who + 1) (λ r. IsThrough client before (replies_of client r)) (steps client before (who + 1)) who line r s (omega arith) w is
 
   worked_none : (who line : ℕ) (r s : Run) → IsWorked lines batch who line r s → next_of_line who lines line (replies_of who s) ≡ None
   worked_none who line r s (through _ none) = none
@@ -105,5 +97,5 @@ module _ (lines : List Line) (batch : ℕ) where
   -- At the end no client has a next call.
   pub none_stands : (packets : List (List ℕ)) (r : Run) → AreDone lines batch lines (begun packets) r → (client : ℕ) → next_event client lines (replies_of client (finished lines batch r)) ≡ None
   none_stands packets r d client =
-      let same : (finished lines batch r).replies ≡ r.replies = ended_replies (all_passed batch (length r.left) r) ∙ passed_replies (batch_sizes batch (length r.left)) r in
+      let same : (finished lines batch r).replies ≡ r.replies = finished_replies batch r in
       subst (λ rs. next_event client lines (slice_index_or rs client []) ≡ None) (sym same) (none_next client lines (replies_of client r) (all_through [] lines (begun packets) r refl d (λ c. refl) client))

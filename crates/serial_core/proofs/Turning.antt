@@ -36,7 +36,7 @@ turn_passed old new most n ps later r count some few short goes given moment sto
       passed r (length ps),
       (ap (passed r) size ∙ sym (turned_some most r (omega arith)), count ∙ size),
       record {
-        nodes = record { demux = k.demux; dvr = k.dvr; turns = k.turns; has_ended = k.has_ended };
+        nodes = record { seats = k.seats; turns = k.turns; has_ended = k.has_ended };
         first = given ∙ ap (λ f. f + length ps) at.first;
         moment = moment ∙ at.moment;
       },

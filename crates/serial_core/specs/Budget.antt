@@ -2,9 +2,9 @@
 use Rattle.std.specs.Prelude.{ℕ, ◌≡◌, ◌≤◌, ◌+◌, ◌*◌, Bool, true, false, ◌||◌, List, ◌∷◌, ◌++◌, length, Some, sum_by, is_some, All}
 use Rattle.ts_packet.specs.Fields.{IsPacket}
 use Rattle.dmx_calls.specs.declared.limits.TheConstants.{DEMUX_NODES}
-use Rattle.dmx_calls.specs.History.{History, brought_by}
+use Rattle.dmx_calls.specs.History.{brought_by}
 use Rattle.dmx_calls.specs.Tenure.{has_ended}
-use Rattle.dmx_calls.specs.Rules.{Rules, demux, dvr}
+use Rattle.dmx_calls.specs.Rules.{rules_at}
 use Rattle.dmx_calls.specs.Legal.{IsLegalFor}
 use Rattle.dmx_calls.specs.Bytes.{bytes_answered}
 use Rattle.client_script.specs.declared.line.Line.{Line}
@@ -60,26 +60,25 @@ bytes_by node = bytes_answered (history_of node)
 
 -- those that the 33 nodes have answered
 abbrev pub bytes_by_all : Run → ℕ
-bytes_by_all r = sum_by bytes_by r.demux + bytes_by r.dvr
+bytes_by_all r = sum_by bytes_by r.nodes
 
 abbrev pub one_if : Bool → ℕ
 one_if true = 1
 one_if false = 0
 
--- A legal history, whose passes have brought so many packets, and which has the end of the stream or not.
-pub record HasBrought (node : Rules) (count : ℕ) (has : Bool) (h : History) : Type 0 where
-  pub legal : IsLegalFor node h
-  pub are_packets : All IsPacket (brought_by h)
-  pub brought : length (brought_by h) ≡ count
-  pub ended : has_ended h ≡ has
+-- A node whose history is legal, whose passes have brought so many packets, and which has the end of the stream or not.
+pub record HasBrought (count : ℕ) (has : Bool) (node : Node) : Type 0 where
+  pub legal : IsLegalFor (rules_at node.number) (history_of node)
+  pub are_packets : All IsPacket (brought_by (history_of node))
+  pub brought : length (brought_by (history_of node)) ≡ count
+  pub ended : has_ended (history_of node) ≡ has
 
 -- the calls made so far are paid for
 pub record IsPaid (lines : List Line) (packets : List (List ℕ)) (r : Run) : Type 0 where
-  pub nodes : length r.demux ≡ DEMUX_NODES
+  pub nodes : length r.nodes ≡ DEMUX_NODES + 1
   pub whole : r.first + length r.left ≡ length packets
   pub are_packets : All IsPacket r.left
-  pub demux : All (λ node. HasBrought demux r.first r.has_ended (history_of node)) r.demux
-  pub dvr : HasBrought dvr r.first r.has_ended (history_of r.dvr)
+  pub brought : All (HasBrought r.first r.has_ended) r.nodes
   -- the feeder has as many turns as packets at most, and End
   pub turns : r.turns ≤ r.first + one_if r.has_ended
   -- the nodes answer no more bytes than they are brought

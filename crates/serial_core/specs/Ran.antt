@@ -12,12 +12,12 @@ use Rattle.client_core.specs.Inside.Core.{Core, IsAfter}
 use Rattle.serial_core.specs.declared.run.Ran.{Ran}
 use Rattle.serial_core.specs.declared.runner.Runner.{Runner}
 use Rattle.serial_core.specs.Nodes.{log_of}
-use Rattle.serial_core.specs.SerialRun.{Run, begun, IsSerialRun, nodes_of, replies_of}
+use Rattle.serial_core.specs.SerialRun.{Run, begun, IsSerialRun, replies_of}
 use Rattle.serial_core.specs.Inside.Standing.{IsNodes, AreCounted}
 
 -- the entries of the 33 nodes, the oldest first, the dvr node last
 abbrev pub histories_in : Run → List (List LogEntry)
-histories_in r = map (λ node. (log_of node).entries) (nodes_of r)
+histories_in r = map (λ node. (log_of node).entries) r.nodes
 
 -- what became of the commands of each client of the script
 abbrev pub outcomes_in : List Line → Run → List (List Outcome)

@@ -1,23 +1,21 @@
 // The 33 nodes of a run, and the calls of its feeder.
-ghost use Rattle.std.specs.Prelude.{◌≡◌, true, false, slice_set, ℕ, ◌+◌, ◌-◌, ◌<◌, ◌≤◌, ◌^◌, List, [], ◌∷◌, ◌++◌, length, map, IfOk, OnOk, IsSome};
+ghost use Rattle.std.specs.Prelude.{◌≡◌, true, false, ℕ, ◌+◌, ◌-◌, ◌<◌, ◌≤◌, ◌^◌, List, [], ◌∷◌, ◌++◌, length, map, IfOk, OnOk, IsSome};
 ghost use Rattle.std.specs.List.{range_with_len};
 ghost use Rattle.dmx_calls.specs.declared.limits.TheConstants.{DEMUX_NODES as nodes};
 ghost use Rattle.dmx_calls.specs.declared.params.Input.TheVariants.{Frontend};
-ghost use Rattle.dmx_calls.specs.Answer.{answer};
-ghost use Rattle.dmx_calls.specs.Calls.{invocation_of};
 ghost use Rattle.dmx_calls.specs.Histories.{histories_of};
 ghost use Rattle.dmx_calls.specs.Invocation as asks;
 ghost use Rattle.dmx_calls.specs.declared.log.Act.{Act as ToldAct};
 ghost use Rattle.dmx_calls.specs.declared.log.Act.TheVariants.{End as EndAct, Pass as PassAct};
-ghost use Rattle.dmx_calls.specs.Rules as rules;
 ghost use Rattle.client_script.specs.declared.line.Line.{Line as ScriptLine};
 ghost use Rattle.client_core.specs.Commands.{IsWantInRange};
 ghost use Rattle.client_core.specs.Inside.Core.{IsAfter};
 ghost use Rattle.dmx_calls.specs.Response.{Response};
-ghost use Rattle.serial_core.specs.Nodes.{Node as RunNode, answered, history_of, uncalled};
-ghost use Rattle.serial_core.specs.SerialRun.{Run, begun, demux_node, ended, fed_to_all, made, reply_to};
-ghost use Rattle.serial_core.specs.Inside.Standing.{AreCounted, AreUnder, IsDemux, IsNodes, Pairs};
+ghost use Rattle.serial_core.specs.Nodes.{Node as RunNode, answered, uncalled};
+ghost use Rattle.serial_core.specs.SerialRun.{Run, begun, ended, fed_to_all, made, reply_to};
+ghost use Rattle.serial_core.specs.Inside.Standing.{AreCounted, AreUnder, IsNodes, IsSeat, Pairs};
 
+use crate::node::AnyCore;
 use crate::seat::Seat;
 use client_core::{ClientCore, Event, call_of};
 use dmx_calls::limits::DEMUX_NODES;
@@ -35,51 +33,52 @@ use ts_batch::Batch;
 #[derive(Drop)]
 pub struct Nodes {
     pub alloc: Global,
-    pub demux: Vec<Seat<NodeCore>>,
-    pub dvr: Seat<DvrCore>,
+    pub seats: Vec<Seat>,
     pub feeding: Vec<Fed>,
     pub has_ended: bool,
     pub made: u64,
 }
 
-// The demux nodes 0 to 31 before the first call.
-fn demux_seats(alloc: Global) -> Result<Vec<Seat<NodeCore>>, NoMemory>
-    ensures at { IfOk result (λ seats. Pairs (IsDemux []) seats.items (map uncalled (range_with_len 0 nodes))) }
+// The 33 nodes before the first call.
+fn fresh_seats(alloc: Global) -> Result<Vec<Seat>, NoMemory>
+    ensures at { IfOk result (λ seats. Pairs (IsSeat []) seats.items (map uncalled (range_with_len 0 (nodes + 1)))) }
     ensures none { IfOk result (λ seats. AreUnder seats.items 0) }
 {
     let mut seats = Vec::new(alloc);
     'nodes: for node in 0..DEMUX_NODES {
-        seats.push(Seat::new(alloc, node, NodeCore::new(alloc, node)))?;
+        let core = AnyCore::Demux(NodeCore::new(alloc, node));
+        seats.push(Seat::new(alloc, node, core))?;
     }
+    let core = AnyCore::Dvr(DvrCore::new(alloc));
+    seats.push(Seat::new(alloc, DEMUX_NODES, core))?;
     Ok(seats)
 }
 
-// A batch passes each of these nodes, and is handed on from one to the next.
-fn pass_demux<L: Ledger>(
-    seats: &mut [Seat<NodeCore>],
+// A batch passes each node, and is handed on from one to the next.
+fn pass_all<L: Ledger>(
+    seats: &mut [Seat],
     batch: Arc<Batch>,
     now: u64,
     steps: &mut Steps<L>,
-) -> Result<Arc<Batch>, NoMemory>
+) -> Result<(), NoMemory>
     requires few { AreUnder seats.old (2 ^ 50 - 1) }
-    ensures at { OnOk result ((acts : List ToldAct) (ns : List RunNode) → Pairs (IsDemux acts) seats.old ns
-        → Pairs (IsDemux (acts ++ PassAct Frontend batch.value.first (length batch.value.packets) now ∷ [])) seats.new
-        (map (answered rules.demux 0 (length acts) (asks.Pass Frontend batch.value.first batch.value.packets now)) ns)) }
+    ensures at { OnOk result ((acts : List ToldAct) (ns : List RunNode) → Pairs (IsSeat acts) seats.old ns
+        → Pairs (IsSeat (acts ++ PassAct Frontend batch.value.first (length batch.value.packets) now ∷ [])) seats.new
+        (map (answered 0 (length acts) (asks.Pass Frontend batch.value.first batch.value.packets now)) ns)) }
     ensures rises { OnOk result ((most : ℕ) → AreUnder seats.old most → AreUnder seats.new (most + 1)) }
-    ensures back { IfOk result (λ back. back.value ≡ batch.value) }
 {
     let mut batch = batch;
     'seats: for seat in seats.iter_mut() {
         batch = seat.pass(batch, now, steps)?;
     }
-    Ok(batch)
+    Ok(())
 }
 
-// End passes each of these nodes.
-fn end_demux<L: Ledger>(seats: &mut [Seat<NodeCore>], steps: &mut Steps<L>) -> Result<(), NoMemory>
+// End passes each node.
+fn end_all<L: Ledger>(seats: &mut [Seat], steps: &mut Steps<L>) -> Result<(), NoMemory>
     requires few { AreUnder seats.old (2 ^ 50 - 1) }
-    ensures at { OnOk result ((acts : List ToldAct) (ns : List RunNode) → Pairs (IsDemux acts) seats.old ns
-        → Pairs (IsDemux (acts ++ EndAct ∷ [])) seats.new (map (answered rules.demux 0 (length acts) asks.End) ns)) }
+    ensures at { OnOk result ((acts : List ToldAct) (ns : List RunNode) → Pairs (IsSeat acts) seats.old ns
+        → Pairs (IsSeat (acts ++ EndAct ∷ [])) seats.new (map (answered 0 (length acts) asks.End) ns)) }
     ensures rises { OnOk result ((most : ℕ) → AreUnder seats.old most → AreUnder seats.new (most + 1)) }
 {
     'seats: for seat in seats.iter_mut() {
@@ -89,18 +88,13 @@ fn end_demux<L: Ledger>(seats: &mut [Seat<NodeCore>], steps: &mut Steps<L>) -> R
 }
 
 // The entries of the clients on all nodes.
-fn entries_of(
-    alloc: Global,
-    demux: Vec<Seat<NodeCore>>,
-    dvr: Seat<DvrCore>,
-) -> Result<Vec<Vec<Entry>>, NoMemory>
-    ensures { IfOk result (λ nodes. map (λ calls. calls.items) nodes.items ≡ map (λ seat. seat.entries.items) demux.items ++ dvr.entries.items ∷ []) }
+fn entries_of(alloc: Global, seats: Vec<Seat>) -> Result<Vec<Vec<Entry>>, NoMemory>
+    ensures { IfOk result (λ nodes. map (λ calls. calls.items) nodes.items ≡ map (λ seat. seat.entries.items) seats.items) }
 {
     let mut nodes = Vec::new(alloc);
-    'seats: for seat in demux {
+    'seats: for seat in seats {
         nodes.push(seat.entries)?;
     }
-    nodes.push(dvr.entries)?;
     Ok(nodes)
 }
 
@@ -114,8 +108,7 @@ impl Nodes {
     {
         Ok(Nodes {
             alloc,
-            demux: demux_seats(alloc)?,
-            dvr: Seat::new(alloc, DEMUX_NODES, DvrCore::new(alloc)),
+            seats: fresh_seats(alloc)?,
             feeding: Vec::new(alloc),
             has_ended: false,
             made: 0,
@@ -142,8 +135,7 @@ impl Nodes {
             count: batch.count(),
             now,
         };
-        let batch = pass_demux(&mut self.demux, batch, now, steps)?;
-        self.dvr.pass(batch, now, steps)?;
+        pass_all(&mut self.seats, batch, now, steps)?;
         self.feeding.push(fed)?;
         self.made += 1;
         Ok(())
@@ -159,65 +151,8 @@ impl Nodes {
         ensures made { OnOk result (self.new.made ≡ self.old.made + 1) }
         ensures ended { OnOk result (self.new.has_ended ≡ true) }
     {
-        end_demux(&mut self.demux, steps)?;
-        self.dvr.feed(Call::End, steps)?;
+        end_all(&mut self.seats, steps)?;
         self.has_ended = true;
-        self.made += 1;
-        Ok(())
-    }
-
-    // A client makes a call on a demux node, and takes the reply.
-    fn call_demux<L: Ledger>(
-        &mut self,
-        core: &mut ClientCore,
-        who: u32,
-        node: u32,
-        step: u64,
-        call: Call,
-        steps: &mut Steps<L>,
-    ) -> Result<(), NoMemory>
-        requires few { self.old.made < 2 ^ 50 - 1 }
-        requires counted { AreCounted self.old }
-        requires node { node < nodes }
-        requires some { IsSome core.old.current }
-        requires taken { core.old.step < 2 ^ 46 }
-        ensures at { OnOk result ((r : Run) → IsNodes self.old r
-            → IsNodes self.new (record r { demux = slice_set r.demux node (answered rules.demux who step (invocation_of call) (demux_node node r)) })) }
-        ensures core { OnOk result ((r : Run) (client : ℕ) (lines : List ScriptLine) (replies : List Response) → IsNodes self.old r
-            → IsAfter client lines replies core.old → IsAfter client lines (replies ++ answer rules.demux (history_of (demux_node node r)) who (invocation_of call) ∷ []) core.new) }
-        ensures step { OnOk result (core.new.step ≡ core.old.step + 1) }
-        ensures counted { OnOk result (AreCounted self.new) }
-        ensures made { OnOk result (self.new.made ≡ self.old.made + 1) }
-        ensures same { OnOk result (self.new.has_ended ≡ self.old.has_ended) }
-    {
-        let alloc = self.alloc;
-        self.demux[node as usize].call(alloc, core, who, step, call, steps)?;
-        self.made += 1;
-        Ok(())
-    }
-
-    // A client makes a call on the dvr node, and takes the reply.
-    fn call_dvr<L: Ledger>(
-        &mut self,
-        core: &mut ClientCore,
-        who: u32,
-        step: u64,
-        call: Call,
-        steps: &mut Steps<L>,
-    ) -> Result<(), NoMemory>
-        requires few { self.old.made < 2 ^ 50 - 1 }
-        requires counted { AreCounted self.old }
-        requires some { IsSome core.old.current }
-        requires taken { core.old.step < 2 ^ 46 }
-        ensures at { OnOk result ((r : Run) → IsNodes self.old r → IsNodes self.new (record r { dvr = answered rules.dvr who step (invocation_of call) r.dvr })) }
-        ensures core { OnOk result ((r : Run) (client : ℕ) (lines : List ScriptLine) (replies : List Response) → IsNodes self.old r
-            → IsAfter client lines replies core.old → IsAfter client lines (replies ++ answer rules.dvr (history_of r.dvr) who (invocation_of call) ∷ []) core.new) }
-        ensures step { OnOk result (core.new.step ≡ core.old.step + 1) }
-        ensures counted { OnOk result (AreCounted self.new) }
-        ensures made { OnOk result (self.new.made ≡ self.old.made + 1) }
-        ensures same { OnOk result (self.new.has_ended ≡ self.old.has_ended) }
-    {
-        self.dvr.call(self.alloc, core, who, step, call, steps)?;
         self.made += 1;
         Ok(())
     }
@@ -248,26 +183,24 @@ impl Nodes {
     {
         let Event { step, node, want } = event;
         let call = call_of(self.alloc, &want, now)?;
-        if node < DEMUX_NODES {
-            self.call_demux(core, client + 1, node, step, call, steps)
-        } else {
-            self.call_dvr(core, client + 1, step, call, steps)
-        }
+        let alloc = self.alloc;
+        self.seats[node as usize].call(alloc, core, client + 1, step, call, steps)?;
+        self.made += 1;
+        Ok(())
     }
 
     /// The histories of all nodes. End has passed.
     pub fn into_histories(self) -> Result<Histories, NoMemory>
         requires counted { AreCounted self }
-        ensures { IfOk result (λ all. all ≡ histories_of self.feeding.items (map (λ seat. seat.entries.items) self.demux.items ++ self.dvr.entries.items ∷ [])) }
+        ensures { IfOk result (λ all. all ≡ histories_of self.feeding.items (map (λ seat. seat.entries.items) self.seats.items)) }
     {
         let Nodes {
             alloc,
-            demux,
-            dvr,
+            seats,
             feeding,
             ..
         } = self;
-        let nodes = entries_of(alloc, demux, dvr)?;
+        let nodes = entries_of(alloc, seats)?;
         Ok(Histories::new(feeding, nodes))
     }
 }

@@ -3,16 +3,15 @@ use Rattle.std.specs.Prelude.{ℕ, ◌≡◌, ◌+◌, List, map, replicate, All
 use Rattle.std.specs.List.{range_with_len}
 use Rattle.dmx_calls.specs.declared.limits.TheConstants.{DEMUX_NODES}
 use Rattle.dmx_calls.specs.History.{brought_by}
-use Rattle.dmx_calls.specs.Legal.{IsLegal, IsLegalDvr}
+use Rattle.dmx_calls.specs.Rules.{rules_at}
+use Rattle.dmx_calls.specs.Legal.{IsLegalFor}
 use Rattle.serial_core.specs.Nodes.{Node, history_of}
-use Rattle.serial_core.specs.SerialRun.{Run, nodes_of}
+use Rattle.serial_core.specs.SerialRun.{Run}
 
--- the demux nodes are those of the numbers 0 to 31, in their order, and the 33 histories are legal
+-- the nodes are those of the numbers 0 to 32, in their order, and each history is legal for its kind of node
 pub record AreLegal (r : Run) : Type 0 where
-  pub numbers : map (λ node. node.number) r.demux ≡ range_with_len 0 DEMUX_NODES
-  pub dvr_number : r.dvr.number ≡ DEMUX_NODES
-  pub demux : All (λ node. IsLegal (history_of node)) r.demux
-  pub dvr : IsLegalDvr (history_of r.dvr)
+  pub numbers : map (λ node. node.number) r.nodes ≡ range_with_len 0 (DEMUX_NODES + 1)
+  pub legal : All (λ node. IsLegalFor (rules_at node.number) (history_of node)) r.nodes
 
 -- the packets of all passes on a node, in the order of the passes
 abbrev pub packets_through : Node → List (List ℕ)
@@ -20,4 +19,4 @@ packets_through node = brought_by (history_of node)
 
 -- just these packets have passed each of the 33 nodes, each once and in their order
 abbrev pub HavePassed : (packets : List (List ℕ)) → Run → Type 0
-HavePassed packets r = map packets_through (nodes_of r) ≡ replicate (DEMUX_NODES + 1) packets
+HavePassed packets r = map packets_through r.nodes ≡ replicate (DEMUX_NODES + 1) packets

@@ -1,5 +1,5 @@
 -- What it means that the code has run so far.
-use Rattle.std.specs.Prelude.{ℕ, ◌≡◌, ◌≤◌, Bool, true, false, List, [], ◌∷◌, ◌++◌, length, map, replicate}
+use Rattle.std.specs.Prelude.{ℕ, ◌≡◌, ◌+◌, ◌<◌, ◌≤◌, Bool, true, false, List, [], ◌∷◌, ◌++◌, length, map, replicate}
 use Rattle.dmx_calls.specs.declared.limits.TheConstants.{DEMUX_NODES}
 use Rattle.dmx_calls.specs.Invocation.{Invocation, Pass, End}
 use Rattle.dmx_calls.specs.History.{History}
@@ -7,8 +7,10 @@ use Rattle.dmx_calls.specs.declared.log.Act.{Act}
 use Rattle.dmx_calls.specs.declared.log.Act.TheVariants.{End as EndAct}
 use Rattle.dmx_calls.specs.Histories.{pass_act, woven}
 use Rattle.dmx_calls.specs.Calls.{told_entry}
-use Rattle.node_core.specs.Stands.{CoreValue as DemuxCore, StandsFor as DemuxStands}
-use Rattle.dvr_core.specs.Stands.{CoreValue as DvrCore, StandsFor as DvrStands}
+use Rattle.node_core.specs.Stands.{StandsFor as DemuxStands}
+use Rattle.dvr_core.specs.Stands.{StandsFor as DvrStands}
+use Rattle.serial_core.specs.declared.node.AnyCore.{AnyCore}
+use Rattle.serial_core.specs.declared.node.AnyCore.TheVariants.{Demux, Dvr}
 use Rattle.serial_core.specs.declared.seat.Seat.{Seat}
 use Rattle.dmx_calls.specs.declared.histories.Fed.{Fed}
 use Rattle.serial_core.specs.declared.nodes.Nodes.{Nodes}
@@ -33,19 +35,22 @@ IsFeeding _ = ⊥
 
 -- ------ one node
 
+-- The core of a node stands for a history of the node of this number.
+abbrev pub StandsAt : AnyCore → (number : ℕ) → History → Type 0
+StandsAt (Demux core) number h = (number < DEMUX_NODES) × DemuxStands core h
+StandsAt (Dvr core) number h = (number ≡ DEMUX_NODES) × DvrStands core h
+
+-- how many calls were made on it
+abbrev pub entries_in : AnyCore → ℕ
+entries_in (Demux core) = core.entries
+entries_in (Dvr core) = core.entries
+
 -- A node of the code is where the run's is, which has these calls of the feeder: its core stands for the history, and
 -- its entries are those of the clients.
-pub record IsSeat {Core : Type 0} (stands : Core → History → Type 0) (acts : List Act) (seat : Seat Core)
-    (n : Node) : Type 0 where
-  pub core : stands seat.core (history_of n)
+pub record IsSeat (acts : List Act) (seat : Seat) (n : Node) : Type 0 where
+  pub core : StandsAt seat.core n.number (history_of n)
   pub number : seat.node ≡ n.number
   pub log : woven n.number acts (map told_entry seat.entries.items) ≡ (log_of n).entries
-
-abbrev pub IsDemux : List Act → Seat DemuxCore → Node → Type 0
-IsDemux acts seat n = IsSeat DemuxStands acts seat n
-
-abbrev pub IsDvr : List Act → Seat DvrCore → Node → Type 0
-IsDvr acts seat n = IsSeat DvrStands acts seat n
 
 -- ------ all nodes
 
@@ -61,20 +66,18 @@ acts_on v = acts_of v.feeding.items v.has_ended
 
 -- the nodes of the code are where those of the run are
 pub record IsNodes (v : Nodes) (r : Run) : Type 0 where
-  pub demux : Pairs (IsDemux (acts_on v)) v.demux.items r.demux
-  pub dvr : IsDvr (acts_on v) v.dvr r.dvr
+  pub seats : Pairs (IsSeat (acts_on v)) v.seats.items r.nodes
   pub turns : length (acts_on v) ≡ r.turns
   pub has_ended : v.has_ended ≡ r.has_ended
 
 -- the node has at most so many entries
-abbrev pub IsUnder : Seat DemuxCore → (most : ℕ) → Type 0
-IsUnder seat most = seat.core.entries ≤ most
+abbrev pub IsUnder : Seat → (most : ℕ) → Type 0
+IsUnder seat most = entries_in seat.core ≤ most
 
--- so have all these nodes, which are the demux nodes
-abbrev pub AreUnder : List (Seat DemuxCore) → (most : ℕ) → Type 0
-AreUnder seats most = Pairs IsUnder seats (replicate DEMUX_NODES most)
+-- so have all these nodes, which are 33
+abbrev pub AreUnder : List Seat → (most : ℕ) → Type 0
+AreUnder seats most = Pairs IsUnder seats (replicate (DEMUX_NODES + 1) most)
 
 -- no node has more entries than calls were made
-pub record AreCounted (v : Nodes) : Type 0 where
-  pub demux : AreUnder v.demux.items v.made
-  pub dvr : v.dvr.core.entries ≤ v.made
+abbrev pub AreCounted : Nodes → Type 0
+AreCounted v = AreUnder v.seats.items v.made

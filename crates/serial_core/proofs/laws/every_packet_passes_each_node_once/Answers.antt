@@ -1,4 +1,4 @@
-use Rattle.serial_core.proofs.Passing.{serial_passes}
+use Rattle.serial_core.proofs.Lawful.{serial_passes}
 use Rattle.serial_core.proofs.laws.every_packet_passes_each_node_once.Goals as goal
 
 pub returns : goal.returns

@@ -1,7 +1,7 @@
 use Rattle.std.proofs.Common.{◌<◌, ◌≤◌, length, arith}
 use Rattle.dmx_calls.specs.Invocation as call
 use Rattle.serial_core.proofs.FedOn.{fed_more, fed_few, fed_at, fed_under}
-use Rattle.serial_core.proofs.nodes.end_demux.Goals as goal
+use Rattle.serial_core.proofs.nodes.end_all.Goals as goal
 
 pub feed-requires : goal.feed-requires
 feed-requires g c =

@@ -1,8 +1,0 @@
-use Rattle.std.proofs.Common.{map, []}
-use Rattle.std.specs.List.{range_with_len}
-use Rattle.serial_core.specs.Nodes.{uncalled}
-use Rattle.serial_core.specs.Inside.Standing.{Pairs, IsDemux, IsUnder}
-use Rattle.serial_core.proofs.nodes.demux_seats.Given as goal
-
-abbrev pub invariant-nodes : goal.invariant-nodes
-invariant-nodes l = Pairs (IsDemux []) l.seats.items (map uncalled (range_with_len 0 l.node)) × Pairs IsUnder l.seats.items (map (λ n. 0) (range_with_len 0 l.node))
