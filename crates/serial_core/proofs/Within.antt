@@ -22,9 +22,10 @@ use Rattle.client_core.specs.declared.command.Command.{Command as ClientCommand}
 use Rattle.client_core.specs.declared.event.Event.{Event}
 use Rattle.client_core.specs.Commands.{call_of, commands_of}
 use Rattle.client_core.specs.Events.{next_event, waits_on, no_slots}
-use Rattle.client_core.specs.Budget.{bytes_in, repeats, most_calls, all_commands}
+use Rattle.client_core.specs.Repeats.{repeats}
+use Rattle.script_run.specs.Budget.{bytes_in, most_calls, all_commands}
 use Rattle.client_core.proofs.More.{repeats_none}
-use Rattle.client_core.proofs.ReadReplies.{bytes_same}
+use Rattle.script_run.proofs.ReadReplies.{bytes_same}
 use Rattle.serial_core.specs.Nodes.{Node, uncalled, history_of, answer_by, answered}
 use Rattle.serial_core.specs.SerialRun.{Run, begun, ended, passed, turned, replies_of, node_at, called, after_waiting}
 use Rattle.serial_core.specs.Budget.{bytes_by, bytes_by_all, one_if, HasBrought, IsPaid, IsWithinBudget}
