@@ -1,6 +1,6 @@
 -- A client's call is paid for: what it adds to the repeats, it adds to the bytes, or the client waits.
 use Rattle.std.proofs.Common.{◌≡◌, refl, sym, ap, subst, ℕ, ◌+◌, ◌*◌, ◌≤◌, Bool, true, false, ◌||◌, nat_lt, List, [], ◌∷◌, ◌++◌, Option, Some, None, length, ◌⊎◌, inl, inr, arith, length-append}
-use Rattle.std.specs.Prelude.{if◌then◌else◌, slice_index_or, slice_set, sum_by, is_some}
+use Rattle.std.specs.Prelude.{if◌then◌else◌, slice_set, sum_by, is_some}
 use Rattle.std.specs.List.{All}
 use Rattle.std.proofs.lemmas.List.Sums.{sum_by-append, sum_by-cons}
 use Rattle.dmx_calls.specs.declared.limits.TheConstants.{DEMUX_NODES}

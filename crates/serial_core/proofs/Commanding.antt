@@ -2,6 +2,7 @@
 use Rattle.std.proofs.Common.{◌≡◌, refl, sym, ap, subst, ◌∙◌, ℕ, ◌<◌, ◌≤◌, Bool, true, false, List, [], ◌∷◌, ◌++◌, Option, Some, None, length, if◌then◌else◌, arith}
 use Rattle.std.specs.Prelude.{is_some, slice_index_or}
 use Rattle.std.proofs.lemmas.List.{get_or-set_same, get_or-set_other, length-set}
+use Rattle.emu_io.specs.Ends.{SourceEnd}
 use Rattle.client_script.specs.declared.line.Line.{Line}
 use Rattle.client_core.specs.declared.event.Event.{Event}
 use Rattle.client_core.specs.Inside.Core.{Core, IsAfter}
@@ -18,12 +19,12 @@ use Rattle.serial_core.proofs.Within.{paid_steps}
 
 -- ------ one call
 
-pub moves_called : (x : Option (List ℕ)) (n : ℕ) (old : Runner) (v : Nodes) (client : ℕ) (e : Event) (P : Run → Type 0)
+pub moves_called : (x : SourceEnd) (old : Runner) (v : Nodes) (client : ℕ) (e : Event) (P : Run → Type 0)
     → ((r : Run) → old.moment ≡ r.moment → IsNodes old.nodes r → IsNodes v (made client e r)) → ((r : Run) → old.moment ≡ r.moment → IsNodes old.nodes r → P r)
-    → Moves x x n n old (record { nodes = v; puller = old.puller; moment = old.moment }) (λ r s. (s ≡ called client e r) × P r)
-moves_called x n old v client e P goes says = record {
+    → Moves x x old (record { nodes = v; puller = old.puller; moment = old.moment }) (λ r s. (s ≡ called client e r) × P r)
+moves_called x old v client e P goes says = record {
   packets = [];
-  draws = draws_none x n old.puller;
+  draws = draws_none x old.puller;
   at = λ ahead taken given later r pulls stops at left.
       let k = goes r at.moment at.nodes in (
         called client e r,

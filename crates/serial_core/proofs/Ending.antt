@@ -1,5 +1,5 @@
 -- What a run leaves.
-use Rattle.std.proofs.Common.{length-append, Option, Result, Ok, Err, IfOk, ◌≡◌, refl, sym, ap, subst, ◌∙◌, ℕ, suc, ◌+◌, ◌≤◌, ◌<◌, true, List, [], ◌∷◌, ◌++◌, length, map, fold, max, add-one, append-nil, arith}
+use Rattle.std.proofs.Common.{length-append, Result, Ok, Err, IfOk, ◌≡◌, refl, sym, ap, subst, ◌∙◌, ℕ, suc, ◌+◌, ◌≤◌, ◌<◌, true, List, [], ◌∷◌, ◌++◌, length, map, fold, max, add-one, append-nil, arith}
 use Rattle.std.specs.Prelude.{All, slice_index_or}
 use Rattle.std.specs.List.{range_with_len}
 use Rattle.std.proofs.lemmas.List.{length-map, get_or-replicate, get_or_append_left}
@@ -11,8 +11,8 @@ use Rattle.std.proofs.lemmas.List.FromFn.{length-range_with_len}
 use Rattle.dmx_calls.specs.declared.limits.TheConstants.{DEMUX_NODES}
 use Rattle.dmx_calls.specs.Calls.{told_entry}
 use Rattle.dmx_calls.specs.declared.log.Act.{Act}
-use Rattle.dmx_calls.specs.Log.{LogEntry}
 use Rattle.dmx_calls.specs.Histories.{feeder_acts, histories_of, woven, woven_nodes}
+use Rattle.emu_io.specs.Ends.{SourceEnd}
 use Rattle.client_script.specs.declared.line.Line.{Line}
 use Rattle.client_script.specs.Script.{clients_of, clients_in}
 use Rattle.serial_core.specs.declared.seat.Seat.{Seat}
@@ -84,9 +84,9 @@ fresh_after lines packets cores fresh c d lt = subst (λ rs. IsAfter c lines rs 
 begun_at : (v : Runner) (packets : List (List ℕ)) → IsFreshRunner v → IsAt v (begun packets)
 begun_at v packets b = record { nodes = b.nodes packets; first = b.given; moment = b.moment }
 
-module _ (lines : List Line) (batch : ℕ) (x y : Option (List ℕ)) (l n : ℕ) (old new : Runner) (cores : List Core) (begins : IsFreshRunner old) (fresh : AreFreshCores lines cores) where
+module _ (lines : List Line) (batch : ℕ) (x y : SourceEnd) (old new : Runner) (cores : List Core) (begins : IsFreshRunner old) (fresh : AreFreshCores lines cores) where
   -- the run that the code has come to, over the packets of whatever bytes stood ahead and were taken
-  of_run : (goes : Run → Run → Type 0) (P : (ahead taken : List ℕ) → Type 0) → Moves x y l n old new goes
+  of_run : (goes : Run → Run → Type 0) (P : (ahead taken : List ℕ) → Type 0) → Moves x y old new goes
       → ((ahead taken : List ℕ) (ps : List (List ℕ)) (r : Run) → Pulls ahead taken ps new.puller → goes (begun ps) r → IsAt new r → P ahead taken) → OfStream x y old.puller P
   of_run goes P moves so = (
     moves.draws.carries.more,
@@ -97,7 +97,7 @@ module _ (lines : List Line) (batch : ℕ) (x y : Option (List ℕ)) (l n : ℕ)
         so ahead moves.draws.carries.more ps k.0 (moves.draws.carries.pulls ahead [] [] pulls) k.1 k.2,
   )
 
-  pub ran_is : (next : List Core) (ran : Ran) → length next ≡ length cores → Moves x y l n old new (IsWholeBy batch lines cores next) → IsDone new.puller → new.nodes.has_ended ≡ true
+  pub ran_is : (next : List Core) (ran : Ran) → length next ≡ length cores → Moves x y old new (IsWholeBy batch lines cores next) → IsDone new.puller → new.nodes.has_ended ≡ true
       → ((r : Run) → IsNodes new.nodes r → AreLegal r → ran.histories ≡ histories_in r)
       → ((ls : List Line) (r : Run) → AreAfter ls r next → map (λ those. those.items) ran.outcomes.items ≡ map (λ client. outcomes client ls (replies_of client r)) (range_with_len 0 (length next)))
       → ((ahead taken : List ℕ) (given : List (List ℕ)) → Pulls ahead taken given new.puller → told_head ran.head ≡ head_of (ahead ++ taken) ran.head.read_fault)
@@ -115,7 +115,7 @@ module _ (lines : List Line) (batch : ℕ) (x y : Option (List ℕ)) (l n : ℕ)
         head = head ahead taken ps p;
       })
 
-  pub overrun_is : Moves x y l n old new (λ r s. length r.replies ≡ 8 → AreAfter lines r cores → Overruns lines r s)
+  pub overrun_is : Moves x y old new (λ r s. length r.replies ≡ 8 → AreAfter lines r cores → Overruns lines r s)
       → OfStream x y old.puller (λ ahead taken. 549755813888 ≤ most_calls (all_commands lines) (length ahead + length taken))
   overrun_is moves = of_run (λ r s. length r.replies ≡ 8 → AreAfter lines r cores → Overruns lines r s) (λ ahead taken. 549755813888 ≤ most_calls (all_commands lines) (length ahead + length taken)) moves
       (λ ahead taken ps r p goes at.

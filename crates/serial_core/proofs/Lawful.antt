@@ -1,5 +1,5 @@
 -- The histories of the serial run are legal, and the packets that have passed a node are followed by those that are left.
-use Rattle.std.proofs.Common.{◌≡◌, refl, sym, ap, subst, ◌∙◌, ℕ, zero, suc, ◌+◌, Bool, true, false, List, [], ◌∷◌, ◌++◌, length, map, take, drop, replicate, get_or, inl, append-nil, arith}
+use Rattle.std.proofs.Common.{◌≡◌, refl, sym, ap, ◌∙◌, ℕ, zero, suc, ◌+◌, Bool, true, false, List, [], ◌∷◌, ◌++◌, length, map, take, drop, replicate, get_or, inl, append-nil, arith}
 use Rattle.std.specs.Prelude.{if◌then◌else◌}
 use Rattle.std.specs.List.{All, range_with_len}
 use Rattle.std.proofs.lemmas.List.{append_assoc, take-append-drop}
@@ -16,7 +16,7 @@ use Rattle.client_core.specs.Commands.{call_of}
 use Rattle.serial_core.specs.Nodes.{Node, uncalled, history_of, answered}
 use Rattle.serial_core.specs.SerialRun.{Run, fed_to_all, ended, all_passed, node_at, after_waiting, IsSerialRun}
 use Rattle.serial_core.specs.Laws.{HistoriesAreLegal, PacketsPass}
-use Rattle.serial_core.specs.Inside.Legal.{AreLegal, HavePassed, packets_through}
+use Rattle.serial_core.specs.Inside.Legal.{AreLegal, packets_through}
 use Rattle.serial_core.proofs.Answering.{none_brought}
 use Rattle.serial_core.proofs.Keeping.{IsKept, all_below, kept, none_left}
 

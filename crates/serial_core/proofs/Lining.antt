@@ -1,9 +1,10 @@
 -- What a line does to the run, and lines one after another.
-use Rattle.std.proofs.Common.{◌≡◌, ◌≢◌, refl, sym, ap, subst, ◌∙◌, ℕ, ◌+◌, ◌*◌, ◌<◌, ◌≤◌, Bool, true, false, List, [], ◌∷◌, Option, length, drop, nat_eq, get_or, set, arith}
+use Rattle.std.proofs.Common.{◌≡◌, ◌≢◌, refl, sym, ap, subst, ◌∙◌, ℕ, ◌+◌, ◌*◌, ◌<◌, ◌≤◌, Bool, true, false, List, [], ◌∷◌, length, drop, nat_eq, get_or, set, arith}
 use Rattle.std.specs.Prelude.{slice_index_or}
 use Rattle.std.proofs.lemmas.List.{drop_all, get_or-set_same, get_or-set_other, length-set}
 use Rattle.std.proofs.lemmas.List.Sums.{sum_by-le}
 use Rattle.std.proofs.lemmas.Bool.Decides.{nat_tests}
+use Rattle.emu_io.specs.Ends.{SourceEnd}
 use Rattle.client_script.specs.declared.line.Line.{Line}
 use Rattle.client_script.specs.declared.line.Line.TheVariants.{Feed, Tick, Command}
 use Rattle.client_script.specs.declared.line.Target.{Target}
@@ -44,11 +45,11 @@ tick_done batch time cores r lines rest clients after = record {
   done = λ t d. d;
 }
 
-pub moves_ticked : (x : Option (List ℕ)) (n time : ℕ) (old new : Runner) (goes : Run → Run → Type 0) → new.puller ≡ old.puller
-    → ((r : Run) → IsAt old r → IsAt new (ticked time r)) → ((r : Run) → goes r (ticked time r)) → Moves x x n n old new goes
-moves_ticked x n time old new goes same at says = record {
+pub moves_ticked : (x : SourceEnd) (time : ℕ) (old new : Runner) (goes : Run → Run → Type 0) → new.puller ≡ old.puller
+    → ((r : Run) → IsAt old r → IsAt new (ticked time r)) → ((r : Run) → goes r (ticked time r)) → Moves x x old new goes
+moves_ticked x time old new goes same at says = record {
   packets = [];
-  draws = subst (λ (p : Pulling). Draws x x n n old.puller p []) (sym same) (draws_none x n old.puller);
+  draws = subst (λ (p : Pulling). Draws x x old.puller p []) (sym same) (draws_none x old.puller);
   at = λ ahead taken given later r pulls stops here left. (ticked time r, says r, at r here, left);
   done = λ ahead taken given pulls done. (subst (λ (p : Pulling). IsDone p) (sym same) done, refl);
 }

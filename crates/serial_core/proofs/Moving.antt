@@ -1,25 +1,25 @@
 -- Moves one after another.
-use Rattle.std.proofs.Common.{◌≡◌, refl, ap, subst, ◌∙◌, ℕ, List, [], ◌++◌, append_assoc, Result, Ok, Err, IsErrAnd}
-use Rattle.std.specs.declared.option.Option.{Option}
+use Rattle.std.proofs.Common.{◌≡◌, refl, ap, subst, ◌∙◌, ℕ, [], ◌++◌, append_assoc, Result, Ok, Err, IsErrAnd}
+use Rattle.emu_io.specs.Ends.{SourceEnd}
 use Rattle.serial_core.specs.declared.runner.Runner.{Runner}
 use Rattle.serial_core.specs.SerialRun.{Run}
 use Rattle.serial_core.specs.Inside.Moving.{IsReady, IsSound, Moves}
 use Rattle.feed_pull.proofs.Drawing.{draws_none, draws_then}
 use Rattle.feed_pull.proofs.Stopping.{still_counts}
 
-pub moves_none : (x : Option (List ℕ)) (n : ℕ) (v : Runner) (goes : Run → Run → Type 0) → ((r : Run) → goes r r) → Moves x x n n v v goes
-moves_none x n v goes same = record {
+pub moves_none : (x : SourceEnd) (v : Runner) (goes : Run → Run → Type 0) → ((r : Run) → goes r r) → Moves x x v v goes
+moves_none x v goes same = record {
   packets = [];
-  draws = draws_none x n v.puller;
+  draws = draws_none x v.puller;
   at = λ ahead taken given later r pulls stops at left. (r, same r, at, left);
   done = λ ahead taken given pulls done. (done, refl);
 }
 
-pub moves_then : (x y z : Option (List ℕ)) (l m n : ℕ) (a b c : Runner) (G H K : Run → Run → Type 0) → ((r s t : Run) → G r s → H s t → K r t)
-    → Moves x y l m a b G → Moves y z m n b c H → Moves x z l n a c K
-moves_then x y z l m n a b c G H K both g h = record {
+pub moves_then : (x y z : SourceEnd) (a b c : Runner) (G H K : Run → Run → Type 0) → ((r s t : Run) → G r s → H s t → K r t)
+    → Moves x y a b G → Moves y z b c H → Moves x z a c K
+moves_then x y z a b c G H K both g h = record {
   packets = g.packets ++ h.packets;
-  draws = draws_then x y z l m n a.puller b.puller c.puller g.packets h.packets g.draws h.draws;
+  draws = draws_then x y z a.puller b.puller c.puller g.packets h.packets g.draws h.draws;
   at = λ ahead taken given later r pulls stops at left.
       let more = g.draws.carries.pulls ahead taken given pulls in
       let first = g.at ahead taken given (h.packets ++ later) r pulls
@@ -33,8 +33,8 @@ moves_then x y z l m n a b c G H K both g h = record {
       (e.0, rw (k.1, e.1) refl);
 }
 
-pub moves_by : (x y : Option (List ℕ)) (l m : ℕ) (a b : Runner) (G K : Run → Run → Type 0) → ((r s : Run) → G r s → K r s) → Moves x y l m a b G → Moves x y l m a b K
-moves_by x y l m a b G K so g = record {
+pub moves_by : (x y : SourceEnd) (a b : Runner) (G K : Run → Run → Type 0) → ((r s : Run) → G r s → K r s) → Moves x y a b G → Moves x y a b K
+moves_by x y a b G K so g = record {
   packets = g.packets;
   draws = g.draws;
   at = λ ahead taken given later r pulls stops at left. let k = g.at ahead taken given later r pulls stops at left in (k.0, so r k.0 k.1, k.2, k.3);
@@ -42,11 +42,11 @@ moves_by x y l m a b G K so g = record {
 }
 
 -- the feeder may have its next turn
-pub ready_on : (batch : ℕ) (x y : Option (List ℕ)) (l m : ℕ) (a b : Runner) (G : Run → Run → Type 0) → Moves x y l m a b G → IsReady batch l a → IsSound b → IsReady batch m b
-ready_on batch x y l m a b G moves ready sound = record {
+pub ready_on : (batch : ℕ) (x y : SourceEnd) (a b : Runner) (G : Run → Run → Type 0) → Moves x y a b G → IsReady batch x a → IsSound b → IsReady batch y b
+ready_on batch x y a b G moves ready sound = record {
   some = ready.some;
   few = ready.few;
-  faults = still_counts a.puller.reading b.puller.reading x y l m moves.draws.follows ready.faults;
+  faults = still_counts a.puller.reading b.puller.reading x y moves.draws.follows ready.faults;
   sound = sound;
 }
 

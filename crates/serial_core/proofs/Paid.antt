@@ -18,7 +18,7 @@ use Rattle.client_core.specs.Commands.{call_of}
 use Rattle.client_core.specs.Events.{waits_on}
 use Rattle.serial_core.specs.Nodes.{Node, history_of, answer_by, answered}
 use Rattle.serial_core.specs.SerialRun.{Run, fed_to_all, passed, ticked, replies_of}
-use Rattle.serial_core.specs.Budget.{bytes_by, bytes_by_all, one_if, HasBrought, IsPaid}
+use Rattle.serial_core.specs.Budget.{bytes_by, one_if, HasBrought, IsPaid}
 use Rattle.serial_core.proofs.Keeping.{IsFedOn}
 use Rattle.serial_core.proofs.Answering.{end_answer, end_stays, ends, none_brought, no_end}
 

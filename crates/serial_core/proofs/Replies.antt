@@ -1,5 +1,5 @@
 -- The replies of the clients, and what stands at a line.
-use Rattle.std.proofs.Common.{◌≡◌, refl, ap, ℕ, zero, suc, Bool, true, false, nat_eq, List, [], ◌∷◌, Option, Some, None, length, ◌⊎◌, inl, inr}
+use Rattle.std.proofs.Common.{◌≡◌, refl, ap, ℕ, zero, suc, Bool, true, false, nat_eq, List, [], ◌∷◌, Option, Some, None, ◌⊎◌, inl, inr}
 use Rattle.std.specs.Prelude.{if◌then◌else◌, option_map, replicate, slice_index_or, slice_set}
 use Rattle.dmx_calls.specs.Response.{Response}
 use Rattle.client_script.specs.declared.line.Line.{Line}

@@ -1,6 +1,6 @@
 -- The serial run of a script is a run of it.
-use Rattle.std.proofs.Common.{◌≡◌, ◌≢◌, refl, sym, ap, subst, ◌∙◌, ℕ, suc, ◌+◌, ◌<◌, ◌≤◌, Bool, true, false, nat_eq, nat_lt, List, [], ◌∷◌, ◌++◌, Some, None, length, map, take, drop, fold, max, ◌⊎◌, inl, inr, arith, length-take-le, length-drop}
-use Rattle.std.specs.Prelude.{if◌then◌else◌, slice_set, slice_get}
+use Rattle.std.proofs.Common.{◌≡◌, ◌≢◌, refl, sym, ap, subst, ◌∙◌, ℕ, ◌+◌, ◌<◌, ◌≤◌, Bool, true, false, nat_eq, nat_lt, List, [], ◌∷◌, ◌++◌, Some, None, length, take, drop, fold, max, ◌⊎◌, inl, inr, arith, length-take-le, length-drop}
+use Rattle.std.specs.Prelude.{if◌then◌else◌, slice_get}
 use Rattle.std.specs.List.{All}
 use Rattle.std.proofs.lemmas.Bool.Decides.{nat_tests}
 use Rattle.std.proofs.lemmas.List.{length-map, length-set, get_or-set_same, get_or-set_other, drop-drop}
@@ -28,7 +28,7 @@ use Rattle.client_core.specs.Commands.{call_of}
 use Rattle.client_core.specs.Events.{next_event}
 use Rattle.script_run.specs.IsRun.{IsFed, HasDone, feeding, steps_of}
 use Rattle.client_core.proofs.Numbering.{next_is_numbered}
-use Rattle.serial_core.specs.Nodes.{Node, uncalled, history_of, answer_by, answered}
+use Rattle.serial_core.specs.Nodes.{uncalled, history_of, answer_by, answered}
 use Rattle.serial_core.specs.SerialRun.{Run, begun, fed_to_all, passed, ended, ticked, all_passed, node_at, replies_of, reply_to, called, after_waiting, IsSerialRun}
 use Rattle.serial_core.specs.Ran.{histories_in}
 use Rattle.serial_core.specs.Runs.{IsAccountedRun, SerialRunsAreRuns}

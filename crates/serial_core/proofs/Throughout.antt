@@ -1,5 +1,5 @@
 -- After all lines, all commands are through.
-use Rattle.std.proofs.Common.{◌≡◌, refl, sym, ap, subst, ◌∙◌, ℕ, ◌+◌, ◌<◌, Bool, true, false, nat_eq, nat_lt, List, [], ◌∷◌, ◌++◌, None, length, fold, append_assoc, append-nil, arith, ◌⊎◌, inl, inr}
+use Rattle.std.proofs.Common.{◌≡◌, refl, sym, ap, subst, ◌∙◌, ℕ, ◌+◌, Bool, true, false, nat_eq, List, [], ◌∷◌, ◌++◌, None, append_assoc, append-nil, arith, ◌⊎◌, inl, inr}
 use Rattle.std.specs.Prelude.{if◌then◌else◌, slice_index_or, slice_set, option_map}
 use Rattle.std.proofs.lemmas.Bool.Decides.{nat_tests}
 use Rattle.std.proofs.lemmas.Grind.{flat_map-append}
@@ -13,7 +13,7 @@ use Rattle.client_core.specs.declared.event.Event.{Event}
 use Rattle.client_core.specs.Commands.{commands_in, commands_of}
 use Rattle.client_core.specs.Events.{progress, progress_from, no_slots, next_event, next_of_line, standing_at}
 use Rattle.client_core.proofs.Numbering.{AreThrough, through_more, through_next}
-use Rattle.serial_core.specs.SerialRun.{Run, begun, passed, batch_sizes, all_passed, ended, fed, ticked, replies_of, reply_to, called, after_waiting, IsWorked, through, calls, AreDone, finished}
+use Rattle.serial_core.specs.SerialRun.{Run, begun, fed, ticked, replies_of, reply_to, called, after_waiting, IsWorked, through, calls, AreDone, finished}
 use Rattle.serial_core.proofs.Replies.{index_set}
 use Rattle.serial_core.proofs.Keeping.{IsKept, kept_worked, fed_replies, finished_replies}
 

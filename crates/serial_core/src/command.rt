@@ -24,11 +24,11 @@ impl Runner {
         core: &ClientCore,
         steps: &mut Steps<L>,
     ) -> Result<(), NoMemory>
-        requires ready { IsReady batch (S.faults source.old) self.old }
+        requires ready { IsReady batch (S.end source.old) self.old }
         requires made { MadeAtMost self.old 8796093022208 }
-        ensures moves { OnOk result (Moves (S.left source.old) (S.left source.new) (S.faults source.old) (S.faults source.new) self.old self.new
+        ensures moves { OnOk result (Moves (S.end source.old) (S.end source.new) self.old self.new
             (λ r s. (client : ℕ) (lines : List ScriptLine) → IsAfter client lines (replies_of client r) core.now → s ≡ after_waiting lines batch client r)) }
-        ensures draws { OnErr result ((packets : List (List ℕ)) × Draws (S.left source.old) (S.left source.new) (S.faults source.old) (S.faults source.new) self.old.puller self.new.puller packets) }
+        ensures draws { OnErr result ((packets : List (List ℕ)) × Draws (S.end source.old) (S.end source.new) self.old.puller self.new.puller packets) }
         ensures sound { OnOk result (IsSound self.new) }
         ensures moment { OnOk result (self.new.moment ≡ self.old.moment) }
         ensures made { OnOk result ((calls : ℕ) → MadeAtMost self.old calls → MadeAtMost self.new calls) }
@@ -49,17 +49,17 @@ impl Runner {
         event: Event,
         steps: &mut Steps<L>,
     ) -> Result<(), NoMemory>
-        requires ready { IsReady batch (S.faults source.old) self.old }
+        requires ready { IsReady batch (S.end source.old) self.old }
         requires made { MadeAtMost self.old 8796093022208 }
         requires client { client < 8 }
         requires node { event.node ≤ nodes }
         requires range { IsWantInRange event.want }
         requires begun { IsSome core.old.current }
         requires taken { core.old.step < 2 ^ 46 }
-        ensures moves { OnOk result (Moves (S.left source.old) (S.left source.new) (S.faults source.old) (S.faults source.new) self.old self.new
+        ensures moves { OnOk result (Moves (S.end source.old) (S.end source.new) self.old self.new
             (λ r s. (lines : List ScriptLine) → IsAfter client lines (replies_of client r) core.old → (s ≡ called client event (after_waiting lines batch client r))
             × IsAfter client lines (replies_of client r ++ reply_to client event (after_waiting lines batch client r) ∷ []) core.new)) }
-        ensures draws { OnErr result ((packets : List (List ℕ)) × Draws (S.left source.old) (S.left source.new) (S.faults source.old) (S.faults source.new) self.old.puller self.new.puller packets) }
+        ensures draws { OnErr result ((packets : List (List ℕ)) × Draws (S.end source.old) (S.end source.new) self.old.puller self.new.puller packets) }
         ensures sound { OnOk result (IsSound self.new) }
         ensures moment { OnOk result (self.new.moment ≡ self.old.moment) }
         ensures made { OnOk result ((calls : ℕ) → MadeAtMost self.old calls → MadeAtMost self.new (calls + 1)) }
@@ -80,14 +80,14 @@ impl Runner {
         line: u32,
         steps: &mut Steps<L>,
     ) -> Result<(), Stop>
-        requires ready { IsReady batch (S.faults source.old) self.old }
+        requires ready { IsReady batch (S.end source.old) self.old }
         requires made { MadeAtMost self.old (core.old.step + 4398046511104) }
         requires client { client < 8 }
         requires calls { core.old.step ≤ 549755813888 }
-        ensures moves { OnOk result (Moves (S.left source.old) (S.left source.new) (S.faults source.old) (S.faults source.new) self.old self.new (IsDoneBy batch client line core.old core.new)) }
-        ensures draws { OnErr result ((packets : List (List ℕ)) × Draws (S.left source.old) (S.left source.new) (S.faults source.old) (S.faults source.new) self.old.puller self.new.puller packets) }
+        ensures moves { OnOk result (Moves (S.end source.old) (S.end source.new) self.old self.new (IsDoneBy batch client line core.old core.new)) }
+        ensures draws { OnErr result ((packets : List (List ℕ)) × Draws (S.end source.old) (S.end source.new) self.old.puller self.new.puller packets) }
         ensures too_long { (turns : ℕ) → IsErrOf result (Stop.TooLong turns) → (turns ≡ 549755813888) × (549755813888 ≤ core.new.step)
-            × Moves (S.left source.old) (S.left source.new) (S.faults source.old) (S.faults source.new) self.old self.new (ComesBy batch client line core.old core.new) }
+            × Moves (S.end source.old) (S.end source.new) self.old self.new (ComesBy batch client line core.old core.new) }
         ensures sound { OnOk result (IsSound self.new) }
         ensures moment { OnOk result (self.new.moment ≡ self.old.moment) }
         ensures made { OnOk result ((calls : ℕ) → MadeAtMost self.old (core.old.step + calls) → MadeAtMost self.new (core.new.step + calls)) }

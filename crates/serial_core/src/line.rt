@@ -23,16 +23,16 @@ impl Runner {
         asked: Line,
         steps: &mut Steps<L>,
     ) -> Result<(), Stop>
-        requires ready { IsReady batch (S.faults source.old) self.old }
+        requires ready { IsReady batch (S.end source.old) self.old }
         requires made { MadeAtMost self.old (calls_by cores.old) }
         requires late { self.old.moment + 2 ^ 32 ≤ 2 ^ 64 }
         requires clients { length cores.old ≤ 8 }
         requires client { clients_of asked ≤ length cores.old }
         requires calls { AreInBudget cores.old }
-        ensures moves { OnOk result (Moves (S.left source.old) (S.left source.new) (S.faults source.old) (S.faults source.new) self.old self.new (IsLineBy batch asked cores.old cores.new)) }
-        ensures draws { OnErr result ((packets : List (List ℕ)) × Draws (S.left source.old) (S.left source.new) (S.faults source.old) (S.faults source.new) self.old.puller self.new.puller packets) }
+        ensures moves { OnOk result (Moves (S.end source.old) (S.end source.new) self.old self.new (IsLineBy batch asked cores.old cores.new)) }
+        ensures draws { OnErr result ((packets : List (List ℕ)) × Draws (S.end source.old) (S.end source.new) self.old.puller self.new.puller packets) }
         ensures too_long { (turns : ℕ) → IsErrOf result (Stop.TooLong turns) → (turns ≡ 549755813888)
-            × Moves (S.left source.old) (S.left source.new) (S.faults source.old) (S.faults source.new) self.old self.new (OverrunsBy cores.old) }
+            × Moves (S.end source.old) (S.end source.new) self.old self.new (OverrunsBy cores.old) }
         ensures sound { OnOk result (IsSound self.new) }
         ensures made { OnOk result (MadeAtMost self.new (calls_by cores.new)) }
         ensures calls { OnOk result (AreInBudget cores.new) }
@@ -64,12 +64,12 @@ impl Runner {
         lines: &[Line],
         steps: &mut Steps<L>,
     ) -> Result<(), Stop>
-        requires ready { IsReady batch (S.faults source.old) self.old }
+        requires ready { IsReady batch (S.end source.old) self.old }
         requires begins { MayBegin lines.now cores.old self.old }
-        ensures moves { OnOk result (Moves (S.left source.old) (S.left source.new) (S.faults source.old) (S.faults source.new) self.old self.new (IsFrontBy batch lines.now (length lines.now) cores.old cores.new)) }
-        ensures draws { OnErr result ((packets : List (List ℕ)) × Draws (S.left source.old) (S.left source.new) (S.faults source.old) (S.faults source.new) self.old.puller self.new.puller packets) }
+        ensures moves { OnOk result (Moves (S.end source.old) (S.end source.new) self.old self.new (IsFrontBy batch lines.now (length lines.now) cores.old cores.new)) }
+        ensures draws { OnErr result ((packets : List (List ℕ)) × Draws (S.end source.old) (S.end source.new) self.old.puller self.new.puller packets) }
         ensures too_long { (turns : ℕ) → IsErrOf result (Stop.TooLong turns) → (turns ≡ 549755813888)
-            × Moves (S.left source.old) (S.left source.new) (S.faults source.old) (S.faults source.new) self.old self.new (λ r s. length r.replies ≡ 8 → AreAfter lines.now r cores.old → Overruns lines.now r s) }
+            × Moves (S.end source.old) (S.end source.new) self.old self.new (λ r s. length r.replies ≡ 8 → AreAfter lines.now r cores.old → Overruns lines.now r s) }
         ensures sound { OnOk result (IsSound self.new) }
         ensures made { OnOk result (MadeAtMost self.new 4398046511104) }
     {
@@ -88,12 +88,12 @@ impl Runner {
         lines: &[Line],
         steps: &mut Steps<L>,
     ) -> Result<(), Stop>
-        requires ready { IsReady batch (S.faults source.old) self.old }
+        requires ready { IsReady batch (S.end source.old) self.old }
         requires begins { MayBegin lines.now cores.old self.old }
-        ensures moves { OnOk result (Moves (S.left source.old) (S.left source.new) (S.faults source.old) (S.faults source.new) self.old self.new (IsWholeBy batch lines.now cores.old cores.new)) }
-        ensures draws { OnErr result ((packets : List (List ℕ)) × Draws (S.left source.old) (S.left source.new) (S.faults source.old) (S.faults source.new) self.old.puller self.new.puller packets) }
+        ensures moves { OnOk result (Moves (S.end source.old) (S.end source.new) self.old self.new (IsWholeBy batch lines.now cores.old cores.new)) }
+        ensures draws { OnErr result ((packets : List (List ℕ)) × Draws (S.end source.old) (S.end source.new) self.old.puller self.new.puller packets) }
         ensures too_long { (turns : ℕ) → IsErrOf result (Stop.TooLong turns) → (turns ≡ 549755813888)
-            × Moves (S.left source.old) (S.left source.new) (S.faults source.old) (S.faults source.new) self.old self.new (λ r s. length r.replies ≡ 8 → AreAfter lines.now r cores.old → Overruns lines.now r s) }
+            × Moves (S.end source.old) (S.end source.new) self.old self.new (λ r s. length r.replies ≡ 8 → AreAfter lines.now r cores.old → Overruns lines.now r s) }
         ensures sound { OnOk result (IsSound self.new) }
         ensures ended { OnOk result (self.new.nodes.has_ended ≡ true) }
     {

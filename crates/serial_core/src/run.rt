@@ -108,14 +108,14 @@ fn run_over<S: Source, L: Ledger>(
     requires begun { IsFreshRunner runner }
     requires fresh { AreFreshCores script.now cores.old }
     requires going { runner.puller.reading ≡ Going }
-    requires faults { S.faults source.old < 2 ^ 64 - 1 }
-    ensures ran { IfOk result (λ ran. OfStream (S.left source.old) (S.left source.new) runner.puller (λ ahead taken. IsRanOf script.now batch (ahead ++ taken) ran)) }
-    ensures rose { IfOk result (λ ran. IsTrue ran.head.read_fault ↔ (S.faults source.old < S.faults source.new)) }
-    ensures later { IfOk result (λ _. S.faults source.old ≤ S.faults source.new) }
-    ensures once { S.faults source.new ≤ S.faults source.old + 1 }
-    ensures end { IfOk result (λ ran. ran.head.read_fault ≡ false → IsAtEnd (S.left source.new)) }
-    ensures too_long { (turns : ℕ) → IsErrOf result (Stop.TooLong turns) → OfStream (S.left source.old) (S.left source.new) runner.puller (IsTooLong script.now runner.puller.start turns) }
-    ensures draws { OnErr result ((packets : List (List ℕ)) × ((last : Pulling) × Draws (S.left source.old) (S.left source.new) (S.faults source.old) (S.faults source.new) runner.puller last packets)) }
+    requires faults { (S.end source.old).faults < 2 ^ 64 - 1 }
+    ensures ran { IfOk result (λ ran. OfStream (S.end source.old) (S.end source.new) runner.puller (λ ahead taken. IsRanOf script.now batch (ahead ++ taken) ran)) }
+    ensures rose { IfOk result (λ ran. IsTrue ran.head.read_fault ↔ ((S.end source.old).faults < (S.end source.new).faults)) }
+    ensures later { IfOk result (λ _. (S.end source.old).faults ≤ (S.end source.new).faults) }
+    ensures once { (S.end source.new).faults ≤ (S.end source.old).faults + 1 }
+    ensures end { IfOk result (λ ran. ran.head.read_fault ≡ false → IsAtEnd (S.end source.new).left) }
+    ensures too_long { (turns : ℕ) → IsErrOf result (Stop.TooLong turns) → OfStream (S.end source.old) (S.end source.new) runner.puller (IsTooLong script.now runner.puller.start turns) }
+    ensures draws { OnErr result ((packets : List (List ℕ)) × ((last : Pulling) × Draws (S.end source.old) (S.end source.new) runner.puller last packets)) }
 {
     let mut steps = Steps::<L>::new(blank);
     let mut runner = runner;
@@ -145,18 +145,18 @@ pub fn run_steps<S: Source>(
     requires few { batch ≤ 64 }
     requires going { puller.reading ≡ Going }
     requires fresh { puller.given ≡ 0 }
-    requires faults { S.faults source.old < 2 ^ 64 - 1 }
+    requires faults { (S.end source.old).faults < 2 ^ 64 - 1 }
     // The histories, the outcomes and the head are those of the serial run, which is the only one.
-    ensures ran { IfOk result (λ ran. OfStream (S.left source.old) (S.left source.new) puller (λ ahead taken. IsRanOf script.now batch (ahead ++ taken) ran)) }
+    ensures ran { IfOk result (λ ran. OfStream (S.end source.old) (S.end source.new) puller (λ ahead taken. IsRanOf script.now batch (ahead ++ taken) ran)) }
     // The source failed exactly where its count rose; else it has nothing left.
-    ensures rose { IfOk result (λ ran. IsTrue ran.head.read_fault ↔ (S.faults source.old < S.faults source.new)) }
-    ensures later { IfOk result (λ _. S.faults source.old ≤ S.faults source.new) }
+    ensures rose { IfOk result (λ ran. IsTrue ran.head.read_fault ↔ ((S.end source.old).faults < (S.end source.new).faults)) }
+    ensures later { IfOk result (λ _. (S.end source.old).faults ≤ (S.end source.new).faults) }
     // At most one read has failed: after it nothing more is read, however the run ends.
-    ensures once { S.faults source.new ≤ S.faults source.old + 1 }
-    ensures end { IfOk result (λ ran. ran.head.read_fault ≡ false → IsAtEnd (S.left source.new)) }
-    ensures too_long { (turns : ℕ) → IsErrOf result (Stop.TooLong turns) → OfStream (S.left source.old) (S.left source.new) puller (IsTooLong script.now puller.start turns) }
+    ensures once { (S.end source.new).faults ≤ (S.end source.old).faults + 1 }
+    ensures end { IfOk result (λ ran. ran.head.read_fault ≡ false → IsAtEnd (S.end source.new).left) }
+    ensures too_long { (turns : ℕ) → IsErrOf result (Stop.TooLong turns) → OfStream (S.end source.old) (S.end source.new) puller (IsTooLong script.now puller.start turns) }
     // What was taken of the source where the run stopped, as the puller's pulls tell it.
-    ensures draws { OnErr result ((packets : List (List ℕ)) × ((last : Pulling) × Draws (S.left source.old) (S.left source.new) (S.faults source.old) (S.faults source.new) puller last packets)) }
+    ensures draws { OnErr result ((packets : List (List ℕ)) × ((last : Pulling) × Draws (S.end source.old) (S.end source.new) puller last packets)) }
 {
     let mut cores = match cores_of(alloc, script) {
         Ok(cores) => cores,

@@ -29,11 +29,11 @@ impl Runner {
         most: u32,
         steps: &mut Steps<L>,
     ) -> Result<u32, NoMemory>
-        requires ready { IsReady most (S.faults source.old) self.old }
+        requires ready { IsReady most (S.end source.old) self.old }
         requires made { MadeAtMost self.old 8796093022208 }
-        ensures moves { IfOk result (λ n. Moves (S.left source.old) (S.left source.new) (S.faults source.old) (S.faults source.new) self.old self.new
+        ensures moves { IfOk result (λ n. Moves (S.end source.old) (S.end source.new) self.old self.new
             (λ r s. (s ≡ turned most r) × (n ≡ min most (length r.left)))) }
-        ensures draws { OnErr result ((packets : List (List ℕ)) × Draws (S.left source.old) (S.left source.new) (S.faults source.old) (S.faults source.new) self.old.puller self.new.puller packets) }
+        ensures draws { OnErr result ((packets : List (List ℕ)) × Draws (S.end source.old) (S.end source.new) self.old.puller self.new.puller packets) }
         ensures sound { OnOk result (IsSound self.new) }
         ensures made { OnOk result ((calls : ℕ) → MadeAtMost self.old calls → MadeAtMost self.new calls) }
         ensures moment { OnOk result (self.new.moment ≡ self.old.moment) }
@@ -64,10 +64,10 @@ impl Runner {
         count: u32,
         steps: &mut Steps<L>,
     ) -> Result<(), NoMemory>
-        requires ready { IsReady batch (S.faults source.old) self.old }
+        requires ready { IsReady batch (S.end source.old) self.old }
         requires made { MadeAtMost self.old 8796093022208 }
-        ensures moves { OnOk result (Moves (S.left source.old) (S.left source.new) (S.faults source.old) (S.faults source.new) self.old self.new (λ r s. s ≡ fed batch count r)) }
-        ensures draws { OnErr result ((packets : List (List ℕ)) × Draws (S.left source.old) (S.left source.new) (S.faults source.old) (S.faults source.new) self.old.puller self.new.puller packets) }
+        ensures moves { OnOk result (Moves (S.end source.old) (S.end source.new) self.old self.new (λ r s. s ≡ fed batch count r)) }
+        ensures draws { OnErr result ((packets : List (List ℕ)) × Draws (S.end source.old) (S.end source.new) self.old.puller self.new.puller packets) }
         ensures sound { OnOk result (IsSound self.new) }
         ensures made { OnOk result ((calls : ℕ) → MadeAtMost self.old calls → MadeAtMost self.new calls) }
         ensures moment { OnOk result (self.new.moment ≡ self.old.moment) }
@@ -90,10 +90,10 @@ impl Runner {
         batch: u32,
         steps: &mut Steps<L>,
     ) -> Result<(), NoMemory>
-        requires ready { IsReady batch (S.faults source.old) self.old }
+        requires ready { IsReady batch (S.end source.old) self.old }
         requires made { MadeAtMost self.old 8796093022208 }
-        ensures moves { OnOk result (Moves (S.left source.old) (S.left source.new) (S.faults source.old) (S.faults source.new) self.old self.new (λ r s. (lines : List ScriptLine) → s ≡ finished lines batch r)) }
-        ensures draws { OnErr result ((packets : List (List ℕ)) × Draws (S.left source.old) (S.left source.new) (S.faults source.old) (S.faults source.new) self.old.puller self.new.puller packets) }
+        ensures moves { OnOk result (Moves (S.end source.old) (S.end source.new) self.old self.new (λ r s. (lines : List ScriptLine) → s ≡ finished lines batch r)) }
+        ensures draws { OnErr result ((packets : List (List ℕ)) × Draws (S.end source.old) (S.end source.new) self.old.puller self.new.puller packets) }
         ensures sound { OnOk result (IsSound self.new) }
         ensures ended { OnOk result (self.new.nodes.has_ended ≡ true) }
     {

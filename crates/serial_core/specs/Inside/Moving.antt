@@ -1,6 +1,6 @@
 -- How the code goes on with the run, while the stream is pulled as it is wanted.
 use Rattle.std.specs.Prelude.{◌≡◌, ◌≢◌, ℕ, ◌+◌, ◌-◌, ◌^◌, ◌<◌, ◌≤◌, true, List, [], ◌++◌, length, None}
-use Rattle.std.specs.declared.option.Option.{Option}
+use Rattle.emu_io.specs.Ends.{SourceEnd}
 use Rattle.client_script.specs.declared.line.Line.{Line}
 use Rattle.client_core.specs.Inside.Core.{Core, IsAfter}
 use Rattle.client_core.specs.Events.{next_of_line}
@@ -20,10 +20,9 @@ pub record IsAt (v : Runner) (r : Run) : Type 0 where
 
 -- The code and the run go on together: the packets that were pulled are those that the run has in front, whatever comes
 -- behind them. Behind the last packet of a puller that is done comes nothing.
-pub record Moves (content left : Option (List ℕ)) (before after : ℕ) (old new : Runner)
-    (goes : Run → Run → Type 0) : Type 0 where
+pub record Moves (before after : SourceEnd) (old new : Runner) (goes : Run → Run → Type 0) : Type 0 where
   pub packets : List (List ℕ)
-  pub draws : Draws content left before after old.puller new.puller packets
+  pub draws : Draws before after old.puller new.puller packets
   pub at : (ahead taken : List ℕ) (given later : List (List ℕ)) (r : Run) → Pulls ahead taken given old.puller
       → (IsDone new.puller → later ≡ [])
       → IsAt old r → r.left ≡ packets ++ later → (s : Run) × goes r s × IsAt new s × (s.left ≡ later)
@@ -43,12 +42,12 @@ pub record IsSound (v : Runner) : Type 0 where
   pub counted : AreCounted v.nodes
   pub given : v.puller.given ≤ 2199023255552
 
--- What holds whenever the feeder may have a turn: a batch has 1 to 64 packets, the source, which has failed so often,
--- may be read where reading goes on, and the numbers are sound.
-pub record IsReady (batch failed : ℕ) (v : Runner) : Type 0 where
+-- What holds whenever the feeder may have a turn: a batch has 1 to 64 packets, the source may be read where reading goes
+-- on, and the numbers are sound.
+pub record IsReady (batch : ℕ) (source : SourceEnd) (v : Runner) : Type 0 where
   pub some : 1 ≤ batch
   pub few : batch ≤ 64
-  pub faults : v.puller.reading ≡ Going → failed < 2 ^ 64 - 1
+  pub faults : v.puller.reading ≡ Going → source.faults < 2 ^ 64 - 1
   pub sound : IsSound v
 
 -- at most so many calls were made beside the feeder's turns

@@ -25,7 +25,7 @@ returns-in-Ok-clause-ran g c =
     (λ (ran : Ran) (a : (r : Run) → IsNodes c.whole.new.self.nodes r → AreLegal r → ran.histories ≡ histories_in r)
     (b : (ls : List Line) (r : Run) → AreAfter ls r c.whole.new.cores → map (λ those. those.items) ran.outcomes.items ≡ map (λ client. outcomes client ls (replies_of client r)) (range_with_len 0 (length c.whole.new.cores)))
     (h : (ahead taken : List ℕ) (given : List (List ℕ)) → Pulls ahead taken given c.whole.new.self.puller → told_head ran.head ≡ head_of (ahead ++ taken) ran.head.read_fault).
-    ran_is c.args.script.now c.args.batch _ _ _ _ c.args.runner c.whole.new.self c.args.cores.now c.requires.begun c.requires.fresh c.whole.new.cores ran c.whole.auto.cores (rw c.lines.ensures.lines at w.moves) done w.ended a b h)
+    ran_is c.args.script.now c.args.batch _ _ c.args.runner c.whole.new.self c.args.cores.now c.requires.begun c.requires.fresh c.whole.new.cores ran c.whole.auto.cores (rw c.lines.ensures.lines at w.moves) done w.ended a b h)
     c.ran_of.ensures.histories c.ran_of.ensures.outcomes c.ran_of.ensures.head
 
 pub returns-in-Ok-clause-rose : goal.returns-in-Ok-clause-rose
@@ -33,7 +33,7 @@ returns-in-Ok-clause-rose g c =
     let w = c.in-Ok.ensures in
     ok_by c.ran_of.result _ _ _ _
     (λ (ran : Ran) (a : ran.head.read_fault ≡ has_failed c.whole.new.self.puller.reading) (b : ran.head.read_fault ≡ has_failed c.whole.new.self.puller.reading) (h : ran.head.read_fault ≡ has_failed c.whole.new.self.puller.reading).
-    rose_by ran.head.read_fault c.args.runner.puller.reading c.whole.new.self.puller.reading _ _ _ _ w.moves.draws.follows c.requires.going a)
+    rose_by ran.head.read_fault c.args.runner.puller.reading c.whole.new.self.puller.reading _ _ w.moves.draws.follows c.requires.going a)
     c.ran_of.ensures.fault c.ran_of.ensures.fault c.ran_of.ensures.fault
 
 pub returns-in-Ok-clause-end : goal.returns-in-Ok-clause-end
@@ -42,15 +42,15 @@ returns-in-Ok-clause-end g c =
     let done = w.sound.ended w.ended in
     ok_by c.ran_of.result _ _ _ _
     (λ (ran : Ran) (a : ran.head.read_fault ≡ has_failed c.whole.new.self.puller.reading) (b : c.whole.new.self.puller.reading ≢ TooMany) (h : c.whole.new.self.puller.reading ≢ TooMany).
-    end_by ran.head.read_fault c.args.runner.puller.reading c.whole.new.self.puller.reading _ _ _ _ w.moves.draws.follows c.requires.going a done.stopped b)
+    end_by ran.head.read_fault c.args.runner.puller.reading c.whole.new.self.puller.reading _ _ w.moves.draws.follows c.requires.going a done.stopped b)
     c.ran_of.ensures.fault c.ran_of.ensures.well c.ran_of.ensures.well
 
 pub returns-in-Ok-clause-too_long : goal.returns-in-Ok-clause-too_long
 returns-in-Ok-clause-too_long g c turns is =
     let m = c.in-Ok.ensures.moves in
     let k = c.ran_of.ensures.too_long turns is in
-    of_stream _ _ c.args.runner.puller _ (IsTooLong c.args.script.now c.args.runner.puller.start turns) (λ ahead taken (q : 4294967296 ≤ c.args.runner.puller.start + length taken). inl (k.0, q))
-    (many_reads _ _ _ _ c.args.runner.puller c.whole.new.self.puller m.packets m.draws k.1)
+    of_stream (g.S.Source.end c.args.source.now) (g.S.Source.end c.whole.new.source) c.args.runner.puller _ (IsTooLong c.args.script.now c.args.runner.puller.start turns) (λ ahead taken (q : 4294967296 ≤ c.args.runner.puller.start + length taken). inl (k.0, q))
+    (many_reads _ _ c.args.runner.puller c.whole.new.self.puller m.packets m.draws k.1)
 
 pub returns-in-Ok-clause-draws : goal.returns-in-Ok-clause-draws
 returns-in-Ok-clause-draws g c = let m = c.in-Ok.ensures.moves in on_err c.ran_of.result _ (m.packets, (c.whole.new.self.puller, m.draws))
@@ -59,8 +59,8 @@ pub returns-clause-too_long : goal.returns-clause-too_long
 returns-clause-too_long g c turns is =
     let same : c.in-Err.stop ≡ TooLong turns = cc in
     let k = c.whole.ensures.too_long turns (c.in-Err.is ∙ ap Err same) in
-    of_stream _ _ c.args.runner.puller _ (IsTooLong c.args.script.now c.args.runner.puller.start turns) (λ ahead taken (q : 549755813888 ≤ most_calls (all_commands c.args.script.now) (length ahead + length taken)). inr (k.0, q))
-    (overrun_is c.args.script.now c.args.batch _ _ _ _ c.args.runner c.whole.new.self c.args.cores.now c.requires.begun c.requires.fresh (rw c.lines.ensures.lines at k.1))
+    of_stream (g.S.Source.end c.args.source.now) (g.S.Source.end c.whole.new.source) c.args.runner.puller _ (IsTooLong c.args.script.now c.args.runner.puller.start turns) (λ ahead taken (q : 549755813888 ≤ most_calls (all_commands c.args.script.now) (length ahead + length taken)). inr (k.0, q))
+    (overrun_is c.args.script.now c.args.batch _ _ c.args.runner c.whole.new.self c.args.cores.now c.requires.begun c.requires.fresh (rw c.lines.ensures.lines at k.1))
 
 pub returns-clause-draws : goal.returns-clause-draws
 returns-clause-draws g c = let d = c.in-Err.ensures.draws in (d.0, (c.whole.new.self.puller, d.1))

@@ -3,7 +3,6 @@ use Rattle.dmx_calls.specs.Calls.{invocation_of, response_of}
 use Rattle.dmx_calls.specs.Legal.{May}
 use Rattle.dmx_calls.proofs.Numbered.{demux_rules, dvr_rules}
 use Rattle.dmx_calls.specs.Rules.{Rules, dvr, rules_at}
-use Rattle.serial_core.specs.Inside.Standing.{StandsAt}
 use Rattle.serial_core.proofs.node.AnyCore.apply.Goals as goal
 
 pub returns-in-Demux-clause-stands : goal.returns-in-Demux-clause-stands

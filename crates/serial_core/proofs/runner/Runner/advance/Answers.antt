@@ -17,12 +17,12 @@ returns-clause-moves g c =
     let new = c.call.new.core in
     let P : Run → Type 0 = λ r. (lines : List Line) (replies : List Response) → IsAfter client lines replies old → IsAfter client lines (replies ++ reply_to client e r ∷ []) new in
     let k = c.in_ok-call.ensures in
-    moves_then _ _ _ _ _ _ _ _ _ _ _ _
+    moves_then _ _ _ _ _ _ _ _ _
     (λ (r s t : Run) (a : (who : ℕ) (lines : List Line) → IsAfter who lines (replies_of who r) old → s ≡ after_waiting lines batch who r) (b : (t ≡ called client e s) × P s) (lines : List Line) (after : IsAfter client lines (replies_of client r) old).
     let w = a client lines after in
     (b.0 ∙ ap (called client e) w, subst (λ x. IsAfter client lines (replies_of client r ++ reply_to client e x ∷ []) new) w (b.1 lines (replies_of client r) after)))
     c.in_ok-wait.ensures.moves
-    (moves_called _ _ c.wait.new.self c.call.new.self client e P k.at (λ r moment at lines replies after. k.core r lines replies moment at after))
+    (moves_called _ c.wait.new.self c.call.new.self client e P k.at (λ r moment at lines replies after. k.core r lines replies moment at after))
 
 pub call-requires-clause-few : goal.call-requires-clause-few
 call-requires-clause-few g c =

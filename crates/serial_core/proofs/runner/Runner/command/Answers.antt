@@ -11,7 +11,7 @@ use Rattle.serial_core.proofs.runner.Runner.command.Goals as goal
 
 pub calls-init : goal.calls-init
 calls-init g c = record {
-  moves = moves_none _ _ c.args.self.now _ (λ r lines clients after. comes_none lines c.args.batch c.args.client c.args.line r c.args.core.now clients after);
+  moves = moves_none _ c.args.self.now _ (λ r lines clients after. comes_none lines c.args.batch c.args.client c.args.line r c.args.core.now clients after);
   sound = c.requires.ready.sound;
   moment = refl;
   made = λ calls made. made;
@@ -28,7 +28,7 @@ calls-preserved g c =
     let next = c.advance.new.core in
     let k = c.in_ok-advance.ensures in
     record {
-      moves = moves_then _ _ _ _ _ _ _ _ _ _ _ _
+      moves = moves_then _ _ _ _ _ _ _ _ _
           (λ (r s t : Run) (a : ComesBy batch client line c.args.core.now core r s)
           (b : (lines : List Line) → IsAfter client lines (replies_of client s) core → (t ≡ called client e (after_waiting lines batch client s)) × IsAfter client lines (replies_of client s ++ reply_to client e (after_waiting lines batch client s) ∷ []) next)
           (lines : List Line) (clients : length r.replies ≡ 8) (after : IsAfter client lines (replies_of client r) c.args.core.now).
@@ -46,11 +46,11 @@ pub advance-requires-clause-made : goal.advance-requires-clause-made
 advance-requires-clause-made g c = let m = c.calls.invariant.made 4398046511104 c.requires.made in omega (arith, m, c.calls.invariant.few)
 
 pub advance-requires-clause-ready : goal.advance-requires-clause-ready
-advance-requires-clause-ready g c = ready_on _ _ _ _ _ _ _ _ c.calls.invariant.moves c.requires.ready c.calls.invariant.sound
+advance-requires-clause-ready g c = ready_on _ _ _ _ _ _ c.calls.invariant.moves c.requires.ready c.calls.invariant.sound
 
 pub returns-clause-moves : goal.returns-clause-moves
 returns-clause-moves g c =
-    moves_by _ _ _ _ _ _ _ _
+    moves_by _ _ _ _ _ _
     (λ (r s : Run) (a : ComesBy c.args.batch c.args.client c.args.line c.args.core.now c.calls.core r s)
     (lines : List Line) (clients : length r.replies ≡ 8) (after : IsAfter c.args.client lines (replies_of c.args.client r) c.args.core.now).
     let come = a lines clients after in
@@ -61,4 +61,4 @@ pub returns-in_err-advance-clause-draws : goal.returns-in_err-advance-clause-dra
 returns-in_err-advance-clause-draws g c =
     let m = c.calls.invariant.moves in
     let d = c.in_err-advance.ensures.draws in
-    on_err c.from_residual.result _ (_, draws_then _ _ _ _ _ _ _ _ _ _ _ m.draws d.1)
+    on_err c.from_residual.result _ (_, draws_then _ _ _ _ _ _ _ _ m.draws d.1)

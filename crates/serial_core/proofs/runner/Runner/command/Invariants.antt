@@ -4,7 +4,7 @@ use Rattle.serial_core.proofs.runner.Runner.command.Given as goal
 
 abbrev pub invariant-calls : goal.invariant-calls
 invariant-calls g l = record {
-  moves : Moves (g.S.Source.left l.initial.source) (g.S.Source.left l.source) (g.S.Source.faults l.initial.source) (g.S.Source.faults l.source) l.initial.self l.self (ComesBy l.batch l.client l.line l.initial.core l.core);
+  moves : Moves (g.S.Source.end l.initial.source) (g.S.Source.end l.source) l.initial.self l.self (ComesBy l.batch l.client l.line l.initial.core l.core);
   sound : IsSound l.self;
   moment : l.self.moment ≡ l.initial.self.moment;
   made : (calls : ℕ) → MadeAtMost l.initial.self (l.initial.core.step + calls) → MadeAtMost l.self (l.core.step + calls);

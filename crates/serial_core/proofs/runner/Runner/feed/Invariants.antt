@@ -5,7 +5,7 @@ use Rattle.serial_core.proofs.runner.Runner.feed.Given as goal
 
 abbrev pub invariant-turns : goal.invariant-turns
 invariant-turns g l = record {
-  moves : Moves (g.S.Source.left l.initial.source) (g.S.Source.left l.source) (g.S.Source.faults l.initial.source) (g.S.Source.faults l.source) l.initial.self l.self (λ r s. fed l.batch l.count r ≡ fed l.batch l.left s);
+  moves : Moves (g.S.Source.end l.initial.source) (g.S.Source.end l.source) l.initial.self l.self (λ r s. fed l.batch l.count r ≡ fed l.batch l.left s);
   sound : IsSound l.self;
   moment : l.self.moment ≡ l.initial.self.moment;
   made : (calls : ℕ) → MadeAtMost l.initial.self calls → MadeAtMost l.self calls;

@@ -6,7 +6,7 @@ use Rattle.serial_core.proofs.runner.Runner.finish.Given as goal
 
 abbrev pub invariant-turns : goal.invariant-turns
 invariant-turns g l = record {
-  moves : Moves (g.S.Source.left l.initial.source) (g.S.Source.left l.source) (g.S.Source.faults l.initial.source) (g.S.Source.faults l.source) l.initial.self l.self (λ r s. (lines : List Line) → finished lines l.batch r ≡ finished lines l.batch s);
+  moves : Moves (g.S.Source.end l.initial.source) (g.S.Source.end l.source) l.initial.self l.self (λ r s. (lines : List Line) → finished lines l.batch r ≡ finished lines l.batch s);
   sound : IsSound l.self;
   made : (calls : ℕ) → MadeAtMost l.initial.self calls → MadeAtMost l.self calls;
 }

@@ -12,7 +12,7 @@ use Rattle.serial_core.proofs.runner.Runner.lines.Goals as goal
 
 pub lines-init : goal.lines-init
 lines-init g c = record {
-  moves = moves_none _ _ c.args.self.now _ (λ r. front_none c.args.batch c.args.lines.now c.args.cores.now r);
+  moves = moves_none _ c.args.self.now _ (λ r. front_none c.args.batch c.args.lines.now c.args.cores.now r);
   sound = c.requires.ready.sound;
   made = c.requires.begins.made;
   calls = c.requires.begins.calls;
@@ -21,20 +21,20 @@ lines-init g c = record {
 }
 
 pub line-requires-clause-ready : goal.line-requires-clause-ready
-line-requires-clause-ready g c = ready_on _ _ _ _ _ _ _ _ c.lines.invariant.moves c.requires.ready c.lines.invariant.sound
+line-requires-clause-ready g c = ready_on _ _ _ _ _ _ c.lines.invariant.moves c.requires.ready c.lines.invariant.sound
 
 pub returns-in_err-line-clause-draws : goal.returns-in_err-line-clause-draws
 returns-in_err-line-clause-draws g c =
     let m = c.lines.invariant.moves in
     let d = c.in_err-line.ensures.draws in
-    on_err c.from_residual.result _ (_, draws_then _ _ _ _ _ _ _ _ _ _ _ m.draws d.1)
+    on_err c.from_residual.result _ (_, draws_then _ _ _ _ _ _ _ _ m.draws d.1)
 
 pub returns-in_err-line-clause-too_long : goal.returns-in_err-line-clause-too_long
 returns-in_err-line-clause-too_long g c turns is =
     let same = err_and _ _ (TooLong turns) is c.from_residual.ensures.1 in
     let k = c.line.ensures.too_long turns (c.in_err-line.was ∙ ap Err (sym same)) in (
       k.0,
-      moves_then _ _ _ _ _ _ _ _ _ _ _ _
+      moves_then _ _ _ _ _ _ _ _ _
           (λ (r s t : Run) (a : IsFrontBy c.args.batch c.args.lines.now c.lines.line-index c.args.cores.now c.lines.cores r s) (b : OverrunsBy c.lines.cores s t).
           front_overruns c.args.batch c.lines.line-index c.args.lines.now c.args.cores.now c.lines.cores r s t a b)
           c.lines.invariant.moves k.1,
@@ -48,7 +48,7 @@ lines-preserved g c =
     let there : i < length lines = omega (arith, c.lines-test.true, c.lines.auto.line-index-end) in
     let here : drop i lines ≡ get_or lines i (Feed 0) ∷ drop (i + 1) lines = drop-cons lines i (Feed 0) there ∙ ap (λ n. get_or lines i (Feed 0) ∷ drop n lines) (sym (add-one i)) in
     record {
-      moves = moves_then _ _ _ _ _ _ _ _ _ _ _ _
+      moves = moves_then _ _ _ _ _ _ _ _ _
           (λ (r s t : Run) (a : IsFrontBy c.args.batch lines i c.args.cores.now c.lines.cores r s) (b : IsLineBy c.args.batch _ c.lines.cores c.line.new.cores s t).
           front_more c.args.batch i lines (drop (i + 1) lines) _ c.args.cores.now c.lines.cores c.line.new.cores r s t here refl a b)
           c.lines.invariant.moves k.moves;

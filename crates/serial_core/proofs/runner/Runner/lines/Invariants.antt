@@ -5,7 +5,7 @@ use Rattle.serial_core.proofs.runner.Runner.lines.Given as goal
 
 abbrev pub invariant-lines : goal.invariant-lines
 invariant-lines g l = record {
-  moves : Moves (g.S.Source.left l.initial.source) (g.S.Source.left l.source) (g.S.Source.faults l.initial.source) (g.S.Source.faults l.source) l.initial.self l.self (IsFrontBy l.batch l.lines l.line-index l.initial.cores l.cores);
+  moves : Moves (g.S.Source.end l.initial.source) (g.S.Source.end l.source) l.initial.self l.self (IsFrontBy l.batch l.lines l.line-index l.initial.cores l.cores);
   sound : IsSound l.self;
   made : MadeAtMost l.self (calls_by l.cores);
   calls : AreInBudget l.cores;

@@ -7,7 +7,7 @@ use Rattle.serial_core.proofs.runner.Runner.turn.Goals as goal
 pub returns-then-self-clause-moves : goal.returns-then-self-clause-moves
 returns-then-self-clause-moves g c = record {
   packets = [];
-  draws = draws_none _ _ c.args.self.now.puller;
+  draws = draws_none _ c.args.self.now.puller;
   at = λ ahead taken given later r pulls stops at left. turn_over c.args.self.now c.args.most later r c.if-self.true (c.requires.ready.sound.ended c.if-self.true) stops at left;
   done = λ ahead taken given pulls done. (done, refl);
 }
