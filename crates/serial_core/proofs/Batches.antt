@@ -1,10 +1,9 @@
 -- The feeder's turns, one after another, make up what a line asks for.
-use Rattle.std.proofs.Common.{◌≡◌, refl, sym, ap, ◌∙◌, ℕ, suc, ◌+◌, ◌-◌, ◌/◌, ◌%◌, ◌<◌, ◌≤◌, ◌==◌, min, Bool, true, false, List, ◌∷◌, length, nat_lt, nat_eq, if◌then◌else◌, length-drop, arith, inl, inr}
+use Rattle.std.proofs.Common.{◌≡◌, refl, sym, ap, ◌∙◌, ℕ, suc, ◌+◌, ◌-◌, ◌/◌, ◌%◌, ◌<◌, ◌≤◌, ◌==◌, min, Bool, true, false, ◌∷◌, length, nat_lt, nat_eq, if◌then◌else◌, length-drop, arith, inl, inr}
 use Rattle.std.proofs.lemmas.Bool.{cases_lt}
 use Rattle.std.proofs.lemmas.Bool.Decides.{nat_tests}
 use Rattle.std.proofs.Math.Numerals.{add-one}
 use Rattle.std.proofs.Math.Nat.{div-eq_of_lt, mod-eq_of_lt, add-div_right, add-mod_right}
-use Rattle.client_script.specs.declared.line.Line.{Line}
 use Rattle.serial_core.specs.SerialRun.{Run, passed, batch_sizes, all_passed, ended, fed, turned, finished}
 
 -- ------ batches
@@ -92,15 +91,14 @@ fed_step batch count n r some more is here = elim (cases_lt (length r.left) coun
 
 -- ------ the end of the run
 
-module _ (lines : List Line) where
-  pub finished_end : (batch : ℕ) (r : Run) → 0 < batch → length r.left ≡ 0 → finished lines batch r ≡ turned batch r
-  finished_end batch r some none = ap (λ n. ended (all_passed batch n r)) none ∙ (ap ended (passed_none batch r some) ∙ sym (turned_none batch r none))
+pub finished_end : (batch : ℕ) (r : Run) → 0 < batch → length r.left ≡ 0 → finished batch r ≡ turned batch r
+finished_end batch r some none = ap (λ n. ended (all_passed batch n r)) none ∙ (ap ended (passed_none batch r some) ∙ sym (turned_none batch r none))
 
-  pub finished_step : (batch n : ℕ) (r : Run) → 0 < batch → n ≡ min batch (length r.left) → 0 < n → finished lines batch r ≡ finished lines batch (turned batch r)
-  finished_step batch n r some is here =
-      let first : min (length r.left) batch ≡ n = omega arith in
-      let rest : length (passed r n).left ≡ length r.left - n = passed_left n (length r.left - n) r (omega arith) in
-      ap ended (passed_more batch (length r.left) r some (omega arith))
-      ∙ (ap (λ k. ended (all_passed batch (length r.left - k) (passed r k))) first
-      ∙ (ap (λ k. ended (all_passed batch k (passed r n))) (sym rest)
-      ∙ ap (finished lines batch) (ap (passed r) is ∙ sym (turned_some batch r (omega arith)))))
+pub finished_step : (batch n : ℕ) (r : Run) → 0 < batch → n ≡ min batch (length r.left) → 0 < n → finished batch r ≡ finished batch (turned batch r)
+finished_step batch n r some is here =
+    let first : min (length r.left) batch ≡ n = omega arith in
+    let rest : length (passed r n).left ≡ length r.left - n = passed_left n (length r.left - n) r (omega arith) in
+    ap ended (passed_more batch (length r.left) r some (omega arith))
+    ∙ (ap (λ k. ended (all_passed batch (length r.left - k) (passed r k))) first
+    ∙ (ap (λ k. ended (all_passed batch k (passed r n))) (sym rest)
+    ∙ ap (finished batch) (ap (passed r) is ∙ sym (turned_some batch r (omega arith)))))

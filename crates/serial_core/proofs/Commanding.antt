@@ -11,8 +11,8 @@ use Rattle.serial_core.specs.declared.nodes.Nodes.{Nodes}
 use Rattle.serial_core.specs.declared.runner.Runner.{Runner}
 use Rattle.serial_core.specs.SerialRun.{Run, replies_of, called, made, reply_to, after_waiting, turned, calls}
 use Rattle.serial_core.specs.Budget.{one_if, IsPaid}
-use Rattle.serial_core.specs.Inside.Standing.{IsNodes}
-use Rattle.serial_core.specs.Inside.Moving.{Moves, ComesByCalls}
+use Rattle.serial_core.specs.Inside.Standing.{AreCounted, IsNodes}
+use Rattle.serial_core.specs.Inside.Moving.{IsSound, Moves, ComesByCalls}
 use Rattle.feed_pull.proofs.Drawing.{draws_none}
 use Rattle.serial_core.proofs.Keeping.{kept_called, waiting_replies}
 use Rattle.serial_core.proofs.Within.{paid_steps}
@@ -20,9 +20,10 @@ use Rattle.serial_core.proofs.Within.{paid_steps}
 -- ------ one call
 
 pub moves_called : (x : SourceEnd) (old : Runner) (v : Nodes) (client : ℕ) (e : Event) (P : Run → Type 0)
+    → IsSound old → AreCounted v → v.has_ended ≡ old.nodes.has_ended
     → ((r : Run) → old.moment ≡ r.moment → IsNodes old.nodes r → IsNodes v (made client e r)) → ((r : Run) → old.moment ≡ r.moment → IsNodes old.nodes r → P r)
     → Moves x x old (record { nodes = v; puller = old.puller; moment = old.moment }) (λ r s. (s ≡ called client e r) × P r)
-moves_called x old v client e P goes says = record {
+moves_called x old v client e P sound counted same goes says = record {
   packets = [];
   draws = draws_none x old.puller;
   at = λ ahead taken given later r pulls stops at left.
@@ -33,6 +34,7 @@ moves_called x old v client e P goes says = record {
         left,
       );
   done = λ ahead taken given pulls done. (done, refl);
+  sound = record { ended = λ is. sound.ended (sym same ∙ is); counted = counted; given = sound.given };
 }
 
 -- ------ waiting

@@ -69,4 +69,4 @@ module _ (lines : List Line) (batch : ℕ) (packets : List (List ℕ)) (one : 1 
 pub have_runs : HaveSerialRuns
 have_runs lines batch packets ranges are one =
     let end = lines_end lines batch packets one lines (begun packets) ranges refl (paid_begun lines packets are) in
-    (finished lines batch end.0, (end.0, end.1, refl))
+    (finished batch end.0, (end.0, end.1, refl))

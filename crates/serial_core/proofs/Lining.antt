@@ -13,7 +13,7 @@ use Rattle.client_core.specs.Inside.Core.{Core, IsAfter}
 use Rattle.feed_pull.specs.Pulling.{Pulling, IsDone}
 use Rattle.serial_core.specs.declared.runner.Runner.{Runner}
 use Rattle.serial_core.specs.SerialRun.{Run, replies_of, fed, finished, ticked, through, AreDone}
-use Rattle.serial_core.specs.Inside.Moving.{IsAt, Moves, IsDoneBy, ComesBy, ComesByCalls}
+use Rattle.serial_core.specs.Inside.Moving.{IsAt, IsSound, Moves, IsDoneBy, ComesBy, ComesByCalls}
 use Rattle.feed_pull.specs.Streams.{Draws}
 use Rattle.serial_core.specs.Inside.Lines.{AreAfter, calls_by, AreInBudget, ComesByLines, IsLineBy, IsFrontBy, IsWholeBy, Overruns, OverrunsBy}
 use Rattle.feed_pull.proofs.Drawing.{draws_none}
@@ -45,13 +45,14 @@ tick_done batch time cores r lines rest clients after = record {
   done = λ t d. d;
 }
 
-pub moves_ticked : (x : SourceEnd) (time : ℕ) (old new : Runner) (goes : Run → Run → Type 0) → new.puller ≡ old.puller
+pub moves_ticked : (x : SourceEnd) (time : ℕ) (old new : Runner) (goes : Run → Run → Type 0) → IsSound new → new.puller ≡ old.puller
     → ((r : Run) → IsAt old r → IsAt new (ticked time r)) → ((r : Run) → goes r (ticked time r)) → Moves x x old new goes
-moves_ticked x time old new goes same at says = record {
+moves_ticked x time old new goes sound same at says = record {
   packets = [];
   draws = subst (λ (p : Pulling). Draws x x old.puller p []) (sym same) (draws_none x old.puller);
   at = λ ahead taken given later r pulls stops here left. (ticked time r, says r, at r here, left);
   done = λ ahead taken given pulls done. (subst (λ (p : Pulling). IsDone p) (sym same) done, refl);
+  sound = sound;
 }
 
 -- ------ a command
@@ -122,12 +123,12 @@ front_overruns batch count lines a b r s t front over clients after =
 
 -- ------ the whole run
 
-pub whole_by : (batch : ℕ) (lines : List Line) (a b : List Core) (r s t : Run) → IsFrontBy batch lines (length lines) a b r s → ((lines : List Line) → t ≡ finished lines batch s) → IsWholeBy batch lines a b r t
+pub whole_by : (batch : ℕ) (lines : List Line) (a b : List Core) (r s t : Run) → IsFrontBy batch lines (length lines) a b r s → t ≡ finished batch s → IsWholeBy batch lines a b r t
 whole_by batch lines a b r s t front ends clients after =
     let f = front clients after in
     record {
       before = s;
       done = f.done s (subst (λ ls. AreDone lines batch ls s s) (sym (drop_all (length lines) lines (omega arith))) refl);
-      ends = ends lines;
-      after = subst (λ x. AreAfter lines x b) (sym (ends lines)) (after_same lines s (finished lines batch s) b (finished_replies batch s) f.after);
+      ends = ends;
+      after = subst (λ x. AreAfter lines x b) (sym ends) (after_same lines s (finished batch s) b (finished_replies batch s) f.after);
     }

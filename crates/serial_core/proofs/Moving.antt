@@ -1,18 +1,20 @@
 -- Moves one after another.
-use Rattle.std.proofs.Common.{◌≡◌, refl, ap, subst, ◌∙◌, ℕ, [], ◌++◌, append_assoc, Result, Ok, Err, IsErrAnd}
+use Rattle.std.proofs.Common.{◌≡◌, refl, ap, subst, ◌∙◌, ℕ, [], ◌++◌, append_assoc, Result, Ok, Err, OnErr, IsErrAnd}
 use Rattle.emu_io.specs.Ends.{SourceEnd}
+use Rattle.feed_pull.specs.Pulling.{Pulling}
 use Rattle.serial_core.specs.declared.runner.Runner.{Runner}
 use Rattle.serial_core.specs.SerialRun.{Run}
-use Rattle.serial_core.specs.Inside.Moving.{IsReady, IsSound, Moves}
+use Rattle.serial_core.specs.Inside.Moving.{HasDrawn, IsReady, IsSound, Moves}
 use Rattle.feed_pull.proofs.Drawing.{draws_none, draws_then}
-use Rattle.feed_pull.proofs.Stopping.{still_counts}
+use Rattle.feed_pull.proofs.Stopping.{on_err, still_counts}
 
-pub moves_none : (x : SourceEnd) (v : Runner) (goes : Run → Run → Type 0) → ((r : Run) → goes r r) → Moves x x v v goes
-moves_none x v goes same = record {
+pub moves_none : (x : SourceEnd) (v : Runner) (goes : Run → Run → Type 0) → IsSound v → ((r : Run) → goes r r) → Moves x x v v goes
+moves_none x v goes sound same = record {
   packets = [];
   draws = draws_none x v.puller;
   at = λ ahead taken given later r pulls stops at left. (r, same r, at, left);
   done = λ ahead taken given pulls done. (done, refl);
+  sound = sound;
 }
 
 pub moves_then : (x y z : SourceEnd) (a b c : Runner) (G H K : Run → Run → Type 0) → ((r s t : Run) → G r s → H s t → K r t)
@@ -31,6 +33,7 @@ moves_then x y z a b c G H K both g h = record {
       let k = g.done ahead taken given pulls done in
       let e = h.done ahead (taken ++ g.draws.carries.more) (given ++ g.packets) (g.draws.carries.pulls ahead taken given pulls) k.0 in
       (e.0, rw (k.1, e.1) refl);
+  sound = h.sound;
 }
 
 pub moves_by : (x y : SourceEnd) (a b : Runner) (G K : Run → Run → Type 0) → ((r s : Run) → G r s → K r s) → Moves x y a b G → Moves x y a b K
@@ -39,16 +42,21 @@ moves_by x y a b G K so g = record {
   draws = g.draws;
   at = λ ahead taken given later r pulls stops at left. let k = g.at ahead taken given later r pulls stops at left in (k.0, so r k.0 k.1, k.2, k.3);
   done = g.done;
+  sound = g.sound;
 }
 
 -- the feeder may have its next turn
-pub ready_on : (batch : ℕ) (x y : SourceEnd) (a b : Runner) (G : Run → Run → Type 0) → Moves x y a b G → IsReady batch x a → IsSound b → IsReady batch y b
-ready_on batch x y a b G moves ready sound = record {
+pub ready_on : (batch : ℕ) (x y : SourceEnd) (a b : Runner) (G : Run → Run → Type 0) → Moves x y a b G → IsReady batch x a → IsReady batch y b
+ready_on batch x y a b G moves ready = record {
   some = ready.some;
   few = ready.few;
   faults = still_counts a.puller.reading b.puller.reading x y moves.draws.follows ready.faults;
-  sound = sound;
+  sound = moves.sound;
 }
+
+-- what was drawn before and now
+pub drawn_then : {T E : Type 0} (x y z : SourceEnd) (a b : Runner) (c : Pulling) (G : Run → Run → Type 0) (r : Result T E) → Moves x y a b G → HasDrawn y z b.puller c → OnErr r (HasDrawn x z a.puller c)
+drawn_then x y z a b c G r moves d = on_err r (HasDrawn x z a.puller c) (_, draws_then x y z a.puller b.puller c moves.packets d.0 moves.draws d.1)
 
 -- what is so of an error
 pub err_and : {T E : Type 0} (r : Result T E) (P : E → Type 0) (e : E) → r ≡ Err e → IsErrAnd r P → P e

@@ -95,7 +95,7 @@ module _ (lines : List Line) (batch : ℕ) where
             (command_through c before more line (record { line = line; target = target; verb = verb }) (replies_of c d.0) refl all none (through_worked c before who line r d.0 d.1 (is c)))
 
   -- At the end no client has a next call.
-  pub none_stands : (packets : List (List ℕ)) (r : Run) → AreDone lines batch lines (begun packets) r → (client : ℕ) → next_event client lines (replies_of client (finished lines batch r)) ≡ None
+  pub none_stands : (packets : List (List ℕ)) (r : Run) → AreDone lines batch lines (begun packets) r → (client : ℕ) → next_event client lines (replies_of client (finished batch r)) ≡ None
   none_stands packets r d client =
-      let same : (finished lines batch r).replies ≡ r.replies = finished_replies batch r in
+      let same : (finished batch r).replies ≡ r.replies = finished_replies batch r in
       subst (λ rs. next_event client lines (slice_index_or rs client []) ≡ None) (sym same) (none_next client lines (replies_of client r) (all_through [] lines (begun packets) r refl d (λ c. refl) client))

@@ -4,8 +4,7 @@ ghost use Rattle.dmx_calls.specs.declared.limits.TheConstants.{DEMUX_NODES as no
 ghost use Rattle.client_script.specs.declared.line.Line.{Line as ScriptLine};
 ghost use Rattle.client_core.specs.Commands.{IsWantInRange};
 ghost use Rattle.client_core.specs.Inside.Core.{IsAfter};
-ghost use Rattle.serial_core.specs.Inside.Moving.{ComesBy, MadeAtMost, IsDoneBy, IsReady, IsSound, Moves};
-ghost use Rattle.feed_pull.specs.Streams.{Draws};
+ghost use Rattle.serial_core.specs.Inside.Moving.{ComesBy, HasDrawn, MadeAtMost, IsDoneBy, IsReady, Moves};
 ghost use Rattle.serial_core.specs.SerialRun.{after_waiting, called, replies_of, reply_to};
 
 use crate::runner::Runner;
@@ -28,8 +27,7 @@ impl Runner {
         requires made { MadeAtMost self.old 8796093022208 }
         ensures moves { OnOk result (Moves (S.end source.old) (S.end source.new) self.old self.new
             (λ r s. (client : ℕ) (lines : List ScriptLine) → IsAfter client lines (replies_of client r) core.now → s ≡ after_waiting lines batch client r)) }
-        ensures draws { OnErr result ((packets : List (List ℕ)) × Draws (S.end source.old) (S.end source.new) self.old.puller self.new.puller packets) }
-        ensures sound { OnOk result (IsSound self.new) }
+        ensures draws { OnErr result (HasDrawn (S.end source.old) (S.end source.new) self.old.puller self.new.puller) }
         ensures moment { OnOk result (self.new.moment ≡ self.old.moment) }
         ensures made { OnOk result ((calls : ℕ) → MadeAtMost self.old calls → MadeAtMost self.new calls) }
     {
@@ -59,8 +57,7 @@ impl Runner {
         ensures moves { OnOk result (Moves (S.end source.old) (S.end source.new) self.old self.new
             (λ r s. (lines : List ScriptLine) → IsAfter client lines (replies_of client r) core.old → (s ≡ called client event (after_waiting lines batch client r))
             × IsAfter client lines (replies_of client r ++ reply_to client event (after_waiting lines batch client r) ∷ []) core.new)) }
-        ensures draws { OnErr result ((packets : List (List ℕ)) × Draws (S.end source.old) (S.end source.new) self.old.puller self.new.puller packets) }
-        ensures sound { OnOk result (IsSound self.new) }
+        ensures draws { OnErr result (HasDrawn (S.end source.old) (S.end source.new) self.old.puller self.new.puller) }
         ensures moment { OnOk result (self.new.moment ≡ self.old.moment) }
         ensures made { OnOk result ((calls : ℕ) → MadeAtMost self.old calls → MadeAtMost self.new (calls + 1)) }
         ensures step { OnOk result (core.new.step ≡ core.old.step + 1) }
@@ -85,10 +82,9 @@ impl Runner {
         requires client { client < 8 }
         requires calls { core.old.step ≤ 549755813888 }
         ensures moves { OnOk result (Moves (S.end source.old) (S.end source.new) self.old self.new (IsDoneBy batch client line core.old core.new)) }
-        ensures draws { OnErr result ((packets : List (List ℕ)) × Draws (S.end source.old) (S.end source.new) self.old.puller self.new.puller packets) }
+        ensures draws { OnErr result (HasDrawn (S.end source.old) (S.end source.new) self.old.puller self.new.puller) }
         ensures too_long { (turns : ℕ) → IsErrOf result (Stop.TooLong turns) → (turns ≡ 549755813888) × (549755813888 ≤ core.new.step)
             × Moves (S.end source.old) (S.end source.new) self.old self.new (ComesBy batch client line core.old core.new) }
-        ensures sound { OnOk result (IsSound self.new) }
         ensures moment { OnOk result (self.new.moment ≡ self.old.moment) }
         ensures made { OnOk result ((calls : ℕ) → MadeAtMost self.old (core.old.step + calls) → MadeAtMost self.new (core.new.step + calls)) }
         ensures calls { OnOk result (core.new.step ≤ 549755813888) }

@@ -3,8 +3,7 @@ ghost use Rattle.std.specs.Prelude.{◌≡◌, true, ℕ, ◌+◌, ◌*◌, ◌-
 ghost use Rattle.client_script.specs.Script.{clients_of};
 ghost use Rattle.client_script.specs.declared.line.Line.{Line as ScriptLine};
 ghost use Rattle.serial_core.specs.Inside.Lines.{AreAfter, AreInBudget, IsFrontBy, IsLineBy, IsWholeBy, MayBegin, Overruns, OverrunsBy, calls_by};
-ghost use Rattle.serial_core.specs.Inside.Moving.{MadeAtMost, IsReady, IsSound, Moves};
-ghost use Rattle.feed_pull.specs.Streams.{Draws};
+ghost use Rattle.serial_core.specs.Inside.Moving.{HasDrawn, MadeAtMost, IsReady, Moves};
 
 use crate::runner::Runner;
 use client_core::{ClientCore, Stop};
@@ -30,10 +29,9 @@ impl Runner {
         requires client { clients_of asked ≤ length cores.old }
         requires calls { AreInBudget cores.old }
         ensures moves { OnOk result (Moves (S.end source.old) (S.end source.new) self.old self.new (IsLineBy batch asked cores.old cores.new)) }
-        ensures draws { OnErr result ((packets : List (List ℕ)) × Draws (S.end source.old) (S.end source.new) self.old.puller self.new.puller packets) }
+        ensures draws { OnErr result (HasDrawn (S.end source.old) (S.end source.new) self.old.puller self.new.puller) }
         ensures too_long { (turns : ℕ) → IsErrOf result (Stop.TooLong turns) → (turns ≡ 549755813888)
             × Moves (S.end source.old) (S.end source.new) self.old self.new (OverrunsBy cores.old) }
-        ensures sound { OnOk result (IsSound self.new) }
         ensures made { OnOk result (MadeAtMost self.new (calls_by cores.new)) }
         ensures calls { OnOk result (AreInBudget cores.new) }
         ensures moment { OnOk result (self.new.moment ≤ self.old.moment + 2 ^ 32) }
@@ -67,10 +65,9 @@ impl Runner {
         requires ready { IsReady batch (S.end source.old) self.old }
         requires begins { MayBegin lines.now cores.old self.old }
         ensures moves { OnOk result (Moves (S.end source.old) (S.end source.new) self.old self.new (IsFrontBy batch lines.now (length lines.now) cores.old cores.new)) }
-        ensures draws { OnErr result ((packets : List (List ℕ)) × Draws (S.end source.old) (S.end source.new) self.old.puller self.new.puller packets) }
+        ensures draws { OnErr result (HasDrawn (S.end source.old) (S.end source.new) self.old.puller self.new.puller) }
         ensures too_long { (turns : ℕ) → IsErrOf result (Stop.TooLong turns) → (turns ≡ 549755813888)
             × Moves (S.end source.old) (S.end source.new) self.old self.new (λ r s. length r.replies ≡ 8 → AreAfter lines.now r cores.old → Overruns lines.now r s) }
-        ensures sound { OnOk result (IsSound self.new) }
         ensures made { OnOk result (MadeAtMost self.new 4398046511104) }
     {
         'lines: for line in lines {
@@ -91,10 +88,9 @@ impl Runner {
         requires ready { IsReady batch (S.end source.old) self.old }
         requires begins { MayBegin lines.now cores.old self.old }
         ensures moves { OnOk result (Moves (S.end source.old) (S.end source.new) self.old self.new (IsWholeBy batch lines.now cores.old cores.new)) }
-        ensures draws { OnErr result ((packets : List (List ℕ)) × Draws (S.end source.old) (S.end source.new) self.old.puller self.new.puller packets) }
+        ensures draws { OnErr result (HasDrawn (S.end source.old) (S.end source.new) self.old.puller self.new.puller) }
         ensures too_long { (turns : ℕ) → IsErrOf result (Stop.TooLong turns) → (turns ≡ 549755813888)
             × Moves (S.end source.old) (S.end source.new) self.old self.new (λ r s. length r.replies ≡ 8 → AreAfter lines.now r cores.old → Overruns lines.now r s) }
-        ensures sound { OnOk result (IsSound self.new) }
         ensures ended { OnOk result (self.new.nodes.has_ended ≡ true) }
     {
         self.lines(source, batch, cores, lines, steps)?;

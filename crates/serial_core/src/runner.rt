@@ -1,9 +1,7 @@
 // A run on its way: the nodes, the stream, and the moment.
 ghost use Rattle.std.specs.Prelude.{◌≡◌, true, ℕ, ◌+◌, ◌-◌, ◌<◌, ◌≤◌, ◌^◌, ◌≢◌, List, [], length, min, IfOk, OnOk, OnErr};
-ghost use Rattle.client_script.specs.declared.line.Line.{Line as ScriptLine};
 ghost use Rattle.serial_core.specs.SerialRun.{Run, fed, finished, ticked, turned};
-ghost use Rattle.serial_core.specs.Inside.Moving.{MadeAtMost, IsAt, IsReady, IsSound, Moves};
-ghost use Rattle.feed_pull.specs.Streams.{Draws};
+ghost use Rattle.serial_core.specs.Inside.Moving.{HasDrawn, MadeAtMost, IsAt, IsReady, IsSound, Moves};
 
 use crate::nodes::Nodes;
 use emu_io::Source;
@@ -33,8 +31,7 @@ impl Runner {
         requires made { MadeAtMost self.old 8796093022208 }
         ensures moves { IfOk result (λ n. Moves (S.end source.old) (S.end source.new) self.old self.new
             (λ r s. (s ≡ turned most r) × (n ≡ min most (length r.left)))) }
-        ensures draws { OnErr result ((packets : List (List ℕ)) × Draws (S.end source.old) (S.end source.new) self.old.puller self.new.puller packets) }
-        ensures sound { OnOk result (IsSound self.new) }
+        ensures draws { OnErr result (HasDrawn (S.end source.old) (S.end source.new) self.old.puller self.new.puller) }
         ensures made { OnOk result ((calls : ℕ) → MadeAtMost self.old calls → MadeAtMost self.new calls) }
         ensures moment { OnOk result (self.new.moment ≡ self.old.moment) }
         ensures over { IfOk result (λ n. n ≡ 0 → self.new.nodes.has_ended ≡ true) }
@@ -67,8 +64,7 @@ impl Runner {
         requires ready { IsReady batch (S.end source.old) self.old }
         requires made { MadeAtMost self.old 8796093022208 }
         ensures moves { OnOk result (Moves (S.end source.old) (S.end source.new) self.old self.new (λ r s. s ≡ fed batch count r)) }
-        ensures draws { OnErr result ((packets : List (List ℕ)) × Draws (S.end source.old) (S.end source.new) self.old.puller self.new.puller packets) }
-        ensures sound { OnOk result (IsSound self.new) }
+        ensures draws { OnErr result (HasDrawn (S.end source.old) (S.end source.new) self.old.puller self.new.puller) }
         ensures made { OnOk result ((calls : ℕ) → MadeAtMost self.old calls → MadeAtMost self.new calls) }
         ensures moment { OnOk result (self.new.moment ≡ self.old.moment) }
     {
@@ -92,9 +88,8 @@ impl Runner {
     ) -> Result<(), NoMemory>
         requires ready { IsReady batch (S.end source.old) self.old }
         requires made { MadeAtMost self.old 8796093022208 }
-        ensures moves { OnOk result (Moves (S.end source.old) (S.end source.new) self.old self.new (λ r s. (lines : List ScriptLine) → s ≡ finished lines batch r)) }
-        ensures draws { OnErr result ((packets : List (List ℕ)) × Draws (S.end source.old) (S.end source.new) self.old.puller self.new.puller packets) }
-        ensures sound { OnOk result (IsSound self.new) }
+        ensures moves { OnOk result (Moves (S.end source.old) (S.end source.new) self.old self.new (λ r s. s ≡ finished batch r)) }
+        ensures draws { OnErr result (HasDrawn (S.end source.old) (S.end source.new) self.old.puller self.new.puller) }
         ensures ended { OnOk result (self.new.nodes.has_ended ≡ true) }
     {
         'turns: while self.turn(source, batch, steps)? > 0 {}

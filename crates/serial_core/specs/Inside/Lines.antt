@@ -63,7 +63,7 @@ OverrunsBy old r s = (lines : List Line) → length r.replies ≡ 8 → AreAfter
 pub record IsWhole (lines : List Line) (batch : ℕ) (r s : Run) (cores : List Core) : Type 0 where
   pub before : Run
   pub done : AreDone lines batch lines r before
-  pub ends : s ≡ finished lines batch before
+  pub ends : s ≡ finished batch before
   pub after : AreAfter lines s cores
 
 abbrev pub IsWholeBy : (batch : ℕ) (lines : List Line) (old new : List Core) → Run → Run → Type 0

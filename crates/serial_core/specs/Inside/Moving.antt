@@ -5,7 +5,7 @@ use Rattle.client_script.specs.declared.line.Line.{Line}
 use Rattle.client_core.specs.Inside.Core.{Core, IsAfter}
 use Rattle.client_core.specs.Events.{next_of_line}
 use Rattle.feed_pull.specs.declared.fault.Reading.TheVariants.{Going}
-use Rattle.feed_pull.specs.Pulling.{Pulls, IsDone}
+use Rattle.feed_pull.specs.Pulling.{Pulling, Pulls, IsDone}
 use Rattle.feed_pull.specs.Streams.{Draws}
 use Rattle.serial_core.specs.declared.runner.Runner.{Runner}
 use Rattle.serial_core.specs.SerialRun.{Run, replies_of, IsWorked}
@@ -17,17 +17,6 @@ pub record IsAt (v : Runner) (r : Run) : Type 0 where
   pub nodes : IsNodes v.nodes r
   pub first : v.puller.given ≡ r.first
   pub moment : v.moment ≡ r.moment
-
--- The code and the run go on together: the packets that were pulled are those that the run has in front, whatever comes
--- behind them. Behind the last packet of a puller that is done comes nothing.
-pub record Moves (before after : SourceEnd) (old new : Runner) (goes : Run → Run → Type 0) : Type 0 where
-  pub packets : List (List ℕ)
-  pub draws : Draws before after old.puller new.puller packets
-  pub at : (ahead taken : List ℕ) (given later : List (List ℕ)) (r : Run) → Pulls ahead taken given old.puller
-      → (IsDone new.puller → later ≡ [])
-      → IsAt old r → r.left ≡ packets ++ later → (s : Run) × goes r s × IsAt new s × (s.left ≡ later)
-  pub done : (ahead taken : List ℕ) (given : List (List ℕ)) → Pulls ahead taken given old.puller → IsDone old.puller
-      → IsDone new.puller × (packets ≡ [])
 
 -- ------ numbers
 
@@ -41,6 +30,24 @@ pub record IsSound (v : Runner) : Type 0 where
   pub ended : v.nodes.has_ended ≡ true → IsDone v.puller
   pub counted : AreCounted v.nodes
   pub given : v.puller.given ≤ 2199023255552
+
+-- ------ going on
+
+-- The code and the run go on together: the packets that were pulled are those that the run has in front, whatever comes
+-- behind them. Behind the last packet of a puller that is done comes nothing, and the numbers are sound.
+pub record Moves (before after : SourceEnd) (old new : Runner) (goes : Run → Run → Type 0) : Type 0 where
+  pub packets : List (List ℕ)
+  pub draws : Draws before after old.puller new.puller packets
+  pub at : (ahead taken : List ℕ) (given later : List (List ℕ)) (r : Run) → Pulls ahead taken given old.puller
+      → (IsDone new.puller → later ≡ [])
+      → IsAt old r → r.left ≡ packets ++ later → (s : Run) × goes r s × IsAt new s × (s.left ≡ later)
+  pub done : (ahead taken : List ℕ) (given : List (List ℕ)) → Pulls ahead taken given old.puller → IsDone old.puller
+      → IsDone new.puller × (packets ≡ [])
+  pub sound : IsSound new
+
+-- what stops on its way has given so many packets, with the bytes that the source gave for them
+abbrev pub HasDrawn : (before after : SourceEnd) → (old new : Pulling) → Type 0
+HasDrawn before after old new = (packets : List (List ℕ)) × Draws before after old new packets
 
 -- What holds whenever the feeder may have a turn: a batch has 1 to 64 packets, the source may be read where reading goes
 -- on, and the numbers are sound.

@@ -20,7 +20,7 @@ use Rattle.serial_core.proofs.run.run_over.Goals as goal
 pub returns-in-Ok-clause-ran : goal.returns-in-Ok-clause-ran
 returns-in-Ok-clause-ran g c =
     let w = c.in-Ok.ensures in
-    let done = w.sound.ended w.ended in
+    let done = w.moves.sound.ended w.ended in
     ok_by c.ran_of.result _ _ _ _
     (λ (ran : Ran) (a : (r : Run) → IsNodes c.whole.new.self.nodes r → AreLegal r → ran.histories ≡ histories_in r)
     (b : (ls : List Line) (r : Run) → AreAfter ls r c.whole.new.cores → map (λ those. those.items) ran.outcomes.items ≡ map (λ client. outcomes client ls (replies_of client r)) (range_with_len 0 (length c.whole.new.cores)))
@@ -39,7 +39,7 @@ returns-in-Ok-clause-rose g c =
 pub returns-in-Ok-clause-end : goal.returns-in-Ok-clause-end
 returns-in-Ok-clause-end g c =
     let w = c.in-Ok.ensures in
-    let done = w.sound.ended w.ended in
+    let done = w.moves.sound.ended w.ended in
     ok_by c.ran_of.result _ _ _ _
     (λ (ran : Ran) (a : ran.head.read_fault ≡ has_failed c.whole.new.self.puller.reading) (b : c.whole.new.self.puller.reading ≢ TooMany) (h : c.whole.new.self.puller.reading ≢ TooMany).
     end_by ran.head.read_fault c.args.runner.puller.reading c.whole.new.self.puller.reading _ _ w.moves.draws.follows c.requires.going a done.stopped b)

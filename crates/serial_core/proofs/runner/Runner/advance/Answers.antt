@@ -22,12 +22,12 @@ returns-clause-moves g c =
     let w = a client lines after in
     (b.0 ∙ ap (called client e) w, subst (λ x. IsAfter client lines (replies_of client r ++ reply_to client e x ∷ []) new) w (b.1 lines (replies_of client r) after)))
     c.in_ok-wait.ensures.moves
-    (moves_called _ c.wait.new.self c.call.new.self client e P k.at (λ r moment at lines replies after. k.core r lines replies moment at after))
+    (moves_called _ c.wait.new.self c.call.new.self client e P c.in_ok-wait.ensures.moves.sound k.counted k.same k.at (λ r moment at lines replies after. k.core r lines replies moment at after))
 
 pub call-requires-clause-few : goal.call-requires-clause-few
 call-requires-clause-few g c =
     let m = c.in_ok-wait.ensures.made 8796093022208 c.requires.made in
-    let given = c.in_ok-wait.ensures.sound.given in
+    let given = c.in_ok-wait.ensures.moves.sound.given in
     omega (arith, m, given, one_if_small c.wait.new.self.nodes.has_ended)
 
 pub returns-clause-made : goal.returns-clause-made

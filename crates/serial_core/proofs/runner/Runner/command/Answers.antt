@@ -3,16 +3,13 @@ use Rattle.client_script.specs.declared.line.Line.{Line}
 use Rattle.client_core.specs.Inside.Core.{IsAfter}
 use Rattle.serial_core.specs.SerialRun.{Run, called, replies_of, reply_to, after_waiting}
 use Rattle.serial_core.specs.Inside.Moving.{ComesBy}
-use Rattle.feed_pull.proofs.Drawing.{draws_then}
-use Rattle.feed_pull.proofs.Stopping.{on_err}
-use Rattle.serial_core.proofs.Moving.{moves_none, moves_then, moves_by, ready_on}
+use Rattle.serial_core.proofs.Moving.{drawn_then, moves_none, moves_then, moves_by, ready_on}
 use Rattle.serial_core.proofs.Commanding.{comes_none, comes_on, none_by}
 use Rattle.serial_core.proofs.runner.Runner.command.Goals as goal
 
 pub calls-init : goal.calls-init
 calls-init g c = record {
-  moves = moves_none _ c.args.self.now _ (λ r lines clients after. comes_none lines c.args.batch c.args.client c.args.line r c.args.core.now clients after);
-  sound = c.requires.ready.sound;
+  moves = moves_none _ c.args.self.now _ c.requires.ready.sound (λ r lines clients after. comes_none lines c.args.batch c.args.client c.args.line r c.args.core.now clients after);
   moment = refl;
   made = λ calls made. made;
   few = c.requires.calls;
@@ -36,7 +33,6 @@ calls-preserved g c =
           let n = b lines come.after in
           comes_on lines batch client line r s t core next e c.requires.ready.some c.requires.client come (sym (c.next_at.ensures.tied client lines _ come.after) ∙ c.in-Some.is) n.0 n.1)
           c.calls.invariant.moves k.moves;
-      sound = k.sound;
       moment = k.moment ∙ c.calls.invariant.moment;
       made = λ calls made. let m = k.made (core.step + calls) (c.calls.invariant.made calls made) in omega (arith, m, k.step);
       few = omega (arith, k.step, c.if-steps-ge-MOST_CALLS.false, c.steps.ensures);
@@ -46,7 +42,7 @@ pub advance-requires-clause-made : goal.advance-requires-clause-made
 advance-requires-clause-made g c = let m = c.calls.invariant.made 4398046511104 c.requires.made in omega (arith, m, c.calls.invariant.few)
 
 pub advance-requires-clause-ready : goal.advance-requires-clause-ready
-advance-requires-clause-ready g c = ready_on _ _ _ _ _ _ c.calls.invariant.moves c.requires.ready c.calls.invariant.sound
+advance-requires-clause-ready g c = ready_on _ _ _ _ _ _ c.calls.invariant.moves c.requires.ready
 
 pub returns-clause-moves : goal.returns-clause-moves
 returns-clause-moves g c =
@@ -58,7 +54,4 @@ returns-clause-moves g c =
     c.calls.invariant.moves
 
 pub returns-in_err-advance-clause-draws : goal.returns-in_err-advance-clause-draws
-returns-in_err-advance-clause-draws g c =
-    let m = c.calls.invariant.moves in
-    let d = c.in_err-advance.ensures.draws in
-    on_err c.from_residual.result _ (_, draws_then _ _ _ _ _ _ _ _ m.draws d.1)
+returns-in_err-advance-clause-draws g c = drawn_then _ _ _ _ _ _ _ c.from_residual.result c.calls.invariant.moves c.in_err-advance.ensures.draws

@@ -1,11 +1,10 @@
 use Rattle.std.proofs.Common.{◌≡◌, ℕ, ◌+◌, ◌-◌, ◌≤◌}
-use Rattle.serial_core.specs.Inside.Moving.{Moves, IsSound, MadeAtMost, ComesBy}
+use Rattle.serial_core.specs.Inside.Moving.{Moves, MadeAtMost, ComesBy}
 use Rattle.serial_core.proofs.runner.Runner.command.Given as goal
 
 abbrev pub invariant-calls : goal.invariant-calls
 invariant-calls g l = record {
   moves : Moves (g.S.Source.end l.initial.source) (g.S.Source.end l.source) l.initial.self l.self (ComesBy l.batch l.client l.line l.initial.core l.core);
-  sound : IsSound l.self;
   moment : l.self.moment ≡ l.initial.self.moment;
   made : (calls : ℕ) → MadeAtMost l.initial.self (l.initial.core.step + calls) → MadeAtMost l.self (l.core.step + calls);
   few : l.core.step ≤ 549755813888;

@@ -1,13 +1,11 @@
 use Rattle.std.proofs.Common.{◌≡◌, refl, sym, ap, ◌∙◌, ◌-◌, ◌<◌, min, length, arith}
 use Rattle.serial_core.specs.SerialRun.{Run, fed, turned}
-use Rattle.feed_pull.proofs.Drawing.{draws_then}
-use Rattle.feed_pull.proofs.Stopping.{on_err}
-use Rattle.serial_core.proofs.Moving.{moves_none, moves_then, moves_by, ready_on}
+use Rattle.serial_core.proofs.Moving.{drawn_then, moves_none, moves_then, moves_by, ready_on}
 use Rattle.serial_core.proofs.Batches.{fed_none, fed_end, fed_step}
 use Rattle.serial_core.proofs.runner.Runner.feed.Goals as goal
 
 pub turns-init : goal.turns-init
-turns-init g c = record { moves = moves_none _ c.args.self.now _ (λ r. refl); sound = c.requires.ready.sound; moment = refl; made = λ calls made. made }
+turns-init g c = record { moves = moves_none _ c.args.self.now _ c.requires.ready.sound (λ r. refl); moment = refl; made = λ calls made. made }
 
 pub turn-requires-clause-made : goal.turn-requires-clause-made
 turn-requires-clause-made g c = c.turns.invariant.made 8796093022208 c.requires.made
@@ -16,7 +14,7 @@ pub turn-requires-clause-ready : goal.turn-requires-clause-ready
 turn-requires-clause-ready g c =
     let size : c.min.result ≡ min c.turns.left c.args.batch = c.min.ensures in
     let more : 0 < c.turns.left = omega arith in
-    let ready = ready_on _ _ _ _ _ _ c.turns.invariant.moves c.requires.ready c.turns.invariant.sound in
+    let ready = ready_on _ _ _ _ _ _ c.turns.invariant.moves c.requires.ready in
     record {
       some = omega (arith, size, more, c.requires.ready.some);
       few = omega (arith, size, c.requires.ready.few);
@@ -25,10 +23,7 @@ turn-requires-clause-ready g c =
     }
 
 pub returns-in_err-passed-clause-draws : goal.returns-in_err-passed-clause-draws
-returns-in_err-passed-clause-draws g c =
-    let m = c.turns.invariant.moves in
-    let d = c.in_err-passed.ensures.draws in
-    on_err c.from_residual.result _ (_, draws_then _ _ _ _ _ _ _ _ m.draws d.1)
+returns-in_err-passed-clause-draws g c = drawn_then _ _ _ _ _ _ _ c.from_residual.result c.turns.invariant.moves c.in_err-passed.ensures.draws
 
 pub returns-then-passed-eq0-clause-moves : goal.returns-then-passed-eq0-clause-moves
 returns-then-passed-eq0-clause-moves g c =
@@ -60,7 +55,6 @@ turns-preserved g c =
           a ∙ (fed_step batch left n s (omega (arith, c.requires.ready.some)) more (b.1 ∙ ap (λ m. min m (length s.left)) q) (omega arith)
           ∙ ap (fed batch (left - n)) (ap (λ m. turned m s) (sym q) ∙ sym b.0)))
           c.turns.invariant.moves c.in_ok-passed.ensures.moves;
-      sound = c.in_ok-passed.ensures.sound;
       moment = c.in_ok-passed.ensures.moment ∙ c.turns.invariant.moment;
       made = λ calls made. c.in_ok-passed.ensures.made calls (c.turns.invariant.made calls made);
     }

@@ -1,12 +1,11 @@
 use Rattle.std.proofs.Common.{◌≡◌, ℕ}
 use Rattle.serial_core.specs.SerialRun.{fed}
-use Rattle.serial_core.specs.Inside.Moving.{Moves, IsSound, MadeAtMost}
+use Rattle.serial_core.specs.Inside.Moving.{Moves, MadeAtMost}
 use Rattle.serial_core.proofs.runner.Runner.feed.Given as goal
 
 abbrev pub invariant-turns : goal.invariant-turns
 invariant-turns g l = record {
   moves : Moves (g.S.Source.end l.initial.source) (g.S.Source.end l.source) l.initial.self l.self (λ r s. fed l.batch l.count r ≡ fed l.batch l.left s);
-  sound : IsSound l.self;
   moment : l.self.moment ≡ l.initial.self.moment;
   made : (calls : ℕ) → MadeAtMost l.initial.self calls → MadeAtMost l.self calls;
 }

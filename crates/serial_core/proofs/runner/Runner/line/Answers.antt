@@ -31,7 +31,7 @@ returns-in_ok-feed-in-Feed-clause-made g c = c.in_ok-feed-in-Feed.ensures.made (
 
 pub returns-in-Tick-clause-moves : goal.returns-in-Tick-clause-moves
 returns-in-Tick-clause-moves g c =
-    rw c.in-Tick.is (moves_ticked _ c.in-Tick.time c.args.self.now c.tick.new.self _ c.tick.ensures.puller c.tick.ensures.at (λ r. tick_done c.args.batch c.in-Tick.time c.args.cores.now r))
+    rw c.in-Tick.is (moves_ticked _ c.in-Tick.time c.args.self.now c.tick.new.self _ (c.tick.ensures.sound c.requires.ready.sound) c.tick.ensures.puller c.tick.ensures.at (λ r. tick_done c.args.batch c.in-Tick.time c.args.cores.now r))
 
 pub returns-in-Tick-clause-made : goal.returns-in-Tick-clause-made
 returns-in-Tick-clause-made g c = c.tick.ensures.made (calls_by c.args.cores.now) c.requires.made

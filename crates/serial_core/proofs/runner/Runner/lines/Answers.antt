@@ -4,16 +4,13 @@ use Rattle.client_script.specs.declared.line.Line.TheVariants.{Feed}
 use Rattle.client_core.specs.declared.stop.Stop.TheVariants.{TooLong}
 use Rattle.serial_core.specs.SerialRun.{Run}
 use Rattle.serial_core.specs.Inside.Lines.{IsFrontBy, IsLineBy, OverrunsBy}
-use Rattle.feed_pull.proofs.Drawing.{draws_then}
-use Rattle.feed_pull.proofs.Stopping.{on_err}
-use Rattle.serial_core.proofs.Moving.{moves_none, moves_then, err_and, ready_on}
+use Rattle.serial_core.proofs.Moving.{drawn_then, moves_none, moves_then, err_and, ready_on}
 use Rattle.serial_core.proofs.Lining.{front_more, front_none, front_overruns, calls_most}
 use Rattle.serial_core.proofs.runner.Runner.lines.Goals as goal
 
 pub lines-init : goal.lines-init
 lines-init g c = record {
-  moves = moves_none _ c.args.self.now _ (λ r. front_none c.args.batch c.args.lines.now c.args.cores.now r);
-  sound = c.requires.ready.sound;
+  moves = moves_none _ c.args.self.now _ c.requires.ready.sound (λ r. front_none c.args.batch c.args.lines.now c.args.cores.now r);
   made = c.requires.begins.made;
   calls = c.requires.begins.calls;
   moment = omega (arith, c.requires.begins.moment);
@@ -21,13 +18,10 @@ lines-init g c = record {
 }
 
 pub line-requires-clause-ready : goal.line-requires-clause-ready
-line-requires-clause-ready g c = ready_on _ _ _ _ _ _ c.lines.invariant.moves c.requires.ready c.lines.invariant.sound
+line-requires-clause-ready g c = ready_on _ _ _ _ _ _ c.lines.invariant.moves c.requires.ready
 
 pub returns-in_err-line-clause-draws : goal.returns-in_err-line-clause-draws
-returns-in_err-line-clause-draws g c =
-    let m = c.lines.invariant.moves in
-    let d = c.in_err-line.ensures.draws in
-    on_err c.from_residual.result _ (_, draws_then _ _ _ _ _ _ _ _ m.draws d.1)
+returns-in_err-line-clause-draws g c = drawn_then _ _ _ _ _ _ _ c.from_residual.result c.lines.invariant.moves c.in_err-line.ensures.draws
 
 pub returns-in_err-line-clause-too_long : goal.returns-in_err-line-clause-too_long
 returns-in_err-line-clause-too_long g c turns is =
@@ -52,7 +46,6 @@ lines-preserved g c =
           (λ (r s t : Run) (a : IsFrontBy c.args.batch lines i c.args.cores.now c.lines.cores r s) (b : IsLineBy c.args.batch _ c.lines.cores c.line.new.cores s t).
           front_more c.args.batch i lines (drop (i + 1) lines) _ c.args.cores.now c.lines.cores c.line.new.cores r s t here refl a b)
           c.lines.invariant.moves k.moves;
-      sound = k.sound;
       made = k.made;
       calls = k.calls;
       moment = omega (arith, k.moment, c.lines.invariant.moment);

@@ -1,4 +1,4 @@
-use Rattle.std.proofs.Common.{◌≡◌, refl, ap, ◌∙◌, [], length, arith}
+use Rattle.std.proofs.Common.{◌≡◌, refl, sym, true, false, ap, ◌∙◌, [], length, arith}
 use Rattle.ts_batch.specs.Batch.{Packets}
 use Rattle.feed_pull.proofs.Drawing.{draws_none, none_given}
 use Rattle.serial_core.proofs.Turning.{turn_over, turn_passed}
@@ -10,6 +10,7 @@ returns-then-self-clause-moves g c = record {
   draws = draws_none _ c.args.self.now.puller;
   at = λ ahead taken given later r pulls stops at left. turn_over c.args.self.now c.args.most later r c.if-self.true (c.requires.ready.sound.ended c.if-self.true) stops at left;
   done = λ ahead taken given pulls done. (done, refl);
+  sound = c.requires.ready.sound;
 }
 
 pub returns-in_ok-pass-in-Some-clause-moves : goal.returns-in_ok-pass-in-Some-clause-moves
@@ -31,4 +32,9 @@ returns-in_ok-pass-in-Some-clause-moves g c =
       done = λ ahead taken before pulls done.
           let none = none_given _ _ old.puller c.pull.new.self ps stream c.in_ok-batch.ensures.stopped done ahead taken before pulls in
           absurd (let long : length ps ≡ 0 = ap length none in omega (arith, some, long));
+      sound = record {
+        ended = λ is. absurd (let e : true ≡ false = sym is ∙ c.in_ok-pass-in-Some.ensures.open in cc);
+        counted = c.in_ok-pass-in-Some.ensures.counted;
+        given = omega (arith, c.in_ok-batch.ensures.numbers, c.in_ok-batch.ensures.bytes);
+      };
     }

@@ -16,5 +16,5 @@ returns-in_ok-turn-clause-moves g c =
 
 pub returns-else-is_some-clause-moves : goal.returns-else-is_some-clause-moves
 returns-else-is_some-clause-moves g c =
-    moves_none _ c.args.self.now _
+    moves_none _ c.args.self.now _ c.requires.ready.sound
     (λ r client lines after. wait_none lines c.args.batch client r (ap is_some (sym (c.waits.ensures.tied client lines (replies_of client r) after)) ∙ (sym c.is_some.ensures ∙ c.if-is_some.false)))
