@@ -18,7 +18,7 @@
 //! for by these bytes, of which a node answers no more than it was brought; and one that follows Again by the entry right behind
 //! the read, which is the feeder's, or a call by which no other client repeats a read.
 //!
-//! What is only tested: nothing. The tests of the two runs are in `run_tests`.
+//! No code of the crate runs, so nothing of it is tested.
 #![tactic(auto)]
 
 mod laws;
