@@ -1,13 +1,14 @@
--- What a report says of a stream before it tells any call.
+-- The head of a stream: its numbers, and the rows of its PIDs.
 use Rattle.std.specs.Prelude.{ℕ, Bool, List, [], ◌∷◌, ◌++◌, length, nat_lt, if◌then◌else◌}
 use Rattle.std.proofs.Common.{zero, suc}
 use Rattle.ts_packet.specs.Cut.{Cut, cut}
 use Rattle.ts_packet.specs.Counts.{counts}
 use Rattle.ts_packet.specs.declared.cutter.Tally.{Tally}
-use Rattle.dmx_calls.specs.declared.head.Head.{Head}
-use Rattle.dmx_calls.specs.declared.head.PidRow.{PidRow}
+use Rattle.ts_watch.specs.declared.head.Head.{Head}
+use Rattle.ts_watch.specs.declared.seen.PidRow.{PidRow}
+use Rattle.ts_watch.specs.Watching.{row_of}
 
--- what the head of a report says of the stream
+-- what the head says of the stream
 pub record StreamHead : Type 0 where
   -- how many packets, bytes between them and bytes behind them there are
   pub tally : Tally
@@ -24,20 +25,11 @@ told_head head = record { tally = head.tally; rows = head.rows.items; read_fault
 abbrev pub tally_of : Cut → Tally
 tally_of c = record { packets = length c.packets; skipped = c.skipped; rest = length c.rest }
 
--- the row of a PID: the counts of its packets among these
-abbrev pub pid_row : List (List ℕ) → ℕ → PidRow
-pid_row packets pid = record {
-  packets = (counts packets pid).packets;
-  breaks = (counts packets pid).breaks;
-  duplicates = (counts packets pid).duplicates;
-  errors = (counts packets pid).errors;
-}
-
 -- the PIDs below this number that have a packet among these, ascending, each with its row
 unfoldable pub rows_below : ℕ → List (List ℕ) → List (ℕ × PidRow)
 rows_below zero packets = []
 rows_below (suc pid) packets =
-    if nat_lt 0 (counts packets pid).packets then rows_below pid packets ++ (pid, pid_row packets pid) ∷ []
+    if nat_lt 0 (counts packets pid).packets then rows_below pid packets ++ (pid, row_of packets pid) ∷ []
     else rows_below pid packets
 
 -- the head of a stream of these bytes: the numbers of its cutting, the rows of the PIDs of its

@@ -6,15 +6,16 @@ use Rattle.ts_packet.specs.Cut.{Cut, cut}
 use Rattle.ts_packet.specs.Cutting.{IsTally}
 use Rattle.ts_packet.specs.Counts.{counts}
 use Rattle.ts_packet.specs.declared.cutter.Tally.{Tally}
-use Rattle.dmx_calls.specs.declared.head.Head.{Head}
-use Rattle.dmx_calls.specs.Head.{told_head, tally_of, pid_row, rows_below, head_of}
+use Rattle.ts_watch.specs.declared.head.Head.{Head}
+use Rattle.ts_watch.specs.Head.{told_head, tally_of, rows_below, head_of}
+use Rattle.ts_watch.specs.Watching.{row_of}
 
-rows-by : (n : ℕ) (packets : List (List ℕ)) (b : Bool) → nat_lt 0 (counts packets n).packets ≡ b → rows_below (suc n) packets ≡ (if b then rows_below n packets ++ (n, pid_row packets n) ∷ [] else rows_below n packets)
+rows-by : (n : ℕ) (packets : List (List ℕ)) (b : Bool) → nat_lt 0 (counts packets n).packets ≡ b → rows_below (suc n) packets ≡ (if b then rows_below n packets ++ (n, row_of packets n) ∷ [] else rows_below n packets)
 unfolding rows_below
 rows-by n packets b e = rw e refl
 
 -- one PID more
-pub rows-more : (n : ℕ) (packets : List (List ℕ)) → 0 < (counts packets n).packets → rows_below (n + 1) packets ≡ rows_below n packets ++ (n, pid_row packets n) ∷ []
+pub rows-more : (n : ℕ) (packets : List (List ℕ)) → 0 < (counts packets n).packets → rows_below (n + 1) packets ≡ rows_below n packets ++ (n, row_of packets n) ∷ []
 rows-more n packets h = (let e : nat_lt 0 (counts packets n).packets ≡ true = grind (arith, nat_tests) in rw add-one (rows-by n packets true e))
 
 pub rows-same : (n : ℕ) (packets : List (List ℕ)) → (counts packets n).packets ≤ 0 → rows_below (n + 1) packets ≡ rows_below n packets
