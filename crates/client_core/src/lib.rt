@@ -41,7 +41,7 @@ mod task;
 
 pub use call::call_of;
 pub use client::ClientCore;
-pub use event::{Event, Want};
+pub use event::{Event, Request};
 pub use laws::{calls_are_few, one_reply_repeats_once};
 pub use reply::{fitted, settled};
 pub use stop::{MOST_CALLS, Stop};

@@ -13,7 +13,9 @@ use Rattle.client_script.specs.declared.fault.FaultKind.TheVariants.{Client, Com
 use Rattle.client_script.specs.declared.names.CommandName.{CommandName}
 use Rattle.client_script.specs.declared.names.CommandName.TheVariants.{Open as OpenName, Close as CloseName, Section as SectionName, Pes as PesName, Add as AddName, Remove as RemoveName, Start as StartName, Stop as StopName, Size as SizeName, Read as ReadName, ReadWait as ReadWaitName, Drain as DrainName, Poll as PollName}
 use Rattle.client_script.specs.declared.line.Verb.{Verb}
-use Rattle.client_script.specs.declared.line.Verb.TheVariants.{Open, Close, Section, Pes, Add, Remove, Start, Stop, Size, Read, ReadWait, Drain, Poll}
+use Rattle.client_script.specs.declared.line.Verb.TheVariants.{Once, ReadWait, Drain}
+use Rattle.client_script.specs.declared.line.Want.{Want}
+use Rattle.client_script.specs.declared.line.Want.TheVariants.{Open, Close, Section, Pes, Add, Remove, Start, Stop, Size, Read, Poll}
 use Rattle.client_script.specs.declared.line.Target.{Target}
 use Rattle.client_script.specs.declared.line.Target.TheVariants.{Node, Slot, Dvr}
 use Rattle.client_script.specs.declared.line.Line.{Line}
@@ -61,7 +63,7 @@ name_of word =
 -- ------ what stands behind a command's target
 
 -- `PID TIMEOUT FLAGS BYTE*`
-unfoldable pub section_in : List (List ℕ) → Reading Verb
+unfoldable pub section_in : List (List ℕ) → Reading Want
 section_in words =
     and_then (pid_in words) (λ pid words.
     and_then (count_in words) (λ timeout words.
@@ -70,7 +72,7 @@ section_in words =
     Ok (Section (record { pid = pid; filter = filter; timeout = timeout; flags = flags }), words)))))
 
 -- `PID INPUT OUTPUT TYPE FLAGS`
-unfoldable pub pes_in : List (List ℕ) → Reading Verb
+unfoldable pub pes_in : List (List ℕ) → Reading Want
 pes_in words =
     and_then (pid_in words) (λ pid words.
     and_then (asked Name input_named words) (λ input words.
@@ -81,19 +83,19 @@ pes_in words =
 
 -- what each command wants behind its target
 unfoldable pub verb_in : CommandName → List (List ℕ) → Reading Verb
-verb_in OpenName words = Ok (Open, words)
-verb_in CloseName words = Ok (Close, words)
-verb_in SectionName words = section_in words
-verb_in PesName words = pes_in words
-verb_in AddName words = made Add (pid_in words)
-verb_in RemoveName words = made Remove (pid_in words)
-verb_in StartName words = Ok (Start, words)
-verb_in StopName words = Ok (Stop, words)
-verb_in SizeName words = made Size (count_in words)
-verb_in ReadName words = made Read (number_in 0 LARGEST_READ words)
+verb_in OpenName words = Ok (Once Open, words)
+verb_in CloseName words = Ok (Once Close, words)
+verb_in SectionName words = made Once (section_in words)
+verb_in PesName words = made Once (pes_in words)
+verb_in AddName words = made (λ pid. Once (Add pid)) (pid_in words)
+verb_in RemoveName words = made (λ pid. Once (Remove pid)) (pid_in words)
+verb_in StartName words = Ok (Once Start, words)
+verb_in StopName words = Ok (Once Stop, words)
+verb_in SizeName words = made (λ n. Once (Size n)) (count_in words)
+verb_in ReadName words = made (λ n. Once (Read n)) (number_in 0 LARGEST_READ words)
 verb_in ReadWaitName words = made ReadWait (number_in 0 LARGEST_READ words)
 verb_in DrainName words = made Drain (number_in 0 LARGEST_READ words)
-verb_in PollName words = Ok (Poll, words)
+verb_in PollName words = Ok (Once Poll, words)
 
 -- ------ lines
 
@@ -142,21 +144,25 @@ meaning line bytes = if is_passed_over bytes then Ok None else some_asked (line_
 
 -- ------ ranges
 
--- the ranges of a verb's numbers; a filter has sixteen bytes of each kind
+-- the ranges of a call's numbers; a filter has sixteen bytes of each kind
+abbrev pub IsWantInRange : Want → Type 0
+IsWantInRange (Section p) = (p.pid ≤ 65535) × (p.timeout ≤ 4294967295) × (p.flags ≤ 4294967295) × IsFilter p.filter
+IsWantInRange (Pes p) = (p.pid ≤ 65535) × (p.pes_type ≤ 4294967295) × (p.flags ≤ 4294967295)
+IsWantInRange (Add pid) = pid ≤ 65535
+IsWantInRange (Remove pid) = pid ≤ 65535
+IsWantInRange (Size n) = n ≤ 4294967295
+IsWantInRange (Read n) = n ≤ LARGEST_READ
+IsWantInRange Open = Unit {0}
+IsWantInRange Close = Unit {0}
+IsWantInRange Start = Unit {0}
+IsWantInRange Stop = Unit {0}
+IsWantInRange Poll = Unit {0}
+
+-- the ranges of a verb's numbers
 abbrev pub IsVerbInRange : Verb → Type 0
-IsVerbInRange (Section p) = (p.pid ≤ 65535) × (p.timeout ≤ 4294967295) × (p.flags ≤ 4294967295) × IsFilter p.filter
-IsVerbInRange (Pes p) = (p.pid ≤ 65535) × (p.pes_type ≤ 4294967295) × (p.flags ≤ 4294967295)
-IsVerbInRange (Add pid) = pid ≤ 65535
-IsVerbInRange (Remove pid) = pid ≤ 65535
-IsVerbInRange (Size n) = n ≤ 4294967295
-IsVerbInRange (Read n) = n ≤ LARGEST_READ
+IsVerbInRange (Once want) = IsWantInRange want
 IsVerbInRange (ReadWait n) = n ≤ LARGEST_READ
 IsVerbInRange (Drain n) = n ≤ LARGEST_READ
-IsVerbInRange Open = Unit {0}
-IsVerbInRange Close = Unit {0}
-IsVerbInRange Start = Unit {0}
-IsVerbInRange Stop = Unit {0}
-IsVerbInRange Poll = Unit {0}
 
 -- there are 32 nodes and 32 slots
 abbrev pub IsTargetInRange : Target → Type 0

@@ -6,7 +6,7 @@ ghost use Rattle.dmx_calls.specs.History.{Entry as HistoryEntry};
 ghost use Rattle.dmx_calls.specs.Log.{act_of};
 ghost use Rattle.dmx_calls.specs.declared.limits.TheConstants.{DEMUX_NODES as nodes};
 ghost use Rattle.client_script.specs.declared.line.Line.{Line};
-ghost use Rattle.client_core.specs.Commands.{IsWantInRange, call_of as call_at};
+ghost use Rattle.client_core.specs.Commands.{IsRequestInRange, call_of as call_at};
 ghost use Rattle.client_core.specs.Inside.Core.{next_of};
 ghost use Rattle.client_core.specs.Events.{next_event};
 ghost use Rattle.script_run.specs.IsRun.{replies};
@@ -54,7 +54,7 @@ impl ClientWorker {
         requires some { IsSome self.old.core.current }
         requires node { event.node ≤ nodes }
         requires step { event.step ≡ self.old.core.step }
-        requires range { IsWantInRange event.want }
+        requires range { IsRequestInRange event.want }
         ensures same { IsSameCaller self.old.client self.new.client }
         ensures fit { OnOk result (IsFit adapter.now self.new) }
         ensures works { OnOk result ((may : ℕ → Bool) (lines : List Line) (client : ℕ) → IsGiven may (act_of (call_at event.want now)) → MayCallNow lines client event.node self.old
