@@ -3,6 +3,8 @@ use Rattle.std.specs.Prelude.{◌≡◌, ℕ, List, [], ◌∷◌, ◌++◌, map
 use Rattle.std.specs.List.{flat_map}
 use Rattle.dmx_calls.specs.declared.params.Input.TheVariants.{Frontend}
 use Rattle.dmx_calls.specs.declared.params.Output.TheVariants.{TsTap}
+use Rattle.text_forms.specs.Numbers.{number_between}
+use Rattle.client_script.specs.Words.{next_as}
 use Rattle.client_script.specs.Grammar.{meaning}
 use Rattle.client_script.specs.Script.{grammar, split}
 use Rattle.client_script.specs.Spelling.{spelling}
@@ -25,6 +27,15 @@ HaveFault kind lines = meanings lines ≡ map (λ line. Err kind) lines
 -- lines with their line feeds
 abbrev pub text : List (List ℕ) → List ℕ
 text lines = flat_map (λ line. line ++ 10 ∷ []) lines
+
+-- ------ one word
+
+-- a number from 1 to 9, in front of another word; where another word stands; and where none is left
+abbrev pub OneWord : Type 0
+OneWord =
+    (next_as Number (number_between 1 9) (codes "7" ∷ codes "x" ∷ []) ≡ Ok (7, codes "x" ∷ []))
+    × (next_as Number (number_between 1 9) (codes "x" ∷ []) ≡ Err Number)
+    × (next_as Number (number_between 1 9) [] ≡ Err Count)
 
 -- ------ lines
 

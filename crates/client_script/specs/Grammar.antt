@@ -6,7 +6,7 @@ use Rattle.text_forms.specs.Numbers.{number_between}
 use Rattle.text_forms.specs.Words.{is_word, input_named, output_named}
 use Rattle.text_forms.specs.Names.{client_named, demux_named, slot_named}
 use Rattle.text_forms.specs.Places.{IsFilter}
-use Rattle.client_script.specs.Words.{Reading, and_then, made, said, asked, word_in, words_of}
+use Rattle.client_script.specs.Words.{Reading, and_then, mapped, or_fault, next_as, word_in, words_of}
 use Rattle.client_script.specs.Places.{filter_in}
 use Rattle.client_script.specs.declared.fault.FaultKind.{FaultKind}
 use Rattle.client_script.specs.declared.fault.FaultKind.TheVariants.{Client, Command as NoCommand, Target as NoTarget, Number, Name, Count}
@@ -25,7 +25,7 @@ use Rattle.client_script.specs.declared.line.Line.TheVariants.{Feed, Tick, Comma
 
 -- N: a number in a range
 unfoldable pub number_in : (least most : ℕ) → List (List ℕ) → Reading ℕ
-number_in least most words = asked Number (number_between least most) words
+number_in least most words = next_as Number (number_between least most) words
 
 -- PID: a number of 16 bits
 abbrev pub pid_in : List (List ℕ) → Reading ℕ
@@ -75,8 +75,8 @@ section_in words =
 unfoldable pub pes_in : List (List ℕ) → Reading Want
 pes_in words =
     and_then (pid_in words) (λ pid words.
-    and_then (asked Name input_named words) (λ input words.
-    and_then (asked Name output_named words) (λ output words.
+    and_then (next_as Name input_named words) (λ input words.
+    and_then (next_as Name output_named words) (λ output words.
     and_then (count_in words) (λ pes_type words.
     and_then (count_in words) (λ flags words.
     Ok (Pes (record { pid = pid; input = input; output = output; pes_type = pes_type; flags = flags }), words))))))
@@ -85,16 +85,16 @@ pes_in words =
 unfoldable pub verb_in : CommandName → List (List ℕ) → Reading Verb
 verb_in OpenName words = Ok (Once Open, words)
 verb_in CloseName words = Ok (Once Close, words)
-verb_in SectionName words = made Once (section_in words)
-verb_in PesName words = made Once (pes_in words)
-verb_in AddName words = made (λ pid. Once (Add pid)) (pid_in words)
-verb_in RemoveName words = made (λ pid. Once (Remove pid)) (pid_in words)
+verb_in SectionName words = mapped Once (section_in words)
+verb_in PesName words = mapped Once (pes_in words)
+verb_in AddName words = mapped (λ pid. Once (Add pid)) (pid_in words)
+verb_in RemoveName words = mapped (λ pid. Once (Remove pid)) (pid_in words)
 verb_in StartName words = Ok (Once Start, words)
 verb_in StopName words = Ok (Once Stop, words)
-verb_in SizeName words = made (λ n. Once (Size n)) (count_in words)
-verb_in ReadName words = made (λ n. Once (Read n)) (number_in 0 LARGEST_READ words)
-verb_in ReadWaitName words = made ReadWait (number_in 0 LARGEST_READ words)
-verb_in DrainName words = made Drain (number_in 0 LARGEST_READ words)
+verb_in SizeName words = mapped (λ n. Once (Size n)) (count_in words)
+verb_in ReadName words = mapped (λ n. Once (Read n)) (number_in 0 LARGEST_READ words)
+verb_in ReadWaitName words = mapped ReadWait (number_in 0 LARGEST_READ words)
+verb_in DrainName words = mapped Drain (number_in 0 LARGEST_READ words)
 verb_in PollName words = Ok (Once Poll, words)
 
 -- ------ lines
@@ -102,8 +102,8 @@ verb_in PollName words = Ok (Once Poll, words)
 -- what stands behind the client: the command, its target, and what the command wants
 unfoldable pub command_in : (line client : ℕ) → List (List ℕ) → Reading Line
 command_in line client words =
-    and_then (asked NoCommand name_of words) (λ name words.
-    and_then (asked NoTarget target_of words) (λ target words.
+    and_then (next_as NoCommand name_of words) (λ name words.
+    and_then (next_as NoTarget target_of words) (λ target words.
     and_then (verb_in name words) (λ verb words.
     Ok (Command line client target verb, words))))
 
@@ -111,9 +111,9 @@ command_in line client words =
 unfoldable pub line_in : (line : ℕ) → List (List ℕ) → Reading Line
 line_in line words =
     and_then (word_in words) (λ first words.
-    if is_word first (codes "feed") then made Feed (number_in 1 4294967295 words)
-    else (if is_word first (codes "tick") then made Tick (count_in words)
-    else and_then (said Client (client_named first) words) (λ client words. command_in line client words)))
+    if is_word first (codes "feed") then mapped Feed (number_in 1 4294967295 words)
+    else (if is_word first (codes "tick") then mapped Tick (count_in words)
+    else and_then (or_fault Client (client_named first) words) (λ client words. command_in line client words)))
 
 -- a value behind which no word is left; a word too many is a fault of the count
 abbrev pub alone : {A : Type 0} → A → List (List ℕ) → Result A FaultKind

@@ -1,7 +1,7 @@
 // What a line asks for, word by word.
 ghost use Rattle.std.specs.Prelude.{◌≡◌, ◌≤◌, IfOk};
 ghost use Rattle.text_forms.specs.Words.{input_named as input_of_word, output_named as output_of_word};
-ghost use Rattle.client_script.specs.Words.{Reads, asked};
+ghost use Rattle.client_script.specs.Words.{Reads, next_as};
 ghost use Rattle.client_script.specs.Grammar.{number_in, pid_in, count_in, target_of, name_of, section_in, pes_in, verb_in, command_in, line_in, IsWantInRange, IsVerbInRange, IsTargetInRange, IsInRange};
 ghost use Rattle.client_script.specs.declared.fault.FaultKind.TheVariants.{Name as NoName, Target as NoTarget, Command as NoCommand};
 
@@ -44,7 +44,7 @@ fn read_count(words: &mut Words<'_>) -> Result<u32, FaultKind>
 
 // Where a filter's packets come from.
 fn read_input(words: &mut Words<'_>) -> Result<Input, FaultKind>
-    ensures { Reads result words.new (asked NoName input_of_word words.old) }
+    ensures { Reads result words.new (next_as NoName input_of_word words.old) }
 {
     let word = words.word()?;
     input_named(word).ok_or(FaultKind::Name)
@@ -52,7 +52,7 @@ fn read_input(words: &mut Words<'_>) -> Result<Input, FaultKind>
 
 // Where a filter's items go.
 fn read_output(words: &mut Words<'_>) -> Result<Output, FaultKind>
-    ensures { Reads result words.new (asked NoName output_of_word words.old) }
+    ensures { Reads result words.new (next_as NoName output_of_word words.old) }
 {
     let word = words.word()?;
     output_named(word).ok_or(FaultKind::Name)
@@ -60,7 +60,7 @@ fn read_output(words: &mut Words<'_>) -> Result<Output, FaultKind>
 
 // The target of a command.
 fn read_target(words: &mut Words<'_>) -> Result<Target, FaultKind>
-    ensures value { Reads result words.new (asked NoTarget target_of words.old) }
+    ensures value { Reads result words.new (next_as NoTarget target_of words.old) }
     ensures range { IfOk result IsTargetInRange }
 {
     let word = words.word()?;
@@ -69,7 +69,7 @@ fn read_target(words: &mut Words<'_>) -> Result<Target, FaultKind>
 
 // The name of a command.
 fn read_name(words: &mut Words<'_>) -> Result<CommandName, FaultKind>
-    ensures { Reads result words.new (asked NoCommand name_of words.old) }
+    ensures { Reads result words.new (next_as NoCommand name_of words.old) }
 {
     let word = words.word()?;
     command_named(word).ok_or(FaultKind::Command)

@@ -16,7 +16,7 @@ ghost use Rattle.workers.specs.Inside.Working.{IsFit, MayWork, IsWorking, MayCal
 
 use crate::moment::moment_of;
 use adapter::{Adapter, Client};
-use client_core::{ClientCore, Event, MOST_CALLS, Stop, call_of, fitted, settled};
+use client_core::{ClientCore, Event, MOST_CALLS, Stop, call_of, fitted, unless_no_memory};
 use dmx_calls::{Act, Entry};
 use emu_io::{Clock, Gate};
 use std::alloc::{AllocError as NoMemory, Global};
@@ -66,7 +66,7 @@ impl ClientWorker {
         let call = call_of(alloc, &want, now)?;
         let act = Act::of(&call);
         let (place, answer) = self.client.call(rt, adapter, node, call, steps);
-        let reply = settled(answer.reply)?;
+        let reply = unless_no_memory(answer.reply)?;
         self.core.take(&reply);
         self.log.push_reserved(Entry {
             node,

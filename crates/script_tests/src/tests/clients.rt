@@ -1,6 +1,8 @@
 //! Clients of scripts, whose replies and calls were worked out by hand from what the commands do.
 
-use client_core::{ClientCore, Event, MOST_CALLS, Request, Stop, call_of, fitted, settled};
+use client_core::{
+    ClientCore, Event, MOST_CALLS, Request, Stop, call_of, fitted, unless_no_memory,
+};
 use client_script::{MOST_BYTES, Script, Want};
 use dmx_calls::{ByteBuf, Call, Outcome, OutcomeKind, Reply, Span, Tap};
 use pid_set::Pids;
@@ -282,9 +284,9 @@ fn is_ended(reply: &Result<Reply, NoMemory>) -> bool {
 }
 
 #[test]
-fn a_settled_reply_is_not_want_of_memory(rt: HostRuntime) {
-    assert!(rt; settled(Reply::NoMemory).is_err());
-    assert!(rt; is_ended(&settled(Reply::Again { ended: true })));
+fn a_reply_that_is_kept_is_not_want_of_memory(rt: HostRuntime) {
+    assert!(rt; unless_no_memory(Reply::NoMemory).is_err());
+    assert!(rt; is_ended(&unless_no_memory(Reply::Again { ended: true })));
 }
 
 // Whether the reply has these bytes, and room for no more.
