@@ -24,7 +24,7 @@ use Rattle.client_core.specs.declared.task.Ending.TheVariants.{Made, Bound, AllB
 use Rattle.client_core.specs.Commands.{Slots, Doing, stands, through, once, told, called, opened, read_until, done_on, done_at, done_by_slot, done, ends_wait, ends_drain, commands_in, commands_of}
 use Rattle.client_core.specs.Events.{Standing, slots_after, progress_from, progress, no_slots, next_event, standing_at}
 use Rattle.client_core.specs.Inside.Tasks.{IsEndingInRange, AreSlots}
-use Rattle.client_core.specs.Budget.{repeats_in}
+use Rattle.client_core.specs.Repeats.{repeats_in}
 use Rattle.client_core.proofs.Options.{none_ne_some, same_some}
 use Rattle.client_core.proofs.GoesOn.{progress_of}
 use Rattle.client_core.proofs.More.{Onward, done_on_more, some_of}

@@ -10,9 +10,7 @@
 //! `IsAfter client lines replies core` says that it stands after these replies to this client of the script. The
 //! definitions are functions of the script and of the replies alone: `done` says what a command does
 //! (`specs/Commands.antt`), and `progress`, `next_event`, `waits_on` and `outcomes` how far a client is
-//! (`specs/Events.antt`). `IsRun` (`specs/IsRun.antt`) says of 33 lists of printed entries that they are a run: each is
-//! legal, the feeder's packets pass every node in the same batches, and each client made just the calls that its commands
-//! ask for. `most_calls` (`specs/Budget.antt`) is the most calls of a client.
+//! (`specs/Events.antt`); `repeats` how often a client repeats a read (`specs/Repeats.antt`).
 //!
 //! What is proved: `new` stands after no replies; `take` carries a core that stands after some replies to one that stands after
 //! one more, and leaves nothing else open (`HasTaken`); `next`, `next_at`, `line`, `waits` and `outcomes` are what the

@@ -13,8 +13,8 @@ use Rattle.client_script.specs.declared.fault.ScriptError.TheVariants.{Fault, No
 use Rattle.client_script.specs.Script.{split, grammar, IsScript}
 use Rattle.client_core.specs.declared.stop.Stop.{Stop}
 use Rattle.client_core.specs.declared.stop.Stop.TheVariants.{NoMemory as NoMemoryToRun, TooLong as RunTooLong}
-use Rattle.client_core.specs.Budget.{most_calls, all_commands}
-use Rattle.client_core.specs.WholeRun.{IsWholeRun}
+use Rattle.script_run.specs.Budget.{most_calls, all_commands}
+use Rattle.script_run.specs.WholeRun.{IsWholeRun}
 use Rattle.feed_pull.specs.Pulling.{Pulling, Pulls}
 use Rattle.serial_core.specs.declared.run.Ran.{Ran}
 use Rattle.serial_core.specs.SerialRun.{Run, IsSerialRun}

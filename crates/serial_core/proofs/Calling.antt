@@ -18,7 +18,8 @@ use Rattle.client_core.specs.declared.event.Want.{Want}
 use Rattle.client_core.specs.declared.event.Want.TheVariants.{Open, Close, Section, Pes, Add, Remove, Start, Stop, Size, Read, Poll, Attach, Detach}
 use Rattle.client_core.specs.Commands.{call_of, commands_of, ends_drain}
 use Rattle.client_core.specs.Events.{Standing, progress, next_event, next_of_line, standing_at, waits_on}
-use Rattle.client_core.specs.Budget.{bytes_in, repeats}
+use Rattle.client_core.specs.Repeats.{repeats}
+use Rattle.script_run.specs.Budget.{bytes_in}
 use Rattle.client_core.specs.Inside.More.{added_by}
 use Rattle.client_core.proofs.FirstCalls.{few}
 use Rattle.client_core.proofs.Options.{none_ne_some}
@@ -26,7 +27,7 @@ use Rattle.client_core.proofs.More.{one_reply_more, some_of}
 use Rattle.serial_core.specs.Nodes.{Node, history_of}
 use Rattle.serial_core.specs.SerialRun.{Run, ended, replies_of}
 use Rattle.serial_core.specs.Budget.{bytes_to, bytes_by, bytes_by_all, one_if, HasBrought, IsPaid}
-use Rattle.client_core.proofs.ReadReplies.{IsReadReply, IsOpenAgain, not_ended, reads}
+use Rattle.script_run.proofs.ReadReplies.{IsReadReply, IsOpenAgain, not_ended, reads}
 use Rattle.serial_core.proofs.Paid.{Brought}
 
 -- ------ one reply

@@ -14,7 +14,7 @@ ghost use Rattle.serial_core.specs.Inside.Moving.{IsSound};
 ghost use Rattle.feed_pull.specs.Streams.{Draws, OfStream};
 ghost use Rattle.serial_core.specs.SerialRun.{Run, replies_of};
 ghost use Rattle.serial_core.specs.Ran.{AreFreshCores, IsFreshRunner, IsRanOf, histories_in};
-ghost use Rattle.client_core.specs.Budget.{IsTooLong};
+ghost use Rattle.script_run.specs.Budget.{IsTooLong};
 ghost use Rattle.serial_core.specs.Inside.Legal.{AreLegal};
 ghost use Rattle.serial_core.specs.Inside.Standing.{IsNodes};
 

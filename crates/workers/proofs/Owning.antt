@@ -19,7 +19,7 @@ use Rattle.client_core.specs.declared.event.Event.{Event}
 use Rattle.client_core.specs.declared.event.Want.{Want}
 use Rattle.client_core.specs.declared.event.Want.TheVariants as want
 use Rattle.client_core.specs.Commands.{call_of}
-use Rattle.client_core.specs.IsRun.{IsEvent}
+use Rattle.script_run.specs.IsRun.{IsEvent}
 use Rattle.adapter.specs.Rows.{column}
 use Rattle.adapter.specs.Callers.{Caller}
 use Rattle.adapter.specs.Ends.{IsHistory, rows_of}

@@ -13,14 +13,15 @@ use Rattle.client_core.specs.declared.event.Want.{Want}
 use Rattle.client_core.specs.declared.event.Want.TheVariants.{Open, Close, Section, Pes, Add, Remove, Start, Stop, Size, Read, Poll, Attach, Detach}
 use Rattle.client_core.specs.Commands.{call_of, commands_of, ends_drain}
 use Rattle.client_core.specs.Events.{Standing, progress, next_event, waits_on, no_slots}
-use Rattle.client_core.specs.IsRun.{IsEvent, replies}
-use Rattle.client_core.specs.Budget.{bytes_in, repeats}
+use Rattle.script_run.specs.IsRun.{IsEvent, replies}
+use Rattle.client_core.specs.Repeats.{repeats}
+use Rattle.script_run.specs.Budget.{bytes_in}
 use Rattle.client_core.specs.Inside.More.{added_by}
 use Rattle.client_core.proofs.More.{one_reply_more, some_of, repeats_none}
 use Rattle.adapter.proofs.Lists.{at_place}
 use Rattle.workers.proofs.Counting.{total, total_le, total_add, weigh}
 use Rattle.workers.proofs.HistoryBytes.{weight_at, weigh_places}
-use Rattle.client_core.proofs.ReadReplies.{IsOpenAgain, not_ended}
+use Rattle.script_run.proofs.ReadReplies.{IsOpenAgain, not_ended}
 use Rattle.workers.proofs.ReadReplies.{IsAnyReadReply}
 use Rattle.client_core.proofs.FirstCalls.{first_calls, stays_on}
 

@@ -9,8 +9,8 @@ ghost use Rattle.client_script.specs.declared.line.Line.{Line};
 ghost use Rattle.client_core.specs.Commands.{IsWantInRange, call_of as call_at};
 ghost use Rattle.client_core.specs.Inside.Core.{next_of};
 ghost use Rattle.client_core.specs.Events.{next_event};
-ghost use Rattle.client_core.specs.IsRun.{replies};
-ghost use Rattle.client_core.specs.WholeRun.{IsGiven};
+ghost use Rattle.script_run.specs.IsRun.{replies};
+ghost use Rattle.script_run.specs.WholeRun.{IsGiven};
 ghost use Rattle.adapter.specs.Callers.{IsSameCaller};
 ghost use Rattle.workers.specs.Inside.Working.{IsFit, MayWork, IsWorking, MayCallNow, GoesOn, HasLooked, HasCome};
 

@@ -1,6 +1,6 @@
 // The moments of calls.
 ghost use Rattle.client_core.specs.Commands.{call_of};
-ghost use Rattle.client_core.specs.WholeRun.{IsGiven};
+ghost use Rattle.script_run.specs.WholeRun.{IsGiven};
 ghost use Rattle.dmx_calls.specs.Log.{act_of};
 
 use client_core::Want;

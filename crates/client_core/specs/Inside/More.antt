@@ -7,7 +7,7 @@ use Rattle.client_core.specs.declared.event.Want.{Want}
 use Rattle.client_core.specs.declared.event.Want.TheVariants.{Read}
 use Rattle.client_core.specs.Commands.{ends_drain}
 use Rattle.client_core.specs.Events.{next_event, waits_on}
-use Rattle.client_core.specs.Budget.{repeats}
+use Rattle.client_core.specs.Repeats.{repeats}
 
 -- the reads that this reply may add: one, where it is to a read and ends no drain
 abbrev pub added_by : Want → Response → ℕ

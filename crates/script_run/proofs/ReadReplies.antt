@@ -14,7 +14,7 @@ use Rattle.dmx_calls.specs.Legal.{IsLegalFor}
 use Rattle.dmx_calls.specs.Bytes.{OverflowNamesAByte}
 use Rattle.dmx_calls.proofs.Reading.{read_each}
 use Rattle.client_core.specs.Commands.{ends_drain}
-use Rattle.client_core.specs.Budget.{bytes_in}
+use Rattle.script_run.specs.Budget.{bytes_in}
 
 -- a reply to a read, where the stream has ended or not
 abbrev pub IsReadReply : (ended : Bool) → Response → Type 0

@@ -1,0 +1,3 @@
+pub mod IsRun
+pub mod WholeRun
+pub mod Budget
