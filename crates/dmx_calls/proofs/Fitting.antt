@@ -8,11 +8,11 @@ use Rattle.dmx_calls.specs.declared.reply.Errno.{Errno}
 use Rattle.dmx_calls.specs.Invocation.{Invocation, Open, Close, SetFilter, SetPes, AddPid, RemovePid, Start, Stop, SetSize, Read, Poll, Pass, End, Attach, Detach}
 use Rattle.dmx_calls.specs.declared.reply.Tap.{Tap as TapChange}
 use Rattle.dmx_calls.specs.Response.{Response, Done, Busy, Refused, NoMemory, Data, Again, Overflow, TimedOut, Ready, Passed, is_accepted}
-use Rattle.dmx_calls.specs.History.{Event, History, event, entry_of, Since}
+use Rattle.dmx_calls.specs.History.{Event, History, is_empty, event, entry_of, Since}
 use Rattle.dmx_calls.specs.Rules.{Rules}
 use Rattle.dmx_calls.specs.Ledger.{joined, total, answered, edge, answered_in, is_overflow}
 use Rattle.dmx_calls.specs.Facts.{Ledger, Facts, unread_of, ledger_at, ledger_of, facts}
-use Rattle.dmx_calls.specs.Answer.{ReadTerms, read_terms, is_no_byte, refusal_to, most_bytes, response_of_read, expired_of, open_response, done_dropping, response_to, response_unless, answer, with_call}
+use Rattle.dmx_calls.specs.Answer.{ReadTerms, read_terms, refusal_to, most_bytes, response_of_read, expired_of, open_response, done_dropping, response_to, response_unless, answer, with_call}
 use Rattle.dmx_calls.specs.Legal.{May}
 use Rattle.dmx_calls.specs.Accounted.{Fits, AllFit}
 use Rattle.dmx_calls.proofs.Reading.{read_each}
@@ -59,7 +59,7 @@ took_of n to a us xs is le =
 at_the_edge : (to a : ℕ) (xs : List ℕ) → a ≤ to → to ≤ length xs → unread_of to a xs ≡ [] → a ≡ to
 at_the_edge to a xs le within none = omega (arith, le, within, ap length none, length-take (to - a) (drop a xs), length-drop a xs)
 
-no_byte : (xs : List ℕ) → is_no_byte xs ≡ true → xs ≡ []
+no_byte : (xs : List ℕ) → is_empty xs ≡ true → xs ≡ []
 no_byte [] none = refl
 no_byte (x ∷ xs) none = absurd (cc)
 

@@ -13,17 +13,17 @@ use Rattle.section_parse.proofs.WholeLists.{stay}
 use Rattle.dmx_calls.specs.declared.params.Input.{Input}
 use Rattle.dmx_calls.specs.declared.params.Input.TheVariants.{Frontend}
 use Rattle.dmx_calls.specs.declared.params.SectionParams.{SectionParams}
-use Rattle.dmx_calls.specs.History.{Entry, Event, History, event, Since, also}
+use Rattle.dmx_calls.specs.History.{Entry, Event, History, is_empty, event, Since, also}
 use Rattle.dmx_calls.specs.Tenure.{Params, Empty, Section, Pes, tenure, params, pids}
 use Rattle.dmx_calls.specs.Capture.{capture, stops, unstopped, live, started, is_stopped}
-use Rattle.dmx_calls.specs.Items.{packets_in, packets_of, selects, is_oneshot, section_items, picked, selected, timeout_of, clock_of, Expiry, expiry_at, is_no_item, expiry, offered_of, offered, items}
+use Rattle.dmx_calls.specs.Items.{packets_in, packets_of, selects, is_oneshot, section_items, picked, selected, timeout_of, clock_of, Expiry, expiry_at, expiry, offered_of, offered, items}
 use Rattle.dmx_calls.specs.Rules.{tells_timeout, is_told, expired}
 use Rattle.dmx_calls.proofs.Going.{more, Stays, params_stays, capture_stays}
 
 -- ------ the expiry with one event more
 
 abbrev pub expiry_next : Params → (due : ℕ) → Event → List Event → Option Expiry → Option Expiry
-expiry_next set due ev evs before = option_or before (if is_no_item (selected set evs) then expiry_at due (clock_of ev) evs else None)
+expiry_next set due ev evs before = option_or before (if is_empty (selected set evs) then expiry_at due (clock_of ev) evs else None)
 
 -- its moment alone
 abbrev pub reaches : (due : ℕ) → Option ℕ → Option ℕ
@@ -77,7 +77,7 @@ if_same : {A : Type 0} (b : Bool) (x : A) → (if b then x else x) ≡ x
 if_same true x = refl
 if_same false x = refl
 
-none_length : (xs : List (List ℕ)) → is_no_item xs ≡ nat_eq (length xs) 0
+none_length : (xs : List (List ℕ)) → is_empty xs ≡ nat_eq (length xs) 0
 none_length [] = refl
 none_length (x ∷ xs) = grind (arith, nat_tests)
 
@@ -184,7 +184,7 @@ module _ (e : Entry) (h : History) (t s : Since) (stays : Stays e h) (held : ten
       by_timeout true off = absurd (let k : None ≡ Some x = sym (expiry_off off) ∙ is in cc)
       by_timeout false on =
           let k : expiry_next (params h) (started h + timeout_of (params h)) (event e h) (live h) None ≡ Some x = rw (expiry_on on, none) at is in
-          here (is_no_item (selected (params h) (live h))) (clock_of (event e h)) (started h + timeout_of (params h)) k
+          here (is_empty (selected (params h) (live h))) (clock_of (event e h)) (started h + timeout_of (params h)) k
 
     -- no expiry with this event, so none before
     expiry_before : expiry (e ∷ h) ≡ None → expiry h ≡ None
@@ -253,7 +253,7 @@ module _ (e : Entry) (h : History) (t s : Since) (stays : Stays e h) (held : ten
       by_expiry : (o : Option Expiry) → expiry h ≡ o → option_map (λ (x : Expiry). x.now) (expiry_next (params h) (started h + timeout_of (params h)) (event e h) (live h) o)
           ≡ option_or (option_map (λ (x : Expiry). x.now) o) (if nat_eq (length (items h)) 0 then reaches (started h + timeout_of (params h)) (clock_of (event e h)) else None)
       by_expiry None none =
-          let k : is_no_item (selected (params h) (live h)) ≡ nat_eq (length (items h)) 0 = rw (items_live h none) (none_length (selected (params h) (live h))) in
+          let k : is_empty (selected (params h) (live h)) ≡ nat_eq (length (items h)) 0 = rw (items_live h none) (none_length (selected (params h) (live h))) in
           rw k (moment_if (nat_eq (length (items h)) 0) (started h + timeout_of (params h)) (clock_of (event e h)) (live h))
       by_expiry (Some x) some = refl
 

@@ -2,6 +2,7 @@ pub mod Going
 pub mod Growth
 pub mod Ledgers
 pub mod After
+pub mod Unaccepted
 pub mod Nodes
 pub mod Edges
 pub mod Reading

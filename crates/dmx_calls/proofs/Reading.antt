@@ -4,11 +4,12 @@ use Rattle.std.specs.Prelude.{if◌then◌else◌, nat_eq, option_map}
 use Rattle.dmx_calls.specs.Response.{Response, Data, Again, Overflow, TimedOut}
 use Rattle.dmx_calls.specs.Ledger.{Misfit}
 use Rattle.dmx_calls.specs.Facts.{Ledger}
-use Rattle.dmx_calls.specs.Answer.{ReadTerms, is_no_byte, most_bytes, first_of, timed_out_of, response_of_read}
+use Rattle.dmx_calls.specs.History.{is_empty}
+use Rattle.dmx_calls.specs.Answer.{ReadTerms, most_bytes, first_of, timed_out_of, response_of_read}
 
 -- what holds of each of them holds of the answer
 module _ (P : Response → Type 0) (t : ReadTerms) (l : Ledger) (expired : Option ℕ) (count : ℕ)
-    (over : (x : Misfit) → l.over ≡ Some x → is_no_byte l.unread ≡ true → P (Overflow l.answered l.total x.item x.need x.room))
+    (over : (x : Misfit) → l.over ≡ Some x → is_empty l.unread ≡ true → P (Overflow l.answered l.total x.item x.need x.room))
     (timed_out : (moment : ℕ) → expired ≡ Some moment → P (TimedOut l.started moment t.timeout))
     (nothing : P (Data []))
     (again : P (Again t.has_ended))
@@ -35,11 +36,11 @@ module _ (P : Response → Type 0) (t : ReadTerms) (l : Ledger) (expired : Optio
   by_expiry false None is = by_count (nat_eq count 0)
   by_expiry false (Some moment) is = timed_out moment is
 
-  by_over : (b : Bool) (o : Option Misfit) → is_no_byte l.unread ≡ b → l.over ≡ o
+  by_over : (b : Bool) (o : Option Misfit) → is_empty l.unread ≡ b → l.over ≡ o
       → P (first_of (option_map (λ y. Overflow l.answered l.total y.item y.need y.room) (if b then o else None) ∷ timed_out_of t l expired ∷ from_nothing) last)
   by_over true None none is = by_expiry l.is_told expired refl
   by_over true (Some y) none is = over y is none
   by_over false o some is = by_expiry l.is_told expired refl
 
   pub read_each : P (response_of_read t (Some l) expired count)
-  read_each = by_over (is_no_byte l.unread) l.over refl refl
+  read_each = by_over (is_empty l.unread) l.over refl refl

@@ -13,7 +13,7 @@ use Rattle.dmx_calls.specs.Invocation.{Invocation, Open, Close, SetFilter, SetPe
 use Rattle.dmx_calls.specs.declared.reply.Tap.{Tap as TapChange}
 use Rattle.dmx_calls.specs.declared.reply.Tap.TheVariants.{Keep as KeepTap, Attach as AttachTap, Detach as DetachTap}
 use Rattle.dmx_calls.specs.Response.{Response, Done, Busy, Refused, Data, Again, Overflow, TimedOut, Ready, Passed}
-use Rattle.dmx_calls.specs.History.{History, entry_of}
+use Rattle.dmx_calls.specs.History.{History, is_empty, entry_of}
 use Rattle.dmx_calls.specs.Tenure.{Params, Section, Pes}
 use Rattle.dmx_calls.specs.Items.{timeout_of}
 use Rattle.dmx_calls.specs.Rules.{Rules}
@@ -97,13 +97,9 @@ pub record ReadTerms : Type 0 where
 abbrev pub read_terms : Facts → ReadTerms
 read_terms f = record { has_ended = f.has_ended; by_section = is_section f.params; timeout = timeout_of f.params }
 
-abbrev pub is_no_byte : List ℕ → Bool
-is_no_byte [] = true
-is_no_byte (byte ∷ bytes) = false
-
 -- the pending overflow at the edge: nothing before it is unread
 abbrev pub over_at_edge : Ledger → Option Misfit
-over_at_edge l = if is_no_byte l.unread then l.over else None
+over_at_edge l = if is_empty l.unread then l.over else None
 
 abbrev pub overflow_of : Ledger → Option Response
 overflow_of l = option_map (λ x. Overflow l.answered l.total x.item x.need x.room) (over_at_edge l)

@@ -1,8 +1,13 @@
 -- Histories of one node (this project's own).
-use Rattle.std.specs.Prelude.{ℕ, Bool, List, [], ◌∷◌, ◌++◌, filter, Option, Some, None, if◌then◌else◌}
+use Rattle.std.specs.Prelude.{ℕ, Bool, true, false, List, [], ◌∷◌, ◌++◌, filter, Option, Some, None, if◌then◌else◌}
 use Rattle.std.specs.Option.{option_or}
 use Rattle.dmx_calls.specs.Invocation.{Invocation, brought}
 use Rattle.dmx_calls.specs.Response.{Response, is_accepted}
+
+-- it has no element
+abbrev pub is_empty : {A : Type 0} → List A → Bool
+is_empty [] = true
+is_empty (x ∷ xs) = false
 
 -- one call: its caller's number, the call, its response
 pub record Entry : Type 0 where

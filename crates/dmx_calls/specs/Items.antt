@@ -16,7 +16,7 @@ use Rattle.dmx_calls.specs.declared.params.SectionParams.{SectionParams}
 use Rattle.dmx_calls.specs.declared.params.PesParams.{PesParams}
 use Rattle.dmx_calls.specs.declared.limits.TheConstants.{CHECK_CRC, ONESHOT}
 use Rattle.dmx_calls.specs.Invocation.{Read, Poll, Pass}
-use Rattle.dmx_calls.specs.History.{Event, History}
+use Rattle.dmx_calls.specs.History.{Event, History, is_empty}
 use Rattle.dmx_calls.specs.Tenure.{Params, Empty, Section, Pes, params, pids}
 use Rattle.dmx_calls.specs.Capture.{has_flag, started, live}
 
@@ -111,15 +111,11 @@ abbrev pub expiry_at : (due : ℕ) → Option ℕ → List Event → Option Expi
 expiry_at due None before = None
 expiry_at due (Some now) before = if nat_le due now then Some (record { now = now; before = before }) else None
 
-abbrev pub is_no_item : List (List ℕ) → Bool
-is_no_item [] = true
-is_no_item (item ∷ items) = false
-
 -- of these events the first that is due while nothing is selected from those before it
 abbrev pub expiry_in : Params → (due : ℕ) → List Event → Option Expiry
 expiry_in set due [] = None
 expiry_in set due (ev ∷ evs) =
-    option_or (expiry_in set due evs) (if is_no_item (selected set evs) then expiry_at due (clock_of ev) evs else None)
+    option_or (expiry_in set due evs) (if is_empty (selected set evs) then expiry_at due (clock_of ev) evs else None)
 
 -- A section filter with a timeout expires at the first Pass, Read or Poll whose moment is at least the start's plus the
 -- timeout, if it still runs then and has no item.

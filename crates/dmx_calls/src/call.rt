@@ -17,14 +17,12 @@ pub enum Call {
     SetFilter {
         /// The filter.
         params: SectionParams,
-        /// The moment.
         now: u64,
     },
     /// Sets a PES filter.
     SetPes {
         /// The filter.
         params: PesParams,
-        /// The moment.
         now: u64,
     },
     /// Adds a PID to a PES filter.
@@ -33,7 +31,6 @@ pub enum Call {
     RemovePid(u16),
     /// Starts the filter.
     Start {
-        /// The moment.
         now: u64,
     },
     /// Stops the filter.
@@ -42,14 +39,12 @@ pub enum Call {
     SetSize(u32),
     /// Reads into a buffer, at most as many bytes as its count.
     Read {
-        /// The moment.
         now: u64,
         /// An empty buffer.
         buf: ByteBuf,
     },
     /// Asks whether a read would give something, and what is pending.
     Poll {
-        /// The moment.
         now: u64,
     },
     /// The packets of a batch pass the node.
@@ -58,7 +53,6 @@ pub enum Call {
         input: Input,
         /// The packets.
         batch: Arc<Batch>,
-        /// The moment.
         now: u64,
     },
     /// The stream has ended.

@@ -21,14 +21,12 @@ pub enum Act {
     SetFilter {
         /// The filter.
         params: SectionParams,
-        /// The moment.
         now: u64,
     },
     /// Sets a PES filter.
     SetPes {
         /// The filter.
         params: PesParams,
-        /// The moment.
         now: u64,
     },
     /// Adds a PID to a PES filter.
@@ -37,7 +35,6 @@ pub enum Act {
     RemovePid(u16),
     /// Starts the filter.
     Start {
-        /// The moment.
         now: u64,
     },
     /// Stops the filter.
@@ -46,14 +43,12 @@ pub enum Act {
     SetSize(u32),
     /// Reads at most `count` bytes.
     Read {
-        /// The moment.
         now: u64,
         /// The count of the buffer, in bytes.
         count: u32,
     },
     /// Asks whether a read would give something, and what is pending.
     Poll {
-        /// The moment.
         now: u64,
     },
     /// The packets of a batch pass the node.
@@ -64,7 +59,6 @@ pub enum Act {
         first: u64,
         /// How many packets there are.
         count: u32,
-        /// The moment.
         now: u64,
     },
     /// The stream has ended.

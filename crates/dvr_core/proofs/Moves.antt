@@ -17,7 +17,7 @@ use Rattle.dmx_calls.specs.Taps.{Tap, tap_after, tap_of}
 use Rattle.dmx_calls.specs.Rules.{dvr}
 use Rattle.dmx_calls.specs.Ledger.{answered_in, is_overflow}
 use Rattle.dmx_calls.specs.Facts.{Facts, ledger_at, facts}
-use Rattle.dmx_calls.proofs.LawsHold.{dvr_facts_refused}
+use Rattle.dmx_calls.proofs.Unaccepted.{dvr_same}
 use Rattle.node_buffer.specs.Inside.Coherent.{Coherent, CoherentIn}
 use Rattle.node_buffer.proofs.Silences.{Silent, accepted_of, quiet_of, nothing_of}
 use Rattle.dvr_core.specs.Tapped.{taps_of}
@@ -38,7 +38,7 @@ pub known_by : (h : History) (f : Facts) (taps : List (Option Tap)) → facts dv
 known_by h f taps e1 e2 = rw (e1, e2) refl
 
 pub known_refused : (e : Entry) (h : History) → is_accepted e.response ≡ false → known (e ∷ h) ≡ known h
-known_refused e h nay = known_by (e ∷ h) (facts dvr h) (taps_of h) (dvr_facts_refused e h nay) (taps_refused e h nay)
+known_refused e h nay = known_by (e ∷ h) (facts dvr h) (taps_of h) (dvr_same e h nay).facts (taps_refused e h nay)
 
 -- an accepted call that is neither Attach nor Detach
 pub taps_stay : (e : Entry) (h : History) → is_accepted e.response ≡ true → ((node : ℕ) → tap_after node (event e h ∷ accepted h) ≡ tap_after node (accepted h)) → taps_of (e ∷ h) ≡ taps_of h

@@ -8,7 +8,7 @@ use Rattle.dmx_calls.specs.Invocation.{Attach, Detach}
 use Rattle.dmx_calls.specs.Response.{Response, is_accepted}
 use Rattle.dmx_calls.specs.History.{Entry, History, entry_of}
 use Rattle.dmx_calls.specs.Taps.{detached_by, tap_of, tap_names, is_tapped}
-use Rattle.dmx_calls.proofs.Nodes.{tap_refused}
+use Rattle.dmx_calls.proofs.Unaccepted.{dvr_same}
 use Rattle.dvr_core.specs.Tapped.{taps_of, changed_at, attached, detached, some_names}
 
 -- ------ a function's values at the places of a list, with another value at one place
@@ -38,7 +38,7 @@ unfolding taps_of
 taps_refused e h nay = same (range_with_len 0 DEMUX_NODES) where
   same : (nodes : List ℕ) → map (λ node. tap_of node (e ∷ h)) nodes ≡ map (λ node. tap_of node h) nodes
   same [] = refl
-  same (node ∷ nodes) = rw (tap_refused e h nay node, same nodes) refl
+  same (node ∷ nodes) = rw ((dvr_same e h nay).taps node, same nodes) refl
 
 module _ (h : History) (who : ℕ) (r : Response) (ok : is_accepted r ≡ true) where
   pub taps_attached : (node : ℕ) (pids : List ℕ) → taps_of (entry_of who (Attach node pids) r ∷ h) ≡ attached who node pids (taps_of h)

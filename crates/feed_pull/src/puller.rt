@@ -4,22 +4,20 @@ ghost use Rattle.std.specs.Io.KnownBytes.{Consumes, IsAtEnd};
 ghost use Rattle.ts_packet.specs.Cut.{cut};
 ghost use Rattle.ts_packet.specs.Cutting.{IsTally};
 ghost use Rattle.ts_watch.specs.Watching.{Watched};
-ghost use Rattle.dmx_calls.specs.Head.{told_head, head_of};
+ghost use Rattle.ts_watch.specs.Head.{told_head, head_of};
 ghost use Rattle.feed_pull.specs.Pulling.{Pulling, IsPulling, Pulls, IsDone, IsNear, fault_of, has_failed, given_by};
 ghost use Rattle.feed_pull.specs.Steps.{Goes, Gathers, Follows, work, HasGiven, ReadsNothing, Carries};
 
 use crate::fault::{PullFault, Reading};
 use crate::hand::Hand;
-use crate::head::rows_of;
 use crate::piece::Piece;
-use dmx_calls::Head;
 use emu_io::Source;
 use std::alloc::{AllocError as NoMemory, Global};
 use std::marker::Model;
 use std::sync::Arc;
 use ts_batch::Batch;
 use ts_packet::{Cutter, Packet, Tally};
-use ts_watch::Watch;
+use ts_watch::{Head, Watch};
 
 // The most reads of one stream.
 const MOST_READS: u64 = 4_294_967_296;
@@ -45,7 +43,7 @@ pub struct Puller {
 
 impl Model for Puller {
     ghost use Rattle.ts_watch.specs.Watching.{Watched};
-    ghost use Rattle.dmx_calls.specs.Head.{told_head, head_of};
+    ghost use Rattle.ts_watch.specs.Head.{told_head, head_of};
     ghost use Rattle.feed_pull.specs.Pulling.{Pulling, IsPulling};
 
     ghost Value = { Pulling };
@@ -307,7 +305,7 @@ impl Puller {
     {
         Ok(Head {
             tally: self.tally(),
-            rows: rows_of(alloc, self.watch())?,
+            rows: self.watch().rows(alloc)?,
             read_fault: self.read_failed(),
         })
     }

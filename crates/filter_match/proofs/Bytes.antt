@@ -5,7 +5,7 @@ use Rattle.std.proofs.lemmas.List.Folds.{list_all-append, list_any-append}
 use Rattle.std.proofs.lemmas.Bool.{cases_lt}
 use Rattle.std.proofs.lemmas.Bool.Decides.{nat_tests}
 use Rattle.filter_match.specs.declared.filter.SectionFilter.{SectionFilter}
-use Rattle.filter_match.specs.Match.{place_of, below, reaches_at, differences, equals_at, differs_at, negates_at, matches}
+use Rattle.filter_match.specs.Match.{place_of, numbers_below, reaches_at, differences, equals_at, differs_at, negates_at, matches}
 use Rattle.filter_match.specs.Inside.Compiling.{IsCompiled}
 
 and-true : (b : Bool) → (b && true) ≡ b
@@ -16,17 +16,17 @@ or-false : (b : Bool) → (b || false) ≡ b
 or-false true = refl
 or-false false = refl
 
-pub all-more : (p : ℕ → Bool) (n : ℕ) → list_all p (below (n + 1)) ≡ (list_all p (below n) && p n)
-unfolding below
+pub all-more : (p : ℕ → Bool) (n : ℕ) → list_all p (numbers_below (n + 1)) ≡ (list_all p (numbers_below n) && p n)
+unfolding numbers_below
 all-more p n =
     let e : n + 1 ≡ suc n = omega arith in
-    rw e (list_all-append p (below n) (n ∷ []) ∙ ap (λ b. list_all p (below n) && b) (and-true (p n)))
+    rw e (list_all-append p (numbers_below n) (n ∷ []) ∙ ap (λ b. list_all p (numbers_below n) && b) (and-true (p n)))
 
-pub any-more : (p : ℕ → Bool) (n : ℕ) → list_any p (below (n + 1)) ≡ (list_any p (below n) || p n)
-unfolding below
+pub any-more : (p : ℕ → Bool) (n : ℕ) → list_any p (numbers_below (n + 1)) ≡ (list_any p (numbers_below n) || p n)
+unfolding numbers_below
 any-more p n =
     let e : n + 1 ≡ suc n = omega arith in
-    rw e (list_any-append p (below n) (n ∷ []) ∙ ap (λ b. list_any p (below n) || b) (or-false (p n)))
+    rw e (list_any-append p (numbers_below n) (n ∷ []) ∙ ap (λ b. list_any p (numbers_below n) || b) (or-false (p n)))
 
 and-false : (b : Bool) → (b && false) ≡ false
 and-false true = refl
@@ -36,23 +36,23 @@ or-true : (b : Bool) → (b || true) ≡ true
 or-true true = refl
 or-true false = refl
 
-pub all-next : (p : ℕ → Bool) (n : ℕ) → list_all p (below n) ≡ true → p n ≡ true → list_all p (below (n + 1)) ≡ true
+pub all-next : (p : ℕ → Bool) (n : ℕ) → list_all p (numbers_below n) ≡ true → p n ≡ true → list_all p (numbers_below (n + 1)) ≡ true
 all-next p n h k = all-more p n ∙ rw (h, k) refl
 
-pub any-yes : (p : ℕ → Bool) (n : ℕ) → p n ≡ true → list_any p (below (n + 1)) ≡ true
-any-yes p n k = any-more p n ∙ rw k (or-true (list_any p (below n)))
+pub any-yes : (p : ℕ → Bool) (n : ℕ) → p n ≡ true → list_any p (numbers_below (n + 1)) ≡ true
+any-yes p n k = any-more p n ∙ rw k (or-true (list_any p (numbers_below n)))
 
-pub any-no : (p : ℕ → Bool) (n : ℕ) (b : Bool) → list_any p (below n) ≡ b → p n ≡ false → list_any p (below (n + 1)) ≡ b
+pub any-no : (p : ℕ → Bool) (n : ℕ) (b : Bool) → list_any p (numbers_below n) ≡ b → p n ≡ false → list_any p (numbers_below (n + 1)) ≡ b
 any-no p n b h k = any-more p n ∙ rw (h, k) (or-false b)
 
 -- one that fails is enough
-pub all-stops : (p : ℕ → Bool) (i n : ℕ) → i < n → p i ≡ false → list_all p (below n) ≡ false
+pub all-stops : (p : ℕ → Bool) (i n : ℕ) → i < n → p i ≡ false → list_all p (numbers_below n) ≡ false
 all-stops p i zero l h = absurd (omega arith)
 all-stops p i (suc n) l h =
     let e : suc n ≡ n + 1 = omega arith in
     rw e (all-more p n ∙ elim (cases_lt i n) [
       | inl k ↦ rw (all-stops p i n k h) refl
-      | inr k ↦ let same : n ≡ i = omega arith in rw (same, h) (and-false (list_all p (below i)))
+      | inr k ↦ let same : n ≡ i = omega arith in rw (same, h) (and-false (list_all p (numbers_below i)))
     ])
 
 -- ---- the tests of one byte
@@ -82,7 +82,7 @@ module _ (f : SectionFilter) (s : List ℕ) (i x : ℕ) (is : x ≡ differences 
 -- ---- what a compiled filter keeps
 
 abbrev pub ReachesBelow : SectionFilter → ℕ → ℕ → Type 0
-ReachesBelow f i needed = (s : List ℕ) → list_all (reaches_at f s) (below i) ≡ nat_le needed (length s)
+ReachesBelow f i needed = (s : List ℕ) → list_all (reaches_at f s) (numbers_below i) ≡ nat_le needed (length s)
 
 pub reach-unmasked : (f : SectionFilter) (i needed : ℕ) → ReachesBelow f i needed → slice_index f.mask i ≡ 0 → ReachesBelow f (i + 1) needed
 unfolding reaches_at
@@ -104,15 +104,15 @@ reach-masked f i needed h l z s =
     all-more (reaches_at f s) i ∙ rw (e, h s) (both-reach needed (place_of i) (length s) l)
 
 pub reach-none : (f : SectionFilter) → ReachesBelow f 0 0
-unfolding below
+unfolding numbers_below
 reach-none f s = let e : nat_le 0 (length s) ≡ true = grind (arith, nat_tests) in sym e
 
-pub all-none : (p : ℕ → Bool) → list_all p (below 0) ≡ true
-unfolding below
+pub all-none : (p : ℕ → Bool) → list_all p (numbers_below 0) ≡ true
+unfolding numbers_below
 all-none p = refl
 
-pub any-none : (p : ℕ → Bool) → list_any p (below 0) ≡ false
-unfolding below
+pub any-none : (p : ℕ → Bool) → list_any p (numbers_below 0) ≡ false
+unfolding numbers_below
 any-none p = refl
 
 pub place-rises : (i : ℕ) → place_of i ≤ place_of (i + 1)
@@ -126,7 +126,7 @@ unfolding matches
 not-reached f s needed negates h l = let e : nat_le needed (length s) ≡ false = grind (arith, nat_tests) in rw (h.reach s, e) refl
 
 pub matches-is : (f : SectionFilter) (s : List ℕ) (needed : ℕ) (negates equals differs : Bool) → IsCompiled f needed negates → needed ≤ length s
-    → equals ≡ list_all (equals_at f s) (below 16) → differs ≡ list_any (differs_at f s) (below 16) → matches f s ≡ (equals && (not negates || differs))
+    → equals ≡ list_all (equals_at f s) (numbers_below 16) → differs ≡ list_any (differs_at f s) (numbers_below 16) → matches f s ≡ (equals && (not negates || differs))
 unfolding matches
 matches-is f s needed negates equals differs h l e d =
     let k : nat_le needed (length s) ≡ true = grind (arith, nat_tests) in rw (h.reach s, k, h.negated, e, d) refl

@@ -9,7 +9,7 @@ use Rattle.std.proofs.lemmas.List.Folds.{list_all-append}
 use Rattle.std.proofs.lemmas.Bool.Decides.{nat_tests}
 use Rattle.std.proofs.lemmas.Bool.{cases_eq}
 use Rattle.filter_match.specs.declared.filter.SectionFilter.{SectionFilter}
-use Rattle.filter_match.specs.Match.{below, place_of, differences, equals_at, differs_at}
+use Rattle.filter_match.specs.Match.{numbers_below, place_of, differences, equals_at, differs_at}
 use Rattle.filter_match.proofs.Bytes.{all-more, any-more, differences-is, equals-is, differs-is}
 
 -- a mask of bits is 0 just where no lane passes
@@ -25,34 +25,34 @@ mask-none p (x ∷ xs) = go (p x) (mask-none p xs)
     ] in e ∙ h
 
 -- all of a list, place by place
-pub all-places : (p : ℕ → Bool) (xs : List ℕ) (n : ℕ) → n ≤ length xs → list_all p (take n xs) ≡ list_all (λ i. p (slice_index xs i)) (below n)
-unfolding below
+pub all-places : (p : ℕ → Bool) (xs : List ℕ) (n : ℕ) → n ≤ length xs → list_all p (take n xs) ≡ list_all (λ i. p (slice_index xs i)) (numbers_below n)
+unfolding numbers_below
 all-places p xs zero h = refl
 all-places p xs (suc n) h =
     ap (list_all p) (take-suc xs n 0 (omega arith))
     ∙ list_all-append p (take n xs) (slice_index xs n ∷ [])
-    ∙ rw (all-places p xs n (omega arith)) (sym (list_all-append (λ i. p (slice_index xs i)) (below n) (n ∷ [])))
+    ∙ rw (all-places p xs n (omega arith)) (sym (list_all-append (λ i. p (slice_index xs i)) (numbers_below n) (n ∷ [])))
 
 -- tests that agree below n agree over all places below n
-pub all-same : (p q : ℕ → Bool) (n : ℕ) → ((i : ℕ) → i < n → p i ≡ q i) → list_all p (below n) ≡ list_all q (below n)
-unfolding below
+pub all-same : (p q : ℕ → Bool) (n : ℕ) → ((i : ℕ) → i < n → p i ≡ q i) → list_all p (numbers_below n) ≡ list_all q (numbers_below n)
+unfolding numbers_below
 all-same p q zero h = refl
 all-same p q (suc n) h =
     let e : suc n ≡ n + 1 = omega arith in
-    ap (λ m. list_all p (below m)) e ∙ all-more p n ∙ rw (all-same p q n (λ i l. h i (omega arith)), h n (omega arith)) (sym (all-more q n)) ∙ ap (λ m. list_all q (below m)) (sym e)
+    ap (λ m. list_all p (numbers_below m)) e ∙ all-more p n ∙ rw (all-same p q n (λ i l. h i (omega arith)), h n (omega arith)) (sym (all-more q n)) ∙ ap (λ m. list_all q (numbers_below m)) (sym e)
 
 not-and : (a b : Bool) → not (a && b) ≡ (not a || not b)
 not-and true b = refl
 not-and false b = refl
 
 -- not all pass just where one fails
-pub any-not : (p q : ℕ → Bool) (n : ℕ) → ((i : ℕ) → i < n → not (p i) ≡ q i) → not (list_all p (below n)) ≡ list_any q (below n)
-unfolding below
+pub any-not : (p q : ℕ → Bool) (n : ℕ) → ((i : ℕ) → i < n → not (p i) ≡ q i) → not (list_all p (numbers_below n)) ≡ list_any q (numbers_below n)
+unfolding numbers_below
 any-not p q zero h = refl
 any-not p q (suc n) h =
     let e : suc n ≡ n + 1 = omega arith in
-    ap (λ m. not (list_all p (below m))) e ∙ ap not (all-more p n) ∙ not-and (list_all p (below n)) (p n)
-    ∙ rw (any-not p q n (λ i l. h i (omega arith)), h n (omega arith)) (sym (any-more q n)) ∙ ap (λ m. list_any q (below m)) (sym e)
+    ap (λ m. not (list_all p (numbers_below m))) e ∙ ap not (all-more p n) ∙ not-and (list_all p (numbers_below n)) (p n)
+    ∙ rw (any-not p q n (λ i l. h i (omega arith)), h n (omega arith)) (sym (any-more q n)) ∙ ap (λ m. list_any q (numbers_below m)) (sym e)
 
 -- ---- the lanes of the differences
 

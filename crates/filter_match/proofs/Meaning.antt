@@ -7,7 +7,7 @@ use Rattle.std.proofs.lemmas.Bool.Decides.{nat_tests}
 use Rattle.std.proofs.lemmas.Nat.{and_le_r}
 use Rattle.std.proofs.lemmas.Nat.Bits.{bit_at_and, bit_at_xor, bit_at_not, bit_at-zero, bit_at-trailing_zeros}
 use Rattle.filter_match.specs.declared.filter.SectionFilter.{SectionFilter}
-use Rattle.filter_match.specs.Match.{place_of, below, reaches_at, differences, equals_at, differs_at, negates_at, matches}
+use Rattle.filter_match.specs.Match.{place_of, numbers_below, reaches_at, differences, equals_at, differs_at, negates_at, matches}
 use Rattle.filter_match.specs.Meaning.{bit_of, HasMode, IsMatch}
 use Rattle.filter_match.proofs.Bytes.{all-none, all-next, all-stops, any-none, any-more}
 
@@ -33,34 +33,34 @@ or-false : (b : Bool) → (b || false) ≡ true → b ≡ true
 or-false true h = refl
 or-false false h = h
 
-all-at : (p : ℕ → Bool) (n i : ℕ) → list_all p (below n) ≡ true → i < n → p i ≡ true
-all-at p n i h l = by-bool (p i) (p i ≡ true) (λ e. e) (λ e. let f : list_all p (below n) ≡ false = all-stops p i n l e in absurd (cc))
+all-at : (p : ℕ → Bool) (n i : ℕ) → list_all p (numbers_below n) ≡ true → i < n → p i ≡ true
+all-at p n i h l = by-bool (p i) (p i ≡ true) (λ e. e) (λ e. let f : list_all p (numbers_below n) ≡ false = all-stops p i n l e in absurd (cc))
 
-all-from : (p : ℕ → Bool) (n : ℕ) → ((i : ℕ) → i < n → p i ≡ true) → list_all p (below n) ≡ true
+all-from : (p : ℕ → Bool) (n : ℕ) → ((i : ℕ) → i < n → p i ≡ true) → list_all p (numbers_below n) ≡ true
 all-from p zero h = all-none p
 all-from p (suc n) h =
     let e : suc n ≡ n + 1 = omega arith in
     rw e (all-next p n (all-from p n (λ i l. h i (omega arith))) (h n (omega arith)))
 
-any-some : (p : ℕ → Bool) (n : ℕ) → list_any p (below n) ≡ true → (i : ℕ) × ((i < n) × (p i ≡ true))
-any-some p zero h = let e : list_any p (below 0) ≡ false = any-none p in absurd (cc)
+any-some : (p : ℕ → Bool) (n : ℕ) → list_any p (numbers_below n) ≡ true → (i : ℕ) × ((i < n) × (p i ≡ true))
+any-some p zero h = let e : list_any p (numbers_below 0) ≡ false = any-none p in absurd (cc)
 any-some p (suc n) h =
     let e : n + 1 ≡ suc n = omega arith in
-    let split : (list_any p (below n) || p n) ≡ true = sym (any-more p n) ∙ ap (λ k. list_any p (below k)) e ∙ h in
+    let split : (list_any p (numbers_below n) || p n) ≡ true = sym (any-more p n) ∙ ap (λ k. list_any p (numbers_below k)) e ∙ h in
     by-bool (p n) ((i : ℕ) × ((i < suc n) × (p i ≡ true)))
     (λ y. (n, (omega arith, y)))
     (λ z.
-    let earlier : (list_any p (below n) || false) ≡ true = rw z at split in
-    let found = any-some p n (or-false (list_any p (below n)) earlier) in
+    let earlier : (list_any p (numbers_below n) || false) ≡ true = rw z at split in
+    let found = any-some p n (or-false (list_any p (numbers_below n)) earlier) in
     (found.0, (omega (arith, found.1.0), found.1.1)))
 
-any-from : (p : ℕ → Bool) (n i : ℕ) → i < n → p i ≡ true → list_any p (below n) ≡ true
+any-from : (p : ℕ → Bool) (n i : ℕ) → i < n → p i ≡ true → list_any p (numbers_below n) ≡ true
 any-from p zero i l h = absurd (omega arith)
 any-from p (suc n) i l h =
     let e : suc n ≡ n + 1 = omega arith in
     rw e (any-more p n ∙ elim (cases_lt i n) [
       | inl k ↦ rw (any-from p n i k h) refl
-      | inr k ↦ let same : n ≡ i = omega arith in rw (same, h) (or-true (list_any p (below i)))
+      | inr k ↦ let same : n ≡ i = omega arith in rw (same, h) (or-true (list_any p (numbers_below i)))
     ])
 
 -- ---- bytes, as facts on each bit
@@ -179,15 +179,15 @@ module _ (f : SectionFilter) (s : List ℕ) where
     unfolding matches
     meant h =
         let first = and-left _ _ h in
-        let reach : list_all (reaches_at f s) (below 16) ≡ true = and-left _ _ first in
-        let equal : list_all (equals_at f s) (below 16) ≡ true = and-right _ _ first in
-        let negated : (not (list_any (negates_at f) (below 16)) || list_any (differs_at f s) (below 16)) ≡ true = and-right _ _ h in
+        let reach : list_all (reaches_at f s) (numbers_below 16) ≡ true = and-left _ _ first in
+        let equal : list_all (equals_at f s) (numbers_below 16) ≡ true = and-right _ _ first in
+        let negated : (not (list_any (negates_at f) (numbers_below 16)) || list_any (differs_at f s) (numbers_below 16)) ≡ true = and-right _ _ h in
         record {
           reaches = λ i l. reaches-at i (all-at (reaches_at f s) 16 i reach l);
           equals = λ i k m. equals-at i k (all-at (equals_at f s) 16 i equal m.byte) m;
           differs = λ i k m.
-              let n : list_any (negates_at f) (below 16) ≡ true = any-from (negates_at f) 16 i m.byte (negates-from i k m) in
-              let d : list_any (differs_at f s) (below 16) ≡ true = rw n at negated in
+              let n : list_any (negates_at f) (numbers_below 16) ≡ true = any-from (negates_at f) 16 i m.byte (negates-from i k m) in
+              let d : list_any (differs_at f s) (numbers_below 16) ≡ true = rw n at negated in
               let j = any-some (differs_at f s) 16 d in
               let t = differs-some j.0 j.1.0 j.1.1 in
               (j.0, t.0, t.1);
@@ -196,14 +196,14 @@ module _ (f : SectionFilter) (s : List ℕ) where
     meant-all : IsMatch f s → matches f s ≡ true
     unfolding matches
     meant-all h =
-        let reach : list_all (reaches_at f s) (below 16) ≡ true = all-from (reaches_at f s) 16 (λ i l. reaches-from i (h.reaches i l)) in
-        let equal : list_all (equals_at f s) (below 16) ≡ true = all-from (equals_at f s) 16 (λ i l. equals-from i l (λ k. h.equals i k)) in
-        by-bool (list_any (negates_at f) (below 16)) _
+        let reach : list_all (reaches_at f s) (numbers_below 16) ≡ true = all-from (reaches_at f s) 16 (λ i l. reaches-from i (h.reaches i l)) in
+        let equal : list_all (equals_at f s) (numbers_below 16) ≡ true = all-from (equals_at f s) 16 (λ i l. equals-from i l (λ k. h.equals i k)) in
+        by-bool (list_any (negates_at f) (numbers_below 16)) _
         (λ n.
         let i = any-some (negates_at f) 16 n in
         let k = negates-some i.0 i.1.0 i.1.1 in
         let t = h.differs i.0 k.0 k.1 in
-        let d : list_any (differs_at f s) (below 16) ≡ true = any-from (differs_at f s) 16 t.0 t.2.0.byte (differs-from t.0 t.1 t.2.0 t.2.1) in
+        let d : list_any (differs_at f s) (numbers_below 16) ≡ true = any-from (differs_at f s) 16 t.0 t.2.0.byte (differs-from t.0 t.1 t.2.0 t.2.1) in
         rw (reach, equal, n, d) refl)
         (λ n. rw (reach, equal, n) refl)
 

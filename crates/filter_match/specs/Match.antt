@@ -9,9 +9,9 @@ abbrev pub place_of : ℕ → ℕ
 place_of i = if nat_eq i 0 then 0 else i + 2
 
 -- the numbers below n
-unfoldable pub below : ℕ → List ℕ
-below zero = []
-below (suc n) = below n ++ n ∷ []
+unfoldable pub numbers_below : ℕ → List ℕ
+numbers_below zero = []
+numbers_below (suc n) = numbers_below n ++ n ∷ []
 
 -- filter byte i isn't masked, or stands against a byte that the section has
 unfoldable pub reaches_at : SectionFilter → List ℕ → ℕ → Bool
@@ -37,6 +37,6 @@ negates_at f i = not (nat_eq (bit_and (slice_index f.mask i) (slice_index f.mode
 -- bits have mode 1, one of them differs.
 unfoldable pub matches : SectionFilter → List ℕ → Bool
 matches f s =
-    list_all (reaches_at f s) (below 16)
-    && list_all (equals_at f s) (below 16)
-    && (not (list_any (negates_at f) (below 16)) || list_any (differs_at f s) (below 16))
+    list_all (reaches_at f s) (numbers_below 16)
+    && list_all (equals_at f s) (numbers_below 16)
+    && (not (list_any (negates_at f) (numbers_below 16)) || list_any (differs_at f s) (numbers_below 16))

@@ -1,7 +1,7 @@
 // A filter held against a section's bytes: one byte after the other, or all sixteen at once.
 ghost use Rattle.std.specs.Prelude.{◌≡◌, ◌<◌, ◌≤◌, ◌==◌, ℕ, length, slice_index};
 ghost use Rattle.std.specs.List.{list_all, list_any};
-ghost use Rattle.filter_match.specs.Match.{below, equals_at, differs_at, place_of as place};
+ghost use Rattle.filter_match.specs.Match.{numbers_below, equals_at, differs_at, place_of as place};
 
 use crate::SectionFilter;
 use std::simd::prelude::*;
@@ -20,8 +20,8 @@ pub(crate) struct Compared {
 
 // Compares the sixteen bytes of a filter with those of a section. A byte that the section doesn't have counts as 0.
 pub(crate) fn compare(filter: &SectionFilter, section: &[u8]) -> Compared
-    ensures equals { result.equals ≡ list_all (equals_at filter.now section.now) (below 16) }
-    ensures differs { result.differs ≡ list_any (differs_at filter.now section.now) (below 16) }
+    ensures equals { result.equals ≡ list_all (equals_at filter.now section.now) (numbers_below 16) }
+    ensures differs { result.differs ≡ list_any (differs_at filter.now section.now) (numbers_below 16) }
 {
     if section.len() < WHOLE {
         compare_bytes(filter, section)
@@ -33,8 +33,8 @@ pub(crate) fn compare(filter: &SectionFilter, section: &[u8]) -> Compared
 // Compares all sixteen bytes at once, with a section that has them all.
 pub(crate) fn compare_lanes(filter: &SectionFilter, section: &[u8]) -> Compared
     requires { WHOLE ≤ length section.now }
-    ensures equals { result.equals ≡ list_all (equals_at filter.now section.now) (below 16) }
-    ensures differs { result.differs ≡ list_any (differs_at filter.now section.now) (below 16) }
+    ensures equals { result.equals ≡ list_all (equals_at filter.now section.now) (numbers_below 16) }
+    ensures differs { result.differs ≡ list_any (differs_at filter.now section.now) (numbers_below 16) }
 {
     let mode = u8x16::from_array(filter.mode);
     let differences = (u8x16::from_array(filter.filter) ^ lanes_of(section))
@@ -58,15 +58,15 @@ fn lanes_of(section: &[u8]) -> u8x16
 
 // Whether all lanes are 0.
 fn all_zero(lanes: u8x16) -> bool
-    ensures { result ≡ list_all (λ i. slice_index lanes i == 0) (below 16) }
+    ensures { result ≡ list_all (λ i. slice_index lanes i == 0) (numbers_below 16) }
 {
     lanes.simd_ne(u8x16::splat(0)).to_bitmask() == 0
 }
 
 // Compares one byte after the other.
 pub(crate) fn compare_bytes(filter: &SectionFilter, section: &[u8]) -> Compared
-    ensures equals { result.equals ≡ list_all (equals_at filter.now section.now) (below 16) }
-    ensures differs { result.differs ≡ list_any (differs_at filter.now section.now) (below 16) }
+    ensures equals { result.equals ≡ list_all (equals_at filter.now section.now) (numbers_below 16) }
+    ensures differs { result.differs ≡ list_any (differs_at filter.now section.now) (numbers_below 16) }
 {
     let mut equals = true;
     let mut differs = false;

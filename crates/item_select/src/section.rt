@@ -14,7 +14,7 @@ fn is_selected(wanted: &Compiled, check: bool, section: &[u8]) -> bool
     requires { 3 ≤ length section.now }
     ensures { result ≡ selected wanted.now check section.now }
 {
-    wanted.selects(section) && (!check || section[1] >> 7 & 1 == 0 || crc(section) == 0)
+    wanted.selects(section) && (!check || section[1] & 0x80 == 0 || crc(section) == 0)
 }
 
 /// Takes all sections out of an assembler.

@@ -8,7 +8,8 @@ use Rattle.dmx_calls.specs.Tenure.{Params, Empty, Section, Pes}
 use Rattle.dmx_calls.specs.Items.{timeout_of}
 use Rattle.dmx_calls.specs.Ledger.{Misfit}
 use Rattle.dmx_calls.specs.Facts.{Ledger, Facts, unread_of, rest_of}
-use Rattle.dmx_calls.specs.Answer.{is_section, read_terms, is_no_byte, timed_out_of, most_bytes, first_of, read_response, expired_of}
+use Rattle.dmx_calls.specs.History.{is_empty}
+use Rattle.dmx_calls.specs.Answer.{is_section, read_terms, timed_out_of, most_bytes, first_of, read_response, expired_of}
 use Rattle.node_buffer.specs.Inside.Capturing.{with_response}
 use Rattle.node_buffer.specs.Inside.Coherent.{UnreadFits, Coherent}
 use Rattle.node_buffer.proofs.Rests.{rest_some}
@@ -33,7 +34,7 @@ abbrev pub Readable : Params → Option Ledger → Type 0
 Readable set None = Unit {0}
 Readable set (Some l) = Coherent l × StillToRead set l.unread l.rest
 
-some_length : (xs : List ℕ) → is_no_byte xs ≡ false → 0 < length xs
+some_length : (xs : List ℕ) → is_empty xs ≡ false → 0 < length xs
 some_length [] some = absurd (cc)
 some_length (x ∷ xs) some = omega arith
 
@@ -85,7 +86,7 @@ module _ (f : Facts) (l : Ledger) (count : ℕ) (still : StillToRead f.params l.
   by_expiry false None some = by_count (nat_eq count 0) some refl
   by_expiry false (Some m) some = record { overflows = refl; times_out = refl; waits = refl; gives_none = refl; gives_some = refl }
 
-  by_over : (x : Option ℕ) (o : Option Misfit) (b : Bool) → l.answered ≤ l.total → UnreadFits o l.unread l.answered l.total → is_no_byte l.unread ≡ b
+  by_over : (x : Option ℕ) (o : Option Misfit) (b : Bool) → l.answered ≤ l.total → UnreadFits o l.unread l.answered l.total → is_empty l.unread ≡ b
       → ReadCausesBy true (is_some o && b) (is_some x && not l.is_told) (nat_eq l.answered l.total) count
       (first_of (option_map (λ y. Overflow l.answered l.total y.item y.need y.room) (if b then o else None) ∷ timed_out_of (read_terms f) l x ∷ from_nothing) last)
   by_over x None true le unread none = by_expiry l.is_told x (λ left. let less : l.answered < l.total = grind (arith, nat_tests, le) in omega (arith, less, unread))
@@ -95,7 +96,7 @@ module _ (f : Facts) (l : Ledger) (count : ℕ) (still : StillToRead f.params l.
 
 pub read_cause : (f : Facts) (o : Option Ledger) (x : Option ℕ) (count : ℕ) → Readable f.params o → ReadCauses o x count (read_response f o x count)
 read_cause f None x count k = record { overflows = refl; times_out = refl; waits = refl; gives_none = refl; gives_some = refl }
-read_cause f (Some l) x count k = by_over f l count k.1 x l.over (is_no_byte l.unread) k.0.answered k.0.unread refl
+read_cause f (Some l) x count k = by_over f l count k.1 x l.over (is_empty l.unread) k.0.answered k.0.unread refl
 
 -- the expiry after the Read doesn't hang on its response
 expired_kept : (sec : Bool) (r : Response) (l : Ledger) → (with_response sec r l).expired ≡ l.expired

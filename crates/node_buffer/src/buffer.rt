@@ -12,6 +12,7 @@ ghost use Rattle.node_buffer.specs.Inside.Coherent.{CoherentIn, total_of};
 ghost use Rattle.node_buffer.specs.Inside.BufferView.{misfit_of, ledger_of, pending_by, told_by};
 
 use crate::filter::{Terms, terms_of};
+use byteorder::{BigEndian, ByteOrder};
 use dmx_calls::{ByteBuf, Params, PollError, Reply, Span, State};
 use node_ring::Ring;
 use std::alloc::{AllocError as NoMemory, Global};
@@ -421,8 +422,8 @@ fn front_length(ring: &Ring) -> u64
         return 0;
     }
     let (front, back) = ring.as_slices();
-    let high = u64::from(byte_at(front, back, 1) % 16);
-    3 + (high * 256 + u64::from(byte_at(front, back, 2)))
+    let bytes = [byte_at(front, back, 1), byte_at(front, back, 2)];
+    3 + u64::from(BigEndian::read_u16(&bytes) & 0x0fff)
 }
 
 // The byte in a place of two pieces that lie one behind the other; 0 behind them.

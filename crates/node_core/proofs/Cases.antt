@@ -19,7 +19,7 @@ use Rattle.dmx_calls.specs.Facts.{Facts, ledger_of, facts, state_of}
 use Rattle.dmx_calls.specs.Refusal.{is_allocated, is_pes, add_refusal}
 use Rattle.dmx_calls.specs.Answer.{is_owned_by, refusal_to, read_response, response_to, with_call, answer}
 use Rattle.dmx_calls.proofs.Going.{setting_some}
-use Rattle.dmx_calls.proofs.After.{params_refused, capture_refused, offered_refused, items_refused, facts_refused}
+use Rattle.dmx_calls.proofs.Unaccepted.{demux_same}
 use Rattle.item_select.specs.Selecting.{Selecting}
 use Rattle.node_buffer.proofs.Owners.{owned, holds}
 use Rattle.node_buffer.proofs.Silences.{Silent, as_done, as_ready, as_passed, accepted_of, dropping, dropping_unless}
@@ -40,7 +40,9 @@ pub record Agrees (h : History) (k : Selecting) (who : ℕ) (call : Invocation) 
 
 -- an entry that isn't accepted changes nothing
 pub selected_refused : (e : Entry) (h : History) (k : Selecting) → is_accepted e.response ≡ false → HasSelected h k → HasSelected (e ∷ h) k
-selected_refused e h k nay has = λ c is. rw (params_refused e h nay, offered_refused e h nay, items_refused e h nay) (has c (sym (capture_refused e h nay) ∙ is))
+selected_refused e h k nay has =
+    let same = demux_same e h nay in
+    λ c is. rw (same.params, same.offered, same.items) (has c (sym same.capture ∙ is))
 
 module _ (h : History) (k : Selecting) (who : ℕ) (call : Invocation) where
   -- the response to it, where it isn't refused
@@ -57,7 +59,7 @@ module _ (h : History) (k : Selecting) (who : ℕ) (call : Invocation) where
   unfolding answer
   refused_case x has is = rw is (record {
     reply = rw is refl;
-    told = facts_refused (entry_of who call (Refused x)) h refl;
+    told = (demux_same (entry_of who call (Refused x)) h refl).facts;
     selected = selected_refused (entry_of who call (Refused x)) h k refl has;
   })
 
@@ -122,7 +124,7 @@ module _ (h : History) (k : Selecting) (who : ℕ) (sound : IsSound (known h k))
         let m : Moves h k who Open (Done 0 0 KeepTap) = open_moves h k who (Done 0 0 KeepTap) refl in rw is (record { reply = rw is refl; told = m.told; selected = m.selected })
     by_owner (Some w) is = rw is (record {
       reply = rw is refl;
-      told = facts_refused (entry_of who Open (Busy w)) h refl;
+      told = (demux_same (entry_of who Open (Busy w)) h refl).facts;
       selected = selected_refused (entry_of who Open (Busy w)) h k refl has;
     })
 

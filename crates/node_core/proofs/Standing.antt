@@ -6,7 +6,7 @@ use Rattle.dmx_calls.specs.History.{History, entry_of}
 use Rattle.dmx_calls.specs.Rules.{demux}
 use Rattle.dmx_calls.specs.Facts.{facts}
 use Rattle.dmx_calls.specs.Legal.{May}
-use Rattle.dmx_calls.proofs.After.{facts_refused}
+use Rattle.dmx_calls.proofs.Unaccepted.{demux_same}
 use Rattle.dmx_calls.proofs.Nodes.{demux_keeps}
 use Rattle.item_select.specs.Selecting.{Selecting}
 use Rattle.node_core.specs.Inside.Step.{Knows, next}
@@ -34,7 +34,7 @@ goes_on h k who call r sound has (inr (none, done, memory)) =
     let P : Response → Type 0 = GoesOn h k who call in
     subst P (sym none) (record {
       may = inr (refl, rw (← a.reply) done, memory);
-      told = facts_refused (entry_of who call NoMemory) h refl;
+      told = (demux_same (entry_of who call NoMemory) h refl).facts;
       selected = selected_refused (entry_of who call NoMemory) h k refl has;
     })
 

@@ -14,7 +14,7 @@ use Rattle.pid_set.proofs.Rising.{Above, Below, Rising, rising-from}
 use Rattle.filter_match.specs.declared.filter.SectionFilter.{SectionFilter}
 use Rattle.filter_match.specs.declared.filter.Place.{Place}
 use Rattle.filter_match.specs.Places.{place_at, with_place, filter_with}
-use Rattle.filter_match.specs.Match.{below}
+use Rattle.filter_match.specs.Match.{numbers_below}
 use Rattle.text_forms.specs.Hex.{hex_byte, digit_text}
 use Rattle.text_forms.specs.Places.{HasBytes, IsFilter, is_zero, place_text, filter_text, filter_places, filter_words}
 use Rattle.text_forms.proofs.Decimals.{decimal-digits}
@@ -160,10 +160,10 @@ places_again (suc left) g (p ∷ ps) rest few all ends =
     let front : begins_number (place_text p ++ (flat_map (λ word. codes " " ++ word) (map place_text ps) ++ rest)) ≡ true = rw (append_assoc (decimal p.number) (bytes_behind p) (flat_map (λ word. codes " " ++ word) (map place_text ps) ++ rest)) begins in
     rw (same, front, one) later
 
-below_each : (P : ℕ → Type 0) (n : ℕ) → ((i : ℕ) → i < n → P i) → All P (below n)
-unfolding below
+below_each : (P : ℕ → Type 0) (n : ℕ) → ((i : ℕ) → i < n → P i) → All P (numbers_below n)
+unfolding numbers_below
 below_each P zero each = All-nil P
-below_each P (suc n) each = All-push P (below n) n (below_each P n (λ i few. each i (omega arith))) (each n (omega arith))
+below_each P (suc n) each = All-push P (numbers_below n) n (below_each P n (λ i few. each i (omega arith))) (each n (omega arith))
 
 at_is : (f : SectionFilter) (i : ℕ) → IsFilter f → i < 16 → IsPlace (place_at f i)
 at_is f i is few =
@@ -174,8 +174,8 @@ at_is f i is few =
 
 places_are : (f : SectionFilter) → IsFilter f → All IsPlace (filter_places f)
 places_are f is =
-    All-filter (λ p. not (is_zero p)) IsPlace (map (place_at f) (below 16))
-    (All-map IsPlace (place_at f) (below 16) (below_each (λ i. IsPlace (place_at f i)) 16 (λ i few. at_is f i is few)))
+    All-filter (λ p. not (is_zero p)) IsPlace (map (place_at f) (numbers_below 16))
+    (All-map IsPlace (place_at f) (numbers_below 16) (below_each (λ i. IsPlace (place_at f i)) 16 (λ i few. at_is f i is few)))
 
 pub filter_again : (f : SectionFilter) (rest : List ℕ) → IsFilter f → begins_place rest ≡ false → filter_in (filter_text f ++ rest) ≡ Some (f, rest)
 unfolding filter_in

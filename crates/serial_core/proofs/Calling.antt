@@ -16,8 +16,9 @@ use Rattle.dmx_calls.proofs.Nodes.{demux_keeps, dvr_keeps}
 use Rattle.dmx_calls.proofs.Pending.{names_a_byte}
 use Rattle.client_script.specs.declared.line.Line.{Line}
 use Rattle.client_core.specs.declared.event.Event.{Event}
-use Rattle.client_core.specs.declared.event.Want.{Want}
-use Rattle.client_core.specs.declared.event.Want.TheVariants.{Open, Close, Section, Pes, Add, Remove, Start, Stop, Size, Read, Poll, Attach, Detach}
+use Rattle.client_core.specs.declared.event.Request.{Request}
+use Rattle.client_core.specs.declared.event.Request.TheVariants.{Own}
+use Rattle.client_script.specs.declared.line.Want.TheVariants.{Read}
 use Rattle.client_core.specs.Commands.{call_of, commands_of, ends_drain}
 use Rattle.client_core.specs.Events.{progress, next_event, waits_on}
 use Rattle.client_core.specs.Repeats.{repeats}
@@ -34,8 +35,8 @@ use Rattle.serial_core.proofs.Replies.{index_set}
 -- ------ one reply
 
 -- what a reply to this call adds to the repeats, it adds to the bytes, unless it is Again and the stream has not ended
-abbrev pub IsAnswer : (ended : Bool) → Want → Response → Type 0
-IsAnswer ended (Read count) r = IsReadReply ended r
+abbrev pub IsAnswer : (ended : Bool) → Request → Response → Type 0
+IsAnswer ended (Own (Read count)) r = IsReadReply ended r
 IsAnswer ended _ r = Unit {0}
 
 read_pays : (ended : Bool) (r : Response) → IsReadReply ended r → ((if ends_drain r then 0 else 1) ≤ bytes_in r) ⊎ IsOpenAgain ended r
@@ -47,38 +48,16 @@ read_pays ended r is = go (ends_drain r) refl where
     | inr again ↦ inr again
   ]
 
-pays : (ended : Bool) (w : Want) (r : Response) → IsAnswer ended w r → (added_by w r ≤ bytes_in r) ⊎ IsOpenAgain ended r
-pays ended (Read count) r is = read_pays ended r is
-pays ended Open r is = inl (omega arith)
-pays ended Close r is = inl (omega arith)
-pays ended (Section p) r is = inl (omega arith)
-pays ended (Pes p) r is = inl (omega arith)
-pays ended (Add p) r is = inl (omega arith)
-pays ended (Remove p) r is = inl (omega arith)
-pays ended Start r is = inl (omega arith)
-pays ended Stop r is = inl (omega arith)
-pays ended (Size p) r is = inl (omega arith)
-pays ended Poll r is = inl (omega arith)
-pays ended (Attach n ps) r is = inl (omega arith)
-pays ended (Detach n) r is = inl (omega arith)
+pays : (ended : Bool) (w : Request) (r : Response) → IsAnswer ended w r → (added_by w r ≤ bytes_in r) ⊎ IsOpenAgain ended r
+pays ended (Own (Read count)) r is = read_pays ended r is
+pays ended _ r is = inl (omega arith)
 
-added_one : (w : Want) (r : Response) → added_by w r ≤ 1
-added_one (Read count) r = go (ends_drain r) where
+added_one : (w : Request) (r : Response) → added_by w r ≤ 1
+added_one (Own (Read count)) r = go (ends_drain r) where
   go : (b : Bool) → (if b then 0 else 1) ≤ 1
   go true = omega arith
   go false = omega arith
-added_one Open r = omega arith
-added_one Close r = omega arith
-added_one (Section p) r = omega arith
-added_one (Pes p) r = omega arith
-added_one (Add p) r = omega arith
-added_one (Remove p) r = omega arith
-added_one Start r = omega arith
-added_one Stop r = omega arith
-added_one (Size p) r = omega arith
-added_one Poll r = omega arith
-added_one (Attach n ps) r = omega arith
-added_one (Detach n) r = omega arith
+added_one _ r = omega arith
 
 names_at : (number : ℕ) → OverflowNamesAByte (rules_at number)
 unfolding rules_at
@@ -88,27 +67,16 @@ names_at number = go (nat_lt number DEMUX_NODES) where
   go false = names_a_byte dvr dvr_keeps
 
 -- only a read asks for something
-is_answer : (ended : Bool) (w : Want) (r : Response) → ((count : ℕ) → w ≡ Read count → IsReadReply ended r) → IsAnswer ended w r
-is_answer ended (Read count) r read = read count refl
-is_answer ended Open r read = tt
-is_answer ended Close r read = tt
-is_answer ended (Section p) r read = tt
-is_answer ended (Pes p) r read = tt
-is_answer ended (Add p) r read = tt
-is_answer ended (Remove p) r read = tt
-is_answer ended Start r read = tt
-is_answer ended Stop r read = tt
-is_answer ended (Size p) r read = tt
-is_answer ended Poll r read = tt
-is_answer ended (Attach m ps) r read = tt
-is_answer ended (Detach m) r read = tt
+is_answer : (ended : Bool) (w : Request) (r : Response) → ((count : ℕ) → w ≡ Own (Read count) → IsReadReply ended r) → IsAnswer ended w r
+is_answer ended (Own (Read count)) r read = read count refl
+is_answer ended _ r read = tt
 
 -- the answer of a node to the call of a client
-pub answers : (ended : Bool) (n who now : ℕ) (node : Node) (w : Want) → HasBrought n ended node → IsAnswer ended w (answer_by who (call_of w now) node)
+pub answers : (ended : Bool) (n who now : ℕ) (node : Node) (w : Request) → HasBrought n ended node → IsAnswer ended w (answer_by who (call_of w now) node)
 answers ended n who now node w b =
     is_answer ended w (answer_by who (call_of w now) node)
     (λ count is. subst (λ v. IsReadReply ended (answer_by who (call_of v now) node)) (sym is)
-    (subst (λ has. IsReadReply has (answer_by who (call_of (Read count) now) node)) b.ended (reads (rules_at node.number) (names_at node.number) (history_of node) who now count b.legal)))
+    (subst (λ has. IsReadReply has (answer_by who (call_of (Own (Read count)) now) node)) b.ended (reads (rules_at node.number) (names_at node.number) (history_of node) who now count b.legal)))
 
 -- a node on which no call was made refuses a read
 read_refused : (number who now count : ℕ) → answer (rules_at number) [] who (call.Read now count) ≡ Refused Ebadf
@@ -118,7 +86,7 @@ read_refused number who now count = go (nat_lt number DEMUX_NODES) where
   go true = refl
   go false = refl
 
-pub answers_fresh : (ended : Bool) (number who now : ℕ) (w : Want) → IsAnswer ended w (answer_by who (call_of w now) (uncalled number))
+pub answers_fresh : (ended : Bool) (number who now : ℕ) (w : Request) → IsAnswer ended w (answer_by who (call_of w now) (uncalled number))
 answers_fresh ended number who now w =
     is_answer ended w (answer_by who (call_of w now) (uncalled number))
     (λ count is. subst (λ v. IsReadReply ended (answer_by who (call_of v now) (uncalled number))) (sym is) (subst (IsReadReply ended) (sym (read_refused number who now count)) tt))

@@ -13,7 +13,7 @@ use Rattle.dmx_calls.specs.Response.{is_accepted}
 use Rattle.dmx_calls.specs.History.{brought_by}
 use Rattle.dmx_calls.specs.Rules.{rules_at}
 use Rattle.client_script.specs.declared.line.Line.{Line}
-use Rattle.client_core.specs.declared.event.Want.{Want}
+use Rattle.client_core.specs.declared.event.Request.{Request}
 use Rattle.client_core.specs.Commands.{call_of}
 use Rattle.client_core.specs.Events.{waits_on}
 use Rattle.serial_core.specs.Nodes.{Node, history_of, answer_by, answered}
@@ -44,7 +44,7 @@ module _ (n : ℕ) (e : Bool) (node : Node) (b : HasBrought n e node) where
   }
 
   -- a client calls it
-  pub client_brought : (who step now : ℕ) (w : Want) → HasBrought n e (answered who step (call_of w now) node)
+  pub client_brought : (who step now : ℕ) (w : Request) → HasBrought n e (answered who step (call_of w now) node)
   client_brought who step now w = record {
     legal = (b.legal, inl refl);
     are_packets = All-append IsPacket (brought_by (history_of node)) (brought (call_of w now)) b.are_packets (subst (λ ps. All IsPacket ps) (sym (none_brought w now)) (All-nil IsPacket));

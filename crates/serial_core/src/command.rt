@@ -2,7 +2,7 @@
 ghost use Rattle.std.specs.Prelude.{◌≡◌, ℕ, ◌+◌, ◌-◌, ◌<◌, ◌≤◌, ◌^◌, List, [], ◌∷◌, ◌++◌, length, IsSome, OnOk, OnErr, IsErrOf};
 ghost use Rattle.dmx_calls.specs.declared.limits.TheConstants.{DEMUX_NODES as nodes};
 ghost use Rattle.client_script.specs.declared.line.Line.{Line as ScriptLine};
-ghost use Rattle.client_core.specs.Commands.{IsWantInRange};
+ghost use Rattle.client_core.specs.Commands.{IsRequestInRange};
 ghost use Rattle.client_core.specs.Inside.Core.{IsAfter};
 ghost use Rattle.serial_core.specs.Inside.Moving.{ComesBy, HasDrawn, MadeAtMost, IsDoneBy, IsReady, Moves};
 ghost use Rattle.serial_core.specs.SerialRun.{after_waiting, called, replies_of, reply_to};
@@ -51,7 +51,7 @@ impl Runner {
         requires made { MadeAtMost self.old 8796093022208 }
         requires client { client < 8 }
         requires node { event.node ≤ nodes }
-        requires range { IsWantInRange event.want }
+        requires range { IsRequestInRange event.want }
         requires begun { IsSome core.old.current }
         requires taken { core.old.step < 2 ^ 46 }
         ensures moves { OnOk result (Moves (S.end source.old) (S.end source.new) self.old self.new

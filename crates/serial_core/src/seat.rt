@@ -15,7 +15,7 @@ ghost use Rattle.serial_core.specs.Nodes.{Node as RunNode, answer_by, answered, 
 ghost use Rattle.serial_core.specs.Inside.Standing.{IsFeeding, IsSeat, StandsAt, entries_in};
 
 use crate::node::AnyCore;
-use client_core::{ClientCore, fitted, settled};
+use client_core::{ClientCore, fitted, unless_no_memory};
 use dmx_calls::{Act, Call, Entry, Input, Reply};
 use std::alloc::{AllocError as NoMemory, Global};
 use std::sync::Arc;
@@ -70,7 +70,7 @@ impl Seat {
     {
         let answer = self.core.apply(who, call, steps);
         Ok(Heard {
-            reply: settled(answer.reply)?,
+            reply: unless_no_memory(answer.reply)?,
             batch: answer.batch,
         })
     }

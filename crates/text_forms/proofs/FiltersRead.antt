@@ -11,7 +11,7 @@ use Rattle.std.specs.List.{All, filter, flat_map}
 use Rattle.filter_match.specs.declared.filter.SectionFilter.{SectionFilter}
 use Rattle.filter_match.specs.declared.filter.Place.{Place}
 use Rattle.filter_match.specs.Places.{place_at, with_place, filter_with}
-use Rattle.filter_match.specs.Match.{below}
+use Rattle.filter_match.specs.Match.{numbers_below}
 use Rattle.text_forms.specs.Places.{HasBytes, is_zero, place_text, place_named, places_named, filter_place_text, filter_text, filter_places, filter_words, IsFilter}
 use Rattle.text_forms.proofs.PlacesRead.{place_named-place_text}
 
@@ -20,8 +20,8 @@ upto : (left i : ℕ) → List ℕ
 upto zero i = []
 upto (suc left) i = i ∷ upto left (i + 1)
 
-below-upto : below 16 ≡ upto 16 0
-unfolding below upto
+below-upto : numbers_below 16 ≡ upto 16 0
+unfolding numbers_below upto
 below-upto = refl
 
 sixteen : length (upto 16 0) ≡ 16
@@ -125,27 +125,27 @@ words_of f [] = refl
 words_of f (i ∷ later) = words_on f i later (words_of f later) (is_zero (place_at f i)) refl
 
 pub filter_text-words : (f : SectionFilter) → filter_text f ≡ flat_map (λ word. codes " " ++ word) (filter_words f)
-filter_text-words f = words_of f (below 16)
+filter_text-words f = words_of f (numbers_below 16)
 
 -- ------ the words of a filter
 
-below_each : (P : ℕ → Type 0) (n : ℕ) → ((i : ℕ) → i < n → P i) → All P (below n)
-unfolding below
+below_each : (P : ℕ → Type 0) (n : ℕ) → ((i : ℕ) → i < n → P i) → All P (numbers_below n)
+unfolding numbers_below
 below_each P zero each = All-nil P
-below_each P (suc n) each = All-push P (below n) n (below_each P n (λ i small. each i (omega arith))) (each n (omega arith))
+below_each P (suc n) each = All-push P (numbers_below n) n (below_each P n (λ i small. each i (omega arith))) (each n (omega arith))
 
 -- what holds of each place's text holds of each word of a filter
 pub filter_words-each : (P : List ℕ → Type 0) (f : SectionFilter) → ((i : ℕ) → i < 16 → P (place_text (place_at f i))) → All P (filter_words f)
 filter_words-each P f each =
     All-map P place_text (filter_places f)
-    (All-filter (λ p. not (is_zero p)) (λ p. P (place_text p)) (map (place_at f) (below 16))
-    (All-map (λ p. P (place_text p)) (place_at f) (below 16) (below_each (λ i. P (place_text (place_at f i))) 16 each)))
+    (All-filter (λ p. not (is_zero p)) (λ p. P (place_text p)) (map (place_at f) (numbers_below 16))
+    (All-map (λ p. P (place_text p)) (place_at f) (numbers_below 16) (below_each (λ i. P (place_text (place_at f i))) 16 each)))
 
 -- a filter has no more words than places
 pub length-filter_words : (f : SectionFilter) → length (filter_words f) ≤ 16
 length-filter_words f =
-    let all : length (map (place_at f) (below 16)) ≡ length (below 16) = length-map (below 16) (place_at f) in
+    let all : length (map (place_at f) (numbers_below 16)) ≡ length (numbers_below 16) = length-map (numbers_below 16) (place_at f) in
     let words : length (filter_words f) ≡ length (filter_places f) = length-map (filter_places f) place_text in
-    let split : length (filter (λ p. not (is_zero p)) (map (place_at f) (below 16))) + length (filter (λ p. not (not (is_zero p))) (map (place_at f) (below 16))) ≡ length (map (place_at f) (below 16)) = length-filter_both (λ (p : Place). not (is_zero p)) (λ p. not (not (is_zero p))) (λ p. refl) (map (place_at f) (below 16)) in
-    let numbers : length (below 16) ≡ 16 = ap length below-upto ∙ sixteen in
+    let split : length (filter (λ p. not (is_zero p)) (map (place_at f) (numbers_below 16))) + length (filter (λ p. not (not (is_zero p))) (map (place_at f) (numbers_below 16))) ≡ length (map (place_at f) (numbers_below 16)) = length-filter_both (λ (p : Place). not (is_zero p)) (λ p. not (not (is_zero p))) (λ p. refl) (map (place_at f) (numbers_below 16)) in
+    let numbers : length (numbers_below 16) ≡ 16 = ap length below-upto ∙ sixteen in
     omega arith

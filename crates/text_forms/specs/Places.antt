@@ -6,7 +6,7 @@ use Rattle.std.specs.Fmt.{decimal}
 use Rattle.filter_match.specs.declared.filter.SectionFilter.{SectionFilter}
 use Rattle.filter_match.specs.declared.filter.Place.{Place}
 use Rattle.filter_match.specs.Places.{place_at}
-use Rattle.filter_match.specs.Match.{below}
+use Rattle.filter_match.specs.Match.{numbers_below}
 use Rattle.text_forms.specs.Hex.{hex_byte, byte_text}
 use Rattle.text_forms.specs.Numbers.{number_between}
 
@@ -32,11 +32,11 @@ filter_place_text f i = if is_zero (place_at f i) then [] else codes " " ++ plac
 
 -- the places of a filter whose three bytes aren't all 0, each behind a space, in ascending order
 abbrev pub filter_text : SectionFilter → List ℕ
-filter_text f = flat_map (filter_place_text f) (below 16)
+filter_text f = flat_map (filter_place_text f) (numbers_below 16)
 
 -- the same places one after another, and their words
 abbrev pub filter_places : SectionFilter → List Place
-filter_places f = filter (λ p. not (is_zero p)) (map (place_at f) (below 16))
+filter_places f = filter (λ p. not (is_zero p)) (map (place_at f) (numbers_below 16))
 
 abbrev pub filter_words : SectionFilter → List (List ℕ)
 filter_words f = map place_text (filter_places f)

@@ -1,7 +1,7 @@
 // The words that name the bytes of a section filter.
 ghost use Rattle.std.specs.Prelude.{◌≡◌, ◌+◌, ◌≤◌, ◌<◌, ◌++◌, length, IfSome, OnOk, OnErr, vec_len, vec_capacity};
 ghost use Rattle.std.specs.Fmt.{decimal};
-ghost use Rattle.filter_match.specs.Match.{below};
+ghost use Rattle.filter_match.specs.Match.{numbers_below};
 ghost use Rattle.text_forms.specs.Places.{HasBytes, place_text, filter_place_text, filter_text, place_with as place_spelled, place_named as place_of_word};
 
 use crate::hex::{digits_of, hex_byte};

@@ -7,11 +7,11 @@ ghost use Rattle.feed_pull.specs.declared.fault.Reading.TheVariants.{Going};
 mod rows;
 
 use super::{NoMemory, Part, bytes_of};
-use dmx_calls::Head;
 use emu_io::{MemSource, Source};
 use feed_pull::Puller;
 use rows::{PACKET, ROWS, Row, Told};
 use std::alloc::Global;
+use ts_watch::Head;
 
 // A puller, and the source that it pulls from.
 #[derive(Drop)]

@@ -1,4 +1,4 @@
-use Rattle.dmx_calls.proofs.LawsHold.{demux_same, dvr_same}
+use Rattle.dmx_calls.proofs.Unaccepted.{demux_same, dvr_same}
 use Rattle.dmx_calls.proofs.laws.unaccepted_entries_change_nothing.Goals as goal
 
 pub returns-clause-demux_nodes : goal.returns-clause-demux_nodes

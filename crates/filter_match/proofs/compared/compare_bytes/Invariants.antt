@@ -1,10 +1,10 @@
 use Rattle.std.proofs.Common.{◌≡◌}
 use Rattle.std.specs.List.{list_all, list_any}
-use Rattle.filter_match.specs.Match.{below, equals_at, differs_at}
+use Rattle.filter_match.specs.Match.{numbers_below, equals_at, differs_at}
 use Rattle.filter_match.proofs.compared.compare_bytes.Given as goal
 
 abbrev pub invariant-bytes : goal.invariant-bytes
 invariant-bytes l = record {
-  equals : list_all (equals_at l.filter l.section) (below l.i) ≡ l.equals;
-  differs : list_any (differs_at l.filter l.section) (below l.i) ≡ l.differs;
+  equals : list_all (equals_at l.filter l.section) (numbers_below l.i) ≡ l.equals;
+  differs : list_any (differs_at l.filter l.section) (numbers_below l.i) ≡ l.differs;
 }

@@ -1,18 +1,18 @@
 use Rattle.std.proofs.Common.{◌++◌, ◌∙◌, ap, sym, append-nil, arith, rules}
 use Rattle.std.proofs.lemmas.List.{flat_map_more}
-use Rattle.filter_match.specs.Match.{below}
+use Rattle.filter_match.specs.Match.{numbers_below}
 use Rattle.text_forms.specs.Places.{filter_place_text}
 use Rattle.text_forms.proofs.Below.{below_more}
 use Rattle.text_forms.proofs.places.write_filter.Goals as goal
 
 pub places-init : goal.places-init
-unfolding below
+unfolding numbers_below
 places-init c = record { written = sym (append-nil c.reserve.new.self.items); room = search rules }
 
 pub places-preserved : goal.places-preserved
 places-preserved c =
     let f = filter_place_text c.args.filter.now in
     record {
-      written = rw (below_more c.places.i) (c.put_filter_place.ensures.appended ∙ (ap (λ text. text ++ f c.places.i) c.places.invariant.written ∙ flat_map_more f c.reserve.new.self.items (below c.places.i) c.places.i));
+      written = rw (below_more c.places.i) (c.put_filter_place.ensures.appended ∙ (ap (λ text. text ++ f c.places.i) c.places.invariant.written ∙ flat_map_more f c.reserve.new.self.items (numbers_below c.places.i) c.places.i));
       room = omega arith;
     }

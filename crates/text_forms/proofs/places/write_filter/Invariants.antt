@@ -1,11 +1,11 @@
 use Rattle.std.proofs.Common.{◌≡◌, ◌+◌, ◌*◌, ◌-◌, ◌≤◌, ◌++◌, vec_len, vec_capacity}
 use Rattle.std.specs.List.{flat_map}
-use Rattle.filter_match.specs.Match.{below}
+use Rattle.filter_match.specs.Match.{numbers_below}
 use Rattle.text_forms.specs.Places.{filter_place_text}
 use Rattle.text_forms.proofs.places.write_filter.Given as goal
 
 abbrev pub invariant-places : goal.invariant-places
 invariant-places l = record {
-  written : l.out.items ≡ l.initial.out.items ++ flat_map (filter_place_text l.filter) (below l.i);
+  written : l.out.items ≡ l.initial.out.items ++ flat_map (filter_place_text l.filter) (numbers_below l.i);
   room : vec_len l.out + 12 * (16 - l.i) ≤ vec_capacity l.out;
 }
