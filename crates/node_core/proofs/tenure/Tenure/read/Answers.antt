@@ -32,10 +32,7 @@ returns-clause-does c =
         facts = read-sound (params_of t.params) r c.args.now t.buffer.ledger c.expire.new.self.ledger left mid after c.requires.sound.facts c.read.ensures.holds;
         selecting = record {
           choice = c.requires.sound.selecting.choice;
-          pids = c.requires.sound.selecting.pids;
           given = c.requires.sound.selecting.given;
-          pid = c.requires.sound.selecting.pid;
-          sections = c.requires.sound.selecting.sections;
         };
       };
       bytes = omega (arith, same);
