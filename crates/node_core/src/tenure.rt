@@ -11,7 +11,7 @@ ghost use Rattle.dmx_calls.specs.Capture.{has_flag};
 ghost use Rattle.dmx_calls.specs.Facts.{state_of_filter};
 ghost use Rattle.dmx_calls.specs.Answer.{is_for_anybody, done_dropping};
 ghost use Rattle.dmx_calls.specs.Calls.{invocation_of, response_of, params_of};
-ghost use Rattle.dmx_calls.specs.Back.{BackOfRead, GivesBack};
+ghost use Rattle.dmx_calls.specs.Back.{GivesBack};
 ghost use Rattle.item_select.specs.Selecting.{begun as begun_selecting};
 ghost use Rattle.node_buffer.specs.Inside.Capturing.{terms_of as terms_by, begun};
 ghost use Rattle.node_buffer.specs.Inside.Gives.{owner_refusal, is_close};
@@ -138,14 +138,7 @@ impl Tenure {
             Call::Start { now } => plain(self.start(now)),
             Call::Stop => plain(self.stop()),
             Call::SetSize(size) => plain(self.set_size(alloc, size)),
-            Call::Read { now, buf } => {
-                let (reply, back) = self.read(ended, now, buf);
-                Answer {
-                    reply,
-                    back,
-                    batch: None,
-                }
-            }
+            Call::Read { now, buf } => plain(self.read(ended, now, buf)),
             Call::Poll { now } => plain(self.poll(ended, now)),
             Call::Open
             | Call::Close
@@ -255,12 +248,11 @@ impl Tenure {
         }
     }
 
-    // read(): the reply, with its buffer where the reply doesn't hold it. The filter may expire first.
-    fn read(&mut self, ended: bool, now: u64, buf: ByteBuf) -> (Reply, Option<ByteBuf>)
+    // read(): the reply. The filter may expire first.
+    fn read(&mut self, ended: bool, now: u64, buf: ByteBuf) -> Reply
         requires sound { IsSoundIn self.old }
         requires granted { IsGranted self.old (Read now buf.count) }
-        ensures does { Does ended self.old (Read now buf.count) (response_of result.0) self.new }
-        ensures back { BackOfRead buf result.0 result.1 }
+        ensures does { Does ended self.old (Read now buf.count) (response_of result) self.new }
     {
         self.buffer.expire(now);
         self.buffer.read(ended, buf)
