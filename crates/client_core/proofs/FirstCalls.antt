@@ -10,16 +10,18 @@ use Rattle.client_script.specs.declared.line.Line.{Line}
 use Rattle.client_script.specs.declared.line.Target.{Target}
 use Rattle.client_script.specs.declared.line.Target.TheVariants.{Node, Slot, Dvr}
 use Rattle.client_script.specs.declared.line.Verb.{Verb}
-use Rattle.client_script.specs.declared.line.Verb.TheVariants as verb
+use Rattle.client_script.specs.declared.line.Verb.TheVariants.{Once, ReadWait, Drain}
+use Rattle.client_script.specs.declared.line.Want.{Want}
+use Rattle.client_script.specs.declared.line.Want.TheVariants.{Open, Read}
 use Rattle.client_core.specs.declared.command.Command.{Command}
 use Rattle.client_core.specs.declared.event.Event.{Event}
-use Rattle.client_core.specs.declared.event.Want.{Want}
-use Rattle.client_core.specs.declared.event.Want.TheVariants.{Read}
+use Rattle.client_core.specs.declared.event.Request.{Request}
+use Rattle.client_core.specs.declared.event.Request.TheVariants.{Own}
 use Rattle.client_core.specs.declared.task.Ending.{Ending}
 use Rattle.client_core.specs.declared.task.Ending.TheVariants.{Made, Bound, AllBusy}
 use Rattle.client_core.specs.Commands.{Slots, Doing, stands, through, once, told, called, opened, read_until, done_on, done_at, done_by_slot, done, ends_wait, ends_drain, commands_of}
 use Rattle.client_core.specs.Events.{Standing, slots_after, progress_from, progress, no_slots}
-use Rattle.client_core.specs.Budget.{repeated, repeats_on, repeats_at, repeats_in, repeats_from, repeats, CallsAreFew}
+use Rattle.client_core.specs.Repeats.{repeated, repeats_on, repeats_at, repeats_in, repeats_from, repeats, CallsAreFew}
 use Rattle.client_core.proofs.Options.{none_ne_some, same_some}
 use Rattle.client_core.proofs.GoesOn.{progress_of}
 use Rattle.client_core.proofs.More.{Onward, done_on_more, repeats_none, rest_of}
@@ -51,7 +53,7 @@ if_tight : (b : Bool) (m : ℕ) (rs : List Response) (c d f g : Doing) → IsTig
 if_tight true m rs c d f g x y = x
 if_tight false m rs c d f g x y = y
 
-once_tight : (ending : Ending) (node : ℕ) (w : Want) (step : ℕ) (rs : List Response) → IsTight 1 rs (once ending node w step rs) (once ending node w step (rs ++ again ∷ []))
+once_tight : (ending : Ending) (node : ℕ) (w : Request) (step : ℕ) (rs : List Response) → IsTight 1 rs (once ending node w step rs) (once ending node w step (rs ++ again ∷ []))
 once_tight ending node w step [] = (omega arith, tt)
 once_tight ending node w step (r ∷ rs) = omega arith
 
@@ -65,15 +67,7 @@ called_tight node w step [] = (omega arith, tt)
 called_tight node w step (Done from to tap ∷ rs) =
     if_tight (nat_lt node DEMUX_NODES) 2 (Done from to tap ∷ rs) (told Made node tap (step + 1) rs) (through Made (step + 1) rs) (told Made node tap (step + 1) (rs ++ again ∷ [])) (through Made (step + 1) (rs ++ again ∷ []))
     (after_one 1 (Done from to tap) rs (told Made node tap (step + 1) rs) (told Made node tap (step + 1) (rs ++ again ∷ [])) (told_tight Made node tap (step + 1) rs)) (omega arith)
-called_tight node w step (Busy x ∷ rs) = omega arith
-called_tight node w step (Refused x ∷ rs) = omega arith
-called_tight node w step (NoMemory ∷ rs) = omega arith
-called_tight node w step (Data x ∷ rs) = omega arith
-called_tight node w step (Again x ∷ rs) = omega arith
-called_tight node w step (Overflow a b c d e ∷ rs) = omega arith
-called_tight node w step (TimedOut a b c ∷ rs) = omega arith
-called_tight node w step (Ready a b c d ∷ rs) = omega arith
-called_tight node w step (Passed ∷ rs) = omega arith
+called_tight node w step (_ ∷ rs) = omega arith
 
 -- a busy node: the next is tried
 busy_tight : (slot node step x : ℕ) (rs : List Response) → node < 32 → (node + 1 < 32 → IsTight (33 - (node + 1)) rs (opened slot (node + 1) (step + 1) rs) (opened slot (node + 1) (step + 1) (rs ++ again ∷ [])))
@@ -92,19 +86,12 @@ opened_tight slot node step (Busy x ∷ rs) lt = busy_tight slot node step x rs 
 opened_tight slot node step (Done from to tap ∷ rs) lt =
     more_tight 2 (33 - node) (Done from to tap ∷ rs) (told (Bound slot node) node tap (step + 1) rs) (told (Bound slot node) node tap (step + 1) (rs ++ again ∷ [])) (omega (arith, lt))
     (after_one 1 (Done from to tap) rs (told (Bound slot node) node tap (step + 1) rs) (told (Bound slot node) node tap (step + 1) (rs ++ again ∷ [])) (told_tight (Bound slot node) node tap (step + 1) rs))
-opened_tight slot node step (Refused x ∷ rs) lt = omega (arith, lt)
-opened_tight slot node step (NoMemory ∷ rs) lt = omega (arith, lt)
-opened_tight slot node step (Data x ∷ rs) lt = omega (arith, lt)
-opened_tight slot node step (Again x ∷ rs) lt = omega (arith, lt)
-opened_tight slot node step (Overflow a b c d e ∷ rs) lt = omega (arith, lt)
-opened_tight slot node step (TimedOut a b c ∷ rs) lt = omega (arith, lt)
-opened_tight slot node step (Ready a b c d ∷ rs) lt = omega (arith, lt)
-opened_tight slot node step (Passed ∷ rs) lt = omega (arith, lt)
+opened_tight slot node step (_ ∷ rs) lt = omega (arith, lt)
 
 read_tight : (ends : Response → Bool) (node count step : ℕ) (rs : List Response)
     → IsTight (1 + repeated ends rs) rs (read_until ends node count step rs) (read_until ends node count step (rs ++ again ∷ []))
 read_tight ends node count step [] = (omega arith, go (ends again)) where
-  go : (b : Bool) → StaysOn (record { step = step; node = node; want = Read count }) (if b then through Made (step + 1) [] else read_until ends node count (step + 1) [])
+  go : (b : Bool) → StaysOn (record { step = step; node = node; want = Own (Read count) }) (if b then through Made (step + 1) [] else read_until ends node count (step + 1) [])
   go true = tt
   go false = refl
 read_tight ends node count step (r ∷ rs) = go (ends r) (read_tight ends node count (step + 1) rs) where
@@ -127,42 +114,21 @@ reads_tight ends node count step rs =
     more_tight (1 + repeated ends rs) (33 + repeated ends rs) rs (read_until ends node count step rs) (read_until ends node count step (rs ++ again ∷ [])) (omega arith) (read_tight ends node count step rs)
 
 on_tight : (node : ℕ) (v : Verb) (step : ℕ) (rs : List Response) → IsTight (33 + repeats_on v rs) rs (done_on node v step rs) (done_on node v step (rs ++ again ∷ []))
-on_tight node (verb.ReadWait count) step rs = reads_tight ends_wait node count step rs
-on_tight node (verb.Drain count) step rs = reads_tight ends_drain node count step rs
-on_tight node verb.Open step rs = call_tight node _ step rs
-on_tight node verb.Close step rs = call_tight node _ step rs
-on_tight node (verb.Section p) step rs = call_tight node _ step rs
-on_tight node (verb.Pes p) step rs = call_tight node _ step rs
-on_tight node (verb.Add p) step rs = call_tight node _ step rs
-on_tight node (verb.Remove p) step rs = call_tight node _ step rs
-on_tight node verb.Start step rs = call_tight node _ step rs
-on_tight node verb.Stop step rs = call_tight node _ step rs
-on_tight node (verb.Size p) step rs = call_tight node _ step rs
-on_tight node (verb.Read p) step rs = call_tight node _ step rs
-on_tight node verb.Poll step rs = call_tight node _ step rs
+on_tight node (ReadWait count) step rs = reads_tight ends_wait node count step rs
+on_tight node (Drain count) step rs = reads_tight ends_drain node count step rs
+on_tight node (Once w) step rs = call_tight node w step rs
 
 at_tight : (o : Option ℕ) (v : Verb) (step : ℕ) (rs : List Response) → IsTight (33 + repeats_at o v rs) rs (done_at o v step rs) (done_at o v step (rs ++ again ∷ []))
 at_tight None v step rs = omega arith
 at_tight (Some node) v step rs = on_tight node v step rs
 
-open_slot_tight : (slot step : ℕ) (o : Option ℕ) (rs : List Response) → IsTight (33 + repeats_at o verb.Open rs) rs (opened slot 0 step rs) (opened slot 0 step (rs ++ again ∷ []))
-open_slot_tight slot step o rs = more_tight 33 (33 + repeats_at o verb.Open rs) rs (opened slot 0 step rs) (opened slot 0 step (rs ++ again ∷ [])) (omega arith) (opened_tight slot 0 step rs (omega arith))
+open_slot_tight : (slot step : ℕ) (o : Option ℕ) (rs : List Response) → IsTight (33 + repeats_at o (Once Open) rs) rs (opened slot 0 step rs) (opened slot 0 step (rs ++ again ∷ []))
+open_slot_tight slot step o rs = more_tight 33 (33 + repeats_at o (Once Open) rs) rs (opened slot 0 step rs) (opened slot 0 step (rs ++ again ∷ [])) (omega arith) (opened_tight slot 0 step rs (omega arith))
 
 slot_tight : (slot : ℕ) (slots : Slots) (v : Verb) (step : ℕ) (rs : List Response)
     → IsTight (33 + repeats_at (slice_index_or slots slot None) v rs) rs (done_by_slot slot slots v step rs) (done_by_slot slot slots v step (rs ++ again ∷ []))
-slot_tight slot slots verb.Open step rs = open_slot_tight slot step (slice_index_or slots slot None) rs
-slot_tight slot slots (verb.ReadWait n) step rs = at_tight (slice_index_or slots slot None) (verb.ReadWait n) step rs
-slot_tight slot slots (verb.Drain n) step rs = at_tight (slice_index_or slots slot None) (verb.Drain n) step rs
-slot_tight slot slots verb.Close step rs = at_tight (slice_index_or slots slot None) verb.Close step rs
-slot_tight slot slots (verb.Section p) step rs = at_tight (slice_index_or slots slot None) (verb.Section p) step rs
-slot_tight slot slots (verb.Pes p) step rs = at_tight (slice_index_or slots slot None) (verb.Pes p) step rs
-slot_tight slot slots (verb.Add p) step rs = at_tight (slice_index_or slots slot None) (verb.Add p) step rs
-slot_tight slot slots (verb.Remove p) step rs = at_tight (slice_index_or slots slot None) (verb.Remove p) step rs
-slot_tight slot slots verb.Start step rs = at_tight (slice_index_or slots slot None) verb.Start step rs
-slot_tight slot slots verb.Stop step rs = at_tight (slice_index_or slots slot None) verb.Stop step rs
-slot_tight slot slots (verb.Size p) step rs = at_tight (slice_index_or slots slot None) (verb.Size p) step rs
-slot_tight slot slots (verb.Read p) step rs = at_tight (slice_index_or slots slot None) (verb.Read p) step rs
-slot_tight slot slots verb.Poll step rs = at_tight (slice_index_or slots slot None) verb.Poll step rs
+slot_tight slot slots (Once Open) step rs = open_slot_tight slot step (slice_index_or slots slot None) rs
+slot_tight slot slots v step rs = at_tight (slice_index_or slots slot None) v step rs
 
 done_tight : (slots : Slots) (t : Target) (v : Verb) (step : ℕ) (rs : List Response) → IsTight (33 + repeats_in slots t v rs) rs (done slots t v step rs) (done slots t v step (rs ++ again ∷ []))
 done_tight slots (Node node) v step rs = on_tight node v step rs

@@ -17,7 +17,7 @@ use Rattle.client_core.specs.declared.event.Event.{Event}
 use Rattle.client_core.specs.declared.machine.Current.{Current}
 use Rattle.client_core.specs.declared.task.Task.TheVariants.{On, OpenFrom, Attach, Detach}
 use Rattle.client_script.specs.declared.line.Verb.{Verb}
-use Rattle.client_script.specs.declared.line.Verb.TheVariants as verb
+use Rattle.client_script.specs.declared.line.Verb.TheVariants.{Once, ReadWait, Drain}
 use Rattle.client_core.specs.Inside.Core.{ahead, behind, coming_from, coming, Core, IsAfter, HasTaken, waits_with}
 use Rattle.client_core.proofs.Options.{none_ne_some}
 
@@ -83,19 +83,9 @@ abbrev pub StandsAt : (step : ℕ) → Doing → Type 0
 StandsAt step d = (e : Event) × (d ≡ stands e) × (e.step ≡ step)
 
 pub on_node_stands : (node step : ℕ) (v : Verb) → StandsAt step (resumed (On node v) step [])
-on_node_stands node step (verb.ReadWait count) = (_, refl, refl)
-on_node_stands node step (verb.Drain count) = (_, refl, refl)
-on_node_stands node step verb.Open = (_, refl, refl)
-on_node_stands node step verb.Close = (_, refl, refl)
-on_node_stands node step (verb.Section p) = (_, refl, refl)
-on_node_stands node step (verb.Pes p) = (_, refl, refl)
-on_node_stands node step (verb.Add p) = (_, refl, refl)
-on_node_stands node step (verb.Remove p) = (_, refl, refl)
-on_node_stands node step verb.Start = (_, refl, refl)
-on_node_stands node step verb.Stop = (_, refl, refl)
-on_node_stands node step (verb.Size p) = (_, refl, refl)
-on_node_stands node step (verb.Read p) = (_, refl, refl)
-on_node_stands node step verb.Poll = (_, refl, refl)
+on_node_stands node step (ReadWait count) = (_, refl, refl)
+on_node_stands node step (Drain count) = (_, refl, refl)
+on_node_stands node step (Once w) = (_, refl, refl)
 
 pub task_stands : (step : ℕ) (t : Task) → StandsAt step (resumed t step [])
 task_stands step (On node v) = on_node_stands node step v
@@ -111,16 +101,7 @@ no_wait false = refl
 -- a client waits where the reply was Again, and what stands there isn't its command's first call
 waits_by : (s : Standing) (r : Response) → waits_after (Some s) (r ∷ []) ≡ (if nat_lt s.from s.event.step then waits_with r s.event.node else None)
 waits_by s (Again false) = refl
-waits_by s (Again true) = no_wait (nat_lt s.from s.event.step)
-waits_by s (Done from to tap) = no_wait (nat_lt s.from s.event.step)
-waits_by s (Busy owner) = no_wait (nat_lt s.from s.event.step)
-waits_by s (Refused e) = no_wait (nat_lt s.from s.event.step)
-waits_by s NoMemory = no_wait (nat_lt s.from s.event.step)
-waits_by s (Data bytes) = no_wait (nat_lt s.from s.event.step)
-waits_by s (Overflow from to item need room) = no_wait (nat_lt s.from s.event.step)
-waits_by s (TimedOut a b c) = no_wait (nat_lt s.from s.event.step)
-waits_by s (Ready a b c d) = no_wait (nat_lt s.from s.event.step)
-waits_by s Passed = no_wait (nat_lt s.from s.event.step)
+waits_by s _ = no_wait (nat_lt s.from s.event.step)
 
 -- a command that goes on waits where the reply was Again
 pub waits_still : (s : Standing) (r : Response) → s.from < s.event.step → waits_after (Some s) (r ∷ []) ≡ waits_with r s.event.node

@@ -3,4 +3,3 @@ pub mod GoesOn
 pub mod FirstCalls
 pub mod More
 pub mod Numbering
-pub mod ReadReplies

@@ -8,16 +8,18 @@ use Rattle.dmx_calls.specs.Response.{Response, Done, Busy, Refused, NoMemory, Da
 use Rattle.client_script.specs.declared.line.Target.{Target}
 use Rattle.client_script.specs.declared.line.Target.TheVariants.{Node, Slot, Dvr}
 use Rattle.client_script.specs.declared.line.Verb.{Verb}
-use Rattle.client_script.specs.declared.line.Verb.TheVariants as verb
+use Rattle.client_script.specs.declared.line.Verb.TheVariants.{Once, ReadWait, Drain}
+use Rattle.client_script.specs.declared.line.Want.{Want}
+use Rattle.client_script.specs.declared.line.Want.TheVariants.{Open}
 use Rattle.client_core.specs.declared.command.Command.{Command}
 use Rattle.client_core.specs.declared.event.Event.{Event}
-use Rattle.client_core.specs.declared.event.Want.{Want}
-use Rattle.client_core.specs.declared.event.Want.TheVariants.{Open}
+use Rattle.client_core.specs.declared.event.Request.{Request}
+use Rattle.client_core.specs.declared.event.Request.TheVariants.{Own}
 use Rattle.client_core.specs.declared.task.Ending.{Ending}
 use Rattle.client_core.specs.declared.task.Ending.TheVariants.{Made, Bound, AllBusy}
 use Rattle.client_core.specs.Commands.{Slots, Doing, stands, through, once, told, called, opened, read_until, done_on, done_at, done_by_slot, done, ends_wait, ends_drain, commands_of}
 use Rattle.client_core.specs.Events.{Standing, slots_after, progress_from, progress, no_slots, waits_after}
-use Rattle.client_core.specs.Budget.{repeated, repeats_on, repeats_at, repeats_in, repeats_from, repeats}
+use Rattle.client_core.specs.Repeats.{repeated, repeats_on, repeats_at, repeats_in, repeats_from, repeats}
 use Rattle.client_core.specs.Inside.Core.{waits_with}
 use Rattle.client_core.specs.Inside.More.{added_by, OneReplyMore}
 use Rattle.client_core.proofs.Options.{none_ne_some, same_some}
@@ -51,7 +53,7 @@ if_after false step r m n c f g x y = y
 
 -- ------ one call
 
-once_on : (ending : Ending) (node : ℕ) (w : Want) (step : ℕ) (rs : List Response) (r : Response) → Onward step r 0 0 (once ending node w step rs) (once ending node w step (rs ++ r ∷ []))
+once_on : (ending : Ending) (node : ℕ) (w : Request) (step : ℕ) (rs : List Response) (r : Response) → Onward step r 0 0 (once ending node w step rs) (once ending node w step (rs ++ r ∷ []))
 once_on ending node w step [] r = (refl, omega arith)
 once_on ending node w step (q ∷ rs) r = (refl, refl)
 
@@ -68,56 +70,26 @@ told_after e ending node DetachTap step r = (omega arith, omega arith)
 
 called_on : (node : ℕ) (w : Want) (step : ℕ) (rs : List Response) (r : Response) → Onward step r 0 0 (called node w step rs) (called node w step (rs ++ r ∷ []))
 called_on node w step [] (Done from to tap) =
-    if_after (nat_lt node DEMUX_NODES) step (Done from to tap) 0 0 (stands (record { step = step; node = node; want = w })) (told Made node tap (step + 1) []) (through Made (step + 1) []) (told_after (record { step = step; node = node; want = w }) Made node tap step (Done from to tap)) (refl, omega arith)
-called_on node w step [] (Busy x) = (refl, omega arith)
-called_on node w step [] (Refused x) = (refl, omega arith)
-called_on node w step [] NoMemory = (refl, omega arith)
-called_on node w step [] (Data x) = (refl, omega arith)
-called_on node w step [] (Again x) = (refl, omega arith)
-called_on node w step [] (Overflow a b c d e) = (refl, omega arith)
-called_on node w step [] (TimedOut a b c) = (refl, omega arith)
-called_on node w step [] (Ready a b c d) = (refl, omega arith)
-called_on node w step [] Passed = (refl, omega arith)
+    if_after (nat_lt node DEMUX_NODES) step (Done from to tap) 0 0 (stands (record { step = step; node = node; want = Own w })) (told Made node tap (step + 1) []) (through Made (step + 1) []) (told_after (record { step = step; node = node; want = Own w }) Made node tap step (Done from to tap)) (refl, omega arith)
+called_on node w step [] _ = (refl, omega arith)
 called_on node w step (Done from to tap ∷ rs) r =
     if_on (nat_lt node DEMUX_NODES) step r 0 0 (told Made node tap (step + 1) rs) (through Made (step + 1) rs) (told Made node tap (step + 1) (rs ++ r ∷ [])) (through Made (step + 1) (rs ++ r ∷ []))
     (earlier step (step + 1) r 0 0 (told Made node tap (step + 1) rs) (told Made node tap (step + 1) (rs ++ r ∷ [])) (omega arith) (told_on Made node tap (step + 1) rs r)) (refl, refl)
-called_on node w step (Busy x ∷ rs) r = (refl, refl)
-called_on node w step (Refused x ∷ rs) r = (refl, refl)
-called_on node w step (NoMemory ∷ rs) r = (refl, refl)
-called_on node w step (Data x ∷ rs) r = (refl, refl)
-called_on node w step (Again x ∷ rs) r = (refl, refl)
-called_on node w step (Overflow a b c d e ∷ rs) r = (refl, refl)
-called_on node w step (TimedOut a b c ∷ rs) r = (refl, refl)
-called_on node w step (Ready a b c d ∷ rs) r = (refl, refl)
-called_on node w step (Passed ∷ rs) r = (refl, refl)
+called_on node w step (_ ∷ rs) r = (refl, refl)
 
 -- ------ an open of a slot
 
 opened_on : (slot node step : ℕ) (rs : List Response) (r : Response) → Onward step r 0 0 (opened slot node step rs) (opened slot node step (rs ++ r ∷ []))
 opened_on slot node step [] (Busy x) =
     if_after (nat_lt (node + 1) DEMUX_NODES) step (Busy x) 0 0 (opened slot node step []) (opened slot (node + 1) (step + 1) []) (through AllBusy (step + 1) []) (omega arith, omega arith) (refl, omega arith)
-opened_on slot node step [] (Done from to tap) = told_after (record { step = step; node = node; want = Open }) (Bound slot node) node tap step (Done from to tap)
-opened_on slot node step [] (Refused x) = (refl, omega arith)
-opened_on slot node step [] NoMemory = (refl, omega arith)
-opened_on slot node step [] (Data x) = (refl, omega arith)
-opened_on slot node step [] (Again x) = (refl, omega arith)
-opened_on slot node step [] (Overflow a b c d e) = (refl, omega arith)
-opened_on slot node step [] (TimedOut a b c) = (refl, omega arith)
-opened_on slot node step [] (Ready a b c d) = (refl, omega arith)
-opened_on slot node step [] Passed = (refl, omega arith)
+opened_on slot node step [] (Done from to tap) = told_after (record { step = step; node = node; want = Own Open }) (Bound slot node) node tap step (Done from to tap)
+opened_on slot node step [] _ = (refl, omega arith)
 opened_on slot node step (Busy x ∷ rs) r =
     if_on (nat_lt (node + 1) DEMUX_NODES) step r 0 0 (opened slot (node + 1) (step + 1) rs) (through AllBusy (step + 1) rs) (opened slot (node + 1) (step + 1) (rs ++ r ∷ [])) (through AllBusy (step + 1) (rs ++ r ∷ []))
     (earlier step (step + 1) r 0 0 (opened slot (node + 1) (step + 1) rs) (opened slot (node + 1) (step + 1) (rs ++ r ∷ [])) (omega arith) (opened_on slot (node + 1) (step + 1) rs r)) (refl, refl)
 opened_on slot node step (Done from to tap ∷ rs) r =
     earlier step (step + 1) r 0 0 (told (Bound slot node) node tap (step + 1) rs) (told (Bound slot node) node tap (step + 1) (rs ++ r ∷ [])) (omega arith) (told_on (Bound slot node) node tap (step + 1) rs r)
-opened_on slot node step (Refused x ∷ rs) r = (refl, refl)
-opened_on slot node step (NoMemory ∷ rs) r = (refl, refl)
-opened_on slot node step (Data x ∷ rs) r = (refl, refl)
-opened_on slot node step (Again x ∷ rs) r = (refl, refl)
-opened_on slot node step (Overflow a b c d e ∷ rs) r = (refl, refl)
-opened_on slot node step (TimedOut a b c ∷ rs) r = (refl, refl)
-opened_on slot node step (Ready a b c d ∷ rs) r = (refl, refl)
-opened_on slot node step (Passed ∷ rs) r = (refl, refl)
+opened_on slot node step (_ ∷ rs) r = (refl, refl)
 
 -- ------ a read that is repeated
 
@@ -138,57 +110,27 @@ read_on ends sooner node count step (q ∷ rs) r = go (ends q) (read_on ends soo
 
 wait_sooner : (q : Response) → ends_wait q ≡ false → ends_drain q ≡ false
 wait_sooner (Again false) is = refl
-wait_sooner (Again true) is = absurd (cc)
-wait_sooner (Done a b c) is = absurd (cc)
-wait_sooner (Busy a) is = absurd (cc)
-wait_sooner (Refused a) is = absurd (cc)
-wait_sooner NoMemory is = absurd (cc)
-wait_sooner (Data a) is = absurd (cc)
-wait_sooner (Overflow a b c d e) is = absurd (cc)
-wait_sooner (TimedOut a b c) is = absurd (cc)
-wait_sooner (Ready a b c d) is = absurd (cc)
-wait_sooner Passed is = absurd (cc)
+wait_sooner _ is = absurd (cc)
 
 -- ------ a command
 
 on_on : (node : ℕ) (v : Verb) (step : ℕ) (rs : List Response) (r : Response) → Onward step r (repeats_on v rs) (repeats_on v (rs ++ r ∷ [])) (done_on node v step rs) (done_on node v step (rs ++ r ∷ []))
-on_on node (verb.ReadWait count) step rs r = read_on ends_wait wait_sooner node count step rs r
-on_on node (verb.Drain count) step rs r = read_on ends_drain (λ q is. is) node count step rs r
-on_on node verb.Open step rs r = called_on node _ step rs r
-on_on node verb.Close step rs r = called_on node _ step rs r
-on_on node (verb.Section p) step rs r = called_on node _ step rs r
-on_on node (verb.Pes p) step rs r = called_on node _ step rs r
-on_on node (verb.Add p) step rs r = called_on node _ step rs r
-on_on node (verb.Remove p) step rs r = called_on node _ step rs r
-on_on node verb.Start step rs r = called_on node _ step rs r
-on_on node verb.Stop step rs r = called_on node _ step rs r
-on_on node (verb.Size p) step rs r = called_on node _ step rs r
-on_on node (verb.Read p) step rs r = called_on node _ step rs r
-on_on node verb.Poll step rs r = called_on node _ step rs r
+on_on node (ReadWait count) step rs r = read_on ends_wait wait_sooner node count step rs r
+on_on node (Drain count) step rs r = read_on ends_drain (λ q is. is) node count step rs r
+on_on node (Once w) step rs r = called_on node w step rs r
 
 at_on : (o : Option ℕ) (v : Verb) (step : ℕ) (rs : List Response) (r : Response) → Onward step r (repeats_at o v rs) (repeats_at o v (rs ++ r ∷ [])) (done_at o v step rs) (done_at o v step (rs ++ r ∷ []))
 at_on None v step rs r = (refl, refl)
 at_on (Some node) v step rs r = on_on node v step rs r
 
-open_slot_on : (o : Option ℕ) (slot step : ℕ) (rs : List Response) (r : Response) → Onward step r (repeats_at o verb.Open rs) (repeats_at o verb.Open (rs ++ r ∷ [])) (opened slot 0 step rs) (opened slot 0 step (rs ++ r ∷ []))
+open_slot_on : (o : Option ℕ) (slot step : ℕ) (rs : List Response) (r : Response) → Onward step r (repeats_at o (Once Open) rs) (repeats_at o (Once Open) (rs ++ r ∷ [])) (opened slot 0 step rs) (opened slot 0 step (rs ++ r ∷ []))
 open_slot_on None slot step rs r = opened_on slot 0 step rs r
 open_slot_on (Some node) slot step rs r = opened_on slot 0 step rs r
 
 slot_on : (slot : ℕ) (slots : Slots) (v : Verb) (step : ℕ) (rs : List Response) (r : Response)
     → Onward step r (repeats_at (slice_index_or slots slot None) v rs) (repeats_at (slice_index_or slots slot None) v (rs ++ r ∷ [])) (done_by_slot slot slots v step rs) (done_by_slot slot slots v step (rs ++ r ∷ []))
-slot_on slot slots verb.Open step rs r = open_slot_on (slice_index_or slots slot None) slot step rs r
-slot_on slot slots (verb.ReadWait n) step rs r = at_on (slice_index_or slots slot None) (verb.ReadWait n) step rs r
-slot_on slot slots (verb.Drain n) step rs r = at_on (slice_index_or slots slot None) (verb.Drain n) step rs r
-slot_on slot slots verb.Close step rs r = at_on (slice_index_or slots slot None) verb.Close step rs r
-slot_on slot slots (verb.Section p) step rs r = at_on (slice_index_or slots slot None) (verb.Section p) step rs r
-slot_on slot slots (verb.Pes p) step rs r = at_on (slice_index_or slots slot None) (verb.Pes p) step rs r
-slot_on slot slots (verb.Add p) step rs r = at_on (slice_index_or slots slot None) (verb.Add p) step rs r
-slot_on slot slots (verb.Remove p) step rs r = at_on (slice_index_or slots slot None) (verb.Remove p) step rs r
-slot_on slot slots verb.Start step rs r = at_on (slice_index_or slots slot None) verb.Start step rs r
-slot_on slot slots verb.Stop step rs r = at_on (slice_index_or slots slot None) verb.Stop step rs r
-slot_on slot slots (verb.Size p) step rs r = at_on (slice_index_or slots slot None) (verb.Size p) step rs r
-slot_on slot slots (verb.Read p) step rs r = at_on (slice_index_or slots slot None) (verb.Read p) step rs r
-slot_on slot slots verb.Poll step rs r = at_on (slice_index_or slots slot None) verb.Poll step rs r
+slot_on slot slots (Once Open) step rs r = open_slot_on (slice_index_or slots slot None) slot step rs r
+slot_on slot slots v step rs r = at_on (slice_index_or slots slot None) v step rs r
 
 pub done_on_more : (slots : Slots) (t : Target) (v : Verb) (step : ℕ) (rs : List Response) (r : Response)
     → Onward step r (repeats_in slots t v rs) (repeats_in slots t v (rs ++ r ∷ [])) (done slots t v step rs) (done slots t v step (rs ++ r ∷ []))
@@ -203,42 +145,21 @@ LeavesNone (stands e) = Unit {0}
 LeavesNone (through ending next left) = left ≡ []
 
 on_none : (node : ℕ) (v : Verb) (step : ℕ) → LeavesNone (done_on node v step []) × (repeats_on v [] ≡ 0)
-on_none node (verb.ReadWait count) step = (tt, refl)
-on_none node (verb.Drain count) step = (tt, refl)
-on_none node verb.Open step = (tt, refl)
-on_none node verb.Close step = (tt, refl)
-on_none node (verb.Section p) step = (tt, refl)
-on_none node (verb.Pes p) step = (tt, refl)
-on_none node (verb.Add p) step = (tt, refl)
-on_none node (verb.Remove p) step = (tt, refl)
-on_none node verb.Start step = (tt, refl)
-on_none node verb.Stop step = (tt, refl)
-on_none node (verb.Size p) step = (tt, refl)
-on_none node (verb.Read p) step = (tt, refl)
-on_none node verb.Poll step = (tt, refl)
+on_none node (ReadWait count) step = (tt, refl)
+on_none node (Drain count) step = (tt, refl)
+on_none node (Once w) step = (tt, refl)
 
 at_none : (o : Option ℕ) (v : Verb) (step : ℕ) → LeavesNone (done_at o v step []) × (repeats_at o v [] ≡ 0)
 at_none None v step = (refl, refl)
 at_none (Some node) v step = on_none node v step
 
-open_none : (o : Option ℕ) → repeats_at o verb.Open [] ≡ 0
+open_none : (o : Option ℕ) → repeats_at o (Once Open) [] ≡ 0
 open_none None = refl
 open_none (Some node) = refl
 
 slot_none : (slot : ℕ) (slots : Slots) (v : Verb) (step : ℕ) → LeavesNone (done_by_slot slot slots v step []) × (repeats_at (slice_index_or slots slot None) v [] ≡ 0)
-slot_none slot slots verb.Open step = (tt, open_none (slice_index_or slots slot None))
-slot_none slot slots (verb.ReadWait n) step = at_none (slice_index_or slots slot None) (verb.ReadWait n) step
-slot_none slot slots (verb.Drain n) step = at_none (slice_index_or slots slot None) (verb.Drain n) step
-slot_none slot slots verb.Close step = at_none (slice_index_or slots slot None) verb.Close step
-slot_none slot slots (verb.Section p) step = at_none (slice_index_or slots slot None) (verb.Section p) step
-slot_none slot slots (verb.Pes p) step = at_none (slice_index_or slots slot None) (verb.Pes p) step
-slot_none slot slots (verb.Add p) step = at_none (slice_index_or slots slot None) (verb.Add p) step
-slot_none slot slots (verb.Remove p) step = at_none (slice_index_or slots slot None) (verb.Remove p) step
-slot_none slot slots verb.Start step = at_none (slice_index_or slots slot None) verb.Start step
-slot_none slot slots verb.Stop step = at_none (slice_index_or slots slot None) verb.Stop step
-slot_none slot slots (verb.Size p) step = at_none (slice_index_or slots slot None) (verb.Size p) step
-slot_none slot slots (verb.Read p) step = at_none (slice_index_or slots slot None) (verb.Read p) step
-slot_none slot slots verb.Poll step = at_none (slice_index_or slots slot None) verb.Poll step
+slot_none slot slots (Once Open) step = (tt, open_none (slice_index_or slots slot None))
+slot_none slot slots v step = at_none (slice_index_or slots slot None) v step
 
 done_none : (slots : Slots) (t : Target) (v : Verb) (step : ℕ) → LeavesNone (done slots t v step []) × (repeats_in slots t v [] ≡ 0)
 done_none slots (Node node) v step = on_none node v step
@@ -259,11 +180,11 @@ repeats_none slots step (c ∷ cs) = go (λ ending next. repeats_none (slots_aft
 -- ------ all commands
 
 -- so many repeats before and after this reply to this call; after it the client stands there
-record IsMore (w : Want) (r : Response) (m n : ℕ) (now : Option Standing) : Type 0 where
+record IsMore (w : Request) (r : Response) (m n : ℕ) (now : Option Standing) : Type 0 where
   le : n ≤ m + added_by w r
   waits : r ≡ Again false → waits_after now (r ∷ []) ≡ None → n ≤ m
 
-more_more : (w : Want) (r : Response) (k m n : ℕ) (now : Option Standing) → IsMore w r m n now → IsMore w r (k + m) (k + n) now
+more_more : (w : Request) (r : Response) (k m n : ℕ) (now : Option Standing) → IsMore w r m n now → IsMore w r (k + m) (k + n) now
 more_more w r k m n now is = record { le = omega (arith, is.le); waits = λ again none. omega (arith, is.waits again none) }
 
 -- how often those behind a command that does this repeat a read

@@ -15,16 +15,18 @@ use Rattle.client_script.specs.declared.line.Line.TheVariants.{Feed, Tick, Comma
 use Rattle.client_script.specs.declared.line.Target.{Target}
 use Rattle.client_script.specs.declared.line.Target.TheVariants.{Node, Slot, Dvr}
 use Rattle.client_script.specs.declared.line.Verb.{Verb}
-use Rattle.client_script.specs.declared.line.Verb.TheVariants as verb
+use Rattle.client_script.specs.declared.line.Verb.TheVariants.{Once, ReadWait, Drain}
+use Rattle.client_script.specs.declared.line.Want.{Want}
+use Rattle.client_script.specs.declared.line.Want.TheVariants.{Open}
 use Rattle.client_core.specs.declared.command.Command.{Command}
 use Rattle.client_core.specs.declared.event.Event.{Event}
-use Rattle.client_core.specs.declared.event.Want.{Want}
+use Rattle.client_core.specs.declared.event.Request.{Request}
 use Rattle.client_core.specs.declared.task.Ending.{Ending}
 use Rattle.client_core.specs.declared.task.Ending.TheVariants.{Made, Bound, AllBusy, NoNode}
 use Rattle.client_core.specs.Commands.{Slots, Doing, stands, through, once, told, called, opened, read_until, done_on, done_at, done_by_slot, done, ends_wait, ends_drain, commands_in, commands_of}
 use Rattle.client_core.specs.Events.{Standing, slots_after, progress_from, progress, no_slots, next_event, standing_at}
 use Rattle.client_core.specs.Inside.Tasks.{IsEndingInRange, AreSlots}
-use Rattle.client_core.specs.Budget.{repeats_in}
+use Rattle.client_core.specs.Repeats.{repeats_in}
 use Rattle.client_core.proofs.Options.{none_ne_some, same_some}
 use Rattle.client_core.proofs.GoesOn.{progress_of}
 use Rattle.client_core.proofs.More.{Onward, done_on_more, some_of}
@@ -43,7 +45,7 @@ if_fits : (b : Bool) (n : ℕ) (c d : Doing) → Fits n c → Fits n d → Fits 
 if_fits true n c d x y = x
 if_fits false n c d x y = y
 
-once_fits : (ending : Ending) (node : ℕ) (w : Want) (step : ℕ) (rs : List Response) → node ≤ DEMUX_NODES → IsEndingInRange ending → Fits (step + length rs) (once ending node w step rs)
+once_fits : (ending : Ending) (node : ℕ) (w : Request) (step : ℕ) (rs : List Response) → node ≤ DEMUX_NODES → IsEndingInRange ending → Fits (step + length rs) (once ending node w step rs)
 once_fits ending node w step [] le is = (omega arith, le)
 once_fits ending node w step (r ∷ rs) le is = (omega arith, is)
 
@@ -57,15 +59,7 @@ called_fits node w step [] le = (omega arith, le)
 called_fits node w step (Done from to tap ∷ rs) le =
     if_fits (nat_lt node DEMUX_NODES) (step + length (Done from to tap ∷ rs)) (told Made node tap (step + 1) rs) (through Made (step + 1) rs)
     (later (step + 1 + length rs) (step + length (Done from to tap ∷ rs)) (told Made node tap (step + 1) rs) (omega arith) (told_fits Made node tap (step + 1) rs tt)) (omega arith, tt)
-called_fits node w step (Busy x ∷ rs) le = (omega arith, tt)
-called_fits node w step (Refused x ∷ rs) le = (omega arith, tt)
-called_fits node w step (NoMemory ∷ rs) le = (omega arith, tt)
-called_fits node w step (Data x ∷ rs) le = (omega arith, tt)
-called_fits node w step (Again x ∷ rs) le = (omega arith, tt)
-called_fits node w step (Overflow a b c d e ∷ rs) le = (omega arith, tt)
-called_fits node w step (TimedOut a b c ∷ rs) le = (omega arith, tt)
-called_fits node w step (Ready a b c d ∷ rs) le = (omega arith, tt)
-called_fits node w step (Passed ∷ rs) le = (omega arith, tt)
+called_fits node w step (_ ∷ rs) le = (omega arith, tt)
 
 opened_fits : (slot node step : ℕ) (rs : List Response) → slot < DEMUX_NODES → node < DEMUX_NODES → Fits (step + length rs) (opened slot node step rs)
 opened_fits slot node step [] slot_lt lt = (omega arith, omega (arith, lt))
@@ -78,14 +72,7 @@ opened_fits slot node step (Busy x ∷ rs) slot_lt lt = go (nat_lt (node + 1) DE
   go false nay deeper = (omega arith, tt)
 opened_fits slot node step (Done from to tap ∷ rs) slot_lt lt =
     later (step + 1 + length rs) (step + length (Done from to tap ∷ rs)) (told (Bound slot node) node tap (step + 1) rs) (omega arith) (told_fits (Bound slot node) node tap (step + 1) rs (slot_lt, lt))
-opened_fits slot node step (Refused x ∷ rs) slot_lt lt = (omega arith, tt)
-opened_fits slot node step (NoMemory ∷ rs) slot_lt lt = (omega arith, tt)
-opened_fits slot node step (Data x ∷ rs) slot_lt lt = (omega arith, tt)
-opened_fits slot node step (Again x ∷ rs) slot_lt lt = (omega arith, tt)
-opened_fits slot node step (Overflow a b c d e ∷ rs) slot_lt lt = (omega arith, tt)
-opened_fits slot node step (TimedOut a b c ∷ rs) slot_lt lt = (omega arith, tt)
-opened_fits slot node step (Ready a b c d ∷ rs) slot_lt lt = (omega arith, tt)
-opened_fits slot node step (Passed ∷ rs) slot_lt lt = (omega arith, tt)
+opened_fits slot node step (_ ∷ rs) slot_lt lt = (omega arith, tt)
 
 read_fits : (ends : Response → Bool) (node count step : ℕ) (rs : List Response) → node ≤ DEMUX_NODES → Fits (step + length rs) (read_until ends node count step rs)
 read_fits ends node count step [] le = (omega arith, le)
@@ -94,19 +81,9 @@ read_fits ends node count step (r ∷ rs) le =
     (later (step + 1 + length rs) (step + length (r ∷ rs)) (read_until ends node count (step + 1) rs) (omega arith) (read_fits ends node count (step + 1) rs le))
 
 on_fits : (node : ℕ) (v : Verb) (step : ℕ) (rs : List Response) → node ≤ DEMUX_NODES → Fits (step + length rs) (done_on node v step rs)
-on_fits node (verb.ReadWait count) step rs le = read_fits ends_wait node count step rs le
-on_fits node (verb.Drain count) step rs le = read_fits ends_drain node count step rs le
-on_fits node verb.Open step rs le = called_fits node _ step rs le
-on_fits node verb.Close step rs le = called_fits node _ step rs le
-on_fits node (verb.Section p) step rs le = called_fits node _ step rs le
-on_fits node (verb.Pes p) step rs le = called_fits node _ step rs le
-on_fits node (verb.Add p) step rs le = called_fits node _ step rs le
-on_fits node (verb.Remove p) step rs le = called_fits node _ step rs le
-on_fits node verb.Start step rs le = called_fits node _ step rs le
-on_fits node verb.Stop step rs le = called_fits node _ step rs le
-on_fits node (verb.Size p) step rs le = called_fits node _ step rs le
-on_fits node (verb.Read p) step rs le = called_fits node _ step rs le
-on_fits node verb.Poll step rs le = called_fits node _ step rs le
+on_fits node (ReadWait count) step rs le = read_fits ends_wait node count step rs le
+on_fits node (Drain count) step rs le = read_fits ends_drain node count step rs le
+on_fits node (Once w) step rs le = called_fits node w step rs le
 
 at_fits : (o : Option ℕ) (v : Verb) (step : ℕ) (rs : List Response) → IfSome o (λ node. node < DEMUX_NODES) → Fits (step + length rs) (done_at o v step rs)
 at_fits None v step rs lt = (refl, tt)
@@ -118,19 +95,8 @@ slot_bound (s ∷ slots) zero bound = All-head (λ slot. IfSome slot (λ node. n
 slot_bound (s ∷ slots) (suc slot) bound = slot_bound slots slot (All-tail (λ slot. IfSome slot (λ node. node < DEMUX_NODES)) s slots bound)
 
 slot_fits : (slot : ℕ) (slots : Slots) (v : Verb) (step : ℕ) (rs : List Response) → slot < DEMUX_NODES → IfSome (slice_index_or slots slot None) (λ node. node < DEMUX_NODES) → Fits (step + length rs) (done_by_slot slot slots v step rs)
-slot_fits slot slots verb.Open step rs lt bound = opened_fits slot 0 step rs lt (omega arith)
-slot_fits slot slots (verb.ReadWait n) step rs lt bound = at_fits (slice_index_or slots slot None) (verb.ReadWait n) step rs bound
-slot_fits slot slots (verb.Drain n) step rs lt bound = at_fits (slice_index_or slots slot None) (verb.Drain n) step rs bound
-slot_fits slot slots verb.Close step rs lt bound = at_fits (slice_index_or slots slot None) verb.Close step rs bound
-slot_fits slot slots (verb.Section p) step rs lt bound = at_fits (slice_index_or slots slot None) (verb.Section p) step rs bound
-slot_fits slot slots (verb.Pes p) step rs lt bound = at_fits (slice_index_or slots slot None) (verb.Pes p) step rs bound
-slot_fits slot slots (verb.Add p) step rs lt bound = at_fits (slice_index_or slots slot None) (verb.Add p) step rs bound
-slot_fits slot slots (verb.Remove p) step rs lt bound = at_fits (slice_index_or slots slot None) (verb.Remove p) step rs bound
-slot_fits slot slots verb.Start step rs lt bound = at_fits (slice_index_or slots slot None) verb.Start step rs bound
-slot_fits slot slots verb.Stop step rs lt bound = at_fits (slice_index_or slots slot None) verb.Stop step rs bound
-slot_fits slot slots (verb.Size p) step rs lt bound = at_fits (slice_index_or slots slot None) (verb.Size p) step rs bound
-slot_fits slot slots (verb.Read p) step rs lt bound = at_fits (slice_index_or slots slot None) (verb.Read p) step rs bound
-slot_fits slot slots verb.Poll step rs lt bound = at_fits (slice_index_or slots slot None) verb.Poll step rs bound
+slot_fits slot slots (Once Open) step rs lt bound = opened_fits slot 0 step rs lt (omega arith)
+slot_fits slot slots v step rs lt bound = at_fits (slice_index_or slots slot None) v step rs bound
 
 done_fits : (slots : Slots) (t : Target) (v : Verb) (step : ℕ) (rs : List Response) → IsTargetInRange t → AreSlots slots → Fits (step + length rs) (done slots t v step rs)
 done_fits slots (Node node) v step rs le bound = on_fits node v step rs (omega (arith, le))

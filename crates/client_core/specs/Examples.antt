@@ -11,8 +11,9 @@ use Rattle.dmx_calls.specs.Response.{Response, Done, Busy, Refused, Data, Again,
 use Rattle.client_script.specs.declared.line.Line.{Line}
 use Rattle.client_script.specs.declared.line.Line.TheVariants.{Feed, Command}
 use Rattle.client_script.specs.declared.line.Target.TheVariants.{Node, Slot, Dvr}
-use Rattle.client_script.specs.declared.line.Verb.TheVariants.{Open, Close, Pes, Start, Stop, Read, ReadWait, Drain, Poll}
-use Rattle.client_core.specs.declared.event.Want.TheVariants.{Open as AskOpen, Start as AskStart, Stop as AskStop, Read as AskRead, Attach as AskAttach, Detach as AskDetach}
+use Rattle.client_script.specs.declared.line.Verb.TheVariants.{Once, ReadWait, Drain}
+use Rattle.client_script.specs.declared.line.Want.TheVariants.{Open, Close, Pes, Start, Stop, Read, Poll}
+use Rattle.client_core.specs.declared.event.Request.TheVariants.{Own, Attach as AskAttach, Detach as AskDetach}
 use Rattle.dmx_calls.specs.declared.outcome.Outcome.{Outcome}
 use Rattle.dmx_calls.specs.declared.outcome.OutcomeKind.TheVariants.{Done as WasDone, Emfile, Unbound}
 use Rattle.client_core.specs.Events.{next_event, outcomes, waits_on}
@@ -29,8 +30,8 @@ keep = Done 0 0 KeepTap
 -- a node is opened, set and started, read once and polled
 abbrev pub one_read : List Line
 one_read =
-    Command 1 0 (Node 0) Open ∷ Command 2 0 (Node 0) (Pes recording) ∷ Command 3 0 (Node 0) Start ∷ Feed 3
-    ∷ Command 5 0 (Node 0) (Read 4) ∷ Command 6 0 (Node 0) Poll ∷ []
+    Command 1 0 (Node 0) (Once Open) ∷ Command 2 0 (Node 0) (Once (Pes recording)) ∷ Command 3 0 (Node 0) (Once Start) ∷ Feed 3
+    ∷ Command 5 0 (Node 0) (Once (Read 4)) ∷ Command 6 0 (Node 0) (Once Poll) ∷ []
 
 abbrev pub read_bytes : Response
 read_bytes = Data (0x47 ∷ 0x01 ∷ 0x00 ∷ 0x10 ∷ [])
@@ -43,10 +44,10 @@ OneRead = outcomes 0 one_read (keep ∷ keep ∷ keep ∷ read_bytes ∷ Ready t
     ≡ done_line 1 0 1 ∷ done_line 2 1 2 ∷ done_line 3 2 3 ∷ done_line 5 3 4 ∷ done_line 6 4 5 ∷ []
 
 abbrev pub OneReadIsNext : Type 0
-OneReadIsNext = next_event 0 one_read (keep ∷ keep ∷ keep ∷ []) ≡ Some (record { step = 3; node = 0; want = AskRead 4 })
+OneReadIsNext = next_event 0 one_read (keep ∷ keep ∷ keep ∷ []) ≡ Some (record { step = 3; node = 0; want = Own (Read 4) })
 
 abbrev pub FirstEvent : Type 0
-FirstEvent = next_event 0 one_read [] ≡ Some (record { step = 0; node = 0; want = AskOpen })
+FirstEvent = next_event 0 one_read [] ≡ Some (record { step = 0; node = 0; want = Own Open })
 
 abbrev pub OneReadIsThrough : Type 0
 OneReadIsThrough = next_event 0 one_read (keep ∷ keep ∷ keep ∷ read_bytes ∷ Ready true Quiet 4 false ∷ []) ≡ None
@@ -57,7 +58,7 @@ NoCommands = (next_event 1 one_read [] ≡ None) × (outcomes 1 one_read [] ≡ 
 
 -- a read that waits for bytes
 abbrev pub waiting : List Line
-waiting = Command 1 0 (Node 0) Open ∷ Command 2 0 (Node 0) (Pes recording) ∷ Command 3 0 (Node 0) Start
+waiting = Command 1 0 (Node 0) (Once Open) ∷ Command 2 0 (Node 0) (Once (Pes recording)) ∷ Command 3 0 (Node 0) (Once Start)
     ∷ Command 4 0 (Node 0) (ReadWait 2) ∷ []
 
 abbrev pub WaitedRead : Type 0
@@ -80,7 +81,7 @@ draining = Command 1 2 (Node 3) (Drain 9) ∷ []
 abbrev pub DrainGoesOn : Type 0
 DrainGoesOn =
     next_event 2 draining (Again false ∷ Data (1 ∷ []) ∷ Overflow 1 9 2 3 0 ∷ [])
-    ≡ Some (record { step = 3; node = 3; want = AskRead 9 })
+    ≡ Some (record { step = 3; node = 3; want = Own (Read 9) })
 
 abbrev pub DrainEnds : Type 0
 DrainEnds = (outcomes 2 draining (Data (1 ∷ []) ∷ Again true ∷ []) ≡ done_line 1 0 2 ∷ [])
@@ -90,14 +91,14 @@ DrainEnds = (outcomes 2 draining (Data (1 ∷ []) ∷ Again true ∷ []) ≡ don
 
 -- the dvr node is told of a tap
 abbrev pub taps : List Line
-taps = Command 1 0 (Node 3) Start ∷ Command 2 0 (Node 3) Stop ∷ Command 3 0 Dvr Open ∷ []
+taps = Command 1 0 (Node 3) (Once Start) ∷ Command 2 0 (Node 3) (Once Stop) ∷ Command 3 0 Dvr (Once Open) ∷ []
 
 abbrev pub TapIsTold : Type 0
 TapIsTold =
     (next_event 0 taps (Done 0 0 (AttachTap (256 ∷ [])) ∷ [])
     ≡ Some (record { step = 1; node = 32; want = AskAttach 3 (256 ∷ []) }))
     × (next_event 0 taps (Done 0 0 (AttachTap (256 ∷ [])) ∷ keep ∷ [])
-    ≡ Some (record { step = 2; node = 3; want = AskStop }))
+    ≡ Some (record { step = 2; node = 3; want = Own Stop }))
     × (next_event 0 taps (Done 0 0 (AttachTap (256 ∷ [])) ∷ keep ∷ Done 0 0 DetachTap ∷ [])
     ≡ Some (record { step = 3; node = 32; want = AskDetach 3 }))
     × (outcomes 0 taps (Done 0 0 (AttachTap (256 ∷ [])) ∷ keep ∷ Done 0 0 DetachTap ∷ keep ∷ keep ∷ [])
@@ -105,7 +106,7 @@ TapIsTold =
 
 -- 33 slots are opened, where there are 32 nodes: the open of slot k finds k nodes busy
 abbrev pub slots_opened : List Line
-slots_opened = map (λ k. Command (k + 1) 0 (Slot k) Open) (range_with_len 0 32) ++ Command 33 0 (Slot 0) Open ∷ []
+slots_opened = map (λ k. Command (k + 1) 0 (Slot k) (Once Open)) (range_with_len 0 32) ++ Command 33 0 (Slot 0) (Once Open) ∷ []
 
 abbrev pub slot_replies : List Response
 slot_replies = flat_map (λ k. replicate k (Busy 1) ++ keep ∷ []) (range_with_len 0 32) ++ replicate 32 (Busy 1)
@@ -121,25 +122,25 @@ AllNodesAreBusy =
 
 abbrev pub UnboundSlot : Type 0
 UnboundSlot =
-    outcomes 0 (Command 1 0 (Slot 5) Stop ∷ []) [] ≡ record { line = 1; from = 0; to = 0; kind = Unbound } ∷ []
+    outcomes 0 (Command 1 0 (Slot 5) (Once Stop) ∷ []) [] ≡ record { line = 1; from = 0; to = 0; kind = Unbound } ∷ []
 
 -- a slot is bound to the first node that isn't busy, and stays bound
 abbrev pub BoundSlot : Type 0
 BoundSlot =
-    next_event 0 (Command 1 0 (Slot 5) Open ∷ Command 2 0 (Slot 5) Close ∷ Command 3 0 (Slot 5) Start ∷ [])
+    next_event 0 (Command 1 0 (Slot 5) (Once Open) ∷ Command 2 0 (Slot 5) (Once Close) ∷ Command 3 0 (Slot 5) (Once Start) ∷ [])
     (Busy 2 ∷ keep ∷ keep ∷ [])
-    ≡ Some (record { step = 3; node = 1; want = AskStart })
+    ≡ Some (record { step = 3; node = 1; want = Own Start })
 
 -- a slot whose open finds all nodes busy is bound as before
 abbrev pub reopened : List Line
-reopened = Command 1 0 (Slot 5) Open ∷ Command 2 0 (Slot 5) Open ∷ Command 3 0 (Slot 5) Start ∷ []
+reopened = Command 1 0 (Slot 5) (Once Open) ∷ Command 2 0 (Slot 5) (Once Open) ∷ Command 3 0 (Slot 5) (Once Start) ∷ []
 
 abbrev pub SlotStaysBound : Type 0
 SlotStaysBound =
     next_event 0 reopened (Busy 2 ∷ keep ∷ replicate 32 (Busy 1))
-    ≡ Some (record { step = 34; node = 1; want = AskStart })
+    ≡ Some (record { step = 34; node = 1; want = Own Start })
 
 -- a slot that is opened again is bound to the node that was found
 abbrev pub SlotIsBoundAnew : Type 0
 SlotIsBoundAnew =
-    next_event 0 reopened (keep ∷ Busy 1 ∷ Busy 1 ∷ keep ∷ []) ≡ Some (record { step = 4; node = 2; want = AskStart })
+    next_event 0 reopened (keep ∷ Busy 1 ∷ Busy 1 ∷ keep ∷ []) ≡ Some (record { step = 4; node = 2; want = Own Start })

@@ -5,7 +5,7 @@ ghost use Rattle.dmx_calls.specs.Calls.{response_of};
 ghost use Rattle.dmx_calls.specs.Response.{Response};
 ghost use Rattle.client_script.specs.declared.line.Line.{Line as ScriptLine};
 ghost use Rattle.client_script.specs.Script.{IsScript};
-ghost use Rattle.client_core.specs.Commands.{commands_of, IsWantInRange};
+ghost use Rattle.client_core.specs.Commands.{commands_of, IsRequestInRange};
 ghost use Rattle.client_core.specs.Events.{next_event, outcomes as outcomes_of, waits_on, next_of_line};
 ghost use Rattle.client_core.specs.Inside.Tasks.{resumed, node_in};
 ghost use Rattle.client_core.specs.Inside.Core.{coming, one_if_some, IsCommandInRange, IsSound, IsAfter, HasTaken, next_of, waits_with};
@@ -100,7 +100,7 @@ impl ClientCore {
         ensures next { result ≡ next_of self.now }
         ensures tied { (client : ℕ) (lines : List ScriptLine) (replies : List Response) → IsAfter client lines replies self.now → result ≡ next_event client lines replies }
         ensures node { IfSome result (λ e. (e.step ≡ self.now.step) × (e.node ≤ nodes)) }
-        ensures range { IfSome result (λ e. IsWantInRange e.want) }
+        ensures range { IfSome result (λ e. IsRequestInRange e.want) }
         ensures some { IsSome result ↔ IsSome self.now.current }
     {
         match &self.current {
@@ -113,7 +113,7 @@ impl ClientCore {
     pub fn next_at(&self, line: u32) -> Option<Event>
         ensures tied { (client : ℕ) (lines : List ScriptLine) (replies : List Response) → IsAfter client lines replies self.now → result ≡ next_of_line client lines line replies }
         ensures node { IfSome result (λ e. (e.step ≡ self.now.step) × (e.node ≤ nodes)) }
-        ensures range { IfSome result (λ e. IsWantInRange e.want) }
+        ensures range { IfSome result (λ e. IsRequestInRange e.want) }
         ensures some { IsSome result → IsSome self.now.current }
     {
         match &self.current {

@@ -1,5 +1,5 @@
 // Laws of the definitions.
-ghost use Rattle.client_core.specs.Budget.{CallsAreFew};
+ghost use Rattle.client_core.specs.Repeats.{CallsAreFew};
 ghost use Rattle.client_core.specs.Inside.More.{OneReplyMore};
 
 /// A client makes at most 33 calls a command, beside the reads that it repeats.

@@ -10,16 +10,14 @@
 //! `IsAfter client lines replies core` says that it stands after these replies to this client of the script. The
 //! definitions are functions of the script and of the replies alone: `done` says what a command does
 //! (`specs/Commands.antt`), and `progress`, `next_event`, `waits_on` and `outcomes` how far a client is
-//! (`specs/Events.antt`). `IsRun` (`specs/IsRun.antt`) says of 33 lists of printed entries that they are a run: each is
-//! legal, the feeder's packets pass every node in the same batches, and each client made just the calls that its commands
-//! ask for. `most_calls` (`specs/Budget.antt`) is the most calls of a client.
+//! (`specs/Events.antt`); `repeats` how often a client repeats a read (`specs/Repeats.antt`).
 //!
 //! What is proved: `new` stands after no replies; `take` carries a core that stands after some replies to one that stands after
 //! one more, and leaves nothing else open (`HasTaken`); `next`, `next_at`, `line`, `waits` and `outcomes` are what the
 //! definitions say of the replies taken, and `copied_outcomes` is a copy of `outcomes`. `call_of` makes the call that is asked
-//! for, a Read with an empty buffer, and only a Read can find that memory is wanting. `settled` keeps a reply that isn't want
-//! of memory, and `fitted` the reply with no more room than its bytes take. Laws of the definitions: a client makes at most 33
-//! calls a command, beside the reads that it repeats (`calls_are_few`); one reply more repeats at most one read more
+//! for, a Read with an empty buffer, and only a Read can find that memory is wanting. `unless_no_memory` keeps a reply that isn't
+//! want of memory, and `fitted` the reply with no more room than its bytes take. Laws of the definitions: a client makes at most
+//! 33 calls a command, beside the reads that it repeats (`calls_are_few`); one reply more repeats at most one read more
 //! (`one_reply_repeats_once`). The worked examples of `examples` are computed by the check.
 //!
 //! What is only tested, in `script_tests`: that memory isn't refused where there is enough.
@@ -43,7 +41,7 @@ mod task;
 
 pub use call::call_of;
 pub use client::ClientCore;
-pub use event::{Event, Want};
+pub use event::{Event, Request};
 pub use laws::{calls_are_few, one_reply_repeats_once};
-pub use reply::{fitted, settled};
+pub use reply::{fitted, unless_no_memory};
 pub use stop::{MOST_CALLS, Stop};

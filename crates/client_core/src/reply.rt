@@ -7,7 +7,7 @@ use dmx_calls::Reply;
 use std::alloc::{AllocError as NoMemory, Global};
 
 /// The reply, if it isn't want of memory; that one ends a run.
-pub fn settled(reply: Reply) -> Result<Reply, NoMemory>
+pub fn unless_no_memory(reply: Reply) -> Result<Reply, NoMemory>
     ensures same { IfOk result (λ kept. kept ≡ reply) }
     ensures some { IfOk result (λ kept. response_of kept ≢ response.NoMemory) }
 {

@@ -4,7 +4,7 @@ ghost use Rattle.std.specs.Prelude.{◌≡◌};
 
 use std::alloc::AllocError as NoMemory;
 
-/// The most calls of one client in a run.
+/// The most calls of one client in a run: 2^39.
 pub const MOST_CALLS: u64 = 549_755_813_888;
 
 /// Why a run of a script stopped before its end.

@@ -7,14 +7,14 @@ use Rattle.std.specs.Prelude.{Some, None, Ok, Err}
 use Rattle.filter_match.specs.declared.filter.SectionFilter.{SectionFilter}
 use Rattle.filter_match.specs.declared.filter.Place.{Place}
 use Rattle.filter_match.specs.Places.{with_place}
-use Rattle.client_script.specs.Words.{Reading, and_then, made}
+use Rattle.client_script.specs.Words.{Reading, and_then, mapped}
 use Rattle.text_forms.specs.Places.{HasBytes, IsFilter, place_named}
 use Rattle.client_script.specs.Places.{places_in}
 use Rattle.client_script.specs.declared.fault.FaultKind.TheVariants.{Bytes}
 
 -- the filter with the places that at most `left` words at the front spell, with numbers from `least` on
 unfoldable pub filter_by : SectionFilter → (left least : ℕ) → List (List ℕ) → Reading SectionFilter
-filter_by f left least words = made (fold with_place f) (places_in left least words)
+filter_by f left least words = mapped (fold with_place f) (places_in left least words)
 
 pub filter_by-full : (f : SectionFilter) (left least : ℕ) (words : List (List ℕ)) → left ≡ 0 → filter_by f left least words ≡ Ok (f, words)
 unfolding filter_by places_in
@@ -34,7 +34,7 @@ pub filter_by-place : (f : SectionFilter) (left more least : ℕ) (all : List (L
 unfolding filter_by places_in
 filter_by-place f left more least all word words place some split found = rw (some, split, found) (go (places_in more (place.number + 1) words))
   where
-    go : (later : Reading (List Place)) → made (fold with_place f) (and_then later (λ places words. Ok (place ∷ places, words))) ≡ made (fold with_place (with_place f place)) later
+    go : (later : Reading (List Place)) → mapped (fold with_place f) (and_then later (λ places words. Ok (place ∷ places, words))) ≡ mapped (fold with_place (with_place f place)) later
     go (Ok read) = refl
     go (Err kind) = refl
 

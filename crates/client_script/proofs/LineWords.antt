@@ -14,9 +14,10 @@ use Rattle.text_forms.proofs.FiltersRead.{filter_text-words, filter_words-each}
 use Rattle.text_forms.proofs.Visible.{IsVisible, AreVisible, decimal-visible, behind-visible, place_text-visible, visible_by_test, input_text-visible, output_text-visible}
 use Rattle.client_script.specs.Words.{words_of}
 use Rattle.client_script.specs.Grammar.{IsTargetInRange, IsVerbInRange, IsInRange}
-use Rattle.client_script.specs.Spelling.{name_text, target_text, number_text, section_text, pes_text, arguments_text, command_text, line_text}
+use Rattle.client_script.specs.Spelling.{want_text, name_text, target_text, number_text, section_text, pes_text, want_arguments_text, arguments_text, command_text, line_text}
 use Rattle.client_script.specs.declared.line.Verb.{Verb}
-use Rattle.client_script.specs.declared.line.Verb.TheVariants.{Open, Close, Section, Pes, Add, Remove, Start, Stop, Size, Read, ReadWait, Drain, Poll}
+use Rattle.client_script.specs.declared.line.Verb.TheVariants.{Once, ReadWait, Drain}
+use Rattle.client_script.specs.declared.line.Want.TheVariants.{Open, Close, Section, Pes, Add, Remove, Start, Stop, Size, Read, Poll}
 use Rattle.client_script.specs.declared.line.Target.{Target}
 use Rattle.client_script.specs.declared.line.Target.TheVariants.{Node, Slot, Dvr}
 use Rattle.client_script.specs.declared.line.Line.{Line}
@@ -62,38 +63,30 @@ line_feed_nowhere word more first rest =
 -- ------ the words of a line
 
 abbrev pub argument_words : Verb → List (List ℕ)
-argument_words Open = []
-argument_words Close = []
-argument_words (Section p) = decimal p.pid ∷ decimal p.timeout ∷ decimal p.flags ∷ filter_words p.filter
-argument_words (Pes p) = decimal p.pid ∷ input_text p.input ∷ output_text p.output ∷ decimal p.pes_type ∷ decimal p.flags ∷ []
-argument_words (Add pid) = decimal pid ∷ []
-argument_words (Remove pid) = decimal pid ∷ []
-argument_words Start = []
-argument_words Stop = []
-argument_words (Size n) = decimal n ∷ []
-argument_words (Read n) = decimal n ∷ []
+argument_words (Once (Section p)) = decimal p.pid ∷ decimal p.timeout ∷ decimal p.flags ∷ filter_words p.filter
+argument_words (Once (Pes p)) = decimal p.pid ∷ input_text p.input ∷ output_text p.output ∷ decimal p.pes_type ∷ decimal p.flags ∷ []
+argument_words (Once (Add pid)) = decimal pid ∷ []
+argument_words (Once (Remove pid)) = decimal pid ∷ []
+argument_words (Once (Size n)) = decimal n ∷ []
+argument_words (Once (Read n)) = decimal n ∷ []
 argument_words (ReadWait n) = decimal n ∷ []
 argument_words (Drain n) = decimal n ∷ []
-argument_words Poll = []
+argument_words _ = []
 
 one_number : (n : ℕ) → number_text n ≡ behind (decimal n ∷ [])
 one_number n = rw (append-nil (decimal n)) refl
 
 arguments_text-behind : (verb : Verb) → arguments_text verb ≡ behind (argument_words verb)
-unfolding arguments_text section_text pes_text
-arguments_text-behind Open = refl
-arguments_text-behind Close = refl
-arguments_text-behind (Section p) = rw (filter_text-words p.filter) refl
-arguments_text-behind (Pes p) = rw (append-nil (decimal p.flags)) refl
-arguments_text-behind (Add pid) = one_number pid
-arguments_text-behind (Remove pid) = one_number pid
-arguments_text-behind Start = refl
-arguments_text-behind Stop = refl
-arguments_text-behind (Size n) = one_number n
-arguments_text-behind (Read n) = one_number n
+unfolding arguments_text want_arguments_text section_text pes_text
+arguments_text-behind (Once (Section p)) = rw (filter_text-words p.filter) refl
+arguments_text-behind (Once (Pes p)) = rw (append-nil (decimal p.flags)) refl
+arguments_text-behind (Once (Add pid)) = one_number pid
+arguments_text-behind (Once (Remove pid)) = one_number pid
+arguments_text-behind (Once (Size n)) = one_number n
+arguments_text-behind (Once (Read n)) = one_number n
 arguments_text-behind (ReadWait n) = one_number n
 arguments_text-behind (Drain n) = one_number n
-arguments_text-behind Poll = refl
+arguments_text-behind _ = refl
 
 abbrev pub first_word : Line → List ℕ
 first_word (Feed n) = codes "feed"
@@ -114,20 +107,20 @@ line_text-words (Command line client target verb) = rw (arguments_text-behind ve
 -- ------ each is a word
 
 name-visible : (verb : Verb) → AreVisible (name_text verb)
-unfolding name_text
-name-visible Open = visible_by_test (codes "open") refl
-name-visible Close = visible_by_test (codes "close") refl
-name-visible (Section p) = visible_by_test (codes "section") refl
-name-visible (Pes p) = visible_by_test (codes "pes") refl
-name-visible (Add pid) = visible_by_test (codes "add") refl
-name-visible (Remove pid) = visible_by_test (codes "remove") refl
-name-visible Start = visible_by_test (codes "start") refl
-name-visible Stop = visible_by_test (codes "stop") refl
-name-visible (Size n) = visible_by_test (codes "size") refl
-name-visible (Read n) = visible_by_test (codes "read") refl
+unfolding name_text want_text
+name-visible (Once Open) = visible_by_test (codes "open") refl
+name-visible (Once Close) = visible_by_test (codes "close") refl
+name-visible (Once (Section p)) = visible_by_test (codes "section") refl
+name-visible (Once (Pes p)) = visible_by_test (codes "pes") refl
+name-visible (Once (Add pid)) = visible_by_test (codes "add") refl
+name-visible (Once (Remove pid)) = visible_by_test (codes "remove") refl
+name-visible (Once Start) = visible_by_test (codes "start") refl
+name-visible (Once Stop) = visible_by_test (codes "stop") refl
+name-visible (Once (Size n)) = visible_by_test (codes "size") refl
+name-visible (Once (Read n)) = visible_by_test (codes "read") refl
 name-visible (ReadWait n) = visible_by_test (codes "readw") refl
 name-visible (Drain n) = visible_by_test (codes "drain") refl
-name-visible Poll = visible_by_test (codes "poll") refl
+name-visible (Once Poll) = visible_by_test (codes "poll") refl
 
 target-visible : (target : Target) → IsTargetInRange target → AreVisible (target_text target)
 unfolding target_text
@@ -139,28 +132,24 @@ number-visible : (n : ℕ) → n ≤ 4294967295 → All AreVisible (decimal n �
 number-visible n few = All-cons AreVisible (decimal n) [] (decimal-visible n (omega arith)) (All-nil AreVisible)
 
 arguments-visible : (verb : Verb) → IsVerbInRange verb → All AreVisible (argument_words verb)
-arguments-visible Open few = All-nil AreVisible
-arguments-visible Close few = All-nil AreVisible
-arguments-visible (Section p) few =
+arguments-visible (Once (Section p)) few =
     All-cons AreVisible (decimal p.pid) (decimal p.timeout ∷ decimal p.flags ∷ filter_words p.filter) (decimal-visible p.pid (omega arith))
     (All-cons AreVisible (decimal p.timeout) (decimal p.flags ∷ filter_words p.filter) (decimal-visible p.timeout (omega arith))
     (All-cons AreVisible (decimal p.flags) (filter_words p.filter) (decimal-visible p.flags (omega arith))
     (filter_words-each AreVisible p.filter (λ i small. place_text-visible (place_at p.filter i) (omega arith)))))
-arguments-visible (Pes p) few =
+arguments-visible (Once (Pes p)) few =
     All-cons AreVisible (decimal p.pid) (input_text p.input ∷ output_text p.output ∷ decimal p.pes_type ∷ decimal p.flags ∷ []) (decimal-visible p.pid (omega arith))
     (All-cons AreVisible (input_text p.input) (output_text p.output ∷ decimal p.pes_type ∷ decimal p.flags ∷ []) (input_text-visible p.input)
     (All-cons AreVisible (output_text p.output) (decimal p.pes_type ∷ decimal p.flags ∷ []) (output_text-visible p.output)
     (All-cons AreVisible (decimal p.pes_type) (decimal p.flags ∷ []) (decimal-visible p.pes_type (omega arith))
     (number-visible p.flags few.2))))
-arguments-visible (Add pid) few = number-visible pid (omega arith)
-arguments-visible (Remove pid) few = number-visible pid (omega arith)
-arguments-visible Start few = All-nil AreVisible
-arguments-visible Stop few = All-nil AreVisible
-arguments-visible (Size n) few = number-visible n few
-arguments-visible (Read n) few = number-visible n (omega arith)
+arguments-visible (Once (Add pid)) few = number-visible pid (omega arith)
+arguments-visible (Once (Remove pid)) few = number-visible pid (omega arith)
+arguments-visible (Once (Size n)) few = number-visible n few
+arguments-visible (Once (Read n)) few = number-visible n (omega arith)
 arguments-visible (ReadWait n) few = number-visible n (omega arith)
 arguments-visible (Drain n) few = number-visible n (omega arith)
-arguments-visible Poll few = All-nil AreVisible
+arguments-visible _ few = All-nil AreVisible
 
 pub first-visible : (line : Line) → IsInRange line → AreVisible (first_word line)
 first-visible (Feed n) few = visible_by_test (codes "feed") refl

@@ -17,13 +17,14 @@ use Rattle.text_forms.proofs.FiltersRead.{places_named-filter_words, filter_with
 use Rattle.client_script.specs.Words.{words_of, word_in}
 use Rattle.client_script.specs.Places.{places_in, filter_in}
 use Rattle.client_script.specs.Grammar.{number_in, numbered_target, target_of, name_of, section_in, pes_in, verb_in, command_in, line_in, line_of, is_passed_over, meaning, IsTargetInRange, IsVerbInRange, IsInRange}
-use Rattle.client_script.specs.Spelling.{name_text, target_text, line_text, command_text, spelling, with_number, numbered_from}
+use Rattle.client_script.specs.Spelling.{want_text, name_text, target_text, line_text, command_text, spelling, with_number, numbered_from}
 use Rattle.client_script.specs.Script.{whole_lines, is_stream, lines_from, grammar}
 use Rattle.client_script.specs.declared.fault.ScriptFault.{ScriptFault}
 use Rattle.client_script.specs.declared.names.CommandName.{CommandName}
 use Rattle.client_script.specs.declared.names.CommandName.TheVariants.{Open as OpenName, Close as CloseName, Section as SectionName, Pes as PesName, Add as AddName, Remove as RemoveName, Start as StartName, Stop as StopName, Size as SizeName, Read as ReadName, ReadWait as ReadWaitName, Drain as DrainName, Poll as PollName}
 use Rattle.client_script.specs.declared.line.Verb.{Verb}
-use Rattle.client_script.specs.declared.line.Verb.TheVariants.{Open, Close, Section, Pes, Add, Remove, Start, Stop, Size, Read, ReadWait, Drain, Poll}
+use Rattle.client_script.specs.declared.line.Verb.TheVariants.{Once, ReadWait, Drain}
+use Rattle.client_script.specs.declared.line.Want.TheVariants.{Open, Close, Section, Pes, Add, Remove, Start, Stop, Size, Read, Poll}
 use Rattle.client_script.specs.declared.line.Target.{Target}
 use Rattle.client_script.specs.declared.line.Target.TheVariants.{Node, Slot, Dvr}
 use Rattle.client_script.specs.declared.line.Line.{Line}
@@ -71,35 +72,24 @@ filter_in-filter_words f is =
 -- ------ commands
 
 abbrev command_name : Verb → CommandName
-command_name Open = OpenName
-command_name Close = CloseName
-command_name (Section p) = SectionName
-command_name (Pes p) = PesName
-command_name (Add pid) = AddName
-command_name (Remove pid) = RemoveName
-command_name Start = StartName
-command_name Stop = StopName
-command_name (Size n) = SizeName
-command_name (Read n) = ReadName
+command_name (Once Open) = OpenName
+command_name (Once Close) = CloseName
+command_name (Once (Section p)) = SectionName
+command_name (Once (Pes p)) = PesName
+command_name (Once (Add pid)) = AddName
+command_name (Once (Remove pid)) = RemoveName
+command_name (Once Start) = StartName
+command_name (Once Stop) = StopName
+command_name (Once (Size n)) = SizeName
+command_name (Once (Read n)) = ReadName
 command_name (ReadWait n) = ReadWaitName
 command_name (Drain n) = DrainName
-command_name Poll = PollName
+command_name (Once Poll) = PollName
 
 name_of-name_text : (verb : Verb) → name_of (name_text verb) ≡ Some (command_name verb)
-unfolding name_of name_text
-name_of-name_text Open = refl
-name_of-name_text Close = refl
-name_of-name_text (Section p) = refl
-name_of-name_text (Pes p) = refl
-name_of-name_text (Add pid) = refl
-name_of-name_text (Remove pid) = refl
-name_of-name_text Start = refl
-name_of-name_text Stop = refl
-name_of-name_text (Size n) = refl
-name_of-name_text (Read n) = refl
-name_of-name_text (ReadWait n) = refl
-name_of-name_text (Drain n) = refl
-name_of-name_text Poll = refl
+unfolding name_of name_text want_text
+name_of-name_text (Once Open) = refl
+name_of-name_text _ = refl
 
 target_of-target_text : (target : Target) → IsTargetInRange target → target_of (target_text target) ≡ Some target
 unfolding target_of numbered_target target_text numbered
@@ -109,27 +99,23 @@ target_of-target_text Dvr few = refl
 
 verb_in-argument_words : (verb : Verb) → IsVerbInRange verb → verb_in (command_name verb) (argument_words verb) ≡ Ok (verb, [])
 unfolding verb_in section_in pes_in word_in
-verb_in-argument_words Open few = refl
-verb_in-argument_words Close few = refl
-verb_in-argument_words (Section p) few =
+verb_in-argument_words (Once (Section p)) few =
     let pid = number_in-decimal 0 65535 p.pid (decimal p.timeout ∷ decimal p.flags ∷ filter_words p.filter) (omega arith) (omega arith) few.0 in
     let timeout = number_in-decimal 0 4294967295 p.timeout (decimal p.flags ∷ filter_words p.filter) (omega arith) (omega arith) few.1 in
     let flags = number_in-decimal 0 4294967295 p.flags (filter_words p.filter) (omega arith) (omega arith) few.2 in
     rw (pid, timeout, flags, filter_in-filter_words p.filter few.3) refl
-verb_in-argument_words (Pes p) few =
+verb_in-argument_words (Once (Pes p)) few =
     let pid = number_in-decimal 0 65535 p.pid (input_text p.input ∷ output_text p.output ∷ decimal p.pes_type ∷ decimal p.flags ∷ []) (omega arith) (omega arith) few.0 in
     let pes_type = number_in-decimal 0 4294967295 p.pes_type (decimal p.flags ∷ []) (omega arith) (omega arith) few.1 in
     let flags = number_in-decimal 0 4294967295 p.flags [] (omega arith) (omega arith) few.2 in
     rw (pid, input_named-input_text p.input, output_named-output_text p.output, pes_type, flags) refl
-verb_in-argument_words (Add pid) few = rw (number_in-decimal 0 65535 pid [] (omega arith) (omega arith) few) refl
-verb_in-argument_words (Remove pid) few = rw (number_in-decimal 0 65535 pid [] (omega arith) (omega arith) few) refl
-verb_in-argument_words Start few = refl
-verb_in-argument_words Stop few = refl
-verb_in-argument_words (Size n) few = rw (number_in-decimal 0 4294967295 n [] (omega arith) (omega arith) few) refl
-verb_in-argument_words (Read n) few = rw (number_in-decimal 0 65536 n [] (omega arith) (omega arith) few) refl
+verb_in-argument_words (Once (Add pid)) few = rw (number_in-decimal 0 65535 pid [] (omega arith) (omega arith) few) refl
+verb_in-argument_words (Once (Remove pid)) few = rw (number_in-decimal 0 65535 pid [] (omega arith) (omega arith) few) refl
+verb_in-argument_words (Once (Size n)) few = rw (number_in-decimal 0 4294967295 n [] (omega arith) (omega arith) few) refl
+verb_in-argument_words (Once (Read n)) few = rw (number_in-decimal 0 65536 n [] (omega arith) (omega arith) few) refl
 verb_in-argument_words (ReadWait n) few = rw (number_in-decimal 0 65536 n [] (omega arith) (omega arith) few) refl
 verb_in-argument_words (Drain n) few = rw (number_in-decimal 0 65536 n [] (omega arith) (omega arith) few) refl
-verb_in-argument_words Poll few = refl
+verb_in-argument_words _ few = refl
 
 command_in-words : (number client : ℕ) (target : Target) (verb : Verb) → IsTargetInRange target → IsVerbInRange verb
     → command_in number client (name_text verb ∷ target_text target ∷ argument_words verb) ≡ Ok (Command number client target verb, [])

@@ -3,6 +3,8 @@ use Rattle.std.specs.Prelude.{◌≡◌, ℕ, List, [], ◌∷◌, ◌++◌, map
 use Rattle.std.specs.List.{flat_map}
 use Rattle.dmx_calls.specs.declared.params.Input.TheVariants.{Frontend}
 use Rattle.dmx_calls.specs.declared.params.Output.TheVariants.{TsTap}
+use Rattle.text_forms.specs.Numbers.{number_between}
+use Rattle.client_script.specs.Words.{next_as}
 use Rattle.client_script.specs.Grammar.{meaning}
 use Rattle.client_script.specs.Script.{grammar, split}
 use Rattle.client_script.specs.Spelling.{spelling}
@@ -11,7 +13,8 @@ use Rattle.client_script.specs.declared.fault.FaultKind.TheVariants.{Client, Com
 use Rattle.client_script.specs.declared.line.Line.{Line}
 use Rattle.client_script.specs.declared.line.Line.TheVariants.{Feed, Tick, Command}
 use Rattle.client_script.specs.declared.line.Target.TheVariants.{Node, Slot, Dvr}
-use Rattle.client_script.specs.declared.line.Verb.TheVariants.{Open, Close, Section, Pes, Drain, ReadWait}
+use Rattle.client_script.specs.declared.line.Verb.TheVariants.{Once, Drain, ReadWait}
+use Rattle.client_script.specs.declared.line.Want.TheVariants.{Open, Close, Section, Pes}
 
 -- the meanings of these lines, each as the fifth of its script
 abbrev pub meanings : List (List ℕ) → List (Result (Option Line) FaultKind)
@@ -25,6 +28,15 @@ HaveFault kind lines = meanings lines ≡ map (λ line. Err kind) lines
 abbrev pub text : List (List ℕ) → List ℕ
 text lines = flat_map (λ line. line ++ 10 ∷ []) lines
 
+-- ------ one word
+
+-- a number from 1 to 9, in front of another word; where another word stands; and where none is left
+abbrev pub OneWord : Type 0
+OneWord =
+    (next_as Number (number_between 1 9) (codes "7" ∷ codes "x" ∷ []) ≡ Ok (7, codes "x" ∷ []))
+    × (next_as Number (number_between 1 9) (codes "x" ∷ []) ≡ Err Number)
+    × (next_as Number (number_between 1 9) [] ≡ Err Count)
+
 -- ------ lines
 
 abbrev pub PassedOver : Type 0
@@ -36,19 +48,19 @@ FeedsAndTicks = meanings (codes "feed 1" ∷ codes "tick 0" ∷ []) ≡ Ok (Some
 abbrev pub Commands : Type 0
 Commands =
     meanings (codes "c0 open h31" ∷ codes "c7 close dvr" ∷ codes "c1 drain n2 65536" ∷ codes "c1 readw n31 0" ∷ [])
-    ≡ Ok (Some (Command 5 0 (Slot 31) Open)) ∷ Ok (Some (Command 5 7 Dvr Close))
+    ≡ Ok (Some (Command 5 0 (Slot 31) (Once Open))) ∷ Ok (Some (Command 5 7 Dvr (Once Close)))
     ∷ Ok (Some (Command 5 1 (Node 2) (Drain 65536))) ∷ Ok (Some (Command 5 1 (Node 31) (ReadWait 0))) ∷ []
 
 abbrev pub PesFilter : Type 0
 PesFilter =
     meaning 5 (codes "c4 pes n4 256 frontend ts_tap 20 0")
-    ≡ Ok (Some (Command 5 4 (Node 4) (Pes
-    (record { pid = 256; input = Frontend; output = TsTap; pes_type = 20; flags = 0 }))))
+    ≡ Ok (Some (Command 5 4 (Node 4) (Once (Pes
+    (record { pid = 256; input = Frontend; output = TsTap; pes_type = 20; flags = 0 })))))
 
 abbrev pub SectionFilter : Type 0
 SectionFilter =
     meaning 5 (codes "c0 section n0 16 0 1 0=42/ff/00 3=0a/f0/01")
-    ≡ Ok (Some (Command 5 0 (Node 0) (Section (record {
+    ≡ Ok (Some (Command 5 0 (Node 0) (Once (Section (record {
       pid = 16;
       filter = record {
         filter = 66 ∷ 0 ∷ 0 ∷ 10 ∷ replicate 12 0;
@@ -57,7 +69,7 @@ SectionFilter =
       };
       timeout = 0;
       flags = 1;
-    }))))
+    })))))
 
 -- ------ kinds of faults
 
@@ -100,7 +112,7 @@ ThirdLine =
 abbrev pub LinesBehindTheStream : Type 0
 LinesBehindTheStream =
     grammar (text (codes "#" ∷ codes "c1 open n0" ∷ codes "stream" ∷ codes "c9" ∷ []))
-    ≡ Ok (Command 2 1 (Node 0) Open ∷ [])
+    ≡ Ok (Command 2 1 (Node 0) (Once Open) ∷ [])
 
 abbrev pub NoBytes : Type 0
 NoBytes = grammar [] ≡ Err (record { line = 1; kind = NoStream })
@@ -130,13 +142,13 @@ InputWithoutAStream = split (codes "stream") ≡ record { script = codes "stream
 -- these lines are spelled so, each with its line feed
 abbrev pub Spellings : Type 0
 Spellings =
-    map spelling (Feed 1 ∷ Tick 0 ∷ Command 5 7 Dvr Open ∷ Command 5 1 (Slot 31) (ReadWait 65536) ∷ [])
+    map spelling (Feed 1 ∷ Tick 0 ∷ Command 5 7 Dvr (Once Open) ∷ Command 5 1 (Slot 31) (ReadWait 65536) ∷ [])
     ≡ map (λ line. line ++ 10 ∷ []) (codes "feed 1" ∷ codes "tick 0" ∷ codes "c7 open dvr" ∷ codes "c1 readw h31 65536"
     ∷ [])
 
 abbrev pub SectionSpelling : Type 0
 SectionSpelling =
-    spelling (Command 5 0 (Node 0) (Section (record {
+    spelling (Command 5 0 (Node 0) (Once (Section (record {
       pid = 1;
       filter = record {
         filter = 0 ∷ 0 ∷ 0 ∷ 10 ∷ replicate 12 0;
@@ -145,16 +157,16 @@ SectionSpelling =
       };
       timeout = 0;
       flags = 0;
-    })))
+    }))))
     ≡ codes "c0 section n0 1 0 0 3=0a/ff/00" ++ 10 ∷ []
 
 abbrev pub PesSpelling : Type 0
 PesSpelling =
-    spelling (Command 5 4 (Node 4) (Pes (record {
+    spelling (Command 5 4 (Node 4) (Once (Pes (record {
       pid = 256;
       input = Frontend;
       output = TsTap;
       pes_type = 20;
       flags = 0;
-    })))
+    }))))
     ≡ codes "c4 pes n4 256 frontend ts_tap 20 0" ++ 10 ∷ []

@@ -6,14 +6,16 @@ use Rattle.text_forms.specs.Numbers.{number_between}
 use Rattle.text_forms.specs.Words.{is_word, input_named, output_named}
 use Rattle.text_forms.specs.Names.{client_named, demux_named, slot_named}
 use Rattle.text_forms.specs.Places.{IsFilter}
-use Rattle.client_script.specs.Words.{Reading, and_then, made, said, asked, word_in, words_of}
+use Rattle.client_script.specs.Words.{Reading, and_then, mapped, or_fault, next_as, word_in, words_of}
 use Rattle.client_script.specs.Places.{filter_in}
 use Rattle.client_script.specs.declared.fault.FaultKind.{FaultKind}
 use Rattle.client_script.specs.declared.fault.FaultKind.TheVariants.{Client, Command as NoCommand, Target as NoTarget, Number, Name, Count}
 use Rattle.client_script.specs.declared.names.CommandName.{CommandName}
 use Rattle.client_script.specs.declared.names.CommandName.TheVariants.{Open as OpenName, Close as CloseName, Section as SectionName, Pes as PesName, Add as AddName, Remove as RemoveName, Start as StartName, Stop as StopName, Size as SizeName, Read as ReadName, ReadWait as ReadWaitName, Drain as DrainName, Poll as PollName}
 use Rattle.client_script.specs.declared.line.Verb.{Verb}
-use Rattle.client_script.specs.declared.line.Verb.TheVariants.{Open, Close, Section, Pes, Add, Remove, Start, Stop, Size, Read, ReadWait, Drain, Poll}
+use Rattle.client_script.specs.declared.line.Verb.TheVariants.{Once, ReadWait, Drain}
+use Rattle.client_script.specs.declared.line.Want.{Want}
+use Rattle.client_script.specs.declared.line.Want.TheVariants.{Open, Close, Section, Pes, Add, Remove, Start, Stop, Size, Read, Poll}
 use Rattle.client_script.specs.declared.line.Target.{Target}
 use Rattle.client_script.specs.declared.line.Target.TheVariants.{Node, Slot, Dvr}
 use Rattle.client_script.specs.declared.line.Line.{Line}
@@ -23,7 +25,7 @@ use Rattle.client_script.specs.declared.line.Line.TheVariants.{Feed, Tick, Comma
 
 -- N: a number in a range
 unfoldable pub number_in : (least most : ℕ) → List (List ℕ) → Reading ℕ
-number_in least most words = asked Number (number_between least most) words
+number_in least most words = next_as Number (number_between least most) words
 
 -- PID: a number of 16 bits
 abbrev pub pid_in : List (List ℕ) → Reading ℕ
@@ -61,7 +63,7 @@ name_of word =
 -- ------ what stands behind a command's target
 
 -- `PID TIMEOUT FLAGS BYTE*`
-unfoldable pub section_in : List (List ℕ) → Reading Verb
+unfoldable pub section_in : List (List ℕ) → Reading Want
 section_in words =
     and_then (pid_in words) (λ pid words.
     and_then (count_in words) (λ timeout words.
@@ -70,38 +72,38 @@ section_in words =
     Ok (Section (record { pid = pid; filter = filter; timeout = timeout; flags = flags }), words)))))
 
 -- `PID INPUT OUTPUT TYPE FLAGS`
-unfoldable pub pes_in : List (List ℕ) → Reading Verb
+unfoldable pub pes_in : List (List ℕ) → Reading Want
 pes_in words =
     and_then (pid_in words) (λ pid words.
-    and_then (asked Name input_named words) (λ input words.
-    and_then (asked Name output_named words) (λ output words.
+    and_then (next_as Name input_named words) (λ input words.
+    and_then (next_as Name output_named words) (λ output words.
     and_then (count_in words) (λ pes_type words.
     and_then (count_in words) (λ flags words.
     Ok (Pes (record { pid = pid; input = input; output = output; pes_type = pes_type; flags = flags }), words))))))
 
 -- what each command wants behind its target
 unfoldable pub verb_in : CommandName → List (List ℕ) → Reading Verb
-verb_in OpenName words = Ok (Open, words)
-verb_in CloseName words = Ok (Close, words)
-verb_in SectionName words = section_in words
-verb_in PesName words = pes_in words
-verb_in AddName words = made Add (pid_in words)
-verb_in RemoveName words = made Remove (pid_in words)
-verb_in StartName words = Ok (Start, words)
-verb_in StopName words = Ok (Stop, words)
-verb_in SizeName words = made Size (count_in words)
-verb_in ReadName words = made Read (number_in 0 LARGEST_READ words)
-verb_in ReadWaitName words = made ReadWait (number_in 0 LARGEST_READ words)
-verb_in DrainName words = made Drain (number_in 0 LARGEST_READ words)
-verb_in PollName words = Ok (Poll, words)
+verb_in OpenName words = Ok (Once Open, words)
+verb_in CloseName words = Ok (Once Close, words)
+verb_in SectionName words = mapped Once (section_in words)
+verb_in PesName words = mapped Once (pes_in words)
+verb_in AddName words = mapped (λ pid. Once (Add pid)) (pid_in words)
+verb_in RemoveName words = mapped (λ pid. Once (Remove pid)) (pid_in words)
+verb_in StartName words = Ok (Once Start, words)
+verb_in StopName words = Ok (Once Stop, words)
+verb_in SizeName words = mapped (λ n. Once (Size n)) (count_in words)
+verb_in ReadName words = mapped (λ n. Once (Read n)) (number_in 0 LARGEST_READ words)
+verb_in ReadWaitName words = mapped ReadWait (number_in 0 LARGEST_READ words)
+verb_in DrainName words = mapped Drain (number_in 0 LARGEST_READ words)
+verb_in PollName words = Ok (Once Poll, words)
 
 -- ------ lines
 
 -- what stands behind the client: the command, its target, and what the command wants
 unfoldable pub command_in : (line client : ℕ) → List (List ℕ) → Reading Line
 command_in line client words =
-    and_then (asked NoCommand name_of words) (λ name words.
-    and_then (asked NoTarget target_of words) (λ target words.
+    and_then (next_as NoCommand name_of words) (λ name words.
+    and_then (next_as NoTarget target_of words) (λ target words.
     and_then (verb_in name words) (λ verb words.
     Ok (Command line client target verb, words))))
 
@@ -109,9 +111,9 @@ command_in line client words =
 unfoldable pub line_in : (line : ℕ) → List (List ℕ) → Reading Line
 line_in line words =
     and_then (word_in words) (λ first words.
-    if is_word first (codes "feed") then made Feed (number_in 1 4294967295 words)
-    else (if is_word first (codes "tick") then made Tick (count_in words)
-    else and_then (said Client (client_named first) words) (λ client words. command_in line client words)))
+    if is_word first (codes "feed") then mapped Feed (number_in 1 4294967295 words)
+    else (if is_word first (codes "tick") then mapped Tick (count_in words)
+    else and_then (or_fault Client (client_named first) words) (λ client words. command_in line client words)))
 
 -- a value behind which no word is left; a word too many is a fault of the count
 abbrev pub alone : {A : Type 0} → A → List (List ℕ) → Result A FaultKind
@@ -142,21 +144,25 @@ meaning line bytes = if is_passed_over bytes then Ok None else some_asked (line_
 
 -- ------ ranges
 
--- the ranges of a verb's numbers; a filter has sixteen bytes of each kind
+-- the ranges of a call's numbers; a filter has sixteen bytes of each kind
+abbrev pub IsWantInRange : Want → Type 0
+IsWantInRange (Section p) = (p.pid ≤ 65535) × (p.timeout ≤ 4294967295) × (p.flags ≤ 4294967295) × IsFilter p.filter
+IsWantInRange (Pes p) = (p.pid ≤ 65535) × (p.pes_type ≤ 4294967295) × (p.flags ≤ 4294967295)
+IsWantInRange (Add pid) = pid ≤ 65535
+IsWantInRange (Remove pid) = pid ≤ 65535
+IsWantInRange (Size n) = n ≤ 4294967295
+IsWantInRange (Read n) = n ≤ LARGEST_READ
+IsWantInRange Open = Unit {0}
+IsWantInRange Close = Unit {0}
+IsWantInRange Start = Unit {0}
+IsWantInRange Stop = Unit {0}
+IsWantInRange Poll = Unit {0}
+
+-- the ranges of a verb's numbers
 abbrev pub IsVerbInRange : Verb → Type 0
-IsVerbInRange (Section p) = (p.pid ≤ 65535) × (p.timeout ≤ 4294967295) × (p.flags ≤ 4294967295) × IsFilter p.filter
-IsVerbInRange (Pes p) = (p.pid ≤ 65535) × (p.pes_type ≤ 4294967295) × (p.flags ≤ 4294967295)
-IsVerbInRange (Add pid) = pid ≤ 65535
-IsVerbInRange (Remove pid) = pid ≤ 65535
-IsVerbInRange (Size n) = n ≤ 4294967295
-IsVerbInRange (Read n) = n ≤ LARGEST_READ
+IsVerbInRange (Once want) = IsWantInRange want
 IsVerbInRange (ReadWait n) = n ≤ LARGEST_READ
 IsVerbInRange (Drain n) = n ≤ LARGEST_READ
-IsVerbInRange Open = Unit {0}
-IsVerbInRange Close = Unit {0}
-IsVerbInRange Start = Unit {0}
-IsVerbInRange Stop = Unit {0}
-IsVerbInRange Poll = Unit {0}
 
 -- there are 32 nodes and 32 slots
 abbrev pub IsTargetInRange : Target → Type 0

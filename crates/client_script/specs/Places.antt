@@ -4,7 +4,7 @@ use Rattle.filter_match.specs.declared.filter.SectionFilter.{SectionFilter}
 use Rattle.filter_match.specs.declared.filter.Place.{Place}
 use Rattle.filter_match.specs.Places.{filter_with}
 use Rattle.text_forms.specs.Places.{place_named}
-use Rattle.client_script.specs.Words.{Reading, and_then, made, said}
+use Rattle.client_script.specs.Words.{Reading, and_then, mapped, or_fault}
 use Rattle.client_script.specs.declared.fault.FaultKind.TheVariants.{Bytes}
 
 -- The places that the words at the front spell, of at most `left` words. Each has a greater number than the one
@@ -13,10 +13,10 @@ unfoldable pub places_in : (left least : ℕ) → List (List ℕ) → Reading (L
 places_in zero least words = Ok ([], words)
 places_in (suc left) least [] = Ok ([], [])
 places_in (suc left) least (word ∷ words) =
-    and_then (said Bytes (place_named least word) words) (λ place words.
+    and_then (or_fault Bytes (place_named least word) words) (λ place words.
     and_then (places_in left (place.number + 1) words) (λ places words.
     Ok (place ∷ places, words)))
 
 -- the filter that the words at the front spell, by at most one word for each of its 16 places
 unfoldable pub filter_in : List (List ℕ) → Reading SectionFilter
-filter_in words = made filter_with (places_in 16 0 words)
+filter_in words = mapped filter_with (places_in 16 0 words)

@@ -7,7 +7,9 @@ use Rattle.text_forms.specs.Places.{filter_text}
 use Rattle.dmx_calls.specs.declared.params.SectionParams.{SectionParams}
 use Rattle.dmx_calls.specs.declared.params.PesParams.{PesParams}
 use Rattle.client_script.specs.declared.line.Verb.{Verb}
-use Rattle.client_script.specs.declared.line.Verb.TheVariants.{Open, Close, Section, Pes, Add, Remove, Start, Stop, Size, Read, ReadWait, Drain, Poll}
+use Rattle.client_script.specs.declared.line.Verb.TheVariants.{Once, ReadWait, Drain}
+use Rattle.client_script.specs.declared.line.Want.{Want}
+use Rattle.client_script.specs.declared.line.Want.TheVariants.{Open, Close, Section, Pes, Add, Remove, Start, Stop, Size, Read, Poll}
 use Rattle.client_script.specs.declared.line.Target.{Target}
 use Rattle.client_script.specs.declared.line.Target.TheVariants.{Node, Slot, Dvr}
 use Rattle.client_script.specs.declared.line.Line.{Line}
@@ -15,21 +17,25 @@ use Rattle.client_script.specs.declared.line.Line.TheVariants.{Feed, Tick, Comma
 
 -- ------ names
 
+-- the name of a command that makes one call
+unfoldable pub want_text : Want → List ℕ
+want_text Open = codes "open"
+want_text Close = codes "close"
+want_text (Section p) = codes "section"
+want_text (Pes p) = codes "pes"
+want_text (Add pid) = codes "add"
+want_text (Remove pid) = codes "remove"
+want_text Start = codes "start"
+want_text Stop = codes "stop"
+want_text (Size n) = codes "size"
+want_text (Read n) = codes "read"
+want_text Poll = codes "poll"
+
 -- a command's name
 unfoldable pub name_text : Verb → List ℕ
-name_text Open = codes "open"
-name_text Close = codes "close"
-name_text (Section p) = codes "section"
-name_text (Pes p) = codes "pes"
-name_text (Add pid) = codes "add"
-name_text (Remove pid) = codes "remove"
-name_text Start = codes "start"
-name_text Stop = codes "stop"
-name_text (Size n) = codes "size"
-name_text (Read n) = codes "read"
+name_text (Once want) = want_text want
 name_text (ReadWait n) = codes "readw"
 name_text (Drain n) = codes "drain"
-name_text Poll = codes "poll"
 
 -- a target
 unfoldable pub target_text : Target → List ℕ
@@ -53,21 +59,25 @@ pes_text p =
     number_text p.pid ++ (codes " " ++ (input_text p.input ++ (codes " " ++ (output_text p.output
     ++ (number_text p.pes_type ++ number_text p.flags)))))
 
+-- what one call wants behind the target
+unfoldable pub want_arguments_text : Want → List ℕ
+want_arguments_text Open = []
+want_arguments_text Close = []
+want_arguments_text (Section p) = section_text p
+want_arguments_text (Pes p) = pes_text p
+want_arguments_text (Add pid) = number_text pid
+want_arguments_text (Remove pid) = number_text pid
+want_arguments_text Start = []
+want_arguments_text Stop = []
+want_arguments_text (Size n) = number_text n
+want_arguments_text (Read n) = number_text n
+want_arguments_text Poll = []
+
 -- what a command wants behind its target
 unfoldable pub arguments_text : Verb → List ℕ
-arguments_text Open = []
-arguments_text Close = []
-arguments_text (Section p) = section_text p
-arguments_text (Pes p) = pes_text p
-arguments_text (Add pid) = number_text pid
-arguments_text (Remove pid) = number_text pid
-arguments_text Start = []
-arguments_text Stop = []
-arguments_text (Size n) = number_text n
-arguments_text (Read n) = number_text n
+arguments_text (Once want) = want_arguments_text want
 arguments_text (ReadWait n) = number_text n
 arguments_text (Drain n) = number_text n
-arguments_text Poll = []
 
 -- ------ lines
 

@@ -18,23 +18,23 @@ and_then (Ok read) next = next read.0 read.1
 and_then (Err kind) next = Err kind
 
 -- the same value under a name
-abbrev pub made : {A B : Type 0} → (A → B) → Reading A → Reading B
-made name reading = and_then reading (λ value words. Ok (name value, words))
+abbrev pub mapped : {A B : Type 0} → (A → B) → Reading A → Reading B
+mapped name reading = and_then reading (λ value words. Ok (name value, words))
 
 -- the value that a word spells; where it spells none, the fault is of this kind
-abbrev pub said : {A : Type 0} → FaultKind → Option A → (behind : List (List ℕ)) → Reading A
-said kind (Some value) behind = Ok (value, behind)
-said kind None behind = Err kind
+abbrev pub or_fault : {A : Type 0} → FaultKind → Option A → (behind : List (List ℕ)) → Reading A
+or_fault kind (Some value) behind = Ok (value, behind)
+or_fault kind None behind = Err kind
 
 -- the word in the next place; a missing word is a fault of the count
 unfoldable pub word_in : List (List ℕ) → Reading (List ℕ)
 word_in [] = Err Count
 word_in (word ∷ words) = Ok (word, words)
 
--- what the word in the next place spells, as that place asks; where it spells nothing
--- of the sort, the fault is of this kind
-abbrev pub asked : {A : Type 0} → FaultKind → (spelled : List ℕ → Option A) → List (List ℕ) → Reading A
-asked kind spelled words = and_then (word_in words) (λ word words. said kind (spelled word) words)
+-- What the word in the next place spells, as that place asks; where it spells nothing of the sort, the fault is of this
+-- kind. So a number from 1 to 9 is read from `7 x` as 7, with the word `x` behind it (specs/Examples.antt, `OneWord`).
+abbrev pub next_as : {A : Type 0} → FaultKind → (spelled : List ℕ → Option A) → List (List ℕ) → Reading A
+next_as kind spelled words = and_then (word_in words) (λ word words. or_fault kind (spelled word) words)
 
 -- a reader has answered as the definition says, and has left the words behind what it read
 abbrev pub Reads : {A : Type 0} → Result A FaultKind → (left : List (List ℕ)) → Reading A → Type 0

@@ -1,10 +1,11 @@
 // Worked examples: what the grammar gives for lines and scripts that were worked out by hand from the rules. Each is a
 // clause of a function that does nothing, so the check computes it.
 
-ghost use Rattle.client_script.specs.Examples.{PassedOver, FeedsAndTicks, Commands, PesFilter, SectionFilter, ClientFaults, CommandFaults, TargetFaults, NumberFaults, NameFaults, BytesFaults, CountFaults, ThirdLine, LinesBehindTheStream, NoBytes, LineWithoutItsEnd, FaultBeforeTheEnd, InputWithAStream, InputWithoutAStream, Spellings, SectionSpelling, PesSpelling};
+ghost use Rattle.client_script.specs.Examples.{OneWord, PassedOver, FeedsAndTicks, Commands, PesFilter, SectionFilter, ClientFaults, CommandFaults, TargetFaults, NumberFaults, NameFaults, BytesFaults, CountFaults, ThirdLine, LinesBehindTheStream, NoBytes, LineWithoutItsEnd, FaultBeforeTheEnd, InputWithAStream, InputWithoutAStream, Spellings, SectionSpelling, PesSpelling};
 
-/// What lines ask for.
+/// What words spell, and what lines ask for.
 pub fn lines()
+    ensures one_word { OneWord }
     ensures passed_over { PassedOver }
     ensures feeds_and_ticks { FeedsAndTicks }
     ensures commands { Commands }

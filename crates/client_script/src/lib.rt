@@ -15,7 +15,7 @@
 //! script has at most 1,048,576 lines, each with its client, its target, its numbers and its filter's bytes in the ranges
 //! of the grammar (`IsScript`, which `Script::lines` tells). `Script::clients` is 1 plus the highest client that a line
 //! names, or 0. `print` appends the spelling of a line, and where memory is refused the bytes are as they were. A
-//! `ScriptPart` is the bytes that were added to it, and its `end` tells where the first whole line `stream` ends. A verb's and a
+//! `ScriptPart` is the bytes that were added to it, and its `end` tells where the first whole line `stream` ends. A want's, a verb's and a
 //! fault's `name` is its text in `specs/Spelling.antt` and `specs/FaultNames.antt`. What the
 //! grammar gives for lines and scripts worked out by hand are the clauses of `examples`, computed by the check.
 //!
@@ -51,7 +51,7 @@ pub use laws::{
     nothing_behind_the_stream_is_examined, printed_lines_are_read_again,
     the_script_part_ends_with_its_line_stream, without_a_line_stream_all_bytes_are_the_script_part,
 };
-pub use line::{Line, Target, Verb};
+pub use line::{Line, Target, Verb, Want};
 pub use part::ScriptPart;
 pub use script::{MOST_BYTES, Script};
 pub use spelling::print;

@@ -1,7 +1,7 @@
 // The lines of a script.
 
 ghost use Rattle.std.specs.Prelude.{◌≡◌};
-ghost use Rattle.client_script.specs.Spelling.{name_text};
+ghost use Rattle.client_script.specs.Spelling.{want_text, name_text};
 
 use dmx_calls::{PesParams, SectionParams};
 
@@ -16,9 +16,9 @@ pub enum Target {
     Dvr,
 }
 
-/// What a client asks of a node.
+/// What a client asks of a node by one call.
 #[derive(Clone, Copy, Debug, PartialEq, Eq, Drop)]
-pub enum Verb {
+pub enum Want {
     /// Takes the node, or for a slot the first one that is free.
     Open,
     /// Gives the node back.
@@ -39,12 +39,41 @@ pub enum Verb {
     Size(u32),
     /// Reads at most so many bytes.
     Read(u32),
+    /// Asks whether there is something to read.
+    Poll,
+}
+
+impl Want {
+    /// Its word in scripts.
+    #[tactic(auto, unfolding(crate::specs::Spelling::want_text))]
+    pub fn name(self) -> &'static str
+        ensures { result.now ≡ want_text self }
+    {
+        match self {
+            Want::Open => "open",
+            Want::Close => "close",
+            Want::Section(_) => "section",
+            Want::Pes(_) => "pes",
+            Want::Add(_) => "add",
+            Want::Remove(_) => "remove",
+            Want::Start => "start",
+            Want::Stop => "stop",
+            Want::Size(_) => "size",
+            Want::Read(_) => "read",
+            Want::Poll => "poll",
+        }
+    }
+}
+
+/// What a command asks of its node: one call, or the same read again and again.
+#[derive(Clone, Copy, Debug, PartialEq, Eq, Drop)]
+pub enum Verb {
+    /// One call.
+    Once(Want),
     /// Reads at most so many bytes, and waits until there are some.
     ReadWait(u32),
     /// Reads at most so many bytes at a time, until there are no more.
     Drain(u32),
-    /// Asks whether there is something to read.
-    Poll,
 }
 
 impl Verb {
@@ -54,19 +83,9 @@ impl Verb {
         ensures { result.now ≡ name_text self }
     {
         match self {
-            Verb::Open => "open",
-            Verb::Close => "close",
-            Verb::Section(_) => "section",
-            Verb::Pes(_) => "pes",
-            Verb::Add(_) => "add",
-            Verb::Remove(_) => "remove",
-            Verb::Start => "start",
-            Verb::Stop => "stop",
-            Verb::Size(_) => "size",
-            Verb::Read(_) => "read",
+            Verb::Once(want) => want.name(),
             Verb::ReadWait(_) => "readw",
             Verb::Drain(_) => "drain",
-            Verb::Poll => "poll",
         }
     }
 }

@@ -1,8 +1,8 @@
 // The one spelling of a line.
 ghost use Rattle.std.specs.Prelude.{◌≡◌, ◌++◌, OnOk, OnErr, IfOk};
-ghost use Rattle.client_script.specs.Spelling.{target_text, number_text, section_text, pes_text, arguments_text, command_text, line_text, spelling as spelling_of};
+ghost use Rattle.client_script.specs.Spelling.{target_text, number_text, section_text, pes_text, want_arguments_text, arguments_text, command_text, line_text, spelling as spelling_of};
 
-use crate::line::{Line, Target, Verb};
+use crate::line::{Line, Target, Verb, Want};
 use dmx_calls::{PesParams, SectionParams};
 use std::alloc::{AllocError as NoMemory, Global};
 use text_forms::{
@@ -51,21 +51,31 @@ fn add_pes(text: &mut Vec<u8>, params: &PesParams) -> Result<(), NoMemory>
     add_number(text, params.flags as u64)
 }
 
+// What a call wants behind the target of its command.
+#[tactic(auto, unfolding(crate::specs::Spelling::want_arguments_text))]
+fn add_want_arguments(text: &mut Vec<u8>, want: &Want) -> Result<(), NoMemory>
+    ensures { OnOk result (text.new.items ≡ text.old.items ++ want_arguments_text want.now) }
+{
+    match want {
+        Want::Section(params) => add_section(text, params),
+        Want::Pes(params) => add_pes(text, params),
+        Want::Add(pid) => add_number(text, *pid as u64),
+        Want::Remove(pid) => add_number(text, *pid as u64),
+        Want::Size(n) => add_number(text, *n as u64),
+        Want::Read(n) => add_number(text, *n as u64),
+        Want::Open | Want::Close | Want::Start | Want::Stop | Want::Poll => Ok(()),
+    }
+}
+
 // What a command wants behind its target.
 #[tactic(auto, unfolding(crate::specs::Spelling::arguments_text))]
 fn add_arguments(text: &mut Vec<u8>, verb: &Verb) -> Result<(), NoMemory>
     ensures { OnOk result (text.new.items ≡ text.old.items ++ arguments_text verb.now) }
 {
     match verb {
-        Verb::Section(params) => add_section(text, params),
-        Verb::Pes(params) => add_pes(text, params),
-        Verb::Add(pid) => add_number(text, *pid as u64),
-        Verb::Remove(pid) => add_number(text, *pid as u64),
-        Verb::Size(n) => add_number(text, *n as u64),
-        Verb::Read(n) => add_number(text, *n as u64),
+        Verb::Once(want) => add_want_arguments(text, want),
         Verb::ReadWait(n) => add_number(text, *n as u64),
         Verb::Drain(n) => add_number(text, *n as u64),
-        Verb::Open | Verb::Close | Verb::Start | Verb::Stop | Verb::Poll => Ok(()),
     }
 }
 

@@ -1,12 +1,12 @@
 // What a line asks for, word by word.
 ghost use Rattle.std.specs.Prelude.{◌≡◌, ◌≤◌, IfOk};
 ghost use Rattle.text_forms.specs.Words.{input_named as input_of_word, output_named as output_of_word};
-ghost use Rattle.client_script.specs.Words.{Reads, asked};
-ghost use Rattle.client_script.specs.Grammar.{number_in, pid_in, count_in, target_of, name_of, section_in, pes_in, verb_in, command_in, line_in, IsVerbInRange, IsTargetInRange, IsInRange};
+ghost use Rattle.client_script.specs.Words.{Reads, next_as};
+ghost use Rattle.client_script.specs.Grammar.{number_in, pid_in, count_in, target_of, name_of, section_in, pes_in, verb_in, command_in, line_in, IsWantInRange, IsVerbInRange, IsTargetInRange, IsInRange};
 ghost use Rattle.client_script.specs.declared.fault.FaultKind.TheVariants.{Name as NoName, Target as NoTarget, Command as NoCommand};
 
 use crate::fault::FaultKind;
-use crate::line::{Line, Target, Verb};
+use crate::line::{Line, Target, Verb, Want};
 use crate::names::{CommandName, command_named, target_named};
 use crate::places::read_filter;
 use crate::words::Words;
@@ -44,7 +44,7 @@ fn read_count(words: &mut Words<'_>) -> Result<u32, FaultKind>
 
 // Where a filter's packets come from.
 fn read_input(words: &mut Words<'_>) -> Result<Input, FaultKind>
-    ensures { Reads result words.new (asked NoName input_of_word words.old) }
+    ensures { Reads result words.new (next_as NoName input_of_word words.old) }
 {
     let word = words.word()?;
     input_named(word).ok_or(FaultKind::Name)
@@ -52,7 +52,7 @@ fn read_input(words: &mut Words<'_>) -> Result<Input, FaultKind>
 
 // Where a filter's items go.
 fn read_output(words: &mut Words<'_>) -> Result<Output, FaultKind>
-    ensures { Reads result words.new (asked NoName output_of_word words.old) }
+    ensures { Reads result words.new (next_as NoName output_of_word words.old) }
 {
     let word = words.word()?;
     output_named(word).ok_or(FaultKind::Name)
@@ -60,7 +60,7 @@ fn read_output(words: &mut Words<'_>) -> Result<Output, FaultKind>
 
 // The target of a command.
 fn read_target(words: &mut Words<'_>) -> Result<Target, FaultKind>
-    ensures value { Reads result words.new (asked NoTarget target_of words.old) }
+    ensures value { Reads result words.new (next_as NoTarget target_of words.old) }
     ensures range { IfOk result IsTargetInRange }
 {
     let word = words.word()?;
@@ -69,7 +69,7 @@ fn read_target(words: &mut Words<'_>) -> Result<Target, FaultKind>
 
 // The name of a command.
 fn read_name(words: &mut Words<'_>) -> Result<CommandName, FaultKind>
-    ensures { Reads result words.new (asked NoCommand name_of words.old) }
+    ensures { Reads result words.new (next_as NoCommand name_of words.old) }
 {
     let word = words.word()?;
     command_named(word).ok_or(FaultKind::Command)
@@ -77,15 +77,15 @@ fn read_name(words: &mut Words<'_>) -> Result<CommandName, FaultKind>
 
 // The call that sets a section filter.
 #[tactic(auto, unfolding(crate::specs::Grammar::section_in))]
-fn read_section(words: &mut Words<'_>) -> Result<Verb, FaultKind>
+fn read_section(words: &mut Words<'_>) -> Result<Want, FaultKind>
     ensures value { Reads result words.new (section_in words.old) }
-    ensures range { IfOk result IsVerbInRange }
+    ensures range { IfOk result IsWantInRange }
 {
     let pid = read_pid(words)?;
     let timeout = read_count(words)?;
     let flags = read_count(words)?;
     let filter = read_filter(words)?;
-    Ok(Verb::Section(SectionParams {
+    Ok(Want::Section(SectionParams {
         pid,
         filter,
         timeout,
@@ -95,16 +95,16 @@ fn read_section(words: &mut Words<'_>) -> Result<Verb, FaultKind>
 
 // The call that sets a PES filter.
 #[tactic(auto, unfolding(crate::specs::Grammar::pes_in))]
-fn read_pes(words: &mut Words<'_>) -> Result<Verb, FaultKind>
+fn read_pes(words: &mut Words<'_>) -> Result<Want, FaultKind>
     ensures value { Reads result words.new (pes_in words.old) }
-    ensures range { IfOk result IsVerbInRange }
+    ensures range { IfOk result IsWantInRange }
 {
     let pid = read_pid(words)?;
     let input = read_input(words)?;
     let output = read_output(words)?;
     let pes_type = read_count(words)?;
     let flags = read_count(words)?;
-    Ok(Verb::Pes(PesParams {
+    Ok(Want::Pes(PesParams {
         pid,
         input,
         output,
@@ -120,19 +120,19 @@ fn read_verb(name: CommandName, words: &mut Words<'_>) -> Result<Verb, FaultKind
     ensures range { IfOk result IsVerbInRange }
 {
     match name {
-        CommandName::Open => Ok(Verb::Open),
-        CommandName::Close => Ok(Verb::Close),
-        CommandName::Section => read_section(words),
-        CommandName::Pes => read_pes(words),
-        CommandName::Add => Ok(Verb::Add(read_pid(words)?)),
-        CommandName::Remove => Ok(Verb::Remove(read_pid(words)?)),
-        CommandName::Start => Ok(Verb::Start),
-        CommandName::Stop => Ok(Verb::Stop),
-        CommandName::Size => Ok(Verb::Size(read_count(words)?)),
-        CommandName::Read => Ok(Verb::Read(read_number(0, LARGEST_READ, words)?)),
+        CommandName::Open => Ok(Verb::Once(Want::Open)),
+        CommandName::Close => Ok(Verb::Once(Want::Close)),
+        CommandName::Section => Ok(Verb::Once(read_section(words)?)),
+        CommandName::Pes => Ok(Verb::Once(read_pes(words)?)),
+        CommandName::Add => Ok(Verb::Once(Want::Add(read_pid(words)?))),
+        CommandName::Remove => Ok(Verb::Once(Want::Remove(read_pid(words)?))),
+        CommandName::Start => Ok(Verb::Once(Want::Start)),
+        CommandName::Stop => Ok(Verb::Once(Want::Stop)),
+        CommandName::Size => Ok(Verb::Once(Want::Size(read_count(words)?))),
+        CommandName::Read => Ok(Verb::Once(Want::Read(read_number(0, LARGEST_READ, words)?))),
         CommandName::ReadWait => Ok(Verb::ReadWait(read_number(0, LARGEST_READ, words)?)),
         CommandName::Drain => Ok(Verb::Drain(read_number(0, LARGEST_READ, words)?)),
-        CommandName::Poll => Ok(Verb::Poll),
+        CommandName::Poll => Ok(Verb::Once(Want::Poll)),
     }
 }
 

@@ -17,7 +17,6 @@ pub mod Accounted
 pub mod Calls
 pub mod Log
 pub mod Histories
-pub mod Head
 pub mod Back
 pub mod Entries
 pub mod Laws

@@ -31,7 +31,6 @@
 mod byte_buf;
 mod call;
 pub mod examples;
-mod head;
 mod histories;
 pub mod laws;
 pub mod limits;
@@ -45,7 +44,6 @@ mod told;
 
 pub use byte_buf::ByteBuf;
 pub use call::Call;
-pub use head::{Head, PidRow};
 pub use histories::{Fed, Histories};
 pub use log::{Act, Entry};
 pub use node::{NodeKind, State};

@@ -24,30 +24,26 @@ impl<T> Mute<T> {
 }
 
 impl<S: Source> Source for Mute<S> {
-    ghost left = { λ m. None };
-
-    ghost faults = { λ m. S.faults m.inner };
+    ghost end = { λ m. record { left = None; faults = (S.end m.inner).faults } };
 
     fn read(&mut self, into: &mut [u8]) -> Result<usize, Failed>
         requires { 0 < length into.old }
         ensures bound { ReadsAtMost result into.new }
         ensures bytes { ReadConsumes None None result into.new }
-        ensures cause { HasCause (S.faults self.old.inner) (S.faults self.new.inner) result }
+        ensures cause { HasCause (S.end self.old.inner).faults (S.end self.new.inner).faults result }
     {
         self.inner.read(into)
     }
 }
 
 impl<K: Sink> Sink for Mute<K> {
-    ghost written = { λ m. None };
-
-    ghost faults = { λ m. K.faults m.inner };
+    ghost end = { λ m. record { written = None; faults = (K.end m.inner).faults } };
 
     fn write(&mut self, piece: &[u8]) -> Result<usize, Failed>
         requires { 0 < length piece.now }
         ensures bound { IfOk result (λ n. (1 ≤ n) × (n ≤ length piece.now)) }
         ensures bytes { WriteAppends None None result piece.now }
-        ensures cause { HasCause (K.faults self.old.inner) (K.faults self.new.inner) result }
+        ensures cause { HasCause (K.end self.old.inner).faults (K.end self.new.inner).faults result }
     {
         self.inner.write(piece)
     }

@@ -1,8 +1,8 @@
 // Where bytes go to, and a sink in memory.
-ghost use Rattle.std.specs.Prelude.{◌≡◌, ℕ, ◌-◌, ◌<◌, ◌≤◌, ◌↔◌, ◌⊎◌, min, List, [], length, Some, IfOk, IsErr, MatchResult, Contains};
-ghost use Rattle.std.specs.declared.option.Option.{Option};
+ghost use Rattle.std.specs.Prelude.{◌≡◌, ◌-◌, ◌<◌, ◌≤◌, ◌↔◌, ◌⊎◌, min, [], length, Some, IfOk, IsErr, MatchResult, Contains};
 ghost use Rattle.std.specs.Io.KnownBytes.{WriteAppends};
 ghost use Rattle.emu_io.specs.Causes.{HasCause, raised};
+ghost use Rattle.emu_io.specs.Ends.{SinkEnd};
 
 use crate::Failed;
 use std::alloc::{AllocError as NoMemory, Global};
@@ -10,11 +10,8 @@ use std::marker::Model;
 
 /// Where bytes go to.
 pub trait Sink {
-    /// The bytes that were written, where the sink tells them.
-    ghost written: { Self → Option (List ℕ) };
-
-    /// How often a write has failed.
-    ghost faults: { Self → ℕ };
+    /// The bytes that were written, where the sink tells them, and how often a write has failed.
+    ghost end: { Self → SinkEnd };
 
     /// Writes the first bytes of `piece`, at least one, and answers how many.
     ///
@@ -23,8 +20,8 @@ pub trait Sink {
     fn write(&mut self, piece: &[u8]) -> Result<usize, Failed>
         requires { 0 < length piece.now }
         ensures bound { IfOk result (λ n. (1 ≤ n) × (n ≤ length piece.now)) }
-        ensures bytes { WriteAppends (written self.old) (written self.new) result piece.now }
-        ensures cause { HasCause (faults self.old) (faults self.new) result };
+        ensures bytes { WriteAppends (end self.old).written (end self.new).written result piece.now }
+        ensures cause { HasCause (end self.old).faults (end self.new).faults result };
 }
 
 /// Memory of a fixed capacity in bytes, which tells what was written. The writes with the numbers in `fails` fail.
@@ -80,9 +77,7 @@ impl MemSink {
 }
 
 impl Sink for MemSink {
-    ghost written = { λ s. Some s.written };
-
-    ghost faults = { λ s. s.faults };
+    ghost end = { λ s. record { written = Some s.written; faults = s.faults } };
 
     /// Takes no memory.
     fn write(&mut self, piece: &[u8]) -> Result<usize, Failed>

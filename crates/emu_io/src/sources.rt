@@ -1,20 +1,17 @@
 // Where bytes come from, and a source in memory.
-ghost use Rattle.std.specs.Prelude.{◌≡◌, ℕ, ◌<◌, ◌≤◌, ◌↔◌, min, List, length, take, Some, IfOk, IsErr, MatchResult, Contains};
-ghost use Rattle.std.specs.declared.option.Option.{Option};
+ghost use Rattle.std.specs.Prelude.{◌≡◌, ◌<◌, ◌≤◌, ◌↔◌, min, length, take, Some, IfOk, IsErr, MatchResult, Contains};
 ghost use Rattle.std.specs.Io.{ReadsAtMost};
 ghost use Rattle.std.specs.Io.KnownBytes.{ReadConsumes};
 ghost use Rattle.emu_io.specs.Causes.{HasCause, raised};
+ghost use Rattle.emu_io.specs.Ends.{SourceEnd};
 
 use crate::Failed;
 use std::marker::Model;
 
 /// Where bytes come from.
 pub trait Source {
-    /// The bytes that are left, where the source tells them.
-    ghost left: { Self → Option (List ℕ) };
-
-    /// How often a read has failed.
-    ghost faults: { Self → ℕ };
+    /// The bytes that are left, where the source tells them, and how often a read has failed.
+    ghost end: { Self → SourceEnd };
 
     /// Reads bytes into the front of `into`, and answers how many. 0 is the end of input.
     ///
@@ -23,8 +20,8 @@ pub trait Source {
     fn read(&mut self, into: &mut [u8]) -> Result<usize, Failed>
         requires { 0 < length into.old }
         ensures bound { ReadsAtMost result into.new }
-        ensures bytes { ReadConsumes (left self.old) (left self.new) result into.new }
-        ensures cause { HasCause (faults self.old) (faults self.new) result };
+        ensures bytes { ReadConsumes (end self.old).left (end self.new).left result into.new }
+        ensures cause { HasCause (end self.old).faults (end self.new).faults result };
 }
 
 /// Bytes in memory, which tell what is left of them. The reads with the numbers in `fails` fail.
@@ -78,9 +75,7 @@ fn copy_front(from: &[u8], into: &mut [u8], most: usize) -> usize
 }
 
 impl Source for MemSource {
-    ghost left = { λ s. Some s.left };
-
-    ghost faults = { λ s. s.faults };
+    ghost end = { λ s. record { left = Some s.left; faults = s.faults } };
 
     fn read(&mut self, into: &mut [u8]) -> Result<usize, Failed>
         requires { 0 < length into.old }

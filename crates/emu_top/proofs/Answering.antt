@@ -8,7 +8,7 @@ use Rattle.client_script.specs.declared.line.Line.{Line}
 use Rattle.client_script.specs.declared.line.Line.TheVariants.{Feed, Tick, Command as CommandLine}
 use Rattle.client_script.specs.Script.{split, parted, grammar, most_bytes, script_len, whole_lines, IsScript}
 use Rattle.client_script.proofs.Splitting.{split-found}
-use Rattle.client_core.specs.Budget.{most_calls, all_commands}
+use Rattle.script_run.specs.Budget.{most_calls, all_commands}
 use Rattle.command_words.specs.declared.Command.{Command}
 use Rattle.command_words.specs.declared.Command.TheVariants.{Steps, Run, Make, SelfTest}
 use Rattle.command_words.specs.Meant.{meant}

@@ -5,7 +5,7 @@ use Rattle.std.specs.Prelude.{Option, Some, None, Result, Ok, Err, is_ok, replic
 use Rattle.std.specs.Io.KnownBytes.{Consumes, IsAtEnd}
 use Rattle.std.specs.Int.{w16, w32, w64, to_be_bytes}
 use Rattle.section_crc.specs.Crc.{crc}
-use Rattle.dmx_calls.specs.Head.{told_head, head_of}
+use Rattle.ts_watch.specs.Head.{told_head, head_of}
 use Rattle.text_forms.specs.Numbers.{value_after}
 use Rattle.text_forms.specs.Hex.{hex_digit, hex_byte}
 use Rattle.text_forms.specs.Words.{input_named, output_named}

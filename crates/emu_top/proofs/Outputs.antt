@@ -7,7 +7,7 @@ use Rattle.std.specs.Io.KnownBytes.{Consumes, IsAtEnd}
 use Rattle.emu_io.specs.Causes.{raised, Rose}
 use Rattle.ts_packet.specs.Cut.{cut}
 use Rattle.dmx_calls.specs.declared.outcome.Outcome.{Outcome}
-use Rattle.dmx_calls.specs.Head.{told_head}
+use Rattle.ts_watch.specs.Head.{told_head}
 use Rattle.client_script.specs.declared.line.Line.{Line}
 use Rattle.client_script.specs.declared.fault.ScriptFault.{ScriptFault}
 use Rattle.client_script.specs.Script.{split, grammar, most_bytes, script_len, whole_lines}
@@ -15,7 +15,7 @@ use Rattle.client_script.proofs.Parting.{front_of}
 use Rattle.client_script.proofs.Splitting.{split-found, split-missing}
 use Rattle.client_core.specs.declared.stop.Stop.{Stop}
 use Rattle.client_core.specs.declared.stop.Stop.TheVariants.{NoMemory as NoMemoryToRun, TooLong as RunTooLong}
-use Rattle.client_core.specs.Budget.{most_calls, all_commands, IsTooLong}
+use Rattle.script_run.specs.Budget.{most_calls, all_commands, IsTooLong}
 use Rattle.feed_pull.specs.Pulling.{Pulling}
 use Rattle.feed_pull.specs.Streams.{OfStream}
 use Rattle.serial_core.specs.declared.run.Ran.{Ran}

@@ -3,7 +3,7 @@ use Rattle.std.specs.Prelude.{◌≡◌, ◌⊎◌, ⊤, ℕ, ◌≤◌, ◌++�
 use Rattle.std.specs.Io.KnownBytes.{Consumes, IsAtEnd}
 use Rattle.emu_io.specs.Causes.{Rose}
 use Rattle.ts_packet.specs.Cut.{cut}
-use Rattle.dmx_calls.specs.Head.{told_head, head_of}
+use Rattle.ts_watch.specs.Head.{told_head, head_of}
 use Rattle.dmx_calls.specs.Log.{LogEntry}
 use Rattle.dmx_calls.specs.declared.outcome.Outcome.{Outcome}
 use Rattle.client_script.specs.declared.line.Line.{Line}
@@ -13,8 +13,8 @@ use Rattle.client_script.specs.declared.fault.ScriptError.TheVariants.{Fault, No
 use Rattle.client_script.specs.Script.{split, grammar, IsScript}
 use Rattle.client_core.specs.declared.stop.Stop.{Stop}
 use Rattle.client_core.specs.declared.stop.Stop.TheVariants.{NoMemory as NoMemoryToRun, TooLong as RunTooLong}
-use Rattle.client_core.specs.Budget.{most_calls, all_commands}
-use Rattle.client_core.specs.WholeRun.{IsWholeRun}
+use Rattle.script_run.specs.Budget.{most_calls, all_commands}
+use Rattle.script_run.specs.WholeRun.{IsWholeRun}
 use Rattle.feed_pull.specs.Pulling.{Pulling, Pulls}
 use Rattle.serial_core.specs.declared.run.Ran.{Ran}
 use Rattle.serial_core.specs.SerialRun.{Run, IsSerialRun}

@@ -3,7 +3,7 @@ ghost use Rattle.std.specs.Prelude.{◌≡◌, ℕ, ◌+◌, ◌-◌, ◌^◌, �
 ghost use Rattle.std.specs.declared.option.Option.{Option};
 ghost use Rattle.std.specs.Io.KnownBytes.{Consumes};
 ghost use Rattle.client_script.specs.Script.{script_len, whole_lines, most_bytes};
-ghost use Rattle.dmx_calls.specs.Head.{told_head};
+ghost use Rattle.ts_watch.specs.Head.{told_head};
 ghost use Rattle.report_text.specs.Report.{report_of};
 ghost use Rattle.feed_pull.specs.declared.fault.Reading.TheVariants.{Going};
 ghost use Rattle.emu_top.specs.Session.{Holds, IsFaultIn, IsSerialOutput, Makes, Refuses, Runs, status_of_error, status_of_stop};
@@ -12,12 +12,13 @@ use crate::Status;
 use crate::part::{Front, PartError, read_front};
 use client_core::Stop;
 use client_script::{Script, ScriptError};
-use dmx_calls::{Head, Histories, Outcome};
+use dmx_calls::{Histories, Outcome};
 use emu_io::Source;
 use feed_pull::Puller;
 use report_text::report;
 use serial_core::{Ran, run_steps};
 use std::alloc::Global;
+use ts_watch::Head;
 
 /// A script, and the stream behind it.
 #[derive(Drop)]

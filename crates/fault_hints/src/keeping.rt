@@ -51,15 +51,13 @@ fn kept_with(kept: Option<ScriptPart>, piece: &[u8]) -> Option<ScriptPart> {
 }
 
 impl<S: Source> Source for Keeping<S> {
-    ghost left = { λ k. S.left k.inner };
-
-    ghost faults = { λ k. S.faults k.inner };
+    ghost end = { λ k. S.end k.inner };
 
     fn read(&mut self, into: &mut [u8]) -> Result<usize, Failed>
         requires { 0 < length into.old }
         ensures bound { ReadsAtMost result into.new }
-        ensures bytes { ReadConsumes (S.left self.old.inner) (S.left self.new.inner) result into.new }
-        ensures cause { HasCause (S.faults self.old.inner) (S.faults self.new.inner) result }
+        ensures bytes { ReadConsumes (S.end self.old.inner).left (S.end self.new.inner).left result into.new }
+        ensures cause { HasCause (S.end self.old.inner).faults (S.end self.new.inner).faults result }
     {
         let count = self.inner.read(into)?;
         self.kept = kept_with(self.kept.take(), &into[..count]);

@@ -1,7 +1,7 @@
 -- Pulls one after another.
 use Rattle.std.proofs.Common.{◌≡◌, ◌≢◌, refl, sym, ap, subst, ◌∙◌, ℕ, List, [], ◌∷◌, ◌++◌, length, length-append, append_assoc, append-nil, arith}
 use Rattle.std.proofs.KnownBytes.{Consumes-trans, Consumes-nil}
-use Rattle.std.specs.declared.option.Option.{Option}
+use Rattle.emu_io.specs.Ends.{SourceEnd}
 use Rattle.ts_packet.specs.Cut.{cut}
 use Rattle.feed_pull.specs.Pulling.{Pulling, Pulls, IsDone}
 use Rattle.feed_pull.specs.declared.fault.Reading.TheVariants.{Going}
@@ -9,28 +9,28 @@ use Rattle.feed_pull.specs.Steps.{Carries, ReadsNothing}
 use Rattle.feed_pull.specs.Streams.{Draws}
 use Rattle.feed_pull.proofs.PullLemmas.{Follows-none, Follows-then, Pulls-front, Pulls-done}
 
-pub Carries-none : (x : Option (List ℕ)) (p : Pulling) → Carries x x p [] p
+pub Carries-none : (x : SourceEnd) (p : Pulling) → Carries x x p [] p
 Carries-none x p = record {
   more = [];
-  consumes = Consumes-nil x;
+  consumes = Consumes-nil x.left;
   pulls = λ ahead taken given h. subst (λ t. Pulls ahead t (given ++ []) p) (sym (append-nil taken)) (subst (λ g. Pulls ahead taken g p) (sym (append-nil given)) h);
 }
 
-pub Carries-then : (x y z : Option (List ℕ)) (a b c : Pulling) (ps qs : List (List ℕ)) → Carries x y a ps b → Carries y z b qs c → Carries x z a (ps ++ qs) c
+pub Carries-then : (x y z : SourceEnd) (a b c : Pulling) (ps qs : List (List ℕ)) → Carries x y a ps b → Carries y z b qs c → Carries x z a (ps ++ qs) c
 Carries-then x y z a b c ps qs g h = record {
   more = g.more ++ h.more;
-  consumes = Consumes-trans x y z g.more h.more g.consumes h.consumes;
+  consumes = Consumes-trans x.left y.left z.left g.more h.more g.consumes h.consumes;
   pulls = λ ahead taken given k. subst (λ t. Pulls ahead t (given ++ (ps ++ qs)) c) (append_assoc taken g.more h.more)
       (subst (λ l. Pulls ahead ((taken ++ g.more) ++ h.more) l c) (append_assoc given ps qs) (h.pulls ahead (taken ++ g.more) (given ++ ps) (g.pulls ahead taken given k)));
 }
 
-pub draws_none : (x : Option (List ℕ)) (n : ℕ) (p : Pulling) → Draws x x n n p p []
-draws_none x n p = record { carries = Carries-none x p; follows = Follows-none p.reading x n; start = refl }
+pub draws_none : (x : SourceEnd) (p : Pulling) → Draws x x p p []
+draws_none x p = record { carries = Carries-none x p; follows = Follows-none p.reading x; start = refl }
 
-pub draws_then : (x y z : Option (List ℕ)) (l m n : ℕ) (a b c : Pulling) (ps qs : List (List ℕ)) → Draws x y l m a b ps → Draws y z m n b c qs → Draws x z l n a c (ps ++ qs)
-draws_then x y z l m n a b c ps qs g h = record {
+pub draws_then : (x y z : SourceEnd) (a b c : Pulling) (ps qs : List (List ℕ)) → Draws x y a b ps → Draws y z b c qs → Draws x z a c (ps ++ qs)
+draws_then x y z a b c ps qs g h = record {
   carries = Carries-then x y z a b c ps qs g.carries h.carries;
-  follows = Follows-then a.reading b.reading c.reading x y z l m n g.follows h.follows;
+  follows = Follows-then a.reading b.reading c.reading x y z g.follows h.follows;
   start = h.start ∙ g.start;
 }
 
@@ -40,7 +40,7 @@ empty_by : {A : Type 0} (xs : List A) → length xs ≡ 0 → xs ≡ []
 empty_by [] is = refl
 empty_by (x ∷ xs) is = absurd (omega (arith, is))
 
-pub none_given : (x y : Option (List ℕ)) (a b : Pulling) (packets : List (List ℕ)) → Carries x y a packets b → (a.reading ≢ Going → ReadsNothing a b) → IsDone a
+pub none_given : (x y : SourceEnd) (a b : Pulling) (packets : List (List ℕ)) → Carries x y a packets b → (a.reading ≢ Going → ReadsNothing a b) → IsDone a
     → (ahead taken : List ℕ) (given : List (List ℕ)) → Pulls ahead taken given a → packets ≡ []
 none_given x y a b packets carries still done ahead taken given h =
     let k = carries.pulls ahead taken given h in

@@ -1,4 +1,3 @@
-pub mod HeadLemmas
 pub mod PullLemmas
 pub mod Drawing
 pub mod Stopping

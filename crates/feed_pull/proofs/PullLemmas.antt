@@ -6,6 +6,7 @@ use Rattle.std.proofs.lemmas.Bool.{cases_lt}
 use Rattle.std.proofs.KnownBytes.{Consumes-trans, Consumes-nil}
 use Rattle.std.specs.declared.option.Option.{Option}
 use Rattle.std.specs.Io.KnownBytes.{IsAtEnd}
+use Rattle.emu_io.specs.Ends.{SourceEnd}
 use Rattle.ts_packet.specs.Cut.{cut}
 use Rattle.ts_packet.specs.Cutting.{Cutting, fresh, bytes_taken, IsRest, Cuts, IsTally}
 use Rattle.ts_packet.specs.declared.cutter.Tally.{Tally}
@@ -160,13 +161,13 @@ Goes-then a b c m n g h = record {
   last = Last-then a b c m n g h.last g.last;
 }
 
-pub Gathers-none : (p : Pulling) (left : Option (List ℕ)) → IsRest p.cutting.rest → Gathers left left p p
-Gathers-none p left h = record { more = []; consumes = Consumes-nil left; goes = Goes-none p h }
+pub Gathers-none : (p : Pulling) (x : SourceEnd) → IsRest p.cutting.rest → Gathers x x p p
+Gathers-none p x h = record { more = []; consumes = Consumes-nil x.left; goes = Goes-none p h }
 
-pub Gathers-then : (a b c : Pulling) (x y z : Option (List ℕ)) → Gathers x y a b → Gathers y z b c → Gathers x z a c
+pub Gathers-then : (a b c : Pulling) (x y z : SourceEnd) → Gathers x y a b → Gathers y z b c → Gathers x z a c
 Gathers-then a b c x y z g h = record {
   more = g.more ++ h.more;
-  consumes = Consumes-trans x y z g.more h.more g.consumes h.consumes;
+  consumes = Consumes-trans x.left y.left z.left g.more h.more g.consumes h.consumes;
   goes = Goes-then a b c g.more h.more g.goes h.goes;
 }
 
@@ -188,10 +189,10 @@ going-cases TooMany = inr (λ e. absurd cc)
 ended-stops : (r : Reading) → r ≡ Failed → r ≢ Going
 ended-stops r e g = absurd cc
 
-pub Follows-none : (r : Reading) (x : Option (List ℕ)) (n : ℕ) → Follows r r x x n n
-Follows-none r x n = record {
+pub Follows-none : (r : Reading) (x : SourceEnd) → Follows r r x x
+Follows-none r x = record {
   stays = λ _. refl;
-  still = λ _. (refl, refl);
+  still = λ _. refl;
   ends = λ g e. absurd cc;
   later = omega arith;
   once = omega arith;
@@ -200,45 +201,45 @@ Follows-none r x n = record {
   went = λ e. (e, refl);
 }
 
-Follows-ends : (a b c : Reading) (x y z : Option (List ℕ)) (l m n : ℕ) → Follows a b x y l m → Follows b c y z m n → a ≡ Going → c ≡ Ended → IsAtEnd z
-Follows-ends a b c x y z l m n f g is e =
+Follows-ends : (a b c : Reading) (x y z : SourceEnd) → Follows a b x y → Follows b c y z → a ≡ Going → c ≡ Ended → IsAtEnd z.left
+Follows-ends a b c x y z f g is e =
     elim (going-cases b) [
       | inl goes ↦ g.ends goes e
-      | inr stopped ↦ subst IsAtEnd (sym (g.still stopped).0) (f.ends is (sym (g.stays stopped) ∙ e))
+      | inr stopped ↦ subst (λ e. IsAtEnd e.left) (sym (g.still stopped)) (f.ends is (sym (g.stays stopped) ∙ e))
     ]
 
-Follows-fails : (a b c : Reading) (x y z : Option (List ℕ)) (l m n : ℕ) → Follows a b x y l m → Follows b c y z m n → a ≡ Going → c ≡ Failed → l < n
-Follows-fails a b c x y z l m n f g is e =
+Follows-fails : (a b c : Reading) (x y z : SourceEnd) → Follows a b x y → Follows b c y z → a ≡ Going → c ≡ Failed → x.faults < z.faults
+Follows-fails a b c x y z f g is e =
     elim (going-cases b) [
       | inl goes ↦ omega (arith, f.later, g.fails goes e)
       | inr stopped ↦ omega (arith, g.later, f.fails is (sym (g.stays stopped) ∙ e))
     ]
 
-Follows-rose : (a b c : Reading) (x y z : Option (List ℕ)) (l m n : ℕ) → Follows a b x y l m → Follows b c y z m n → l < n → c ≡ Failed
-Follows-rose a b c x y z l m n f g lt =
-    elim (cases_lt l m) [
+Follows-rose : (a b c : Reading) (x y z : SourceEnd) → Follows a b x y → Follows b c y z → x.faults < z.faults → c ≡ Failed
+Follows-rose a b c x y z f g lt =
+    elim (cases_lt x.faults y.faults) [
       | inl rose ↦ g.stays (ended-stops b (f.rose rose)) ∙ f.rose rose
       | inr not ↦ g.rose (omega arith)
     ]
 
-Follows-once : (a b c : Reading) (x y z : Option (List ℕ)) (l m n : ℕ) → Follows a b x y l m → Follows b c y z m n → n ≤ l + 1
-Follows-once a b c x y z l m n f g =
+Follows-once : (a b c : Reading) (x y z : SourceEnd) → Follows a b x y → Follows b c y z → z.faults ≤ x.faults + 1
+Follows-once a b c x y z f g =
     elim (going-cases b) [
       | inl goes ↦ omega (arith, g.once, (f.went goes).1)
-      | inr stopped ↦ omega (arith, f.once, (g.still stopped).1)
+      | inr stopped ↦ omega (arith, f.once, ap (λ (e : SourceEnd). e.faults) (g.still stopped))
     ]
 
-pub Follows-then : (a b c : Reading) (x y z : Option (List ℕ)) (l m n : ℕ) → Follows a b x y l m → Follows b c y z m n → Follows a c x z l n
-Follows-then a b c x y z l m n f g =
+pub Follows-then : (a b c : Reading) (x y z : SourceEnd) → Follows a b x y → Follows b c y z → Follows a c x z
+Follows-then a b c x y z f g =
     let stopped : a ≢ Going → b ≢ Going = λ s e. s (sym (f.stays s) ∙ e) in
     record {
       stays = λ s. g.stays (stopped s) ∙ f.stays s;
-      still = λ s. ((g.still (stopped s)).0 ∙ (f.still s).0, (g.still (stopped s)).1 ∙ (f.still s).1);
-      ends = Follows-ends a b c x y z l m n f g;
+      still = λ s. g.still (stopped s) ∙ f.still s;
+      ends = Follows-ends a b c x y z f g;
       later = omega (arith, f.later, g.later);
-      once = Follows-once a b c x y z l m n f g;
-      fails = Follows-fails a b c x y z l m n f g;
-      rose = Follows-rose a b c x y z l m n f g;
+      once = Follows-once a b c x y z f g;
+      fails = Follows-fails a b c x y z f g;
+      rose = Follows-rose a b c x y z f g;
       went = λ e. ((f.went (g.went e).0).0, (g.went e).1 ∙ (f.went (g.went e).0).1);
     }
 
@@ -322,7 +323,7 @@ Pulls-given ahead taken given packets a b p h =
       earlier = λ long. h.earlier ∙ p.earlier long;
     }
 
-pub Carries-by : (a b c : Pulling) (x y : Option (List ℕ)) (packets : List (List ℕ)) → Gathers x y a b → HasGiven packets b c → Carries x y a packets c
+pub Carries-by : (a b c : Pulling) (x y : SourceEnd) (packets : List (List ℕ)) → Gathers x y a b → HasGiven packets b c → Carries x y a packets c
 Carries-by a b c x y packets g h = record {
   more = g.more;
   consumes = g.consumes;

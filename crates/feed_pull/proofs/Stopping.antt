@@ -1,8 +1,8 @@
 -- How reading stops, and what is then so of the source and of its stream.
 use Rattle.std.proofs.Common.{◌≡◌, ◌≢◌, refl, sym, ap, ◌∙◌, ℕ, ◌+◌, ◌-◌, ◌^◌, ◌<◌, ◌≤◌, Bool, true, false, List, [], ◌++◌, length, Result, Ok, Err, OnErr, IsTrue, arith}
 use Rattle.std.specs.Prelude.{◌↔◌}
-use Rattle.std.specs.declared.option.Option.{Option}
 use Rattle.std.specs.Io.KnownBytes.{IsAtEnd}
+use Rattle.emu_io.specs.Ends.{SourceEnd}
 use Rattle.feed_pull.specs.declared.fault.Reading.{Reading}
 use Rattle.feed_pull.specs.declared.fault.Reading.TheVariants.{Going, Ended, Failed, TooMany}
 use Rattle.feed_pull.specs.Pulling.{Pulling, Pulls, has_failed}
@@ -10,8 +10,8 @@ use Rattle.feed_pull.specs.Steps.{Follows}
 use Rattle.feed_pull.specs.Streams.{Draws, OfStream}
 
 -- the source's count may rise once more while reading goes on
-pub still_counts : (old new : Reading) (x y : Option (List ℕ)) (l m : ℕ) → Follows old new x y l m → (old ≡ Going → l < 2 ^ 64 - 1) → new ≡ Going → m < 2 ^ 64 - 1
-still_counts old new x y l m f below going = let k = f.went going in let b = below k.0 in omega (arith, k.1, b)
+pub still_counts : (old new : Reading) (x y : SourceEnd) → Follows old new x y → (old ≡ Going → x.faults < 2 ^ 64 - 1) → new ≡ Going → y.faults < 2 ^ 64 - 1
+still_counts old new x y f below going = let k = f.went going in let b = below k.0 in omega (arith, k.1, b)
 
 failed_by : (r : Reading) → has_failed r ≡ true → r ≡ Failed
 failed_by Going is = absurd (cc)
@@ -27,20 +27,20 @@ ended_by Failed stopped few is = absurd (cc)
 ended_by TooMany stopped few is = absurd (few refl)
 
 -- the source failed just where its count rose
-pub rose_by : (b : Bool) (old new : Reading) (x y : Option (List ℕ)) (l m : ℕ) → Follows old new x y l m → old ≡ Going → b ≡ has_failed new → IsTrue b ↔ (l < m)
-rose_by b old new x y l m f going is = (
+pub rose_by : (b : Bool) (old new : Reading) (x y : SourceEnd) → Follows old new x y → old ≡ Going → b ≡ has_failed new → IsTrue b ↔ (x.faults < y.faults)
+rose_by b old new x y f going is = (
   λ t. f.fails going (failed_by new (sym is ∙ t)),
   λ lt. is ∙ ap has_failed (f.rose lt),
 )
 
 -- else it has nothing left
-pub end_by : (b : Bool) (old new : Reading) (x y : Option (List ℕ)) (l m : ℕ) → Follows old new x y l m → old ≡ Going → b ≡ has_failed new → new ≢ Going → new ≢ TooMany → b ≡ false → IsAtEnd y
-end_by b old new x y l m f going is stopped few unfailed = f.ends going (ended_by new stopped few (sym is ∙ unfailed))
+pub end_by : (b : Bool) (old new : Reading) (x y : SourceEnd) → Follows old new x y → old ≡ Going → b ≡ has_failed new → new ≢ Going → new ≢ TooMany → b ≡ false → IsAtEnd y.left
+end_by b old new x y f going is stopped few unfailed = f.ends going (ended_by new stopped few (sym is ∙ unfailed))
 
 -- so many reads were made, each of which took a byte
-pub many_reads : (x y : Option (List ℕ)) (l n : ℕ) (old new : Pulling) (packets : List (List ℕ)) → Draws x y l n old new packets
+pub many_reads : (x y : SourceEnd) (old new : Pulling) (packets : List (List ℕ)) → Draws x y old new packets
     → 4294967296 ≤ new.start + new.taken → OfStream x y old (λ ahead taken. 4294967296 ≤ old.start + length taken)
-many_reads x y l n old new packets draws many = (
+many_reads x y old new packets draws many = (
   draws.carries.more,
   draws.carries.consumes,
   λ ahead pulls.
@@ -49,7 +49,7 @@ many_reads x y l n old new packets draws many = (
 )
 
 -- one fact of the stream makes another
-pub of_stream : (x y : Option (List ℕ)) (old : Pulling) (P Q : List ℕ → List ℕ → Type 0) → ((ahead taken : List ℕ) → P ahead taken → Q ahead taken) → OfStream x y old P → OfStream x y old Q
+pub of_stream : (x y : SourceEnd) (old : Pulling) (P Q : List ℕ → List ℕ → Type 0) → ((ahead taken : List ℕ) → P ahead taken → Q ahead taken) → OfStream x y old P → OfStream x y old Q
 of_stream x y old P Q so of = (of.0, of.1, λ ahead pulls. so ahead of.0 (of.2 ahead pulls))
 
 -- what is so anyway is so where a run stops

@@ -1,7 +1,7 @@
 -- The steps of a pull.
 use Rattle.std.specs.Prelude.{◌≡◌, ◌≢◌, ◌⊎◌, ℕ, ◌+◌, ◌-◌, ◌*◌, ◌<◌, ◌≤◌, List, [], ◌++◌, length}
-use Rattle.std.specs.declared.option.Option.{Option}
 use Rattle.std.specs.Io.KnownBytes.{Consumes, IsAtEnd}
+use Rattle.emu_io.specs.Ends.{SourceEnd}
 use Rattle.ts_packet.specs.Cut.{cut}
 use Rattle.ts_packet.specs.Cutting.{Cuts}
 use Rattle.ts_watch.specs.Watching.{Watched}
@@ -40,24 +40,24 @@ pub record ReadsNothing (old new : Pulling) : Type 0 where
   pub taken : new.taken ≡ old.taken
   pub reads : new.reads ≡ old.reads
 
--- the bytes that came were taken from a source that had this content before and after
-pub record Gathers (before after : Option (List ℕ)) (old new : Pulling) : Type 0 where
+-- the bytes that came were taken from a source that told this before and after
+pub record Gathers (before after : SourceEnd) (old new : Pulling) : Type 0 where
   pub more : List ℕ
-  pub consumes : Consumes before after more
+  pub consumes : Consumes before.left after.left more
   pub goes : Goes old more new
 
--- How reading goes before and after, and a source's content and its count of faults before and after. Once stopped it
--- stays so, and the source is left alone. It ends where nothing is left. It fails where the count rose, and only there,
--- and the count rises at most by one: after a failed read nothing more is read. While it goes on the count stands.
-pub record Follows (old new : Reading) (content left : Option (List ℕ)) (before after : ℕ) : Type 0 where
+-- How reading goes before and after, and what a source tells before and after. Once stopped it stays so, and the source
+-- is left alone. It ends where nothing is left. It fails where the count of faults rose, and only there, and the count
+-- rises at most by one: after a failed read nothing more is read. While it goes on the count stands.
+pub record Follows (old new : Reading) (before after : SourceEnd) : Type 0 where
   pub stays : old ≢ Going → new ≡ old
-  pub still : old ≢ Going → (left ≡ content) × (after ≡ before)
-  pub ends : old ≡ Going → new ≡ Ended → IsAtEnd left
-  pub later : before ≤ after
-  pub once : after ≤ before + 1
-  pub fails : old ≡ Going → new ≡ Failed → before < after
-  pub rose : before < after → new ≡ Failed
-  pub went : new ≡ Going → (old ≡ Going) × (after ≡ before)
+  pub still : old ≢ Going → after ≡ before
+  pub ends : old ≡ Going → new ≡ Ended → IsAtEnd after.left
+  pub later : before.faults ≤ after.faults
+  pub once : after.faults ≤ before.faults + 1
+  pub fails : old ≡ Going → new ≡ Failed → before.faults < after.faults
+  pub rose : before.faults < after.faults → new ≡ Failed
+  pub went : new ≡ Going → (old ≡ Going) × (after.faults ≡ before.faults)
 
 -- a measure of the reading that may still come
 abbrev pub to_read : Reading → ℕ → ℕ
@@ -86,9 +86,9 @@ pub record HasGiven (packets : List (List ℕ)) (old new : Pulling) : Type 0 whe
 
 -- Whatever stream the puller stood behind and whatever it had given, it now stands behind that stream with more bytes
 -- taken, which are those that the source gave, and has given these packets too.
-pub record Carries (content left : Option (List ℕ)) (old : Pulling) (packets : List (List ℕ))
+pub record Carries (before after : SourceEnd) (old : Pulling) (packets : List (List ℕ))
     (new : Pulling) : Type 0 where
   pub more : List ℕ
-  pub consumes : Consumes content left more
+  pub consumes : Consumes before.left after.left more
   pub pulls : (ahead taken : List ℕ) (given : List (List ℕ)) → Pulls ahead taken given old
       → Pulls ahead (taken ++ more) (given ++ packets) new

@@ -31,7 +31,6 @@
 
 mod fault;
 mod hand;
-mod head;
 mod piece;
 mod puller;
 

@@ -78,11 +78,11 @@ impl Piece {
     pub fn read<S: Source>(&mut self, source: &mut S) -> Result<usize, Failed>
         requires { self.old ≡ [] }
         ensures fits { length self.new ≤ 65536 }
-        ensures bytes { Consumes (S.left source.old) (S.left source.new) self.new }
+        ensures bytes { Consumes (S.end source.old).left (S.end source.new).left self.new }
         ensures count { IfOk result (λ n. n ≡ length self.new) }
-        ensures end { IfOk result (λ n. n ≡ 0 → IsAtEnd (S.left source.new)) }
+        ensures end { IfOk result (λ n. n ≡ 0 → IsAtEnd (S.end source.new).left) }
         ensures failed { OnErr result (self.new ≡ []) }
-        ensures cause { HasCause (S.faults source.old) (S.faults source.new) result }
+        ensures cause { HasCause (S.end source.old).faults (S.end source.new).faults result }
     {
         self.at = 0;
         self.end = 0;

@@ -4,22 +4,20 @@ ghost use Rattle.std.specs.Io.KnownBytes.{Consumes, IsAtEnd};
 ghost use Rattle.ts_packet.specs.Cut.{cut};
 ghost use Rattle.ts_packet.specs.Cutting.{IsTally};
 ghost use Rattle.ts_watch.specs.Watching.{Watched};
-ghost use Rattle.dmx_calls.specs.Head.{told_head, head_of};
+ghost use Rattle.ts_watch.specs.Head.{told_head, head_of};
 ghost use Rattle.feed_pull.specs.Pulling.{Pulling, IsPulling, Pulls, IsDone, IsNear, fault_of, has_failed, given_by};
 ghost use Rattle.feed_pull.specs.Steps.{Goes, Gathers, Follows, work, HasGiven, ReadsNothing, Carries};
 
 use crate::fault::{PullFault, Reading};
 use crate::hand::Hand;
-use crate::head::rows_of;
 use crate::piece::Piece;
-use dmx_calls::Head;
 use emu_io::Source;
 use std::alloc::{AllocError as NoMemory, Global};
 use std::marker::Model;
 use std::sync::Arc;
 use ts_batch::Batch;
 use ts_packet::{Cutter, Packet, Tally};
-use ts_watch::Watch;
+use ts_watch::{Head, Watch};
 
 // The most reads of one stream.
 const MOST_READS: u64 = 4_294_967_296;
@@ -45,7 +43,7 @@ pub struct Puller {
 
 impl Model for Puller {
     ghost use Rattle.ts_watch.specs.Watching.{Watched};
-    ghost use Rattle.dmx_calls.specs.Head.{told_head, head_of};
+    ghost use Rattle.ts_watch.specs.Head.{told_head, head_of};
     ghost use Rattle.feed_pull.specs.Pulling.{Pulling, IsPulling};
 
     ghost Value = { Pulling };
@@ -97,9 +95,9 @@ impl Puller {
     fn read<S: Source>(&mut self, source: &mut S)
         requires empty { self.old.unread ≡ [] }
         requires going { self.old.reading ≡ Reading.Going }
-        requires faults { S.faults source.old < 2 ^ 64 - 1 }
-        ensures gathers { Gathers (S.left source.old) (S.left source.new) self.old self.new }
-        ensures follows { Follows self.old.reading self.new.reading (S.left source.old) (S.left source.new) (S.faults source.old) (S.faults source.new) }
+        requires faults { (S.end source.old).faults < 2 ^ 64 - 1 }
+        ensures gathers { Gathers (S.end source.old) (S.end source.new) self.old self.new }
+        ensures follows { Follows self.old.reading self.new.reading (S.end source.old) (S.end source.new) }
         ensures less { work self.new < work self.old }
         ensures late { self.new.earlier ≤ max self.old.earlier (self.old.given + length self.old.waiting) }
     {
@@ -159,9 +157,9 @@ impl Puller {
     fn step<S: Source>(&mut self, source: &mut S)
         requires more { self.old.unread ≡ [] → self.old.reading ≡ Reading.Going }
         requires room { length self.old.waiting < 64 }
-        requires faults { self.old.reading ≡ Reading.Going → S.faults source.old < 2 ^ 64 - 1 }
-        ensures gathers { Gathers (S.left source.old) (S.left source.new) self.old self.new }
-        ensures follows { Follows self.old.reading self.new.reading (S.left source.old) (S.left source.new) (S.faults source.old) (S.faults source.new) }
+        requires faults { self.old.reading ≡ Reading.Going → (S.end source.old).faults < 2 ^ 64 - 1 }
+        ensures gathers { Gathers (S.end source.old) (S.end source.new) self.old self.new }
+        ensures follows { Follows self.old.reading self.new.reading (S.end source.old) (S.end source.new) }
         ensures less { work self.new < work self.old }
         ensures late { self.new.earlier ≤ max self.old.earlier (self.old.given + length self.old.waiting) }
         ensures stopped { self.old.reading ≢ Reading.Going → ReadsNothing self.old self.new }
@@ -176,12 +174,12 @@ impl Puller {
     // Reads and cuts until as many packets wait as are asked for, or nothing is left.
     fn gather<S: Source>(&mut self, source: &mut S, most: u32)
         requires most { most ≤ 64 }
-        requires faults { self.old.reading ≡ Reading.Going → S.faults source.old < 2 ^ 64 - 1 }
-        ensures gathers { Gathers (S.left source.old) (S.left source.new) self.old self.new }
-        ensures follows { Follows self.old.reading self.new.reading (S.left source.old) (S.left source.new) (S.faults source.old) (S.faults source.new) }
+        requires faults { self.old.reading ≡ Reading.Going → (S.end source.old).faults < 2 ^ 64 - 1 }
+        ensures gathers { Gathers (S.end source.old) (S.end source.new) self.old self.new }
+        ensures follows { Follows self.old.reading self.new.reading (S.end source.old) (S.end source.new) }
         ensures fewer { length self.new.waiting < most → (self.new.unread ≡ []) × (self.new.reading ≢ Reading.Going) }
         ensures late { self.old.earlier < self.old.given + most → self.new.earlier < self.new.given + most }
-        ensures full { most ≤ length self.old.waiting → (S.left source.new ≡ S.left source.old) × (self.new ≡ self.old) }
+        ensures full { most ≤ length self.old.waiting → (S.end source.new ≡ S.end source.old) × (self.new ≡ self.old) }
         ensures stopped { self.old.reading ≢ Reading.Going → ReadsNothing self.old self.new }
     {
         let _ = &self.hand;
@@ -224,10 +222,10 @@ impl Puller {
         requires some { 1 ≤ most }
         requires few { most ≤ 64 }
         // While reading goes on, the source's count of faults isn't at the end of its type.
-        requires faults { self.old.reading ≡ Reading.Going → S.faults source.old < 2 ^ 64 - 1 }
+        requires faults { self.old.reading ≡ Reading.Going → (S.end source.old).faults < 2 ^ 64 - 1 }
         // The stream grows by just the bytes that the source gave, and what was given by the packets of this batch. After
         // want of memory too nothing that was taken is lost.
-        ensures stream { Carries (S.left source.old) (S.left source.new) self.old (given_by result (λ batch. batch.value.packets)) self.new }
+        ensures stream { Carries (S.end source.old) (S.end source.new) self.old (given_by result (λ batch. batch.value.packets)) self.new }
         // What was given so far is the front of the stream's packets.
         ensures front { (ahead taken : List ℕ) (given : List (List ℕ)) → Pulls ahead taken given self.new → (later : List (List ℕ)) × ((cut (ahead ++ taken)).packets ≡ given ++ later) }
         // A batch's first number is the number of packets given before.
@@ -243,11 +241,11 @@ impl Puller {
         // .. and the watch was shown just these.
         ensures watched { IfOk result (λ answer. IfNone answer ((ahead taken : List ℕ) (given : List (List ℕ)) → Pulls ahead taken given self.new → Watched (cut (ahead ++ taken)).packets self.new.watch)) }
         // Once reading has stopped it stays so. It ends where the source has nothing left, and fails where its count rose.
-        ensures follows { Follows self.old.reading self.new.reading (S.left source.old) (S.left source.new) (S.faults source.old) (S.faults source.new) }
+        ensures follows { Follows self.old.reading self.new.reading (S.end source.old) (S.end source.new) }
         ensures too_many { self.new.reading ≡ Reading.TooMany → 4294967296 ≤ self.new.start + self.new.taken }
         ensures start { self.new.start ≡ self.old.start }
         // Where enough packets wait, or reading has stopped, nothing is read.
-        ensures full { most ≤ length self.old.waiting → (S.left source.new ≡ S.left source.old) × ReadsNothing self.old self.new }
+        ensures full { most ≤ length self.old.waiting → (S.end source.new ≡ S.end source.old) × ReadsNothing self.old self.new }
         ensures stopped { self.old.reading ≢ Reading.Going → ReadsNothing self.old self.new }
         ensures bytes { self.new.taken ≤ 281474976710656 }
         ensures numbers { 188 * self.new.given ≤ 65536 + self.new.taken }
@@ -307,7 +305,7 @@ impl Puller {
     {
         Ok(Head {
             tally: self.tally(),
-            rows: rows_of(alloc, self.watch())?,
+            rows: self.watch().rows(alloc)?,
             read_fault: self.read_failed(),
         })
     }

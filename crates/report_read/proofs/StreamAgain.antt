@@ -3,7 +3,7 @@ use Rattle.std.proofs.Common.{◌≡◌, refl, ℕ, List, ◌++◌, false, Some,
 use Rattle.std.specs.List.{All, flat_map}
 use Rattle.std.specs.Fmt.{decimal}
 use Rattle.ts_packet.specs.declared.cutter.Tally.{Tally}
-use Rattle.dmx_calls.specs.declared.head.PidRow.{PidRow}
+use Rattle.ts_watch.specs.declared.seen.PidRow.{PidRow}
 use Rattle.dmx_calls.specs.declared.outcome.Outcome.{Outcome}
 use Rattle.dmx_calls.specs.declared.outcome.OutcomeKind.{OutcomeKind}
 use Rattle.dmx_calls.specs.declared.outcome.OutcomeKind.TheVariants as outcome

@@ -5,7 +5,7 @@ use Rattle.std.specs.List.{All}
 use Rattle.pid_set.specs.Pids.{ArePids}
 use Rattle.ts_packet.specs.declared.cutter.Tally.{Tally}
 use Rattle.dmx_calls.specs.declared.limits.TheConstants.{DEMUX_NODES, LARGEST_READ}
-use Rattle.dmx_calls.specs.declared.head.PidRow.{PidRow}
+use Rattle.ts_watch.specs.declared.seen.PidRow.{PidRow}
 use Rattle.dmx_calls.specs.declared.outcome.Outcome.{Outcome}
 use Rattle.dmx_calls.specs.declared.log.Act.{Act}
 use Rattle.dmx_calls.specs.declared.log.Act.TheVariants.{Open as OpenAct, Close as CloseAct, SetFilter as SetFilterAct, SetPes as SetPesAct, AddPid as AddPidAct, RemovePid as RemovePidAct, Start as StartAct, Stop as StopAct, SetSize as SetSizeAct, Read as ReadAct, Poll as PollAct, Pass as PassAct, End as EndAct, Attach as AttachAct, Detach as DetachAct}

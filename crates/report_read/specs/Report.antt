@@ -2,9 +2,9 @@
 use Rattle.std.specs.Prelude.{◌≡◌, ◌≢◌, ℕ, suc, ◌&&◌, Bool, true, List, [], ◌∷◌, map, nat_eq, nat_le, nat_lt}
 use Rattle.std.specs.List.{list_any}
 use Rattle.dmx_calls.specs.declared.limits.TheConstants.{LARGEST_PID}
-use Rattle.dmx_calls.specs.declared.head.PidRow.{PidRow}
+use Rattle.ts_watch.specs.declared.seen.PidRow.{PidRow}
 use Rattle.dmx_calls.specs.Calls.{told_entry}
-use Rattle.dmx_calls.specs.Head.{told_head}
+use Rattle.ts_watch.specs.Head.{told_head}
 use Rattle.dmx_calls.specs.Log.{LogEntry}
 use Rattle.report_text.specs.Entries.{entry_text, is_of_client}
 use Rattle.report_text.specs.Told.{ToldNode, Told, text_of}

@@ -3,9 +3,10 @@ ghost use Rattle.std.specs.Prelude.{◌≡◌, map};
 ghost use Rattle.dmx_calls.specs.Calls.{told_entry};
 ghost use Rattle.report_read.specs.Report.{are_rows as rows_ascend, are_placed as stand_at_places, is_whole_node as node_is_whole, are_nodes as nodes_ascend};
 
+use dmx_calls::Entry;
 use dmx_calls::limits::LARGEST_PID;
-use dmx_calls::{Entry, PidRow};
 use report_text::is_called;
+use ts_watch::PidRow;
 
 /// Whether the rows are those of PIDs that have a packet, ascending.
 #[tactic(auto, unfolding(crate::specs::Report::are_rows))]

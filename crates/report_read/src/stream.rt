@@ -7,9 +7,9 @@ ghost use Rattle.report_read.specs.Ranges.{IsTallyInRange, AreCountsInRange, IsR
 ghost use Rattle.report_read.specs.Inside.Whole.{tally_in, counts_in, row_in, rows_in};
 
 use crate::bytes::Bytes;
-use dmx_calls::PidRow;
 use std::alloc::{AllocError as NoMemory, Global};
 use ts_packet::Tally;
+use ts_watch::PidRow;
 
 /// The packets, skipped bytes and bytes of rest.
 #[tactic(auto, unfolding(crate::specs::Inside::Whole::tally_in))]

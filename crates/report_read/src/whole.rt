@@ -12,10 +12,11 @@ use crate::entries::is_same;
 use crate::nodes::read_nodes;
 use crate::order::{are_nodes, are_rows};
 use crate::stream::{read_rows, read_tally};
-use dmx_calls::{Entry, Head, Outcome};
+use dmx_calls::{Entry, Outcome};
 use report_text::told_report;
 use std::alloc::{AllocError as NoMemory, Global};
 use ts_packet::Tally;
+use ts_watch::Head;
 
 /// What a report tells.
 #[derive(Drop)]

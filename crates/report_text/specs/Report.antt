@@ -3,9 +3,9 @@ use Rattle.std.specs.Prelude.{ℕ, suc, Bool, true, false, List, [], ◌∷◌, 
 use Rattle.std.specs.List.{flat_map}
 use Rattle.std.specs.Fmt.{decimal}
 use Rattle.ts_packet.specs.declared.cutter.Tally.{Tally}
-use Rattle.dmx_calls.specs.declared.head.PidRow.{PidRow}
+use Rattle.ts_watch.specs.declared.seen.PidRow.{PidRow}
 use Rattle.dmx_calls.specs.declared.outcome.Outcome.{Outcome}
-use Rattle.dmx_calls.specs.Head.{StreamHead}
+use Rattle.ts_watch.specs.Head.{StreamHead}
 use Rattle.dmx_calls.specs.Log.{LogEntry}
 use Rattle.dmx_calls.specs.Names.{kind_text}
 use Rattle.report_text.specs.Entries.{histories_text}

@@ -2,7 +2,7 @@
 use Rattle.std.specs.Prelude.{ℕ, List, ◌++◌, codes}
 use Rattle.std.specs.List.{flat_map}
 use Rattle.dmx_calls.specs.declared.outcome.Outcome.{Outcome}
-use Rattle.dmx_calls.specs.Head.{StreamHead}
+use Rattle.ts_watch.specs.Head.{StreamHead}
 use Rattle.dmx_calls.specs.Log.{LogEntry}
 use Rattle.text_forms.specs.Names.{node_text}
 use Rattle.report_text.specs.Entries.{entry_text}

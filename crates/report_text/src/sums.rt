@@ -3,15 +3,16 @@ ghost use Rattle.std.specs.Prelude.{◌≡◌, ◌*◌, ◌+◌, ◌^◌, ◌<�
 ghost use Rattle.std.specs.Fmt.{decimal};
 ghost use Rattle.dmx_calls.specs.declared.limits.TheConstants.{DEMUX_NODES};
 ghost use Rattle.dmx_calls.specs.Calls.{response_of, told_entry};
-ghost use Rattle.dmx_calls.specs.Head.{told_head};
+ghost use Rattle.ts_watch.specs.Head.{told_head};
 ghost use Rattle.report_text.specs.Inside.Sums.{AreSums, AreAtMost};
 ghost use Rattle.report_text.specs.Summary.{data_bytes as bytes_of_response, is_overflow as tells_overflow, bytes_read as bytes_of_entries, overflows as overflows_of_entries, summary_of};
 
 use crate::acts::add_field;
 use dmx_calls::limits::DEMUX_NODES;
-use dmx_calls::{Entry, Head, Histories, Reply};
+use dmx_calls::{Entry, Histories, Reply};
 use itoa::Buffer;
 use std::alloc::{AllocError as NoMemory, Global};
+use ts_watch::Head;
 
 // Sums over nodes. They have 128 bits, so that no number of entries is too large for them.
 #[derive(Clone, Copy, Drop)]

@@ -2,14 +2,15 @@
 ghost use Rattle.std.specs.Prelude.{◌≡◌, ◌++◌, map, IfOk, OnOk, codes};
 ghost use Rattle.std.specs.List.{flat_map};
 ghost use Rattle.dmx_calls.specs.Calls.{told_entry};
-ghost use Rattle.dmx_calls.specs.Head.{told_head};
+ghost use Rattle.ts_watch.specs.Head.{told_head};
 ghost use Rattle.report_text.specs.Entries.{entry_text};
 ghost use Rattle.report_text.specs.Told.{told_node_text, text_of};
 
 use crate::entries::{add_entry, add_node};
 use crate::whole::{add_clients, add_end, add_head};
-use dmx_calls::{Entry, Head, Outcome};
+use dmx_calls::{Entry, Outcome};
 use std::alloc::{AllocError as NoMemory, Global};
+use ts_watch::Head;
 
 // A line feed, and a line for each entry.
 fn add_lines(out: &mut Vec<u8>, entries: &[Entry]) -> Result<(), NoMemory>

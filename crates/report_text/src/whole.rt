@@ -1,7 +1,7 @@
 // The whole report.
 ghost use Rattle.std.specs.Prelude.{◌≡◌, ◌+◌, ◌<◌, ◌≤◌, ◌++◌, ℕ, length, map, codes, IfOk, OnOk};
 ghost use Rattle.std.specs.List.{flat_map};
-ghost use Rattle.dmx_calls.specs.Head.{told_head};
+ghost use Rattle.ts_watch.specs.Head.{told_head};
 ghost use Rattle.report_text.specs.Entries.{histories_text};
 ghost use Rattle.report_text.specs.Report.{tally_text, row_text, outcome_text, client_text, clients_text, end_text, report_of};
 
@@ -11,9 +11,10 @@ use crate::feeder_line::feeder_lines;
 use crate::replies::add_word;
 use crate::room::room_for_nodes;
 use dmx_calls::limits::DEMUX_NODES;
-use dmx_calls::{Head, Histories, Outcome, PidRow};
+use dmx_calls::{Histories, Outcome};
 use std::alloc::{AllocError as NoMemory, Global};
 use ts_packet::Tally;
+use ts_watch::{Head, PidRow};
 
 // How many packets, skipped bytes and bytes of rest the stream has.
 fn add_tally(out: &mut Vec<u8>, tally: &Tally) -> Result<(), NoMemory>

@@ -11,8 +11,9 @@ use Rattle.dmx_calls.specs.Rules.{Rules}
 use Rattle.dmx_calls.specs.Facts.{facts}
 use Rattle.dmx_calls.specs.Answer.{answer}
 use Rattle.dmx_calls.proofs.Going.{has_ended_refused, has_ended_after}
-use Rattle.client_core.specs.declared.event.Want.{Want}
-use Rattle.client_core.specs.declared.event.Want.TheVariants.{Open, Close, Section, Pes, Add, Remove, Start, Stop, Size, Read, Poll, Attach, Detach}
+use Rattle.client_core.specs.declared.event.Request.{Request}
+use Rattle.client_core.specs.declared.event.Request.TheVariants.{Own}
+use Rattle.client_script.specs.declared.line.Want.TheVariants.{Open}
 use Rattle.client_core.specs.Commands.{call_of}
 
 -- ------ calls of the feeder and of clients
@@ -36,33 +37,11 @@ pub ends : (who : ℕ) (r : Response) (h : History) → is_accepted r ≡ true �
 ends who r h ok = has_ended_after (entry_of who call.End r) h ok
 
 -- a client brings no packets
-pub none_brought : (w : Want) (now : ℕ) → brought (call_of w now) ≡ []
-none_brought Open now = refl
-none_brought Close now = refl
-none_brought (Section p) now = refl
-none_brought (Pes p) now = refl
-none_brought (Add p) now = refl
-none_brought (Remove p) now = refl
-none_brought Start now = refl
-none_brought Stop now = refl
-none_brought (Size n) now = refl
-none_brought (Read n) now = refl
-none_brought Poll now = refl
-none_brought (Attach n ps) now = refl
-none_brought (Detach n) now = refl
+pub none_brought : (w : Request) (now : ℕ) → brought (call_of w now) ≡ []
+none_brought (Own Open) now = refl
+none_brought _ now = refl
 
 -- and doesn't end the stream
-pub no_end : (w : Want) (now who : ℕ) (r : Response) (h : History) → is_end (event (entry_of who (call_of w now) r) h) ≡ false
-no_end Open now who r h = refl
-no_end Close now who r h = refl
-no_end (Section p) now who r h = refl
-no_end (Pes p) now who r h = refl
-no_end (Add p) now who r h = refl
-no_end (Remove p) now who r h = refl
-no_end Start now who r h = refl
-no_end Stop now who r h = refl
-no_end (Size n) now who r h = refl
-no_end (Read n) now who r h = refl
-no_end Poll now who r h = refl
-no_end (Attach n ps) now who r h = refl
-no_end (Detach n) now who r h = refl
+pub no_end : (w : Request) (now who : ℕ) (r : Response) (h : History) → is_end (event (entry_of who (call_of w now) r) h) ≡ false
+no_end (Own Open) now who r h = refl
+no_end _ now who r h = refl

@@ -14,11 +14,13 @@ use Rattle.dmx_calls.proofs.Nodes.{demux_keeps, dvr_keeps}
 use Rattle.dmx_calls.proofs.Pending.{names_a_byte}
 use Rattle.client_script.specs.declared.line.Line.{Line}
 use Rattle.client_core.specs.declared.event.Event.{Event}
-use Rattle.client_core.specs.declared.event.Want.{Want}
-use Rattle.client_core.specs.declared.event.Want.TheVariants.{Open, Close, Section, Pes, Add, Remove, Start, Stop, Size, Read, Poll, Attach, Detach}
+use Rattle.client_core.specs.declared.event.Request.{Request}
+use Rattle.client_core.specs.declared.event.Request.TheVariants.{Own}
+use Rattle.client_script.specs.declared.line.Want.TheVariants.{Read}
 use Rattle.client_core.specs.Commands.{call_of, commands_of, ends_drain}
 use Rattle.client_core.specs.Events.{Standing, progress, next_event, next_of_line, standing_at, waits_on}
-use Rattle.client_core.specs.Budget.{bytes_in, repeats}
+use Rattle.client_core.specs.Repeats.{repeats}
+use Rattle.script_run.specs.Budget.{bytes_in}
 use Rattle.client_core.specs.Inside.More.{added_by}
 use Rattle.client_core.proofs.FirstCalls.{few}
 use Rattle.client_core.proofs.Options.{none_ne_some}
@@ -26,14 +28,14 @@ use Rattle.client_core.proofs.More.{one_reply_more, some_of}
 use Rattle.serial_core.specs.Nodes.{Node, history_of}
 use Rattle.serial_core.specs.SerialRun.{Run, ended, replies_of}
 use Rattle.serial_core.specs.Budget.{bytes_to, bytes_by, bytes_by_all, one_if, HasBrought, IsPaid}
-use Rattle.client_core.proofs.ReadReplies.{IsReadReply, IsOpenAgain, not_ended, reads}
+use Rattle.script_run.proofs.ReadReplies.{IsReadReply, IsOpenAgain, not_ended, reads}
 use Rattle.serial_core.proofs.Paid.{Brought}
 
 -- ------ one reply
 
 -- what a reply to this call adds to the repeats, it adds to the bytes, unless it is Again and the stream has not ended
-abbrev pub IsAnswer : (ended : Bool) → Want → Response → Type 0
-IsAnswer ended (Read count) r = IsReadReply ended r
+abbrev pub IsAnswer : (ended : Bool) → Request → Response → Type 0
+IsAnswer ended (Own (Read count)) r = IsReadReply ended r
 IsAnswer ended _ r = Unit {0}
 
 read_pays : (ended : Bool) (r : Response) → IsReadReply ended r → ((if ends_drain r then 0 else 1) ≤ bytes_in r) ⊎ IsOpenAgain ended r
@@ -45,60 +47,27 @@ read_pays ended r is = go (ends_drain r) refl where
     | inr again ↦ inr again
   ]
 
-pays : (ended : Bool) (w : Want) (r : Response) → IsAnswer ended w r → (added_by w r ≤ bytes_in r) ⊎ IsOpenAgain ended r
-pays ended (Read count) r is = read_pays ended r is
-pays ended Open r is = inl (omega arith)
-pays ended Close r is = inl (omega arith)
-pays ended (Section p) r is = inl (omega arith)
-pays ended (Pes p) r is = inl (omega arith)
-pays ended (Add p) r is = inl (omega arith)
-pays ended (Remove p) r is = inl (omega arith)
-pays ended Start r is = inl (omega arith)
-pays ended Stop r is = inl (omega arith)
-pays ended (Size p) r is = inl (omega arith)
-pays ended Poll r is = inl (omega arith)
-pays ended (Attach n ps) r is = inl (omega arith)
-pays ended (Detach n) r is = inl (omega arith)
+pays : (ended : Bool) (w : Request) (r : Response) → IsAnswer ended w r → (added_by w r ≤ bytes_in r) ⊎ IsOpenAgain ended r
+pays ended (Own (Read count)) r is = read_pays ended r is
+pays ended _ r is = inl (omega arith)
 
-added_one : (w : Want) (r : Response) → added_by w r ≤ 1
-added_one (Read count) r = go (ends_drain r) where
+added_one : (w : Request) (r : Response) → added_by w r ≤ 1
+added_one (Own (Read count)) r = go (ends_drain r) where
   go : (b : Bool) → (if b then 0 else 1) ≤ 1
   go true = omega arith
   go false = omega arith
-added_one Open r = omega arith
-added_one Close r = omega arith
-added_one (Section p) r = omega arith
-added_one (Pes p) r = omega arith
-added_one (Add p) r = omega arith
-added_one (Remove p) r = omega arith
-added_one Start r = omega arith
-added_one Stop r = omega arith
-added_one (Size p) r = omega arith
-added_one Poll r = omega arith
-added_one (Attach n ps) r = omega arith
-added_one (Detach n) r = omega arith
+added_one _ r = omega arith
 
 module _ (node : Rules) (names : OverflowNamesAByte node) where
   -- the answer of a node to the call of a client
-  answers : (ended : Bool) (n who now : ℕ) (h : History) (w : Want) → HasBrought node n ended h → IsAnswer ended w (answer node h who (call_of w now))
-  answers ended n who now h (Read count) b = subst (λ has. IsReadReply has (answer node h who (call_of (Read count) now))) b.ended (reads node names h who now count b.legal)
-  answers ended n who now h Open b = tt
-  answers ended n who now h Close b = tt
-  answers ended n who now h (Section p) b = tt
-  answers ended n who now h (Pes p) b = tt
-  answers ended n who now h (Add p) b = tt
-  answers ended n who now h (Remove p) b = tt
-  answers ended n who now h Start b = tt
-  answers ended n who now h Stop b = tt
-  answers ended n who now h (Size p) b = tt
-  answers ended n who now h Poll b = tt
-  answers ended n who now h (Attach m ps) b = tt
-  answers ended n who now h (Detach m) b = tt
+  answers : (ended : Bool) (n who now : ℕ) (h : History) (w : Request) → HasBrought node n ended h → IsAnswer ended w (answer node h who (call_of w now))
+  answers ended n who now h (Own (Read count)) b = subst (λ has. IsReadReply has (answer node h who (call_of (Own (Read count)) now))) b.ended (reads node names h who now count b.legal)
+  answers ended n who now h _ b = tt
 
-pub demux_answers : (ended : Bool) (n : ℕ) (node : Node) (who now : ℕ) (w : Want) → HasBrought rules.demux n ended (history_of node) → IsAnswer ended w (answer rules.demux (history_of node) who (call_of w now))
+pub demux_answers : (ended : Bool) (n : ℕ) (node : Node) (who now : ℕ) (w : Request) → HasBrought rules.demux n ended (history_of node) → IsAnswer ended w (answer rules.demux (history_of node) who (call_of w now))
 demux_answers ended n node who now w b = answers rules.demux (names_a_byte rules.demux demux_keeps) ended n who now (history_of node) w b
 
-pub dvr_answers : (ended : Bool) (n : ℕ) (node : Node) (who now : ℕ) (w : Want) → HasBrought rules.dvr n ended (history_of node) → IsAnswer ended w (answer rules.dvr (history_of node) who (call_of w now))
+pub dvr_answers : (ended : Bool) (n : ℕ) (node : Node) (who now : ℕ) (w : Request) → HasBrought rules.dvr n ended (history_of node) → IsAnswer ended w (answer rules.dvr (history_of node) who (call_of w now))
 dvr_answers ended n node who now w b = answers rules.dvr (names_a_byte rules.dvr dvr_keeps) ended n who now (history_of node) w b
 
 -- ------ the replies of all clients

@@ -20,8 +20,8 @@ use Rattle.serial_core.specs.declared.seat.Seat.{Seat}
 use Rattle.serial_core.specs.declared.nodes.Nodes.{Nodes}
 use Rattle.client_core.specs.Inside.Core.{Core, IsAfter}
 use Rattle.client_core.specs.Events.{outcomes}
-use Rattle.client_core.specs.Budget.{most_calls, all_commands}
-use Rattle.dmx_calls.specs.Head.{told_head, head_of}
+use Rattle.script_run.specs.Budget.{most_calls, all_commands}
+use Rattle.ts_watch.specs.Head.{told_head, head_of}
 use Rattle.feed_pull.specs.Pulling.{Pulls, IsDone}
 use Rattle.feed_pull.proofs.PullLemmas.{Pulls-done, Pulls-front, Pulls-size}
 use Rattle.serial_core.specs.declared.run.Ran.{Ran}

@@ -10,7 +10,7 @@ use Rattle.client_script.specs.declared.line.Line.TheVariants.{Feed, Tick, Comma
 use Rattle.client_core.specs.declared.event.Event.{Event}
 use Rattle.client_core.specs.Commands.{commands_of}
 use Rattle.client_core.specs.Events.{next_of_line}
-use Rattle.client_core.specs.Budget.{most_calls}
+use Rattle.script_run.specs.Budget.{most_calls}
 use Rattle.serial_core.specs.SerialRun.{Run, begun, fed, ticked, replies_of, reply_to, called, after_waiting, IsWorked, through, calls, AreDone, finished}
 use Rattle.serial_core.specs.Budget.{IsPaid}
 use Rattle.serial_core.specs.Runs.{HaveSerialRuns}

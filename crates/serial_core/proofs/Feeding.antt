@@ -10,7 +10,7 @@ use Rattle.dmx_calls.specs.declared.params.Input.TheVariants.{Frontend}
 use Rattle.dmx_calls.specs.declared.limits.TheConstants.{DEMUX_NODES}
 use Rattle.dmx_calls.specs.declared.log.Act.TheVariants.{Pass as PassAct, End as EndAct}
 use Rattle.dmx_calls.specs.Log.{LogEntry}
-use Rattle.client_core.specs.IsRun.{Batch, Step, feeding, steps_of}
+use Rattle.script_run.specs.IsRun.{Batch, Step, feeding, steps_of}
 use Rattle.serial_core.specs.Budget.{one_if}
 
 -- ------ the feeder's calls in a log

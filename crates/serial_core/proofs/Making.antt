@@ -12,7 +12,7 @@ use Rattle.client_script.specs.declared.line.Line.{Line}
 use Rattle.client_core.specs.declared.event.Event.{Event}
 use Rattle.client_core.specs.Commands.{call_of}
 use Rattle.client_core.specs.Events.{next_event}
-use Rattle.client_core.specs.IsRun.{IsEvent, replies}
+use Rattle.script_run.specs.IsRun.{IsEvent, replies}
 use Rattle.serial_core.proofs.Places.{get_more, get_last, get_cases}
 
 module _ (lines : List Line) (client : ℕ) where

@@ -16,7 +16,7 @@ use Rattle.dmx_calls.specs.Rules as rules
 use Rattle.dmx_calls.specs.Rules.{Rules}
 use Rattle.dmx_calls.specs.Answer.{answer}
 use Rattle.client_script.specs.declared.line.Line.{Line}
-use Rattle.client_core.specs.declared.event.Want.{Want}
+use Rattle.client_core.specs.declared.event.Request.{Request}
 use Rattle.client_core.specs.Commands.{call_of}
 use Rattle.client_core.specs.Events.{waits_on}
 use Rattle.serial_core.specs.Nodes.{Node, history_of, answered}
@@ -50,7 +50,7 @@ end_brought node n e h b = record {
 }
 
 -- a client calls it
-pub client_brought : (node : Rules) (n : ℕ) (e : Bool) (h : History) (who now : ℕ) (w : Want) → HasBrought node n e h → HasBrought node n e (entry_of who (call_of w now) (answer node h who (call_of w now)) ∷ h)
+pub client_brought : (node : Rules) (n : ℕ) (e : Bool) (h : History) (who now : ℕ) (w : Request) → HasBrought node n e h → HasBrought node n e (entry_of who (call_of w now) (answer node h who (call_of w now)) ∷ h)
 client_brought node n e h who now w b = record {
   legal = (b.legal, inl refl);
   are_packets = All-append IsPacket (brought_by h) (brought (call_of w now)) b.are_packets (subst (λ ps. All IsPacket ps) (sym (none_brought w now)) (All-nil IsPacket));

@@ -23,11 +23,12 @@ use Rattle.client_script.specs.Script.{clients_of, clients_in}
 use Rattle.client_script.specs.declared.line.Line.{Line}
 use Rattle.client_script.specs.declared.line.Line.TheVariants.{Feed, Tick, Command}
 use Rattle.client_core.specs.declared.event.Event.{Event}
-use Rattle.client_core.specs.declared.event.Want.{Want}
-use Rattle.client_core.specs.declared.event.Want.TheVariants as want
+use Rattle.client_core.specs.declared.event.Request.{Request}
+use Rattle.client_core.specs.declared.event.Request.TheVariants.{Own}
+use Rattle.client_script.specs.declared.line.Want.TheVariants.{Open}
 use Rattle.client_core.specs.Commands.{call_of}
 use Rattle.client_core.specs.Events.{next_event}
-use Rattle.client_core.specs.IsRun.{IsFed, HasDone, feeding, steps_of}
+use Rattle.script_run.specs.IsRun.{IsFed, HasDone, feeding, steps_of}
 use Rattle.client_core.proofs.Numbering.{next_is_numbered}
 use Rattle.serial_core.specs.Nodes.{Node, uncalled, history_of, answered}
 use Rattle.serial_core.specs.SerialRun.{Run, begun, fed_to_all, passed, ended, ticked, all_passed, demux_node, replies_of, reply_to, made, called, AreDone, finished}
@@ -64,20 +65,9 @@ few_clients (line ∷ lines) m le ranges = few_clients lines (max m (clients_of 
 
 -- ------ steps
 
-of_stream : (packets : List (List ℕ)) (w : Want) (now : ℕ) → IsOfStream packets (call_of w now)
-of_stream packets want.Open now = tt
-of_stream packets want.Close now = tt
-of_stream packets (want.Section p) now = tt
-of_stream packets (want.Pes p) now = tt
-of_stream packets (want.Add p) now = tt
-of_stream packets (want.Remove p) now = tt
-of_stream packets want.Start now = tt
-of_stream packets want.Stop now = tt
-of_stream packets (want.Size n) now = tt
-of_stream packets (want.Read n) now = tt
-of_stream packets want.Poll now = tt
-of_stream packets (want.Attach n ps) now = tt
-of_stream packets (want.Detach n) now = tt
+of_stream : (packets : List (List ℕ)) (w : Request) (now : ℕ) → IsOfStream packets (call_of w now)
+of_stream packets (Own Open) now = tt
+of_stream packets _ now = tt
 
 -- what a client's call leaves as it was
 record IsLeft (s r : Run) : Type 0 where

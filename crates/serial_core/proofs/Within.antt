@@ -19,12 +19,13 @@ use Rattle.client_core.specs.declared.command.Command.{Command as ClientCommand}
 use Rattle.client_core.specs.declared.event.Event.{Event}
 use Rattle.client_core.specs.Commands.{call_of, commands_of}
 use Rattle.client_core.specs.Events.{next_event, next_of_line, waits_on, no_slots}
-use Rattle.client_core.specs.Budget.{bytes_in, repeats, most_calls, all_commands}
+use Rattle.client_core.specs.Repeats.{repeats}
+use Rattle.script_run.specs.Budget.{bytes_in, most_calls, all_commands}
 use Rattle.client_core.proofs.More.{repeats_none}
 use Rattle.serial_core.specs.Nodes.{Node, uncalled, history_of, answered}
 use Rattle.serial_core.specs.SerialRun.{Run, begun, ended, passed, turned, fed, ticked, replies_of, demux_node, called, after_waiting, IsWorked, through, calls, AreDone, IsSerialRun}
 use Rattle.serial_core.specs.Budget.{bytes_by, bytes_by_all, one_if, HasBrought, IsPaid, IsBegun, no_call, one_call, AreBegun, IsMoment, IsWithinBudget}
-use Rattle.client_core.proofs.ReadReplies.{bytes_same}
+use Rattle.script_run.proofs.ReadReplies.{bytes_same}
 use Rattle.serial_core.proofs.Paid.{Brought, client_brought, paid_turned, paid_fed, paid_ticked, paid_finished}
 use Rattle.serial_core.proofs.Calling.{IsReady, demux_answers, dvr_answers, paid_with, next_at_line}
 use Rattle.serial_core.proofs.Replies.{waiting_replies}

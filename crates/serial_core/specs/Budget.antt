@@ -12,7 +12,8 @@ use Rattle.client_script.specs.declared.line.Line.TheVariants.{Command}
 use Rattle.client_core.specs.Commands.{commands_of}
 use Rattle.client_core.specs.declared.event.Event.{Event}
 use Rattle.client_core.specs.Events.{next_of_line, waits_on}
-use Rattle.client_core.specs.Budget.{most_calls, bytes_in, repeats}
+use Rattle.client_core.specs.Repeats.{repeats}
+use Rattle.script_run.specs.Budget.{most_calls, bytes_in}
 use Rattle.serial_core.specs.Nodes.{Node, history_of}
 use Rattle.serial_core.specs.SerialRun.{Run, begun, replies_of, called, after_waiting, AreDone, IsSerialRun}
 

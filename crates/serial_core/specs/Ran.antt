@@ -3,7 +3,7 @@ use Rattle.std.specs.Prelude.{◌≡◌, ℕ, ◌≤◌, ◌<◌, false, slice_i
 use Rattle.std.specs.List.{range_with_len}
 use Rattle.ts_packet.specs.Cut.{cut}
 use Rattle.dmx_calls.specs.declared.outcome.Outcome.{Outcome}
-use Rattle.dmx_calls.specs.Head.{told_head, head_of}
+use Rattle.ts_watch.specs.Head.{told_head, head_of}
 use Rattle.dmx_calls.specs.Log.{LogEntry}
 use Rattle.client_script.specs.declared.line.Line.{Line}
 use Rattle.client_script.specs.Script.{clients_in}

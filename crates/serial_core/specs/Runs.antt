@@ -7,7 +7,7 @@ use Rattle.dmx_calls.specs.Accounted.{IsAccounted}
 use Rattle.client_script.specs.Grammar.{IsInRange}
 use Rattle.client_script.specs.Script.{clients_in}
 use Rattle.client_script.specs.declared.line.Line.{Line}
-use Rattle.client_core.specs.IsRun.{IsRun, replies}
+use Rattle.script_run.specs.IsRun.{IsRun, replies}
 use Rattle.serial_core.specs.Ran.{histories_in}
 use Rattle.serial_core.specs.SerialRun.{Run, replies_of, IsSerialRun}
 

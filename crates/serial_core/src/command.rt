@@ -2,7 +2,7 @@
 ghost use Rattle.std.specs.Prelude.{◌≡◌, ℕ, ◌+◌, ◌-◌, ◌<◌, ◌≤◌, ◌^◌, List, [], ◌∷◌, ◌++◌, length, IsSome, OnOk, OnErr, IsErrOf};
 ghost use Rattle.dmx_calls.specs.declared.limits.TheConstants.{DEMUX_NODES as nodes};
 ghost use Rattle.client_script.specs.declared.line.Line.{Line as ScriptLine};
-ghost use Rattle.client_core.specs.Commands.{IsWantInRange};
+ghost use Rattle.client_core.specs.Commands.{IsRequestInRange};
 ghost use Rattle.client_core.specs.Inside.Core.{IsAfter};
 ghost use Rattle.serial_core.specs.Inside.Moving.{ComesBy, MadeAtMost, IsDoneBy, IsReady, IsSound, Moves};
 ghost use Rattle.feed_pull.specs.Streams.{Draws};
@@ -53,7 +53,7 @@ impl Runner {
         requires made { MadeAtMost self.old 8796093022208 }
         requires client { client < 8 }
         requires node { event.node ≤ nodes }
-        requires range { IsWantInRange event.want }
+        requires range { IsRequestInRange event.want }
         requires begun { IsSome core.old.current }
         requires taken { core.old.step < 2 ^ 46 }
         ensures moves { OnOk result (Moves (S.left source.old) (S.left source.new) (S.faults source.old) (S.faults source.new) self.old self.new

@@ -11,7 +11,7 @@ ghost use Rattle.dmx_calls.specs.declared.log.Act.{Act as ToldAct};
 ghost use Rattle.dmx_calls.specs.declared.log.Act.TheVariants.{End as EndAct, Pass as PassAct};
 ghost use Rattle.dmx_calls.specs.Rules as rules;
 ghost use Rattle.client_script.specs.declared.line.Line.{Line as ScriptLine};
-ghost use Rattle.client_core.specs.Commands.{IsWantInRange};
+ghost use Rattle.client_core.specs.Commands.{IsRequestInRange};
 ghost use Rattle.client_core.specs.Inside.Core.{IsAfter};
 ghost use Rattle.dmx_calls.specs.Response.{Response};
 ghost use Rattle.serial_core.specs.Nodes.{Node as RunNode, answered, history_of, uncalled};
@@ -235,7 +235,7 @@ impl Nodes {
         requires counted { AreCounted self.old }
         requires client { client < 8 }
         requires node { event.node ≤ nodes }
-        requires range { IsWantInRange event.want }
+        requires range { IsRequestInRange event.want }
         requires some { IsSome core.old.current }
         requires taken { core.old.step < 2 ^ 46 }
         ensures at { OnOk result ((r : Run) → now ≡ r.moment → IsNodes self.old r → IsNodes self.new (made client event r)) }

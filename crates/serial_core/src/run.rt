@@ -3,7 +3,7 @@ ghost use Rattle.std.specs.Prelude.{◌≡◌, ◌≢◌, true, false, ℕ, ◌+
 ghost use Rattle.std.specs.Io.KnownBytes.{IsAtEnd};
 ghost use Rattle.client_script.specs.Script.{clients_in};
 ghost use Rattle.client_core.specs.Inside.Core.{Core as CoreValue, IsAfter};
-ghost use Rattle.dmx_calls.specs.Head.{head_of, told_head};
+ghost use Rattle.ts_watch.specs.Head.{head_of, told_head};
 ghost use Rattle.feed_pull.specs.Pulling.{Pulling, Pulls, has_failed};
 ghost use Rattle.feed_pull.specs.declared.fault.Reading.TheVariants.{Going, TooMany};
 ghost use Rattle.client_core.specs.Events.{outcomes};
@@ -14,7 +14,7 @@ ghost use Rattle.serial_core.specs.Inside.Moving.{IsSound};
 ghost use Rattle.feed_pull.specs.Streams.{Draws, OfStream};
 ghost use Rattle.serial_core.specs.SerialRun.{Run, replies_of};
 ghost use Rattle.serial_core.specs.Ran.{AreFreshCores, IsFreshRunner, IsRanOf, histories_in};
-ghost use Rattle.client_core.specs.Budget.{IsTooLong};
+ghost use Rattle.script_run.specs.Budget.{IsTooLong};
 ghost use Rattle.serial_core.specs.Inside.Legal.{AreLegal};
 ghost use Rattle.serial_core.specs.Inside.Standing.{IsNodes};
 
@@ -22,13 +22,14 @@ use crate::nodes::Nodes;
 use crate::runner::Runner;
 use client_core::{ClientCore, Stop};
 use client_script::Script;
-use dmx_calls::{Head, Histories, Outcome};
+use dmx_calls::{Histories, Outcome};
 use emu_io::Source;
 use feed_pull::{PullFault, Puller};
 use std::alloc::{AllocError as NoMemory, Global};
 use std::marker::Brand;
 use std::sync::ledger::{Blank, Ledger};
 use steps::Steps;
+use ts_watch::Head;
 
 /// What a run of one thread leaves.
 #[derive(Drop)]

@@ -16,7 +16,7 @@ ghost use Rattle.serial_core.specs.Nodes.{Node as RunNode, history_of, answered}
 ghost use Rattle.serial_core.specs.Inside.Standing.{IsFeeding, IsSeat};
 
 use crate::node::Node;
-use client_core::{ClientCore, fitted, settled};
+use client_core::{ClientCore, fitted, unless_no_memory};
 use dmx_calls::{Act, Call, Entry, Input, Reply};
 use std::alloc::{AllocError as NoMemory, Global};
 use std::sync::Arc;
@@ -71,7 +71,7 @@ impl<M: Node> Seat<M> {
     {
         let answer = self.core.apply(who, call, steps);
         Ok(Heard {
-            reply: settled(answer.reply)?,
+            reply: unless_no_memory(answer.reply)?,
             batch: answer.batch,
         })
     }

@@ -5,11 +5,11 @@ use Rattle.std.proofs.Common.{get_or}
 use Rattle.ts_packet.specs.Fields.{error_bit, has_payload}
 use Rattle.ts_packet.specs.Clean.{repeats, joins, clean}
 use Rattle.ts_packet.specs.Counts.{counts}
-use Rattle.ts_watch.specs.declared.seen.WatchRow.{WatchRow}
+use Rattle.ts_watch.specs.declared.seen.PidRow.{PidRow}
 use Rattle.ts_watch.specs.declared.seen.Seen.{Seen}
 
 -- The row of a PID: the counts of its packets among these.
-abbrev pub row_of : List (List ℕ) → ℕ → WatchRow
+abbrev pub row_of : List (List ℕ) → ℕ → PidRow
 row_of packets pid = record {
   packets = (counts packets pid).packets;
   breaks = (counts packets pid).breaks;
@@ -50,13 +50,13 @@ pub record Watched (packets : List (List ℕ)) (w : Watching) : Type 0 where
   pub kept : (pid : ℕ) → pid < 8192 → kept w pid ≡ kept_of packets pid
 
 -- one more in the row
-abbrev pub one_packet : WatchRow → WatchRow
+abbrev pub one_packet : PidRow → PidRow
 one_packet r = record { packets = r.packets + 1; breaks = r.breaks; duplicates = r.duplicates; errors = r.errors }
 
-abbrev pub one_break : WatchRow → WatchRow
+abbrev pub one_break : PidRow → PidRow
 one_break r = record { packets = r.packets + 1; breaks = r.breaks + 1; duplicates = r.duplicates; errors = r.errors }
 
-abbrev pub one_duplicate : WatchRow → WatchRow
+abbrev pub one_duplicate : PidRow → PidRow
 one_duplicate r = record {
   packets = r.packets + 1;
   breaks = r.breaks;
@@ -64,7 +64,7 @@ one_duplicate r = record {
   errors = r.errors;
 }
 
-abbrev pub one_error : WatchRow → WatchRow
+abbrev pub one_error : PidRow → PidRow
 one_error r = record { packets = r.packets + 1; breaks = r.breaks; duplicates = r.duplicates; errors = r.errors + 1 }
 
 -- the row after a clean packet or a duplicate, which the last clean packet is compared with

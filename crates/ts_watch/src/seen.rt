@@ -5,14 +5,16 @@ ghost use Rattle.ts_watch.specs.Watching.{IsSeen, nothing, after};
 
 use ts_packet::Packet;
 
-/// What was counted of the packets of one PID: how many there were; how many of its clean packets don't join the clean
-/// packet before them; how many packets with a payload and without an error repeat the clean packet before them; and how
-/// many have the error bit. The second and third are 0 for null packets.
+/// What was counted of the packets of one PID. The breaks and the duplicates are 0 for null packets.
 #[derive(Clone, Copy, Debug, PartialEq, Eq, Drop)]
-pub struct WatchRow {
+pub struct PidRow {
+    /// How many packets there were.
     pub packets: u64,
+    /// How many clean packets don't join the clean packet before them: their continuity counter doesn't go on.
     pub breaks: u64,
+    /// How many packets with a payload and without an error repeat the clean packet before them.
     pub duplicates: u64,
+    /// How many packets have the error bit.
     pub errors: u64,
 }
 
@@ -23,7 +25,7 @@ const NULL_PID: u16 = 0x1fff;
 #[derive(Drop)]
 pub struct Seen {
     pub pid: u16,
-    pub row: WatchRow,
+    pub row: PidRow,
     pub last: Option<Packet>,
 }
 
@@ -34,7 +36,7 @@ impl Seen {
     {
         Seen {
             pid,
-            row: WatchRow {
+            row: PidRow {
                 packets: 0,
                 breaks: 0,
                 duplicates: 0,

@@ -2,9 +2,10 @@
 ghost use Rattle.std.specs.Prelude.{◌≡◌, ◌≢◌, ℕ, ◌+◌, ◌^◌, ◌<◌, ◌≤◌, List, [], ◌∷◌, ◌++◌, length, replicate, IfOk, Some, None};
 ghost use Rattle.std.proofs.Common.{get_or};
 ghost use Rattle.ts_packet.specs.Fields.{pid_of};
+ghost use Rattle.ts_watch.specs.Head.{rows_below};
 ghost use Rattle.ts_watch.specs.Watching.{Watching, IsWatching, Watched, kept, after, row_of};
 
-use crate::seen::{Seen, WatchRow};
+use crate::seen::{PidRow, Seen};
 use std::alloc::{AllocError as NoMemory, Global};
 use std::marker::Model;
 use ts_packet::Packet;
@@ -23,6 +24,7 @@ pub struct Watch {
 
 impl Model for Watch {
     ghost use Rattle.std.specs.Prelude.{◌≤◌, vec_capacity};
+    ghost use Rattle.ts_watch.specs.Head.{rows_below};
     ghost use Rattle.ts_watch.specs.Watching.{Watching, IsWatching};
 
     ghost Value = { Watching };
@@ -89,7 +91,7 @@ impl Watch {
     }
 
     /// The counts of a PID, at most 8191. Takes no memory.
-    pub fn row(&self, pid: u16) -> WatchRow
+    pub fn row(&self, pid: u16) -> PidRow
         requires { pid ≤ 8191 }
         // Whatever packets it stands for, these are their counts.
         ensures { (packets : List (List ℕ)) → Watched packets self.now → result ≡ row_of packets pid }
@@ -98,5 +100,20 @@ impl Watch {
             Some(place) => self.seen[place as usize].row,
             None => Seen::new(pid).row,
         }
+    }
+
+    /// The PIDs that have a packet, ascending, each with its counts.
+    pub fn rows(&self, alloc: Global) -> Result<Vec<(u16, PidRow)>, NoMemory>
+        // Whatever packets it stands for, these are their rows.
+        ensures { (packets : List (List ℕ)) → Watched packets self.now → IfOk result (λ rows. rows.items ≡ rows_below 8192 packets) }
+    {
+        let mut rows = Vec::with_capacity(alloc, PIDS)?;
+        'pids: for pid in 0..PIDS as u16 {
+            let row = self.row(pid);
+            if row.packets > 0 {
+                rows.push((pid, row))?;
+            }
+        }
+        Ok(rows)
     }
 }

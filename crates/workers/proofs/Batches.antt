@@ -7,8 +7,8 @@ use Rattle.std.proofs.lemmas.List.Sums.{sum_by-cons}
 use Rattle.std.proofs.lemmas.Option.{slice_get-get_or}
 use Rattle.dmx_calls.specs.declared.histories.Fed.{Fed}
 use Rattle.dmx_calls.specs.Histories.{feeder_acts}
-use Rattle.client_core.specs.IsRun.{Batch}
-use Rattle.client_core.specs.WholeRun.{IsGiven}
+use Rattle.script_run.specs.IsRun.{Batch}
+use Rattle.script_run.specs.WholeRun.{IsGiven}
 use Rattle.workers.specs.Feeding.{Tiles, batch_of}
 use Rattle.workers.proofs.Members.{all_at}
 

@@ -14,8 +14,8 @@ use Rattle.dmx_calls.specs.declared.histories.Fed.{Fed}
 use Rattle.dmx_calls.specs.declared.log.Entry.{Entry as ToldEntry}
 use Rattle.client_script.specs.declared.line.Line.{Line}
 use Rattle.client_core.specs.Inside.Core.{IsAfter}
-use Rattle.client_core.specs.IsRun.{replies}
-use Rattle.client_core.specs.WholeRun.{IsGiven}
+use Rattle.script_run.specs.IsRun.{replies}
+use Rattle.script_run.specs.WholeRun.{IsGiven}
 use Rattle.adapter.specs.Callers.{Caller, IsFreshCaller, AreFreshCallers, AreAllCallers}
 use Rattle.adapter.specs.Rows.{Fits}
 use Rattle.adapter.proofs.Lists.{at_place, place_below, at_before, at_last}

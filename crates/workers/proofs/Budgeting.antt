@@ -13,8 +13,8 @@ use Rattle.client_script.specs.declared.line.Verb.{Verb}
 use Rattle.client_core.specs.declared.command.Command.{Command as ClientCommand}
 use Rattle.client_core.specs.Commands.{commands_of}
 use Rattle.client_core.specs.Events.{waits_on}
-use Rattle.client_core.specs.IsRun.{replies}
-use Rattle.client_core.specs.Budget.{all_commands, bytes_in, most_calls}
+use Rattle.script_run.specs.IsRun.{replies}
+use Rattle.script_run.specs.Budget.{all_commands, bytes_in, most_calls}
 use Rattle.adapter.proofs.Lists.{at_place}
 use Rattle.workers.specs.Budget.{CallsAreWithinBudget, FewBytesAreFewCalls, ManyCallsAreTooLong}
 use Rattle.workers.proofs.Counting.{total, total_le, total_add, total_same, total_33, but, total_but, one_at, total_one, Pool, HaveTokens, counts_fit, both, all_pools}

@@ -21,8 +21,8 @@ use Rattle.dmx_calls.proofs.Weaving.{in_place-at}
 use Rattle.client_script.specs.declared.line.Line.{Line}
 use Rattle.client_script.specs.Script.{clients_in}
 use Rattle.client_core.specs.Events.{next_event}
-use Rattle.client_core.specs.IsRun.{IsFed, HasDone, replies}
-use Rattle.client_core.specs.WholeRun.{IsGiven, IsWholeRun}
+use Rattle.script_run.specs.IsRun.{IsFed, HasDone, replies}
+use Rattle.script_run.specs.WholeRun.{IsGiven, IsWholeRun}
 use Rattle.trace_merge.specs.Merging.{AreByPlace}
 use Rattle.adapter.specs.Callers.{Caller, AreAllCallers}
 use Rattle.adapter.specs.Ends.{HaveHistories}

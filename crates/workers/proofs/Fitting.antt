@@ -17,7 +17,7 @@ use Rattle.adapter.specs.Rows.{column}
 use Rattle.adapter.specs.Ends.{IsHistory, rows_of}
 use Rattle.workers.specs.Feeding.{fed_entries}
 use Rattle.workers.proofs.Counting.{weigh, Pool, HaveTokens, counts_fit}
-use Rattle.client_core.specs.Budget.{bytes_in}
+use Rattle.script_run.specs.Budget.{bytes_in}
 use Rattle.workers.proofs.HistoryBytes.{packets_in, answers_in, Token, token, weight_of, weight_at, weight_there, packets_of_history, are_packets, byte_tokens, has_bytes, bytes_fit}
 use Rattle.workers.proofs.FeederPasses.{are_fed, FedAt, FeederPass, feeder_pass}
 use Rattle.workers.proofs.LogCalls.{Moment, Client, ByFeeder, ByClient, whose, feeder_seen, logged_there, one_entry, brings_none}

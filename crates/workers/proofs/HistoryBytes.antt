@@ -15,8 +15,8 @@ use Rattle.dmx_calls.specs.Rules.{demux, dvr, rules_at}
 use Rattle.dmx_calls.specs.Legal.{IsLegalFor}
 use Rattle.dmx_calls.specs.Bytes.{bytes_answered}
 use Rattle.dmx_calls.proofs.Bytes.{demux_answers_fit, dvr_answers_fit}
-use Rattle.client_core.specs.Budget.{bytes_in}
-use Rattle.client_core.proofs.ReadReplies.{bytes_same}
+use Rattle.script_run.specs.Budget.{bytes_in}
+use Rattle.script_run.proofs.ReadReplies.{bytes_same}
 use Rattle.workers.proofs.Counting.{weigh, weigh_append, total}
 
 -- ------ sums over lists

@@ -12,7 +12,7 @@ use Rattle.dmx_calls.specs.declared.histories.Fed.{Fed}
 use Rattle.dmx_calls.specs.declared.outcome.Outcome.{Outcome}
 use Rattle.client_script.specs.declared.line.Line.{Line}
 use Rattle.client_script.specs.Script.{clients_in}
-use Rattle.client_core.specs.IsRun.{replies}
+use Rattle.script_run.specs.IsRun.{replies}
 use Rattle.client_core.specs.declared.stop.Stop.{Stop}
 use Rattle.client_core.specs.declared.stop.Stop.TheVariants.{NoMemory, TooLong}
 use Rattle.feed_pull.specs.Pulling.{Pulling, Pulls}

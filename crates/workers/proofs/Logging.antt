@@ -19,8 +19,8 @@ use Rattle.dmx_calls.specs.Response.{NoMemory}
 use Rattle.dmx_calls.specs.Entries.{caller_of}
 use Rattle.client_script.specs.declared.line.Line.{Line}
 use Rattle.client_core.specs.Events.{next_event, waits_on}
-use Rattle.client_core.specs.IsRun.{IsEvent, replies}
-use Rattle.client_core.specs.WholeRun.{IsGiven}
+use Rattle.script_run.specs.IsRun.{IsEvent, replies}
+use Rattle.script_run.specs.WholeRun.{IsGiven}
 use Rattle.adapter.specs.Callers.{Caller}
 use Rattle.adapter.specs.Rows.{OneCalls, OneLooks}
 use Rattle.adapter.proofs.Lists.{place_below, set_there, set_elsewhere, one_value, at_end}

@@ -8,7 +8,7 @@ use Rattle.dmx_calls.specs.declared.log.Act.{Act}
 use Rattle.dmx_calls.specs.declared.log.Act.TheVariants.{End as EndAct}
 use Rattle.dmx_calls.specs.Log.{LogEntry}
 use Rattle.dmx_calls.specs.Histories.{pass_act, feeder_entry, feeder_entries, before_entry, woven_from}
-use Rattle.client_core.specs.IsRun.{Step, feeding, steps_of}
+use Rattle.script_run.specs.IsRun.{Step, feeding, steps_of}
 use Rattle.workers.specs.Feeding.{Tiles, batch_of}
 use Rattle.workers.specs.Telling.{steps_from}
 

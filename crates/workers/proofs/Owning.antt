@@ -16,10 +16,11 @@ use Rattle.dmx_calls.specs.Log.{LogEntry, IsOfStream, act_of, filled_act, filled
 use Rattle.dmx_calls.specs.Histories.{feeder_acts}
 use Rattle.dmx_calls.proofs.Telling.{fills}
 use Rattle.client_core.specs.declared.event.Event.{Event}
-use Rattle.client_core.specs.declared.event.Want.{Want}
-use Rattle.client_core.specs.declared.event.Want.TheVariants as want
+use Rattle.client_core.specs.declared.event.Request.{Request}
+use Rattle.client_core.specs.declared.event.Request.TheVariants.{Own}
+use Rattle.client_script.specs.declared.line.Want.TheVariants.{Open}
 use Rattle.client_core.specs.Commands.{call_of}
-use Rattle.client_core.specs.IsRun.{IsEvent}
+use Rattle.script_run.specs.IsRun.{IsEvent}
 use Rattle.adapter.specs.Rows.{column}
 use Rattle.adapter.specs.Callers.{Caller}
 use Rattle.adapter.specs.Ends.{IsHistory, rows_of}
@@ -37,20 +38,9 @@ use Rattle.workers.proofs.Feeders.{Picks, got, got_back, ups_from, picked, stand
 
 -- ------ a client passes no batch
 
-pub no_pass : (w : Want) (now : ℕ) → PassesNone (act_of (call_of w now))
-no_pass want.Open now = tt
-no_pass want.Close now = tt
-no_pass (want.Section p) now = tt
-no_pass (want.Pes p) now = tt
-no_pass (want.Add p) now = tt
-no_pass (want.Remove p) now = tt
-no_pass want.Start now = tt
-no_pass want.Stop now = tt
-no_pass (want.Size n) now = tt
-no_pass (want.Read n) now = tt
-no_pass want.Poll now = tt
-no_pass (want.Attach n ps) now = tt
-no_pass (want.Detach n) now = tt
+pub no_pass : (w : Request) (now : ℕ) → PassesNone (act_of (call_of w now))
+no_pass (Own Open) now = tt
+no_pass _ now = tt
 
 of_stream : (stream : List (List ℕ)) (c : Invocation) → PassesNone (act_of c) → IsOfStream stream c
 of_stream stream call.Open bare = tt

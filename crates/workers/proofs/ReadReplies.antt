@@ -16,7 +16,7 @@ use Rattle.dmx_calls.specs.Bytes.{OverflowNamesAByte}
 use Rattle.dmx_calls.proofs.Nodes.{demux_keeps, dvr_keeps}
 use Rattle.dmx_calls.proofs.Pending.{names_a_byte}
 use Rattle.dmx_calls.proofs.Owning.{readers_call_between}
-use Rattle.client_core.proofs.ReadReplies.{IsReadReply, reads as answer_reads}
+use Rattle.script_run.proofs.ReadReplies.{IsReadReply, reads as answer_reads}
 
 -- ------ a read
 

@@ -13,7 +13,7 @@ use Rattle.dmx_calls.specs.declared.limits.TheConstants.{DEMUX_NODES}
 use Rattle.dmx_calls.specs.declared.log.Entry.{Entry as ToldEntry}
 use Rattle.client_script.specs.declared.line.Line.{Line}
 use Rattle.client_script.specs.Script.{clients_in}
-use Rattle.client_core.specs.Budget.{IsTooLong}
+use Rattle.script_run.specs.Budget.{IsTooLong}
 use Rattle.client_core.specs.declared.stop.Stop.TheVariants.{NoMemory}
 use Rattle.feed_pull.specs.Pulling.{Pulling, Pulls}
 use Rattle.feed_pull.specs.Streams.{OfStream}

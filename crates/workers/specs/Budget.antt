@@ -7,7 +7,7 @@ use Rattle.dmx_calls.specs.History.{Entry}
 use Rattle.dmx_calls.specs.Log.{LogEntry}
 use Rattle.client_script.specs.declared.line.Line.{Line}
 use Rattle.client_script.specs.Script.{clients_in}
-use Rattle.client_core.specs.Budget.{most_calls, all_commands, IsTooLong}
+use Rattle.script_run.specs.Budget.{most_calls, all_commands, IsTooLong}
 use Rattle.adapter.specs.Callers.{Caller}
 use Rattle.adapter.specs.Ends.{HaveHistories}
 use Rattle.adapter.specs.Nodes.{ended}

@@ -10,8 +10,8 @@ use Rattle.dmx_calls.specs.declared.params.Input.TheVariants.{Frontend}
 use Rattle.dmx_calls.specs.Invocation.{Pass}
 use Rattle.dmx_calls.specs.Response.{Passed}
 use Rattle.dmx_calls.specs.History.{Entry, entry_of}
-use Rattle.client_core.specs.IsRun.{Batch}
-use Rattle.client_core.specs.WholeRun.{AreFull}
+use Rattle.script_run.specs.IsRun.{Batch}
+use Rattle.script_run.specs.WholeRun.{AreFull}
 use Rattle.adapter.specs.Callers.{Caller}
 use Rattle.adapter.specs.Nodes.{ended}
 

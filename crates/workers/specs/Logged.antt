@@ -10,8 +10,8 @@ use Rattle.dmx_calls.specs.Log.{LogEntry, act_of}
 use Rattle.dmx_calls.specs.Response.{NoMemory}
 use Rattle.client_script.specs.declared.line.Line.{Line}
 use Rattle.client_core.specs.Events.{next_event, waits_on}
-use Rattle.client_core.specs.IsRun.{IsEvent, replies}
-use Rattle.client_core.specs.WholeRun.{IsGiven}
+use Rattle.script_run.specs.IsRun.{IsEvent, replies}
+use Rattle.script_run.specs.WholeRun.{IsGiven}
 use Rattle.adapter.specs.Callers.{Caller}
 
 -- a log entry tells an entry of a history: the same caller, the same call and the same response

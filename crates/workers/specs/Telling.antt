@@ -10,7 +10,7 @@ use Rattle.dmx_calls.specs.declared.outcome.Outcome.{Outcome}
 use Rattle.dmx_calls.specs.Histories.{feeder_acts, feeder_entry}
 use Rattle.dmx_calls.specs.History.{Entry}
 use Rattle.dmx_calls.specs.Log.{LogEntry, filled_entry}
-use Rattle.client_core.specs.IsRun.{Step, StandsIn, steps_of}
+use Rattle.script_run.specs.IsRun.{Step, StandsIn, steps_of}
 use Rattle.client_script.specs.declared.line.Line.{Line}
 use Rattle.adapter.specs.Rows.{column}
 use Rattle.adapter.specs.Callers.{Caller}

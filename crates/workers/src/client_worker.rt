@@ -6,17 +6,17 @@ ghost use Rattle.dmx_calls.specs.History.{Entry as HistoryEntry};
 ghost use Rattle.dmx_calls.specs.Log.{act_of};
 ghost use Rattle.dmx_calls.specs.declared.limits.TheConstants.{DEMUX_NODES as nodes};
 ghost use Rattle.client_script.specs.declared.line.Line.{Line};
-ghost use Rattle.client_core.specs.Commands.{IsWantInRange, call_of as call_at};
+ghost use Rattle.client_core.specs.Commands.{IsRequestInRange, call_of as call_at};
 ghost use Rattle.client_core.specs.Inside.Core.{next_of};
 ghost use Rattle.client_core.specs.Events.{next_event};
-ghost use Rattle.client_core.specs.IsRun.{replies};
-ghost use Rattle.client_core.specs.WholeRun.{IsGiven};
+ghost use Rattle.script_run.specs.IsRun.{replies};
+ghost use Rattle.script_run.specs.WholeRun.{IsGiven};
 ghost use Rattle.adapter.specs.Callers.{IsSameCaller};
 ghost use Rattle.workers.specs.Inside.Working.{IsFit, MayWork, IsWorking, MayCallNow, GoesOn, HasLooked, HasCome};
 
 use crate::moment::moment_of;
 use adapter::{Adapter, Client};
-use client_core::{ClientCore, Event, MOST_CALLS, Stop, call_of, fitted, settled};
+use client_core::{ClientCore, Event, MOST_CALLS, Stop, call_of, fitted, unless_no_memory};
 use dmx_calls::{Act, Entry};
 use emu_io::{Clock, Gate};
 use std::alloc::{AllocError as NoMemory, Global};
@@ -54,7 +54,7 @@ impl ClientWorker {
         requires some { IsSome self.old.core.current }
         requires node { event.node ≤ nodes }
         requires step { event.step ≡ self.old.core.step }
-        requires range { IsWantInRange event.want }
+        requires range { IsRequestInRange event.want }
         ensures same { IsSameCaller self.old.client self.new.client }
         ensures fit { OnOk result (IsFit adapter.now self.new) }
         ensures works { OnOk result ((may : ℕ → Bool) (lines : List Line) (client : ℕ) → IsGiven may (act_of (call_at event.want now)) → MayCallNow lines client event.node self.old
@@ -66,7 +66,7 @@ impl ClientWorker {
         let call = call_of(alloc, &want, now)?;
         let act = Act::of(&call);
         let (place, answer) = self.client.call(rt, adapter, node, call, steps);
-        let reply = settled(answer.reply)?;
+        let reply = unless_no_memory(answer.reply)?;
         self.core.take(&reply);
         self.log.push_reserved(Entry {
             node,

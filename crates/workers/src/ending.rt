@@ -3,7 +3,7 @@ ghost use Rattle.std.specs.Prelude.{◌≡◌, ◌++◌, ◌∷◌, [], ℕ, Boo
 ghost use Rattle.dmx_calls.specs.Calls.{told_entry};
 ghost use Rattle.dmx_calls.specs.declared.outcome.Outcome.{Outcome};
 ghost use Rattle.client_script.specs.declared.line.Line.{Line};
-ghost use Rattle.client_core.specs.WholeRun.{IsWholeRun};
+ghost use Rattle.script_run.specs.WholeRun.{IsWholeRun};
 ghost use Rattle.adapter.specs.Callers.{AreAllCallers};
 ghost use Rattle.trace_merge.specs.Merging.{AreOnNodes};
 ghost use Rattle.workers.specs.Telling.{HaveCalled, TellWhatWasCalled};

@@ -23,7 +23,7 @@
 //! client has logged stands in them on its node, at its place and with the reply that it was told; each other entry is the
 //! feeder's, its batches in their order and then End; and each list, entry by entry, is the only history that its lock can have
 //! had, by what all passes know. What `work` leaves was called so (`workers_have_called`), and then they are the histories of a
-//! run of the script (`IsWholeRun` of `client_core`).
+//! run of the script (`IsWholeRun` of `script_run`).
 //!
 //! What is only tested, in `run_tests`: that the threads run beside each other, that each moment is a reading of its own, that
 //! the gate is told of each step, and that memory isn't refused where there is enough.

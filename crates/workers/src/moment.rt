@@ -1,15 +1,19 @@
 // The moments of calls.
 ghost use Rattle.client_core.specs.Commands.{call_of};
-ghost use Rattle.client_core.specs.WholeRun.{IsGiven};
+ghost use Rattle.script_run.specs.WholeRun.{IsGiven};
 ghost use Rattle.dmx_calls.specs.Log.{act_of};
 
-use client_core::Want;
+use client_core::Request;
+use client_script::Want;
 use emu_io::Clock;
 
 /// The moment at which a call is made. The clock is read where the call carries one, anew each time.
-pub fn moment_of<C: Clock>(clock: &C, want: &Want) -> u64
-    ensures { IsGiven (C.may_give clock.now) (act_of (call_of want.now result)) }
+pub fn moment_of<C: Clock>(clock: &C, request: &Request) -> u64
+    ensures { IsGiven (C.may_give clock.now) (act_of (call_of request.now result)) }
 {
+    let Request::Own(want) = request else {
+        return 0;
+    };
     match want {
         Want::Section(_) | Want::Pes(_) | Want::Start | Want::Read(_) | Want::Poll => clock.now(),
         _ => 0,

@@ -3,9 +3,9 @@ ghost use Rattle.std.specs.Prelude.{◌≡◌, false, ℕ, ◌+◌, ◌-◌, ◌
 ghost use Rattle.std.specs.Io.KnownBytes.{IsAtEnd};
 ghost use Rattle.ts_packet.specs.Cut.{cut};
 ghost use Rattle.dmx_calls.specs.Calls.{told_entry};
-ghost use Rattle.dmx_calls.specs.Head.{head_of, told_head};
+ghost use Rattle.ts_watch.specs.Head.{head_of, told_head};
 ghost use Rattle.client_script.specs.Script.{clients_in};
-ghost use Rattle.client_core.specs.Budget.{IsTooLong};
+ghost use Rattle.script_run.specs.Budget.{IsTooLong};
 ghost use Rattle.feed_pull.specs.declared.fault.Reading.TheVariants.{Going};
 ghost use Rattle.feed_pull.specs.Pulling.{Pulling, IsDone};
 ghost use Rattle.feed_pull.specs.Streams.{Draws, OfStream};

@@ -1,6 +1,7 @@
 //! What the threads of a run leave.
 use adapter::{Client, Feeder};
-use dmx_calls::{Entry, Fed, Head, Outcome};
+use dmx_calls::{Entry, Fed, Outcome};
+use ts_watch::Head;
 
 /// What the threads of a run leave.
 #[derive(Drop)]

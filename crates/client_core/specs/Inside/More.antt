@@ -3,15 +3,16 @@ use Rattle.std.specs.Prelude.{ℕ, ◌≡◌, ◌≤◌, ◌+◌, List, [], ◌�
 use Rattle.dmx_calls.specs.Response.{Response, Again}
 use Rattle.client_script.specs.declared.line.Line.{Line}
 use Rattle.client_core.specs.declared.event.Event.{Event}
-use Rattle.client_core.specs.declared.event.Want.{Want}
-use Rattle.client_core.specs.declared.event.Want.TheVariants.{Read}
+use Rattle.client_script.specs.declared.line.Want.TheVariants.{Read}
+use Rattle.client_core.specs.declared.event.Request.{Request}
+use Rattle.client_core.specs.declared.event.Request.TheVariants.{Own}
 use Rattle.client_core.specs.Commands.{ends_drain}
 use Rattle.client_core.specs.Events.{next_event, waits_on}
-use Rattle.client_core.specs.Budget.{repeats}
+use Rattle.client_core.specs.Repeats.{repeats}
 
 -- the reads that this reply may add: one, where it is to a read and ends no drain
-abbrev pub added_by : Want → Response → ℕ
-added_by (Read count) reply = if ends_drain reply then 0 else 1
+abbrev pub added_by : Request → Response → ℕ
+added_by (Own (Read count)) reply = if ends_drain reply then 0 else 1
 added_by _ reply = 0
 
 -- One reply more adds at most one repeat; and none after Again, unless the client waits.

@@ -1,7 +1,7 @@
 -- How the parts of a report are read (this project's own).
 use Rattle.std.specs.Prelude.{ℕ, Bool, true, false, List, Some, codes}
 use Rattle.ts_packet.specs.declared.cutter.Tally.{Tally}
-use Rattle.dmx_calls.specs.declared.head.PidRow.{PidRow}
+use Rattle.ts_watch.specs.declared.seen.PidRow.{PidRow}
 use Rattle.dmx_calls.specs.declared.outcome.Outcome.{Outcome}
 use Rattle.dmx_calls.specs.declared.outcome.OutcomeKind.{OutcomeKind}
 use Rattle.dmx_calls.specs.declared.outcome.OutcomeKind.TheVariants as outcome

@@ -1,7 +1,9 @@
 //! Clients of scripts, whose replies and calls were worked out by hand from what the commands do.
 
-use client_core::{ClientCore, Event, MOST_CALLS, Stop, Want, call_of, fitted, settled};
-use client_script::{MOST_BYTES, Script};
+use client_core::{
+    ClientCore, Event, MOST_CALLS, Request, Stop, call_of, fitted, unless_no_memory,
+};
+use client_script::{MOST_BYTES, Script, Want};
 use dmx_calls::{ByteBuf, Call, Outcome, OutcomeKind, Reply, Span, Tap};
 use pid_set::Pids;
 use std::alloc::{AllocError as NoMemory, Global};
@@ -50,9 +52,22 @@ const fn through(line: u32, from: u64, to: u64, kind: OutcomeKind) -> Outcome {
     }
 }
 
-// The call that a client makes next.
+// The call that a client makes next, for a command of its own.
 const fn event(step: u64, node: u32, want: Want) -> Option<Event> {
-    Some(Event { step, node, want })
+    Some(Event {
+        step,
+        node,
+        want: Request::Own(want),
+    })
+}
+
+// The call by which a client tells the dvr node of a tap.
+const fn telling(step: u64, want: Request) -> Option<Event> {
+    Some(Event {
+        step,
+        node: 32,
+        want,
+    })
 }
 
 // A buffer with these bytes.
@@ -90,7 +105,7 @@ fn opened(core: &ClientCore) -> Option<usize> {
         Some(
             Event {
                 node,
-                want: Want::Open,
+                want: Request::Own(Want::Open),
                 ..
             },
         ) => Some(node as usize),
@@ -199,14 +214,14 @@ fn a_drain_goes_on_over_bytes_and_overflows(rt: HostRuntime) {
 #[test]
 fn the_dvr_node_is_told_of_a_tap(rt: HostRuntime) {
     let mut core = client_of(&rt, rt.alloc(), b"c0 start n3\nc0 stop n3\nstream\n", 0);
-    let told = Want::Attach {
+    let told = Request::Attach {
         node: 3,
         pids: pids(&[17, 256]),
     };
     let tap = Tap::Attach(pids(&[256, 17]));
-    answer(&rt, &mut core, done(tap), &event(1, 32, told));
+    answer(&rt, &mut core, done(tap), &telling(1, told));
     answer(&rt, &mut core, done(Tap::Keep), &event(2, 3, Want::Stop));
-    let told = event(3, 32, Want::Detach { node: 3 });
+    let told = telling(3, Request::Detach { node: 3 });
     answer(&rt, &mut core, done(Tap::Detach), &told);
     take(&rt, &mut core, done(Tap::Keep));
     let outcomes = [
@@ -252,7 +267,7 @@ fn is_empty_read(call: &Call, moment: u64, count: u32) -> bool {
 
 #[test]
 fn a_read_comes_with_an_empty_buffer(rt: HostRuntime) -> Result<(), Stop> {
-    let call = call_of(rt.alloc(), &Want::Read(65_536), 9)?;
+    let call = call_of(rt.alloc(), &Request::Own(Want::Read(65_536)), 9)?;
     assert!(rt; is_empty_read(&call, 9, 65_536));
     Ok(())
 }
@@ -269,9 +284,9 @@ fn is_ended(reply: &Result<Reply, NoMemory>) -> bool {
 }
 
 #[test]
-fn a_settled_reply_is_not_want_of_memory(rt: HostRuntime) {
-    assert!(rt; settled(Reply::NoMemory).is_err());
-    assert!(rt; is_ended(&settled(Reply::Again { ended: true })));
+fn a_reply_that_is_kept_is_not_want_of_memory(rt: HostRuntime) {
+    assert!(rt; unless_no_memory(Reply::NoMemory).is_err());
+    assert!(rt; is_ended(&unless_no_memory(Reply::Again { ended: true })));
 }
 
 // Whether the reply has these bytes, and room for no more.

@@ -3,7 +3,8 @@ mod hints;
 mod rows;
 
 use client_script::{
-    FaultKind, Line, MOST_BYTES, Script, ScriptError, ScriptFault, ScriptPart, Target, Verb, print,
+    FaultKind, Line, MOST_BYTES, Script, ScriptError, ScriptFault, ScriptPart, Target, Verb, Want,
+    print,
 };
 use rows::{SIXTEEN, filters, line_faults, short};
 use std::alloc::Global;
@@ -151,13 +152,13 @@ static SCRIPTS: [(&[u8], &[Line], u32); 5] = [
                 line: 1,
                 client: 7,
                 target: Target::Dvr,
-                verb: Verb::Open,
+                verb: Verb::Once(Want::Open),
             },
             Line::Command {
                 line: 2,
                 client: 0,
                 target: Target::Node(0),
-                verb: Verb::Open,
+                verb: Verb::Once(Want::Open),
             },
         ],
         8,
@@ -169,7 +170,7 @@ static SCRIPTS: [(&[u8], &[Line], u32); 5] = [
                 line: 3,
                 client: 1,
                 target: Target::Slot(31),
-                verb: Verb::Open,
+                verb: Verb::Once(Want::Open),
             },
             Line::Feed(3),
             Line::Command {

@@ -7,11 +7,11 @@ ghost use Rattle.feed_pull.specs.declared.fault.Reading.TheVariants.{Going};
 mod rows;
 
 use super::{NoMemory, Part, bytes_of};
-use dmx_calls::Head;
 use emu_io::{MemSource, Source};
 use feed_pull::Puller;
 use rows::{PACKET, ROWS, Row, Told};
 use std::alloc::Global;
+use ts_watch::Head;
 
 // A puller, and the source that it pulls from.
 #[derive(Drop)]
@@ -144,8 +144,8 @@ fn streams_are_pulled_as_the_rows_say(rt: HostRuntime) {
 fn count_all<S: Source>(puller: &mut Puller, source: &mut S) -> Result<u64, NoMemory>
     requires begins { Pulls [] [] [] puller.old }
     requires going { puller.old.reading ≡ Going }
-    requires faults { S.faults source.old < 2 ^ 64 - 1 }
-    ensures { IfOk result (λ count. fault_of puller.new.reading ≡ None → IfSome (S.left source.old) (λ input. count ≡ length (cut input).packets)) }
+    requires faults { (S.end source.old).faults < 2 ^ 64 - 1 }
+    ensures { IfOk result (λ count. fault_of puller.new.reading ≡ None → IfSome (S.end source.old).left (λ input. count ≡ length (cut input).packets)) }
 {
     let mut count = 0u64;
     'all: while let Some(batch) = puller.pull(source, 64)? {

@@ -3,7 +3,7 @@ ghost use Rattle.std.specs.Prelude.{◌≡◌, IfOk, ◌^◌, ◌<◌};
 
 use super::{NoMemory, packet_of};
 use std::alloc::Global;
-use ts_watch::{Watch, WatchRow};
+use ts_watch::{PidRow, Watch};
 
 // A packet: its first six bytes, and the byte that all others are.
 type Shown = ([u8; 6], u8);
@@ -17,9 +17,9 @@ struct Case {
 }
 
 // A row of these four numbers: packets, breaks, duplicates, errors.
-fn row(numbers: [u64; 4]) -> WatchRow {
+fn row(numbers: [u64; 4]) -> PidRow {
     let [packets, breaks, duplicates, errors] = numbers;
-    WatchRow {
+    PidRow {
         packets,
         breaks,
         duplicates,

@@ -6,12 +6,13 @@ mod told;
 
 ghost use Rattle.std.specs.Prelude.{◌≡◌, IfOk, length};
 
-use dmx_calls::{Entry, Fed, Head, Histories, Outcome, PidRow};
+use dmx_calls::{Entry, Fed, Histories, Outcome};
 use report_text::{report, summary};
 use runs::{SUMMED, SUMS, reports};
 use std::alloc::{AllocError as NoMemory, Global};
 use told::{Row, entry_of};
 use ts_packet::Tally;
+use ts_watch::{Head, PidRow};
 
 /// A run: what was found in its stream, what became of each client's commands, and the calls of its nodes.
 #[derive(Drop)]

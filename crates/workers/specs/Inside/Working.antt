@@ -9,7 +9,7 @@ use Rattle.client_script.specs.declared.line.Line.{Line}
 use Rattle.client_core.specs.Inside.Core.{IsAfter, next_of}
 use Rattle.client_core.specs.declared.stop.Stop.TheVariants.{NoMemory, TooLong}
 use Rattle.client_core.specs.Events.{waits_on}
-use Rattle.client_core.specs.IsRun.{replies}
+use Rattle.script_run.specs.IsRun.{replies}
 use Rattle.adapter.specs.Callers.{IsSameCaller}
 use Rattle.adapter.specs.Rows.{Fits}
 use Rattle.trace_merge.specs.Merging.{AreOnNodes}

@@ -11,6 +11,10 @@ use Rattle.client_script.specs.Grammar.{number_in, numbered_target, target_of, n
 use Rattle.client_script.specs.Script.{lines_from, grammar, split}
 use Rattle.client_script.proofs.examples.lines.Goals as goal
 
+pub returns-clause-one_word : goal.returns-clause-one_word
+unfolding value_after word_in
+returns-clause-one_word c = (refl, refl, refl)
+
 pub returns-clause-passed_over : goal.returns-clause-passed_over
 unfolding value_after hex_digit hex_byte word_in place_with place_named places_in with_place filter_in number_in input_named output_named numbered numbered_target target_of name_of section_in pes_in verb_in command_in line_in line_of meaning lines_from grammar split
 returns-clause-passed_over c = refl

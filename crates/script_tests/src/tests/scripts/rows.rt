@@ -1,5 +1,5 @@
 // Lines, what they ask for, and lines with a fault, worked out by hand from the rules.
-use client_script::{FaultKind, Line, Target, Verb};
+use client_script::{FaultKind, Line, Target, Verb, Want};
 use dmx_calls::{Input, Output, PesParams, SectionParams};
 use filter_match::SectionFilter;
 
@@ -15,37 +15,44 @@ macro_rules! command {
     };
 }
 
+// The same of a command that makes one call.
+macro_rules! once {
+    ($client:expr, $target:expr, $want:expr $(,)?) => {
+        command!($client, $target, Verb::Once($want))
+    };
+}
+
 // Lines of the feeder and the clock, and commands with one argument or none.
 static SHORT: [(&[u8], Line); 20] = [
     (b"feed 1", Line::Feed(1)),
     (b"feed 4294967295", Line::Feed(4294967295)),
     (b"tick 0", Line::Tick(0)),
     (b"tick 4294967295", Line::Tick(4294967295)),
-    (b"c0 open n0", command!(0, Target::Node(0), Verb::Open)),
-    (b"c1 open n31", command!(1, Target::Node(31), Verb::Open)),
-    (b"c2 open h0", command!(2, Target::Slot(0), Verb::Open)),
-    (b"c3 close h31", command!(3, Target::Slot(31), Verb::Close)),
-    (b"c4 close dvr", command!(4, Target::Dvr, Verb::Close)),
-    (b"c5 start n9", command!(5, Target::Node(9), Verb::Start)),
-    (b"c6 stop h10", command!(6, Target::Slot(10), Verb::Stop)),
-    (b"c7 poll dvr", command!(7, Target::Dvr, Verb::Poll)),
-    (b"c0 add n0 0", command!(0, Target::Node(0), Verb::Add(0))),
+    (b"c0 open n0", once!(0, Target::Node(0), Want::Open)),
+    (b"c1 open n31", once!(1, Target::Node(31), Want::Open)),
+    (b"c2 open h0", once!(2, Target::Slot(0), Want::Open)),
+    (b"c3 close h31", once!(3, Target::Slot(31), Want::Close)),
+    (b"c4 close dvr", once!(4, Target::Dvr, Want::Close)),
+    (b"c5 start n9", once!(5, Target::Node(9), Want::Start)),
+    (b"c6 stop h10", once!(6, Target::Slot(10), Want::Stop)),
+    (b"c7 poll dvr", once!(7, Target::Dvr, Want::Poll)),
+    (b"c0 add n0 0", once!(0, Target::Node(0), Want::Add(0))),
     (
         b"c0 add n0 65535",
-        command!(0, Target::Node(0), Verb::Add(65535)),
+        once!(0, Target::Node(0), Want::Add(65535)),
     ),
     (
         b"c0 remove n0 8192",
-        command!(0, Target::Node(0), Verb::Remove(8192)),
+        once!(0, Target::Node(0), Want::Remove(8192)),
     ),
     (
         b"c0 size n0 4294967295",
-        command!(0, Target::Node(0), Verb::Size(4294967295)),
+        once!(0, Target::Node(0), Want::Size(4294967295)),
     ),
-    (b"c0 read n0 0", command!(0, Target::Node(0), Verb::Read(0))),
+    (b"c0 read n0 0", once!(0, Target::Node(0), Want::Read(0))),
     (
         b"c0 read n0 65536",
-        command!(0, Target::Node(0), Verb::Read(65536)),
+        once!(0, Target::Node(0), Want::Read(65536)),
     ),
     (
         b"c0 readw h1 65536",
@@ -173,10 +180,10 @@ static FILTERS: [(&[u8], Line); 7] = [
     // section filters
     (
         b"c0 section n0 0 0 0",
-        command!(
+        once!(
             0,
             Target::Node(0),
-            Verb::Section(SectionParams {
+            Want::Section(SectionParams {
                 pid: 0,
                 filter: SectionFilter {
                     filter: [0; 16],
@@ -190,10 +197,10 @@ static FILTERS: [(&[u8], Line); 7] = [
     ),
     (
         b"c0 section n0 65535 4294967295 7 0=42/ff/00 15=0a/f0/9e",
-        command!(
+        once!(
             0,
             Target::Node(0),
-            Verb::Section(SectionParams {
+            Want::Section(SectionParams {
                 pid: 65535,
                 filter: SectionFilter {
                     filter: [0x42, 0, 0, 0, 0, 0, 0, 0, 0, 0, 0, 0, 0, 0, 0, 0x0a],
@@ -207,10 +214,10 @@ static FILTERS: [(&[u8], Line); 7] = [
     ),
     (
         b"c0 section n0 1 2 3 0=00/01/00 1=01/01/00 2=02/01/00 3=03/01/00 4=04/01/00 5=05/01/00 6=06/01/00 7=07/01/00 8=08/01/00 9=09/01/00 10=0a/01/00 11=0b/01/00 12=0c/01/00 13=0d/01/00 14=0e/01/00 15=0f/01/00",
-        command!(
+        once!(
             0,
             Target::Node(0),
-            Verb::Section(SectionParams {
+            Want::Section(SectionParams {
                 pid: 1,
                 filter: SectionFilter {
                     filter: [0, 1, 2, 3, 4, 5, 6, 7, 8, 9, 10, 11, 12, 13, 14, 15],
@@ -225,10 +232,10 @@ static FILTERS: [(&[u8], Line); 7] = [
     // PES filters
     (
         b"c0 pes n0 256 frontend tap 1 4",
-        command!(
+        once!(
             0,
             Target::Node(0),
-            Verb::Pes(PesParams {
+            Want::Pes(PesParams {
                 pid: 256,
                 input: Input::Frontend,
                 output: Output::Tap,
@@ -239,10 +246,10 @@ static FILTERS: [(&[u8], Line); 7] = [
     ),
     (
         b"c0 pes n0 8192 dvr ts_tap 20 0",
-        command!(
+        once!(
             0,
             Target::Node(0),
-            Verb::Pes(PesParams {
+            Want::Pes(PesParams {
                 pid: 8192,
                 input: Input::Dvr,
                 output: Output::TsTap,
@@ -253,10 +260,10 @@ static FILTERS: [(&[u8], Line); 7] = [
     ),
     (
         b"c0 pes n0 0 frontend tsdemux_tap 4294967295 4294967295",
-        command!(
+        once!(
             0,
             Target::Node(0),
-            Verb::Pes(PesParams {
+            Want::Pes(PesParams {
                 pid: 0,
                 input: Input::Frontend,
                 output: Output::TsdemuxTap,
@@ -267,10 +274,10 @@ static FILTERS: [(&[u8], Line); 7] = [
     ),
     (
         b"c0 pes n0 65535 frontend decoder 0 0",
-        command!(
+        once!(
             0,
             Target::Node(0),
-            Verb::Pes(PesParams {
+            Want::Pes(PesParams {
                 pid: 65535,
                 input: Input::Frontend,
                 output: Output::Decoder,

@@ -1,5 +1,5 @@
 use Rattle.std.proofs.Common.{sym, ap, ◌∙◌, ◌++◌}
-use Rattle.dmx_calls.specs.Head.{head_of}
+use Rattle.ts_watch.specs.Head.{head_of}
 use Rattle.serial_core.proofs.Ending.{all_woven}
 use Rattle.serial_core.proofs.run.ran_of.Goals as goal
 

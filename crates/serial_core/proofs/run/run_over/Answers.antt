@@ -3,10 +3,10 @@ use Rattle.std.specs.List.{range_with_len}
 use Rattle.client_script.specs.declared.line.Line.{Line}
 use Rattle.client_core.specs.Events.{outcomes}
 use Rattle.feed_pull.specs.Pulling.{Pulls, has_failed}
-use Rattle.dmx_calls.specs.Head.{told_head, head_of}
+use Rattle.ts_watch.specs.Head.{told_head, head_of}
 use Rattle.feed_pull.specs.declared.fault.Reading.TheVariants.{TooMany}
 use Rattle.client_core.specs.declared.stop.Stop.TheVariants.{TooLong}
-use Rattle.client_core.specs.Budget.{most_calls, all_commands, IsTooLong}
+use Rattle.script_run.specs.Budget.{most_calls, all_commands, IsTooLong}
 use Rattle.serial_core.specs.declared.run.Ran.{Ran}
 use Rattle.serial_core.specs.SerialRun.{Run, replies_of}
 use Rattle.serial_core.specs.Inside.Legal.{AreLegal}

@@ -1,9 +1,9 @@
 // Streams, and what comes where they are pulled, worked out by hand.
 
 use crate::tests::Part;
-use dmx_calls::PidRow;
 use feed_pull::PullFault;
 use ts_packet::Tally;
+use ts_watch::PidRow;
 
 /// Parts, and how often they stand one behind another.
 pub type Bytes = (&'static [Part], u32);

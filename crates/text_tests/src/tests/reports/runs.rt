@@ -3,7 +3,8 @@
 use super::Run;
 use super::lines::LINES;
 use super::told::{Answered, Asked, Row};
-use dmx_calls::{Fed, Input, Outcome, OutcomeKind, Output, PesParams, PidRow, PollError};
+use dmx_calls::{Fed, Input, Outcome, OutcomeKind, Output, PesParams, PollError};
+use ts_watch::PidRow;
 
 // A PID with these packets and none that breaks, repeats or is in error.
 macro_rules! whole {

@@ -5,7 +5,7 @@ use Rattle.std.proofs.lemmas.Simd.{map-map}
 use Rattle.dmx_calls.specs.declared.log.Entry.{Entry as ToldEntry}
 use Rattle.dmx_calls.specs.Calls.{told_entry}
 use Rattle.dmx_calls.specs.Histories.{histories_of}
-use Rattle.client_core.specs.WholeRun.{IsWholeRun}
+use Rattle.script_run.specs.WholeRun.{IsWholeRun}
 use Rattle.trace_merge.specs.Merging.{AreOnNodes}
 use Rattle.workers.specs.Worked.{AreWorked}
 use Rattle.workers.specs.Telling.{HaveCalled, TellWhatWasCalled}

@@ -1,7 +1,7 @@
 use Rattle.std.proofs.Common.{rules, ◌≡◌, ◌≢◌, ◌≤◌, ◌+◌, length, inl, ⊎_elim, [], None, Some, refl, ap, ◌∙◌}
 use Rattle.std.specs.Prelude.{slice_index_or}
 use Rattle.std.proofs.lemmas.Option.{slice_get-get_or}
-use Rattle.client_core.specs.Budget.{IsTooLong}
+use Rattle.script_run.specs.Budget.{IsTooLong}
 use Rattle.client_core.specs.declared.stop.Stop.TheVariants.{NoMemory, TooLong}
 use Rattle.workers.specs.Inside.Leaving.{IsLeftBehind, StopsBy}
 use Rattle.feed_pull.proofs.Drawing.{draws_none}

@@ -1,5 +1,5 @@
 use Rattle.std.proofs.Common.{◌++◌, refl, sym, ap, ◌∙◌}
-use Rattle.dmx_calls.specs.Head.{head_of}
+use Rattle.ts_watch.specs.Head.{head_of}
 use Rattle.workers.proofs.run.worked_of.Goals as goal
 
 pub returns : goal.returns

@@ -5,7 +5,7 @@ use Rattle.feed_pull.proofs.puller.Puller.gather.Goals as goal
 pub gathering-init : goal.gathering-init
 gathering-init g c = record {
   gathers = Gathers-none c.args.self.now _ (rw (← c.self.view_is) c.self.invariant.rest);
-  follows = Follows-none c.args.self.now.reading _ _;
+  follows = Follows-none c.args.self.now.reading _;
   late = λ h. h;
   full = λ _. (refl, refl);
   stopped = λ _. record { taken = refl; reads = refl };
@@ -19,7 +19,7 @@ gathering-preserved g c =
     let same : c.gathering.self.given ≡ c.args.self.now.given = i.gathers.goes.given in
     record {
       gathers = Gathers-then c.args.self.now c.gathering.self c.step.new.self _ _ _ i.gathers s.gathers;
-      follows = Follows-then c.args.self.now.reading c.gathering.self.reading c.step.new.self.reading _ _ _ _ _ _ i.follows s.follows;
+      follows = Follows-then c.args.self.now.reading c.gathering.self.reading c.step.new.self.reading _ _ _ i.follows s.follows;
       late = λ h. (let k = i.late h in omega (arith, s.late));
       full = λ h. absurd (most-waits c.args.most c.args.self.now c.gathering.self (i.full h).1 h room);
       stopped = λ h. ReadsNothing-then c.args.self.now c.gathering.self c.step.new.self (i.stopped h) (s.stopped (λ e. h (sym (i.follows.stays h) ∙ e)));

@@ -1,12 +1,12 @@
 use Rattle.std.proofs.Common.{◌++◌}
 use Rattle.ts_packet.specs.Cut.{cut}
 use Rattle.feed_pull.specs.Pulling.{has_failed}
-use Rattle.feed_pull.proofs.HeadLemmas.{head-is}
+use Rattle.ts_watch.proofs.HeadLemmas.{head-is}
 use Rattle.feed_pull.proofs.puller.Puller.head.Goals as goal
 
 pub returns-clause-head : goal.returns-clause-head
 returns-clause-head c = λ ahead taken given h.
-    head-is (ahead ++ taken) (has_failed c.args.self.now.reading) (record { tally = c.tally.result; rows = c.in_ok-rows_of.field-0; read_fault = c.read_failed.result })
+    head-is (ahead ++ taken) (has_failed c.args.self.now.reading) (record { tally = c.tally.result; rows = c.in_ok-rows.field-0; read_fault = c.read_failed.result })
     (c.tally.ensures ahead taken given h)
-    (c.in_ok-rows_of.ensures (cut (ahead ++ taken)).packets (c.watch.ensures ahead taken given h))
+    (c.in_ok-rows.ensures (cut (ahead ++ taken)).packets (c.watch.ensures ahead taken given h))
     c.read_failed.ensures

@@ -6,8 +6,8 @@ use Rattle.stream_tests.proofs.tests.pulling.count_all.Given as goal
 
 abbrev pub invariant-all : goal.invariant-all
 invariant-all g l = record {
-  stands : (taken : List ℕ) × (given : List (List ℕ)) × Consumes (g.S.Source.left l.initial.source) (g.S.Source.left l.source) taken × (l.count ≡ length given) × Pulls [] taken given l.puller;
-  follows : Follows l.initial.puller.reading l.puller.reading (g.S.Source.left l.initial.source) (g.S.Source.left l.source) (g.S.Source.faults l.initial.source) (g.S.Source.faults l.source);
+  stands : (taken : List ℕ) × (given : List (List ℕ)) × Consumes (g.S.Source.end l.initial.source).left (g.S.Source.end l.source).left taken × (l.count ≡ length given) × Pulls [] taken given l.puller;
+  follows : Follows l.initial.puller.reading l.puller.reading (g.S.Source.end l.initial.source) (g.S.Source.end l.source);
 }
 
 abbrev pub decreases-all : goal.decreases-all

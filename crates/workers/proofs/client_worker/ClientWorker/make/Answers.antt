@@ -7,8 +7,8 @@ use Rattle.dmx_calls.specs.declared.log.Entry.{Entry as ToldEntry}
 use Rattle.client_core.specs.declared.event.Event.{Event}
 use Rattle.client_core.specs.Commands.{call_of as call_at}
 use Rattle.client_core.specs.Inside.Core.{IsAfter}
-use Rattle.client_core.specs.IsRun.{IsEvent, replies}
-use Rattle.client_core.specs.WholeRun.{IsGiven}
+use Rattle.script_run.specs.IsRun.{IsEvent, replies}
+use Rattle.script_run.specs.WholeRun.{IsGiven}
 use Rattle.adapter.specs.Nodes.{IsLegalAt}
 use Rattle.workers.specs.Inside.Working.{log_of}
 use Rattle.workers.proofs.Logging.{called_more, past}

@@ -1,9 +1,0 @@
-use Rattle.std.proofs.Common.{length, ◌≡◌, ◌+◌}
-use Rattle.ts_packet.specs.Cutting.{bytes_taken}
-use Rattle.bench_node.proofs.pass_all.Given as goal
-
-abbrev pub invariant-pieces : goal.invariant-pieces
-invariant-pieces g l = bytes_taken l.cutter + length l.rest ≡ bytes_taken l.initial.cutter + length l.piece
-
-abbrev pub decreases-pieces : goal.decreases-pieces
-decreases-pieces g l = length l.rest

@@ -1,6 +1,0 @@
-use Rattle.std.proofs.Common.{◌≤◌, ◌*◌}
-use Rattle.ts_packet.specs.Cutting.{bytes_taken}
-use Rattle.bench_node.proofs.pass_stream.Given as goal
-
-abbrev pub invariant-reads : goal.invariant-reads
-invariant-reads g l = bytes_taken l.cutter ≤ 65536 * l.turn

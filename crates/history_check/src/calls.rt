@@ -1,0 +1,70 @@
+// Told calls, to be made again.
+ghost use Rattle.std.specs.Prelude.{◌≡◌, ◌<◌, ◌≤◌, ◌+◌, ◌^◌, length, take, drop, IfOk, All};
+ghost use Rattle.dmx_calls.specs.Invocation.{Pass};
+ghost use Rattle.ts_packet.specs.Fields.{IsPacket};
+ghost use Rattle.dmx_calls.specs.Calls.{invocation_of};
+ghost use Rattle.dmx_calls.specs.Log.{filled_act};
+ghost use Rattle.history_check.specs.Playing.{IsCallable};
+
+use dmx_calls::{Act, ByteBuf, Call, Input};
+use std::alloc::{AllocError as NoMemory, Global};
+use ts_batch::Batch;
+use ts_packet::Packet;
+
+// The pass of these packets of the stream.
+fn pass(
+    alloc: Global,
+    packets: &[Packet],
+    input: Input,
+    first: u64,
+    count: u32,
+    now: u64,
+) -> Result<Call, NoMemory>
+    requires some { 0 < count }
+    requires few { count ≤ 64 }
+    requires within { first + count ≤ length packets.now }
+    requires packets { All IsPacket packets.now }
+    requires long { length packets.now < 2 ^ 63 }
+    ensures { IfOk result (λ call. invocation_of call ≡ Pass input first (take count (drop first packets.now)) now) }
+{
+    let from = first as usize;
+    let batch = Batch::of_slice(alloc, first, &packets[from..from + count as usize])?;
+    Ok(Call::Pass { input, batch, now })
+}
+
+/// The call that an act tells, with the stream's packets for a pass.
+pub fn call_told(alloc: Global, packets: &[Packet], act: &Act) -> Result<Call, NoMemory>
+    requires callable { IsCallable packets.now act.now }
+    requires packets { All IsPacket packets.now }
+    requires long { length packets.now < 2 ^ 63 }
+    ensures { IfOk result (λ call. invocation_of call ≡ filled_act packets.now act.now) }
+{
+    Ok(match *act {
+        Act::Open => Call::Open,
+        Act::Close => Call::Close,
+        Act::SetFilter { params, now } => Call::SetFilter { params, now },
+        Act::SetPes { params, now } => Call::SetPes { params, now },
+        Act::AddPid(pid) => Call::AddPid(pid),
+        Act::RemovePid(pid) => Call::RemovePid(pid),
+        Act::Start { now } => Call::Start { now },
+        Act::Stop => Call::Stop,
+        Act::SetSize(size) => Call::SetSize(size),
+        Act::Read { now, count } => {
+            let buf = ByteBuf::new(alloc, count)?;
+            Call::Read { now, buf }
+        }
+        Act::Poll { now } => Call::Poll { now },
+        Act::Pass {
+            input,
+            first,
+            count,
+            now,
+        } => pass(alloc, packets, input, first, count, now)?,
+        Act::End => Call::End,
+        Act::Attach { node, ref pids } => {
+            let pids = pids.copied();
+            Call::Attach { node, pids }
+        }
+        Act::Detach { node } => Call::Detach { node },
+    })
+}

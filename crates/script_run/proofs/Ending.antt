@@ -1,0 +1,55 @@
+-- A run so far that is over is a run, and its histories are accounted.
+use Rattle.std.proofs.Common.{◌≡◌, refl, ap, ◌∙◌, ℕ, suc, ◌+◌, Bool, true, false, nat_lt, List, [], ◌∷◌}
+use Rattle.std.specs.Prelude.{if◌then◌else◌}
+use Rattle.dmx_calls.specs.declared.params.Input.TheVariants.{Frontend}
+use Rattle.dmx_calls.specs.declared.limits.TheConstants.{DEMUX_NODES}
+use Rattle.dmx_calls.specs.declared.log.Act.TheVariants.{Pass as PassAct}
+use Rattle.dmx_calls.specs.Accounted.{IsAccounted}
+use Rattle.dmx_calls.specs.History.{History}
+use Rattle.dmx_calls.specs.Legal.{IsLegalFor}
+use Rattle.dmx_calls.specs.Log.{filled}
+use Rattle.dmx_calls.specs.Rules.{demux, dvr, rules_at}
+use Rattle.dmx_calls.proofs.LawsHold.{demux_accounted, dvr_accounted}
+use Rattle.script_run.specs.IsRun.{Batch, Step, feeding}
+use Rattle.script_run.specs.SoFar.{feeding_so_far, RunsEnd, RunsAreAccounted}
+
+-- the feeder has ended
+pub all_fed : (first step : ℕ) (bs : List Batch) → feeding_so_far true first step bs ≡ feeding first step bs
+all_fed first step [] = refl
+all_fed first step (b ∷ bs) =
+    ap (λ (l : List Step). record { step = step; act = PassAct Frontend first b.size b.moment } ∷ l) (all_fed (first + b.size) (suc step) bs)
+
+pub runs_end : RunsEnd
+runs_end payers lines most stream hs s over = (
+  record {
+    nodes = s.nodes;
+    places = s.places;
+    legal = s.legal;
+    fed = record {
+      batches = s.fed.batches;
+      each_size = s.fed.each_size;
+      whole = over.whole;
+      on_each = λ node h at. s.fed.on_each node h at ∙ all_fed 0 0 s.fed.batches;
+    };
+    clients_done = λ c is. record {
+      made = (s.clients c is).made;
+      steps = (s.clients c is).steps;
+      ends = over.through c is;
+      only = (s.clients c is).only;
+      in_order = (s.clients c is).in_order;
+    };
+  },
+  refl,
+  λ c is. refl,
+)
+
+-- a legal history of a node is accounted
+pub accounted_at : (node : ℕ) (h : History) → IsLegalFor (rules_at node) h → IsAccounted (rules_at node) h
+unfolding rules_at
+accounted_at node h legal = go (nat_lt node DEMUX_NODES) legal where
+  go : (b : Bool) → IsLegalFor (if b then demux else dvr) h → IsAccounted (if b then demux else dvr) h
+  go true l = demux_accounted h l
+  go false l = dvr_accounted h l
+
+pub are_accounted : RunsAreAccounted
+are_accounted lines most stream hs run node h at = accounted_at node (filled stream h) (run.legal node h at)

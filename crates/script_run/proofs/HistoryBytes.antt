@@ -1,0 +1,137 @@
+-- The packets that a node's history brings and the bytes that it answers, entry by entry.
+use Rattle.std.proofs.Common.{◌≡◌, ◌≢◌, refl, sym, ap, subst, ℕ, suc, ◌+◌, ◌*◌, ◌≤◌, Bool, true, false, nat_eq, nat_lt, List, [], ◌∷◌, ◌++◌, length, map, filter, drop, arith, length-append, length-take}
+use Rattle.std.specs.Prelude.{sum, if◌then◌else◌}
+use Rattle.std.specs.List.{All}
+use Rattle.std.proofs.lemmas.Bool.Decides.{nat_tests}
+use Rattle.std.proofs.lemmas.List.{reverse-append, length-map}
+use Rattle.std.proofs.lemmas.List.Sums.{sum_by-cons}
+use Rattle.std.proofs.lemmas.List.Elements.{All-nil, All-append, All-take, All-drop, All-head, All-tail}
+use Rattle.ts_packet.specs.Fields.{IsPacket}
+use Rattle.dmx_calls.specs.declared.log.Act.{Act}
+use Rattle.dmx_calls.specs.declared.log.Act.TheVariants as act
+use Rattle.dmx_calls.specs.declared.limits.TheConstants.{DEMUX_NODES}
+use Rattle.dmx_calls.specs.Invocation.{brought}
+use Rattle.dmx_calls.specs.History.{Entry, History, brought_by}
+use Rattle.dmx_calls.specs.Log.{LogEntry, filled_act, filled_entry, filled}
+use Rattle.dmx_calls.specs.Rules.{demux, dvr, rules_at}
+use Rattle.dmx_calls.specs.Legal.{IsLegalFor}
+use Rattle.dmx_calls.specs.Bytes.{bytes_answered}
+use Rattle.dmx_calls.proofs.Bytes.{demux_answers_fit, dvr_answers_fit}
+use Rattle.script_run.specs.Budget.{bytes_in}
+use Rattle.script_run.specs.IsRun.{Batch, Step, steps_of}
+use Rattle.script_run.specs.SoFar.{feeding_so_far}
+use Rattle.script_run.proofs.Counting.{sum_of, weigh_reverse, weigh_map}
+use Rattle.script_run.proofs.ReadReplies.{bytes_same}
+
+-- ------ one history
+
+abbrev packets_in : Entry → ℕ
+packets_in e = length (brought e.invocation)
+
+abbrev answers_in : Entry → ℕ
+answers_in e = bytes_in e.response
+
+count_brought : (h : History) → length (brought_by h) ≡ sum_of packets_in h
+count_brought [] = refl
+count_brought (e ∷ h) = omega (arith, length-append (brought_by h) (brought e.invocation), count_brought h)
+
+count_bytes : (h : History) → bytes_answered h ≡ sum_of answers_in h
+count_bytes [] = refl
+count_bytes (e ∷ h) = omega (arith, bytes_same e.who e.invocation e.response h, count_bytes h)
+
+answers_fit : (node : ℕ) (h : History) → IsLegalFor (rules_at node) h → All IsPacket (brought_by h) → bytes_answered h ≤ 188 * length (brought_by h)
+unfolding rules_at
+answers_fit node h legal are = go (nat_lt node DEMUX_NODES) legal where
+  go : (b : Bool) → IsLegalFor (if b then demux else dvr) h → bytes_answered h ≤ 188 * length (brought_by h)
+  go true l = demux_answers_fit h l are
+  go false l = dvr_answers_fit h l are
+
+-- ------ filled with the packets of the stream
+
+module _ (stream : List (List ℕ)) where
+  -- the packets that a call brings
+  abbrev act_packets : Act → ℕ
+  act_packets a = length (brought (filled_act stream a))
+
+  abbrev step_packets : Step → ℕ
+  step_packets s = act_packets s.act
+
+  abbrev packets_of : LogEntry → ℕ
+  packets_of e = act_packets e.act
+
+  fed_packets : (ended : Bool) (first step : ℕ) (bs : List Batch) → sum_of step_packets (feeding_so_far ended first step bs) ≤ sum (map (λ b. b.size) bs)
+  fed_packets true first step [] = omega arith
+  fed_packets false first step [] = omega arith
+  fed_packets ended first step (b ∷ bs) =
+      omega (arith, length-take b.size (drop first stream), sum_by-cons (λ n. n) b.size (map (λ b. b.size) bs), fed_packets ended (first + b.size) (suc step) bs)
+
+  -- only the feeder brings packets
+  abbrev pub OnlyFeederBrings : List LogEntry → Type 0
+  OnlyFeederBrings [] = Unit {0}
+  OnlyFeederBrings (e ∷ es) = (e.who ≢ 0 → packets_of e ≡ 0) × OnlyFeederBrings es
+
+  by_feeder : (es : List LogEntry) → OnlyFeederBrings es → sum_of packets_of es ≤ sum_of step_packets (steps_of 0 es)
+  by_feeder [] only = omega arith
+  by_feeder (e ∷ es) only = go (by_feeder es only.1) (nat_eq e.who 0) refl where
+    go : sum_of packets_of es ≤ sum_of step_packets (steps_of 0 es) → (b : Bool) → nat_eq e.who 0 ≡ b
+        → packets_of e + sum_of packets_of es ≤ sum_of step_packets (map (λ e. record { step = e.step; act = e.act }) (if b then e ∷ filter (λ e. nat_eq e.who 0) es else filter (λ e. nat_eq e.who 0) es))
+    go deeper true yea = omega (arith, deeper)
+    go deeper false nay = omega (arith, deeper, only.0 (λ is. grind (arith, nat_tests, nay, is)))
+
+  module _ (are : All IsPacket stream) where
+    act_brings : (a : Act) → All IsPacket (brought (filled_act stream a))
+    act_brings (act.Pass input first count now) = All-take IsPacket count (drop first stream) (All-drop IsPacket first stream are)
+    act_brings _ = All-nil IsPacket
+
+    -- each entry brings packets
+    abbrev BringPackets : History → Type 0
+    BringPackets [] = Unit {0}
+    BringPackets (e ∷ h) = All IsPacket (brought e.invocation) × BringPackets h
+
+    both_bring : (g h : History) → BringPackets g → BringPackets h → BringPackets (g ++ h)
+    both_bring [] h a b = b
+    both_bring (e ∷ g) h a b = (a.0, both_bring g h a.1 b)
+
+    filled_brings : (es : List LogEntry) → BringPackets (filled stream es)
+    filled_brings [] = tt
+    filled_brings (e ∷ es) =
+        subst BringPackets (sym (reverse-append (filled_entry stream e ∷ []) (map (filled_entry stream) es)))
+        (both_bring (filled stream es) (filled_entry stream e ∷ []) (filled_brings es) (act_brings e.act, tt))
+
+    all_packets : (h : History) → BringPackets h → All IsPacket (brought_by h)
+    all_packets [] bring = All-nil IsPacket
+    all_packets (e ∷ h) bring = All-append IsPacket (brought_by h) (brought e.invocation) (all_packets h bring.1) bring.0
+
+    -- The node is brought no more packets than the batches have, and answers no more bytes than they have.
+    pub bytes_fit : (node : ℕ) (es : List LogEntry) (ended : Bool) (bs : List Batch) (packets : ℕ) → IsLegalFor (rules_at node) (filled stream es) → OnlyFeederBrings es
+        → steps_of 0 es ≡ feeding_so_far ended 0 0 bs → sum (map (λ b. b.size) bs) ≤ packets → sum_of (λ e. bytes_in e.response) es ≤ 188 * packets
+    bytes_fit node es ended bs packets legal only fed le =
+        omega (
+          arith,
+          answers_fit node (filled stream es) legal (all_packets (filled stream es) (filled_brings es)),
+          count_bytes (filled stream es),
+          weigh_reverse answers_in (map (filled_entry stream) es),
+          weigh_map answers_in (filled_entry stream) (λ e. bytes_in e.response) (λ e. refl) es,
+          count_brought (filled stream es),
+          weigh_reverse packets_in (map (filled_entry stream) es),
+          weigh_map packets_in (filled_entry stream) packets_of (λ e. refl) es,
+          by_feeder es only,
+          ap (sum_of step_packets) fed,
+          fed_packets ended 0 0 bs,
+          le,
+        )
+
+-- ------ how many entries the feeder has made
+
+fed_long : (ended : Bool) (first step : ℕ) (bs : List Batch) → All (λ b. 1 ≤ b.size) bs → length (feeding_so_far ended first step bs) ≤ sum (map (λ b. b.size) bs) + 1
+fed_long true first step [] some = omega arith
+fed_long false first step [] some = omega arith
+fed_long ended first step (b ∷ bs) some =
+    omega (arith, All-head (λ b. 1 ≤ b.size) b bs some, sum_by-cons (λ n. n) b.size (map (λ b. b.size) bs), fed_long ended (first + b.size) (suc step) bs (All-tail (λ b. 1 ≤ b.size) b bs some))
+
+pub feeder_long : (es : List LogEntry) (ended : Bool) (bs : List Batch) → All (λ b. 1 ≤ b.size) bs → steps_of 0 es ≡ feeding_so_far ended 0 0 bs
+    → length (filter (λ e. nat_eq e.who 0) es) ≤ sum (map (λ b. b.size) bs) + 1
+feeder_long es ended bs some fed =
+    omega (arith, length-map (filter (λ e. nat_eq e.who 0) es) (λ e. step_at e), ap (λ l. length l) fed, fed_long ended 0 0 bs some) where
+      step_at : LogEntry → Step
+      step_at e = record { step = e.step; act = e.act }

@@ -1,0 +1,9 @@
+pub mod Lists
+pub mod Counting
+pub mod Clients
+pub mod Events
+pub mod ReadReplies
+pub mod HistoryBytes
+pub mod Repeating
+pub mod Paying
+pub mod Ending

@@ -1,0 +1,304 @@
+-- At each moment of a run, the commands and the bytes pay for the calls of a client: a repeat that follows bytes is paid for by
+-- them, and a repeat that follows Again by the entry right behind the read, which is the feeder's or adds no repeat to its own client's.
+use Rattle.std.proofs.Common.{◌≡◌, ◌≢◌, refl, sym, ap, subst, ◌∙◌, ℕ, zero, suc, ◌+◌, ◌*◌, ◌<◌, ◌≤◌, Bool, true, false, nat_eq, List, [], ◌∷◌, ◌++◌, Some, length, filter, take, slice_get, inl, inr, arith}
+use Rattle.std.specs.Prelude.{◌⊎◌, if◌then◌else◌}
+use Rattle.std.specs.List.{All}
+use Rattle.std.proofs.lemmas.Bool.Decides.{nat_tests}
+use Rattle.std.proofs.lemmas.List.Elements.{All-weaker}
+use Rattle.std.proofs.lemmas.Option.{slice_get_within}
+use Rattle.ts_packet.specs.Fields.{IsPacket}
+use Rattle.dmx_calls.specs.declared.reply.Errno.TheVariants.{Ebadf}
+use Rattle.dmx_calls.specs.Invocation.{brought}
+use Rattle.dmx_calls.specs.Log.{LogEntry, filled_act, filled_entry}
+use Rattle.dmx_calls.specs.Owning.{HasRead}
+use Rattle.dmx_calls.specs.Response.{Response, Refused}
+use Rattle.client_script.specs.declared.line.Line.{Line}
+use Rattle.client_script.specs.declared.line.Line.TheVariants.{Feed, Tick, Command}
+use Rattle.client_script.specs.declared.line.Target.{Target}
+use Rattle.client_script.specs.declared.line.Verb.{Verb}
+use Rattle.client_script.specs.Script.{clients_in}
+use Rattle.client_core.specs.declared.command.Command.{Command as ClientCommand}
+use Rattle.client_core.specs.Commands.{commands_of, ends_drain}
+use Rattle.client_core.specs.Events.{next_event}
+use Rattle.script_run.specs.Budget.{all_commands, most_calls, bytes_in}
+use Rattle.script_run.specs.IsRun.{IsEvent, StandsIn, replies}
+use Rattle.script_run.specs.SoFar.{Payers, feeder, others, MayPay, IsPaidBehind, HasDoneSoFar, IsSoFar, commands_for, CallsArePaid}
+use Rattle.script_run.proofs.Lists.{Has, has_got, has_filter, at_place, one_value}
+use Rattle.script_run.proofs.Counting.{total, total_le, total_add, total_same, total_33, total_but, total_one, one_at, but, sum_of, Pool, both, all_pools, HaveTokens, counts_fit}
+use Rattle.script_run.proofs.ReadReplies.{read_there, next_is_refused}
+use Rattle.script_run.proofs.HistoryBytes.{OnlyFeederBrings, bytes_fit, feeder_long}
+use Rattle.script_run.proofs.Events.{event_brings_none}
+use Rattle.script_run.proofs.Repeating.{adds, quiet, IsGoing, going, quiet_calls, grows, but_one, calls_and_repeats, by_bytes, by_again, both_kinds, bytes_pay, IsWaiting, waiting}
+
+-- ------ the commands of all clients
+
+abbrev commands_by : (lines : List Line) → ℕ → ℕ
+commands_by lines c = length (commands_of c lines)
+
+-- a line's command is one client's
+one_command : (line who : ℕ) (target : Target) (verb : Verb) (lines : List Line) (c : ℕ) → commands_by (Command line who target verb ∷ lines) c ≤ commands_by lines c + one_at who c
+one_command line who target verb lines c = go (nat_eq who c) refl where
+  one : ClientCommand
+  one = record { line = line; target = target; verb = verb }
+
+  go : (b : Bool) → nat_eq who c ≡ b → length ((if b then one ∷ [] else []) ++ commands_of c lines) ≤ commands_by lines c + one_at who c
+  go true yea = let here : nat_eq c who ≡ true = grind (arith, nat_tests, yea) in rw here (omega arith)
+  go false nay = omega arith
+
+-- all clients have no more commands than the script
+commands_shared : (lines : List Line) (n : ℕ) → total (commands_by lines) n ≤ all_commands lines
+commands_shared [] n = omega (arith, total_same 0 n)
+commands_shared (Feed count ∷ lines) n = commands_shared lines n
+commands_shared (Tick time ∷ lines) n = commands_shared lines n
+commands_shared (Command line who target verb ∷ lines) n =
+    omega (
+      arith,
+      total_le (commands_by (Command line who target verb ∷ lines)) (λ c. commands_by lines c + one_at who c) n (λ c lt. one_command line who target verb lines c),
+      total_add (commands_by lines) (one_at who) n,
+      total_one who n,
+      commands_shared lines n,
+    )
+
+-- the first calls of a client
+abbrev firsts : List Line → ℕ → ℕ
+firsts lines d = 33 * commands_by lines d
+
+-- ------ one call
+
+-- a refused read ends a drain
+not_refused : (r : Response) → ends_drain r ≡ false → r ≢ Refused Ebadf
+not_refused r goes_on is = (let k : ends_drain (Refused Ebadf) ≡ false = sym (ap ends_drain is) ∙ goes_on in absurd (cc k))
+
+reads_on : (stream : List (List ℕ)) (e : LogEntry) → IsGoing e.act e.response → HasRead e.who (filled_entry stream e)
+reads_on stream e g = record { by = refl; read = (g.now, g.count, ap (filled_act stream) g.read); response = not_refused e.response g.goes_on }
+
+pays_not_itself : (payers : Payers) (client who : ℕ) → MayPay payers client who → who ≢ client + 1
+pays_not_itself feeder client who is same = absurd (omega (arith, is, same))
+pays_not_itself others client who is same = is same
+
+module _ (payers : Payers) (lines : List Line) (most : ℕ) (stream : List (List ℕ)) (ended : Bool) (hs : List (List LogEntry)) (s : IsSoFar payers lines most stream ended hs) where
+  -- ------ the entries of a client
+
+  -- an entry that isn't the feeder's is one of a client's calls
+  record IsMade (e : LogEntry) : Type 0 where
+    client : ℕ
+    low : client < clients_in lines
+    who : e.who ≡ client + 1
+    made : (is : client < clients_in lines) → slice_get (s.clients client is).made e.step ≡ Some e
+
+  made_by : (e : LogEntry) → StandsIn hs e → e.who ≢ 0 → IsMade e
+  made_by e (h, log, at) not = go e.who refl where
+    go : (n : ℕ) → e.who ≡ n → IsMade e
+    go zero is = absurd (not is)
+    go (suc d) is =
+        let low : d < clients_in lines = omega (arith, is, (s.places e.node e.place h e log at).2) in
+        let who : e.who ≡ d + 1 = omega (arith, is) in
+        record { client = d; low = low; who = who; made = λ is. (s.clients d is).only e.node e.place h e log at who }
+
+  brings_none : (e : LogEntry) → StandsIn hs e → e.who ≢ 0 → length (brought (filled_act stream e.act)) ≡ 0
+  brings_none e stands not =
+      let m : IsMade e = made_by e stands not in
+      event_brings_none stream (next_event m.client lines (replies (take e.step (s.clients m.client m.low).made))) e ((s.clients m.client m.low).steps e.step e (m.made m.low)).3
+
+  only_feeder : (es : List LogEntry) → ((i : ℕ) (e : LogEntry) → slice_get es i ≡ Some e → StandsIn hs e) → OnlyFeederBrings stream es
+  only_feeder [] each = tt
+  only_feeder (e ∷ es) each = (λ not. brings_none e (each 0 e refl) not, only_feeder es (λ i x at. each (suc i) x at))
+
+  -- the entry at a place of a node's history stands in the histories
+  stands_at : (node : ℕ) (h : List LogEntry) → slice_get hs node ≡ Some h → (i : ℕ) (e : LogEntry) → slice_get h i ≡ Some e → StandsIn hs e
+  stands_at node h log i e at =
+      let p = s.places node i h e log at in
+      (h, (ap (λ n. slice_get hs n) p.0 ∙ log), (ap (λ n. slice_get h n) p.1 ∙ at))
+
+  node_below : (e : LogEntry) → StandsIn hs e → e.node < 33
+  node_below e (h, log, at) = omega (arith, slice_get_within hs e.node h log, s.nodes)
+
+  -- ------ what the nodes give and the feeder makes
+
+  abbrev StandsOn : (node : ℕ) → LogEntry → Type 0
+  StandsOn node e = (h : List LogEntry) × (slice_get hs node ≡ Some h) × Has h e
+
+  stands_on : (e : LogEntry) → StandsIn hs e → (node : ℕ) × (node < 33) × StandsOn node e
+  stands_on e stands = (e.node, node_below e stands, (stands.0, stands.1, has_got stands.0 e.place e stands.2))
+
+  -- the bytes of an entry
+  abbrev bytes_of : LogEntry → ℕ
+  bytes_of e = bytes_in e.response
+
+  module _ (are : All IsPacket stream) where
+    bytes_at : (node : ℕ) → node < 33 → Pool bytes_of (StandsOn node) (188 * length stream)
+    bytes_at node lt =
+        let h = at_place hs node (omega (arith, lt, s.nodes)) in
+        record {
+          tokens = h.0;
+          within = bytes_fit stream are node h.0 ended s.fed.batches (length stream) (s.legal node h.0 h.1) (only_feeder h.0 (stands_at node h.0 h.1)) (s.fed.on_each node h.0 h.1) s.fed.within;
+          all = λ t is. subst (λ l. Has l t) (one_value hs node is.0 h.0 is.1 h.1) is.2;
+        }
+
+    all_bytes : Pool bytes_of (λ t. (node : ℕ) × (node < 33) × StandsOn node t) (total (λ node. 188 * length stream) 33)
+    all_bytes = all_pools bytes_of StandsOn (λ node. 188 * length stream) 33 bytes_at
+
+  abbrev is_feeder : LogEntry → Bool
+  is_feeder e = nat_eq e.who 0
+
+  few_quiet : (es : List LogEntry) → sum_of quiet es ≤ length es
+  few_quiet [] = omega arith
+  few_quiet (e ∷ es) = omega (arith, few_quiet es)
+
+  -- an entry of the feeder on a node
+  abbrev IsFeeders : (node : ℕ) → LogEntry → Type 0
+  IsFeeders node e = StandsOn node e × (e.who ≡ 0)
+
+  feeder_at : (node : ℕ) → node < 33 → Pool quiet (IsFeeders node) (length stream + 1)
+  feeder_at node lt =
+      let h = at_place hs node (omega (arith, lt, s.nodes)) in
+      record {
+        tokens = filter is_feeder h.0;
+        within = omega (
+          arith,
+          few_quiet (filter is_feeder h.0),
+          feeder_long h.0 ended s.fed.batches (All-weaker (λ b. (1 ≤ b.size) × (b.size ≤ most)) (λ b. 1 ≤ b.size) (λ b is. is.0) s.fed.batches s.fed.each_size) (s.fed.on_each node h.0 h.1),
+          s.fed.within,
+        );
+        all = λ t is. has_filter is_feeder h.0 t (grind (arith, nat_tests, is.1)) (subst (λ l. Has l t) (one_value hs node is.0.0 h.0 is.0.1 h.1) is.0.2);
+      }
+
+  abbrev FeederPays : LogEntry → Type 0
+  FeederPays e = (node : ℕ) × (node < 33) × IsFeeders node e
+
+  feeder_pool : Pool quiet FeederPays (total (λ node. length stream + 1) 33)
+  feeder_pool = all_pools quiet IsFeeders (λ node. length stream + 1) 33 feeder_at
+
+  -- ------ what other clients make
+
+  module _ (c : ℕ) (is : c < clients_in lines) where
+    abbrev me : HasDoneSoFar payers lines c hs
+    me = s.clients c is
+
+    abbrev ClientPays : ℕ → LogEntry → Type 0
+    ClientPays d e = (d ≢ c) × ((low : d < clients_in lines) → Has (s.clients d low).made e)
+
+    abbrev OtherPays : LogEntry → Type 0
+    OtherPays e = (d : ℕ) × (d < clients_in lines) × ClientPays d e
+
+    events : (d : ℕ) (low : d < clients_in lines) (i : ℕ) (e : LogEntry) → slice_get (s.clients d low).made i ≡ Some e → IsEvent (next_event d lines (replies (take i (s.clients d low).made))) e
+    events d low i e at = ((s.clients d low).steps i e at).3
+
+    client_at : (d : ℕ) → d < clients_in lines → (same : Bool) → nat_eq d c ≡ same → Pool quiet (ClientPays d) (if same then 0 else firsts lines d)
+    client_at d low true yea = record { tokens = []; within = omega arith; all = λ t pays. absurd (pays.0 (grind (arith, nat_tests, yea))) }
+    client_at d low false nay = record {
+      tokens = (s.clients d low).made;
+      within = quiet_calls lines d (s.clients d low).made (events d low);
+      all = λ t pays. pays.1 low;
+    }
+
+    other_pool : Pool quiet OtherPays (total (but c (firsts lines)) (clients_in lines))
+    other_pool = all_pools quiet ClientPays (but c (firsts lines)) (clients_in lines) (λ d low. client_at d low (nat_eq d c) refl)
+
+    -- ------ the entry behind a read
+
+    -- right behind a read of the client an entry of another adds no repeat
+    quiet_behind : (e x : LogEntry) → StandsIn hs e → StandsIn hs x → x.node ≡ e.node → x.place ≡ e.place + 1 → e.who ≢ x.who → IsGoing e.act e.response → (n : ℕ) → adds x ≡ n → quiet x ≡ 1
+    quiet_behind e x es xs node place differ on zero none = omega (arith, none)
+    quiet_behind e x es xs node place differ on (suc n) more =
+        let there : slice_get hs e.node ≡ Some xs.0 = ap (λ k. slice_get hs k) (sym node) ∙ xs.1 in
+        let one : xs.0 ≡ es.0 = one_value hs e.node xs.0 es.0 there es.1 in
+        let next : x.place ≡ suc e.place = omega (arith, place) in
+        absurd (
+        next_is_refused e.node stream es.0 (s.legal e.node es.0 es.1) e.place e x es.2 (subst (λ l. slice_get l (suc e.place) ≡ Some x) one (ap (λ k. slice_get xs.0 k) (sym next) ∙ xs.2)) differ
+        (reads_on stream e on) (reads_on stream x (going x.act x.response (omega (arith, more))))
+        )
+
+    abbrev my_bytes : ℕ → ℕ
+    my_bytes i = by_bytes lines c me.made (events c is) i
+
+    abbrev my_again : ℕ → ℕ
+    my_again i = by_again lines c me.made (events c is) i
+
+    -- ------ bytes
+
+    bytes_count : All IsPacket stream → (k : ℕ) → k ≤ length me.made → total my_bytes k ≤ 33 * (188 * length stream)
+    bytes_count are k le = omega (arith, counts_fit bytes_of k my_bytes (λ i t. slice_get me.made i ≡ Some t) (all_bytes are).tokens tokens, (all_bytes are).within, total_same (188 * length stream) 33) where
+      twice : (i j : ℕ) (t : LogEntry) → i < j → slice_get me.made i ≡ Some t → slice_get me.made j ≡ Some t → ⊥
+      twice i j t less a b = let up = me.in_order i j t t less a b refl in omega (arith, up)
+
+      there : (i : ℕ) (e : LogEntry) → slice_get me.made i ≡ Some e → 0 < my_bytes i → (t : LogEntry) × Has (all_bytes are).tokens t × (my_bytes i ≤ bytes_of t) × (slice_get me.made i ≡ Some t)
+      there i e at more =
+          let stands = (me.steps i e at).2 in (
+            e,
+            (all_bytes are).all e (stands_on e stands),
+            bytes_pay lines c me.made (events c is) i e at (λ now count read. read_there e.node stream stands.0 (s.legal e.node stands.0 stands.1) e.place e now count stands.2 read) more,
+            at,
+          )
+
+      tokens : HaveTokens bytes_of k my_bytes (λ i t. slice_get me.made i ≡ Some t) (all_bytes are).tokens
+      tokens = record {
+        differ = λ i j t less lt a b. twice i j t less a b;
+        has = λ i lt more. (let e = at_place me.made i (omega (arith, lt, le)) in there i e.0 e.1 more);
+      }
+
+    -- ------ repeats after Again
+
+    -- an entry that pays stands right behind call i
+    abbrev IsBehind : ℕ → LogEntry → Type 0
+    IsBehind i x = (e : LogEntry) × (slice_get me.made i ≡ Some e) × (x.node ≡ e.node) × (x.place ≡ e.place + 1)
+
+    behind_one : (i j : ℕ) (t : LogEntry) → i < j → IsBehind i t → IsBehind j t → ⊥
+    behind_one i j t less (e, at, node, place) (f, at_f, node_f, place_f) = let up = me.in_order i j e f less at at_f (sym node ∙ node_f) in omega (arith, up, place, place_f)
+
+    module _ (Pays : LogEntry → Type 0) (bound : ℕ) (pool : Pool quiet Pays bound) (pays : (x : LogEntry) → StandsIn hs x → MayPay payers c x.who → Pays x) where
+      again_there : (i : ℕ) (e f : LogEntry) → slice_get me.made i ≡ Some e → slice_get me.made (suc i) ≡ Some f → 0 < my_again i → (x : LogEntry) × Has pool.tokens x × (my_again i ≤ quiet x) × IsBehind i x
+      again_there i e f at next more =
+          let w : IsWaiting lines c me.made (events c is) i e = waiting lines c me.made (events c is) i e at more in
+          go w (me.paid i e f at next w.waits) where
+            go : IsWaiting lines c me.made (events c is) i e → IsPaidBehind payers c hs e → (x : LogEntry) × Has pool.tokens x × (my_again i ≤ quiet x) × IsBehind i x
+            go w (x, stands, node, place, may) =
+                let mine : e.who ≡ c + 1 = (me.steps i e at).1 in
+                let differ : e.who ≢ x.who = λ same. pays_not_itself payers c x.who may (sym same ∙ mine) in
+                let silent : quiet x ≡ 1 = quiet_behind e x (me.steps i e at).2 stands node place differ w.going (adds x) refl in
+                (x, pool.all x (pays x stands may), omega (arith, silent, w.once), (e, at, node, place))
+
+      again_count : (k : ℕ) → suc k ≤ length me.made → total my_again k ≤ bound
+      again_count k le = omega (arith, counts_fit quiet k my_again IsBehind pool.tokens tokens, pool.within) where
+        tokens : HaveTokens quiet k my_again IsBehind pool.tokens
+        tokens = record {
+          differ = λ i j t less lt a b. behind_one i j t less a b;
+          has = λ i lt more. (let e = at_place me.made i (omega (arith, lt, le)) in let f = at_place me.made (suc i) (omega (arith, lt, le)) in again_there i e.0 f.0 e.1 f.1 more);
+        }
+
+      -- ------ the bound
+
+      within_to : firsts lines c + bound ≤ 33 * commands_for payers c lines + 33 * (length stream + 1) → All IsPacket stream → (n : ℕ) → length me.made ≡ n
+          → length me.made ≤ firsts lines c + total (grows lines c me.made (events c is)) (but_one lines c me.made (events c is) n) → length me.made ≤ most_calls (commands_for payers c lines) (188 * length stream)
+      within_to enough are zero long few = omega (arith, long)
+      within_to enough are (suc k) long few = omega (arith, few, both_kinds lines c me.made (events c is) k, bytes_count are k (omega (arith, long)), again_count k (omega (arith, long)), enough)
+
+      pub within : firsts lines c + bound ≤ 33 * commands_for payers c lines + 33 * (length stream + 1) → All IsPacket stream → length me.made ≤ most_calls (commands_for payers c lines) (188 * length stream)
+      within enough are = within_to enough are (length me.made) refl (calls_and_repeats lines c me.made (events c is))
+
+    feeders : (x : LogEntry) → StandsIn hs x → x.who ≡ 0 → FeederPays x
+    feeders x stands zero_is = let on = stands_on x stands in (on.0, on.1, (on.2, zero_is))
+
+    either : (x : LogEntry) → StandsIn hs x → x.who ≢ c + 1 → (b : Bool) → nat_eq x.who 0 ≡ b → FeederPays x ⊎ OtherPays x
+    either x stands may true yea = inl (feeders x stands (grind (arith, nat_tests, yea)))
+    either x stands may false nay =
+        let m : IsMade x = made_by x stands (λ none. grind (arith, nat_tests, nay, none)) in
+        inr (m.client, m.low, ((λ same. may (m.who ∙ ap (λ n. n + 1) same)), (λ low. has_got (s.clients m.client low).made x.step x (m.made low))))
+
+pub calls_are_paid : CallsArePaid
+calls_are_paid feeder lines most stream ended hs s are c is =
+    within feeder lines most stream ended hs s c is (FeederPays feeder lines most stream ended hs s) (total (λ node. length stream + 1) 33) (feeder_pool feeder lines most stream ended hs s)
+    (feeders feeder lines most stream ended hs s c is) (omega (arith, total_same (length stream + 1) 33)) are
+calls_are_paid others lines most stream ended hs s are c is =
+    within others lines most stream ended hs s c is (λ x. FeederPays others lines most stream ended hs s x ⊎ OtherPays others lines most stream ended hs s c is x)
+    (total (λ node. length stream + 1) 33 + total (but c (firsts lines)) (clients_in lines))
+    (both quiet (FeederPays others lines most stream ended hs s) (OtherPays others lines most stream ended hs s c is) (total (λ node. length stream + 1) 33) (total (but c (firsts lines)) (clients_in lines))
+    (feeder_pool others lines most stream ended hs s) (other_pool others lines most stream ended hs s c is))
+    (λ x stands may. either others lines most stream ended hs s c is x stands may (nat_eq x.who 0) refl)
+    (omega (
+      arith,
+      total_same (length stream + 1) 33,
+      total_but c (firsts lines) (clients_in lines) is,
+      total_33 (commands_by lines) (clients_in lines),
+      commands_shared lines (clients_in lines),
+    )) are

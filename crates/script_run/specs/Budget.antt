@@ -1,0 +1,28 @@
+-- How many calls a client makes in a run (this project's own).
+use Rattle.std.specs.Prelude.{ℕ, ◌≡◌, ◌⊎◌, ◌≤◌, ◌+◌, ◌*◌, ◌-◌, List, [], ◌∷◌, length}
+use Rattle.dmx_calls.specs.Response.{Response, Data, Overflow}
+use Rattle.client_script.specs.declared.line.Line.{Line}
+use Rattle.client_script.specs.declared.line.Line.TheVariants.{Command}
+
+-- how many commands a script has
+abbrev pub all_commands : List Line → ℕ
+all_commands [] = 0
+all_commands (Command line client target verb ∷ lines) = 1 + all_commands lines
+all_commands (_ ∷ lines) = all_commands lines
+
+-- The most calls of a client: for so many commands of all clients, and so many bytes of stream.
+abbrev pub most_calls : (commands bytes : ℕ) → ℕ
+most_calls commands bytes = 33 * (commands + 2 * bytes + 1)
+
+-- Why a run is too long: so many reads were made, as the bytes taken show, or the commands and
+-- the bytes allow a client so many calls.
+abbrev pub IsTooLong : (lines : List Line) → (start turns : ℕ) → (ahead taken : List ℕ) → Type 0
+IsTooLong lines start turns ahead taken =
+    ((turns ≡ 4294967296) × (4294967296 ≤ start + length taken))
+    ⊎ ((turns ≡ 549755813888) × (549755813888 ≤ most_calls (all_commands lines) (length ahead + length taken)))
+
+-- the bytes that a reply gives, or names as lost
+abbrev pub bytes_in : Response → ℕ
+bytes_in (Data bytes) = length bytes
+bytes_in (Overflow from to item need room) = to - from
+bytes_in _ = 0

@@ -1,0 +1,4 @@
+pub mod IsRun
+pub mod WholeRun
+pub mod Budget
+pub mod SoFar

@@ -1,0 +1,124 @@
+-- What it means that 33 histories are those of a run that may not be over.
+use Rattle.std.specs.Prelude.{◌≡◌, ◌≢◌, ◌<◌, ◌≤◌, ◌+◌, ◌*◌, ℕ, suc, Bool, true, false, List, [], ◌∷◌, length, map, sum, take, slice_get, Some, None, IsSome, All}
+use Rattle.ts_packet.specs.Fields.{IsPacket}
+use Rattle.dmx_calls.specs.declared.params.Input.TheVariants.{Frontend}
+use Rattle.dmx_calls.specs.declared.limits.TheConstants.{DEMUX_NODES}
+use Rattle.dmx_calls.specs.declared.log.Act.{Act}
+use Rattle.dmx_calls.specs.declared.log.Act.TheVariants.{Pass as PassAct, End as EndAct}
+use Rattle.dmx_calls.specs.Accounted.{IsAccounted}
+use Rattle.dmx_calls.specs.Response.{NoMemory}
+use Rattle.dmx_calls.specs.Legal.{IsLegalFor}
+use Rattle.dmx_calls.specs.Log.{LogEntry, filled}
+use Rattle.dmx_calls.specs.Rules.{rules_at}
+use Rattle.client_script.specs.declared.line.Line.{Line}
+use Rattle.client_script.specs.Script.{clients_in}
+use Rattle.client_core.specs.Commands.{commands_of}
+use Rattle.client_core.specs.Events.{next_event, waits_on}
+use Rattle.script_run.specs.Budget.{all_commands, most_calls}
+use Rattle.script_run.specs.IsRun.{Batch, Step, IsEvent, IsRun, StandsIn, replies, steps_of}
+
+-- ------ the feeder
+
+-- what the feeder has done on each node: these batches have passed, one after another, and then End, or not yet
+abbrev pub feeding_so_far : (ended : Bool) → (first step : ℕ) → List Batch → List Step
+feeding_so_far true first step [] = record { step = step; act = EndAct } ∷ []
+feeding_so_far false first step [] = []
+feeding_so_far ended first step (b ∷ bs) =
+    record { step = step; act = PassAct Frontend first b.size b.moment }
+    ∷ feeding_so_far ended (first + b.size) (suc step) bs
+
+-- So far at most so many packets have passed every node, in the same batches, each of 1 to `most`.
+pub record IsFedSoFar (most packets : ℕ) (ended : Bool) (hs : List (List LogEntry)) : Type 0 where
+  pub batches : List Batch
+  pub each_size : All (λ b. (1 ≤ b.size) × (b.size ≤ most)) batches
+  pub within : sum (map (λ b. b.size) batches) ≤ packets
+  pub on_each : (node : ℕ) (h : List LogEntry) → slice_get hs node ≡ Some h
+      → steps_of 0 h ≡ feeding_so_far ended 0 0 batches
+
+-- ------ a client
+
+-- no packets pass by this call
+abbrev pub PassesNone : Act → Type 0
+PassesNone (PassAct input first count now) = ⊥
+PassesNone _ = Unit {0}
+
+-- whose entries pay for the reads that a client repeats: the feeder's alone, or those of all others
+pub data Payers : Type 0 where
+  feeder : Payers
+  others : Payers
+
+abbrev pub MayPay : Payers → (client who : ℕ) → Type 0
+MayPay feeder client who = who ≡ 0
+MayPay others client who = who ≢ client + 1
+
+-- an entry stands right behind this one, on its node, and its caller may pay for the client's repeats
+abbrev pub IsPaidBehind : Payers → (client : ℕ) → (hs : List (List LogEntry)) → LogEntry → Type 0
+IsPaidBehind payers client hs e =
+    (x : LogEntry) × StandsIn hs x × (x.node ≡ e.node) × (x.place ≡ e.place + 1) × MayPay payers client x.who
+
+-- A client did just what its commands ask, by the replies that it got: `made` is its calls so far, in their order.
+pub record HasDoneSoFar (payers : Payers) (lines : List Line) (client : ℕ)
+    (hs : List (List LogEntry)) : Type 0 where
+  pub made : List LogEntry
+  -- its steps are 0, 1, .., and each is the call that its commands ask for after the replies before it
+  pub steps : (i : ℕ) (e : LogEntry) → slice_get made i ≡ Some e
+      → (e.step ≡ i) × (e.who ≡ client + 1) × StandsIn hs e
+      × IsEvent (next_event client lines (replies (take i made))) e
+  -- the histories have no other call of this client
+  pub only : (node place : ℕ) (h : List LogEntry) (e : LogEntry) → slice_get hs node ≡ Some h
+      → slice_get h place ≡ Some e → e.who ≡ client + 1 → slice_get made e.step ≡ Some e
+  -- on each node its calls stand in the order in which it made them
+  pub in_order : (i j : ℕ) (e f : LogEntry) → i < j → slice_get made i ≡ Some e → slice_get made j ≡ Some f
+      → e.node ≡ f.node → e.place < f.place
+  -- between a read that found nothing and its repeat an entry of another stands on that node: it pays for the repeat
+  pub paid : (i : ℕ) (e f : LogEntry) → slice_get made i ≡ Some e → slice_get made (suc i) ≡ Some f
+      → IsSome (waits_on client lines (replies (take (suc i) made))) → IsPaidBehind payers client hs e
+
+-- ------ the run
+
+-- These histories are those of a run of the script so far: at most the packets of `stream` have passed, and the
+-- end of the stream or not yet.
+pub record IsSoFar (payers : Payers) (lines : List Line) (most : ℕ) (stream : List (List ℕ)) (ended : Bool)
+    (hs : List (List LogEntry)) : Type 0 where
+  pub nodes : length hs ≡ DEMUX_NODES + 1
+  pub places : (node place : ℕ) (h : List LogEntry) (e : LogEntry) → slice_get hs node ≡ Some h
+      → slice_get h place ≡ Some e → (e.node ≡ node) × (e.place ≡ place) × (e.who ≤ clients_in lines)
+      × (e.response ≢ NoMemory)
+  pub legal : (node : ℕ) (h : List LogEntry) → slice_get hs node ≡ Some h → IsLegalFor (rules_at node) (filled stream h)
+  pub fed : IsFedSoFar most (length stream) ended hs
+  pub clients : (c : ℕ) → c < clients_in lines → HasDoneSoFar payers lines c hs
+
+-- ------ laws
+
+-- it is over: the whole stream has passed, and no client has a next call
+pub record IsOver {payers : Payers} {lines : List Line} {most : ℕ} {stream : List (List ℕ)} {ended : Bool}
+    {hs : List (List LogEntry)} (s : IsSoFar payers lines most stream ended hs) : Type 0 where
+  pub whole : sum (map (λ b. b.size) s.fed.batches) ≡ length stream
+  pub through : (c : ℕ) (is : c < clients_in lines) → next_event c lines (replies (s.clients c is).made) ≡ None
+
+-- A run so far that has ended and is over is a run, of the same batches and of the same calls.
+abbrev pub RunsEnd : Type 0
+RunsEnd =
+    (payers : Payers) (lines : List Line) (most : ℕ) (stream : List (List ℕ)) (hs : List (List LogEntry))
+    (s : IsSoFar payers lines most stream true hs) → IsOver s
+    → (run : IsRun lines most stream hs) × (run.fed.batches ≡ s.fed.batches)
+    × ((c : ℕ) (is : c < clients_in lines) → (run.clients_done c is).made ≡ (s.clients c is).made)
+
+-- the commands whose calls may pay for a client's repeats, and its own
+abbrev pub commands_for : Payers → (client : ℕ) → List Line → ℕ
+commands_for feeder client lines = length (commands_of client lines)
+commands_for others client lines = all_commands lines
+
+-- At each moment of a run a client has made no more calls than these commands and the bytes of the packets allow.
+abbrev pub CallsArePaid : Type 0
+CallsArePaid =
+    (payers : Payers) (lines : List Line) (most : ℕ) (stream : List (List ℕ)) (ended : Bool)
+    (hs : List (List LogEntry)) (s : IsSoFar payers lines most stream ended hs) → All IsPacket stream
+    → (c : ℕ) (is : c < clients_in lines)
+    → length (s.clients c is).made ≤ most_calls (commands_for payers c lines) (188 * length stream)
+
+-- Each history of a run is accounted.
+abbrev pub RunsAreAccounted : Type 0
+RunsAreAccounted =
+    (lines : List Line) (most : ℕ) (stream : List (List ℕ)) (hs : List (List LogEntry)) → IsRun lines most stream hs
+    → (node : ℕ) (h : List LogEntry) → slice_get hs node ≡ Some h → IsAccounted (rules_at node) (filled stream h)

@@ -1,0 +1,34 @@
+-- Laws of heads.
+use Rattle.std.specs.Prelude.{if◌then◌else◌, nat_lt}
+use Rattle.std.proofs.Common.{◌≡◌, ℕ, ◌+◌, ◌<◌, ◌≤◌, Bool, true, false, List, [], ◌∷◌, ◌++◌, refl, arith, suc, add-one}
+use Rattle.std.proofs.lemmas.Bool.Decides.{nat_tests}
+use Rattle.ts_packet.specs.Cut.{Cut, cut}
+use Rattle.ts_packet.specs.Cutting.{IsTally}
+use Rattle.ts_packet.specs.Counts.{counts}
+use Rattle.ts_packet.specs.declared.cutter.Tally.{Tally}
+use Rattle.ts_watch.specs.declared.head.Head.{Head}
+use Rattle.ts_watch.specs.Head.{told_head, tally_of, rows_below, head_of}
+use Rattle.ts_watch.specs.Watching.{row_of}
+
+rows-by : (n : ℕ) (packets : List (List ℕ)) (b : Bool) → nat_lt 0 (counts packets n).packets ≡ b → rows_below (suc n) packets ≡ (if b then rows_below n packets ++ (n, row_of packets n) ∷ [] else rows_below n packets)
+unfolding rows_below
+rows-by n packets b e = rw e refl
+
+-- one PID more
+pub rows-more : (n : ℕ) (packets : List (List ℕ)) → 0 < (counts packets n).packets → rows_below (n + 1) packets ≡ rows_below n packets ++ (n, row_of packets n) ∷ []
+rows-more n packets h = (let e : nat_lt 0 (counts packets n).packets ≡ true = grind (arith, nat_tests) in rw add-one (rows-by n packets true e))
+
+pub rows-same : (n : ℕ) (packets : List (List ℕ)) → (counts packets n).packets ≤ 0 → rows_below (n + 1) packets ≡ rows_below n packets
+rows-same n packets h = (let e : nat_lt 0 (counts packets n).packets ≡ false = grind (arith, nat_tests) in rw add-one (rows-by n packets false e))
+
+pub rows-none : (packets : List (List ℕ)) → rows_below 0 packets ≡ []
+unfolding rows_below
+rows-none packets = refl
+
+tally-is : (c : Cut) (tally : Tally) → IsTally c tally → tally ≡ tally_of c
+tally-is c tally h = rw (← h.packets, ← h.skipped, ← h.rest) refl
+
+-- the parts of a head
+pub head-is : (bytes : List ℕ) (failed : Bool) (head : Head) → IsTally (cut bytes) head.tally → head.rows.items ≡ rows_below 8192 (cut bytes).packets → head.read_fault ≡ failed → told_head head ≡ head_of bytes failed
+unfolding head_of
+head-is bytes failed head t r f = rw (tally-is (cut bytes) head.tally t, r, f) refl
