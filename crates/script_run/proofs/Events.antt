@@ -6,26 +6,16 @@ use Rattle.dmx_calls.specs.Invocation as call
 use Rattle.dmx_calls.specs.Invocation.{Invocation, brought}
 use Rattle.dmx_calls.specs.Log.{LogEntry, IsOfStream, act_of, filled_act}
 use Rattle.client_core.specs.declared.event.Event.{Event}
-use Rattle.client_core.specs.declared.event.Want.{Want}
-use Rattle.client_core.specs.declared.event.Want.TheVariants as want
+use Rattle.client_core.specs.declared.event.Request.{Request}
+use Rattle.client_core.specs.declared.event.Request.TheVariants.{Own}
+use Rattle.client_script.specs.declared.line.Want.TheVariants.{Open}
 use Rattle.client_core.specs.Commands.{call_of}
 use Rattle.script_run.specs.IsRun.{IsEvent}
 use Rattle.script_run.specs.SoFar.{PassesNone}
 
-pub no_pass : (w : Want) (now : ℕ) → PassesNone (act_of (call_of w now))
-no_pass want.Open now = tt
-no_pass want.Close now = tt
-no_pass (want.Section p) now = tt
-no_pass (want.Pes p) now = tt
-no_pass (want.Add p) now = tt
-no_pass (want.Remove p) now = tt
-no_pass want.Start now = tt
-no_pass want.Stop now = tt
-no_pass (want.Size n) now = tt
-no_pass (want.Read n) now = tt
-no_pass want.Poll now = tt
-no_pass (want.Attach n ps) now = tt
-no_pass (want.Detach n) now = tt
+pub no_pass : (w : Request) (now : ℕ) → PassesNone (act_of (call_of w now))
+no_pass (Own Open) now = tt
+no_pass _ now = tt
 
 pub of_stream : (stream : List (List ℕ)) (c : Invocation) → PassesNone (act_of c) → IsOfStream stream c
 of_stream stream (call.Pass i first ps now) bare = absurd bare

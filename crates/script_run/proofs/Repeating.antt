@@ -9,8 +9,9 @@ use Rattle.dmx_calls.specs.Log.{LogEntry, act_of}
 use Rattle.dmx_calls.specs.Response.{Response, Done, Busy, Refused, NoMemory, Data, Again, Overflow, TimedOut, Ready, Passed}
 use Rattle.client_script.specs.declared.line.Line.{Line}
 use Rattle.client_core.specs.declared.event.Event.{Event}
-use Rattle.client_core.specs.declared.event.Want.{Want}
-use Rattle.client_core.specs.declared.event.Want.TheVariants.{Open, Close, Section, Pes, Add, Remove, Start, Stop, Size, Read, Poll, Attach, Detach}
+use Rattle.client_core.specs.declared.event.Request.{Request}
+use Rattle.client_core.specs.declared.event.Request.TheVariants.{Own}
+use Rattle.client_script.specs.declared.line.Want.TheVariants.{Open}
 use Rattle.client_core.specs.Commands.{call_of, commands_of, ends_drain}
 use Rattle.client_core.specs.Events.{Standing, progress, next_event, waits_on, no_slots}
 use Rattle.script_run.specs.IsRun.{IsEvent, replies}
@@ -33,20 +34,9 @@ adds_to _ r = 0
 abbrev pub adds : LogEntry → ℕ
 adds e = adds_to e.act e.response
 
-asked : (w : Want) (moment : ℕ) (r : Response) → adds_to (act_of (call_of w moment)) r ≡ added_by w r
-asked Open m r = refl
-asked Close m r = refl
-asked (Section p) m r = refl
-asked (Pes p) m r = refl
-asked (Add p) m r = refl
-asked (Remove p) m r = refl
-asked Start m r = refl
-asked Stop m r = refl
-asked (Size n) m r = refl
-asked (Read n) m r = refl
-asked Poll m r = refl
-asked (Attach n ps) m r = refl
-asked (Detach n) m r = refl
+asked : (w : Request) (moment : ℕ) (r : Response) → adds_to (act_of (call_of w moment)) r ≡ added_by w r
+asked (Own Open) m r = refl
+asked _ m r = refl
 
 if_one : (b : Bool) → (if b then 0 else 1) ≤ 1
 if_one true = omega arith
