@@ -1,7 +1,6 @@
 -- Which calls leave the packets of a node and its end as they were.
-use Rattle.std.proofs.Common.{◌≡◌, refl, ap, ◌∙◌, ℕ, Bool, true, false, List, [], ◌∷◌}
+use Rattle.std.proofs.Common.{◌≡◌, refl, ap, ◌∙◌, ℕ, Bool, true, false, [], ◌∷◌}
 use Rattle.std.specs.Prelude.{◌||◌}
-use Rattle.dmx_calls.specs.declared.params.Input.{Input}
 use Rattle.dmx_calls.specs.Invocation as call
 use Rattle.dmx_calls.specs.Invocation.{Invocation, brought}
 use Rattle.dmx_calls.specs.Response.{Response, Passed, is_accepted}
@@ -17,10 +16,6 @@ use Rattle.client_script.specs.declared.line.Want.TheVariants.{Open}
 use Rattle.client_core.specs.Commands.{call_of}
 
 -- ------ calls of the feeder and of clients
-
-pub pass_answer : (node : Rules) (h : History) (who : ℕ) (input : Input) (first now : ℕ) (packets : List (List ℕ)) → answer node h who (call.Pass input first packets now) ≡ Passed
-unfolding answer facts
-pass_answer node h who input first now packets = refl
 
 pub end_answer : (node : Rules) (h : History) (who : ℕ) → answer node h who call.End ≡ Passed
 unfolding answer facts

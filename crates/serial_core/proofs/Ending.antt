@@ -1,11 +1,10 @@
 -- What a run leaves.
-use Rattle.std.proofs.Common.{length-append, Result, Ok, Err, IfOk, ◌≡◌, refl, sym, ap, subst, ◌∙◌, ℕ, suc, ◌+◌, ◌≤◌, ◌<◌, true, List, [], ◌∷◌, ◌++◌, length, map, fold, max, add-one, append-nil, arith}
+use Rattle.std.proofs.Common.{◌^◌, length-append, Result, Ok, Err, IfOk, ◌≡◌, refl, sym, ap, subst, ◌∙◌, ℕ, suc, ◌+◌, ◌≤◌, ◌<◌, true, List, [], ◌∷◌, ◌++◌, length, map, add-one, append-nil, arith}
 use Rattle.std.specs.Prelude.{All, slice_index_or}
 use Rattle.std.specs.List.{range_with_len}
 use Rattle.std.proofs.lemmas.List.{length-map, get_or-replicate, get_or_append_left}
 use Rattle.ts_packet.specs.Fields.{IsPacket}
 use Rattle.ts_packet.specs.Cut.{cut}
-use Rattle.std.proofs.lemmas.List.Elements.{All-nil, All-cons}
 use Rattle.std.proofs.lemmas.Simd.{map-map}
 use Rattle.std.proofs.lemmas.List.FromFn.{length-range_with_len}
 use Rattle.dmx_calls.specs.declared.limits.TheConstants.{DEMUX_NODES}
@@ -14,7 +13,6 @@ use Rattle.dmx_calls.specs.declared.log.Act.{Act}
 use Rattle.dmx_calls.specs.Histories.{feeder_acts, histories_of, woven, woven_nodes}
 use Rattle.emu_io.specs.Ends.{SourceEnd}
 use Rattle.client_script.specs.declared.line.Line.{Line}
-use Rattle.client_script.specs.Script.{clients_of, clients_in}
 use Rattle.serial_core.specs.declared.seat.Seat.{Seat}
 use Rattle.serial_core.specs.declared.nodes.Nodes.{Nodes}
 use Rattle.client_core.specs.Inside.Core.{Core, IsAfter}
@@ -23,7 +21,7 @@ use Rattle.script_run.specs.Budget.{most_calls, all_commands}
 use Rattle.ts_watch.specs.Head.{told_head, head_of}
 use Rattle.feed_pull.specs.Pulling.{Pulls, IsDone}
 use Rattle.feed_pull.proofs.PullLemmas.{Pulls-done, Pulls-front, Pulls-size}
-use Rattle.serial_core.specs.declared.run.Ran.{Ran}
+use Rattle.serial_core.specs.declared.run.Left.{Left}
 use Rattle.serial_core.specs.declared.runner.Runner.{Runner}
 use Rattle.serial_core.specs.Nodes.{Node, log_of}
 use Rattle.serial_core.specs.SerialRun.{Run, begun, replies_of, IsSerialRun}
@@ -31,25 +29,11 @@ use Rattle.serial_core.specs.Inside.Standing.{Pairs, IsSeat, IsNodes, acts_on, a
 use Rattle.serial_core.specs.Inside.Legal.{AreLegal}
 use Rattle.serial_core.specs.Inside.Moving.{IsAt, Moves}
 use Rattle.serial_core.specs.Inside.Lines.{AreAfter, IsWholeBy, Overruns}
-use Rattle.serial_core.specs.Ran.{IsRanOf, IsFreshRunner, AreFreshCores, histories_in}
+use Rattle.serial_core.specs.Left.{IsLeftBy, IsFreshRunner, AreFreshCores, histories_in}
 use Rattle.feed_pull.specs.Streams.{OfStream}
 use Rattle.feed_pull.proofs.CutPackets.{are_packets}
 use Rattle.serial_core.proofs.Lawful.{serial_legal}
 use Rattle.serial_core.proofs.Within.{paid_begun, within, own_commands}
-
--- ------ the clients of a script
-
-most_first : (m : ℕ) (lines : List Line) → m ≤ fold (λ most line. max most (clients_of line)) m lines
-most_first m [] = omega arith
-most_first m (line ∷ lines) = let k = most_first (max m (clients_of line)) lines in omega (arith, k)
-
-each_client : (m : ℕ) (lines : List Line) → All (λ line. clients_of line ≤ fold (λ most line. max most (clients_of line)) m lines) lines
-each_client m [] = All-nil _
-each_client m (line ∷ lines) =
-    All-cons (λ l. clients_of l ≤ fold (λ most x. max most (clients_of x)) (max m (clients_of line)) lines) line lines (let k = most_first (max m (clients_of line)) lines in omega (arith, k)) (each_client (max m (clients_of line)) lines)
-
-pub clients_within : (lines : List Line) → All (λ line. clients_of line ≤ clients_in lines) lines
-clients_within lines = each_client 0 lines
 
 -- ------ histories
 
@@ -97,12 +81,12 @@ module _ (lines : List Line) (batch : ℕ) (x y : SourceEnd) (old new : Runner) 
         so ahead moves.draws.carries.more ps k.0 (moves.draws.carries.pulls ahead [] [] pulls) k.1 k.2,
   )
 
-  pub ran_is : (next : List Core) (ran : Ran) → length next ≡ length cores → Moves x y old new (IsWholeBy batch lines cores next) → IsDone new.puller → new.nodes.has_ended ≡ true
-      → ((r : Run) → IsNodes new.nodes r → AreLegal r → ran.histories ≡ histories_in r)
-      → ((ls : List Line) (r : Run) → AreAfter ls r next → map (λ those. those.items) ran.outcomes.items ≡ map (λ client. outcomes client ls (replies_of client r)) (range_with_len 0 (length next)))
-      → ((ahead taken : List ℕ) (given : List (List ℕ)) → Pulls ahead taken given new.puller → told_head ran.head ≡ head_of (ahead ++ taken) ran.head.read_fault)
-      → OfStream x y old.puller (λ ahead taken. IsRanOf lines batch (ahead ++ taken) ran)
-  ran_is next ran count moves done over histories outs head = of_run (IsWholeBy batch lines cores next) (λ ahead taken. IsRanOf lines batch (ahead ++ taken) ran) moves
+  pub left_is : (next : List Core) (left : Left) → length next ≡ length cores → Moves x y old new (IsWholeBy batch lines cores next) → IsDone new.puller → new.nodes.has_ended ≡ true
+      → ((r : Run) → IsNodes new.nodes r → AreLegal r → left.histories ≡ histories_in r)
+      → ((ls : List Line) (r : Run) → AreAfter ls r next → map (λ those. those.items) left.outcomes.items ≡ map (λ client. outcomes client ls (replies_of client r)) (range_with_len 0 (length next)))
+      → ((ahead taken : List ℕ) (given : List (List ℕ)) → Pulls ahead taken given new.puller → told_head left.head ≡ head_of (ahead ++ taken) left.head.read_fault)
+      → OfStream x y old.puller (λ ahead taken. IsLeftBy lines batch (ahead ++ taken) left)
+  left_is next left count moves done over histories outs head = of_run (IsWholeBy batch lines cores next) (λ ahead taken. IsLeftBy lines batch (ahead ++ taken) left) moves
       (λ ahead taken ps r p goes at.
       let all : (cut (ahead ++ taken)).packets ≡ ps = (Pulls-done ahead taken ps new.puller p done).packets in
       let w = goes refl (fresh_after lines ps cores fresh) in
@@ -116,8 +100,8 @@ module _ (lines : List Line) (batch : ℕ) (x y : SourceEnd) (old new : Runner) 
       })
 
   pub overrun_is : Moves x y old new (λ r s. length r.replies ≡ 8 → AreAfter lines r cores → Overruns lines r s)
-      → OfStream x y old.puller (λ ahead taken. 549755813888 ≤ most_calls (all_commands lines) (length ahead + length taken))
-  overrun_is moves = of_run (λ r s. length r.replies ≡ 8 → AreAfter lines r cores → Overruns lines r s) (λ ahead taken. 549755813888 ≤ most_calls (all_commands lines) (length ahead + length taken)) moves
+      → OfStream x y old.puller (λ ahead taken. 2 ^ 39 ≤ most_calls (all_commands lines) (length ahead + length taken))
+  overrun_is moves = of_run (λ r s. length r.replies ≡ 8 → AreAfter lines r cores → Overruns lines r s) (λ ahead taken. 2 ^ 39 ≤ most_calls (all_commands lines) (length ahead + length taken)) moves
       (λ ahead taken ps r p goes at.
       let front = Pulls-front ahead taken ps new.puller p in
       let packets : All IsPacket ps = All-take_front ps front.0 (subst (λ qs. All IsPacket qs) front.1 (are_packets (ahead ++ taken))) in

@@ -1,16 +1,19 @@
 -- What each step of a serial run keeps, the whole run keeps.
-use Rattle.std.proofs.Common.{◌≡◌, refl, sym, ap, subst, ◌∙◌, ℕ, zero, suc, ◌+◌, ◌/◌, ◌%◌, ◌==◌, ◌<◌, ◌≤◌, Bool, true, false, nat_lt, nat_eq, List, [], ◌∷◌, ◌++◌, Some, length, drop, fold, max, replicate, min, zero-add, arith, length-drop}
+use Rattle.std.proofs.Common.{◌≡◌, refl, sym, ap, subst, ◌∙◌, ℕ, zero, suc, ◌+◌, ◌/◌, ◌%◌, ◌==◌, ◌<◌, ◌≤◌, Bool, true, false, nat_lt, nat_eq, List, [], ◌∷◌, ◌++◌, Some, length, drop, fold, replicate, min, zero-add, arith, length-drop}
 use Rattle.std.specs.Prelude.{if◌then◌else◌, sum, is_some, slice_index_or}
 use Rattle.std.proofs.lemmas.Bool.Decides.{nat_tests}
 use Rattle.std.proofs.lemmas.List.Sums.{sum_by-append, sum_by-cons}
 use Rattle.std.proofs.lemmas.List.Folds.{sum_by-replicate}
 use Rattle.std.proofs.lemmas.Nat.{div-add-mod'}
 use Rattle.dmx_calls.specs.Invocation as call
+use Rattle.std.specs.List.{All}
+use Rattle.std.proofs.lemmas.List.Elements.{All-head, All-tail}
 use Rattle.client_script.specs.Script.{clients_of, clients_in}
 use Rattle.client_script.specs.declared.line.Line.{Line}
 use Rattle.client_script.specs.declared.line.Line.TheVariants.{Feed, Tick, Command}
 use Rattle.client_core.specs.declared.event.Event.{Event}
 use Rattle.client_core.specs.Events.{next_event, next_of_line, waits_on}
+use Rattle.script_run.proofs.Clients.{clients_within}
 use Rattle.serial_core.specs.Budget.{IsBegun, no_call, one_call, AreBegun, IsMoment}
 use Rattle.serial_core.specs.SerialRun.{Run, begun, fed_to_all, passed, batch_sizes, all_passed, ended, fed, turned, ticked, replies_of, called, after_waiting, IsWorked, through, calls, AreDone, IsSerialRun}
 use Rattle.serial_core.proofs.Replies.{next_at_line}
@@ -122,18 +125,15 @@ AreBelow clients (Command line client target verb ∷ lines) = (client < clients
 AreBelow clients (Feed n ∷ lines) = AreBelow clients lines
 AreBelow clients (Tick n ∷ lines) = AreBelow clients lines
 
-above_first : (m : ℕ) (lines : List Line) → m ≤ fold (λ most line. max most (clients_of line)) m lines
-above_first m [] = omega arith
-above_first m (line ∷ lines) = omega (arith, above_first (max m (clients_of line)) lines)
-
-below_fold : (lines : List Line) (m n : ℕ) → fold (λ most line. max most (clients_of line)) m lines ≤ n → AreBelow n lines
-below_fold [] m n le = tt
-below_fold (Feed k ∷ lines) m n le = below_fold lines (max m 0) n le
-below_fold (Tick k ∷ lines) m n le = below_fold lines (max m 0) n le
-below_fold (Command line client target verb ∷ lines) m n le = (omega (arith, above_first (max m (client + 1)) lines, le), below_fold lines (max m (client + 1)) n le)
+below_all : (clients : ℕ) (lines : List Line) → All (λ line. clients_of line ≤ clients) lines → AreBelow clients lines
+below_all clients [] all = tt
+below_all clients (Feed n ∷ lines) all = below_all clients lines (All-tail (λ l. clients_of l ≤ clients) (Feed n) lines all)
+below_all clients (Tick n ∷ lines) all = below_all clients lines (All-tail (λ l. clients_of l ≤ clients) (Tick n) lines all)
+below_all clients (Command line client target verb ∷ lines) all =
+    (omega (arith, All-head (λ l. clients_of l ≤ clients) (Command line client target verb) lines all), below_all clients lines (All-tail (λ l. clients_of l ≤ clients) (Command line client target verb) lines all))
 
 pub all_below : (lines : List Line) → AreBelow (clients_in lines) lines
-all_below lines = below_fold lines 0 (clients_in lines) (omega arith)
+all_below lines = below_all (clients_in lines) lines (clients_within lines)
 
 -- what each step of the run keeps; a client's call, as the turn before it where the client waits, keeps it
 pub record IsKept (lines : List Line) (batch clients : ℕ) (P : Run → Type 0) : Type 0 where

@@ -1,5 +1,5 @@
 -- What a line does to the run, and lines one after another.
-use Rattle.std.proofs.Common.{◌≡◌, ◌≢◌, refl, sym, ap, subst, ◌∙◌, ℕ, ◌+◌, ◌*◌, ◌<◌, ◌≤◌, Bool, true, false, List, [], ◌∷◌, length, drop, nat_eq, get_or, set, arith}
+use Rattle.std.proofs.Common.{◌^◌, ◌≡◌, ◌≢◌, refl, sym, ap, subst, ◌∙◌, ℕ, ◌+◌, ◌*◌, ◌<◌, ◌≤◌, Bool, true, false, List, [], ◌∷◌, length, drop, nat_eq, get_or, set, arith}
 use Rattle.std.specs.Prelude.{slice_index_or}
 use Rattle.std.proofs.lemmas.List.{drop_all, get_or-set_same, get_or-set_other, length-set}
 use Rattle.std.proofs.lemmas.List.Sums.{sum_by-le}
@@ -82,7 +82,7 @@ command_done batch line client target verb cores core next r s there is done lin
           (subst (λ x. IsAfter c lines (replies_of c r) x) (sym (get_or-set_other cores client c next d ne)) (after c d long))
 
 pub overruns : (batch line client : ℕ) (cores : List Core) (core next : Core) (r s : Run) → client < length cores → core ≡ get_or cores client core
-    → 549755813888 ≤ next.step → ComesBy batch client line core next r s → OverrunsBy cores r s
+    → 2 ^ 39 ≤ next.step → ComesBy batch client line core next r s → OverrunsBy cores r s
 overruns batch line client cores core next r s there is many come lines clients after =
     let own : IsAfter client lines (replies_of client r) core = subst (λ c. IsAfter client lines (replies_of client r) c) (sym is) (after client core there) in
     let k = come lines clients own in
@@ -91,11 +91,11 @@ overruns batch line client cores core next r s there is many come lines clients 
 -- ------ numbers
 
 pub calls_few : (cores : List Core) (client : ℕ) (core : Core) → client < length cores → length cores ≤ 8 → AreInBudget cores → core ≡ get_or cores client core
-    → calls_by cores ≤ core.step + 4398046511104
-calls_few cores client core there few calls is = let all : calls_by cores ≤ length cores * 549755813888 = sum_by-le (λ c. c.step) 549755813888 cores calls in omega (arith, all, few)
+    → calls_by cores ≤ core.step + 2 ^ 42
+calls_few cores client core there few calls is = let all : calls_by cores ≤ length cores * 2 ^ 39 = sum_by-le (λ c. c.step) (2 ^ 39) cores calls in omega (arith, all, few)
 
-pub calls_most : (cores : List Core) → length cores ≤ 8 → AreInBudget cores → calls_by cores ≤ 4398046511104
-calls_most cores few calls = let all : calls_by cores ≤ length cores * 549755813888 = sum_by-le (λ c. c.step) 549755813888 cores calls in omega (arith, all, few)
+pub calls_most : (cores : List Core) → length cores ≤ 8 → AreInBudget cores → calls_by cores ≤ 2 ^ 42
+calls_most cores few calls = let all : calls_by cores ≤ length cores * 2 ^ 39 = sum_by-le (λ c. c.step) (2 ^ 39) cores calls in omega (arith, all, few)
 
 -- ------ lines one after another
 

@@ -1,5 +1,5 @@
 -- The nodes of a run and their logs by number, and what each call adds to them.
-use Rattle.std.proofs.Common.{◌≡◌, ◌≢◌, refl, sym, ap, subst, ◌∙◌, ℕ, Bool, true, false, nat_eq, zero, suc, ◌+◌, ◌<◌, ◌≤◌, List, [], ◌∷◌, ◌++◌, Some, length, ◌⊎◌, inl, inr, arith}
+use Rattle.std.proofs.Common.{◌≡◌, ◌≢◌, refl, sym, ap, subst, ◌∙◌, ℕ, Bool, true, false, nat_eq, ◌+◌, ◌<◌, ◌≤◌, List, [], ◌∷◌, ◌++◌, Some, length, ◌⊎◌, inl, inr, arith}
 use Rattle.std.specs.Prelude.{slice_get, option_map}
 use Rattle.std.proofs.lemmas.List.{length-map, get_or-map, get_or-set_same, get_or-set_other}
 use Rattle.std.proofs.lemmas.Option.{slice_get-map, slice_get-get_or, slice_get_within}
@@ -12,27 +12,7 @@ use Rattle.client_core.specs.Commands.{call_of}
 use Rattle.client_core.proofs.Options.{same_some}
 use Rattle.serial_core.specs.Nodes.{Told, Node, uncalled, answer_by, answered, log_in, log_of}
 use Rattle.serial_core.specs.SerialRun.{Run, fed_to_all, node_at, called}
-use Rattle.serial_core.specs.Ran.{histories_in}
-
--- ------ lists with one element more
-
-pub get_more : {A : Type 0} (xs ys : List A) (i : ℕ) (e : A) → slice_get xs i ≡ Some e → slice_get (xs ++ ys) i ≡ Some e
-get_more [] ys i e is = absurd (cc)
-get_more (x ∷ xs) ys zero e is = is
-get_more (x ∷ xs) ys (suc i) e is = get_more xs ys i e is
-
-pub get_last : {A : Type 0} (xs : List A) (x : A) → slice_get (xs ++ x ∷ []) (length xs) ≡ Some x
-get_last [] x = refl
-get_last (y ∷ xs) x = get_last xs x
-
-pub get_cases : {A : Type 0} (xs : List A) (x : A) (i : ℕ) (e : A) → slice_get (xs ++ x ∷ []) i ≡ Some e → (slice_get xs i ≡ Some e) ⊎ (i ≡ length xs) × (x ≡ e)
-get_cases [] x zero e is = inr (refl, cc)
-get_cases [] x (suc i) e is = absurd (cc)
-get_cases (y ∷ xs) x zero e is = inl is
-get_cases (y ∷ xs) x (suc i) e is = go (get_cases xs x i e is) where
-  go : (slice_get xs i ≡ Some e) ⊎ (i ≡ length xs) × (x ≡ e) → (slice_get (y ∷ xs) (suc i) ≡ Some e) ⊎ (suc i ≡ length (y ∷ xs)) × (x ≡ e)
-  go (inl old) = inl old
-  go (inr new) = inr (ap suc new.0, new.1)
+use Rattle.serial_core.specs.Left.{histories_in}
 
 -- ------ the node of a number
 
@@ -65,7 +45,7 @@ entries_of n = (log_of n).entries
 abbrev pub entries_at : (node : ℕ) → Run → List LogEntry
 entries_at node r = entries_of (node_at node r)
 
-log_number : (number : ℕ) (calls : List Told) → (log_in number calls).node ≡ number
+pub log_number : (number : ℕ) (calls : List Told) → (log_in number calls).node ≡ number
 log_number number [] = refl
 log_number number (told ∷ calls) = log_number number calls
 

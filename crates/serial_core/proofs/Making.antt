@@ -13,7 +13,7 @@ use Rattle.client_core.specs.declared.event.Event.{Event}
 use Rattle.client_core.specs.Commands.{call_of}
 use Rattle.client_core.specs.Events.{next_event}
 use Rattle.script_run.specs.IsRun.{IsEvent, replies}
-use Rattle.serial_core.proofs.Logs.{get_more, get_last, get_cases}
+use Rattle.lemmas.proofs.Lists.{at_before, at_last as got_last, at_end}
 
 module _ (lines : List Line) (client : ℕ) where
   -- it is call i of the client, and stands in these logs
@@ -40,11 +40,11 @@ module _ (lines : List Line) (client : ℕ) where
 
   stays : (before after : List LogEntry) (i : ℕ) (e : LogEntry) → IsOthers before after → slice_get before i ≡ Some e → slice_get after i ≡ Some e
   stays before after i e (inl same) is = subst (λ h. slice_get h i ≡ Some e) (sym same) is
-  stays before after i e (inr (x, more, not)) is = subst (λ h. slice_get h i ≡ Some e) (sym more) (get_more before (x ∷ []) i e is)
+  stays before after i e (inr (x, more, not)) is = subst (λ h. slice_get h i ≡ Some e) (sym more) (at_before before (x ∷ []) i e is)
 
   was : (before after : List LogEntry) (i : ℕ) (e : LogEntry) → IsOthers before after → e.who ≡ client + 1 → slice_get after i ≡ Some e → slice_get before i ≡ Some e
   was before after i e (inl same) mine is = subst (λ h. slice_get h i ≡ Some e) same is
-  was before after i e (inr (x, more, not)) mine is = go (get_cases before x i e (subst (λ h. slice_get h i ≡ Some e) more is)) where
+  was before after i e (inr (x, more, not)) mine is = go (at_end before x e i (subst (λ h. slice_get h i ≡ Some e) more is)) where
     go : (slice_get before i ≡ Some e) ⊎ (i ≡ length before) × (x ≡ e) → slice_get before i ≡ Some e
     go (inl old) = old
     go (inr new) = absurd (not (ap (λ y. y.who) new.1 ∙ mine))
@@ -78,7 +78,7 @@ module _ (lines : List Line) (client : ℕ) where
       go true yea =
           let same : node ≡ x.node = grind (arith, nat_tests, yea) in
           let old : slice_get (logs x.node) place ≡ Some e = subst (λ n. slice_get (logs n) place ≡ Some e) same is in
-          subst (λ n. slice_get (after n) place ≡ Some e) (sym same) (subst (λ h. slice_get h place ≡ Some e) (sym here) (get_more (logs x.node) (x ∷ []) place e old))
+          subst (λ n. slice_get (after n) place ≡ Some e) (sym same) (subst (λ h. slice_get h place ≡ Some e) (sym here) (at_before (logs x.node) (x ∷ []) place e old))
       go false nay =
           let ne : node ≢ x.node = λ same. grind (arith, nat_tests, nay, same) in
           subst (λ h. slice_get h place ≡ Some e) (sym (elsewhere node le ne)) is
@@ -93,7 +93,7 @@ module _ (lines : List Line) (client : ℕ) where
       go true yea =
           let same : node ≡ x.node = grind (arith, nat_tests, yea) in
           let now : slice_get (logs x.node ++ x ∷ []) place ≡ Some e = subst (λ h. slice_get h place ≡ Some e) here (subst (λ n. slice_get (after n) place ≡ Some e) same is) in
-          subst (λ n. (slice_get (logs n) place ≡ Some e) ⊎ (x ≡ e)) (sym same) (by_case x.node (get_cases (logs x.node) x place e now))
+          subst (λ n. (slice_get (logs n) place ≡ Some e) ⊎ (x ≡ e)) (sym same) (by_case x.node (at_end (logs x.node) x e place now))
       go false nay =
           let ne : node ≢ x.node = λ same. grind (arith, nat_tests, nay, same) in
           inl (subst (λ h. slice_get h place ≡ Some e) (elsewhere node le ne) is)
@@ -111,7 +111,7 @@ module _ (lines : List Line) (client : ℕ) where
       step = step ∙ sym long;
       who = who;
       within = within;
-      there = subst (λ h. slice_get h x.place ≡ Some x) (sym here) (subst (λ n. slice_get (logs x.node ++ x ∷ []) n ≡ Some x) (sym place) (get_last (logs x.node) x));
+      there = subst (λ h. slice_get h x.place ≡ Some x) (sym here) (subst (λ n. slice_get (logs x.node ++ x ∷ []) n ≡ Some x) (sym place) (got_last (logs x.node) x));
       event = is_event;
     }
 
@@ -129,8 +129,8 @@ module _ (lines : List Line) (client : ℕ) where
     new_steps i e (inr new) = subst (λ y. IsMadeAt after (replies (take i all)) i y) new.1 (subst (λ k. IsMadeAt after (replies (take k all)) k x) (sym new.0) at_last)
 
     new_only : (e : LogEntry) (node place : ℕ) → node ≤ DEMUX_NODES → (slice_get (logs node) place ≡ Some e) ⊎ (x ≡ e) → e.who ≡ client + 1 → slice_get all e.step ≡ Some e
-    new_only e node place le (inl old) mine = get_more m.made (x ∷ []) e.step e (m.only node place e le old mine)
-    new_only e node place le (inr new) mine = subst (λ y. slice_get all y.step ≡ Some y) new (subst (λ n. slice_get all n ≡ Some x) (long ∙ sym step) (get_last m.made x))
+    new_only e node place le (inl old) mine = at_before m.made (x ∷ []) e.step e (m.only node place e le old mine)
+    new_only e node place le (inr new) mine = subst (λ y. slice_get all y.step ≡ Some y) new (subst (λ n. slice_get all n ≡ Some x) (long ∙ sym step) (got_last m.made x))
 
     new_order : (i j : ℕ) (e f : LogEntry) → i < j → (slice_get m.made i ≡ Some e) ⊎ (i ≡ length m.made) × (x ≡ e) → (slice_get m.made j ≡ Some f) ⊎ (j ≡ length m.made) × (x ≡ f) → e.node ≡ f.node → e.place < f.place
     new_order i j e f lt (inl a) (inl b) same = m.in_order i j e f lt a b same
@@ -146,7 +146,7 @@ module _ (lines : List Line) (client : ℕ) where
     mine_made = record {
       made = all;
       same = map-append (λ e. e.response) m.made (x ∷ []) ∙ ap (λ rs. rs ++ x.response ∷ []) m.same;
-      steps = λ i e is. new_steps i e (get_cases m.made x i e is);
+      steps = λ i e is. new_steps i e (at_end m.made x e i is);
       only = λ node place e le is mine. new_only e node place le (was_here node place e le is) mine;
-      in_order = λ i j e f lt a b same. new_order i j e f lt (get_cases m.made x i e a) (get_cases m.made x j f b) same;
+      in_order = λ i j e f lt a b same. new_order i j e f lt (at_end m.made x e i a) (at_end m.made x f j b) same;
     }

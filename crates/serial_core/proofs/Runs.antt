@@ -1,5 +1,5 @@
 -- The serial run of a script is a run of it.
-use Rattle.std.proofs.Common.{◌≡◌, ◌≢◌, refl, sym, ap, subst, ◌∙◌, ℕ, ◌+◌, ◌<◌, ◌≤◌, Bool, true, false, nat_eq, nat_lt, List, [], ◌∷◌, ◌++◌, Some, None, length, take, drop, fold, max, ◌⊎◌, inl, inr, arith, length-take-le, length-drop}
+use Rattle.std.proofs.Common.{◌≡◌, ◌≢◌, refl, sym, ap, subst, ◌∙◌, ℕ, ◌+◌, ◌<◌, ◌≤◌, Bool, true, false, nat_eq, List, [], ◌∷◌, ◌++◌, Some, None, length, take, drop, fold, max, ◌⊎◌, inl, inr, arith, length-take-le, length-drop}
 use Rattle.std.specs.Prelude.{if◌then◌else◌, slice_get}
 use Rattle.std.specs.List.{All}
 use Rattle.std.proofs.lemmas.Bool.Decides.{nat_tests}
@@ -11,27 +11,24 @@ use Rattle.dmx_calls.specs.declared.params.Input.TheVariants.{Frontend}
 use Rattle.dmx_calls.specs.Invocation as call
 use Rattle.dmx_calls.specs.Invocation.{Invocation}
 use Rattle.dmx_calls.specs.Response.{NoMemory}
-use Rattle.dmx_calls.specs.Rules.{demux, dvr, rules_at}
+use Rattle.dmx_calls.specs.Rules.{rules_at}
 use Rattle.dmx_calls.specs.Legal.{IsLegalFor}
-use Rattle.dmx_calls.specs.Accounted.{IsAccounted}
 use Rattle.dmx_calls.specs.declared.log.Act.TheVariants.{Pass as PassAct}
 use Rattle.dmx_calls.specs.Log.{LogEntry, IsOfStream, act_of, filled}
-use Rattle.dmx_calls.proofs.LawsHold.{demux_accounted, dvr_accounted}
 use Rattle.client_script.specs.Grammar.{IsInRange}
 use Rattle.client_script.specs.Script.{clients_of, clients_in}
 use Rattle.client_script.specs.declared.line.Line.{Line}
 use Rattle.client_script.specs.declared.line.Line.TheVariants.{Feed, Tick, Command}
 use Rattle.client_core.specs.declared.event.Event.{Event}
-use Rattle.client_core.specs.declared.event.Request.{Request}
-use Rattle.client_core.specs.declared.event.Request.TheVariants.{Own}
-use Rattle.client_script.specs.declared.line.Want.TheVariants.{Open}
 use Rattle.client_core.specs.Commands.{call_of}
 use Rattle.client_core.specs.Events.{next_event}
 use Rattle.script_run.specs.IsRun.{IsFed, HasDone, feeding, steps_of}
 use Rattle.client_core.proofs.Numbering.{next_is_numbered}
+use Rattle.script_run.proofs.Ending.{accounted_at}
+use Rattle.script_run.proofs.Events.{no_pass, of_stream}
 use Rattle.serial_core.specs.Nodes.{uncalled, history_of, answer_by, answered}
 use Rattle.serial_core.specs.SerialRun.{Run, begun, fed_to_all, passed, ended, ticked, all_passed, node_at, replies_of, reply_to, called, after_waiting, IsSerialRun}
-use Rattle.serial_core.specs.Ran.{histories_in}
+use Rattle.serial_core.specs.Left.{histories_in}
 use Rattle.serial_core.specs.Runs.{IsAccountedRun, SerialRunsAreRuns}
 use Rattle.serial_core.proofs.Logs.{fed_at, called_at, IsCalledAt, entries_of, entries_at, entry_for, entries_answered, histories_get, histories_is}
 use Rattle.serial_core.proofs.Sound.{IsSound, sound_answered, sound_placed, sound_filled}
@@ -53,10 +50,6 @@ few_clients [] m le ranges = le
 few_clients (line ∷ lines) m le ranges = few_clients lines (max m (clients_of line)) (omega (arith, le, few_in line (All-head IsInRange line lines ranges))) (All-tail IsInRange line lines ranges)
 
 -- ------ steps
-
-of_stream : (packets : List (List ℕ)) (w : Request) (now : ℕ) → IsOfStream packets (call_of w now)
-of_stream packets (Own Open) now = tt
-of_stream packets _ now = tt
 
 module _ (lines : List Line) (batch : ℕ) (packets : List (List ℕ)) (clients : ℕ) (few : clients ≤ 8) (ranges : All IsInRange lines) where
   pub record IsSoFar (r : Run) : Type 0 where
@@ -143,7 +136,7 @@ module _ (lines : List Line) (batch : ℕ) (packets : List (List ℕ)) (clients 
 
     call_sound : (node : ℕ) → node ≤ DEMUX_NODES → IsCalledAt client e r node → IsSound packets clients node (node_at node after)
     call_sound node le (inl here) =
-        subst (IsSound packets clients node) (sym here.1) (sound_answered packets clients node (node_at node r) (client + 1) e.step c (omega (arith, lt)) (of_stream packets e.want r.moment) (p.sound node le))
+        subst (IsSound packets clients node) (sym here.1) (sound_answered packets clients node (node_at node r) (client + 1) e.step c (omega (arith, lt)) (of_stream packets c (no_pass e.want r.moment)) (p.sound node le))
     call_sound node le (inr there) = subst (IsSound packets clients node) (sym there.1) (p.sound node le)
 
     -- the log of a node has the call's entry behind it, or is the same
@@ -278,13 +271,6 @@ module _ (lines : List Line) (batch : ℕ) (packets : List (List ℕ)) (clients 
       only : (node place : ℕ) (h : List LogEntry) (e : LogEntry) → (node ≤ DEMUX_NODES) × (entries_at node r ≡ h) → slice_get h place ≡ Some e → e.who ≡ client + 1 → slice_get m.made e.step ≡ Some e
       only node place h e w is mine = m.only node place e w.0 (subst (λ l. slice_get l place ≡ Some e) (sym w.1) is) mine
 
-    run_accounted : (node : ℕ) (h : List LogEntry) → slice_get (histories_in r) node ≡ Some h → IsAccounted (rules_at node) (filled packets h)
-    unfolding rules_at
-    run_accounted node h log = go (nat_lt node DEMUX_NODES) (run_legal node h log) where
-      go : (b : Bool) → IsLegalFor (if b then demux else dvr) (filled packets h) → IsAccounted (if b then demux else dvr) (filled packets h)
-      go true legal = demux_accounted (filled packets h) legal
-      go false legal = dvr_accounted (filled packets h) legal
-
 ended_over : (r : Run) → (ended r).has_ended ≡ true
 ended_over r = go r.has_ended refl where
   go : (b : Bool) → r.has_ended ≡ b → (if b then r else record (fed_to_all call.End r) { has_ended = true }).has_ended ≡ true
@@ -308,5 +294,5 @@ are_runs lines batch packets t ranges one run =
           clients_done = run_done lines batch packets (clients_in lines) few ranges r p through over;
         };
         replies = λ client lt. (p.made client lt).same;
-        accounted = run_accounted lines batch packets (clients_in lines) few ranges r p through over;
+        accounted = λ node h log. accounted_at node (filled packets h) (run_legal lines batch packets (clients_in lines) few ranges r p through over node h log);
       }

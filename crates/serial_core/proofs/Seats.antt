@@ -20,6 +20,7 @@ use Rattle.serial_core.specs.declared.node.AnyCore.{AnyCore}
 use Rattle.serial_core.specs.declared.node.AnyCore.TheVariants.{Demux, Dvr}
 use Rattle.serial_core.specs.Nodes.{Node, Told, history_in, history_of, uncalled, answer_by, answered, log_in, log_of}
 use Rattle.serial_core.specs.Inside.Standing.{IsFeeding, IsSeat, StandsAt, entries_in}
+use Rattle.serial_core.proofs.Logs.{log_number}
 
 -- ------ the feeder's calls are answered Passed
 
@@ -47,10 +48,6 @@ unfolding answer
 is_passed node h who c is = passed_by node.kind (facts node h) (facts node (with_call h who c)) who c is
 
 -- ------ the log of a node
-
-log_node : (number : ℕ) (calls : List Told) → (log_in number calls).node ≡ number
-log_node number [] = refl
-log_node number (told ∷ calls) = log_node number calls
 
 log_length : (number : ℕ) (calls : List Told) → length (log_in number calls).entries ≡ length (history_in calls)
 log_length number [] = refl
@@ -91,7 +88,7 @@ seat_fed acts old new n c feeding node entries core at =
     ∙ ap (λ es. es ++ feeder_entry n.number (length es) (length acts) (act_of c) ∷ []) at.log in
     let said : feeder_entry n.number (length all) (length acts) (act_of c)
     ≡ record { node = (log_of n).node; place = length all; step = length acts; who = 0; act = act_of c; response = answer_by 0 c n } =
-    same_entry _ _ (sym (log_node n.number n.calls)) refl refl refl refl (sym (is_passed (rules_at n.number) (history_of n) 0 c feeding)) in
+    same_entry _ _ (sym (log_number n.number n.calls)) refl refl refl refl (sym (is_passed (rules_at n.number) (history_of n) 0 c feeding)) in
     record {
       core = core;
       number = node ∙ at.number;
@@ -110,7 +107,7 @@ seat_called acts old new n who step c e node entries on place steps by act respo
     let next : woven n.number acts (map told_entry old.entries.items ++ told_entry e ∷ []) ≡ all ++ told_entry e ∷ [] =
     woven-call n.number acts (map told_entry old.entries.items) (told_entry e) (here ∙ ap length (sym at.log)) ∙ ap (λ es. es ++ told_entry e ∷ []) at.log in
     let said : told_entry e ≡ record { node = (log_of n).node; place = length all; step = step; who = who; act = act_of c; response = answer_by who c n } =
-    same_entry _ _ (on ∙ (at.number ∙ sym (log_node n.number n.calls))) here steps by act response in
+    same_entry _ _ (on ∙ (at.number ∙ sym (log_number n.number n.calls))) here steps by act response in
     let own : map told_entry new.entries.items ≡ map told_entry old.entries.items ++ told_entry e ∷ [] = ap (map told_entry) entries ∙ map-append told_entry old.entries.items (e ∷ []) in
     record {
       core = core;

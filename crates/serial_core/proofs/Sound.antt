@@ -1,5 +1,5 @@
 -- Each node's history is legal, finds memory, and brings packets of the stream; and its log tells it.
-use Rattle.std.proofs.Common.{◌≡◌, ◌≢◌, refl, sym, ap, subst, ◌∙◌, ℕ, ◌≤◌, Bool, true, false, nat_eq, List, [], ◌∷◌, Option, Some, None, length, map, reverse, ◌⊎◌, inl, inr}
+use Rattle.std.proofs.Common.{◌≡◌, ◌≢◌, refl, sym, ap, subst, ◌∙◌, ℕ, ◌≤◌, Bool, true, false, nat_eq, List, [], ◌∷◌, Option, Some, None, length, map, reverse, inl, inr}
 use Rattle.std.specs.Prelude.{if◌then◌else◌, slice_get}
 use Rattle.std.proofs.lemmas.List.{map-append, reverse-append}
 use Rattle.dmx_calls.specs.declared.reply.Errno.{Errno}
@@ -16,7 +16,8 @@ use Rattle.dmx_calls.specs.Log.{LogEntry, IsOfStream, act_of, filled_entry, fill
 use Rattle.dmx_calls.proofs.Reading.{read_each}
 use Rattle.dmx_calls.proofs.Telling.{fills}
 use Rattle.serial_core.specs.Nodes.{Told, Node, history_in, history_of, answered, log_in}
-use Rattle.serial_core.proofs.Logs.{get_cases, entries_of}
+use Rattle.lemmas.proofs.Lists.{at_end}
+use Rattle.serial_core.proofs.Logs.{entries_of, log_number}
 
 -- ------ an answer is never want of memory
 
@@ -92,19 +93,23 @@ module _ (packets : List (List ℕ)) (clients : ℕ) where
   abbrev pub IsPlaced : (number place : ℕ) → LogEntry → Type 0
   IsPlaced number place e = (e.node ≡ number) × (e.place ≡ place) × (e.who ≤ clients) × (e.response ≢ NoMemory)
 
+  -- the entry of a call on the node of this number, behind those before it
+  abbrev last_in : (number : ℕ) → Told → List Told → LogEntry
+  last_in number told calls = record {
+    node = (log_in number calls).node;
+    place = length (log_in number calls).entries;
+    step = told.step;
+    who = told.entry.who;
+    act = act_of told.entry.invocation;
+    response = told.entry.response;
+  }
+
   placed : (number : ℕ) (calls : List Told) → AreGood calls → (place : ℕ) (e : LogEntry) → slice_get (log_in number calls).entries place ≡ Some e → IsPlaced number place e
   placed number [] good place e is = absurd (cc)
-  placed number (told ∷ calls) good place e is =
-      go (placed number calls good.0 place e) (get_cases (log_in number calls).entries
-      (record { node = (log_in number calls).node; place = length (log_in number calls).entries; step = told.step; who = told.entry.who; act = act_of told.entry.invocation; response = told.entry.response }) place e is) where
-        same_number : (cs : List Told) → (log_in number cs).node ≡ number
-        same_number [] = refl
-        same_number (t ∷ cs) = same_number cs
-
-        go : (slice_get (log_in number calls).entries place ≡ Some e → IsPlaced number place e) → (slice_get (log_in number calls).entries place ≡ Some e) ⊎ (place ≡ length (log_in number calls).entries)
-            × (record { node = (log_in number calls).node; place = length (log_in number calls).entries; step = told.step; who = told.entry.who; act = act_of told.entry.invocation; response = told.entry.response } ≡ e) → IsPlaced number place e
-        go before (inl old) = before old
-        go before (inr new) = subst (IsPlaced number place) new.1 (same_number calls, sym new.0, good.1, good.2)
+  placed number (told ∷ calls) good place e is = elim (at_end (log_in number calls).entries (last_in number told calls) e place is) [
+    | inl old ↦ placed number calls good.0 place e old
+    | inr new ↦ subst (IsPlaced number place) new.1 (log_number number calls, sym new.0, good.1, good.2)
+  ]
 
   pub sound_placed : (node : ℕ) (n : Node) → IsSound node n → (place : ℕ) (e : LogEntry) → slice_get (entries_of n) place ≡ Some e → IsPlaced node place e
   sound_placed node n s place e is = subst (λ k. IsPlaced k place e) s.number (placed n.number n.calls s.good place e is)
@@ -113,7 +118,7 @@ module _ (packets : List (List ℕ)) (clients : ℕ) where
   fills_log : (number : ℕ) (calls : List Told) → AreGood calls → filled packets (log_in number calls).entries ≡ history_in calls
   fills_log number [] good = refl
   fills_log number (told ∷ calls) good =
-      let x : LogEntry = record { node = (log_in number calls).node; place = length (log_in number calls).entries; step = told.step; who = told.entry.who; act = act_of told.entry.invocation; response = told.entry.response } in
+      let x : LogEntry = last_in number told calls in
       ap reverse (map-append (filled_entry packets) (log_in number calls).entries (x ∷ []))
       ∙ reverse-append (map (filled_entry packets) (log_in number calls).entries) (filled_entry packets x ∷ [])
       ∙ ap (λ h. filled_entry packets x ∷ h) (fills_log number calls good.0)

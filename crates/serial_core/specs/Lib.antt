@@ -3,6 +3,6 @@ pub mod SerialRun
 pub mod Laws
 pub mod Examples
 pub mod Budget
-pub mod Ran
+pub mod Left
 pub mod Runs
 pub mod Inside

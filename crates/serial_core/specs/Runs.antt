@@ -8,7 +8,7 @@ use Rattle.client_script.specs.Grammar.{IsInRange}
 use Rattle.client_script.specs.Script.{clients_in}
 use Rattle.client_script.specs.declared.line.Line.{Line}
 use Rattle.script_run.specs.IsRun.{IsRun, replies}
-use Rattle.serial_core.specs.Ran.{histories_in}
+use Rattle.serial_core.specs.Left.{histories_in}
 use Rattle.serial_core.specs.SerialRun.{Run, replies_of, IsSerialRun}
 
 -- The histories of the nodes are those of a run of the script, and each is accounted. A client's replies are

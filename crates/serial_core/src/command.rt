@@ -24,7 +24,7 @@ impl Runner {
         steps: &mut Steps<L>,
     ) -> Result<(), NoMemory>
         requires ready { IsReady batch (S.end source.old) self.old }
-        requires made { MadeAtMost self.old 8796093022208 }
+        requires made { MadeAtMost self.old (2 ^ 43) }
         ensures moves { OnOk result (Moves (S.end source.old) (S.end source.new) self.old self.new
             (λ r s. (client : ℕ) (lines : List ScriptLine) → IsAfter client lines (replies_of client r) core.now → s ≡ after_waiting lines batch client r)) }
         ensures draws { OnErr result (HasDrawn (S.end source.old) (S.end source.new) self.old.puller self.new.puller) }
@@ -48,7 +48,7 @@ impl Runner {
         steps: &mut Steps<L>,
     ) -> Result<(), NoMemory>
         requires ready { IsReady batch (S.end source.old) self.old }
-        requires made { MadeAtMost self.old 8796093022208 }
+        requires made { MadeAtMost self.old (2 ^ 43) }
         requires client { client < 8 }
         requires node { event.node ≤ nodes }
         requires range { IsRequestInRange event.want }
@@ -78,16 +78,16 @@ impl Runner {
         steps: &mut Steps<L>,
     ) -> Result<(), Stop>
         requires ready { IsReady batch (S.end source.old) self.old }
-        requires made { MadeAtMost self.old (core.old.step + 4398046511104) }
+        requires made { MadeAtMost self.old (core.old.step + 2 ^ 42) }
         requires client { client < 8 }
-        requires calls { core.old.step ≤ 549755813888 }
+        requires calls { core.old.step ≤ 2 ^ 39 }
         ensures moves { OnOk result (Moves (S.end source.old) (S.end source.new) self.old self.new (IsDoneBy batch client line core.old core.new)) }
         ensures draws { OnErr result (HasDrawn (S.end source.old) (S.end source.new) self.old.puller self.new.puller) }
-        ensures too_long { (turns : ℕ) → IsErrOf result (Stop.TooLong turns) → (turns ≡ 549755813888) × (549755813888 ≤ core.new.step)
+        ensures too_long { (turns : ℕ) → IsErrOf result (Stop.TooLong turns) → (turns ≡ 2 ^ 39) × (2 ^ 39 ≤ core.new.step)
             × Moves (S.end source.old) (S.end source.new) self.old self.new (ComesBy batch client line core.old core.new) }
         ensures moment { OnOk result (self.new.moment ≡ self.old.moment) }
         ensures made { OnOk result ((calls : ℕ) → MadeAtMost self.old (core.old.step + calls) → MadeAtMost self.new (core.new.step + calls)) }
-        ensures calls { OnOk result (core.new.step ≤ 549755813888) }
+        ensures calls { OnOk result (core.new.step ≤ 2 ^ 39) }
     {
         'calls: while let Some(event) = core.next_at(line) {
             if core.steps() >= MOST_CALLS {

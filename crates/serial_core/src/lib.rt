@@ -41,4 +41,4 @@ pub use laws::{
     serial_histories_are_legal, the_serial_run_is_a_run, the_serial_run_is_one,
     what_is_tried_is_the_run,
 };
-pub use run::{Ran, run_steps};
+pub use run::{Left, run_steps};

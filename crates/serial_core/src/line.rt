@@ -30,7 +30,7 @@ impl Runner {
         requires calls { AreInBudget cores.old }
         ensures moves { OnOk result (Moves (S.end source.old) (S.end source.new) self.old self.new (IsLineBy batch asked cores.old cores.new)) }
         ensures draws { OnErr result (HasDrawn (S.end source.old) (S.end source.new) self.old.puller self.new.puller) }
-        ensures too_long { (turns : ℕ) → IsErrOf result (Stop.TooLong turns) → (turns ≡ 549755813888)
+        ensures too_long { (turns : ℕ) → IsErrOf result (Stop.TooLong turns) → (turns ≡ 2 ^ 39)
             × Moves (S.end source.old) (S.end source.new) self.old self.new (OverrunsBy cores.old) }
         ensures made { OnOk result (MadeAtMost self.new (calls_by cores.new)) }
         ensures calls { OnOk result (AreInBudget cores.new) }
@@ -66,9 +66,9 @@ impl Runner {
         requires begins { MayBegin lines.now cores.old self.old }
         ensures moves { OnOk result (Moves (S.end source.old) (S.end source.new) self.old self.new (IsFrontBy batch lines.now (length lines.now) cores.old cores.new)) }
         ensures draws { OnErr result (HasDrawn (S.end source.old) (S.end source.new) self.old.puller self.new.puller) }
-        ensures too_long { (turns : ℕ) → IsErrOf result (Stop.TooLong turns) → (turns ≡ 549755813888)
+        ensures too_long { (turns : ℕ) → IsErrOf result (Stop.TooLong turns) → (turns ≡ 2 ^ 39)
             × Moves (S.end source.old) (S.end source.new) self.old self.new (λ r s. length r.replies ≡ 8 → AreAfter lines.now r cores.old → Overruns lines.now r s) }
-        ensures made { OnOk result (MadeAtMost self.new 4398046511104) }
+        ensures made { OnOk result (MadeAtMost self.new (2 ^ 42)) }
     {
         'lines: for line in lines {
             self.line(source, batch, cores, *line, steps)?;
@@ -89,7 +89,7 @@ impl Runner {
         requires begins { MayBegin lines.now cores.old self.old }
         ensures moves { OnOk result (Moves (S.end source.old) (S.end source.new) self.old self.new (IsWholeBy batch lines.now cores.old cores.new)) }
         ensures draws { OnErr result (HasDrawn (S.end source.old) (S.end source.new) self.old.puller self.new.puller) }
-        ensures too_long { (turns : ℕ) → IsErrOf result (Stop.TooLong turns) → (turns ≡ 549755813888)
+        ensures too_long { (turns : ℕ) → IsErrOf result (Stop.TooLong turns) → (turns ≡ 2 ^ 39)
             × Moves (S.end source.old) (S.end source.new) self.old self.new (λ r s. length r.replies ≡ 8 → AreAfter lines.now r cores.old → Overruns lines.now r s) }
         ensures ended { OnOk result (self.new.nodes.has_ended ≡ true) }
     {

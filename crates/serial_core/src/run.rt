@@ -13,7 +13,7 @@ ghost use Rattle.serial_core.specs.Inside.Lines.{AreAfter};
 ghost use Rattle.serial_core.specs.Inside.Moving.{IsSound};
 ghost use Rattle.feed_pull.specs.Streams.{Draws, OfStream};
 ghost use Rattle.serial_core.specs.SerialRun.{Run, replies_of};
-ghost use Rattle.serial_core.specs.Ran.{AreFreshCores, IsFreshRunner, IsRanOf, histories_in};
+ghost use Rattle.serial_core.specs.Left.{AreFreshCores, IsFreshRunner, IsLeftBy, histories_in};
 ghost use Rattle.script_run.specs.Budget.{IsTooLong};
 ghost use Rattle.serial_core.specs.Inside.Legal.{AreLegal};
 ghost use Rattle.serial_core.specs.Inside.Standing.{IsNodes};
@@ -33,7 +33,7 @@ use ts_watch::Head;
 
 /// What a run of one thread leaves.
 #[derive(Drop)]
-pub struct Ran {
+pub struct Left {
     /// The histories of the 33 nodes.
     pub histories: Histories,
     /// The outcomes of each client's commands.
@@ -66,16 +66,16 @@ fn outcomes_of(alloc: Global, cores: &[ClientCore]) -> Result<Vec<Vec<Outcome>>,
 }
 
 // What a run leaves that is at its end.
-fn ran_of(alloc: Global, runner: Runner, cores: &[ClientCore]) -> Result<Ran, Stop>
+fn left_by(alloc: Global, runner: Runner, cores: &[ClientCore]) -> Result<Left, Stop>
     requires sound { IsSound runner }
     requires ended { runner.nodes.has_ended ≡ true }
-    ensures histories { IfOk result (λ ran. (r : Run) → IsNodes runner.nodes r → AreLegal r → ran.histories ≡ histories_in r) }
-    ensures outcomes { IfOk result (λ ran. (lines : List ScriptLine) (r : Run) → AreAfter lines r cores.now
-        → map (λ those. those.items) ran.outcomes.items ≡ map (λ client. outcomes client lines (replies_of client r)) (range_with_len 0 (length cores.now))) }
-    ensures head { IfOk result (λ ran. (ahead taken : List ℕ) (given : List (List ℕ)) → Pulls ahead taken given runner.puller → told_head ran.head ≡ head_of (ahead ++ taken) ran.head.read_fault) }
-    ensures fault { IfOk result (λ ran. ran.head.read_fault ≡ has_failed runner.puller.reading) }
-    ensures well { IfOk result (λ ran. runner.puller.reading ≢ TooMany) }
-    ensures too_long { (turns : ℕ) → IsErrOf result (Stop.TooLong turns) → (turns ≡ 4294967296) × (4294967296 ≤ runner.puller.start + runner.puller.taken) }
+    ensures histories { IfOk result (λ left. (r : Run) → IsNodes runner.nodes r → AreLegal r → left.histories ≡ histories_in r) }
+    ensures outcomes { IfOk result (λ left. (lines : List ScriptLine) (r : Run) → AreAfter lines r cores.now
+        → map (λ those. those.items) left.outcomes.items ≡ map (λ client. outcomes client lines (replies_of client r)) (range_with_len 0 (length cores.now))) }
+    ensures head { IfOk result (λ left. (ahead taken : List ℕ) (given : List (List ℕ)) → Pulls ahead taken given runner.puller → told_head left.head ≡ head_of (ahead ++ taken) left.head.read_fault) }
+    ensures fault { IfOk result (λ left. left.head.read_fault ≡ has_failed runner.puller.reading) }
+    ensures well { IfOk result (λ left. runner.puller.reading ≢ TooMany) }
+    ensures too_long { (turns : ℕ) → IsErrOf result (Stop.TooLong turns) → (turns ≡ 2 ^ 32) × (2 ^ 32 ≤ runner.puller.start + runner.puller.taken) }
 {
     let Runner { nodes, puller, .. } = runner;
     if let Some(PullFault::TooLong { turns }) = puller.fault() {
@@ -84,7 +84,7 @@ fn ran_of(alloc: Global, runner: Runner, cores: &[ClientCore]) -> Result<Ran, St
     let head = puller.head(alloc)?;
     let histories = nodes.into_histories()?;
     let outcomes = outcomes_of(alloc, cores)?;
-    Ok(Ran {
+    Ok(Left {
         histories,
         outcomes,
         head,
@@ -100,7 +100,7 @@ fn run_over<S: Source, L: Ledger>(
     batch: u32,
     cores: &mut [ClientCore],
     blank: Blank,
-) -> Result<Ran, Stop>
+) -> Result<Left, Stop>
     requires name { blank.name ≡ L.name }
     requires parts { blank.parts ≡ L.parts }
     requires counter { 0 < blank.parts }
@@ -110,18 +110,18 @@ fn run_over<S: Source, L: Ledger>(
     requires fresh { AreFreshCores script.now cores.old }
     requires going { runner.puller.reading ≡ Going }
     requires faults { (S.end source.old).faults < 2 ^ 64 - 1 }
-    ensures ran { IfOk result (λ ran. OfStream (S.end source.old) (S.end source.new) runner.puller (λ ahead taken. IsRanOf script.now batch (ahead ++ taken) ran)) }
-    ensures rose { IfOk result (λ ran. IsTrue ran.head.read_fault ↔ ((S.end source.old).faults < (S.end source.new).faults)) }
+    ensures left { IfOk result (λ left. OfStream (S.end source.old) (S.end source.new) runner.puller (λ ahead taken. IsLeftBy script.now batch (ahead ++ taken) left)) }
+    ensures rose { IfOk result (λ left. IsTrue left.head.read_fault ↔ ((S.end source.old).faults < (S.end source.new).faults)) }
     ensures later { IfOk result (λ _. (S.end source.old).faults ≤ (S.end source.new).faults) }
     ensures once { (S.end source.new).faults ≤ (S.end source.old).faults + 1 }
-    ensures end { IfOk result (λ ran. ran.head.read_fault ≡ false → IsAtEnd (S.end source.new).left) }
+    ensures end { IfOk result (λ left. left.head.read_fault ≡ false → IsAtEnd (S.end source.new).left) }
     ensures too_long { (turns : ℕ) → IsErrOf result (Stop.TooLong turns) → OfStream (S.end source.old) (S.end source.new) runner.puller (IsTooLong script.now runner.puller.start turns) }
     ensures draws { OnErr result ((packets : List (List ℕ)) × ((last : Pulling) × Draws (S.end source.old) (S.end source.new) runner.puller last packets)) }
 {
     let mut steps = Steps::<L>::new(blank);
     let mut runner = runner;
     match runner.whole(source, batch, cores, script.lines(), &mut steps) {
-        Ok(()) => ran_of(alloc, runner, cores),
+        Ok(()) => left_by(alloc, runner, cores),
         Err(stop) => Err(stop),
     }
 }
@@ -141,20 +141,20 @@ pub fn run_steps<S: Source>(
     source: &mut S,
     puller: Puller,
     batch: u32,
-) -> Result<Ran, Stop>
+) -> Result<Left, Stop>
     requires some { 1 ≤ batch }
     requires few { batch ≤ 64 }
     requires going { puller.reading ≡ Going }
     requires fresh { puller.given ≡ 0 }
     requires faults { (S.end source.old).faults < 2 ^ 64 - 1 }
     // The histories, the outcomes and the head are those of the serial run, which is the only one.
-    ensures ran { IfOk result (λ ran. OfStream (S.end source.old) (S.end source.new) puller (λ ahead taken. IsRanOf script.now batch (ahead ++ taken) ran)) }
+    ensures left { IfOk result (λ left. OfStream (S.end source.old) (S.end source.new) puller (λ ahead taken. IsLeftBy script.now batch (ahead ++ taken) left)) }
     // The source failed exactly where its count rose; else it has nothing left.
-    ensures rose { IfOk result (λ ran. IsTrue ran.head.read_fault ↔ ((S.end source.old).faults < (S.end source.new).faults)) }
+    ensures rose { IfOk result (λ left. IsTrue left.head.read_fault ↔ ((S.end source.old).faults < (S.end source.new).faults)) }
     ensures later { IfOk result (λ _. (S.end source.old).faults ≤ (S.end source.new).faults) }
     // At most one read has failed: after it nothing more is read, however the run ends.
     ensures once { (S.end source.new).faults ≤ (S.end source.old).faults + 1 }
-    ensures end { IfOk result (λ ran. ran.head.read_fault ≡ false → IsAtEnd (S.end source.new).left) }
+    ensures end { IfOk result (λ left. left.head.read_fault ≡ false → IsAtEnd (S.end source.new).left) }
     ensures too_long { (turns : ℕ) → IsErrOf result (Stop.TooLong turns) → OfStream (S.end source.old) (S.end source.new) puller (IsTooLong script.now puller.start turns) }
     // What was taken of the source where the run stopped, as the puller's pulls tell it.
     ensures draws { OnErr result ((packets : List (List ℕ)) × ((last : Pulling) × Draws (S.end source.old) (S.end source.new) puller last packets)) }

@@ -28,7 +28,7 @@ impl Runner {
         steps: &mut Steps<L>,
     ) -> Result<u32, NoMemory>
         requires ready { IsReady most (S.end source.old) self.old }
-        requires made { MadeAtMost self.old 8796093022208 }
+        requires made { MadeAtMost self.old (2 ^ 43) }
         ensures moves { IfOk result (λ n. Moves (S.end source.old) (S.end source.new) self.old self.new
             (λ r s. (s ≡ turned most r) × (n ≡ min most (length r.left)))) }
         ensures draws { OnErr result (HasDrawn (S.end source.old) (S.end source.new) self.old.puller self.new.puller) }
@@ -62,7 +62,7 @@ impl Runner {
         steps: &mut Steps<L>,
     ) -> Result<(), NoMemory>
         requires ready { IsReady batch (S.end source.old) self.old }
-        requires made { MadeAtMost self.old 8796093022208 }
+        requires made { MadeAtMost self.old (2 ^ 43) }
         ensures moves { OnOk result (Moves (S.end source.old) (S.end source.new) self.old self.new (λ r s. s ≡ fed batch count r)) }
         ensures draws { OnErr result (HasDrawn (S.end source.old) (S.end source.new) self.old.puller self.new.puller) }
         ensures made { OnOk result ((calls : ℕ) → MadeAtMost self.old calls → MadeAtMost self.new calls) }
@@ -87,7 +87,7 @@ impl Runner {
         steps: &mut Steps<L>,
     ) -> Result<(), NoMemory>
         requires ready { IsReady batch (S.end source.old) self.old }
-        requires made { MadeAtMost self.old 8796093022208 }
+        requires made { MadeAtMost self.old (2 ^ 43) }
         ensures moves { OnOk result (Moves (S.end source.old) (S.end source.new) self.old self.new (λ r s. s ≡ finished batch r)) }
         ensures draws { OnErr result (HasDrawn (S.end source.old) (S.end source.new) self.old.puller self.new.puller) }
         ensures ended { OnOk result (self.new.nodes.has_ended ≡ true) }

@@ -1,5 +1,5 @@
 -- How the lines of a script bring the code and the run further.
-use Rattle.std.specs.Prelude.{◌≡◌, ℕ, ◌≤◌, ◌<◌, List, ◌∷◌, length, drop, sum_by, slice_index_or, All}
+use Rattle.std.specs.Prelude.{◌^◌, ◌≡◌, ℕ, ◌≤◌, ◌<◌, List, ◌∷◌, length, drop, sum_by, slice_index_or, All}
 use Rattle.client_script.specs.Script.{clients_of, most_bytes}
 use Rattle.client_script.specs.declared.line.Line.{Line}
 use Rattle.client_core.specs.Inside.Core.{Core, IsAfter}
@@ -19,7 +19,7 @@ calls_by cores = sum_by (λ core. core.step) cores
 
 -- none has made more calls than a client may
 abbrev pub AreInBudget : List Core → Type 0
-AreInBudget cores = All (λ core. core.step ≤ 549755813888) cores
+AreInBudget cores = All (λ core. core.step ≤ 2 ^ 39) cores
 
 -- What holds before the first of these lines: no time has gone by, each client that a line
 -- names has a core, and few calls were made.
@@ -53,7 +53,7 @@ IsFrontBy batch lines count old new r s =
 -- a client has made as many calls as it may
 pub record Overruns (lines : List Line) (first now : Run) : Type 0 where
   pub client : ℕ
-  pub calls : 549755813888 ≤ length (replies_of client now)
+  pub calls : 2 ^ 39 ≤ length (replies_of client now)
   pub paid : (packets : List (List ℕ)) → IsPaid lines packets first → IsPaid lines packets now
 
 abbrev pub OverrunsBy : List Core → Run → Run → Type 0

@@ -29,7 +29,7 @@ turns_of v = v.puller.given + one_if v.nodes.has_ended
 pub record IsSound (v : Runner) : Type 0 where
   pub ended : v.nodes.has_ended ≡ true → IsDone v.puller
   pub counted : AreCounted v.nodes
-  pub given : v.puller.given ≤ 2199023255552
+  pub given : v.puller.given ≤ 2 ^ 41
 
 -- ------ going on
 

@@ -1,4 +1,4 @@
-use Rattle.std.proofs.Common.{◌≡◌, ◌≢◌, sym, ap, ◌∙◌, ℕ, ◌+◌, ◌≤◌, List, ◌++◌, length, map, Err, inl, inr, true, false, arith}
+use Rattle.std.proofs.Common.{◌^◌, ◌≡◌, ◌≢◌, sym, ap, ◌∙◌, ℕ, ◌+◌, ◌≤◌, List, ◌++◌, length, map, Err, inl, inr, true, false, arith}
 use Rattle.std.specs.List.{range_with_len}
 use Rattle.client_script.specs.declared.line.Line.{Line}
 use Rattle.client_core.specs.Events.{outcomes}
@@ -7,59 +7,60 @@ use Rattle.ts_watch.specs.Head.{told_head, head_of}
 use Rattle.feed_pull.specs.declared.fault.Reading.TheVariants.{TooMany}
 use Rattle.client_core.specs.declared.stop.Stop.TheVariants.{TooLong}
 use Rattle.script_run.specs.Budget.{most_calls, all_commands, IsTooLong}
-use Rattle.serial_core.specs.declared.run.Ran.{Ran}
+use Rattle.script_run.proofs.Clients.{clients_within}
+use Rattle.serial_core.specs.declared.run.Left.{Left}
 use Rattle.serial_core.specs.SerialRun.{Run, replies_of}
 use Rattle.serial_core.specs.Inside.Legal.{AreLegal}
 use Rattle.serial_core.specs.Inside.Lines.{AreAfter}
 use Rattle.serial_core.specs.Inside.Standing.{IsNodes}
-use Rattle.serial_core.specs.Ran.{histories_in}
-use Rattle.serial_core.proofs.Ending.{ran_is, overrun_is, clients_within, ok_by}
+use Rattle.serial_core.specs.Left.{histories_in}
+use Rattle.serial_core.proofs.Ending.{left_is, overrun_is, ok_by}
 use Rattle.feed_pull.proofs.Stopping.{on_err, rose_by, end_by, many_reads, of_stream}
 use Rattle.serial_core.proofs.run.run_over.Goals as goal
 
-pub returns-in-Ok-clause-ran : goal.returns-in-Ok-clause-ran
-returns-in-Ok-clause-ran g c =
+pub returns-in-Ok-clause-left : goal.returns-in-Ok-clause-left
+returns-in-Ok-clause-left g c =
     let w = c.in-Ok.ensures in
     let done = w.moves.sound.ended w.ended in
-    ok_by c.ran_of.result _ _ _ _
-    (λ (ran : Ran) (a : (r : Run) → IsNodes c.whole.new.self.nodes r → AreLegal r → ran.histories ≡ histories_in r)
-    (b : (ls : List Line) (r : Run) → AreAfter ls r c.whole.new.cores → map (λ those. those.items) ran.outcomes.items ≡ map (λ client. outcomes client ls (replies_of client r)) (range_with_len 0 (length c.whole.new.cores)))
-    (h : (ahead taken : List ℕ) (given : List (List ℕ)) → Pulls ahead taken given c.whole.new.self.puller → told_head ran.head ≡ head_of (ahead ++ taken) ran.head.read_fault).
-    ran_is c.args.script.now c.args.batch _ _ c.args.runner c.whole.new.self c.args.cores.now c.requires.begun c.requires.fresh c.whole.new.cores ran c.whole.auto.cores (rw c.lines.ensures.lines at w.moves) done w.ended a b h)
-    c.ran_of.ensures.histories c.ran_of.ensures.outcomes c.ran_of.ensures.head
+    ok_by c.left_by.result _ _ _ _
+    (λ (left : Left) (a : (r : Run) → IsNodes c.whole.new.self.nodes r → AreLegal r → left.histories ≡ histories_in r)
+    (b : (ls : List Line) (r : Run) → AreAfter ls r c.whole.new.cores → map (λ those. those.items) left.outcomes.items ≡ map (λ client. outcomes client ls (replies_of client r)) (range_with_len 0 (length c.whole.new.cores)))
+    (h : (ahead taken : List ℕ) (given : List (List ℕ)) → Pulls ahead taken given c.whole.new.self.puller → told_head left.head ≡ head_of (ahead ++ taken) left.head.read_fault).
+    left_is c.args.script.now c.args.batch _ _ c.args.runner c.whole.new.self c.args.cores.now c.requires.begun c.requires.fresh c.whole.new.cores left c.whole.auto.cores (rw c.lines.ensures.lines at w.moves) done w.ended a b h)
+    c.left_by.ensures.histories c.left_by.ensures.outcomes c.left_by.ensures.head
 
 pub returns-in-Ok-clause-rose : goal.returns-in-Ok-clause-rose
 returns-in-Ok-clause-rose g c =
     let w = c.in-Ok.ensures in
-    ok_by c.ran_of.result _ _ _ _
-    (λ (ran : Ran) (a : ran.head.read_fault ≡ has_failed c.whole.new.self.puller.reading) (b : ran.head.read_fault ≡ has_failed c.whole.new.self.puller.reading) (h : ran.head.read_fault ≡ has_failed c.whole.new.self.puller.reading).
-    rose_by ran.head.read_fault c.args.runner.puller.reading c.whole.new.self.puller.reading _ _ w.moves.draws.follows c.requires.going a)
-    c.ran_of.ensures.fault c.ran_of.ensures.fault c.ran_of.ensures.fault
+    ok_by c.left_by.result _ _ _ _
+    (λ (left : Left) (a : left.head.read_fault ≡ has_failed c.whole.new.self.puller.reading) (b : left.head.read_fault ≡ has_failed c.whole.new.self.puller.reading) (h : left.head.read_fault ≡ has_failed c.whole.new.self.puller.reading).
+    rose_by left.head.read_fault c.args.runner.puller.reading c.whole.new.self.puller.reading _ _ w.moves.draws.follows c.requires.going a)
+    c.left_by.ensures.fault c.left_by.ensures.fault c.left_by.ensures.fault
 
 pub returns-in-Ok-clause-end : goal.returns-in-Ok-clause-end
 returns-in-Ok-clause-end g c =
     let w = c.in-Ok.ensures in
     let done = w.moves.sound.ended w.ended in
-    ok_by c.ran_of.result _ _ _ _
-    (λ (ran : Ran) (a : ran.head.read_fault ≡ has_failed c.whole.new.self.puller.reading) (b : c.whole.new.self.puller.reading ≢ TooMany) (h : c.whole.new.self.puller.reading ≢ TooMany).
-    end_by ran.head.read_fault c.args.runner.puller.reading c.whole.new.self.puller.reading _ _ w.moves.draws.follows c.requires.going a done.stopped b)
-    c.ran_of.ensures.fault c.ran_of.ensures.well c.ran_of.ensures.well
+    ok_by c.left_by.result _ _ _ _
+    (λ (left : Left) (a : left.head.read_fault ≡ has_failed c.whole.new.self.puller.reading) (b : c.whole.new.self.puller.reading ≢ TooMany) (h : c.whole.new.self.puller.reading ≢ TooMany).
+    end_by left.head.read_fault c.args.runner.puller.reading c.whole.new.self.puller.reading _ _ w.moves.draws.follows c.requires.going a done.stopped b)
+    c.left_by.ensures.fault c.left_by.ensures.well c.left_by.ensures.well
 
 pub returns-in-Ok-clause-too_long : goal.returns-in-Ok-clause-too_long
 returns-in-Ok-clause-too_long g c turns is =
     let m = c.in-Ok.ensures.moves in
-    let k = c.ran_of.ensures.too_long turns is in
-    of_stream (g.S.Source.end c.args.source.now) (g.S.Source.end c.whole.new.source) c.args.runner.puller _ (IsTooLong c.args.script.now c.args.runner.puller.start turns) (λ ahead taken (q : 4294967296 ≤ c.args.runner.puller.start + length taken). inl (k.0, q))
+    let k = c.left_by.ensures.too_long turns is in
+    of_stream (g.S.Source.end c.args.source.now) (g.S.Source.end c.whole.new.source) c.args.runner.puller _ (IsTooLong c.args.script.now c.args.runner.puller.start turns) (λ ahead taken (q : 2 ^ 32 ≤ c.args.runner.puller.start + length taken). inl (k.0, q))
     (many_reads _ _ c.args.runner.puller c.whole.new.self.puller m.packets m.draws k.1)
 
 pub returns-in-Ok-clause-draws : goal.returns-in-Ok-clause-draws
-returns-in-Ok-clause-draws g c = let m = c.in-Ok.ensures.moves in on_err c.ran_of.result _ (m.packets, (c.whole.new.self.puller, m.draws))
+returns-in-Ok-clause-draws g c = let m = c.in-Ok.ensures.moves in on_err c.left_by.result _ (m.packets, (c.whole.new.self.puller, m.draws))
 
 pub returns-clause-too_long : goal.returns-clause-too_long
 returns-clause-too_long g c turns is =
     let same : c.in-Err.stop ≡ TooLong turns = cc in
     let k = c.whole.ensures.too_long turns (c.in-Err.is ∙ ap Err same) in
-    of_stream (g.S.Source.end c.args.source.now) (g.S.Source.end c.whole.new.source) c.args.runner.puller _ (IsTooLong c.args.script.now c.args.runner.puller.start turns) (λ ahead taken (q : 549755813888 ≤ most_calls (all_commands c.args.script.now) (length ahead + length taken)). inr (k.0, q))
+    of_stream (g.S.Source.end c.args.source.now) (g.S.Source.end c.whole.new.source) c.args.runner.puller _ (IsTooLong c.args.script.now c.args.runner.puller.start turns) (λ ahead taken (q : 2 ^ 39 ≤ most_calls (all_commands c.args.script.now) (length ahead + length taken)). inr (k.0, q))
     (overrun_is c.args.script.now c.args.batch _ _ c.args.runner c.whole.new.self c.args.cores.now c.requires.begun c.requires.fresh (rw c.lines.ensures.lines at k.1))
 
 pub returns-clause-draws : goal.returns-clause-draws
@@ -90,10 +91,10 @@ whole-requires-clause-begins g c = record {
 pub returns-in-Ok-clause-later : goal.returns-in-Ok-clause-later
 returns-in-Ok-clause-later g c =
     let w = c.in-Ok.ensures in
-    ok_by c.ran_of.result _ _ _ _
-    (λ (ran : Ran) (a : ran.head.read_fault ≡ has_failed c.whole.new.self.puller.reading) (b : ran.head.read_fault ≡ has_failed c.whole.new.self.puller.reading) (h : ran.head.read_fault ≡ has_failed c.whole.new.self.puller.reading).
+    ok_by c.left_by.result _ _ _ _
+    (λ (left : Left) (a : left.head.read_fault ≡ has_failed c.whole.new.self.puller.reading) (b : left.head.read_fault ≡ has_failed c.whole.new.self.puller.reading) (h : left.head.read_fault ≡ has_failed c.whole.new.self.puller.reading).
     w.moves.draws.follows.later)
-    c.ran_of.ensures.fault c.ran_of.ensures.fault c.ran_of.ensures.fault
+    c.left_by.ensures.fault c.left_by.ensures.fault c.left_by.ensures.fault
 
 pub returns-in-Ok-clause-once : goal.returns-in-Ok-clause-once
 returns-in-Ok-clause-once g c = c.in-Ok.ensures.moves.draws.follows.once

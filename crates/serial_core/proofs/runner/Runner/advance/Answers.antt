@@ -1,4 +1,4 @@
-use Rattle.std.proofs.Common.{◌≡◌, ap, subst, ◌∙◌, ℕ, List, [], ◌∷◌, ◌++◌, arith}
+use Rattle.std.proofs.Common.{◌^◌, ◌≡◌, ap, subst, ◌∙◌, ℕ, List, [], ◌∷◌, ◌++◌, arith}
 use Rattle.dmx_calls.specs.Response.{Response}
 use Rattle.client_script.specs.declared.line.Line.{Line}
 use Rattle.client_core.specs.Inside.Core.{IsAfter}
@@ -26,7 +26,7 @@ returns-clause-moves g c =
 
 pub call-requires-clause-few : goal.call-requires-clause-few
 call-requires-clause-few g c =
-    let m = c.in_ok-wait.ensures.made 8796093022208 c.requires.made in
+    let m = c.in_ok-wait.ensures.made (2 ^ 43) c.requires.made in
     let given = c.in_ok-wait.ensures.moves.sound.given in
     omega (arith, m, given, one_if_small c.wait.new.self.nodes.has_ended)
 

@@ -1,4 +1,4 @@
-use Rattle.std.proofs.Common.{◌≡◌, refl, sym, ◌∙◌, ◌+◌, List, [], ◌∷◌, ◌++◌, length, arith}
+use Rattle.std.proofs.Common.{◌^◌, ◌≡◌, refl, sym, ◌∙◌, ◌+◌, List, [], ◌∷◌, ◌++◌, length, arith}
 use Rattle.client_script.specs.declared.line.Line.{Line}
 use Rattle.client_core.specs.Inside.Core.{IsAfter}
 use Rattle.serial_core.specs.SerialRun.{Run, called, replies_of, reply_to, after_waiting}
@@ -39,7 +39,7 @@ calls-preserved g c =
     }
 
 pub advance-requires-clause-made : goal.advance-requires-clause-made
-advance-requires-clause-made g c = let m = c.calls.invariant.made 4398046511104 c.requires.made in omega (arith, m, c.calls.invariant.few)
+advance-requires-clause-made g c = let m = c.calls.invariant.made (2 ^ 42) c.requires.made in omega (arith, m, c.calls.invariant.few)
 
 pub advance-requires-clause-ready : goal.advance-requires-clause-ready
 advance-requires-clause-ready g c = ready_on _ _ _ _ _ _ c.calls.invariant.moves c.requires.ready

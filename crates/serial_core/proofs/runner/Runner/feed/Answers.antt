@@ -1,4 +1,4 @@
-use Rattle.std.proofs.Common.{◌≡◌, refl, sym, ap, ◌∙◌, ◌-◌, ◌<◌, min, length, arith}
+use Rattle.std.proofs.Common.{◌^◌, ◌≡◌, refl, sym, ap, ◌∙◌, ◌-◌, ◌<◌, min, length, arith}
 use Rattle.serial_core.specs.SerialRun.{Run, fed, turned}
 use Rattle.serial_core.proofs.Moving.{drawn_then, moves_none, moves_then, moves_by, ready_on}
 use Rattle.serial_core.proofs.Batches.{fed_none, fed_end, fed_step}
@@ -8,7 +8,7 @@ pub turns-init : goal.turns-init
 turns-init g c = record { moves = moves_none _ c.args.self.now _ c.requires.ready.sound (λ r. refl); moment = refl; made = λ calls made. made }
 
 pub turn-requires-clause-made : goal.turn-requires-clause-made
-turn-requires-clause-made g c = c.turns.invariant.made 8796093022208 c.requires.made
+turn-requires-clause-made g c = c.turns.invariant.made (2 ^ 43) c.requires.made
 
 pub turn-requires-clause-ready : goal.turn-requires-clause-ready
 turn-requires-clause-ready g c =

@@ -1,4 +1,4 @@
-use Rattle.std.proofs.Common.{◌≡◌, ℕ, ◌-◌}
+use Rattle.std.proofs.Common.{◌^◌, ◌≡◌, ℕ, ◌-◌}
 use Rattle.serial_core.specs.SerialRun.{finished}
 use Rattle.serial_core.specs.Inside.Moving.{Moves, MadeAtMost}
 use Rattle.serial_core.proofs.runner.Runner.finish.Given as goal
@@ -10,4 +10,4 @@ invariant-turns g l = record {
 }
 
 abbrev pub decreases-turns : goal.decreases-turns
-decreases-turns g l = 2199023255552 - l.self.puller.given
+decreases-turns g l = 2 ^ 41 - l.self.puller.given

@@ -9,7 +9,7 @@ use Rattle.client_script.specs.declared.line.Line.{Line}
 use Rattle.client_script.specs.Script.{clients_in}
 use Rattle.client_core.specs.Events.{outcomes}
 use Rattle.client_core.specs.Inside.Core.{Core, IsAfter}
-use Rattle.serial_core.specs.declared.run.Ran.{Ran}
+use Rattle.serial_core.specs.declared.run.Left.{Left}
 use Rattle.serial_core.specs.declared.runner.Runner.{Runner}
 use Rattle.serial_core.specs.Nodes.{log_of}
 use Rattle.serial_core.specs.SerialRun.{Run, begun, IsSerialRun, replies_of}
@@ -25,12 +25,12 @@ outcomes_in lines r = map (λ client. outcomes client lines (replies_of client r
 
 -- These are the histories, the outcomes and the head of the serial run of a script over a stream of these
 -- bytes, in which the source failed or not.
-pub record IsRanOf (lines : List Line) (batch : ℕ) (stream : List ℕ) (ran : Ran) : Type 0 where
+pub record IsLeftBy (lines : List Line) (batch : ℕ) (stream : List ℕ) (left : Left) : Type 0 where
   pub run : Run
   pub serial : IsSerialRun lines batch (cut stream).packets run
-  pub histories : ran.histories ≡ histories_in run
-  pub outcomes : map (λ those. those.items) ran.outcomes.items ≡ outcomes_in lines run
-  pub head : told_head ran.head ≡ head_of stream ran.head.read_fault
+  pub histories : left.histories ≡ histories_in run
+  pub outcomes : map (λ those. those.items) left.outcomes.items ≡ outcomes_in lines run
+  pub head : told_head left.head ≡ head_of stream left.head.read_fault
 
 -- ------ before the first line
 

@@ -1,7 +1,7 @@
 use Rattle.std.proofs.Common.{sym, ap, ◌∙◌, ◌++◌}
 use Rattle.ts_watch.specs.Head.{head_of}
 use Rattle.serial_core.proofs.Ending.{all_woven}
-use Rattle.serial_core.proofs.run.ran_of.Goals as goal
+use Rattle.serial_core.proofs.run.left_by.Goals as goal
 
 pub returns-clause-histories : goal.returns-clause-histories
 returns-clause-histories c r at legal = c.in_ok-histories.ensures ∙ all_woven c.args.runner.nodes r at c.requires.ended legal
