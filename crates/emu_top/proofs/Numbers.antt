@@ -20,7 +20,7 @@ use Rattle.client_script.specs.declared.fault.ScriptFault.{ScriptFault}
 use Rattle.client_script.specs.Script.{split, grammar, script_len, whole_lines, lines_from}
 use Rattle.client_script.proofs.Splitting.{split-found}
 use Rattle.report_text.specs.Summary.{summary_of}
-use Rattle.serial_core.specs.declared.run.Ran.{Ran}
+use Rattle.serial_core.specs.declared.run.Left.{Left}
 use Rattle.ts_make.specs.declared.kind.Kind.{Kind}
 use Rattle.ts_make.specs.Made.{made, packets, packet_at, payload, carrying, section, section_front}
 use Rattle.ts_make.specs.Script.{script}
@@ -119,7 +119,7 @@ read_whole : (input : List ℕ) (left : Option (List ℕ)) (bytes : List ℕ) �
 read_whole input None bytes con end = absurd con
 read_whole input (Some rest) bytes con end = con ∙ (ap (λ r. bytes ++ r) end ∙ append-nil bytes)
 
-summed_by : (number batch : ℕ) (left : Option (List ℕ)) (ran : Ran) (text : List ℕ) (failed : Bool) → ran.head.read_fault ≡ failed → Runs batch (Some (made number)) left 0 0 ran
+summed_by : (number batch : ℕ) (left : Option (List ℕ)) (ran : Left) (text : List ℕ) (failed : Bool) → ran.head.read_fault ≡ failed → Runs batch (Some (made number)) left 0 0 ran
     → text ≡ summary_of (told_head ran.head) ran.histories → IsSums number batch text
 summed_by number batch left ran text true is r e = absurd (steady 0 (omega arith) (subst (λ b. ReadsTo b left 0 0) is r.reads))
 summed_by number batch left ran text false is r e =
@@ -135,6 +135,6 @@ summed_by number batch left ran text false is r e =
     }
 
 -- the sums of its run
-pub summed : (number batch : ℕ) (left : Option (List ℕ)) (ran : Ran) (text : List ℕ) → Runs batch (Some (made number)) left 0 0 ran
+pub summed : (number batch : ℕ) (left : Option (List ℕ)) (ran : Left) (text : List ℕ) → Runs batch (Some (made number)) left 0 0 ran
     → text ≡ summary_of (told_head ran.head) ran.histories → IsSums number batch text
 summed number batch left ran text r e = summed_by number batch left ran text ran.head.read_fault refl r e

@@ -18,8 +18,8 @@ use Rattle.client_core.specs.declared.stop.Stop.TheVariants.{NoMemory as NoMemor
 use Rattle.script_run.specs.Budget.{most_calls, all_commands, IsTooLong}
 use Rattle.feed_pull.specs.Pulling.{Pulling}
 use Rattle.feed_pull.specs.Streams.{OfStream}
-use Rattle.serial_core.specs.declared.run.Ran.{Ran}
-use Rattle.serial_core.specs.Ran.{IsRanOf}
+use Rattle.serial_core.specs.declared.run.Left.{Left}
+use Rattle.serial_core.specs.Left.{IsLeftBy}
 use Rattle.serial_core.proofs.Runs.{are_runs}
 use Rattle.report_text.specs.Report.{report_of}
 use Rattle.emu_top.specs.Inside.Part.{IsUnended}
@@ -43,14 +43,14 @@ session_of : (bytes part stream : List ℕ) (lines : List Line) → split bytes 
 session_of bytes part stream lines s script = record { script = ap (λ p. grammar p.script) s ∙ script; behind = ap (λ p. p.stream) s }
 
 -- what the run of a session left
-pub run_of : (batch : ℕ) (lines : List Line) (puller : Pulling) (content mid left : Option (List ℕ)) (before after : ℕ) (first : List ℕ) (ran : Ran)
+pub run_of : (batch : ℕ) (lines : List Line) (puller : Pulling) (content mid left : Option (List ℕ)) (before after : ℕ) (first : List ℕ) (ran : Left)
     → 1 ≤ batch → Consumes content mid first → Holds first lines puller
-    → OfStream mid left puller (λ ahead taken. IsRanOf lines batch (ahead ++ taken) ran)
+    → OfStream mid left puller (λ ahead taken. IsLeftBy lines batch (ahead ++ taken) ran)
     → (IsTrue ran.head.read_fault ↔ (before < after)) → before ≤ after → (ran.head.read_fault ≡ false → IsAtEnd left)
     → Runs batch content left before after ran
 run_of batch lines puller content mid left before after first ran one con h of rose later end =
     let taken = of.0 in
-    let r : IsRanOf lines batch (h.ahead ++ taken) ran = of.2 h.ahead h.pulls in
+    let r : IsLeftBy lines batch (h.ahead ++ taken) ran = of.2 h.ahead h.pulls in
     let s = h.splits taken in
     record {
       bytes = first ++ taken;
@@ -70,7 +70,7 @@ run_of batch lines puller content mid left before after first ran one con h of r
     }
 
 -- its report
-pub reported : (batch : ℕ) (content left : Option (List ℕ)) (before after : ℕ) (ran : Ran) (became : List (List Outcome)) (failed : Bool) (text : List ℕ) → Runs batch content left before after ran
+pub reported : (batch : ℕ) (content left : Option (List ℕ)) (before after : ℕ) (ran : Left) (became : List (List Outcome)) (failed : Bool) (text : List ℕ) → Runs batch content left before after ran
     → failed ≡ ran.head.read_fault → became ≡ map (λ o. o.items) ran.outcomes.items → text ≡ report_of (told_head ran.head) became ran.histories
     → Makes (IsSerialOutput batch) content left before after failed text
 reported batch content left before after ran became failed text r fault same e = rw fault record {

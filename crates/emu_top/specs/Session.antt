@@ -16,9 +16,9 @@ use Rattle.client_core.specs.declared.stop.Stop.TheVariants.{NoMemory as NoMemor
 use Rattle.script_run.specs.Budget.{most_calls, all_commands}
 use Rattle.script_run.specs.WholeRun.{IsWholeRun}
 use Rattle.feed_pull.specs.Pulling.{Pulling, Pulls}
-use Rattle.serial_core.specs.declared.run.Ran.{Ran}
+use Rattle.serial_core.specs.declared.run.Left.{Left}
 use Rattle.serial_core.specs.SerialRun.{Run, IsSerialRun}
-use Rattle.serial_core.specs.Ran.{histories_in, outcomes_in}
+use Rattle.serial_core.specs.Left.{histories_in, outcomes_in}
 use Rattle.serial_core.specs.Runs.{IsAccountedRun}
 use Rattle.report_text.specs.Report.{report_of}
 use Rattle.report_text.specs.Summary.{summary_of}
@@ -80,7 +80,7 @@ ReadsTo true left before after = Rose before after
 ReadsTo false left before after = (after ≡ before) × IsAtEnd left
 
 -- the bytes that were taken are those of a session, and this is what its run left
-pub record Runs (batch : ℕ) (content left : Option (List ℕ)) (before after : ℕ) (answer : Ran) : Type 0 where
+pub record Runs (batch : ℕ) (content left : Option (List ℕ)) (before after : ℕ) (answer : Left) : Type 0 where
   pub bytes : List ℕ
   pub lines : List Line
   pub stream : List ℕ

@@ -16,7 +16,7 @@ use dmx_calls::{Histories, Outcome};
 use emu_io::Source;
 use feed_pull::Puller;
 use report_text::report;
-use serial_core::{Ran, run_steps};
+use serial_core::{Left, run_steps};
 use std::alloc::Global;
 use ts_watch::Head;
 
@@ -103,7 +103,7 @@ fn run_session<S: Source>(
     source: &mut S,
     session: Session,
     batch: u32,
-) -> Result<Ran, Status>
+) -> Result<Left, Status>
     requires some { 1 ≤ batch }
     requires few { batch ≤ 64 }
     requires going { session.puller.reading ≡ Going }
@@ -123,7 +123,7 @@ fn run_session<S: Source>(
 }
 
 /// Reads the session of a source and runs it, in batches of this size.
-pub fn ran_of<S: Source>(alloc: Global, source: &mut S, batch: u32) -> Result<Ran, Status>
+pub fn ran_of<S: Source>(alloc: Global, source: &mut S, batch: u32) -> Result<Left, Status>
     requires some { 1 ≤ batch }
     requires few { batch ≤ 64 }
     requires faults { S.faults source.old < 2 ^ 64 - 1 }

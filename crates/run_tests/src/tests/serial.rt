@@ -5,11 +5,11 @@ use super::{is_packet, script_of, stream_of};
 use dmx_calls::{Entry, Outcome, OutcomeKind, Reply};
 use emu_io::MemSource;
 use feed_pull::Puller;
-use serial_core::{Ran, run_steps};
+use serial_core::{Left, run_steps};
 use std::alloc::Global;
 
 // What the script leaves over a stream of these packets, where there is memory; the reads of these numbers fail.
-fn left_by(alloc: Global, script: &str, packets: &[(u8, u8)], fails: &[u64]) -> Option<Ran> {
+fn left_by(alloc: Global, script: &str, packets: &[(u8, u8)], fails: &[u64]) -> Option<Left> {
     let stream = stream_of(alloc, packets).ok()?;
     let mut source = MemSource::new(stream, 376, fails.to_vec(alloc).ok()?);
     let script = script_of(alloc, script)?;
@@ -18,7 +18,7 @@ fn left_by(alloc: Global, script: &str, packets: &[(u8, u8)], fails: &[u64]) -> 
 }
 
 // The replies of the clients' entries on a node, from this one on.
-fn replies(ran: &Ran, node: u32, from: usize) -> &[Entry]
+fn replies(ran: &Left, node: u32, from: usize) -> &[Entry]
     requires { node ≤ 32 }
 {
     let (_, entries) = ran.histories.node(node);
@@ -47,7 +47,7 @@ const OVERFLOW: &str =
 
 // Whether the first read is told that the third packet is lost, and the second gives the fourth. Before the second stand the
 // four calls, three passes, the first read and the fourth pass.
-fn tells_the_overflow_first(ran: &Ran) -> bool {
+fn tells_the_overflow_first(ran: &Left) -> bool {
     let [lost, read] = replies(ran, 0, 4) else {
         return false;
     };
@@ -78,7 +78,7 @@ const TAPS: &str =
     c0 start n0\nc0 start n1\nfeed 2\nc0 stop n0\nfeed 1\nc0 read dvr 65536\nstream\n";
 
 // Whether the dvr node has Open, two times Attach, Detach and the read, which gives all packets.
-fn has_recorded_all(ran: &Ran) -> bool {
+fn has_recorded_all(ran: &Left) -> bool {
     matches!(replies(ran, 32, 0), [_, _, _, _, read] if is_data(read, THREE))
 }
 
@@ -93,7 +93,7 @@ const DRAIN: &str =
 
 // Four commands and one packet allow 33 * (4 + 2 * 188 + 1) calls. The drain reads 188 times a byte, and before them, behind them
 // and behind the end of the stream there is nothing to read.
-fn has_read_each_byte(ran: &Ran) -> bool {
+fn has_read_each_byte(ran: &Left) -> bool {
     let calls = replies(ran, 0, 0);
     let is_last = match calls.last() {
         Some(last) => matches!(last.reply, Reply::Again { ended: true }),
@@ -122,7 +122,7 @@ fn are_of_two_clients(outcomes: &[Vec<Outcome>]) -> bool {
 }
 
 // Whether two packets passed each node before a read failed.
-fn has_ended_behind_two(ran: &Ran) -> bool {
+fn has_ended_behind_two(ran: &Left) -> bool {
     let (feeding, _) = ran.histories.node(7);
     ran.head.read_fault && ran.head.tally.packets == 2 && feeding.len() == 2
 }

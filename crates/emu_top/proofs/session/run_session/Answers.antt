@@ -10,4 +10,4 @@ returns-clause-refuses g c content first con h =
 pub returns-in-Ok-clause-runs : goal.returns-in-Ok-clause-runs
 returns-in-Ok-clause-runs g c content first con h =
     run_of c.args.batch c.args.session.script c.args.session.puller content _ _ _ _ first c.in-Ok.ran c.requires.some con h
-    c.in-Ok.ensures.ran c.in-Ok.ensures.rose c.in-Ok.ensures.later c.in-Ok.ensures.end
+    c.in-Ok.ensures.left c.in-Ok.ensures.rose c.in-Ok.ensures.later c.in-Ok.ensures.end
