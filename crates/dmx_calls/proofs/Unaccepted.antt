@@ -1,4 +1,5 @@
--- An entry that isn't accepted changes nothing: what was set, the capture, its items and its ledger are read from the accepted entries.
+-- An entry that isn't accepted changes nothing: what was set, the capture, its items and its ledger are read from the accepted
+-- entries.
 use Rattle.std.proofs.Common.{◌≡◌, refl, false, ◌∷◌, Option, Some, None}
 use Rattle.dmx_calls.specs.Response.{is_accepted}
 use Rattle.dmx_calls.specs.History.{Entry, History, Since}
