@@ -1,23 +1,14 @@
 -- A run so far that is over is a run, and its histories are accounted.
-use Rattle.std.proofs.Common.{◌≡◌, refl, ap, ◌∙◌, ℕ, suc, ◌+◌, Bool, true, false, nat_lt, List, [], ◌∷◌}
+use Rattle.std.proofs.Common.{refl, ℕ, Bool, true, false, nat_lt}
 use Rattle.std.specs.Prelude.{if◌then◌else◌}
-use Rattle.dmx_calls.specs.declared.params.Input.TheVariants.{Frontend}
 use Rattle.dmx_calls.specs.declared.limits.TheConstants.{DEMUX_NODES}
-use Rattle.dmx_calls.specs.declared.log.Act.TheVariants.{Pass as PassAct}
 use Rattle.dmx_calls.specs.Accounted.{IsAccounted}
 use Rattle.dmx_calls.specs.History.{History}
 use Rattle.dmx_calls.specs.Legal.{IsLegalFor}
 use Rattle.dmx_calls.specs.Log.{filled}
 use Rattle.dmx_calls.specs.Rules.{demux, dvr, rules_at}
 use Rattle.dmx_calls.proofs.LawsHold.{demux_accounted, dvr_accounted}
-use Rattle.script_run.specs.IsRun.{Batch, Step, feeding}
-use Rattle.script_run.specs.SoFar.{feeding_so_far, RunsEnd, RunsAreAccounted}
-
--- the feeder has ended
-pub all_fed : (first step : ℕ) (bs : List Batch) → feeding_so_far true first step bs ≡ feeding first step bs
-all_fed first step [] = refl
-all_fed first step (b ∷ bs) =
-    ap (λ (l : List Step). record { step = step; act = PassAct Frontend first b.size b.moment } ∷ l) (all_fed (first + b.size) (suc step) bs)
+use Rattle.script_run.specs.SoFar.{RunsEnd, RunsAreAccounted}
 
 pub runs_end : RunsEnd
 runs_end payers lines most stream hs s over = (
@@ -29,7 +20,7 @@ runs_end payers lines most stream hs s over = (
       batches = s.fed.batches;
       each_size = s.fed.each_size;
       whole = over.whole;
-      on_each = λ node h at. s.fed.on_each node h at ∙ all_fed 0 0 s.fed.batches;
+      on_each = over.ended;
     };
     clients_done = λ c is. record {
       made = (s.clients c is).made;

@@ -18,9 +18,8 @@ use Rattle.dmx_calls.specs.Legal.{IsLegalFor}
 use Rattle.dmx_calls.specs.Bytes.{bytes_answered}
 use Rattle.dmx_calls.proofs.Bytes.{demux_answers_fit, dvr_answers_fit}
 use Rattle.script_run.specs.Budget.{bytes_in}
-use Rattle.script_run.specs.IsRun.{Batch, Step, steps_of}
-use Rattle.script_run.specs.SoFar.{feeding_so_far}
-use Rattle.script_run.proofs.Counting.{sum_of, weigh_reverse, weigh_map}
+use Rattle.script_run.specs.IsRun.{Batch, Step, feeding, steps_of}
+use Rattle.script_run.proofs.Counting.{sum_of, weigh_append, weigh_reverse, weigh_map}
 use Rattle.script_run.proofs.ReadReplies.{bytes_same}
 
 -- ------ one history
@@ -59,11 +58,9 @@ module _ (stream : List (List ℕ)) where
   abbrev packets_of : LogEntry → ℕ
   packets_of e = act_packets e.act
 
-  fed_packets : (ended : Bool) (first step : ℕ) (bs : List Batch) → sum_of step_packets (feeding_so_far ended first step bs) ≤ sum (map (λ b. b.size) bs)
-  fed_packets true first step [] = omega arith
-  fed_packets false first step [] = omega arith
-  fed_packets ended first step (b ∷ bs) =
-      omega (arith, length-take b.size (drop first stream), sum_by-cons (λ n. n) b.size (map (λ b. b.size) bs), fed_packets ended (first + b.size) (suc step) bs)
+  fed_packets : (first step : ℕ) (bs : List Batch) → sum_of step_packets (feeding first step bs) ≤ sum (map (λ b. b.size) bs)
+  fed_packets first step [] = omega arith
+  fed_packets first step (b ∷ bs) = omega (arith, length-take b.size (drop first stream), sum_by-cons (λ n. n) b.size (map (λ b. b.size) bs), fed_packets (first + b.size) (suc step) bs)
 
   -- only the feeder brings packets
   abbrev pub OnlyFeederBrings : List LogEntry → Type 0
@@ -103,9 +100,9 @@ module _ (stream : List (List ℕ)) where
     all_packets (e ∷ h) bring = All-append IsPacket (brought_by h) (brought e.invocation) (all_packets h bring.1) bring.0
 
     -- The node is brought no more packets than the batches have, and answers no more bytes than they have.
-    pub bytes_fit : (node : ℕ) (es : List LogEntry) (ended : Bool) (bs : List Batch) (packets : ℕ) → IsLegalFor (rules_at node) (filled stream es) → OnlyFeederBrings es
-        → steps_of 0 es ≡ feeding_so_far ended 0 0 bs → sum (map (λ b. b.size) bs) ≤ packets → sum_of (λ e. bytes_in e.response) es ≤ 188 * packets
-    bytes_fit node es ended bs packets legal only fed le =
+    pub bytes_fit : (node : ℕ) (es : List LogEntry) (bs : List Batch) (packets : ℕ) → IsLegalFor (rules_at node) (filled stream es) → OnlyFeederBrings es
+        → (later : List Step) × (steps_of 0 es ++ later ≡ feeding 0 0 bs) → sum (map (λ b. b.size) bs) ≤ packets → sum_of (λ e. bytes_in e.response) es ≤ 188 * packets
+    bytes_fit node es bs packets legal only fed le =
         omega (
           arith,
           answers_fit node (filled stream es) legal (all_packets (filled stream es) (filled_brings es)),
@@ -116,22 +113,22 @@ module _ (stream : List (List ℕ)) where
           weigh_reverse packets_in (map (filled_entry stream) es),
           weigh_map packets_in (filled_entry stream) packets_of (λ e. refl) es,
           by_feeder es only,
-          ap (sum_of step_packets) fed,
-          fed_packets ended 0 0 bs,
+          weigh_append step_packets (steps_of 0 es) fed.0,
+          ap (sum_of step_packets) fed.1,
+          fed_packets 0 0 bs,
           le,
         )
 
 -- ------ how many entries the feeder has made
 
-fed_long : (ended : Bool) (first step : ℕ) (bs : List Batch) → All (λ b. 1 ≤ b.size) bs → length (feeding_so_far ended first step bs) ≤ sum (map (λ b. b.size) bs) + 1
-fed_long true first step [] some = omega arith
-fed_long false first step [] some = omega arith
-fed_long ended first step (b ∷ bs) some =
-    omega (arith, All-head (λ b. 1 ≤ b.size) b bs some, sum_by-cons (λ n. n) b.size (map (λ b. b.size) bs), fed_long ended (first + b.size) (suc step) bs (All-tail (λ b. 1 ≤ b.size) b bs some))
+fed_long : (first step : ℕ) (bs : List Batch) → All (λ b. 1 ≤ b.size) bs → length (feeding first step bs) ≤ sum (map (λ b. b.size) bs) + 1
+fed_long first step [] some = omega arith
+fed_long first step (b ∷ bs) some =
+    omega (arith, All-head (λ b. 1 ≤ b.size) b bs some, sum_by-cons (λ n. n) b.size (map (λ b. b.size) bs), fed_long (first + b.size) (suc step) bs (All-tail (λ b. 1 ≤ b.size) b bs some))
 
-pub feeder_long : (es : List LogEntry) (ended : Bool) (bs : List Batch) → All (λ b. 1 ≤ b.size) bs → steps_of 0 es ≡ feeding_so_far ended 0 0 bs
+pub feeder_long : (es : List LogEntry) (bs : List Batch) → All (λ b. 1 ≤ b.size) bs → (later : List Step) × (steps_of 0 es ++ later ≡ feeding 0 0 bs)
     → length (filter (λ e. nat_eq e.who 0) es) ≤ sum (map (λ b. b.size) bs) + 1
-feeder_long es ended bs some fed =
-    omega (arith, length-map (filter (λ e. nat_eq e.who 0) es) (λ e. step_at e), ap (λ l. length l) fed, fed_long ended 0 0 bs some) where
+feeder_long es bs some fed =
+    omega (arith, length-map (filter (λ e. nat_eq e.who 0) es) (λ e. step_at e), length-append (steps_of 0 es) fed.0, ap (λ l. length l) fed.1, fed_long 0 0 bs some) where
       step_at : LogEntry → Step
       step_at e = record { step = e.step; act = e.act }

@@ -76,7 +76,7 @@ pays_not_itself : (payers : Payers) (client who : ℕ) → MayPay payers client 
 pays_not_itself feeder client who is same = absurd (omega (arith, is, same))
 pays_not_itself others client who is same = is same
 
-module _ (payers : Payers) (lines : List Line) (most : ℕ) (stream : List (List ℕ)) (ended : Bool) (hs : List (List LogEntry)) (s : IsSoFar payers lines most stream ended hs) where
+module _ (payers : Payers) (lines : List Line) (most : ℕ) (stream : List (List ℕ)) (hs : List (List LogEntry)) (s : IsSoFar payers lines most stream hs) where
   -- ------ the entries of a client
 
   -- an entry that isn't the feeder's is one of a client's calls
@@ -131,7 +131,7 @@ module _ (payers : Payers) (lines : List Line) (most : ℕ) (stream : List (List
         let h = at_place hs node (omega (arith, lt, s.nodes)) in
         record {
           tokens = h.0;
-          within = bytes_fit stream are node h.0 ended s.fed.batches (length stream) (s.legal node h.0 h.1) (only_feeder h.0 (stands_at node h.0 h.1)) (s.fed.on_each node h.0 h.1) s.fed.within;
+          within = bytes_fit stream are node h.0 s.fed.batches (length stream) (s.legal node h.0 h.1) (only_feeder h.0 (stands_at node h.0 h.1)) (s.fed.on_each node h.0 h.1) s.fed.within;
           all = λ t is. subst (λ l. Has l t) (one_value hs node is.0 h.0 is.1 h.1) is.2;
         }
 
@@ -157,7 +157,7 @@ module _ (payers : Payers) (lines : List Line) (most : ℕ) (stream : List (List
         within = omega (
           arith,
           few_quiet (filter is_feeder h.0),
-          feeder_long h.0 ended s.fed.batches (All-weaker (λ b. (1 ≤ b.size) × (b.size ≤ most)) (λ b. 1 ≤ b.size) (λ b is. is.0) s.fed.batches s.fed.each_size) (s.fed.on_each node h.0 h.1),
+          feeder_long h.0 s.fed.batches (All-weaker (λ b. (1 ≤ b.size) × (b.size ≤ most)) (λ b. 1 ≤ b.size) (λ b is. is.0) s.fed.batches s.fed.each_size) (s.fed.on_each node h.0 h.1),
           s.fed.within,
         );
         all = λ t is. has_filter is_feeder h.0 t (grind (arith, nat_tests, is.1)) (subst (λ l. Has l t) (one_value hs node is.0.0 h.0 is.0.1 h.1) is.0.2);
@@ -250,7 +250,7 @@ module _ (payers : Payers) (lines : List Line) (most : ℕ) (stream : List (List
       again_there : (i : ℕ) (e f : LogEntry) → slice_get me.made i ≡ Some e → slice_get me.made (suc i) ≡ Some f → 0 < my_again i → (x : LogEntry) × Has pool.tokens x × (my_again i ≤ quiet x) × IsBehind i x
       again_there i e f at next more =
           let w : IsWaiting lines c me.made (events c is) i e = waiting lines c me.made (events c is) i e at more in
-          go w (me.paid i e f at next w.waits) where
+          go w (me.paid i e f at next (w.stays f next) w.waits) where
             go : IsWaiting lines c me.made (events c is) i e → IsPaidBehind payers c hs e → (x : LogEntry) × Has pool.tokens x × (my_again i ≤ quiet x) × IsBehind i x
             go w (x, stands, node, place, may) =
                 let mine : e.who ≡ c + 1 = (me.steps i e at).1 in
@@ -286,15 +286,15 @@ module _ (payers : Payers) (lines : List Line) (most : ℕ) (stream : List (List
         inr (m.client, m.low, ((λ same. may (m.who ∙ ap (λ n. n + 1) same)), (λ low. has_got (s.clients m.client low).made x.step x (m.made low))))
 
 pub calls_are_paid : CallsArePaid
-calls_are_paid feeder lines most stream ended hs s are c is =
-    within feeder lines most stream ended hs s c is (FeederPays feeder lines most stream ended hs s) (total (λ node. length stream + 1) 33) (feeder_pool feeder lines most stream ended hs s)
-    (feeders feeder lines most stream ended hs s c is) (omega (arith, total_same (length stream + 1) 33)) are
-calls_are_paid others lines most stream ended hs s are c is =
-    within others lines most stream ended hs s c is (λ x. FeederPays others lines most stream ended hs s x ⊎ OtherPays others lines most stream ended hs s c is x)
+calls_are_paid feeder lines most stream hs s are c is =
+    within feeder lines most stream hs s c is (FeederPays feeder lines most stream hs s) (total (λ node. length stream + 1) 33) (feeder_pool feeder lines most stream hs s)
+    (feeders feeder lines most stream hs s c is) (omega (arith, total_same (length stream + 1) 33)) are
+calls_are_paid others lines most stream hs s are c is =
+    within others lines most stream hs s c is (λ x. FeederPays others lines most stream hs s x ⊎ OtherPays others lines most stream hs s c is x)
     (total (λ node. length stream + 1) 33 + total (but c (firsts lines)) (clients_in lines))
-    (both quiet (FeederPays others lines most stream ended hs s) (OtherPays others lines most stream ended hs s c is) (total (λ node. length stream + 1) 33) (total (but c (firsts lines)) (clients_in lines))
-    (feeder_pool others lines most stream ended hs s) (other_pool others lines most stream ended hs s c is))
-    (λ x stands may. either others lines most stream ended hs s c is x stands may (nat_eq x.who 0) refl)
+    (both quiet (FeederPays others lines most stream hs s) (OtherPays others lines most stream hs s c is) (total (λ node. length stream + 1) 33) (total (but c (firsts lines)) (clients_in lines))
+    (feeder_pool others lines most stream hs s) (other_pool others lines most stream hs s c is))
+    (λ x stands may. either others lines most stream hs s c is x stands may (nat_eq x.who 0) refl)
     (omega (
       arith,
       total_same (length stream + 1) 33,

@@ -1,10 +1,9 @@
 -- What it means that 33 histories are those of a run that may not be over.
-use Rattle.std.specs.Prelude.{◌≡◌, ◌≢◌, ◌<◌, ◌≤◌, ◌+◌, ◌*◌, ℕ, suc, Bool, true, false, List, [], ◌∷◌, length, map, sum, take, slice_get, Some, None, IsSome, All}
+use Rattle.std.specs.Prelude.{◌≡◌, ◌≢◌, ◌<◌, ◌≤◌, ◌+◌, ◌*◌, ℕ, suc, List, ◌++◌, length, map, sum, take, slice_get, Some, None, IsSome, All}
 use Rattle.ts_packet.specs.Fields.{IsPacket}
-use Rattle.dmx_calls.specs.declared.params.Input.TheVariants.{Frontend}
 use Rattle.dmx_calls.specs.declared.limits.TheConstants.{DEMUX_NODES}
 use Rattle.dmx_calls.specs.declared.log.Act.{Act}
-use Rattle.dmx_calls.specs.declared.log.Act.TheVariants.{Pass as PassAct, End as EndAct}
+use Rattle.dmx_calls.specs.declared.log.Act.TheVariants.{Pass as PassAct}
 use Rattle.dmx_calls.specs.Accounted.{IsAccounted}
 use Rattle.dmx_calls.specs.Response.{NoMemory}
 use Rattle.dmx_calls.specs.Legal.{IsLegalFor}
@@ -15,25 +14,18 @@ use Rattle.client_script.specs.Script.{clients_in}
 use Rattle.client_core.specs.Commands.{commands_of}
 use Rattle.client_core.specs.Events.{next_event, waits_on}
 use Rattle.script_run.specs.Budget.{all_commands, most_calls}
-use Rattle.script_run.specs.IsRun.{Batch, Step, IsEvent, IsRun, StandsIn, replies, steps_of}
+use Rattle.script_run.specs.IsRun.{Batch, Step, IsEvent, IsRun, StandsIn, feeding, replies, steps_of}
 
 -- ------ the feeder
 
--- what the feeder has done on each node: these batches have passed, one after another, and then End, or not yet
-abbrev pub feeding_so_far : (ended : Bool) → (first step : ℕ) → List Batch → List Step
-feeding_so_far true first step [] = record { step = step; act = EndAct } ∷ []
-feeding_so_far false first step [] = []
-feeding_so_far ended first step (b ∷ bs) =
-    record { step = step; act = PassAct Frontend first b.size b.moment }
-    ∷ feeding_so_far ended (first + b.size) (suc step) bs
-
--- So far at most so many packets have passed every node, in the same batches, each of 1 to `most`.
-pub record IsFedSoFar (most packets : ℕ) (ended : Bool) (hs : List (List LogEntry)) : Type 0 where
+-- So far at most so many packets have passed: what the feeder has done on each node is the beginning, or all, of the same
+-- calls, which are that these batches pass, each of 1 to `most` packets, and then End.
+pub record IsFedSoFar (most packets : ℕ) (hs : List (List LogEntry)) : Type 0 where
   pub batches : List Batch
   pub each_size : All (λ b. (1 ≤ b.size) × (b.size ≤ most)) batches
   pub within : sum (map (λ b. b.size) batches) ≤ packets
   pub on_each : (node : ℕ) (h : List LogEntry) → slice_get hs node ≡ Some h
-      → steps_of 0 h ≡ feeding_so_far ended 0 0 batches
+      → (later : List Step) × (steps_of 0 h ++ later ≡ feeding 0 0 batches)
 
 -- ------ a client
 
@@ -72,35 +64,37 @@ pub record HasDoneSoFar (payers : Payers) (lines : List Line) (client : ℕ)
       → e.node ≡ f.node → e.place < f.place
   -- between a read that found nothing and its repeat an entry of another stands on that node: it pays for the repeat
   pub paid : (i : ℕ) (e f : LogEntry) → slice_get made i ≡ Some e → slice_get made (suc i) ≡ Some f
-      → IsSome (waits_on client lines (replies (take (suc i) made))) → IsPaidBehind payers client hs e
+      → f.node ≡ e.node → IsSome (waits_on client lines (replies (take (suc i) made)))
+      → IsPaidBehind payers client hs e
 
 -- ------ the run
 
--- These histories are those of a run of the script so far: at most the packets of `stream` have passed, and the
--- end of the stream or not yet.
-pub record IsSoFar (payers : Payers) (lines : List Line) (most : ℕ) (stream : List (List ℕ)) (ended : Bool)
+-- These histories are those of a run of the script so far: at most the packets of `stream` have passed, and the end
+-- of the stream or not yet.
+pub record IsSoFar (payers : Payers) (lines : List Line) (most : ℕ) (stream : List (List ℕ))
     (hs : List (List LogEntry)) : Type 0 where
   pub nodes : length hs ≡ DEMUX_NODES + 1
   pub places : (node place : ℕ) (h : List LogEntry) (e : LogEntry) → slice_get hs node ≡ Some h
       → slice_get h place ≡ Some e → (e.node ≡ node) × (e.place ≡ place) × (e.who ≤ clients_in lines)
       × (e.response ≢ NoMemory)
   pub legal : (node : ℕ) (h : List LogEntry) → slice_get hs node ≡ Some h → IsLegalFor (rules_at node) (filled stream h)
-  pub fed : IsFedSoFar most (length stream) ended hs
+  pub fed : IsFedSoFar most (length stream) hs
   pub clients : (c : ℕ) → c < clients_in lines → HasDoneSoFar payers lines c hs
 
 -- ------ laws
 
--- it is over: the whole stream has passed, and no client has a next call
-pub record IsOver {payers : Payers} {lines : List Line} {most : ℕ} {stream : List (List ℕ)} {ended : Bool}
-    {hs : List (List LogEntry)} (s : IsSoFar payers lines most stream ended hs) : Type 0 where
+-- it is over: the whole stream has passed, and its end, and no client has a next call
+pub record IsOver {payers : Payers} {lines : List Line} {most : ℕ} {stream : List (List ℕ)}
+    {hs : List (List LogEntry)} (s : IsSoFar payers lines most stream hs) : Type 0 where
   pub whole : sum (map (λ b. b.size) s.fed.batches) ≡ length stream
+  pub ended : (node : ℕ) (h : List LogEntry) → slice_get hs node ≡ Some h → steps_of 0 h ≡ feeding 0 0 s.fed.batches
   pub through : (c : ℕ) (is : c < clients_in lines) → next_event c lines (replies (s.clients c is).made) ≡ None
 
--- A run so far that has ended and is over is a run, of the same batches and of the same calls.
+-- A run so far that is over is a run, of the same batches and of the same calls.
 abbrev pub RunsEnd : Type 0
 RunsEnd =
     (payers : Payers) (lines : List Line) (most : ℕ) (stream : List (List ℕ)) (hs : List (List LogEntry))
-    (s : IsSoFar payers lines most stream true hs) → IsOver s
+    (s : IsSoFar payers lines most stream hs) → IsOver s
     → (run : IsRun lines most stream hs) × (run.fed.batches ≡ s.fed.batches)
     × ((c : ℕ) (is : c < clients_in lines) → (run.clients_done c is).made ≡ (s.clients c is).made)
 
@@ -112,8 +106,8 @@ commands_for others client lines = all_commands lines
 -- At each moment of a run a client has made no more calls than these commands and the bytes of the packets allow.
 abbrev pub CallsArePaid : Type 0
 CallsArePaid =
-    (payers : Payers) (lines : List Line) (most : ℕ) (stream : List (List ℕ)) (ended : Bool)
-    (hs : List (List LogEntry)) (s : IsSoFar payers lines most stream ended hs) → All IsPacket stream
+    (payers : Payers) (lines : List Line) (most : ℕ) (stream : List (List ℕ)) (hs : List (List LogEntry))
+    (s : IsSoFar payers lines most stream hs) → All IsPacket stream
     → (c : ℕ) (is : c < clients_in lines)
     → length (s.clients c is).made ≤ most_calls (commands_for payers c lines) (188 * length stream)
 

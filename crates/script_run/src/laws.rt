@@ -7,7 +7,7 @@ pub fn calls_are_paid()
     ensures { CallsArePaid }
 {}
 
-/// A run so far that has ended and is over is a run, of the same batches and of the same calls.
+/// A run so far that is over is a run, of the same batches and of the same calls.
 pub fn runs_end()
     ensures { RunsEnd }
 {}

@@ -1,7 +1,7 @@
 -- The workers before the first call.
 use Rattle.std.proofs.Common.{◌≡◌, ◌≢◌, inr, ℕ, Bool, ◌+◌, ◌≤◌, ◌^◌, List, [], ◌∷◌, ◌++◌, length, map, Some, refl, ap, sym, ◌∙◌, subst, arith}
 use Rattle.std.specs.Prelude.{slice_get, option_map, All, IsTrue}
-use Rattle.std.specs.declared.option.Option.{Option}
+use Rattle.emu_io.specs.Ends.{SourceEnd}
 use Rattle.std.proofs.lemmas.Option.{slice_get-map}
 use Rattle.std.proofs.lemmas.List.Elements.{All-nil}
 use Rattle.atomic_table.specs.Seated.{TableId}
@@ -97,10 +97,10 @@ module _ (lines : List Line) (locks : List TableId) (n : ℕ) (feeder : Caller) 
       given = omega (arith, given);
     }
 
-    pub begun_passed : (most : ℕ) (may : ℕ → Bool) (x : Option (List ℕ)) (k : ℕ) → HasPassed most may x x k k f.puller f
-    begun_passed most may x k = record {
+    pub begun_passed : (most : ℕ) (may : ℕ → Bool) (x : SourceEnd) → HasPassed most may x x f.puller f
+    begun_passed most may x = record {
       packets = [];
-      draws = draws_none x k f.puller;
+      draws = draws_none x f.puller;
       given = given;
       fed = subst (λ (y : Caller). HasFed most may [] [] y f.feeding.items) (sym is) (subst (HasFed most may [] [] feeder) (sym none) (fed_none locks (n + 1) 0 (2 ^ 44) feeder fresh.first most may refl));
       full = λ ahead taken given pulls. (subst (AreFullBatches most) (sym none) tt, inr (subst (All (λ fed. fed.count ≡ most)) (sym none) (All-nil (λ (fed : Fed). fed.count ≡ most))));

@@ -3,7 +3,7 @@ use Rattle.std.proofs.Common.{◌≡◌, ◌≢◌, inl, inr, ⊎_elim, refl, sy
 use Rattle.std.specs.Prelude.{IsTrue, IsOk, All, slice_index}
 use Rattle.std.proofs.lemmas.List.Elements.{All-push}
 use Rattle.std.proofs.lemmas.Bool.{cases_lt}
-use Rattle.std.specs.declared.option.Option.{Option}
+use Rattle.emu_io.specs.Ends.{SourceEnd}
 use lib.ListN.{get_elem?}
 use Rattle.atomic_table.proofs.Lists.{at_last}
 use Rattle.ts_batch.specs.Batch.{Packets}
@@ -27,15 +27,15 @@ pub on_ok : {T E : Type 0} (r : Result T E) (P : Type 0) → IsOk r → OnOk r P
 on_ok (Ok x) P is p = p
 on_ok (Err e) P is p = absurd cc
 
-module _ (most : ℕ) (may : ℕ → Bool) (content x y : Option (List ℕ)) (before l m : ℕ) (first : Pulling) (f : FeederWorker) (p : Pulling) (qs : List (List ℕ)) (draws : Draws x y l m f.puller p qs) (given : p.given ≡ f.puller.given + length qs) where
-  count_now : (h : HasPassed most may content x before l first f) → p.given ≡ length (h.packets ++ qs)
+module _ (most : ℕ) (may : ℕ → Bool) (before x y : SourceEnd) (first : Pulling) (f : FeederWorker) (p : Pulling) (qs : List (List ℕ)) (draws : Draws x y f.puller p qs) (given : p.given ≡ f.puller.given + length qs) where
+  count_now : (h : HasPassed most may before x first f) → p.given ≡ length (h.packets ++ qs)
   count_now h = given ∙ (ap (λ (n : ℕ). n + length qs) h.given ∙ sym (length-append h.packets qs))
 
   -- no packet was left
-  pub passed_none : (es : Vec Fed Global) → qs ≡ [] → es.items ≡ f.feeding.items → IsDone p → HasPassed most may content x before l first f → HasPassed most may content y before m first (record f { puller = p; feeding = es })
+  pub passed_none : (es : Vec Fed Global) → qs ≡ [] → es.items ≡ f.feeding.items → IsDone p → HasPassed most may before x first f → HasPassed most may before y first (record f { puller = p; feeding = es })
   passed_none es none same done h = record {
     packets = h.packets ++ qs;
-    draws = draws_then content x y before l m first f.puller p h.packets qs h.draws draws;
+    draws = draws_then before x y first f.puller p h.packets qs h.draws draws;
     given = count_now h;
     fed = subst (λ (ps : List (List ℕ)). HasFed most may ps [] f.feeder es.items) (sym (append-nil h.packets) ∙ ap (λ (ps : List (List ℕ)). h.packets ++ ps) (sym none))
         (subst (λ (feeding : List Fed). HasFed most may h.packets [] f.feeder feeding) (sym same) h.fed);
@@ -48,7 +48,7 @@ module _ (most : ℕ) (may : ℕ → Bool) (content x y : Option (List ℕ)) (be
     batch_now = record { first = batch.first; count = length batch.packets; now = now }
 
     full_now : (ahead taken : List ℕ) (given : List (List ℕ)) → Pulls ahead taken given first → qs ≡ batch.packets → es.items ≡ f.feeding.items ++ batch_now ∷ [] → 1 ≤ length batch.packets → length batch.packets ≤ most
-        → (length batch.packets < most → IsDone p) → (f.puller.reading ≢ Going → ReadsNothing f.puller p) → HasPassed most may content x before l first f → AreFullSoFar most (record f { feeder = d; puller = p; feeding = es })
+        → (length batch.packets < most → IsDone p) → (f.puller.reading ≢ Going → ReadsNothing f.puller p) → HasPassed most may before x first f → AreFullSoFar most (record f { feeder = d; puller = p; feeding = es })
     full_now ahead taken given pulls is items least few done still h = ⊎_elim
         (λ (over : IsDone f.puller).
         let none = none_given x y f.puller p qs draws.carries still over ahead (taken ++ h.draws.carries.more) (given ++ h.packets) (h.draws.carries.pulls ahead taken given pulls) in
@@ -61,10 +61,10 @@ module _ (most : ℕ) (may : ℕ → Bool) (content x y : Option (List ℕ)) (be
         (h.full ahead taken given pulls).1
 
     pub passed_batch : qs ≡ batch.packets → es.items ≡ f.feeding.items ++ batch_now ∷ [] → d.who ≡ f.feeder.who → MakesEachEntry (fed batch now) places f.feeder.passes d.passes → batch.first ≡ f.puller.given → 1 ≤ length batch.packets → length batch.packets ≤ most → IsTrue (may now)
-        → (length batch.packets < most → IsDone p) → (f.puller.reading ≢ Going → ReadsNothing f.puller p) → HasPassed most may content x before l first f → HasPassed most may content y before m first (record f { feeder = d; puller = p; feeding = es })
+        → (length batch.packets < most → IsDone p) → (f.puller.reading ≢ Going → ReadsNothing f.puller p) → HasPassed most may before x first f → HasPassed most may before y first (record f { feeder = d; puller = p; feeding = es })
     passed_batch is items who entries first_is least few given_is done still h = record {
       packets = h.packets ++ qs;
-      draws = draws_then content x y before l m first f.puller p h.packets qs h.draws draws;
+      draws = draws_then before x y first f.puller p h.packets qs h.draws draws;
       given = count_now h;
       fed = subst (λ (ps : List (List ℕ)). HasFed most may (h.packets ++ ps) [] d es.items) (sym is)
           (subst (λ (feeding : List Fed). HasFed most may (h.packets ++ batch.packets) [] d feeding) (sym items)
@@ -73,11 +73,11 @@ module _ (most : ℕ) (may : ℕ → Bool) (content x y : Option (List ℕ)) (be
     }
 
 -- the end of the stream passes
-pub passed_all : (most : ℕ) (may : ℕ → Bool) (content x : Option (List ℕ)) (before l : ℕ) (first : Pulling) (f g : FeederWorker) (places : List ℕ) → HasPassed most may content x before l first f → IsDone f.puller
-    → g.puller ≡ f.puller → g.feeding ≡ f.feeding → g.feeder.who ≡ f.feeder.who → MakesEachEntry ended places f.feeder.passes g.feeder.passes → HasPassedAll most may content x before l first g
-passed_all most may content x before l first f g places h done puller feeding who entries = record {
+pub passed_all : (most : ℕ) (may : ℕ → Bool) (before x : SourceEnd) (first : Pulling) (f g : FeederWorker) (places : List ℕ) → HasPassed most may before x first f → IsDone f.puller
+    → g.puller ≡ f.puller → g.feeding ≡ f.feeding → g.feeder.who ≡ f.feeder.who → MakesEachEntry ended places f.feeder.passes g.feeder.passes → HasPassedAll most may before x first g
+passed_all most may before x first f g places h done puller feeding who entries = record {
   packets = h.packets;
-  draws = subst (λ (p : Pulling). Draws content x before l first p h.packets) (sym puller) h.draws;
+  draws = subst (λ (p : Pulling). Draws before x first p h.packets) (sym puller) h.draws;
   done = subst IsDone (sym puller) done;
   fed = subst (λ (es : Vec Fed Global). HasFed most may h.packets (ended ∷ []) g.feeder es.items) (sym feeding) (fed_end most may h.packets f.feeder g.feeder f.feeding.items places who h.fed entries);
   full = λ ahead taken given pulls. subst (λ (es : Vec Fed Global). AreFullBatches most es.items) (sym feeding) (h.full ahead taken given pulls).0;

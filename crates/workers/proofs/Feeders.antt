@@ -1,5 +1,5 @@
 -- The feeder's entries in a history are those that its pass has made, in their order.
-use Rattle.std.proofs.Common.{◌≡◌, ◌≢◌, inl, inr, ⊎_elim, ℕ, zero, suc, eq-eqb, ne_eqb, ◌+◌, ◌<◌, ◌≤◌, List, [], ◌∷◌, ◌++◌, map, filter, slice_get, Some, refl, ap, sym, ◌∙◌, subst, arith}
+use Rattle.std.proofs.Common.{◌≡◌, ◌≢◌, inl, inr, ⊎_elim, ℕ, zero, suc, Bool, true, false, eq-eqb, ne_eqb, ◌+◌, ◌<◌, ◌≤◌, List, [], ◌∷◌, ◌++◌, map, filter, slice_get, Some, refl, ap, sym, ◌∙◌, subst, arith}
 use Rattle.std.specs.Prelude.{if◌then◌else◌}
 use Rattle.std.specs.List.{AllByRecursion}
 use mathlib.Core.Logic.{dite}
@@ -11,7 +11,9 @@ use Rattle.node_lock.specs.Inside.Lists.{Has}
 use Rattle.node_lock.proofs.Views.{prefix_at}
 use Rattle.dmx_calls.specs.declared.histories.Fed.{Fed}
 use Rattle.dmx_calls.specs.History.{Entry}
-use Rattle.dmx_calls.specs.Histories.{feeder_acts}
+use Rattle.dmx_calls.specs.declared.log.Act.{Act}
+use Rattle.dmx_calls.specs.declared.log.Act.TheVariants.{End as EndAct}
+use Rattle.dmx_calls.specs.Histories.{pass_act}
 use Rattle.adapter.specs.Nodes.{ended}
 use Rattle.workers.specs.Feeding.{fed_entry, fed_entries, StandAt}
 use Rattle.workers.proofs.Weaves.{fed_of, by_feeder}
@@ -119,10 +121,24 @@ has_own (p ∷ ps) w k has = ⊎_elim (λ e. (sym (ap (λ (z : ℕ × ℕ). z.0)
 
 -- ------ the feeder's entries
 
-pub fed_is : (stream : List (List ℕ)) (fs : List Fed) → fed_entries stream fs ++ ended ∷ [] ≡ fed_of stream (feeder_acts fs)
-fed_is stream [] = refl
-fed_is stream (f ∷ fs) = ap (λ l. fed_entry stream f ∷ l) (fed_is stream fs)
+-- the end of the stream has passed, or not yet
+abbrev pub behind_of : (over : Bool) → List Entry
+behind_of true = ended ∷ []
+behind_of false = []
 
-pub fed_zero : (stream : List (List ℕ)) (fs : List Fed) → AllByRecursion (λ (x : Entry). x.who ≡ 0) (fed_of stream (feeder_acts fs))
-fed_zero stream [] = (refl, tt)
-fed_zero stream (f ∷ fs) = (refl, fed_zero stream fs)
+abbrev acts_behind : (over : Bool) → List Act
+acts_behind true = EndAct ∷ []
+acts_behind false = []
+
+-- the feeder's calls so far
+abbrev pub acts_of : (over : Bool) → List Fed → List Act
+acts_of over fs = map pass_act fs ++ acts_behind over
+
+pub fed_is : (over : Bool) (stream : List (List ℕ)) (fs : List Fed) → fed_entries stream fs ++ behind_of over ≡ fed_of stream (acts_of over fs)
+fed_is true stream [] = refl
+fed_is false stream [] = refl
+fed_is over stream (f ∷ fs) = ap (λ l. fed_entry stream f ∷ l) (fed_is over stream fs)
+
+pub fed_zero : (stream : List (List ℕ)) (acts : List Act) → AllByRecursion (λ (x : Entry). x.who ≡ 0) (fed_of stream acts)
+fed_zero stream [] = tt
+fed_zero stream (a ∷ acts) = (refl, fed_zero stream acts)

@@ -15,6 +15,7 @@ use Rattle.client_script.specs.Script.{clients_in}
 use Rattle.script_run.specs.IsRun.{replies}
 use Rattle.client_core.specs.declared.stop.Stop.{Stop}
 use Rattle.client_core.specs.declared.stop.Stop.TheVariants.{NoMemory, TooLong}
+use Rattle.emu_io.specs.Ends.{SourceEnd}
 use Rattle.feed_pull.specs.Pulling.{Pulling, Pulls}
 use Rattle.feed_pull.proofs.PullLemmas.{Pulls-done}
 use Rattle.adapter.specs.Callers.{Caller, IsSameCaller, AreFreshCallers, AreAllCallers}
@@ -70,9 +71,9 @@ module _ (may : ℕ → Bool) (locks : List TableId) where
 -- ------ the feeder
 
 -- all packets of the stream that was taken have passed
-pub worked_feeder : (most : ℕ) (may : ℕ → Bool) (x y : Option (List ℕ)) (l m : ℕ) (first : Pulling) (f : FeederWorker) (k : HasPassedAll most may x y l m first f) (ahead : List ℕ) → Pulls ahead [] [] first
+pub worked_feeder : (most : ℕ) (may : ℕ → Bool) (x y : SourceEnd) (first : Pulling) (f : FeederWorker) (k : HasPassedAll most may x y first f) (ahead : List ℕ) → Pulls ahead [] [] first
     → HasFedAll most may (cut (ahead ++ k.draws.carries.more)).packets f.feeder f.feeding.items
-worked_feeder most may x y l m first f k ahead pulls =
+worked_feeder most may x y first f k ahead pulls =
     let more = k.draws.carries.more in
     let now : Pulls ahead more k.packets f.puller = k.draws.carries.pulls ahead [] [] pulls in
     record {

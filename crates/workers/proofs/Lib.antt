@@ -6,6 +6,7 @@ pub mod Columns
 pub mod Owning
 pub mod Batches
 pub mod Merged
+pub mod SoFar
 pub mod Ended
 mod Beginning
 mod Feeding
@@ -15,13 +16,4 @@ mod Lists
 mod Logging
 mod TooLong
 mod Working
-pub mod Counting
-pub mod HistoryBytes
-pub mod ReadReplies
-pub mod Repeating
-pub mod MadeCalls
-pub mod FeederPasses
-pub mod LogCalls
-pub mod Fitting
-pub mod Gaps
 pub mod Budgeting

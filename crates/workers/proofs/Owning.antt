@@ -9,59 +9,26 @@ use Rattle.node_lock.specs.declared.view.View.{View}
 use Rattle.node_lock.specs.Inside.Lists.{Has}
 use Rattle.node_lock.proofs.Views.{prefix_at}
 use Rattle.dmx_calls.specs.declared.histories.Fed.{Fed}
-use Rattle.dmx_calls.specs.Invocation as call
-use Rattle.dmx_calls.specs.Invocation.{Invocation}
+use Rattle.dmx_calls.specs.declared.log.Act.{Act}
 use Rattle.dmx_calls.specs.History.{Entry, entry_of}
-use Rattle.dmx_calls.specs.Log.{LogEntry, IsOfStream, act_of, filled_act, filled_entry}
+use Rattle.dmx_calls.specs.Log.{LogEntry, filled_act, filled_entry}
 use Rattle.dmx_calls.specs.Histories.{feeder_acts}
 use Rattle.dmx_calls.proofs.Telling.{fills}
-use Rattle.client_core.specs.declared.event.Event.{Event}
-use Rattle.client_core.specs.declared.event.Request.{Request}
-use Rattle.client_core.specs.declared.event.Request.TheVariants.{Own}
-use Rattle.client_script.specs.declared.line.Want.TheVariants.{Open}
-use Rattle.client_core.specs.Commands.{call_of}
-use Rattle.script_run.specs.IsRun.{IsEvent}
+use Rattle.script_run.proofs.Events.{of_stream}
 use Rattle.adapter.specs.Rows.{column}
 use Rattle.adapter.specs.Callers.{Caller}
 use Rattle.adapter.specs.Ends.{IsHistory, rows_of}
-use Rattle.adapter.specs.Nodes.{ended}
 use Rattle.adapter.proofs.Lists.{at_place, place_below, at_either, at_last, at_before, one_value}
 use Rattle.workers.specs.Logged.{Tells, calls_on}
-use Rattle.workers.specs.Feeding.{HasMade, fed_entries}
-use Rattle.workers.specs.Telling.{PassesNone, HasLogged, HaveCalled}
+use Rattle.workers.specs.Feeding.{HasMade}
+use Rattle.script_run.specs.SoFar.{PassesNone}
+use Rattle.workers.specs.Telling.{HasLogged, HaveCalled, IsLoggedIn}
 use Rattle.workers.proofs.Weaves.{AreTold, fed_of, by_feeder}
 use Rattle.workers.proofs.Members.{has_at}
 use Rattle.workers.proofs.Calls.{has_all}
 use Rattle.adapter.proofs.Everybody.{in_column, of_column}
 use Rattle.workers.proofs.Columns.{some_calls}
-use Rattle.workers.proofs.Feeders.{Picks, got, got_back, ups_from, picked, stand_picks, has_own, fed_is, fed_zero}
-
--- ------ a client passes no batch
-
-pub no_pass : (w : Request) (now : ℕ) → PassesNone (act_of (call_of w now))
-no_pass (Own Open) now = tt
-no_pass _ now = tt
-
-of_stream : (stream : List (List ℕ)) (c : Invocation) → PassesNone (act_of c) → IsOfStream stream c
-of_stream stream call.Open bare = tt
-of_stream stream call.Close bare = tt
-of_stream stream (call.SetFilter p now) bare = tt
-of_stream stream (call.SetPes p now) bare = tt
-of_stream stream (call.AddPid n) bare = tt
-of_stream stream (call.RemovePid n) bare = tt
-of_stream stream (call.Start now) bare = tt
-of_stream stream call.Stop bare = tt
-of_stream stream (call.SetSize n) bare = tt
-of_stream stream (call.Read now count) bare = tt
-of_stream stream (call.Poll now) bare = tt
-of_stream stream (call.Pass i first ps now) bare = absurd bare
-of_stream stream call.End bare = tt
-of_stream stream (call.Attach n ps) bare = tt
-of_stream stream (call.Detach n) bare = tt
-
-pub event_passes_none : (o : Option Event) (e : LogEntry) → IsEvent o e → PassesNone e.act
-event_passes_none None e is = absurd is
-event_passes_none (Some event) e is = subst PassesNone (sym is.1.1) (no_pass event.want is.1.0)
+use Rattle.workers.proofs.Feeders.{Picks, got, got_back, ups_from, picked, stand_picks, has_own, fed_is, fed_zero, acts_of}
 
 -- an entry of a client, filled with the stream, is the one that it tells
 fills_entry : (stream : List (List ℕ)) (e : LogEntry) (x : Entry) → Tells e x → PassesNone e.act → filled_entry stream e ≡ x
@@ -94,86 +61,125 @@ pub record IsLoggedAt (books : List (List LogEntry)) (node who place : ℕ) : Ty
   pub by : entry.who ≡ who
   pub there : entry.place ≡ place
 
-module _ (stream : List (List ℕ)) (feeder : Caller) (feeding : List Fed) (others : List Caller) (books : List (List LogEntry)) (w : HaveCalled stream feeder feeding others books) where
+-- ------ what was called so far
+
+-- The feeder's calls so far on the nodes of which it has a pass, and each client's, as its log has them.
+pub record Moment : Type 0 where
+  pub stream : List (List ℕ)
+  pub acts : List Act
+  pub feeder : Caller
+  pub others : List Caller
+  pub books : List (List LogEntry)
+  pub fed : (node : ℕ) (p : TableId × View Entry) → slice_get feeder.passes node ≡ Some p → HasMade (fed_of stream acts) p
+  pub logs : length books ≡ length others
+  pub each : (c : ℕ) (client : Caller) (log : List LogEntry) → slice_get others c ≡ Some client → slice_get books c ≡ Some log → HasLogged c client log
+
+-- the moment at which all was called
+pub at_end : (stream : List (List ℕ)) (feeder : Caller) (feeding : List Fed) (others : List Caller) (books : List (List LogEntry)) → HaveCalled stream feeder feeding others books → Moment
+at_end stream feeder feeding others books w = record {
+  stream = stream;
+  acts = acts_of true feeding;
+  feeder = feeder;
+  others = others;
+  books = books;
+  fed = λ node p at. subst (λ es. HasMade es p) (fed_is true stream feeding) (w.fed node p at);
+  logs = w.logs;
+  each = w.each;
+}
+
+module _ (m : Moment) where
+  -- the passes of all callers on a node
+  abbrev pub passes_on : (node : ℕ) → List (TableId × View Entry)
+  passes_on node = column node (rows_of (m.others ++ m.feeder ∷ []))
+
   -- the client of a log
-  client_of : (c : ℕ) (log : List LogEntry) → slice_get books c ≡ Some log → (client : Caller) × (slice_get others c ≡ Some client) × HasLogged c client log
+  client_of : (c : ℕ) (log : List LogEntry) → slice_get m.books c ≡ Some log → (client : Caller) × (slice_get m.others c ≡ Some client) × HasLogged c client log
   client_of c log at =
-      let low = place_below books c log at in let n = w.logs in
-      let client = at_place others c (omega arith) in
-      (client.0, client.1, w.each c client.0 log client.1 at)
+      let low = place_below m.books c log at in let n = m.logs in
+      let client = at_place m.others c (omega arith) in
+      (client.0, client.1, m.each c client.0 log client.1 at)
 
-  log_of : (c : ℕ) (client : Caller) → slice_get others c ≡ Some client → (log : List LogEntry) × (slice_get books c ≡ Some log) × HasLogged c client log
+  log_of : (c : ℕ) (client : Caller) → slice_get m.others c ≡ Some client → (log : List LogEntry) × (slice_get m.books c ≡ Some log) × HasLogged c client log
   log_of c client at =
-      let low = place_below others c client at in let n = w.logs in
-      let log = at_place books c (omega arith) in
-      (log.0, log.1, w.each c client log.0 at log.1)
+      let low = place_below m.others c client at in let n = m.logs in
+      let log = at_place m.books c (omega arith) in
+      (log.0, log.1, m.each c client log.0 at log.1)
 
-  pub called : (c : ℕ) (log : List LogEntry) (i : ℕ) (e : LogEntry) → slice_get books c ≡ Some log → slice_get log i ≡ Some e → (e.step ≡ i) × (e.who ≡ c + 1)
+  pub called : (c : ℕ) (log : List LogEntry) (i : ℕ) (e : LogEntry) → slice_get m.books c ≡ Some log → slice_get log i ≡ Some e → (e.step ≡ i) × (e.who ≡ c + 1)
   called c log i e at there = let k = client_of c log at in let s = k.2.logged.steps i e there in (s.0, s.1 ∙ k.2.who)
 
   -- on each node the places of a log rise
-  pub log_rises : (c : ℕ) (log : List LogEntry) → slice_get books c ≡ Some log → (i j : ℕ) (e f : LogEntry) → i < j → slice_get log i ≡ Some e → slice_get log j ≡ Some f → e.node ≡ f.node → e.place < f.place
+  pub log_rises : (c : ℕ) (log : List LogEntry) → slice_get m.books c ≡ Some log → (i j : ℕ) (e f : LogEntry) → i < j → slice_get log i ≡ Some e → slice_get log j ≡ Some f → e.node ≡ f.node → e.place < f.place
   log_rises c log at = (client_of c log at).2.logged.rises
 
-  module _ (node : ℕ) (h : List Entry) (is : IsHistory node (column node (rows_of (others ++ feeder ∷ []))) h) where
-    begins : (k : ℕ) (c : Caller) (p : TableId × View Entry) → slice_get (others ++ feeder ∷ []) k ≡ Some c → slice_get c.passes node ≡ Some p → IsPrefix p.1.seen h
-    begins k c p at there = let j = of_column node (others ++ feeder ∷ []) k c p at there in is.begins j.0 p j.1
+  module _ (node : ℕ) (h : List Entry) (is : IsHistory node (passes_on node) h) where
+    begins : (k : ℕ) (c : Caller) (p : TableId × View Entry) → slice_get (m.others ++ m.feeder ∷ []) k ≡ Some c → slice_get c.passes node ≡ Some p → IsPrefix p.1.seen h
+    begins k c p at there = let j = of_column node (m.others ++ m.feeder ∷ []) k c p at there in is.begins j.0 p j.1
 
     -- the entry of a log stands at its place
-    pub logged_there : (c : ℕ) (log : List LogEntry) (i : ℕ) (e : LogEntry) → slice_get books c ≡ Some log → slice_get log i ≡ Some e → e.node ≡ node → slice_get h e.place ≡ Some (filled_entry stream e)
+    pub logged_there : (c : ℕ) (log : List LogEntry) (i : ℕ) (e : LogEntry) → slice_get m.books c ≡ Some log → slice_get log i ≡ Some e → e.node ≡ node → slice_get h e.place ≡ Some (filled_entry m.stream e)
     logged_there c log i e at there on =
         let k = client_of c log at in let t = k.2.logged.tells i e there in
-        let begun = begins c k.0 t.0 (at_before others (feeder ∷ []) c k.0 k.1) (subst (λ n. slice_get k.0.passes n ≡ Some t.0) on t.1) in
+        let begun = begins c k.0 t.0 (at_before m.others (m.feeder ∷ []) c k.0 k.1) (subst (λ n. slice_get k.0.passes n ≡ Some t.0) on t.1) in
         got h e.place t.2.0 (prefix_at t.0.1.seen h e.place t.2.0 begun t.2.1)
-        ∙ ap (λ z. Some z) (sym (fills_entry stream e t.2.0 t.2.2 (has_all (λ (e : LogEntry). PassesNone e.act) log k.2.passes e (has_at log e i there))))
+        ∙ ap (λ z. Some z) (sym (fills_entry m.stream e t.2.0 t.2.2 (has_all (λ (e : LogEntry). PassesNone e.act) log k.2.passes e (has_at log e i there))))
 
     -- a call of the feeder's pass
-    abbrev IsFeeders : (who place : ℕ) → Type 0
-    IsFeeders who place = (p : TableId × View Entry) × (slice_get feeder.passes node ≡ Some p) × Has {A = ℕ × ℕ} p.1.own (who, place)
+    abbrev pub IsFeeders : (who place : ℕ) → Type 0
+    IsFeeders who place = (p : TableId × View Entry) × (slice_get m.feeder.passes node ≡ Some p) × Has {A = ℕ × ℕ} p.1.own (who, place)
 
-    owner : (place : ℕ) (x : Entry) → slice_get h place ≡ Some x → IsLoggedAt books node x.who place ⊎ IsFeeders x.who place
+    pub owner : (place : ℕ) (x : Entry) → slice_get h place ≡ Some x → IsLoggedAt m.books node x.who place ⊎ IsFeeders x.who place
     owner place x at =
-        let s = some_calls (column node (rows_of (others ++ feeder ∷ []))) (x.who, place) (is.just.only place x (got_back h place x at)) in
-        let c = in_column node (others ++ feeder ∷ []) s.0 s.1 s.2 in
-        ⊎_elim (λ old. inl (of_client c.0 c.1 s.1 old c.3 s.3)) (λ same. inr (s.1, subst (λ (z : Caller). slice_get z.passes node ≡ Some s.1) (sym same) c.3, s.3)) (at_either others feeder c.1 c.0 c.2) where
-          of_client : (k : ℕ) (c : Caller) (p : TableId × View Entry) → slice_get others k ≡ Some c → slice_get c.passes node ≡ Some p → Has {A = ℕ × ℕ} p.1.own (x.who, place) → IsLoggedAt books node x.who place
+        let s = some_calls (passes_on node) (x.who, place) (is.just.only place x (got_back h place x at)) in
+        let c = in_column node (m.others ++ m.feeder ∷ []) s.0 s.1 s.2 in
+        ⊎_elim (λ old. inl (of_client c.0 c.1 s.1 old c.3 s.3)) (λ same. inr (s.1, subst (λ (z : Caller). slice_get z.passes node ≡ Some s.1) (sym same) c.3, s.3)) (at_either m.others m.feeder c.1 c.0 c.2) where
+          of_client : (k : ℕ) (c : Caller) (p : TableId × View Entry) → slice_get m.others k ≡ Some c → slice_get c.passes node ≡ Some p → Has {A = ℕ × ℕ} p.1.own (x.who, place) → IsLoggedAt m.books node x.who place
           of_client k c p old there has =
               let l = log_of k c old in let e = some_entry node l.0 x.who place (subst (λ (z : List (ℕ × ℕ)). Has z (x.who, place)) (l.2.logged.just node p there) has) in
               record { client = k; log = l.0; index = e.0; entry = e.1; book = l.1; at = e.2; on = e.3; by = e.4; there = e.5 }
 
-    not_client : (place : ℕ) → IsLoggedAt books node 0 place → ⊥
+    not_client : (place : ℕ) → IsLoggedAt m.books node 0 place → ⊥
     not_client place l = let c = called l.client l.log l.index l.entry l.book l.at in let b = l.by in absurd (omega (arith, c.1, b))
 
     -- the feeder's entries are just those that its pass has made
-    made_is : (p : TableId × View Entry) → slice_get feeder.passes node ≡ Some p → filter by_feeder h ≡ fed_of stream (feeder_acts feeding)
+    made_is : (p : TableId × View Entry) → slice_get m.feeder.passes node ≡ Some p → filter by_feeder h ≡ fed_of m.stream m.acts
     made_is p there =
-        let m = w.fed node p there in
-        let begun = begins (length others) feeder p (at_last others feeder) there in
-        picked h 0 (fed_of stream (feeder_acts feeding)) m.places (ups_from 0 m.places (λ i q at. omega arith) m.rise)
-        (subst (λ l. Picks 0 h l m.places) (fed_is stream feeding) (stand_picks p.1.seen h begun (fed_entries stream feeding ++ ended ∷ []) m.places m.stand))
-        (fed_zero stream feeding)
-        (λ i x at zero_is. ⊎_elim (λ l. absurd (not_client i (subst (λ n. IsLoggedAt books node n i) zero_is l))) (λ f. mine m i x.who f) (owner i x at)) where
-          mine : (m : HasMade (fed_entries stream feeding ++ ended ∷ []) p) (i who : ℕ) → IsFeeders who i → Has m.places (0 + i)
-          mine m i who f =
-              let same : f.0 ≡ p = one_value feeder.passes node f.0 p f.1 there in
+        let made = m.fed node p there in
+        let begun = begins (length m.others) m.feeder p (at_last m.others m.feeder) there in
+        picked h 0 (fed_of m.stream m.acts) made.places (ups_from 0 made.places (λ i q at. omega arith) made.rise) (stand_picks p.1.seen h begun (fed_of m.stream m.acts) made.places made.stand) (fed_zero m.stream m.acts)
+        (λ i x at zero_is. ⊎_elim (λ l. absurd (not_client i (subst (λ n. IsLoggedAt m.books node n i) zero_is l))) (λ f. mine made i x.who f) (owner i x at)) where
+          mine : (made : HasMade (fed_of m.stream m.acts) p) (i who : ℕ) → IsFeeders who i → Has made.places (0 + i)
+          mine made i who f =
+              let same : f.0 ≡ p = one_value m.feeder.passes node f.0 p f.1 there in
               let has : Has {A = ℕ × ℕ} p.1.own (who, i) = subst (λ (z : TableId × View Entry). Has {A = ℕ × ℕ} z.1.own (who, i)) same f.2 in
               let n : i ≡ 0 + i = omega arith in
-              subst (Has m.places) n (has_own m.places who i (subst (λ (z : List (ℕ × ℕ)). Has z (who, i)) m.own has)).1
+              subst (Has made.places) n (has_own made.places who i (subst (λ (z : List (ℕ × ℕ)). Has z (who, i)) made.own has)).1
 
-    feeders_zero : (who place : ℕ) → IsFeeders who place → who ≡ 0
-    feeders_zero who place f = let m = w.fed node f.0 f.1 in (has_own m.places who place (subst (λ (z : List (ℕ × ℕ)). Has z (who, place)) m.own f.2)).0
+    pub feeders_zero : (who place : ℕ) → IsFeeders who place → who ≡ 0
+    feeders_zero who place f = let made = m.fed node f.0 f.1 in (has_own made.places who place (subst (λ (z : List (ℕ × ℕ)). Has z (who, place)) made.own f.2)).0
+
+    -- where it has none, it has made none
+    abbrev pub acts_by : Option (TableId × View Entry) → List Act
+    acts_by None = []
+    acts_by (Some p) = m.acts
+
+    fed_by : (o : Option (TableId × View Entry)) → slice_get m.feeder.passes node ≡ o → filter by_feeder h ≡ fed_of m.stream (acts_by o)
+    fed_by (Some p) is = made_is p is
+    fed_by None is =
+        picked h 0 [] [] tt tt tt
+        (λ i x at zero_is. absurd (⊎_elim (λ l. not_client i (subst (λ n. IsLoggedAt m.books node n i) zero_is l)) (λ f. (let k : None ≡ Some f.0 = sym is ∙ f.1 in absurd (cc k))) (owner i x at)))
 
     -- the entries of all logs on the node, in any order
     module _ (calls : List LogEntry)
-        (of_some : (j : ℕ) (e : LogEntry) → slice_get calls j ≡ Some e → (e.node ≡ node) × ((c : ℕ) × (log : List LogEntry) × (i : ℕ) × (slice_get books c ≡ Some log) × (slice_get log i ≡ Some e)))
-        (merged : (c : ℕ) (log : List LogEntry) (i : ℕ) (e : LogEntry) → slice_get books c ≡ Some log → slice_get log i ≡ Some e → e.node ≡ node → (j : ℕ) × (slice_get calls j ≡ Some e)) where
+        (of_some : (j : ℕ) (e : LogEntry) → slice_get calls j ≡ Some e → (e.node ≡ node) × IsLoggedIn m.books e)
+        (merged : (c : ℕ) (log : List LogEntry) (i : ℕ) (e : LogEntry) → slice_get m.books c ≡ Some log → slice_get log i ≡ Some e → e.node ≡ node → (j : ℕ) × (slice_get calls j ≡ Some e)) where
       not_feeder : (j : ℕ) (e : LogEntry) → slice_get calls j ≡ Some e → e.who ≢ 0
       not_feeder j e at zero_is = let s = of_some j e at in let c = called s.1.0 s.1.1 s.1.2 e s.1.3 s.1.4 in absurd (omega (arith, c.1, zero_is))
 
-      -- the batches and the logs tell the history
-      pub told_here : (p : TableId × View Entry) → slice_get feeder.passes node ≡ Some p → AreTold stream 0 (feeder_acts feeding) calls h
-      told_here p there = record {
-        feeder = made_is p there;
+      -- the feeder's calls and the logs tell the history
+      pub told_here : AreTold m.stream 0 (acts_by (slice_get m.feeder.passes node)) calls h
+      told_here = record {
+        feeder = fed_by (slice_get m.feeder.passes node) refl;
         callers = not_feeder;
         each = λ j e at. let s = of_some j e at in (e.place, omega arith, logged_there s.1.0 s.1.1 s.1.2 e s.1.3 s.1.4 s.0);
         only = λ i x at other. ⊎_elim (λ l. let j = merged l.client l.log l.index l.entry l.book l.at l.on in let t = l.there in (j.0, l.entry, j.1, omega (arith, t))) (λ f. absurd (other (feeders_zero x.who i f))) (owner i x at);

@@ -1,7 +1,7 @@
 -- Why a client has made too many calls.
 use Rattle.std.proofs.Common.{◌≡◌, ◌≢◌, inr, refl, sym, ap, subst, ◌∙◌, ℕ, ◌≤◌, Bool, List, [], ◌∷◌, ◌++◌, length, map, Some, arith}
 use Rattle.std.specs.Prelude.{All, slice_get, option_map}
-use Rattle.std.specs.declared.option.Option.{Option}
+use Rattle.emu_io.specs.Ends.{SourceEnd}
 use Rattle.std.proofs.lemmas.List.{length-map}
 use Rattle.std.proofs.lemmas.List.Elements.{All-nil, All-cons, All-tail}
 use Rattle.std.proofs.lemmas.Option.{slice_get-map}
@@ -39,7 +39,7 @@ use Rattle.workers.proofs.Leaving.{come_at, many}
 
 module _ (lines : List Line) (locks : List TableId) (n : ℕ) (feeder : Caller) (clients : List Caller) (fresh : AreFreshCallers locks n feeder clients) (all : AreAllCallers locks (clients ++ feeder ∷ []))
     (may : ℕ → Bool) (old new : List ClientWorker) (b : AreFreshWorkers lines clients old) (h : HaveCome may locks old new)
-    (most : ℕ) (x y : Option (List ℕ)) (l m : ℕ) (first : Pulling) (f : FeederWorker) (k : HasPassedAll most may x y l m first f)
+    (most : ℕ) (x y : SourceEnd) (first : Pulling) (f : FeederWorker) (k : HasPassedAll most may x y first f)
     (found : (i : ℕ) (w : ClientWorker) → slice_get new i ≡ Some w → w.stop ≢ Some NoMemory) (is : n ≡ clients_in lines) (histories : HaveHistories (map (λ (w : ClientWorker). w.client) new ++ f.feeder ∷ [])) where
   now_pulls : (ahead : List ℕ) → Pulls ahead [] [] first → Pulls ahead k.draws.carries.more k.packets f.puller
   now_pulls ahead pulls = k.draws.carries.pulls ahead [] [] pulls

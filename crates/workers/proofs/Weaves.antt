@@ -22,6 +22,10 @@ abbrev pub Rises : (place : ℕ) → List LogEntry → Type 0
 Rises place [] = Unit {0}
 Rises place (e ∷ calls) = (place ≤ e.place) × Rises (suc e.place) calls
 
+pub rises_less : (place : ℕ) (calls : List LogEntry) → Rises (suc place) calls → Rises place calls
+rises_less place [] up = tt
+rises_less place (e ∷ calls) up = (omega (arith, up.0), up.1)
+
 pub rises_at : (place : ℕ) (calls : List LogEntry) → Rises place calls → (j : ℕ) (e : LogEntry) → slice_get calls j ≡ Some e → place ≤ e.place
 rises_at place [] up j e at = absurd (cc at)
 rises_at place (c ∷ calls) up zero e at = let same : c ≡ e = cc at in subst (λ (z : LogEntry). place ≤ z.place) same up.0

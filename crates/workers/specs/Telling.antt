@@ -5,12 +5,12 @@ use Rattle.node_lock.specs.declared.view.View.{View}
 use Rattle.dmx_calls.specs.declared.histories.Fed.{Fed}
 use Rattle.dmx_calls.specs.declared.limits.TheConstants.{DEMUX_NODES}
 use Rattle.dmx_calls.specs.declared.log.Act.{Act}
-use Rattle.dmx_calls.specs.declared.log.Act.TheVariants.{Pass as PassAct}
 use Rattle.dmx_calls.specs.declared.outcome.Outcome.{Outcome}
 use Rattle.dmx_calls.specs.Histories.{feeder_acts, feeder_entry}
 use Rattle.dmx_calls.specs.History.{Entry}
 use Rattle.dmx_calls.specs.Log.{LogEntry, filled_entry}
 use Rattle.script_run.specs.IsRun.{Step, StandsIn, steps_of}
+use Rattle.script_run.specs.SoFar.{PassesNone}
 use Rattle.client_script.specs.declared.line.Line.{Line}
 use Rattle.adapter.specs.Rows.{column}
 use Rattle.adapter.specs.Callers.{Caller}
@@ -21,11 +21,6 @@ use Rattle.workers.specs.Feeding.{HasMade, fed_entries}
 use Rattle.workers.specs.Worked.{AreWorked}
 
 -- ------ what was called
-
--- no packets pass by this call
-abbrev pub PassesNone : Act → Type 0
-PassesNone (PassAct input first count now) = ⊥
-PassesNone _ = Unit {0}
 
 -- A client has made just the calls of this log, each at the place and with the reply that it was told (IsLogged); by
 -- none of them packets pass.

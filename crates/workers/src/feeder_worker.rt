@@ -1,6 +1,6 @@
 // The feeder at its work.
 ghost use Rattle.std.specs.Prelude.{◌≡◌, ◌≢◌, true, false, ℕ, ◌+◌, ◌-◌, ◌<◌, ◌≤◌, ◌^◌, List, None, Some, IsOk, IfOk, OnOk};
-ghost use Rattle.std.specs.declared.option.Option.{Option};
+ghost use Rattle.emu_io.specs.Ends.{SourceEnd};
 ghost use Rattle.client_core.specs.declared.stop.Stop.TheVariants.{NoMemory as WantOfMemory};
 ghost use Rattle.adapter.specs.Callers.{IsSameCaller};
 ghost use Rattle.feed_pull.specs.declared.fault.Reading.TheVariants.{TooMany};
@@ -44,12 +44,12 @@ impl FeederWorker {
         gate: &G,
         steps: &mut Steps<L>,
     ) -> Result<bool, NoMemory>
-        requires may { MayPass most (S.faults source.old) adapter.now self.old }
+        requires may { MayPass most (S.end source.old).faults adapter.now self.old }
         ensures fit { IsFitFeeder adapter.now self.new }
         ensures same { IsSameCaller self.old.feeder self.new.feeder }
-        ensures draws { (packets : List (List ℕ)) × Draws (S.left source.old) (S.left source.new) (S.faults source.old) (S.faults source.new) self.old.puller self.new.puller packets }
-        ensures passed { OnOk result ((content : Option (List ℕ)) (before : ℕ) (first : Pulling) → HasPassed most (C.may_give clock.now) content (S.left source.old) before (S.faults source.old) first self.old
-            → HasPassed most (C.may_give clock.now) content (S.left source.new) before (S.faults source.new) first self.new) }
+        ensures draws { (packets : List (List ℕ)) × Draws (S.end source.old) (S.end source.new) self.old.puller self.new.puller packets }
+        ensures passed { OnOk result ((before : SourceEnd) (first : Pulling) → HasPassed most (C.may_give clock.now) before (S.end source.old) first self.old
+            → HasPassed most (C.may_give clock.now) before (S.end source.new) first self.new) }
         ensures done { IfOk result (λ some. some ≡ false → IsDone self.new.puller) }
         ensures rises { IfOk result (λ some. some ≡ true → self.old.puller.given < self.new.puller.given) }
     {
@@ -80,12 +80,12 @@ impl FeederWorker {
         gate: &G,
         steps: &mut Steps<L>,
     ) -> Result<(), NoMemory>
-        requires may { MayPass most (S.faults source.old) adapter.now self.old }
+        requires may { MayPass most (S.end source.old).faults adapter.now self.old }
         ensures fit { IsFitFeeder adapter.now self.new }
         ensures same { IsSameCaller self.old.feeder self.new.feeder }
-        ensures draws { (packets : List (List ℕ)) × Draws (S.left source.old) (S.left source.new) (S.faults source.old) (S.faults source.new) self.old.puller self.new.puller packets }
-        ensures passed { OnOk result ((content : Option (List ℕ)) (before : ℕ) (first : Pulling) → HasPassed most (C.may_give clock.now) content (S.left source.old) before (S.faults source.old) first self.old
-            → HasPassed most (C.may_give clock.now) content (S.left source.new) before (S.faults source.new) first self.new) }
+        ensures draws { (packets : List (List ℕ)) × Draws (S.end source.old) (S.end source.new) self.old.puller self.new.puller packets }
+        ensures passed { OnOk result ((before : SourceEnd) (first : Pulling) → HasPassed most (C.may_give clock.now) before (S.end source.old) first self.old
+            → HasPassed most (C.may_give clock.now) before (S.end source.new) first self.new) }
         ensures done { OnOk result (IsDone self.new.puller) }
     {
         'batches: while self.turn(rt, adapter, source, most, clock, gate, steps)? {}
@@ -120,9 +120,9 @@ impl FeederWorker {
         blank: Blank,
     )
         requires ledger { (blank.name ≡ L.name) × (blank.parts ≡ L.parts) × (0 < L.parts) }
-        requires may { MayPass most (S.faults source.old) adapter.now self.old }
-        requires begun { HasPassed most (C.may_give clock.now) (S.left source.old) (S.left source.old) (S.faults source.old) (S.faults source.old) self.old.puller self.old }
-        ensures { HasFedToEnd most (C.may_give clock.now) (S.left source.old) (S.left source.new) (S.faults source.old) (S.faults source.new) self.old self.new }
+        requires may { MayPass most (S.end source.old).faults adapter.now self.old }
+        requires begun { HasPassed most (C.may_give clock.now) (S.end source.old) (S.end source.old) self.old.puller self.old }
+        ensures { HasFedToEnd most (C.may_give clock.now) (S.end source.old) (S.end source.new) self.old self.new }
     {
         let mut steps: Steps<L> = Steps::new(blank);
         let passed = self.pass_all(rt, adapter, source, most, clock, gate, &mut steps);
@@ -142,9 +142,9 @@ impl FeederWorker {
         clock: &C,
         gate: &G,
     )
-        requires may { MayPass most (S.faults source.old) adapter.now self.old }
-        requires begun { HasPassed most (C.may_give clock.now) (S.left source.old) (S.left source.old) (S.faults source.old) (S.faults source.old) self.old.puller self.old }
-        ensures { HasFedToEnd most (C.may_give clock.now) (S.left source.old) (S.left source.new) (S.faults source.old) (S.faults source.new) self.old self.new }
+        requires may { MayPass most (S.end source.old).faults adapter.now self.old }
+        requires begun { HasPassed most (C.may_give clock.now) (S.end source.old) (S.end source.old) self.old.puller self.old }
+        ensures { HasFedToEnd most (C.may_give clock.now) (S.end source.old) (S.end source.new) self.old self.new }
     {
         self.work_counted::<S, Brand, R, C, G>(
             rt,

@@ -132,24 +132,24 @@ pub fn work<R: Threads + Wait + Sync, S: Source + Send, C: Clock + Sync, G: Gate
     requires few { batch ≤ 64 }
     requires going { puller.reading ≡ Going }
     requires given { puller.given ≡ 0 }
-    requires faults { S.faults source.old < 2 ^ 64 - 1 }
+    requires faults { (S.end source.old).faults < 2 ^ 64 - 1 }
     // The whole stream has passed, and each client has done just its commands; the head is that of the stream.
-    ensures worked { IfOk result (λ w. OfStream (S.left source.old) (S.left source.new) puller (λ ahead taken.
+    ensures worked { IfOk result (λ w. OfStream (S.end source.old) (S.end source.new) puller (λ ahead taken.
         AreWorked script.now batch (C.may_give clock.now) (cut (ahead ++ taken)).packets w.feeder w.feeding.items w.clients.items (map (λ log. map told_entry log.items) w.logs.items) (map (λ those. those.items) w.outcomes.items)
         × (told_head w.head ≡ head_of (ahead ++ taken) w.head.read_fault))) }
     // They are still the adapter's callers.
     ensures all { IfOk result (λ w. AreAllCallers adapter.now (w.clients.items ++ w.feeder ∷ [])) }
     ensures nodes { IfOk result (λ w. All (λ log. AreOnNodes log.items) w.logs.items) }
     // The source failed exactly where its count rose; else it has nothing left.
-    ensures rose { IfOk result (λ w. IsTrue w.head.read_fault ↔ (S.faults source.old < S.faults source.new)) }
-    ensures later { IfOk result (λ _. S.faults source.old ≤ S.faults source.new) }
+    ensures rose { IfOk result (λ w. IsTrue w.head.read_fault ↔ ((S.end source.old).faults < (S.end source.new).faults)) }
+    ensures later { IfOk result (λ _. (S.end source.old).faults ≤ (S.end source.new).faults) }
     // At most one read has failed: after it nothing more is read, however the run ends.
-    ensures once { S.faults source.new ≤ S.faults source.old + 1 }
-    ensures end { IfOk result (λ w. w.head.read_fault ≡ false → IsAtEnd (S.left source.new)) }
+    ensures once { (S.end source.new).faults ≤ (S.end source.old).faults + 1 }
+    ensures end { IfOk result (λ w. w.head.read_fault ≡ false → IsAtEnd (S.end source.new).left) }
     // So many reads were made, or the commands and the bytes allow a client so many calls.
-    ensures too_long { (turns : ℕ) → IsErrOf result (Stop.TooLong turns) → OfStream (S.left source.old) (S.left source.new) puller (IsTooLong script.now puller.start turns) }
+    ensures too_long { (turns : ℕ) → IsErrOf result (Stop.TooLong turns) → OfStream (S.end source.old) (S.end source.new) puller (IsTooLong script.now puller.start turns) }
     // What was taken of the source where the run stopped, as the puller's pulls tell it.
-    ensures draws { OnErr result ((packets : List (List ℕ)) × ((last : Pulling) × Draws (S.left source.old) (S.left source.new) (S.faults source.old) (S.faults source.new) puller last packets)) }
+    ensures draws { OnErr result ((packets : List (List ℕ)) × ((last : Pulling) × Draws (S.end source.old) (S.end source.new) puller last packets)) }
 {
     let mut workers = workers_of(alloc, clients, script)?;
     let mut feeder = FeederWorker {

@@ -47,16 +47,16 @@ pub fn work_all<R: Threads + Wait + Sync, S: Source + Send, C: Clock + Sync, G: 
     clock: &C,
     gate: &G,
 )
-    requires feeder { MayPass batch (S.faults source.old) adapter.now feeder.old }
-    requires begun { HasPassed batch (C.may_give clock.now) (S.left source.old) (S.left source.old) (S.faults source.old) (S.faults source.old) feeder.old.puller feeder.old }
+    requires feeder { MayPass batch (S.end source.old).faults adapter.now feeder.old }
+    requires begun { HasPassed batch (C.may_give clock.now) (S.end source.old) (S.end source.old) feeder.old.puller feeder.old }
     requires clients { All (λ w. MayWork adapter.now w) clients.old.items }
-    ensures feeder { HasFedToEnd batch (C.may_give clock.now) (S.left source.old) (S.left source.new) (S.faults source.old) (S.faults source.new) feeder.old feeder.new }
+    ensures feeder { HasFedToEnd batch (C.may_give clock.now) (S.end source.old) (S.end source.new) feeder.old feeder.new }
     ensures clients { HaveCome (C.may_give clock.now) adapter.now clients.old.items clients.new.items }
 {
     let mut first = ||
-        requires may { MayPass batch (S.faults source.now) adapter.now feeder.now }
-        requires begun { HasPassed batch (C.may_give clock.now) (S.left source.now) (S.left source.now) (S.faults source.now) (S.faults source.now) feeder.now.puller feeder.now }
-        ensures { HasFedToEnd batch (C.may_give clock.entry.now) (S.left source.entry.now) (S.left source.exit.now) (S.faults source.entry.now) (S.faults source.exit.now) feeder.entry.now feeder.exit.now }
+        requires may { MayPass batch (S.end source.now).faults adapter.now feeder.now }
+        requires begun { HasPassed batch (C.may_give clock.now) (S.end source.now) (S.end source.now) feeder.now.puller feeder.now }
+        ensures { HasFedToEnd batch (C.may_give clock.entry.now) (S.end source.entry.now) (S.end source.exit.now) feeder.entry.now feeder.exit.now }
     { feeder.work(rt, adapter, source, batch, clock, gate) };
     let mut others = ||
         requires { IsSync R.row × IsSync C.row × IsSync G.row × All (λ w. MayWork adapter.now w) clients.now.items }

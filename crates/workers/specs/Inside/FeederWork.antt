@@ -1,6 +1,6 @@
 -- The feeder at work.
 use Rattle.std.specs.Prelude.{◌≡◌, ◌≢◌, ◌⊎◌, ◌<◌, ◌≤◌, ◌+◌, ◌-◌, ◌^◌, ℕ, Bool, List, [], ◌∷◌, length, None, Some, All}
-use Rattle.std.specs.declared.option.Option.{Option}
+use Rattle.emu_io.specs.Ends.{SourceEnd}
 use Rattle.atomic_table.specs.Seated.{TableId}
 use Rattle.client_core.specs.declared.stop.Stop.TheVariants.{NoMemory, TooLong}
 use Rattle.feed_pull.specs.declared.fault.Reading.TheVariants.{Going, TooMany}
@@ -34,19 +34,19 @@ AreFullSoFar most f =
     AreFullBatches most f.feeding.items × (IsDone f.puller ⊎ All (λ fed. fed.count ≡ most) f.feeding.items)
 
 -- It has passed the packets that were drawn from the source, from this puller on, in full batches but for the last.
-pub record HasPassed (most : ℕ) (may : ℕ → Bool) (content left : Option (List ℕ)) (before after : ℕ) (first : Pulling)
+pub record HasPassed (most : ℕ) (may : ℕ → Bool) (before after : SourceEnd) (first : Pulling)
     (f : FeederWorker) : Type 0 where
   pub packets : List (List ℕ)
-  pub draws : Draws content left before after first f.puller packets
+  pub draws : Draws before after first f.puller packets
   pub given : f.puller.given ≡ length packets
   pub fed : HasFed most may packets [] f.feeder f.feeding.items
   pub full : (ahead taken : List ℕ) (given : List (List ℕ)) → Pulls ahead taken given first → AreFullSoFar most f
 
 -- All packets of the source have passed, from this puller on, and then the end of the stream.
-pub record HasPassedAll (most : ℕ) (may : ℕ → Bool) (content left : Option (List ℕ)) (before after : ℕ)
+pub record HasPassedAll (most : ℕ) (may : ℕ → Bool) (before after : SourceEnd)
     (first : Pulling) (f : FeederWorker) : Type 0 where
   pub packets : List (List ℕ)
-  pub draws : Draws content left before after first f.puller packets
+  pub draws : Draws before after first f.puller packets
   pub done : IsDone f.puller
   pub fed : HasFed most may packets (ended ∷ []) f.feeder f.feeding.items
   pub full : (ahead taken : List ℕ) (given : List (List ℕ)) → Pulls ahead taken given first
@@ -54,12 +54,12 @@ pub record HasPassedAll (most : ℕ) (may : ℕ → Bool) (content left : Option
 
 -- The feeder has worked to its end: whatever stopped it, its last call on each node is End. Where memory wasn't refused
 -- the whole stream has passed before; it answers TooLong only where so many reads were made.
-pub record HasFedToEnd (most : ℕ) (may : ℕ → Bool) (content left : Option (List ℕ)) (before after : ℕ)
+pub record HasFedToEnd (most : ℕ) (may : ℕ → Bool) (before after : SourceEnd)
     (old new : FeederWorker) : Type 0 where
   pub same : IsSameCaller old.feeder new.feeder
-  pub draws : (packets : List (List ℕ)) × Draws content left before after old.puller new.puller packets
+  pub draws : (packets : List (List ℕ)) × Draws before after old.puller new.puller packets
   pub ended : HasEnded new.feeder
-  pub all : new.stop ≢ Some NoMemory → HasPassedAll most may content left before after old.puller new
+  pub all : new.stop ≢ Some NoMemory → HasPassedAll most may before after old.puller new
   pub few : new.stop ≡ None → new.puller.reading ≢ TooMany
   pub too_long : (turns : ℕ) → new.stop ≡ Some (TooLong turns)
       → (turns ≡ 4294967296) × (4294967296 ≤ new.puller.start + new.puller.taken)

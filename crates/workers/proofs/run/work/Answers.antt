@@ -16,7 +16,7 @@ pub workers_of-requires : goal.workers_of-requires
 workers_of-requires g c = c.requires.fresh.long
 
 pub returns-in_err-workers-clause-draws : goal.returns-in_err-workers-clause-draws
-returns-in_err-workers-clause-draws g c = on_err c.from_residual.result _ ([], (c.args.puller, draws_none _ _ c.args.puller))
+returns-in_err-workers-clause-draws g c = on_err c.from_residual.result _ ([], (c.args.puller, draws_none _ c.args.puller))
 
 pub work_all-requires-clause-feeder : goal.work_all-requires-clause-feeder
 work_all-requires-clause-feeder g c κs within =
@@ -34,7 +34,7 @@ work_all-requires-clause-begun g c κs within =
     let r = c.requires in
     begun_passed c.args.script.now c.args.adapter.now _ c.args.feeder c.args.clients.items r.fresh r.all
     (record { feeder = c.args.feeder; puller = c.args.puller; feeding = c.new.result; stop = None }) refl c.new.ensures.items r.given
-    c.args.batch (g.C.Clock.may_give c.args.clock.now) _ _
+    c.args.batch (g.C.Clock.may_give c.args.clock.now) _
 
 pub work_all-requires-clause-clients : goal.work_all-requires-clause-clients
 work_all-requires-clause-clients g c κs within k d low =
@@ -62,7 +62,7 @@ returns-in_ok-worked_of-in-None-clause-worked g c =
       all.draws.carries.consumes,
       λ ahead pulls. (
         all_worked c.args.script.now c.args.adapter.now _ c.args.feeder c.args.clients.items r.fresh r.all may ws vs b c.work_all.ensures.clients f c.in_ok-worked_of-in-None.field-0 left none.1
-            c.args.batch _ refl (worked_feeder c.args.batch may _ _ _ _ c.args.puller f all ahead pulls),
+            c.args.batch _ refl (worked_feeder c.args.batch may _ _ c.args.puller f all ahead pulls),
         left.head ahead more all.packets (all.draws.carries.pulls ahead [] [] pulls),
       ),
     )
@@ -103,7 +103,7 @@ returns-in_ok-gather-in-Some-clause-too_long g c turns is =
     let all = fed.all memory.0 in
     ⊎_elim
     (λ first. let k = fed.too_long turns first in of_stream _ _ c.args.puller _ (IsTooLong c.args.script.now c.args.puller.start turns) (λ ahead taken (q : 4294967296 ≤ c.args.puller.start + length taken). inl (k.0, q))
-    (many_reads _ _ _ _ c.args.puller f.puller fed.draws.0 fed.draws.1 k.1))
+    (many_reads _ _ c.args.puller f.puller fed.draws.0 fed.draws.1 k.1))
     (λ many. calls_by c.args.script.now c.args.adapter.now _ c.args.feeder c.args.clients.items r.fresh r.all may ws vs c.in_ok-workers.ensures c.work_all.ensures.clients
-    c.args.batch _ _ _ _ c.args.puller f all memory.1 refl c.in_ok-gather-in-Some.ensures many_calls turns many.1.0 many.1.1 many.1.2 many.1.3 many.0)
+    c.args.batch _ _ c.args.puller f all memory.1 refl c.in_ok-gather-in-Some.ensures many_calls turns many.1.0 many.1.1 many.1.2 many.1.3 many.0)
     (one_of_both may c.args.adapter.now ws vs c.work_all.ensures.clients f.stop c.stop_of.result turns s stop)

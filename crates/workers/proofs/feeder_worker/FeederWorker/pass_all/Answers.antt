@@ -6,14 +6,14 @@ use Rattle.workers.proofs.Working.{same_self}
 use Rattle.workers.proofs.feeder_worker.FeederWorker.pass_all.Goals as goal
 
 pub batches-init : goal.batches-init
-batches-init g c = record { fit = c.requires.may.fit; same = same_self c.args.self.now.feeder; draws = ([], draws_none _ _ c.args.self.now.puller); passed = λ content before first h. h }
+batches-init g c = record { fit = c.requires.may.fit; same = same_self c.args.self.now.feeder; draws = ([], draws_none _ c.args.self.now.puller); passed = λ before first h. h }
 
 pub turn-requires : goal.turn-requires
 turn-requires g c = record {
   may = record {
     some = c.requires.may.some;
     few = c.requires.may.few;
-    faults = still_counts _ _ _ _ _ _ c.batches.invariant.draws.1.follows c.requires.may.faults;
+    faults = still_counts _ _ _ _ c.batches.invariant.draws.1.follows c.requires.may.faults;
     fit = c.batches.invariant.fit;
   };
 }
@@ -22,18 +22,18 @@ pub returns-in_err-turn-clause-same : goal.returns-in_err-turn-clause-same
 returns-in_err-turn-clause-same g c = same_trans c.args.self.now.feeder c.batches.self.feeder c.turn.new.self.feeder c.batches.invariant.same c.turn.ensures.same
 
 pub returns-in_err-turn-clause-draws : goal.returns-in_err-turn-clause-draws
-returns-in_err-turn-clause-draws g c = let k = c.batches.invariant.draws in let d = c.turn.ensures.draws in (k.0 ++ d.0, draws_then _ _ _ _ _ _ _ _ _ k.0 d.0 k.1 d.1)
+returns-in_err-turn-clause-draws g c = let k = c.batches.invariant.draws in let d = c.turn.ensures.draws in (k.0 ++ d.0, draws_then _ _ _ _ _ _ k.0 d.0 k.1 d.1)
 
 pub batches-preserved : goal.batches-preserved
 batches-preserved g c = let k = c.batches.invariant.draws in let d = c.turn.ensures.draws in record {
   fit = c.turn.ensures.fit;
   same = same_trans c.args.self.now.feeder c.batches.self.feeder c.turn.new.self.feeder c.batches.invariant.same c.turn.ensures.same;
-  draws = (k.0 ++ d.0, draws_then _ _ _ _ _ _ _ _ _ k.0 d.0 k.1 d.1);
-  passed = λ content before first h. c.in_ok-turn.ensures.passed content before first (c.batches.invariant.passed content before first h);
+  draws = (k.0 ++ d.0, draws_then _ _ _ _ _ _ k.0 d.0 k.1 d.1);
+  passed = λ before first h. c.in_ok-turn.ensures.passed before first (c.batches.invariant.passed before first h);
 }
 
 pub returns-clause-same : goal.returns-clause-same
 returns-clause-same g c = same_trans c.args.self.now.feeder c.batches.self.feeder c.turn.new.self.feeder c.batches.invariant.same c.turn.ensures.same
 
 pub returns-clause-draws : goal.returns-clause-draws
-returns-clause-draws g c = let k = c.batches.invariant.draws in let d = c.turn.ensures.draws in (k.0 ++ d.0, draws_then _ _ _ _ _ _ _ _ _ k.0 d.0 k.1 d.1)
+returns-clause-draws g c = let k = c.batches.invariant.draws in let d = c.turn.ensures.draws in (k.0 ++ d.0, draws_then _ _ _ _ _ _ k.0 d.0 k.1 d.1)

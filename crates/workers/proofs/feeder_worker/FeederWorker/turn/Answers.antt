@@ -6,20 +6,20 @@ use Rattle.workers.proofs.FeederWork.{passed_none, passed_batch}
 use Rattle.workers.proofs.feeder_worker.FeederWorker.turn.Goals as goal
 
 pub returns-in_err-reserve-clause-draws : goal.returns-in_err-reserve-clause-draws
-returns-in_err-reserve-clause-draws g c = ([], draws_none _ _ c.args.self.now.puller)
+returns-in_err-reserve-clause-draws g c = ([], draws_none _ c.args.self.now.puller)
 
 pub returns-in_default-clause-passed : goal.returns-in_default-clause-passed
-returns-in_default-clause-passed g c content before first h =
+returns-in_default-clause-passed g c before first h =
     let e = c.pull.ensures in
     let qs = given_by c.pull.result (λ batch. batch.value.packets) in
     let none : qs ≡ [] = search rules in
     let items : c.reserve.new.self.items ≡ c.args.self.now.feeding.items = search rules in
     let done : IsDone c.pull.new.self = search rules in
-    passed_none c.args.most (g.C.Clock.may_give c.args.clock.now) content _ _ before _ _ first c.args.self.now c.pull.new.self qs
+    passed_none c.args.most (g.C.Clock.may_give c.args.clock.now) before _ _ first c.args.self.now c.pull.new.self qs
     (record { carries = e.stream; follows = e.follows; start = e.start }) e.given c.reserve.new.self none items done h
 
 pub returns-clause-passed : goal.returns-clause-passed
-returns-clause-passed g c content before first h =
+returns-clause-passed g c before first h =
     let e = c.pull.ensures in
     let batch = c.in-Some.batch.value in
     let qs = given_by c.pull.result (λ batch. batch.value.packets) in
@@ -30,6 +30,6 @@ returns-clause-passed g c content before first h =
     let some : 1 ≤ length batch.packets = search rules in
     let few : length batch.packets ≤ c.args.most = search rules in
     let done : length batch.packets < c.args.most → IsDone c.pull.new.self = search rules in
-    passed_batch c.args.most (g.C.Clock.may_give c.args.clock.now) content _ _ before _ _ first c.args.self.now c.pull.new.self qs
+    passed_batch c.args.most (g.C.Clock.may_give c.args.clock.now) before _ _ first c.args.self.now c.pull.new.self qs
     (record { carries = e.stream; follows = e.follows; start = e.start }) e.given c.feed.new.self c.push_reserved.new.self batch c.now-now.result c.feed.result
     is items c.feed.ensures.same.0 c.feed.ensures.entries number some few c.now-now.ensures done e.stopped h

@@ -11,8 +11,8 @@ returns g c =
       draws = p.ensures.draws;
       ended = has_ended p.new.self.feeder c.end.new.self c.end.result c.end.ensures.entries c.end.ensures.nodes;
       all = λ found. let ok = c.stop_of-self.ensures.memory found in
-          passed_all c.args.most (g.C.Clock.may_give c.args.clock.now) _ _ _ _ c.args.self.now.puller p.new.self _ c.end.result
-          (on_ok p.result _ ok p.ensures.passed _ _ c.args.self.now.puller c.requires.begun) (on_ok p.result _ ok p.ensures.done) refl refl c.end.ensures.same.0 c.end.ensures.entries;
+          passed_all c.args.most (g.C.Clock.may_give c.args.clock.now) _ _ c.args.self.now.puller p.new.self _ c.end.result
+          (on_ok p.result _ ok p.ensures.passed _ c.args.self.now.puller c.requires.begun) (on_ok p.result _ ok p.ensures.done) refl refl c.end.ensures.same.0 c.end.ensures.entries;
       few = c.stop_of-self.ensures.none;
       too_long = c.stop_of-self.ensures.too_long;
     }

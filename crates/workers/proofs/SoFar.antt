@@ -1,0 +1,200 @@
+-- Callers of a script, joined at any moment, leave the histories of a run so far.
+use Rattle.std.proofs.Common.{◌≡◌, ◌≢◌, ◌⊎◌, inl, inr, ⊎_elim, ℕ, suc, ◌+◌, ◌<◌, ◌≤◌, Bool, true, false, nat_lt, List, [], ◌∷◌, ◌++◌, append-nil, length, map, sum, take, slice_get, Option, Some, None, All, refl, ap, sym, ◌∙◌, subst, arith}
+use Rattle.std.specs.Prelude.{IsSome, IsTrue, reverse}
+use Rattle.std.specs.List.{AllByRecursion}
+use Rattle.std.proofs.lemmas.Bool.Decides.{nat_tests}
+use Rattle.std.proofs.lemmas.Option.{slice_get_within}
+use Rattle.atomic_table.specs.Seated.{TableId}
+use Rattle.node_lock.specs.declared.view.View.{View}
+use Rattle.node_lock.specs.Inside.Lists.{Has}
+use Rattle.node_lock.proofs.Views.{has_left}
+use Rattle.dmx_calls.specs.declared.histories.Fed.{Fed}
+use Rattle.dmx_calls.specs.declared.limits.TheConstants.{DEMUX_NODES}
+use Rattle.dmx_calls.specs.declared.log.Act.{Act}
+use Rattle.dmx_calls.specs.declared.log.Act.TheVariants.{End as EndAct}
+use Rattle.dmx_calls.specs.History.{Entry}
+use Rattle.dmx_calls.specs.Response.{NoMemory}
+use Rattle.dmx_calls.specs.Rules.{rules_at}
+use Rattle.dmx_calls.specs.Legal.{IsLegalFor}
+use Rattle.dmx_calls.specs.Log.{LogEntry, filled, filled_entry}
+use Rattle.dmx_calls.specs.Histories.{feeder_acts, feeder_entry, pass_act}
+use Rattle.dmx_calls.proofs.Weaving.{in_place-at}
+use Rattle.client_script.specs.declared.line.Line.{Line}
+use Rattle.client_script.specs.Script.{clients_in}
+use Rattle.client_core.specs.Events.{next_event, waits_on}
+use Rattle.script_run.specs.IsRun.{Step, StandsIn, feeding, replies, steps_of}
+use Rattle.script_run.specs.WholeRun.{IsGiven}
+use Rattle.script_run.specs.SoFar.{PassesNone, others as Others, IsPaidBehind, IsFedSoFar, HasDoneSoFar, IsSoFar}
+use Rattle.script_run.proofs.Events.{event_passes_none}
+use Rattle.adapter.specs.Callers.{Caller}
+use Rattle.adapter.specs.Ends.{HaveHistories}
+use Rattle.adapter.proofs.Lists.{at_place, place_below, one_value}
+use Rattle.workers.specs.Logged.{HasCalled}
+use Rattle.workers.specs.Feeding.{Tiles, batch_of}
+use Rattle.workers.specs.Telling.{HasLogged, IsLoggedIn, steps_from}
+use Rattle.workers.proofs.Members.{all_at, at_has, has_at, steps_tile}
+use Rattle.workers.proofs.Calls.{has_all, all_has}
+use Rattle.workers.proofs.Batches.{sizes, total_is, given}
+use Rattle.workers.proofs.Feeders.{acts_of}
+use Rattle.workers.proofs.Owning.{Moment, acts_by, called}
+use Rattle.workers.proofs.Merged.{AreWoven, there, node_low, stands}
+
+-- a client of a script has made just the calls of its log
+pub has_logged : (lines : List Line) (c : ℕ) (may : ℕ → Bool) (client : Caller) (log : List LogEntry) → HasCalled lines c may client log → HasLogged c client log
+has_logged lines c may client log k = record {
+  who = k.who;
+  logged = k.logged;
+  passes = all_has (λ (e : LogEntry). PassesNone e.act) log (λ e has. let i = at_has log e has in event_passes_none (next_event c lines (replies (take i.0 log))) e (k.events i.0 e i.1));
+}
+
+-- the steps of the first calls begin those of all
+steps_begin : (step : ℕ) (acts more : List Act) → (later : List Step) × (steps_from step acts ++ later ≡ steps_from step (acts ++ more))
+steps_begin step [] more = (steps_from step more, refl)
+steps_begin step (a ∷ acts) more = let deeper = steps_begin (suc step) acts more in (deeper.0, ap (λ (l : List Step). record { step = step; act = a } ∷ l) deeper.1)
+
+steps_so_far : (over : Bool) (fs : List Fed) → (later : List Step) × (steps_from 0 (acts_of over fs) ++ later ≡ steps_from 0 (feeder_acts fs))
+steps_so_far true fs = ([], append-nil (steps_from 0 (feeder_acts fs)))
+steps_so_far false fs =
+    let begin = steps_begin 0 (map pass_act fs) (EndAct ∷ []) in
+    (begin.0, ap (λ acts. steps_from 0 acts ++ begin.0) (append-nil (map pass_act fs)) ∙ begin.1)
+
+-- each call of the feeder is at a moment that the clock may give
+given_has : (may : ℕ → Bool) (acts : List Act) → AllByRecursion (IsGiven may) acts → (a : Act) → Has acts a → IsGiven may a
+given_has may acts all a has = let i = at_has acts a has in all_at (IsGiven may) acts all i.0 a i.1
+
+all_given : (may : ℕ → Bool) (over : Bool) (fs : List Fed) → All (λ (fed : Fed). IsTrue (may fed.now)) fs → (a : Act) → Has (acts_of over fs) a → IsGiven may a
+all_given may true fs times a has = given_has may (feeder_acts fs) (given may fs times) a has
+all_given may false fs times a has = given_has may (feeder_acts fs) (given may fs times) a (has_left (map pass_act fs) (EndAct ∷ []) a (subst (λ acts. Has acts a) (append-nil (map pass_act fs)) has))
+
+-- what was called at a moment is what a script asks for, and the feeder has passed these batches, and the end or not yet
+pub record IsOfScript (lines : List Line) (most : ℕ) (may : ℕ → Bool) (over : Bool) (fs : List Fed) (m : Moment) : Type 0 where
+  pub acts : m.acts ≡ acts_of over fs
+  pub tiles : Tiles most 0 (length m.stream) fs
+  pub count : length m.books ≡ clients_in lines
+  pub called : (c : ℕ) (client : Caller) (log : List LogEntry) → slice_get m.others c ≡ Some client → slice_get m.books c ≡ Some log → HasCalled lines c may client log
+
+module _ (lines : List Line) (most : ℕ) (may : ℕ → Bool) (over : Bool) (fs : List Fed) (m : Moment) (s : IsOfScript lines most may over fs m)
+    (have : HaveHistories (m.others ++ m.feeder ∷ [])) (low : (e : LogEntry) → IsLoggedIn m.books e → e.node ≤ DEMUX_NODES) (hs : List (List LogEntry)) (w : AreWoven m hs) where
+  -- the caller of a log
+  pub client_of : (c : ℕ) (log : List LogEntry) → slice_get m.books c ≡ Some log → (client : Caller) × HasCalled lines c may client log
+  client_of c log at = let client = at_place m.others c (omega (arith, place_below m.books c log at, m.logs)) in (client.0, s.called c client.0 log client.1 at)
+
+  pub log_at : (c : ℕ) → c < clients_in lines → (log : List LogEntry) × (slice_get m.books c ≡ Some log)
+  log_at c lt = at_place m.books c (omega (arith, lt, s.count))
+
+  -- what is said of each entry of the histories
+  pub record IsOfRun (node : ℕ) (e : LogEntry) : Type 0 where
+    pub on : e.node ≡ node
+    pub by : e.who ≤ clients_in lines
+    pub found : e.response ≢ NoMemory
+    pub logged : (c : ℕ) (log : List LogEntry) → slice_get m.books c ≡ Some log → e.who ≡ c + 1 → slice_get log e.step ≡ Some e
+
+  fed_of_run : (node place step : ℕ) (a : Act) → IsOfRun node (feeder_entry node place step a)
+  fed_of_run node place step a = record { on = refl; by = omega arith; found = λ e. cc e; logged = λ c log at zero_is. absurd (omega (arith, zero_is)) }
+
+  logged_of_run : (node : ℕ) (e : LogEntry) → IsLoggedIn m.books e → e.node ≡ node → IsOfRun node e
+  logged_of_run node e (c, log, i, at, here) on =
+      let k = (client_of c log at).1 in
+      let p = called m c log i e at here in
+      record {
+        on = on;
+        by = omega (arith, place_below m.books c log at, s.count, p.1);
+        found = has_all (λ (e : LogEntry). e.response ≢ NoMemory) log k.found e (has_at log e i here);
+        logged = λ d other at_d mine.
+            let same : d ≡ c = omega (arith, p.1, mine) in
+            let one : log ≡ other = one_value m.books c log other at (subst (λ n. slice_get m.books n ≡ Some other) same at_d) in
+            subst (λ (z : List LogEntry). slice_get z e.step ≡ Some e) one (subst (λ n. slice_get log n ≡ Some e) (sym p.0) here);
+      }
+
+  pub entry_at : (node place : ℕ) (h : List LogEntry) (e : LogEntry) → slice_get hs node ≡ Some h → slice_get h place ≡ Some e → (e.place ≡ place) × IsOfRun node e
+  entry_at node place h e at here =
+      let t = (there m have low hs w node h at).2 in (
+        omega (arith, in_place-at 0 h t.place place e here),
+        ⊎_elim (λ l. logged_of_run node e l.1 l.0) (λ f. subst (IsOfRun node) (sym f.0) (fed_of_run node e.place e.step e.act)) (t.told place e here),
+      )
+
+  -- each call is at a moment that the clock may give
+  pub moment_at : All (λ (fed : Fed). IsTrue (may fed.now)) fs → (node place : ℕ) (h : List LogEntry) (e : LogEntry) → slice_get hs node ≡ Some h → slice_get h place ≡ Some e → IsGiven may e.act
+  moment_at times node place h e at here =
+      ⊎_elim
+      (λ l. let k = (client_of l.1.0 l.1.1 l.1.3).1 in has_all (λ (e : LogEntry). IsGiven may e.act) l.1.1 k.moments e (has_at l.1.1 e l.1.2 l.1.4))
+      (λ f. by (slice_get m.feeder.passes node) f.1)
+      ((there m have low hs w node h at).2.told place e here) where
+        by : (o : Option (TableId × View Entry)) → Has (acts_by m o) e.act → IsGiven may e.act
+        by None has = absurd has
+        by (Some p) has = all_given may over fs times e.act (subst (λ acts. Has acts e.act) s.acts has)
+
+  -- ------ the feeder
+
+  fed : IsFedSoFar most (length m.stream) hs
+  fed = record {
+    batches = map batch_of fs;
+    each_size = sizes most 0 (length m.stream) fs s.tiles;
+    within = let t = total_is most 0 (length m.stream) fs s.tiles in omega (arith, t);
+    on_each = λ node h at. begun (slice_get m.feeder.passes node) (steps_of 0 h) (there m have low hs w node h at).2.steps;
+  } where
+    begun : (o : Option (TableId × View Entry)) (steps : List Step) → steps ≡ steps_from 0 (acts_by m o) → (later : List Step) × (steps ++ later ≡ feeding 0 0 (map batch_of fs))
+    begun None steps is = (feeding 0 0 (map batch_of fs), ap (λ l. l ++ feeding 0 0 (map batch_of fs)) is)
+    begun (Some p) steps is =
+        let k = steps_so_far over fs in
+        (k.0, ap (λ l. l ++ k.0) (is ∙ ap (steps_from 0) s.acts) ∙ k.1 ∙ steps_tile most 0 (length m.stream) 0 fs s.tiles)
+
+  -- ------ a client
+
+  -- between two calls of a client that follow one another none of its calls stands
+  none_between : (c : ℕ) (log : List LogEntry) (i k : ℕ) (e f x : LogEntry) → slice_get m.books c ≡ Some log → slice_get log i ≡ Some e → slice_get log (suc i) ≡ Some f → slice_get log k ≡ Some x
+      → f.node ≡ e.node → x.node ≡ e.node → e.place < x.place → x.place < f.place → ⊥
+  none_between c log i k e f x book at next there same on above below = go (nat_lt k i) refl (nat_lt (suc i) k) refl where
+    rises : (j l : ℕ) (y z : LogEntry) → j < l → slice_get log j ≡ Some y → slice_get log l ≡ Some z → y.node ≡ z.node → y.place < z.place
+    rises = (client_of c log book).1.logged.rises
+
+    one : (n : ℕ) (y : LogEntry) → k ≡ n → slice_get log n ≡ Some y → x.place ≡ y.place
+    one n y is at_n = ap (λ (z : LogEntry). z.place) (one_value log n x y (subst (λ n. slice_get log n ≡ Some x) is there) at_n)
+
+    go : (u : Bool) → nat_lt k i ≡ u → (v : Bool) → nat_lt (suc i) k ≡ v → ⊥
+    go true yea v any = omega (arith, rises k i x e (grind (arith, nat_tests, yea)) there at on, above)
+    go false nay true yea = omega (arith, rises (suc i) k f x (grind (arith, nat_tests, yea)) next there (same ∙ sym on), below)
+    go false nay false no = here (nat_lt i k) refl where
+      here : (b : Bool) → nat_lt i k ≡ b → ⊥
+      here true yea = omega (arith, one (suc i) f (grind (arith, nat_tests, yea, no)) next, below)
+      here false never = omega (arith, one i e (grind (arith, nat_tests, nay, never)) at, above)
+
+  paid : (c : ℕ) (log : List LogEntry) (i : ℕ) (e f : LogEntry) → slice_get m.books c ≡ Some log → slice_get log i ≡ Some e → slice_get log (suc i) ≡ Some f → f.node ≡ e.node
+      → IsSome (waits_on c lines (replies (take (suc i) log))) → IsPaidBehind Others c hs e
+  paid c log i e f book at next same waits =
+      let k = (client_of c log book).1 in
+      let on : i + 1 ≡ suc i = omega arith in
+      let gap : e.place + 1 < f.place =
+      k.paid i e f at (subst (λ n. slice_get log n ≡ Some f) (sym on) next) (subst (λ n. IsSome (waits_on c lines (replies (take n log)))) (sym on) waits) in
+      let last = stands m have low hs w f (c, log, suc i, book, next) in
+      let x = at_place last.0 (e.place + 1) (omega (arith, gap, slice_get_within last.0 f.place f last.2)) in
+      let r = entry_at f.node (e.place + 1) last.0 x.0 last.1 x.1 in (
+        x.0,
+        (last.0, ap (λ n. slice_get hs n) r.1.on ∙ last.1, ap (λ n. slice_get last.0 n) r.0 ∙ x.1),
+        r.1.on ∙ same,
+        r.0,
+        λ mine. none_between c log i x.0.step e f x.0 book at next (r.1.logged c log book mine) same (r.1.on ∙ same) (omega (arith, r.0)) (omega (arith, r.0, gap)),
+      )
+
+  done : (c : ℕ) → c < clients_in lines → HasDoneSoFar Others lines c hs
+  done c lt =
+      let log = log_at c lt in
+      let k = (client_of c log.0 log.1).1 in
+      record {
+        made = log.0;
+        steps = λ i e at. let p = called m c log.0 i e log.1 at in (p.0, p.1, stands m have low hs w e (c, log.0, i, log.1, at), k.events i e at);
+        only = λ node place h e at here mine. (entry_at node place h e at here).1.logged c log.0 log.1 mine;
+        in_order = k.logged.rises;
+        paid = λ i e f at next same waits. paid c log.0 i e f log.1 at next same waits;
+      }
+
+  -- They are the histories of a run so far.
+  pub so_far : IsSoFar Others lines most m.stream hs
+  unfolding done fed
+  so_far = record {
+    nodes = w.many;
+    places = λ node place h e at here. let r = entry_at node place h e at here in (r.1.on, r.0, r.1.by, r.1.found);
+    legal = λ node h at. let t = there m have low hs w node h at in subst (λ g. IsLegalFor (rules_at node) (reverse g)) (sym t.2.is) t.1.legal;
+    fed = fed;
+    clients = done;
+  }
