@@ -1,5 +1,6 @@
 -- Members of lists of which one is changed, or to which one is added.
-use Rattle.std.proofs.Common.{◌≡◌, ◌≢◌, ◌⊎◌, ℕ, zero, suc, ◌<◌, List, [], ◌∷◌, ◌++◌, length, slice_get, set, Some, inl, inr, ⊎_elim, refl, ap, sym, ◌∙◌, arith}
+pub use Rattle.lemmas.proofs.Lists.{at_last, at_before, at_end}
+use Rattle.std.proofs.Common.{◌≡◌, ◌≢◌, ◌⊎◌, ℕ, zero, suc, ◌<◌, List, [], ◌∷◌, ◌++◌, length, slice_get, set, Some, inl, inr, refl, ap, sym, ◌∙◌, arith}
 
 -- what stands at a place
 pub at_place : {A : Type 0} (l : List A) (i : ℕ) → i < length l → (a : A) × (slice_get l i ≡ Some a)
@@ -31,22 +32,6 @@ at_either [] a b (suc i) e = absurd (cc e)
 at_either (x ∷ xs) a b zero e = inl e
 at_either (x ∷ xs) a b (suc i) e = at_either xs a b i e
 
-pub at_last : {A : Type 0} (l : List A) (a : A) → slice_get (l ++ a ∷ []) (length l) ≡ Some a
-at_last [] a = refl
-at_last (x ∷ xs) a = at_last xs a
-
-pub at_before : {A : Type 0} (l m : List A) (i : ℕ) (a : A) → slice_get l i ≡ Some a → slice_get (l ++ m) i ≡ Some a
-at_before [] m i a e = absurd (cc e)
-at_before (x ∷ xs) m zero a e = e
-at_before (x ∷ xs) m (suc i) a e = at_before xs m i a e
-
 -- two members at one place are one
 pub one_value : {A : Type 0} (l : List A) (i : ℕ) (a b : A) → slice_get l i ≡ Some a → slice_get l i ≡ Some b → a ≡ b
 one_value l i a b d e = let same : Some a ≡ Some b = sym d ∙ e in cc same
-
--- a member of a list with one more is a member of the list, or that one, which stands at the list's length
-pub at_end : {A : Type 0} (l : List A) (a b : A) (i : ℕ) → slice_get (l ++ a ∷ []) i ≡ Some b → (slice_get l i ≡ Some b) ⊎ ((i ≡ length l) × (a ≡ b))
-at_end [] a b zero e = inr (refl, cc e)
-at_end [] a b (suc i) e = absurd (cc e)
-at_end (x ∷ xs) a b zero e = inl e
-at_end (x ∷ xs) a b (suc i) e = ⊎_elim (λ h. inl h) (λ h. inr (ap suc h.0, h.1)) (at_end xs a b i e)

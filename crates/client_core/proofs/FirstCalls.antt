@@ -22,7 +22,8 @@ use Rattle.client_core.specs.declared.task.Ending.TheVariants.{Made, Bound, AllB
 use Rattle.client_core.specs.Commands.{Slots, Doing, stands, through, once, told, called, opened, read_until, done_on, done_at, done_by_slot, done, ends_wait, ends_drain, commands_of}
 use Rattle.client_core.specs.Events.{Standing, slots_after, progress_from, progress, no_slots}
 use Rattle.client_core.specs.Repeats.{repeated, repeats_on, repeats_at, repeats_in, repeats_from, repeats, CallsAreFew}
-use Rattle.client_core.proofs.Options.{none_ne_some, same_some}
+use Rattle.std.proofs.lemmas.Option.{none-some}
+use Rattle.lemmas.proofs.Options.{same_some}
 use Rattle.client_core.proofs.GoesOn.{progress_of}
 use Rattle.client_core.proofs.More.{Onward, done_on_more, repeats_none, rest_of}
 
@@ -144,7 +145,7 @@ record Tight (commands n m more : ℕ) (s : Standing) (now : Option Standing) : 
 
 all_tight : (slots : Slots) (step : ℕ) (cs : List Command) (rs : List Response) (s : Standing) → (progress_from slots step cs rs).standing ≡ Some s
     → Tight (length cs) (length rs) (repeats_from slots step cs rs) (repeats_from slots step cs (rs ++ again ∷ [])) s (progress_from slots step cs (rs ++ again ∷ [])).standing
-all_tight slots step [] rs s is = absurd (none_ne_some s is)
+all_tight slots step [] rs s is = absurd (none-some s is)
 all_tight slots step (c ∷ cs) rs s is =
     go (λ ending next left there. all_tight (slots_after ending slots) next cs left s there) (done slots c.target c.verb step rs) (done slots c.target c.verb step (rs ++ again ∷ []))
     (repeats_in slots c.target c.verb rs) (repeats_in slots c.target c.verb (rs ++ again ∷ [])) (done_tight slots c.target c.verb step rs) (done_on_more slots c.target c.verb step rs again) is where

@@ -19,7 +19,7 @@ use Rattle.client_core.specs.declared.task.Task.TheVariants.{On, OpenFrom, Attac
 use Rattle.client_script.specs.declared.line.Verb.{Verb}
 use Rattle.client_script.specs.declared.line.Verb.TheVariants.{Once, ReadWait, Drain}
 use Rattle.client_core.specs.Inside.Core.{ahead, behind, coming_from, coming, Core, IsAfter, HasTaken, waits_with}
-use Rattle.client_core.proofs.Options.{none_ne_some}
+use Rattle.std.proofs.lemmas.Option.{none-some}
 
 -- how far a client is whose next command does this
 abbrev pub progress_of : (slots : Slots) (step : ℕ) (c : Command) (cs : List Command) → Doing → Progress
@@ -120,7 +120,7 @@ waits_not s r le =
 pub none_left : (cur : Option Current) (step : ℕ) (slots : Slots) (left : List Command) → cur ≡ None → IfNone cur (left ≡ [])
     → coming_from cur step slots left [] ≡ record { outcomes = []; standing = None }
 none_left None step slots left is ended = ap (λ l. progress_from slots step l []) ended
-none_left (Some k) step slots left is ended = absurd (none_ne_some k (sym is))
+none_left (Some k) step slots left is ended = absurd (none-some k (sym is))
 
 pub some_stands : (cur : Option Current) (k : Current) (step : ℕ) (slots : Slots) (left : List Command) (e : Event) → cur ≡ Some k → stands e ≡ resumed k.task step []
     → coming_from cur step slots left [] ≡ record { outcomes = []; standing = Some (record { line = k.line; from = k.from; event = e }) }

@@ -22,7 +22,8 @@ use Rattle.client_core.specs.Events.{Standing, slots_after, progress_from, progr
 use Rattle.client_core.specs.Repeats.{repeated, repeats_on, repeats_at, repeats_in, repeats_from, repeats}
 use Rattle.client_core.specs.Inside.Core.{waits_with}
 use Rattle.client_core.specs.Inside.More.{added_by, OneReplyMore}
-use Rattle.client_core.proofs.Options.{none_ne_some, same_some}
+use Rattle.std.proofs.lemmas.Option.{none-some}
+use Rattle.lemmas.proofs.Options.{same_some}
 use Rattle.client_core.proofs.GoesOn.{progress_of, last_counts, waits_still}
 
 -- A command with one reply more: where it was through, it leaves this reply too. Where it stood, it stands at a later step, or is through, and then no read is repeated. So many reads are repeated before and after.
@@ -192,11 +193,11 @@ abbrev pub rest_of : (slots : Slots) (cs : List Command) → Doing → ℕ
 rest_of slots cs d = elim d [ stands event ↦ 0 | through ending next left ↦ repeats_from (slots_after ending slots) next cs left ]
 
 waits_there : (s : Standing) (r : Response) → s.from < s.event.step → r ≡ Again false → waits_after (Some s) (r ∷ []) ≡ None → ⊥
-waits_there s r lt again none = none_ne_some s.event.node (sym none ∙ waits_still s r lt ∙ ap (λ q. waits_with q s.event.node) again)
+waits_there s r lt again none = none-some s.event.node (sym none ∙ waits_still s r lt ∙ ap (λ q. waits_with q s.event.node) again)
 
 all_more : (slots : Slots) (step : ℕ) (cs : List Command) (rs : List Response) (r : Response) (s : Standing) → (progress_from slots step cs rs).standing ≡ Some s
     → IsMore s.event.want r (repeats_from slots step cs rs) (repeats_from slots step cs (rs ++ r ∷ [])) (progress_from slots step cs (rs ++ r ∷ [])).standing
-all_more slots step [] rs r s is = absurd (none_ne_some s is)
+all_more slots step [] rs r s is = absurd (none-some s is)
 all_more slots step (c ∷ cs) rs r s is =
     go (λ ending next left there. all_more (slots_after ending slots) next cs left r s there) (done slots c.target c.verb step rs) (done slots c.target c.verb step (rs ++ r ∷ [])) (repeats_in slots c.target c.verb rs) (repeats_in slots c.target c.verb (rs ++ r ∷ []))
     (done_on_more slots c.target c.verb step rs r) is where
@@ -220,7 +221,7 @@ all_more slots step (c ∷ cs) rs r s is =
           (subst (λ x. IsMore s.event.want r (m + rest_of slots cs (through ending next left)) (m + rest_of slots cs x) (progress_of slots step c cs x).standing) (sym on.0) behind)
 
 pub some_of : (o : Option Standing) (e : Event) → option_map (λ s. s.event) o ≡ Some e → (s : Standing) × (o ≡ Some s) × (s.event ≡ e)
-some_of None e is = absurd (none_ne_some e is)
+some_of None e is = absurd (none-some e is)
 some_of (Some s) e is = (s, refl, cc)
 
 pub one_reply_more : OneReplyMore

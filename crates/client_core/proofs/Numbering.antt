@@ -27,7 +27,8 @@ use Rattle.client_core.specs.Commands.{Slots, Doing, stands, through, once, told
 use Rattle.client_core.specs.Events.{Standing, slots_after, progress_from, progress, no_slots, next_event, standing_at}
 use Rattle.client_core.specs.Inside.Tasks.{IsEndingInRange, AreSlots}
 use Rattle.client_core.specs.Repeats.{repeats_in}
-use Rattle.client_core.proofs.Options.{none_ne_some, same_some}
+use Rattle.std.proofs.lemmas.Option.{none-some}
+use Rattle.lemmas.proofs.Options.{same_some}
 use Rattle.client_core.proofs.GoesOn.{progress_of}
 use Rattle.client_core.proofs.More.{Onward, done_on_more, some_of}
 
@@ -115,7 +116,7 @@ AreTargets (c ∷ cs) = IsTargetInRange c.target × AreTargets cs
 
 all_fits : (slots : Slots) (step : ℕ) (cs : List Command) (rs : List Response) (s : Standing) → AreSlots slots → AreTargets cs → (progress_from slots step cs rs).standing ≡ Some s
     → (s.event.step ≡ step + length rs) × (s.event.node ≤ DEMUX_NODES)
-all_fits slots step [] rs s bound ranges is = absurd (none_ne_some s is)
+all_fits slots step [] rs s bound ranges is = absurd (none-some s is)
 all_fits slots step (c ∷ cs) rs s bound ranges is =
     go (λ ending next left bound there. all_fits (slots_after ending slots) next cs left s bound ranges.1 there) (done slots c.target c.verb step rs) (done_fits slots c.target c.verb step rs ranges.0 bound) is where
       go : ((ending : Ending) (next : ℕ) (left : List Response) → AreSlots (slots_after ending slots) → (progress_from (slots_after ending slots) next cs left).standing ≡ Some s
@@ -174,7 +175,7 @@ through_more slots step (c ∷ cs) rs r is =
     (done_on_more slots c.target c.verb step rs r) is where
       go : ((ending : Ending) (next : ℕ) (left : List Response) → (progress_from (slots_after ending slots) next cs left).standing ≡ None → (progress_from (slots_after ending slots) next cs (left ++ r ∷ [])).standing ≡ None)
           → (d f : Doing) (m n : ℕ) → Onward step r m n d f → (progress_of slots step c cs d).standing ≡ None → (progress_of slots step c cs f).standing ≡ None
-      go deeper (stands e) f m n on there = absurd (none_ne_some {A = Standing} (record { line = c.line; from = step; event = e }) (sym there))
+      go deeper (stands e) f m n on there = absurd (none-some {A = Standing} (record { line = c.line; from = step; event = e }) (sym there))
       go deeper (through ending next left) f m n on there = subst (λ x. (progress_of slots step c cs x).standing ≡ None) (sym on.0) (deeper ending next left there)
 
 -- where the commands before this one are through, and what stands there is of another line, this one is through too
@@ -184,7 +185,7 @@ through_next slots step [] c behind rs is at = go (done slots c.target c.verb st
   itself : (line : ℕ) (e : Event) → (if nat_eq line line then Some e else None) ≡ None → ⊥
   itself line e none =
       let same : nat_eq line line ≡ true = grind (arith, nat_tests) in
-      none_ne_some e (sym (rw same at none))
+      none-some e (sym (rw same at none))
 
   go : (d : Doing) → standing_at c.line (progress_of slots step c behind d).standing ≡ None → (progress_of slots step c [] d).standing ≡ None
   go (stands e) none = absurd (itself c.line e none)
@@ -195,5 +196,5 @@ through_next slots step (p ∷ before) c behind rs is at =
           → standing_at c.line (progress_from (slots_after ending slots) next (before ++ c ∷ behind) left).standing ≡ None → AreThrough (slots_after ending slots) next (before ++ c ∷ []) left)
           → (d : Doing) → (progress_of slots step p before d).standing ≡ None → standing_at c.line (progress_of slots step p (before ++ c ∷ behind) d).standing ≡ None
           → (progress_of slots step p (before ++ c ∷ []) d).standing ≡ None
-      go deeper (stands e) there none = absurd (none_ne_some {A = Standing} (record { line = p.line; from = step; event = e }) (sym there))
+      go deeper (stands e) there none = absurd (none-some {A = Standing} (record { line = p.line; from = step; event = e }) (sym there))
       go deeper (through ending next left) there none = deeper ending next left there none

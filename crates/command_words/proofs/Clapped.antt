@@ -5,6 +5,7 @@ use Rattle.std.specs.List.{list_any}
 use Rattle.std.specs.Str.{bytes_eq, chars}
 use Rattle.std.proofs.lemmas.Slice.Eq.{bytes_eq-Decides}
 use Rattle.std.proofs.lemmas.List.{length-map}
+use Rattle.std.proofs.lemmas.Bool.{or_parts}
 use Rattle.clap.proofs.WalkLemmas.{list_any-map}
 use Rattle.clap.specs.Lexer.{long_of, short_of}
 use Rattle.command_words.specs.Meant.{batch_apart, batch_joined, batch_of}
@@ -98,16 +99,12 @@ two_words word number true j d d' e e' = rw e (ap (λ w. answer (w ∷ number �
 two_words word number false true d d' e e' = rw e (ap (λ w. answer (w ∷ number ∷ [])) (joined_is word e') ∙ behind_joined (drop 8 word) number d')
 two_words word number false false d d' e e' = rw e (other_refused word (number ∷ []) d e e')
 
-or_false : (a b : Bool) → (a || b) ≡ false → (a ≡ false) × (b ≡ false)
-or_false false b e = (refl, e)
-or_false true b e = absurd (true≢false e)
-
 pub answers : (words : List (List ℕ)) → length words ≤ 2 → list_any (λ word. bytes_eq word (45 ∷ 45 ∷ [])) words ≡ false → answer words ≡ batch_of words
 unfolding batch_of
 answers [] few none = no_words
-answers (word ∷ []) few none = one_word word (is_word word (codes "--batch")) (is_word (take 8 word) (codes "--batch=")) (or_false _ _ none).0 refl refl
+answers (word ∷ []) few none = one_word word (is_word word (codes "--batch")) (is_word (take 8 word) (codes "--batch=")) (or_parts _ _ none).0 refl refl
 answers (word ∷ number ∷ []) few none =
-    two_words word number (is_word word (codes "--batch")) (is_word (take 8 word) (codes "--batch=")) (or_false _ _ none).0 (or_false _ _ (or_false _ _ none).1).0 refl refl
+    two_words word number (is_word word (codes "--batch")) (is_word (take 8 word) (codes "--batch=")) (or_parts _ _ none).0 (or_parts _ _ (or_parts _ _ none).1).0 refl refl
 answers (word ∷ number ∷ more ∷ words) few none = absurd (omega arith)
 
 -- more words than two

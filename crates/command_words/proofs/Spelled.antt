@@ -4,7 +4,8 @@ use Rattle.std.proofs.lemmas.List.{take-append-drop}
 use Rattle.std.proofs.lemmas.Slice.Eq.{bytes_eq-Decides}
 use Rattle.std.proofs.lemmas.Bool.{eqb-true}
 use Rattle.std.proofs.lemmas.Option.{none-some}
-use Rattle.std.specs.Prelude.{nat_le, nat_lt, option_and_then, unwrap_or}
+use Rattle.lemmas.proofs.Options.{same_some}
+use Rattle.std.specs.Prelude.{nat_le, nat_lt, option_and_then}
 use Rattle.std.specs.List.{position_or_len}
 use Rattle.std.specs.Str.{bytes_eq}
 use Rattle.clap.specs.Lexer.{has_byte, long_of, long_of_rest, name_and_value, short_of, short_of_rest, strip_byte}
@@ -43,17 +44,14 @@ letters_of : (text : List ℕ) → text ≡ letters (name_and_value text).0 (nam
 letters_of [] = refl
 letters_of (x ∷ xs) = letter x xs (x == 61) refl (letters_of xs)
 
-some_same : {X : Type 0} (a b : X) → Some a ≡ Some b → a ≡ b
-some_same a b e = ap (λ o. unwrap_or o a) e
-
 same_parts : (t : List ℕ) (name : List ℕ) (value : Option (List ℕ)) → long_of_rest t ≡ Some (name, value) → t ≡ letters name value
 same_parts [] name value is = absurd (none-some (name, value) is)
 same_parts (x ∷ xs) name value is =
-    let parts : name_and_value (x ∷ xs) ≡ (name, value) = some_same (name_and_value (x ∷ xs)) (name, value) is in
+    let parts : name_and_value (x ∷ xs) ≡ (name, value) = same_some (name_and_value (x ∷ xs)) (name, value) is in
     letters_of (x ∷ xs) ∙ ap (λ p. letters p.0 p.1) parts
 
 byte_is : (c x : ℕ) (xs rest : List ℕ) (b : Bool) → (x == c) ≡ b → cond b (Some xs) None ≡ Some rest → x ∷ xs ≡ c ∷ rest
-byte_is c x xs rest true e is = ap (λ y. y ∷ xs) (eqb-true x c e) ∙ ap (λ t. c ∷ t) (some_same xs rest is)
+byte_is c x xs rest true e is = ap (λ y. y ∷ xs) (eqb-true x c e) ∙ ap (λ t. c ∷ t) (same_some xs rest is)
 byte_is c x xs rest false e is = absurd (none-some rest is)
 
 first_byte : (c : ℕ) (word rest : List ℕ) → strip_byte c word ≡ Some rest → word ≡ c ∷ rest
@@ -78,7 +76,7 @@ short_letter (x ∷ xs) flags is = go (x == 45) is
   where
     go : (b : Bool) → cond b None (Some (x ∷ xs)) ≡ Some flags → (f : ℕ) × (fs : List ℕ) × (flags ≡ f ∷ fs)
     go true is = absurd (none-some flags is)
-    go false is = (x, xs, sym (some_same (x ∷ xs) flags is))
+    go false is = (x, xs, sym (same_some (x ∷ xs) flags is))
 
 pub short_hyphen : (word flags : List ℕ) → short_of word ≡ Some flags → (t : List ℕ) × (word ≡ 45 ∷ t)
 short_hyphen word flags is =

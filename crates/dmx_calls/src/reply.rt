@@ -144,13 +144,11 @@ pub enum Reply {
     Passed,
 }
 
-/// A reply, and what is handed back of the call.
+/// A reply, and what is handed back of the call. The buffer of a Read is in the reply where that is Data, and is else let go.
 #[derive(Drop)]
 pub struct Answer {
     /// The reply.
     pub reply: Reply,
-    /// The buffer of a Read whose reply isn't Data.
-    pub back: Option<ByteBuf>,
     /// The batch of a Pass.
     pub batch: Option<Arc<Batch>>,
 }

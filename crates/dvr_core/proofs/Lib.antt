@@ -1,6 +1,5 @@
 pub mod Places
 pub mod Recorded
-pub mod Looking
 pub mod ByValues
 pub mod Tapping
 pub mod Going

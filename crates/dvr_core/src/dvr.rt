@@ -72,7 +72,6 @@ fn act<L: Ledger>(
             kept.pass(input, &batch, steps);
             Answer {
                 reply: Reply::Passed,
-                back: None,
                 batch: Some(batch),
             }
         }

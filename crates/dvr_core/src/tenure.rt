@@ -12,7 +12,7 @@ ghost use Rattle.dmx_calls.specs.Tenure.{Empty};
 ghost use Rattle.dmx_calls.specs.Taps.{Tap as TapValue};
 ghost use Rattle.dmx_calls.specs.Answer.{is_for_anybody};
 ghost use Rattle.dmx_calls.specs.Calls.{invocation_of, response_of};
-ghost use Rattle.dmx_calls.specs.Back.{BackOfRead, GivesBack};
+ghost use Rattle.dmx_calls.specs.Back.{GivesBack};
 ghost use Rattle.node_buffer.specs.Inside.Capturing.{terms_of as terms_by, begun};
 ghost use Rattle.node_buffer.specs.Inside.Coherent.{CoherentIn, total_of};
 ghost use Rattle.node_buffer.specs.Inside.Gives.{owner_refusal, is_close};
@@ -88,14 +88,7 @@ impl Tenure {
     {
         match call {
             Call::SetSize(size) => plain(self.set_size(alloc, size)),
-            Call::Read { buf, .. } => {
-                let (reply, back) = self.read(ended, buf);
-                Answer {
-                    reply,
-                    back,
-                    batch: None,
-                }
-            }
+            Call::Read { buf, .. } => plain(self.read(ended, buf)),
             Call::Poll { .. } => plain(self.poll(ended)),
             Call::Open
             | Call::Close
@@ -139,11 +132,10 @@ impl Tenure {
         }
     }
 
-    // read(): the reply, with its buffer where the reply doesn't hold it.
-    fn read(&mut self, ended: bool, buf: ByteBuf) -> (Reply, Option<ByteBuf>)
+    // read(): the reply.
+    fn read(&mut self, ended: bool, buf: ByteBuf) -> Reply
         requires { CoherentIn self.old.buffer.ledger }
-        ensures does { (now : ℕ) → Does ended self.old (Read now buf.count) (response_of result.0) self.new }
-        ensures back { BackOfRead buf result.0 result.1 }
+        ensures does { (now : ℕ) → Does ended self.old (Read now buf.count) (response_of result) self.new }
     {
         self.buffer.read(ended, buf)
     }

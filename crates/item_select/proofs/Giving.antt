@@ -3,7 +3,7 @@ use Rattle.std.specs.Prelude.{slice_get, ◌↔◌, IsNone}
 use Rattle.std.proofs.Common.{◌≡◌, List, [], ◌∷◌, ◌++◌, ℕ, length, Option, Some, None, refl, sym, ap, ◌∙◌, arith, length-append}
 use Rattle.std.proofs.lemmas.List.{append-nil}
 use Rattle.std.proofs.lemmas.List.Sums.{sum_by-cons}
-use Rattle.item_select.specs.Items.{Offered, items_of}
+use Rattle.item_select.specs.Items.{items_of}
 use Rattle.item_select.specs.Selecting.{Selecting, Selects, Gave, without_first}
 use Rattle.item_select.proofs.Selected.{Selects-next, without_first-none}
 
@@ -11,7 +11,7 @@ use Rattle.item_select.proofs.Selected.{Selects-next, without_first-none}
 pub record Answers (s left : Selecting) (o : Option (List ℕ)) : Type 0 where
   pub item : o ≡ slice_get s.ready 0
   pub drained : IsNone o ↔ (s.ready ≡ [])
-  pub none : (offered : List Offered) (given : List (List ℕ)) → Selects offered given s → (IsNone o ↔ (items_of s.choice offered ≡ given))
+  pub none : (offered given : List (List ℕ)) → Selects offered given s → (IsNone o ↔ (items_of s.choice offered ≡ given))
   pub gave : Gave s o left
 
 -- an item that is ready is one more than were given

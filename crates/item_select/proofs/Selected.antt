@@ -1,6 +1,6 @@
 -- What a selector keeps stands for the packets offered, packet by packet and item by item.
 use Rattle.std.proofs.Common.{◌≡◌, ◌≢◌, ℕ, ◌≤◌, ◌&&◌, ◌||◌, not, subst, Bool, true, false, List, [], ◌∷◌, ◌++◌, map, length, take, drop, Option, Some, None, refl, sym, ap, ◌∙◌, arith, append_assoc, length-drop, get_or, suc, ◌+◌}
-use Rattle.std.proofs.lemmas.List.{append-nil, map-append}
+use Rattle.std.proofs.lemmas.List.{append-nil}
 use Rattle.std.proofs.lemmas.List.Elements.{filter-append, filter_map-append}
 use Rattle.std.proofs.lemmas.List.Sums.{sum_by-cons, sum_by-take-le, sum_by-append}
 use Rattle.std.specs.List.{filter, filter_map, sum_by}
@@ -12,17 +12,16 @@ use Rattle.section_parse.specs.Sections.{sections}
 use Rattle.section_parse.specs.Inside.Keeping.{Assembly, after_packet, all_given as all_taken, kept as kept_after_all, length_of}
 use Rattle.section_parse.proofs.Assembled.{goes, kept-stands, kept-append, Assembled-push}
 use Rattle.section_parse.proofs.WholeLists.{stay}
-use Rattle.item_select.specs.Items.{Choice, Nothing, Sections, Packets, Offered, is_selected, is_named, first_if, given_by, items_of}
-use Rattle.item_select.specs.Selecting.{Selecting, Selects, Follows, begun, is_once, offered_now, listed, after_offer, is_none, without_first, all_given, bytes_held, items_found, kept_after}
+use Rattle.item_select.specs.declared.selector.Give.{Give}
+use Rattle.item_select.specs.declared.selector.Give.TheVariants.{Payload, Whole}
+use Rattle.item_select.specs.Items.{Choice, Nothing, Sections, Packets, is_selected, first_if, given_by, items_of}
+use Rattle.item_select.specs.Selecting.{Selecting, Selects, Follows, begun, is_once, listed, after_offer, is_ready, without_first, all_given, bytes_held, items_found, kept_after}
 use Rattle.item_select.specs.Laws.{OneIsAll, OneIsGiven, AllAreGiven}
 
-abbrev packets_of : List Offered → List (List ℕ)
-packets_of offered = map (λ o. o.packet) offered
+abbrev pub of : Choice → Assembly → Bool → List (List ℕ) → Selecting
+of choice kept is_spent ready = record { choice = choice; kept = kept; is_spent = is_spent; ready = ready }
 
-abbrev pub of : Choice → List ℕ → Assembly → Bool → List (List ℕ) → Selecting
-of choice pids kept is_spent ready = record { choice = choice; pids = pids; kept = kept; is_spent = is_spent; ready = ready }
-
-none-more : (is_spent is_once : Bool) → (is_spent || (is_once && not (is_none []))) ≡ is_spent
+none-more : (is_spent is_once : Bool) → (is_spent || (is_once && is_ready [])) ≡ is_spent
 none-more true once = refl
 none-more false true = refl
 none-more false false = refl
@@ -33,11 +32,11 @@ begun-first : (once : Bool) → first_if once [] ≡ []
 begun-first true = refl
 begun-first false = refl
 
-pub Selects-begun : (choice : Choice) (pids : List ℕ) → Selects [] [] (begun choice pids)
+pub Selects-begun : (choice : Choice) → Selects [] [] (begun choice)
 unfolding items_of sections clean without_repeats_after runs kept_after_all
-Selects-begun Nothing pids = record { so_far = refl; follows = refl }
-Selects-begun (Packets whole) pids = record { so_far = refl; follows = refl }
-Selects-begun (Sections pid wanted check once) pids = record { so_far = begun-first once; follows = (λ e. (refl, λ t. refl), λ e. absurd cc) }
+Selects-begun Nothing = record { so_far = refl; follows = refl }
+Selects-begun (Packets give) = record { so_far = refl; follows = refl }
+Selects-begun (Sections pid wanted check once) = record { so_far = begun-first once; follows = (λ e. (refl, λ t. refl), λ e. absurd cc) }
 
 -- ------ a packet is offered
 
@@ -49,9 +48,6 @@ sections-one pid packets p =
     let h = Assembled-push packets (sections packets pid) p (kept_after_all pid packets) k.drained k.stands in
     let e : sections (packets ++ p ∷ []) (after_packet (kept_after_all pid packets) p).pid ≡ sections packets pid ++ (after_packet (kept_after_all pid packets) p).ready = h.so_far in
     rw (g.pid ∙ k.same) at e
-
-one-packet : (offered : List Offered) (o : Offered) → packets_of (offered ++ o ∷ []) ≡ packets_of offered ++ o.packet ∷ []
-one-packet offered o = map-append (λ x. x.packet) offered (o ∷ [])
 
 take-none : (xs : List (List ℕ)) → take 1 xs ≡ [] → xs ≡ []
 take-none [] e = refl
@@ -69,18 +65,16 @@ first-more true xs ys given e n =
     let t : take 1 xs ≡ [] = e ∙ rw g refl in
     rw (take-none xs t, g) refl
 
-offer-going : (pid : ℕ) (wanted : SectionFilter) (check once : Bool) (pids : List ℕ) (kept : Assembly) (offered : List Offered) (given : List (List ℕ)) (p : List ℕ)
-    → Selects offered given (of (Sections pid wanted check once) pids kept false [])
-    → Selects (offered ++ (record { packet = p; pids = pids }) ∷ []) given (of (Sections pid wanted check once) pids (all_taken (after_packet kept p)) false (first_if once (filter (is_selected wanted check) (after_packet kept p).ready)))
+offer-going : (pid : ℕ) (wanted : SectionFilter) (check once : Bool) (kept : Assembly) (offered given : List (List ℕ)) (p : List ℕ)
+    → Selects offered given (of (Sections pid wanted check once) kept false [])
+    → Selects (offered ++ p ∷ []) given (of (Sections pid wanted check once) (all_taken (after_packet kept p)) false (first_if once (filter (is_selected wanted check) (after_packet kept p).ready)))
 unfolding items_of
-offer-going pid wanted check once pids kept offered given p h =
+offer-going pid wanted check once kept offered given p h =
     let f = h.follows.0 refl in
-    let packets = packets_of offered in
-    let longer = one-packet offered (record { packet = p; pids = pids }) in
-    let more = first-more once (filter (is_selected wanted check) (sections packets pid)) (filter (is_selected wanted check) (after_packet kept p).ready) given h.so_far f.1 in
+    let more = first-more once (filter (is_selected wanted check) (sections offered pid)) (filter (is_selected wanted check) (after_packet kept p).ready) given h.so_far f.1 in
     record {
-      so_far = rw (longer, sections-one pid packets p, filter-append (is_selected wanted check) (sections packets pid) (after_packet (kept_after_all pid packets) p).ready, ← f.0) more;
-      follows = (λ e. (rw (longer, kept-append pid packets p, f.0) refl, f.1), λ e. absurd cc);
+      so_far = rw (sections-one pid offered p, filter-append (is_selected wanted check) (sections offered pid) (after_packet (kept_after_all pid offered) p).ready, ← f.0) more;
+      follows = (λ e. (rw (kept-append pid offered p, f.0) refl, f.1), λ e. absurd cc);
     }
 
 -- a one-shot filter that has given its section
@@ -94,49 +88,49 @@ first-all pid wanted check packets more given n e =
 
 pub spent-selects : OneIsAll
 unfolding items_of
-spent-selects offered more given s h spent ready = go s.choice s.pids s.kept s.is_spent s.ready spent ready h
+spent-selects offered more given s h spent ready = go s.choice s.kept s.is_spent s.ready spent ready h
   where
-    go : (choice : Choice) (pids : List ℕ) (kept : Assembly) (is_spent : Bool) (ready : List (List ℕ)) → is_spent ≡ true → ready ≡ [] → Selects offered given (of choice pids kept is_spent ready) → Selects (offered ++ more) given (of choice pids kept is_spent ready)
-    go Nothing pids kept is_spent ready e r k = record { so_far = k.so_far; follows = k.follows }
-    go (Packets whole) pids kept is_spent ready e r k = absurd (let f = k.follows in cc)
-    go (Sections pid wanted check true) pids kept is_spent ready e r k =
+    go : (choice : Choice) (kept : Assembly) (is_spent : Bool) (ready : List (List ℕ)) → is_spent ≡ true → ready ≡ [] → Selects offered given (of choice kept is_spent ready) → Selects (offered ++ more) given (of choice kept is_spent ready)
+    go Nothing kept is_spent ready e r k = record { so_far = k.so_far; follows = k.follows }
+    go (Packets give) kept is_spent ready e r k = absurd (let f = k.follows in cc)
+    go (Sections pid wanted check true) kept is_spent ready e r k =
         let f = k.follows.1 e in
-        let given_all : take 1 (filter (is_selected wanted check) (sections (packets_of offered) pid)) ≡ given = k.so_far ∙ rw r (append-nil given) in
+        let given_all : take 1 (filter (is_selected wanted check) (sections offered pid)) ≡ given = k.so_far ∙ rw r (append-nil given) in
         record {
-          so_far = rw (map-append (λ x. x.packet) offered more, r, append-nil given) (first-all pid wanted check (packets_of offered) (packets_of more) given f.1 given_all);
+          so_far = rw (r, append-nil given) (first-all pid wanted check offered more given f.1 given_all);
           follows = (λ g. absurd cc, λ g. f);
         }
-    go (Sections pid wanted check false) pids kept is_spent ready e r k = absurd (let f = (k.follows.1 e).0 in cc)
+    go (Sections pid wanted check false) kept is_spent ready e r k = absurd (let f = (k.follows.1 e).0 in cc)
 
 -- a filter of packets
-filter_map-one : (f : Offered → Option (List ℕ)) (o : Offered) (r : Option (List ℕ)) → f o ≡ r → filter_map f (o ∷ []) ≡ listed r
+filter_map-one : (f : List ℕ → Option (List ℕ)) (o : List ℕ) (r : Option (List ℕ)) → f o ≡ r → filter_map f (o ∷ []) ≡ listed r
 filter_map-one f o None e = rw e refl
 filter_map-one f o (Some x) e = rw e refl
 
-offer-packet : (whole : Bool) (pids : List ℕ) (kept : Assembly) (is_spent : Bool) (offered : List Offered) (given : List (List ℕ)) (o : Offered)
-    → Selects offered given (of (Packets whole) pids kept is_spent [])
-    → Selects (offered ++ o ∷ []) given (of (Packets whole) pids kept is_spent (listed (given_by whole o)))
+offer-packet : (give : Give) (kept : Assembly) (is_spent : Bool) (offered given : List (List ℕ)) (p : List ℕ)
+    → Selects offered given (of (Packets give) kept is_spent [])
+    → Selects (offered ++ p ∷ []) given (of (Packets give) kept is_spent (listed (given_by give p)))
 unfolding items_of
-offer-packet whole pids kept is_spent offered given o h =
+offer-packet give kept is_spent offered given p h =
     record {
-      so_far = filter_map-append (given_by whole) offered (o ∷ []) ∙ rw (filter_map-one (given_by whole) o (given_by whole o) refl, h.so_far, append-nil given) refl;
+      so_far = filter_map-append (given_by give) offered (p ∷ []) ∙ rw (filter_map-one (given_by give) p (given_by give p) refl, h.so_far, append-nil given) refl;
       follows = h.follows;
     }
 
-offer-by : (choice : Choice) (pids : List ℕ) (kept : Assembly) (is_spent : Bool) (offered : List Offered) (given : List (List ℕ)) (p : List ℕ)
-    → Selects offered given (of choice pids kept is_spent []) → Selects (offered ++ (record { packet = p; pids = pids }) ∷ []) given (after_offer (of choice pids kept is_spent []) p)
+offer-by : (choice : Choice) (kept : Assembly) (is_spent : Bool) (offered given : List (List ℕ)) (p : List ℕ)
+    → Selects offered given (of choice kept is_spent []) → Selects (offered ++ p ∷ []) given (after_offer (of choice kept is_spent []) p)
 unfolding after_offer items_of
-offer-by Nothing pids kept is_spent offered given p h = record { so_far = h.so_far; follows = h.follows }
-offer-by (Packets whole) pids kept is_spent offered given p h = offer-packet whole pids kept is_spent offered given (record { packet = p; pids = pids }) h
-offer-by (Sections pid wanted check once) pids kept false offered given p h = offer-going pid wanted check once pids kept offered given p h
-offer-by (Sections pid wanted check once) pids kept true offered given p h = spent-selects offered ((record { packet = p; pids = pids }) ∷ []) given (of (Sections pid wanted check once) pids kept true []) h refl refl
+offer-by Nothing kept is_spent offered given p h = record { so_far = h.so_far; follows = h.follows }
+offer-by (Packets give) kept is_spent offered given p h = offer-packet give kept is_spent offered given p h
+offer-by (Sections pid wanted check once) kept false offered given p h = offer-going pid wanted check once kept offered given p h
+offer-by (Sections pid wanted check once) kept true offered given p h = spent-selects offered (p ∷ []) given (of (Sections pid wanted check once) kept true []) h refl refl
 
-pub Selects-offer : (offered : List Offered) (given : List (List ℕ)) (s : Selecting) (p : List ℕ) → s.ready ≡ [] → Selects offered given s → Selects (offered ++ offered_now s p ∷ []) given (after_offer s p)
+pub Selects-offer : (offered given : List (List ℕ)) (s : Selecting) (p : List ℕ) → s.ready ≡ [] → Selects offered given s → Selects (offered ++ p ∷ []) given (after_offer s p)
 Selects-offer offered given s p e h =
-    let P : List (List ℕ) → Type 0 = λ r. Selects offered given (of s.choice s.pids s.kept s.is_spent r) → Selects (offered ++ offered_now s p ∷ []) given (after_offer (of s.choice s.pids s.kept s.is_spent r) p) in
-    subst P (sym e) (λ k. offer-by s.choice s.pids s.kept s.is_spent offered given p k) h
+    let P : List (List ℕ) → Type 0 = λ r. Selects offered given (of s.choice s.kept s.is_spent r) → Selects (offered ++ p ∷ []) given (after_offer (of s.choice s.kept s.is_spent r) p) in
+    subst P (sym e) (λ k. offer-by s.choice s.kept s.is_spent offered given p k) h
 
-pub Selects-offered : (offered : List Offered) (given : List (List ℕ)) (s new : Selecting) (p : List ℕ) → new ≡ after_offer s p → s.ready ≡ [] → Selects offered given s → Selects (offered ++ offered_now s p ∷ []) given new
+pub Selects-offered : (offered given : List (List ℕ)) (s new : Selecting) (p : List ℕ) → new ≡ after_offer s p → s.ready ≡ [] → Selects offered given s → Selects (offered ++ p ∷ []) given new
 Selects-offered offered given s new p v e h = rw v (Selects-offer offered given s p e h)
 
 -- ------ items are given
@@ -146,13 +140,13 @@ append-some [] ys x e = cc
 append-some (y ∷ xs) ys x e = cc
 
 -- whether the filter is spent once some items were given
-spent-by : (choice : Choice) (pids : List ℕ) (kept : Assembly) (is_spent : Bool) (offered : List Offered) (given some : List (List ℕ)) (old new : List (List ℕ)) → some ≢ []
-    → Follows choice offered given (of choice pids kept is_spent old) → Follows choice offered (given ++ some) (of choice pids kept (is_spent || (is_once choice && true)) new)
-spent-by Nothing pids kept is_spent offered given some old new n f = rw f refl
-spent-by (Packets whole) pids kept is_spent offered given some old new n f = rw f refl
-spent-by (Sections pid wanted check false) pids kept false offered given some old new n f = (λ e. ((f.0 refl).0, λ t. absurd cc), λ e. absurd cc)
-spent-by (Sections pid wanted check false) pids kept true offered given some old new n f = absurd (let z = (f.1 refl).0 in cc)
-spent-by (Sections pid wanted check true) pids kept is_spent offered given some old new n f =
+spent-by : (choice : Choice) (kept : Assembly) (is_spent : Bool) (offered : List (List ℕ)) (given some : List (List ℕ)) (old new : List (List ℕ)) → some ≢ []
+    → Follows choice offered given (of choice kept is_spent old) → Follows choice offered (given ++ some) (of choice kept (is_spent || (is_once choice && true)) new)
+spent-by Nothing kept is_spent offered given some old new n f = rw f refl
+spent-by (Packets give) kept is_spent offered given some old new n f = rw f refl
+spent-by (Sections pid wanted check false) kept false offered given some old new n f = (λ e. ((f.0 refl).0, λ t. absurd cc), λ e. absurd cc)
+spent-by (Sections pid wanted check false) kept true offered given some old new n f = absurd (let z = (f.1 refl).0 in cc)
+spent-by (Sections pid wanted check true) kept is_spent offered given some old new n f =
     (λ e. absurd (spent e), λ e. (refl, nonempty some n))
   where
     spent : (is_spent || (true && true)) ≡ false → ⊥
@@ -162,25 +156,25 @@ spent-by (Sections pid wanted check true) pids kept is_spent offered given some 
     nonempty [] m = λ e. m refl
     nonempty (x ∷ xs) m = append-some given xs x
 
-pub Selects-next : (offered : List Offered) (given : List (List ℕ)) (x : List ℕ) (rest : List (List ℕ)) (s : Selecting) → s.ready ≡ x ∷ rest → Selects offered given s → Selects offered (given ++ x ∷ []) (without_first s)
+pub Selects-next : (offered given : List (List ℕ)) (x : List ℕ) (rest : List (List ℕ)) (s : Selecting) → s.ready ≡ x ∷ rest → Selects offered given s → Selects offered (given ++ x ∷ []) (without_first s)
 Selects-next offered given x rest s e h =
-    let P : List (List ℕ) → Type 0 = λ r. Selects offered given (of s.choice s.pids s.kept s.is_spent r) → Selects offered (given ++ x ∷ []) (without_first (of s.choice s.pids s.kept s.is_spent r)) in
-    subst P (sym e) (λ k. record { so_far = k.so_far ∙ sym (append_assoc given (x ∷ []) rest); follows = spent-by s.choice s.pids s.kept s.is_spent offered given (x ∷ []) (x ∷ rest) rest (λ z. cc) k.follows }) h
+    let P : List (List ℕ) → Type 0 = λ r. Selects offered given (of s.choice s.kept s.is_spent r) → Selects offered (given ++ x ∷ []) (without_first (of s.choice s.kept s.is_spent r)) in
+    subst P (sym e) (λ k. record { so_far = k.so_far ∙ sym (append_assoc given (x ∷ []) rest); follows = spent-by s.choice s.kept s.is_spent offered given (x ∷ []) (x ∷ rest) rest (λ z. cc) k.follows }) h
 
-pub Selects-all_given : (offered : List Offered) (given : List (List ℕ)) (s : Selecting) → Selects offered given s → Selects offered (given ++ s.ready) (all_given s)
-Selects-all_given offered given s h = go s.choice s.pids s.kept s.is_spent s.ready h
+pub Selects-all_given : (offered given : List (List ℕ)) (s : Selecting) → Selects offered given s → Selects offered (given ++ s.ready) (all_given s)
+Selects-all_given offered given s h = go s.choice s.kept s.is_spent s.ready h
   where
-    go : (choice : Choice) (pids : List ℕ) (kept : Assembly) (is_spent : Bool) (ready : List (List ℕ)) → Selects offered given (of choice pids kept is_spent ready) → Selects offered (given ++ ready) (all_given (of choice pids kept is_spent ready))
-    go choice pids kept is_spent [] k = rw (append-nil given, none-more is_spent (is_once choice)) k
-    go choice pids kept is_spent (x ∷ rest) k = record {
+    go : (choice : Choice) (kept : Assembly) (is_spent : Bool) (ready : List (List ℕ)) → Selects offered given (of choice kept is_spent ready) → Selects offered (given ++ ready) (all_given (of choice kept is_spent ready))
+    go choice kept is_spent [] k = rw (append-nil given, none-more is_spent (is_once choice)) k
+    go choice kept is_spent (x ∷ rest) k = record {
       so_far = k.so_far ∙ sym (append-nil (given ++ (x ∷ rest)));
-      follows = spent-by choice pids kept is_spent offered given (x ∷ rest) (x ∷ rest) [] (λ z. cc) k.follows;
+      follows = spent-by choice kept is_spent offered given (x ∷ rest) (x ∷ rest) [] (λ z. cc) k.follows;
     }
 
 -- without an item to give nothing changes
 pub without_first-none : (s : Selecting) → s.ready ≡ [] → without_first s ≡ s
 without_first-none s e =
-    let P : List (List ℕ) → Type 0 = λ r. without_first (of s.choice s.pids s.kept s.is_spent r) ≡ of s.choice s.pids s.kept s.is_spent r in
+    let P : List (List ℕ) → Type 0 = λ r. without_first (of s.choice s.kept s.is_spent r) ≡ of s.choice s.kept s.is_spent r in
     subst P (sym e) (rw (none-more s.is_spent (is_once s.choice)) refl)
 
 -- ------ the bytes
@@ -201,14 +195,9 @@ sum-payload : (p : List ℕ) (b : Bool) → has_payload p ≡ b → length p ≡
 sum-payload p true e l = rw e (omega (arith, length-drop (payload_start p) p, sum_by-cons length (drop (payload_start p) p) []))
 sum-payload p false e l = rw e (omega arith)
 
-pub sum-packet : (whole : Bool) (o : Offered) → length o.packet ≡ 188 → sum_by length (listed (given_by whole o)) ≤ 188
-unfolding given_by
-sum-packet whole o l = go whole (is_named o) refl
-  where
-    go : (w b : Bool) → is_named o ≡ b → sum_by length (listed (given_by w o)) ≤ 188
-    go true true e = rw e (omega (arith, sum_by-cons length o.packet []))
-    go false true e = rw e (sum-payload o.packet (has_payload o.packet) refl l)
-    go w false e = rw e (omega arith)
+pub sum-packet : (give : Give) (p : List ℕ) → length p ≡ 188 → sum_by length (listed (given_by give p)) ≤ 188
+sum-packet Whole p l = rw l (omega (arith, sum_by-cons length p []))
+sum-packet Payload p l = sum-payload p (has_payload p) refl l
 
 carried-few : (p : List ℕ) → length p ≡ 188 → length (carried p) ≤ 184
 carried-few p l = go (has_adaptation p) refl
@@ -227,43 +216,34 @@ section-bytes pid wanted check once packets p l =
     let none = ap (λ l. sum_by length l) k.drained in
     omega (arith, b, none, sum-selected once (is_selected wanted check) (after_packet (kept_after_all pid packets) p).ready)
 
-offer-bytes-by : (choice : Choice) (pids : List ℕ) (kept : Assembly) (is_spent : Bool) (offered : List Offered) (given : List (List ℕ)) (p : List ℕ) → length p ≡ 188
-    → Selects offered given (of choice pids kept is_spent []) → bytes_held (after_offer (of choice pids kept is_spent []) p) ≤ bytes_held (of choice pids kept is_spent []) + 188
+offer-bytes-by : (choice : Choice) (kept : Assembly) (is_spent : Bool) (offered given : List (List ℕ)) (p : List ℕ) → length p ≡ 188
+    → Selects offered given (of choice kept is_spent []) → bytes_held (after_offer (of choice kept is_spent []) p) ≤ bytes_held (of choice kept is_spent []) + 188
 unfolding after_offer
-offer-bytes-by Nothing pids kept is_spent offered given p l h = omega arith
-offer-bytes-by (Packets whole) pids kept is_spent offered given p l h = omega (arith, sum-packet whole (record { packet = p; pids = pids }) l)
-offer-bytes-by (Sections pid wanted check once) pids kept true offered given p l h = omega arith
-offer-bytes-by (Sections pid wanted check once) pids kept false offered given p l h =
+offer-bytes-by Nothing kept is_spent offered given p l h = omega arith
+offer-bytes-by (Packets give) kept is_spent offered given p l h = omega (arith, sum-packet give p l)
+offer-bytes-by (Sections pid wanted check once) kept true offered given p l h = omega arith
+offer-bytes-by (Sections pid wanted check once) kept false offered given p l h =
     let e = (h.follows.0 refl).0 in
-    rw e (omega (arith, section-bytes pid wanted check once (packets_of offered) p l))
+    rw e (omega (arith, section-bytes pid wanted check once (offered) p l))
 
-offer-bytes : (offered : List Offered) (given : List (List ℕ)) (s : Selecting) (p : List ℕ) → length p ≡ 188 → s.ready ≡ [] → Selects offered given s → bytes_held (after_offer s p) ≤ bytes_held s + 188
+offer-bytes : (offered given : List (List ℕ)) (s : Selecting) (p : List ℕ) → length p ≡ 188 → s.ready ≡ [] → Selects offered given s → bytes_held (after_offer s p) ≤ bytes_held s + 188
 offer-bytes offered given s p l e h =
-    let P : List (List ℕ) → Type 0 = λ r. Selects offered given (of s.choice s.pids s.kept s.is_spent r) → bytes_held (after_offer (of s.choice s.pids s.kept s.is_spent r) p) ≤ bytes_held (of s.choice s.pids s.kept s.is_spent r) + 188 in
-    subst P (sym e) (λ k. offer-bytes-by s.choice s.pids s.kept s.is_spent offered given p l k) h
+    let P : List (List ℕ) → Type 0 = λ r. Selects offered given (of s.choice s.kept s.is_spent r) → bytes_held (after_offer (of s.choice s.kept s.is_spent r) p) ≤ bytes_held (of s.choice s.kept s.is_spent r) + 188 in
+    subst P (sym e) (λ k. offer-bytes-by s.choice s.kept s.is_spent offered given p l k) h
 
 -- ------ packets in a row
 
-abbrev offered_by : List ℕ → List ℕ → Offered
-offered_by pids p = record { packet = p; pids = pids }
+-- a packet doesn't change the filter
 
--- a packet changes neither the filter nor its PIDs
-record Keeps (s left : Selecting) : Type 0 where
-  pub choice : left.choice ≡ s.choice
-  pub pids : left.pids ≡ s.pids
-
-offer-keeps : (s : Selecting) (p : List ℕ) → Keeps s (after_offer s p)
+offer-keeps : (s : Selecting) (p : List ℕ) → (after_offer s p).choice ≡ s.choice
 unfolding after_offer
-offer-keeps s p = go s.choice s.pids s.kept s.is_spent s.ready
+offer-keeps s p = go s.choice s.kept s.is_spent s.ready
   where
-    go : (choice : Choice) (pids : List ℕ) (kept : Assembly) (is_spent : Bool) (ready : List (List ℕ)) → Keeps (of choice pids kept is_spent ready) (after_offer (of choice pids kept is_spent ready) p)
-    go Nothing pids kept is_spent ready = record { choice = refl; pids = refl }
-    go (Packets whole) pids kept is_spent ready = record { choice = refl; pids = refl }
-    go (Sections pid wanted check once) pids kept true ready = record { choice = refl; pids = refl }
-    go (Sections pid wanted check once) pids kept false ready = record { choice = refl; pids = refl }
-
-map-now : (s left : Selecting) (ps : List (List ℕ)) → left.pids ≡ s.pids → map (offered_now left) ps ≡ map (offered_now s) ps
-map-now s left ps e = ap (λ (pids : List ℕ). map (λ (p : List ℕ). offered_by pids p) ps) e
+    go : (choice : Choice) (kept : Assembly) (is_spent : Bool) (ready : List (List ℕ)) → (after_offer (of choice kept is_spent ready) p).choice ≡ choice
+    go Nothing kept is_spent ready = refl
+    go (Packets give) kept is_spent ready = refl
+    go (Sections pid wanted check once) kept true ready = refl
+    go (Sections pid wanted check once) kept false ready = refl
 
 pub all-selects : AllAreGiven
 unfolding items_found kept_after
@@ -271,33 +251,30 @@ all-selects [] offered given s h e = record {
   stands = rw (append-nil offered, append-nil given) h;
   drained = e;
   choice = refl;
-  pids = refl;
   bytes = λ few. omega arith;
 }
 all-selects (p ∷ ps) offered given s h e =
     let now = after_offer s p in
-    let k = offer-keeps s p in
     let one = Selects-offer offered given s p e h in
-    let all = Selects-all_given (offered ++ offered_now s p ∷ []) given now one in
-    let r = all-selects ps (offered ++ offered_now s p ∷ []) (given ++ now.ready) (all_given now) all refl in
+    let all = Selects-all_given (offered ++ p ∷ []) given now one in
+    let r = all-selects ps (offered ++ p ∷ []) (given ++ now.ready) (all_given now) all refl in
     record {
-      stands = rw (map-now s (all_given now) ps k.pids, append_assoc offered (offered_now s p ∷ []) (map (offered_now s) ps), append_assoc given now.ready (items_found (all_given now) ps)) at r.stands;
+      stands = rw (append_assoc offered (p ∷ []) ps, append_assoc given now.ready (items_found (all_given now) ps)) at r.stands;
       drained = r.drained;
-      choice = r.choice ∙ k.choice;
-      pids = r.pids ∙ k.pids;
+      choice = r.choice ∙ offer-keeps s p;
       bytes = λ few. omega (arith, r.bytes (λ i d below. few (suc i) d (omega (arith, below))), offer-bytes offered given s p (few 0 [] (omega arith)) e h, sum_by-append length now.ready (items_found (all_given now) ps));
     }
 
 -- ------ a one-shot filter
 
 pub once-spent : OneIsGiven
-once-spent offered given s h once some = go s.choice s.pids s.kept s.is_spent s.ready once h
+once-spent offered given s h once some = go s.choice s.kept s.is_spent s.ready once h
   where
-    go : (choice : Choice) (pids : List ℕ) (kept : Assembly) (is_spent : Bool) (ready : List (List ℕ)) → is_once choice ≡ true → Selects offered given (of choice pids kept is_spent ready) → is_spent ≡ true
-    go Nothing pids kept is_spent ready e k = absurd cc
-    go (Packets whole) pids kept is_spent ready e k = absurd cc
-    go (Sections pid wanted check one) pids kept true ready e k = refl
-    go (Sections pid wanted check one) pids kept false ready e k = absurd (some ((k.follows.0 refl).1 e))
+    go : (choice : Choice) (kept : Assembly) (is_spent : Bool) (ready : List (List ℕ)) → is_once choice ≡ true → Selects offered given (of choice kept is_spent ready) → is_spent ≡ true
+    go Nothing kept is_spent ready e k = absurd cc
+    go (Packets give) kept is_spent ready e k = absurd cc
+    go (Sections pid wanted check one) kept true ready e k = refl
+    go (Sections pid wanted check one) kept false ready e k = absurd (some ((k.follows.0 refl).1 e))
 
 -- ------ for a loop over the items, and over the packets
 
@@ -305,7 +282,7 @@ once-spent offered given s h once some = go s.choice s.pids s.kept s.is_spent s.
 pub all_given-next : (s : Selecting) → all_given (without_first s) ≡ all_given s
 all_given-next s = go s.is_spent (is_once s.choice) s.ready
   where
-    go : (is_spent once : Bool) (ready : List (List ℕ)) → of s.choice s.pids s.kept ((is_spent || (once && not (is_none ready))) || (once && not (is_none (drop 1 ready)))) [] ≡ of s.choice s.pids s.kept (is_spent || (once && not (is_none ready))) []
+    go : (is_spent once : Bool) (ready : List (List ℕ)) → of s.choice s.kept ((is_spent || (once && is_ready ready)) || (once && is_ready (drop 1 ready))) [] ≡ of s.choice s.kept (is_spent || (once && is_ready ready)) []
     go true once ready = refl
     go false false ready = refl
     go false true [] = refl
@@ -313,7 +290,7 @@ all_given-next s = go s.is_spent (is_once s.choice) s.ready
 
 pub all_given-none : (s : Selecting) → s.ready ≡ [] → all_given s ≡ s
 all_given-none s e =
-    let P : List (List ℕ) → Type 0 = λ r. all_given (of s.choice s.pids s.kept s.is_spent r) ≡ of s.choice s.pids s.kept s.is_spent r in
+    let P : List (List ℕ) → Type 0 = λ r. all_given (of s.choice s.kept s.is_spent r) ≡ of s.choice s.kept s.is_spent r in
     subst P (sym e) (rw (none-more s.is_spent (is_once s.choice)) refl)
 
 pub items_found-first : (s : Selecting) (p : List ℕ) (ps : List (List ℕ)) → items_found s (p ∷ ps) ≡ (after_offer s p).ready ++ items_found (all_given (after_offer s p)) ps

@@ -5,7 +5,9 @@ use Rattle.section_parse.specs.Inside.Keeping.{Assembly, cleared, after_packet, 
 use Rattle.filter_match.specs.declared.filter.SectionFilter.{SectionFilter}
 use Rattle.item_select.specs.declared.selector.Wanted.{Wanted}
 use Rattle.item_select.specs.declared.selector.Wanted.TheVariants.{Nothing as NothingWanted, Sections as SectionsWanted, Packets as PacketsWanted}
-use Rattle.item_select.specs.Items.{Nothing, Sections, Packets, is_selected, is_named, given_by}
+use Rattle.item_select.specs.declared.selector.Give.{Give}
+use Rattle.item_select.specs.declared.selector.Give.TheVariants.{Payload}
+use Rattle.item_select.specs.Items.{Nothing, Sections, Packets, is_selected}
 use Rattle.item_select.specs.Selecting.{Selects, section_pid, after_offer, bytes_held}
 use Rattle.item_select.specs.Inside.SelectorView.{choice_of, selecting_of}
 use Rattle.item_select.proofs.Giving.{Answers, answers-some, answers-none}
@@ -14,10 +16,10 @@ use Rattle.item_select.proofs.Selected.{Selects-begun, sum-selected, sum-packet}
 -- ------ a filter that begins
 
 pub Selects-cleared : (w : Wanted) (a : Assembly) (last : List ℕ) → a ≡ cleared (section_pid (choice_of w)) → Selects [] [] (selecting_of w a false false last)
-Selects-cleared NothingWanted a last e = rw e (Selects-begun Nothing [])
-Selects-cleared (SectionsWanted pid f check true) a last e = rw e (Selects-begun (Sections pid f check true) [])
-Selects-cleared (SectionsWanted pid f check false) a last e = rw e (Selects-begun (Sections pid f check false) [])
-Selects-cleared (PacketsWanted whole pids) a last e = rw e (Selects-begun (Packets whole) pids)
+Selects-cleared NothingWanted a last e = rw e (Selects-begun Nothing)
+Selects-cleared (SectionsWanted pid f check true) a last e = rw e (Selects-begun (Sections pid f check true))
+Selects-cleared (SectionsWanted pid f check false) a last e = rw e (Selects-begun (Sections pid f check false))
+Selects-cleared (PacketsWanted give) a last e = rw e (Selects-begun (Packets give))
 
 -- ------ a packet is offered
 
@@ -35,11 +37,10 @@ pub offer-section : (w : Wanted) (pid : ℕ) (f : SectionFilter) (check once : B
 unfolding after_offer
 offer-section w pid f check once a b is_spent waits last p e t h = rw (e, t, h) refl
 
-pub offer-packet : (w : Wanted) (whole : Bool) (pids : List ℕ) (a : Assembly) (is_spent waits named : Bool) (last p : List ℕ) → w ≡ PacketsWanted whole pids → named ≡ is_named (record { packet = p; pids = pids })
-    → selecting_of w a is_spent named p ≡ after_offer (selecting_of w a is_spent waits last) p
-unfolding after_offer given_by
-offer-packet w whole pids a is_spent waits true last p e n = rw (e, ← n) refl
-offer-packet w whole pids a is_spent waits false last p e n = rw (e, ← n) refl
+pub offer-packet : (w : Wanted) (give : Give) (a : Assembly) (is_spent waits : Bool) (last p : List ℕ) → w ≡ PacketsWanted give
+    → selecting_of w a is_spent true p ≡ after_offer (selecting_of w a is_spent waits last) p
+unfolding after_offer
+offer-packet w give a is_spent waits last p e = rw e refl
 
 -- the bytes of a section filter behind a packet
 pub section-bytes : (w : Wanted) (pid : ℕ) (f : SectionFilter) (check once : Bool) (a d b : Assembly) (is_spent waits : Bool) (last : List ℕ) → w ≡ SectionsWanted pid f check once → is_spent ≡ false
@@ -47,11 +48,9 @@ pub section-bytes : (w : Wanted) (pid : ℕ) (f : SectionFilter) (check once : B
 section-bytes w pid f check once a d b is_spent waits last e t k h = let g = rw k at h in rw (e, t) (omega (arith, sum-selected once (is_selected f check) b.ready, g))
 
 -- the bytes of a filter of packets
-pub packet-bytes : (w : Wanted) (whole : Bool) (pids : List ℕ) (a : Assembly) (is_spent waits named : Bool) (last p : List ℕ) → w ≡ PacketsWanted whole pids → named ≡ is_named (record { packet = p; pids = pids }) → length p ≡ 188
-    → bytes_held (selecting_of w a is_spent named p) ≤ bytes_held (selecting_of w a is_spent waits last) + 188
-unfolding given_by
-packet-bytes w whole pids a is_spent waits true last p e n l = let k = sum-packet whole (record { packet = p; pids = pids }) l in let g = rw (← n) at k in rw e (omega (arith, g))
-packet-bytes w whole pids a is_spent waits false last p e n l = rw e (omega arith)
+pub packet-bytes : (w : Wanted) (give : Give) (a : Assembly) (is_spent waits : Bool) (last p : List ℕ) → w ≡ PacketsWanted give → length p ≡ 188
+    → bytes_held (selecting_of w a is_spent true p) ≤ bytes_held (selecting_of w a is_spent waits last) + 188
+packet-bytes w give a is_spent waits last p e l = rw e (omega (arith, sum-packet give p l))
 
 -- ------ an item is given
 
@@ -67,7 +66,7 @@ or-false true = refl
 or-false false = refl
 
 -- the payload of the last packet is given, where it has one
-pub next-payload : (w : Wanted) (whole : Bool) (pids : List ℕ) (a : Assembly) (is_spent waits : Bool) (last : List ℕ) (o : Option (List ℕ)) → w ≡ PacketsWanted whole pids → whole ≡ false → waits ≡ true → o ≡ payload_of last
+pub next-payload : (w : Wanted) (give : Give) (a : Assembly) (is_spent waits : Bool) (last : List ℕ) (o : Option (List ℕ)) → w ≡ PacketsWanted give → give ≡ Payload → waits ≡ true → o ≡ payload_of last
     → Answers (selecting_of w a is_spent waits last) (selecting_of w a is_spent false last) o
-next-payload w whole pids a is_spent waits last (Some x) e f t h = rw (e, f, t) (answers-some _ _ x [] (rw (← h) refl) (rw (← h, or-false is_spent) refl))
-next-payload w whole pids a is_spent waits last None e f t h = rw (e, f, t) (answers-none _ _ (rw (← h) refl) (rw (← h) refl))
+next-payload w give a is_spent waits last (Some x) e f t h = rw (e, f, t) (answers-some _ _ x [] (rw (← h) refl) (rw (← h, or-false is_spent) refl))
+next-payload w give a is_spent waits last None e f t h = rw (e, f, t) (answers-none _ _ (rw (← h) refl) (rw (← h) refl))

@@ -2,7 +2,7 @@
 ghost use Rattle.item_select.specs.Laws.{AllAreGiven, OneIsAll, OneIsGiven};
 
 /// Packets that are offered one by one, each item given before the next one comes: the items given are those of all
-/// packets, the filter and its PIDs stay, and the items have at most 188 bytes a packet.
+/// packets, the filter stays, and the items have at most 188 bytes a packet.
 pub fn all_items_are_given()
     ensures { AllAreGiven }
 {}

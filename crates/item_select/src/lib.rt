@@ -1,22 +1,23 @@
-//! The items that a filter selects from packets: sections of a PID, packets of some PIDs, or the payloads of those.
+//! The items that a filter selects from packets: sections of a PID, the packets themselves, or their payloads.
 //!
 //! A `Selector` is given a filter (Linux media API, Digital TV demux, DMX_SET_FILTER and DMX_SET_PES_FILTER), is offered
 //! packets one by one, and lends each item as soon as the packet that completes it was offered.
 //!
-//! What a contract sees: what a selector keeps between two calls (`specs/Selecting.antt`): the filter, its PIDs, what the
+//! What a contract sees: what a selector keeps between two calls (`specs/Selecting.antt`): the filter, what the
 //! assembler of a section filter holds, and the items that are ready.
 //!
-//! What is proved, against `items_of` over the whole list of packets, each with the PIDs of its moment (`specs/Items.antt`):
+//! What is proved, against `items_of` over the whole list of packets (`specs/Items.antt`):
 //! - `offer` and `item` hand out the items of all packets offered since the filter began, in order, each once, and `item`
 //!   answers None exactly where no further one lies in them. An item has 1 to 4096 bytes, and all have 188 a packet at most.
-//! - The calls that set a filter, and `restart`, begin with no packets. `set_pids` leaves those offered before as they were.
+//! - The calls that set a filter, and `restart`, begin with no packets.
 //! - Laws: packets in a row, each item taken before the next packet, give all their items; a one-shot filter that has given
 //!   its section has no further item, whatever packets follow.
 //!
 //! What is only tested: that ample memory is enough. The tests stand in `section_tests`.
 //!
-//! Limits: only `new` takes memory. A filter of packets takes packets as they are, with errors, scrambled or sent twice.
-//! That a packet gives one item at most, however many PIDs name it, is this project's rule.
+//! Limits: only `new` takes memory. A filter of packets takes packets as they are, with errors, scrambled or sent twice,
+//! and each that it is offered: who uses it offers those that its PIDs name. That a packet gives one item at most is this
+//! project's rule.
 #![tactic(auto)]
 
 mod laws;
@@ -24,4 +25,4 @@ mod section;
 mod selector;
 
 pub use laws::{all_items_are_given, one_shot_gives_no_more, one_shot_is_spent};
-pub use selector::Selector;
+pub use selector::{Checks, Give, Selector};

@@ -1,14 +1,13 @@
 // The items of a filter, packet by packet.
-ghost use Rattle.std.specs.Prelude.{◌≡◌, ℕ, ◌+◌, ◌<◌, ◌≤◌, ◌↔◌, true, List, [], ◌∷◌, ◌++◌, length, slice_get, Some, None, IfOk, IfSome, IsNone};
+ghost use Rattle.std.specs.Prelude.{◌≡◌, ℕ, ◌+◌, ◌<◌, ◌≤◌, ◌↔◌, List, [], ◌∷◌, ◌++◌, length, slice_get, Some, None, IfOk, IfSome, IsNone};
 ghost use Rattle.std.specs.Option.{option_map};
 ghost use Rattle.std.specs.Borrow.{sem};
-ghost use Rattle.item_select.specs.Items.{Choice, Nothing, Sections, Packets, Offered, items_of};
-ghost use Rattle.item_select.specs.Selecting.{Selecting, Selects, Gave, begun, begun_again, with_pids, after_offer, offered_now, bytes_held, is_of_packets, section_pid as sections_of};
+ghost use Rattle.item_select.specs.Items.{Choice, Nothing, Sections, Packets, items_of};
+ghost use Rattle.item_select.specs.Selecting.{Selecting, Selects, Gave, begun, begun_again, after_offer, bytes_held, section_pid as sections_of};
 ghost use Rattle.item_select.specs.Inside.SelectorView.{choice_of};
 
 use crate::section::{drain, find};
 use filter_match::{Compiled, SectionFilter};
-use pid_set::Pids;
 use section_parse::Assembler;
 use std::alloc::{AllocError as NoMemory, Global};
 use std::marker::Model;
@@ -16,6 +15,24 @@ use ts_packet::Packet;
 
 // The length of the longest section.
 const ROOM: usize = 4096;
+
+/// What a filter of packets gives of each packet.
+#[derive(Clone, Copy, Debug, PartialEq, Eq, Drop)]
+pub enum Give {
+    /// Its payload, where it has one: DMX_OUT_TAP.
+    Payload,
+    /// All its bytes: DMX_OUT_TSDEMUX_TAP.
+    Whole,
+}
+
+/// Which of the sections that match a filter are given.
+#[derive(Clone, Copy, Debug, PartialEq, Eq, Drop)]
+pub struct Checks {
+    /// Those without a CRC, their section_syntax_indicator being 0, and those with a right one alone: DMX_CHECK_CRC.
+    pub crc: bool,
+    /// The first alone: DMX_ONESHOT.
+    pub once: bool,
+}
 
 // What is selected.
 #[derive(Drop)]
@@ -27,10 +44,7 @@ enum Wanted {
         check: bool,
         once: bool,
     },
-    Packets {
-        whole: bool,
-        pids: Pids,
-    },
+    Packets(Give),
 }
 
 /// The items that a filter selects from the packets offered to it.
@@ -66,7 +80,7 @@ fn section_pid(wanted: &Wanted) -> u16
 {
     match wanted {
         Wanted::Sections { pid, .. } => *pid,
-        Wanted::Nothing | Wanted::Packets { .. } => 0,
+        Wanted::Nothing | Wanted::Packets(_) => 0,
     }
 }
 
@@ -80,7 +94,7 @@ impl Selector {
     ///
     /// `NoMemory` where the allocator refuses.
     pub fn new(alloc: Global) -> Result<Selector, NoMemory>
-        ensures value { IfOk result (λ s. s ≡ begun Nothing []) }
+        ensures value { IfOk result (λ s. s ≡ begun Nothing) }
         ensures stands { IfOk result (λ s. Selects [] [] s) }
     {
         Ok(Selector {
@@ -93,55 +107,39 @@ impl Selector {
         })
     }
 
-    /// Selects, from now on, the sections of a PID that match a filter: with `check` those without a CRC, their
-    /// section_syntax_indicator being 0, and those with a right one alone; with `once` the first alone. Takes no memory.
-    pub fn set_sections(&mut self, pid: u16, filter: &SectionFilter, check: bool, once: bool)
-        ensures value { self.new ≡ begun (Sections pid filter.now check once) [] }
+    /// Selects, from now on, the sections of a PID that match a filter and pass these checks. Takes no memory.
+    pub fn set_sections(&mut self, pid: u16, filter: &SectionFilter, checks: Checks)
+        ensures value { self.new ≡ begun (Sections pid filter.now checks.crc checks.once) }
         ensures stands { Selects [] [] self.new }
     {
         self.wanted = Wanted::Sections {
             pid,
             filter: Compiled::of(filter),
-            check,
-            once,
+            check: checks.crc,
+            once: checks.once,
         };
         self.restart();
     }
 
-    /// Selects, from now on, the packets of these PIDs, or their payloads where `whole` is false. Takes no memory.
-    pub fn set_packets(&mut self, whole: bool, pids: &Pids)
-        ensures value { self.new ≡ begun (Packets whole) pids.now }
+    /// Selects, from now on, each packet that is offered: whole, or its payload. Takes no memory.
+    pub fn set_packets(&mut self, give: Give)
+        ensures value { self.new ≡ begun (Packets give) }
         ensures stands { Selects [] [] self.new }
     {
-        self.wanted = Wanted::Packets {
-            whole,
-            pids: pids.copied(),
-        };
+        self.wanted = Wanted::Packets(give);
         self.restart();
     }
 
     /// Selects nothing from now on. Takes no memory.
     pub fn set_none(&mut self)
-        ensures value { self.new ≡ begun Nothing [] }
+        ensures value { self.new ≡ begun Nothing }
         ensures stands { Selects [] [] self.new }
     {
         self.wanted = Wanted::Nothing;
         self.restart();
     }
 
-    /// Changes the PIDs of a filter of packets, from the next packet on: the filter is one of packets. Takes no memory.
-    pub fn set_pids(&mut self, pids: &Pids)
-        requires { is_of_packets self.old.choice ≡ true }
-        ensures value { self.new ≡ with_pids pids.now self.old }
-        ensures stands { (offered : List Offered) (given : List (List ℕ)) → Selects offered given self.old → Selects offered given self.new }
-    {
-        match &mut self.wanted {
-            Wanted::Packets { pids: named, .. } => *named = pids.copied(),
-            Wanted::Nothing | Wanted::Sections { .. } => unreachable!(),
-        }
-    }
-
-    /// Begins anew with the same filter and the same PIDs. Takes no memory.
+    /// Begins anew with the same filter. Takes no memory.
     pub fn restart(&mut self)
         ensures value { self.new ≡ begun_again self.old }
         ensures stands { Selects [] [] self.new }
@@ -151,13 +149,13 @@ impl Selector {
         self.waits = false;
     }
 
-    /// Offers a packet, once `item` has answered None. Takes no memory.
+    /// Offers a packet, once `item` has answered None. A filter of sections passes over those of other PIDs, and a filter of
+    /// packets takes each that it is offered. Takes no memory.
     pub fn offer(&mut self, packet: &Packet)
         requires drained { self.old.ready ≡ [] }
         ensures value { self.new ≡ after_offer self.old packet.now }
         ensures choice { self.new.choice ≡ self.old.choice }
-        ensures pids { self.new.pids ≡ self.old.pids }
-        ensures stands { (offered : List Offered) (given : List (List ℕ)) → Selects offered given self.old → Selects (offered ++ offered_now self.old packet.now ∷ []) given self.new }
+        ensures stands { (offered given : List (List ℕ)) → Selects offered given self.old → Selects (offered ++ packet.now ∷ []) given self.new }
         ensures bytes { bytes_held self.new ≤ bytes_held self.old + 188 }
     {
         match &self.wanted {
@@ -168,10 +166,10 @@ impl Selector {
                     self.assembler.push(packet);
                 }
             }
-            Wanted::Packets { pids, .. } => {
+            Wanted::Packets(_) => {
                 // Its type says that it has 188 bytes.
                 let _ = packet.bytes();
-                self.waits = pids.names(packet.pid());
+                self.waits = true;
                 self.last = *packet;
             }
         }
@@ -184,7 +182,7 @@ impl Selector {
         ensures drained { IsNone result ↔ (self.old.ready ≡ []) }
         ensures some { IfSome result (λ x. 0 < length x.now) }
         ensures most { IfSome result (λ x. length x.now ≤ 4096) }
-        ensures none { (offered : List Offered) (given : List (List ℕ)) → Selects offered given self.old → (IsNone result ↔ (items_of self.old.choice offered ≡ given)) }
+        ensures none { (offered given : List (List ℕ)) → Selects offered given self.old → (IsNone result ↔ (items_of self.old.choice offered ≡ given)) }
         ensures* after { sem 𝓛 (Rests the_row self.entry (λ left. Gave self.old (option_map (λ x. x.now) result) left)) }
     {
         match &self.wanted {
@@ -201,15 +199,14 @@ impl Selector {
                 self.is_spent = *once;
                 Some(&self.lent)
             }
-            Wanted::Packets { whole, .. } => {
+            Wanted::Packets(give) => {
                 if !self.waits {
                     return None;
                 }
                 self.waits = false;
-                if *whole {
-                    Some(self.last.bytes())
-                } else {
-                    self.last.payload()
+                match give {
+                    Give::Whole => Some(self.last.bytes()),
+                    Give::Payload => self.last.payload(),
                 }
             }
         }

@@ -2,6 +2,7 @@ pub mod Bytes
 pub mod Rests
 mod Holding
 pub mod Arrivals
+pub mod Named
 pub mod Answering
 pub mod Readings
 pub mod Silences

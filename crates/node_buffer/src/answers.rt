@@ -1,4 +1,4 @@
-// What every node answers: that a call was done, and answers that hand back what the call brought.
+// What every node answers: that a call was done, and answers that hand back the batch that the call brought.
 
 ghost use Rattle.std.specs.Prelude.{◌≡◌, Option, Some, None, MatchResult};
 ghost use Rattle.dmx_calls.specs.Back.{GivesBack};
@@ -29,32 +29,22 @@ pub fn opened<T: Drop>(kept: &mut Option<T>, made: Result<T, NoMemory>) -> Reply
     }
 }
 
-/// The answer to a call that brought neither a buffer nor a batch.
+/// The answer to a call that brought no batch.
 pub fn plain(reply: Reply) -> Answer
-    ensures { result ≡ record { reply = reply; back = None; batch = None } }
+    ensures { result ≡ record { reply = reply; batch = None } }
 {
-    Answer {
-        reply,
-        back: None,
-        batch: None,
-    }
+    Answer { reply, batch: None }
 }
 
-/// The call is refused: what it brought is handed back.
+/// The call is refused: the batch that it brought is handed back.
 pub fn refused(errno: Errno, call: Call) -> Answer
     ensures reply { result.reply ≡ Reply.Refused errno }
     ensures back { GivesBack call result }
 {
     let reply = Reply::Refused(errno);
     match call {
-        Call::Read { buf, .. } => Answer {
-            reply,
-            back: Some(buf),
-            batch: None,
-        },
         Call::Pass { batch, .. } => Answer {
             reply,
-            back: None,
             batch: Some(batch),
         },
         _ => plain(reply),

@@ -4,7 +4,6 @@ ghost use Rattle.std.specs.Prelude.{[], ◌++◌, min, take, drop, ◌≡◌, �
 ghost use Rattle.dmx_calls.specs.declared.limits.TheConstants.{SMALLEST_SIZE, LARGEST_SIZE};
 ghost use Rattle.dmx_calls.specs.Calls.{response_of};
 ghost use Rattle.dmx_calls.specs.Response.{Ready};
-ghost use Rattle.dmx_calls.specs.Back.{BackOfRead};
 ghost use Rattle.dmx_calls.specs.Tenure.{Empty};
 ghost use Rattle.dmx_calls.specs.Answer.{is_readable, pending, answered_of};
 ghost use Rattle.node_buffer.specs.Inside.Capturing.{begun, terms_of as terms_by, is_due as due, expiring, state_by, with_item, with_stop, with_response, read_by, over_in, front_length as front_by};
@@ -236,40 +235,37 @@ impl Buffer {
         capture.total += need;
     }
 
-    /// The reply to a Read, with its buffer where the reply doesn't hold it: a pending overflow once nothing before it is
-    /// unread, else an expiry that wasn't told, else bytes. `ended` says that the stream has ended, which Again tells.
-    pub fn read(&mut self, ended: bool, buf: ByteBuf) -> (Reply, Option<ByteBuf>)
-        ensures said { response_of result.0 ≡ read_by ended self.old.terms self.old.ledger buf.count }
-        ensures after { self.new ≡ record { size = self.old.size; terms = self.old.terms; ledger = option_map (with_response self.old.terms.by_section (response_of result.0)) self.old.ledger } }
-        ensures back { BackOfRead buf result.0 result.1 }
+    /// The reply to a Read: a pending overflow once nothing before it is unread, else an expiry that wasn't told, else bytes in
+    /// the Read's buffer. `ended` says that the stream has ended, which Again tells.
+    pub fn read(&mut self, ended: bool, buf: ByteBuf) -> Reply
+        ensures said { response_of result ≡ read_by ended self.old.terms self.old.ledger buf.count }
+        ensures after { self.new ≡ record { size = self.old.size; terms = self.old.terms; ledger = option_map (with_response self.old.terms.by_section (response_of result)) self.old.ledger } }
         ensures holds { CoherentIn self.new.ledger }
     {
         let at_edge = self.overflow_at_edge();
         let Some(capture) = &mut self.capture else {
-            return (no_bytes(buf), None);
+            return no_bytes(buf);
         };
         if let Some(lost) = at_edge {
             let from = capture.answered;
             capture.answered = capture.total;
             capture.over = None;
             capture.rest = 0;
-            let reply = Reply::Overflow {
+            return Reply::Overflow {
                 from,
                 to: capture.answered,
                 item: lost.item,
                 need: lost.need,
                 room: lost.room,
             };
-            return (reply, Some(buf));
         }
         if let (Some(now), false) = (capture.expired, capture.is_told) {
             capture.is_told = true;
-            let reply = Reply::TimedOut {
+            return Reply::TimedOut {
                 started: capture.started,
                 now,
                 timeout: self.terms.timeout,
             };
-            return (reply, Some(buf));
         }
         self.read_bytes(ended, buf)
     }
@@ -284,19 +280,18 @@ impl Buffer {
 
     // The reply to a Read where nothing is pending, or bytes come before it: no bytes for a count of 0, Again where all is
     // answered, and else as many bytes as are asked for and there; on a section filter no more than are left of the section.
-    fn read_bytes(&mut self, ended: bool, buf: ByteBuf) -> (Reply, Option<ByteBuf>)
+    fn read_bytes(&mut self, ended: bool, buf: ByteBuf) -> Reply
         requires overflow { over_in self.old.ledger ≡ None }
         requires expiry { IfSome self.old.ledger (λ l. is_some l.expired && not l.is_told ≡ false) }
-        ensures said { response_of result.0 ≡ read_by ended self.old.terms self.old.ledger buf.count }
-        ensures after { self.new ≡ record { size = self.old.size; terms = self.old.terms; ledger = option_map (with_response self.old.terms.by_section (response_of result.0)) self.old.ledger } }
-        ensures back { BackOfRead buf result.0 result.1 }
+        ensures said { response_of result ≡ read_by ended self.old.terms self.old.ledger buf.count }
+        ensures after { self.new ≡ record { size = self.old.size; terms = self.old.terms; ledger = option_map (with_response self.old.terms.by_section (response_of result)) self.old.ledger } }
         ensures holds { CoherentIn self.new.ledger }
     {
         let Some(capture) = &mut self.capture else {
-            return (no_bytes(buf), None);
+            return no_bytes(buf);
         };
         if buf.count() > 0 && self.ring.unread() == 0 {
-            return (Reply::Again { ended }, Some(buf));
+            return Reply::Again { ended };
         }
         let by_section = self.terms.by_section;
         let most = most_bytes(by_section, capture.rest, self.ring.unread(), buf.count());
@@ -304,7 +299,7 @@ impl Buffer {
         fill(&mut self.ring, &mut filled, most);
         capture.answered += most;
         capture.rest = rest_behind(by_section, capture.rest, most, &self.ring);
-        (Reply::Data(filled), None)
+        Reply::Data(filled)
     }
 
     /// The reply to a Poll: whether a Read of one byte would give something, what is pending, and the place up to which all is

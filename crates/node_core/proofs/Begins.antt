@@ -17,13 +17,13 @@ use Rattle.dmx_calls.proofs.After.{facts_opened, facts_closed, facts_started, fa
 use Rattle.item_select.specs.Items.{Choice}
 use Rattle.item_select.specs.Selecting.{Selecting, begun as begun_selecting}
 use Rattle.item_select.proofs.Selected.{Selects-begun}
-use Rattle.node_core.specs.Offers.{HasSelected, choice_of, names_of}
+use Rattle.node_core.specs.Offers.{HasSelected, choice_of}
 use Rattle.node_core.proofs.Takings.{selected_none}
 use Rattle.node_core.proofs.Moves.{Moves, no_run}
 
 -- a capture that has just begun has offered nothing
-selected_begun : (g : History) (ev : Event) → capture g ≡ Some (begun ev) → (choice : Choice) (names : List ℕ) → HasSelected g (begun_selecting choice names)
-selected_begun g ev is choice names = λ c runs. rw (offered-fresh g ev is, items-fresh g ev is) (Selects-begun choice names)
+selected_begun : (g : History) (ev : Event) → capture g ≡ Some (begun ev) → (choice : Choice) → HasSelected g (begun_selecting choice)
+selected_begun g ev is choice = λ c runs. rw (offered-fresh g ev is, items-fresh g ev is) (Selects-begun choice)
 
 module _ (h : History) (k : Selecting) (who : ℕ) (r : Response) (ok : is_accepted r ≡ true) where
   pub open_moves : Moves h k who Open r
@@ -47,14 +47,14 @@ module _ (h : History) (k : Selecting) (who : ℕ) (r : Response) (ok : is_accep
         let e : Entry = entry_of who (Start now) r in
         record {
           told = facts_started h t who r held ok now;
-          selected = selected_begun (e ∷ h) (event e h) (capture_begun e h t held (tenure_after e h t ok refl refl held) refl) k.choice k.pids;
+          selected = selected_begun (e ∷ h) (event e h) (capture_begun e h t held (tenure_after e h t ok refl refl held) refl) k.choice;
         }
 
     -- a set call, by whether it starts the filter
-    set_selected : (e : Entry) → tenure (e ∷ h) ≡ Some (more (event e h) t) → (choice : Choice) (names : List ℕ) (now : ℕ) → (b : Bool) → begins (event e h) ≡ b
-        → (facts demux (e ∷ h)).ledger ≡ (if b then Some (fresh now) else None) → HasSelected (e ∷ h) (begun_selecting choice names)
-    set_selected e longer choice names now true yea l = selected_begun (e ∷ h) (event e h) (capture_begun e h t held longer yea) choice names
-    set_selected e longer choice names now false nay l = selected_none (e ∷ h) _ (no_run (e ∷ h) l)
+    set_selected : (e : Entry) → tenure (e ∷ h) ≡ Some (more (event e h) t) → (choice : Choice) (now : ℕ) → (b : Bool) → begins (event e h) ≡ b
+        → (facts demux (e ∷ h)).ledger ≡ (if b then Some (fresh now) else None) → HasSelected (e ∷ h) (begun_selecting choice)
+    set_selected e longer choice now true yea l = selected_begun (e ∷ h) (event e h) (capture_begun e h t held longer yea) choice
+    set_selected e longer choice now false nay l = selected_none (e ∷ h) _ (no_run (e ∷ h) l)
 
     pub set_filter_moves : (p : SectionParams) (now : ℕ) → Moves h k who (SetFilter p now) r
     unfolding facts
@@ -62,7 +62,7 @@ module _ (h : History) (k : Selecting) (who : ℕ) (r : Response) (ok : is_accep
         let e : Entry = entry_of who (SetFilter p now) r in
         record {
           told = facts_set_filter h t who r held ok p now;
-          selected = set_selected e (tenure_after e h t ok refl refl held) (choice_of (Section p)) [] now (has_flag IMMEDIATE_START p.flags) refl (ap (λ f. f.ledger) (facts_set_filter h t who r held ok p now));
+          selected = set_selected e (tenure_after e h t ok refl refl held) (choice_of (Section p)) now (has_flag IMMEDIATE_START p.flags) refl (ap (λ f. f.ledger) (facts_set_filter h t who r held ok p now));
         }
 
     pub set_pes_moves : (p : PesParams) (now : ℕ) → Moves h k who (SetPes p now) r
@@ -71,7 +71,7 @@ module _ (h : History) (k : Selecting) (who : ℕ) (r : Response) (ok : is_accep
         let e : Entry = entry_of who (SetPes p now) r in
         record {
           told = facts_set_pes h t who r held ok p now;
-          selected = set_selected e (tenure_after e h t ok refl refl held) (choice_of (Pes p)) (names_of (choice_of (Pes p)) (p.pid ∷ [])) now (has_flag IMMEDIATE_START p.flags) refl (ap (λ f. f.ledger) (facts_set_pes h t who r held ok p now));
+          selected = set_selected e (tenure_after e h t ok refl refl held) (choice_of (Pes p)) now (has_flag IMMEDIATE_START p.flags) refl (ap (λ f. f.ledger) (facts_set_pes h t who r held ok p now));
         }
 
     pub resized_moves : (n : ℕ) → nat_eq n (size h) ≡ false → Moves h k who (SetSize n) r

@@ -27,6 +27,7 @@ use Rattle.node_core.specs.Inside.Step.{moved, next}
 use Rattle.node_core.specs.Offers.{HasSelected}
 use Rattle.node_core.specs.Inside.Sound.{IsSound}
 use Rattle.node_core.specs.Inside.Gives.{settled}
+use Rattle.node_core.proofs.Looking.{HasItsPid}
 use Rattle.node_core.proofs.Moves.{known, Moves, stop_moves, poll_moves, same_size_moves, add_moves, remove_moves, end_moves}
 use Rattle.node_core.proofs.Begins.{open_moves, close_moves, start_moves, set_filter_moves, set_pes_moves, resized_moves}
 use Rattle.node_core.proofs.Passes.{pass_moves}
@@ -115,7 +116,7 @@ always_refused false is = cc
 
 -- ------ the calls
 
-module _ (h : History) (k : Selecting) (who : ℕ) (sound : IsSound (known h k)) (has : HasSelected h k) where
+module _ (h : History) (k : Selecting) (who : ℕ) (sound : IsSound (known h k)) (own : HasItsPid (facts demux h).params (facts demux h).pids) (has : HasSelected h k) where
   case_open : Agrees h k who Open (settled (known h k) who Open)
   unfolding answer
   case_open = by_owner (facts demux h).owner refl where
@@ -179,7 +180,7 @@ module _ (h : History) (k : Selecting) (who : ℕ) (sound : IsSound (known h k))
   case_pass : (input : Input) (first : ℕ) (packets : List (List ℕ)) (now : ℕ) → Agrees h k who (Pass input first packets now) (settled (known h k) who (Pass input first packets now))
   unfolding answer
   case_pass input first packets now =
-      let m : Moves h k who (Pass input first packets now) Passed = pass_moves h k who input first packets now sound has in
+      let m : Moves h k who (Pass input first packets now) Passed = pass_moves h k who input first packets now sound own has in
       record { reply = refl; told = m.told; selected = m.selected }
 
   case_end : Agrees h k who End (settled (known h k) who End)

@@ -1,30 +1,66 @@
--- Packets that no PID of the filter names leave its selector as it was.
-use Rattle.std.proofs.Common.{◌≡◌, ℕ, suc, ◌+◌, ◌<◌, Bool, true, false, not, ◌&&◌, ◌||◌, nat_eq, List, [], ◌∷◌, ◌++◌, None, length, get_or, drop, refl, sym, ap, ap₂, ◌∙◌, arith}
-use Rattle.std.specs.Prelude.{if◌then◌else◌}
+-- A section filter that is offered the packets of its PID alone selects as if it were offered all.
+use Rattle.std.proofs.Common.{◌≡◌, ℕ, ◌&&◌, ◌||◌, Bool, true, false, not, nat_eq, List, [], ◌∷◌, ◌++◌, Option, Some, None, refl, sym, ap, subst, ◌∙◌}
+use Rattle.std.specs.Prelude.{if◌then◌else◌, fold}
 use Rattle.std.specs.List.{filter}
-use Rattle.std.proofs.lemmas.List.{drop_more}
+use Rattle.std.proofs.lemmas.List.Elements.{filter-append}
 use Rattle.ts_packet.specs.Fields.{pid_of, unit_start}
-use Rattle.ts_packet.specs.Clean.{is_usable, carried}
+use Rattle.ts_packet.specs.Clean.{clean, is_usable, carried}
 use Rattle.pid_set.specs.declared.set.TheConstants.{ALL_PACKETS}
-use Rattle.section_parse.specs.Inside.Keeping.{Assembly, after_packet, all_given as all_taken, repeats_last, joins_last, taken, opened, longer}
+use Rattle.section_parse.specs.Inside.Keeping.{Assembly, cleared, after_packet, all_given, kept, repeats_last, joins_last, taken, opened, longer}
 use Rattle.section_parse.specs.Segments.{pointed}
-use Rattle.item_select.specs.Items.{Choice, Nothing, Sections, Packets, is_selected, first_if, given_by}
-use Rattle.item_select.specs.Selecting.{Selecting, after_offer, after_offer_by, all_given, items_found, kept_after, section_pid, is_once, is_none, offered_now, listed}
-use Rattle.dmx_calls.specs.declared.params.Output.{Output}
-use Rattle.dmx_calls.specs.declared.params.Output.TheVariants.{Decoder, Tap, TsTap, TsdemuxTap}
-use Rattle.dmx_calls.specs.declared.limits.TheConstants.{CHECK_CRC}
-use Rattle.dmx_calls.specs.Capture.{has_flag}
-use Rattle.dmx_calls.specs.Items.{is_named, is_oneshot}
+use Rattle.section_parse.specs.Sections.{sections}
+use Rattle.item_select.specs.Items.{Choice, Nothing, Sections, Packets, items_of}
+use Rattle.item_select.specs.Selecting.{Selecting, Selects, Follows}
 use Rattle.dmx_calls.specs.declared.params.Params.{Params as SetParams}
 use Rattle.dmx_calls.specs.declared.params.Params.TheVariants.{Empty as EmptySet, Section as SectionSet, Pes as PesSet}
+use Rattle.dmx_calls.specs.Tenure.{Params, Empty, Section, Pes}
 use Rattle.dmx_calls.specs.Calls.{params_of, pids_of}
-use Rattle.node_core.specs.Offers.{choice_by, choice_of, names_of}
+use Rattle.dmx_calls.specs.Items.{is_named}
+use Rattle.node_core.specs.declared.kept.Kept.{Kept}
+use Rattle.node_core.specs.declared.tenure.Tenure.{Tenure}
+use Rattle.node_core.specs.Inside.KeptView.{knows_in, knows_of}
+use Rattle.node_core.specs.Offers.{choice_of, is_offered}
 
--- ------ the assembler
+-- ------ the PIDs of a node
 
-other-packet : (a : Assembly) (packet : List ℕ) → nat_eq (pid_of packet) a.pid ≡ false → after_packet a packet ≡ a
-unfolding after_packet
-other-packet a packet h = rw h refl
+-- a section filter has one PID, its own
+abbrev pub HasItsPid : Params → List ℕ → Type 0
+HasItsPid (Section p) names = names ≡ p.pid ∷ []
+HasItsPid _ names = Unit {0}
+
+set_has_its_pid : (set : SetParams) → HasItsPid (params_of set) (pids_of set)
+set_has_its_pid EmptySet = tt
+set_has_its_pid (SectionSet p) = refl
+set_has_its_pid (PesSet p pids) = tt
+
+tenure_has_its_pid : (ended : Bool) (o : Option Tenure) → HasItsPid (knows_in ended o).facts.params (knows_in ended o).facts.pids
+tenure_has_its_pid ended None = tt
+tenure_has_its_pid ended (Some t) = set_has_its_pid t.params
+
+pub has_its_pid : (kept : Kept) → HasItsPid (knows_of kept).facts.params (knows_of kept).facts.pids
+has_its_pid kept = tenure_has_its_pid kept.has_ended kept.tenure
+
+-- ------ packets of other PIDs
+
+or-parts : (a b : Bool) → ((a || false) || (b || false)) ≡ false → b ≡ false
+or-parts true b h = absurd (cc)
+or-parts false true h = absurd (cc)
+or-parts false false h = refl
+
+unnamed : (pid : ℕ) (q : List ℕ) → is_named (pid ∷ []) q ≡ false → is_usable pid q ≡ false
+unnamed pid q h =
+    let differs : nat_eq (pid_of q) pid ≡ false = or-parts (nat_eq ALL_PACKETS pid) (nat_eq (pid_of q) pid) h in
+    rw differs refl
+
+usable-named : (pid : ℕ) (ps : List (List ℕ)) → filter (is_usable pid) (filter (is_named (pid ∷ [])) ps) ≡ filter (is_usable pid) ps
+usable-named pid [] = refl
+usable-named pid (q ∷ qs) = by-name (is_named (pid ∷ []) q) refl (usable-named pid qs) where
+  by-name : (b : Bool) → is_named (pid ∷ []) q ≡ b → filter (is_usable pid) (filter (is_named (pid ∷ [])) qs) ≡ filter (is_usable pid) qs
+      → filter (is_usable pid) (if b then q ∷ filter (is_named (pid ∷ [])) qs else filter (is_named (pid ∷ [])) qs) ≡ filter (is_usable pid) (q ∷ qs)
+  by-name true yea ih = rw ih refl
+  by-name false nay ih = rw (unnamed pid q nay) ih
+
+-- ------ what an assembler keeps
 
 pid-of-three : (a x y z : Assembly) → x.pid ≡ a.pid → y.pid ≡ a.pid → z.pid ≡ a.pid → (skips follows starts : Bool)
     → (if skips then a else if not follows then x else if starts then y else z).pid ≡ a.pid
@@ -38,98 +74,57 @@ unfolding after_packet
 pid-stays a packet = pid-of-three a (taken a.pid packet None (opened packet)) (taken a.pid packet (longer a.open_now (pointed packet)) (opened packet)) (taken a.pid packet None (longer a.open_now (carried packet)))
     refl refl refl (not (is_usable a.pid packet) || repeats_last a.before packet) (joins_last a.before packet) (unit_start packet)
 
-first-none : (once : Bool) → first_if once [] ≡ []
-first-none true = refl
-first-none false = refl
+other-packet : (a : Assembly) (packet : List ℕ) → a.ready ≡ [] → is_usable a.pid packet ≡ false → all_given (after_packet a packet) ≡ a
+unfolding after_packet
+other-packet a packet given h = rw h (ap (λ r. record a { ready = r }) (sym given))
 
--- ------ the selector
+abbrev next : Assembly → List ℕ → Assembly
+next a p = all_given (after_packet a p)
 
-or-none : (a b : Bool) → (a || (b && false)) ≡ a
-or-none true b = refl
-or-none false true = refl
-or-none false false = refl
+kept-by : (pid : ℕ) (a : Assembly) → a.pid ≡ pid → a.ready ≡ [] → (ps : List (List ℕ)) → fold next a (filter (is_usable pid) ps) ≡ fold next a ps
+kept-by pid a is given [] = refl
+kept-by pid a is given (q ∷ qs) = by-use (is_usable pid q) refl (kept-by pid (next a q) (pid-stays a q ∙ is) refl qs) where
+  by-use : (b : Bool) → is_usable pid q ≡ b → fold next (next a q) (filter (is_usable pid) qs) ≡ fold next (next a q) qs
+      → fold next a (if b then q ∷ filter (is_usable pid) qs else filter (is_usable pid) qs) ≡ fold next (next a q) qs
+  by-use true yea ih = ih
+  by-use false nay ih =
+      let same : next a q ≡ a = other-packet a q given (rw is nay) in
+      ap (λ x. fold next x (filter (is_usable pid) qs)) (sym same) ∙ ih
 
-all-given : (s : Selecting) → s.ready ≡ [] → all_given s ≡ s
-all-given s h = ap₂ (λ r b. record s { ready = r; is_spent = b }) (sym h) (ap (λ r. s.is_spent || (is_once s.choice && not (is_none r))) h ∙ or-none s.is_spent (is_once s.choice))
+kept-usable : (pid : ℕ) (ps : List (List ℕ)) → kept pid (filter (is_usable pid) ps) ≡ kept pid ps
+unfolding kept
+kept-usable pid ps = kept-by pid (cleared pid) refl refl ps
 
-module _ (s : Selecting) (given : s.ready ≡ []) (pid : s.kept.pid ≡ section_pid s.choice) (sections : s.kept.ready ≡ []) (packet : List ℕ) where
-  other-section : (p : ℕ) (once : Bool) (q : List ℕ → Bool) → s.kept.pid ≡ p → nat_eq (pid_of packet) p ≡ false → (b : Bool)
-      → (if b then s else record s { kept = all_taken (after_packet s.kept packet); ready = first_if once (filter q (after_packet s.kept packet).ready) }) ≡ s
-  other-section p once q is h true = refl
-  other-section p once q is h false =
-      let quiet : after_packet s.kept packet ≡ s.kept = other-packet s.kept packet (rw is h) in
-      rw quiet (ap₂ (λ k r. record s { kept = k; ready = r }) (ap (λ r. record s.kept { ready = r }) (sym sections))
-      (ap (λ r. first_if once (filter q r)) sections ∙ first-none once ∙ sym given))
+-- ------ what a selector stands for
 
-  none-given : (whole : Bool) → is_named s.pids packet ≡ false → given_by whole (offered_now s packet) ≡ None
-  unfolding given_by
-  none-given whole h = rw h refl
+-- a selector of sections, where both lists have the same packets of its PID
+follows-usable : (pid : ℕ) (xs ys : List (List ℕ)) → filter (is_usable pid) xs ≡ filter (is_usable pid) ys → kept pid xs ≡ kept pid ys
+follows-usable pid xs ys same = sym (kept-usable pid xs) ∙ ap (kept pid) same ∙ kept-usable pid ys
 
-  other-of-packets : (whole : Bool) → is_named s.pids packet ≡ false → record s { ready = listed (given_by whole (offered_now s packet)) } ≡ s
-  other-of-packets whole h = ap (λ o. record s { ready = listed o }) (none-given whole h) ∙ ap (λ r. record s { ready = r }) (sym given)
+sections-usable : (pid : ℕ) (xs ys : List (List ℕ)) → filter (is_usable pid) xs ≡ filter (is_usable pid) ys → sections xs pid ≡ sections ys pid
+unfolding sections clean
+sections-usable pid xs ys same = rw same refl
 
-  by-output : (o : Output) (pids : List ℕ) → s.choice ≡ choice_by o → s.pids ≡ names_of (choice_by o) pids → is_named pids packet ≡ false → after_offer s packet ≡ s
-  unfolding after_offer
-  by-output Tap pids choice looks h = ap (λ c. after_offer_by c s packet) choice ∙ other-of-packets false (rw looks h)
-  by-output TsdemuxTap pids choice looks h = ap (λ c. after_offer_by c s packet) choice ∙ other-of-packets true (rw looks h)
-  by-output TsTap pids choice looks h = ap (λ c. after_offer_by c s packet) choice
-  by-output Decoder pids choice looks h = ap (λ c. after_offer_by c s packet) choice
-
-  or-parts : (a b : Bool) → ((a || false) || (b || false)) ≡ false → b ≡ false
-  or-parts true b h = absurd (cc)
-  or-parts false true h = absurd (cc)
-  or-parts false false h = refl
-
-  pub unnamed : (set : SetParams) → s.choice ≡ choice_of (params_of set) → s.pids ≡ names_of (choice_of (params_of set)) (pids_of set) → is_named (pids_of set) packet ≡ false → after_offer s packet ≡ s
-  unfolding after_offer
-  unnamed EmptySet choice looks h = ap (λ c. after_offer_by c s packet) choice
-  unnamed (SectionSet p) choice looks h =
-      let differs : nat_eq (pid_of packet) p.pid ≡ false = or-parts (nat_eq ALL_PACKETS p.pid) (nat_eq (pid_of packet) p.pid) h in
-      ap (λ c. after_offer_by c s packet) choice ∙ (other-section p.pid (is_oneshot p) (is_selected p.filter (has_flag CHECK_CRC p.flags)) (pid ∙ ap section_pid choice) differs s.is_spent)
-  unnamed (PesSet p pids) choice looks h = by-output p.output pids choice looks h
-
-  -- what the assembler keeps after any packet
-  assembled-by : (c : Choice) → ((after_offer_by c s packet).kept.pid ≡ s.kept.pid) × ((after_offer_by c s packet).kept.ready ≡ [])
-  assembled-by Nothing = (refl, sections)
-  assembled-by (Packets whole) = (refl, sections)
-  assembled-by (Sections p wanted check once) = by-spent s.is_spent
-    where
-      by-spent : (b : Bool) → ((if b then s else record s { kept = all_taken (after_packet s.kept packet); ready = first_if once (filter (is_selected wanted check) (after_packet s.kept packet).ready) }).kept.pid ≡ s.kept.pid)
-          × ((if b then s else record s { kept = all_taken (after_packet s.kept packet); ready = first_if once (filter (is_selected wanted check) (after_packet s.kept packet).ready) }).kept.ready ≡ [])
-      by-spent true = (refl, sections)
-      by-spent false = (pid-stays s.kept packet, refl)
-
-  pub assembled : ((after_offer s packet).kept.pid ≡ s.kept.pid) × ((after_offer s packet).kept.ready ≡ [])
-  unfolding after_offer
-  assembled = assembled-by s.choice
-
--- ------ a packet that is passed over
-
-module _ (s : Selecting) (packets : List (List ℕ)) (i : ℕ) (within : i < length packets) (given : s.ready ≡ []) (quiet : after_offer s (get_or packets i []) ≡ s) where
-  as-before : all_given (after_offer s (get_or packets i [])) ≡ s
-  as-before = ap all_given quiet ∙ all-given s given
-
-  pub kept-skip : kept_after s (drop (i + 1) packets) ≡ kept_after s (drop i packets)
-  unfolding kept_after
-  kept-skip = sym (ap (kept_after s) (drop_more packets i [] within) ∙ ap (λ x. kept_after x (drop (i + 1) packets)) as-before)
-
-  pub items-skip : items_found s (drop (i + 1) packets) ≡ items_found s (drop i packets)
-  unfolding items_found
-  items-skip =
-      sym (ap (items_found s) (drop_more packets i [] within)
-      ∙ ap₂ (λ r x. r ++ items_found x (drop (i + 1) packets)) (ap (λ x. x.ready) quiet ∙ given) as-before)
-
--- ------ no packet is named
-
-module _ (s : Selecting) (given : s.ready ≡ []) where
-  pub none-kept : (packets : List (List ℕ)) → ((i : ℕ) → i < length packets → after_offer s (get_or packets i []) ≡ s) → kept_after s packets ≡ s
-  unfolding kept_after
-  none-kept [] quiet = refl
-  none-kept (p ∷ ps) quiet = ap (λ x. kept_after x ps) (ap all_given (quiet 0 (omega arith)) ∙ all-given s given) ∙ none-kept ps (λ i l. quiet (suc i) (omega arith))
-
-  pub none-found : (packets : List (List ℕ)) → ((i : ℕ) → i < length packets → after_offer s (get_or packets i []) ≡ s) → items_found s packets ≡ []
-  unfolding items_found
-  none-found [] quiet = refl
-  none-found (p ∷ ps) quiet =
-      ap₂ (λ r x. r ++ items_found x ps) (ap (λ x. x.ready) (quiet 0 (omega arith)) ∙ given) (ap all_given (quiet 0 (omega arith)) ∙ all-given s given)
-      ∙ none-found ps (λ i l. quiet (suc i) (omega arith))
+-- What a selector was offered of these packets, the named ones, stands for those that its filter takes in.
+pub offered-named : (set : Params) (names : List ℕ) → HasItsPid set names → (before ps given : List (List ℕ)) (s : Selecting) → s.choice ≡ choice_of set
+    → Selects (before ++ filter (is_named names) ps) given s → Selects (before ++ filter (is_offered set names) ps) given s
+unfolding items_of
+offered-named Empty names own before ps given s is k = record {
+  so_far = rw is (rw is at k.so_far);
+  follows = let P : Choice → Type 0 = λ c. Follows c (before ++ filter (is_named names) ps) given s → Follows c (before ++ filter (is_offered Empty names) ps) given s in
+      subst P (sym is) (λ f. f) k.follows;
+}
+offered-named (Pes p) names own before ps given s is k = k
+offered-named (Section p) names own before ps given s is k =
+    let all : filter (is_offered (Section p) names) ps ≡ ps = all-offered ps in
+    let same : filter (is_usable p.pid) (before ++ filter (is_named names) ps) ≡ filter (is_usable p.pid) (before ++ filter (is_offered (Section p) names) ps) =
+    rw (all, own, filter-append (is_usable p.pid) before (filter (is_named (p.pid ∷ [])) ps), filter-append (is_usable p.pid) before ps, usable-named p.pid ps) refl in
+    record {
+      so_far = rw (is, ← sections-usable p.pid _ _ same) (rw is at k.so_far);
+      follows = let P : Choice → Type 0 = λ c. Follows c (before ++ filter (is_named names) ps) given s → Follows c (before ++ filter (is_offered (Section p) names) ps) given s in
+          subst P (sym is) (λ f. (λ e. ((f.0 e).0 ∙ follows-usable p.pid _ _ same, (f.0 e).1), f.1)) k.follows;
+    }
+  where
+    all-offered : (ps : List (List ℕ)) → filter (λ packet. true) ps ≡ ps
+    all-offered [] = refl
+    all-offered (q ∷ qs) = ap (λ x. q ∷ x) (all-offered qs)

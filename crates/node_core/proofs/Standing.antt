@@ -4,7 +4,7 @@ use Rattle.dmx_calls.specs.Invocation.{Invocation}
 use Rattle.dmx_calls.specs.Response.{Response, NoMemory}
 use Rattle.dmx_calls.specs.History.{History, entry_of}
 use Rattle.dmx_calls.specs.Rules.{demux}
-use Rattle.dmx_calls.specs.Facts.{facts}
+use Rattle.dmx_calls.specs.Facts.{Facts, facts}
 use Rattle.dmx_calls.specs.Legal.{May}
 use Rattle.dmx_calls.proofs.Unaccepted.{demux_same}
 use Rattle.dmx_calls.proofs.Nodes.{demux_keeps}
@@ -14,6 +14,7 @@ use Rattle.node_core.specs.Offers.{HasSelected}
 use Rattle.node_core.specs.Inside.Sound.{IsSound}
 use Rattle.node_core.specs.Inside.Gives.{Gives}
 use Rattle.node_core.specs.Stands.{CoreValue, StandsFor}
+use Rattle.node_core.proofs.Looking.{HasItsPid}
 use Rattle.node_core.proofs.Takings.{selected_none}
 use Rattle.node_core.proofs.Moves.{known}
 use Rattle.node_core.proofs.Cases.{agrees, selected_refused}
@@ -24,13 +25,13 @@ record GoesOn (h : History) (k : Selecting) (who : ℕ) (call : Invocation) (r :
   told : facts demux (entry_of who call r ∷ h) ≡ (next (known h k) who call r).facts
   selected : HasSelected (entry_of who call r ∷ h) (next (known h k) who call r).selecting
 
-goes_on : (h : History) (k : Selecting) (who : ℕ) (call : Invocation) (r : Response) → IsSound (known h k) → HasSelected h k → Gives (known h k) who call r → GoesOn h k who call r
-goes_on h k who call r sound has (inl is) =
-    let a = agrees h k who sound has call in
+goes_on : (h : History) (k : Selecting) (who : ℕ) (call : Invocation) (r : Response) → IsSound (known h k) → HasItsPid (facts demux h).params (facts demux h).pids → HasSelected h k → Gives (known h k) who call r → GoesOn h k who call r
+goes_on h k who call r sound own has (inl is) =
+    let a = agrees h k who sound own has call in
     let P : Response → Type 0 = GoesOn h k who call in
     subst P (sym is) (record { may = inl a.reply; told = a.told; selected = a.selected })
-goes_on h k who call r sound has (inr (none, done, memory)) =
-    let a = agrees h k who sound has call in
+goes_on h k who call r sound own has (inr (none, done, memory)) =
+    let a = agrees h k who sound own has call in
     let P : Response → Type 0 = GoesOn h k who call in
     subst P (sym none) (record {
       may = inr (refl, rw (← a.reply) done, memory);
@@ -42,16 +43,17 @@ goes_on h k who call r sound has (inr (none, done, memory)) =
 abbrev pub knows : CoreValue → Knows
 knows c = record { facts = c.facts; selecting = c.selecting }
 
-pub stands_on : (c c' : CoreValue) (who : ℕ) (call : Invocation) (r : Response) → IsSound (knows c) → Gives (knows c) who call r
+pub stands_on : (c c' : CoreValue) (who : ℕ) (call : Invocation) (r : Response) → IsSound (knows c) → HasItsPid c.facts.params c.facts.pids → Gives (knows c) who call r
     → knows c' ≡ next (knows c) who call r → c'.entries ≡ c.entries + 1
     → (h : History) → StandsFor c h → May demux h who call r × StandsFor c' (entry_of who call r ∷ h)
-stands_on c c' who call r sound gives after more h s =
+stands_on c c' who call r sound own gives after more h s =
     let same : knows c ≡ known h c.selecting = ap (λ f. record { facts = f; selecting = c.selecting }) s.known in
     let sound' : IsSound (known h c.selecting) = subst IsSound same sound in
+    let own' : HasItsPid (facts demux h).params (facts demux h).pids = let P : Facts → Type 0 = λ f. HasItsPid f.params f.pids in subst P s.known own in
     let P : Knows → Type 0 = λ k. Gives k who call r in
     let gives' : Gives (known h c.selecting) who call r = subst P same gives in
     let after' : knows c' ≡ next (known h c.selecting) who call r = after ∙ ap (λ k. next k who call r) same in
-    let go : GoesOn h c.selecting who call r = goes_on h c.selecting who call r sound' s.selected gives' in
+    let go : GoesOn h c.selecting who call r = goes_on h c.selecting who call r sound' own' s.selected gives' in
     let Q : Selecting → Type 0 = HasSelected (entry_of who call r ∷ h) in (
       go.may,
       record {

@@ -1,6 +1,6 @@
 -- What a selector takes in with an entry by which a capture goes on.
-use Rattle.std.proofs.Common.{ℕ, ◌≡◌, refl, sym, ◌∙◌, ap, Bool, true, false, List, [], ◌∷◌, ◌++◌, Option, Some, None, length, map, arith}
-use Rattle.std.specs.Prelude.{◌≢◌, ◌&&◌, not, if◌then◌else◌, is_some, nat_lt}
+use Rattle.std.proofs.Common.{ℕ, ◌≡◌, refl, sym, ◌∙◌, ap, Bool, true, false, List, [], ◌∷◌, ◌++◌, Option, Some, None, length, arith}
+use Rattle.std.specs.Prelude.{◌≢◌, ◌&&◌, not, if◌then◌else◌, is_some, nat_lt, filter}
 use Rattle.std.proofs.lemmas.Bool.Decides.{nat_tests}
 use Rattle.std.proofs.lemmas.List.{append-nil}
 use Rattle.dmx_calls.specs.declared.params.Input.{Input}
@@ -9,14 +9,14 @@ use Rattle.dmx_calls.specs.Response.{Passed}
 use Rattle.dmx_calls.specs.History.{Entry, History, entry_of, event, Since}
 use Rattle.dmx_calls.specs.Tenure.{tenure, Params, Empty, Section, Pes, params, pids}
 use Rattle.dmx_calls.specs.Capture.{capture, is_stopped}
-use Rattle.dmx_calls.specs.Items.{is_same_input, is_oneshot, packets_in, offered, items}
+use Rattle.dmx_calls.specs.Items.{is_same_input, is_named, is_oneshot, packets_in, offered, items}
 use Rattle.dmx_calls.specs.Rules.{expired}
 use Rattle.dmx_calls.specs.Facts.{has_had_its_section}
 use Rattle.dmx_calls.proofs.Going.{Stays, params_stays, capture_stays}
 use Rattle.dmx_calls.proofs.Growth.{is_stopped_after, offered_stopped, offered_after_expiry, offered_more, items_quiet}
-use Rattle.item_select.specs.Items.{Choice, Nothing, Sections, Packets, Offered}
-use Rattle.item_select.specs.Selecting.{Selecting, is_once, offered_now, items_found, kept_after, Selects, with_pids, Follows}
-use Rattle.node_core.specs.Offers.{choice_of, names_of, input_of, offers_of, offers, HasSelected}
+use Rattle.item_select.specs.Selecting.{Selecting, is_once, items_found, kept_after, Selects}
+use Rattle.node_core.specs.Offers.{choice_of, input_of, is_offered, offers, HasSelected}
+use Rattle.node_core.proofs.Looking.{HasItsPid, offered-named}
 use Rattle.node_core.proofs.Offerings.{items_given}
 use Rattle.item_select.proofs.Selected.{all-selects, spent-selects, once-spent}
 
@@ -44,18 +44,18 @@ module _ (e : Entry) (h : History) (t s : Since) (stays : Stays e h) (held : ten
   offering live = if live then packets_in (input_of (params h)) (event e h) else []
 
   pub offers_after : offers (params (e ∷ h)) (offered (e ∷ h))
-      ≡ offers (params h) (offered h) ++ offers_of (names_of (choice_of (params h)) (pids h)) (offering (not (is_stopped (e ∷ h)) && not (is_some (expired (e ∷ h)))))
+      ≡ offers (params h) (offered h) ++ filter (is_offered (params h) (pids h)) (offering (not (is_stopped (e ∷ h)) && not (is_some (expired (e ∷ h)))))
   offers_after = by_stop (is_stopped (e ∷ h)) refl where
     same : offered (e ∷ h) ≡ offered h → offers (params (e ∷ h)) (offered (e ∷ h)) ≡ offers (params h) (offered h) ++ []
     same is = rw (params_stays e h t stays held, is, append-nil (offers (params h) (offered h))) refl
 
     by_expiry : (nay : is_stopped (e ∷ h) ≡ false) → (o : Option ℕ) → expired (e ∷ h) ≡ o
-        → offers (params (e ∷ h)) (offered (e ∷ h)) ≡ offers (params h) (offered h) ++ offers_of (names_of (choice_of (params h)) (pids h)) (offering (not (is_some o)))
+        → offers (params (e ∷ h)) (offered (e ∷ h)) ≡ offers (params h) (offered h) ++ filter (is_offered (params h) (pids h)) (offering (not (is_some o)))
     by_expiry nay (Some m) is = same (offered_after_expiry e h t s stays held runs nay m is)
     by_expiry nay None is = rw (params_stays e h t stays held, offered_more e h t s stays held runs nay is) refl
 
     by_stop : (b : Bool) → is_stopped (e ∷ h) ≡ b
-        → offers (params (e ∷ h)) (offered (e ∷ h)) ≡ offers (params h) (offered h) ++ offers_of (names_of (choice_of (params h)) (pids h)) (offering (not b && not (is_some (expired (e ∷ h)))))
+        → offers (params (e ∷ h)) (offered (e ∷ h)) ≡ offers (params h) (offered h) ++ filter (is_offered (params h) (pids h)) (offering (not b && not (is_some (expired (e ∷ h)))))
     by_stop true yea = same (offered_stopped e h t s stays held runs yea)
     by_stop false nay = by_expiry nay (expired (e ∷ h)) refl
 
@@ -68,30 +68,18 @@ module _ (e : Entry) (h : History) (t s : Since) (stays : Stays e h) (held : ten
   selected_quiet k quiet has =
       let live : Bool = not (is_stopped (e ∷ h)) && not (is_some (expired (e ∷ h))) in
       let same : offers (params (e ∷ h)) (offered (e ∷ h)) ≡ offers (params h) (offered h) =
-      offers_after ∙ (ap (λ ps. offers (params h) (offered h) ++ offers_of (names_of (choice_of (params h)) (pids h)) ps) (no_offering live (quiet (input_of (params h)))) ∙ append-nil (offers (params h) (offered h))) in
+      offers_after ∙ (ap (λ ps. offers (params h) (offered h) ++ filter (is_offered (params h) (pids h)) ps) (no_offering live (quiet (input_of (params h)))) ∙ append-nil (offers (params h) (offered h))) in
       rw (same, items_quiet e h t s stays held runs quiet) has
-
--- ------ other PIDs
-
-follows_renamed : (c : Choice) (before : List Offered) (given : List (List ℕ)) (k : Selecting) (names : List ℕ) → Follows c before given k → Follows c before given (with_pids names k)
-follows_renamed Nothing before given k names f = f
-follows_renamed (Packets whole) before given k names f = f
-follows_renamed (Sections pid wanted check once) before given k names f = f
-
--- what a selector with other PIDs stands for
-pub selected_renamed : (h : History) (k : Selecting) (names : List ℕ) → HasSelected h k → HasSelected h (with_pids names k)
-selected_renamed h k names has = λ c is.
-    record { so_far = (has c is).so_far; follows = follows_renamed k.choice (offers (params h) (offered h)) (items h) k names (has c is).follows }
 
 -- ------ a pass
 
 -- What a selector takes in of packets, where they are offered, and where a one-shot filter has had its section: it stands for them, has none ready, and has the same filter.
-take_in : (k : Selecting) (before : List Offered) (given packets : List (List ℕ)) (offering had : Bool) → k.ready ≡ [] → (had ≡ true → k.is_spent ≡ true) → Selects before given k
-    → Selects (before ++ map (offered_now k) (if offering then packets else [])) (given ++ (if offering && not had then items_found k packets else [])) (if offering && not had then kept_after k packets else k)
+take_in : (k : Selecting) (before given packets : List (List ℕ)) (offering had : Bool) → k.ready ≡ [] → (had ≡ true → k.is_spent ≡ true) → Selects before given k
+    → Selects (before ++ (if offering then packets else [])) (given ++ (if offering && not had then items_found k packets else [])) (if offering && not had then kept_after k packets else k)
     × ((if offering && not had then kept_after k packets else k).ready ≡ [])
     × ((if offering && not had then kept_after k packets else k).choice ≡ k.choice)
 take_in k before given packets false had ready spent has = (rw (append-nil before, append-nil given) has, ready, refl)
-take_in k before given packets true true ready spent has = (rw (append-nil given) (spent-selects before (map (offered_now k) packets) given k has (spent refl) ready), ready, refl)
+take_in k before given packets true true ready spent has = (rw (append-nil given) (spent-selects before packets given k has (spent refl) ready), ready, refl)
 take_in k before given packets true false ready spent has = let all = all-selects packets before given k has ready in (all.stands, all.drained, all.choice)
 
 and_apart : (a b c d : Bool) → (a && (b && (c && not d))) ≡ ((a && (b && c)) && not d)
@@ -126,26 +114,36 @@ module _ (h : History) (t s : Since) (who : ℕ) (input : Input) (first : ℕ) (
   abbrev pub is_taken : Bool
   is_taken = is_same_input input (input_of (params h)) && (not (is_stopped h) && (not (is_some (expired (passing ∷ h))) && not (has_had_its_section (params h) (length (items h)))))
 
-  module _ (stays : Stays passing h) (k : Selecting) (choice : k.choice ≡ choice_of (params h)) (named : k.pids ≡ names_of (choice_of (params h)) (pids h)) (ready : k.ready ≡ []) (has : Has h k) where
-    taken_in : Selects (offers (params (passing ∷ h)) (offered (passing ∷ h))) (items h ++ (if is_taken then items_found k packets else [])) (if is_taken then kept_after k packets else k)
-        × ((if is_taken then kept_after k packets else k).ready ≡ [])
-        × ((if is_taken then kept_after k packets else k).choice ≡ k.choice)
+  module _ (stays : Stays passing h) (own : HasItsPid (params h) (pids h)) (k : Selecting) (choice : k.choice ≡ choice_of (params h)) (ready : k.ready ≡ []) (has : Has h k) where
+    -- those that its PIDs name
+    abbrev pub named : List (List ℕ)
+    named = filter (is_named (pids h)) packets
+
+    widened : (offering : Bool) (before given : List (List ℕ)) (s : Selecting) → s.choice ≡ choice_of (params h) → Selects (before ++ (if offering then named else [])) given s
+        → Selects (before ++ filter (is_offered (params h) (pids h)) (if offering then packets else [])) given s
+    widened true before given s is k = offered-named (params h) (pids h) own before packets given s is k
+    widened false before given s is k = k
+
+    taken_in : Selects (offers (params (passing ∷ h)) (offered (passing ∷ h))) (items h ++ (if is_taken then items_found k named else [])) (if is_taken then kept_after k named else k)
+        × ((if is_taken then kept_after k named else k).ready ≡ [])
+        × ((if is_taken then kept_after k named else k).choice ≡ k.choice)
     taken_in =
         let offering : Bool = is_same_input input (input_of (params h)) && (not (is_stopped h) && not (is_some (expired (passing ∷ h)))) in
         let had : Bool = has_had_its_section (params h) (length (items h)) in
         let spent : had ≡ true → k.is_spent ≡ true =
         λ yea. let once = had_once (params h) (items h) yea in once-spent (offers (params h) (offered h)) (items h) k has (ap is_once choice ∙ once.0) once.1 in
-        let more : offers (params (passing ∷ h)) (offered (passing ∷ h)) ≡ offers (params h) (offered h) ++ map (offered_now k) (if offering then packets else []) =
+        let more : offers (params (passing ∷ h)) (offered (passing ∷ h)) ≡ offers (params h) (offered h) ++ filter (is_offered (params h) (pids h)) (if offering then packets else []) =
         offers_after passing h t s stays held runs
-        ∙ rw (is_stopped_after passing h t s stays held runs, if_both (is_same_input input (input_of (params h))) (not (is_stopped h) && not (is_some (expired (passing ∷ h)))) packets, ← named) refl in
+        ∙ rw (is_stopped_after passing h t s stays held runs, if_both (is_same_input input (input_of (params h))) (not (is_stopped h) && not (is_some (expired (passing ∷ h)))) packets) refl in
+        let all = take_in k (offers (params h) (offered h)) (items h) named offering had ready spent has in
         rw (more, and_apart (is_same_input input (input_of (params h))) (not (is_stopped h)) (not (is_some (expired (passing ∷ h)))) had)
-        (take_in k (offers (params h) (offered h)) (items h) packets offering had ready spent has)
+        (widened offering _ _ _ (all.2 ∙ choice) all.0, all.1, all.2)
 
     -- the items that arrive
-    pub items_taken : items (passing ∷ h) ≡ items h ++ (if is_taken then items_found k packets else [])
+    pub items_taken : items (passing ∷ h) ≡ items h ++ (if is_taken then items_found k named else [])
     items_taken =
-        items_given (passing ∷ h) (items h ++ (if is_taken then items_found k packets else [])) (if is_taken then kept_after k packets else k)
+        items_given (passing ∷ h) (items h ++ (if is_taken then items_found k named else [])) (if is_taken then kept_after k named else k)
         (taken_in.2 ∙ (choice ∙ ap choice_of (sym (params_stays passing h t stays held)))) taken_in.1 taken_in.0
 
-    pub selected_taken : Has (passing ∷ h) (if is_taken then kept_after k packets else k)
+    pub selected_taken : Has (passing ∷ h) (if is_taken then kept_after k named else k)
     selected_taken = rw items_taken taken_in.0

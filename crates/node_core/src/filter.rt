@@ -1,17 +1,16 @@
 // A node's filter: which packets it takes, and what its selector is to select.
 
-ghost use Rattle.std.specs.Prelude.{ℕ, ◌≡◌, List};
-ghost use Rattle.dmx_calls.specs.Calls.{params_of, pids_of};
+ghost use Rattle.std.specs.Prelude.{◌≡◌};
+ghost use Rattle.dmx_calls.specs.Calls.{params_of};
 ghost use Rattle.dmx_calls.specs.Capture.{has_flag};
 ghost use Rattle.dmx_calls.specs.Items.{is_same_input};
-ghost use Rattle.item_select.specs.Selecting.{begun, with_pids};
-ghost use Rattle.node_core.specs.Offers.{choice_by, choice_of, names_of, input_of};
+ghost use Rattle.item_select.specs.Selecting.{begun};
+ghost use Rattle.node_core.specs.Offers.{choice_of, input_of};
 
 use dmx_calls::limits::{CHECK_CRC, IMMEDIATE_START};
-use dmx_calls::{Input, Output, Params, PesParams, SectionParams};
-use item_select::Selector;
+use dmx_calls::{Input, Output, Params, SectionParams};
+use item_select::{Checks, Give, Selector};
 use node_buffer::is_oneshot;
-use pid_set::Pids;
 
 /// Its packets come from this input. Those of a section filter come from the frontend.
 pub fn takes_from(params: &Params, input: Input) -> bool
@@ -39,30 +38,21 @@ fn checks_crc(params: &SectionParams) -> bool
 
 /// The selector begins anew with this filter. Only the outputs to the demux node select anything for its reader.
 pub fn select(selector: &mut Selector, params: &Params)
-    ensures { selector.new ≡ begun (choice_of (params_of params.now)) (names_of (choice_of (params_of params.now)) (pids_of params.now)) }
+    ensures { selector.new ≡ begun (choice_of (params_of params.now)) }
 {
     match params {
         Params::Empty => selector.set_none(),
         Params::Section(wanted) => {
-            let once = is_oneshot(wanted);
-            selector.set_sections(wanted.pid, &wanted.filter, checks_crc(wanted), once);
+            let checks = Checks {
+                crc: checks_crc(wanted),
+                once: is_oneshot(wanted),
+            };
+            selector.set_sections(wanted.pid, &wanted.filter, checks);
         }
-        Params::Pes { params, pids } => match params.output {
-            Output::Tap => selector.set_packets(false, pids),
-            Output::TsdemuxTap => selector.set_packets(true, pids),
+        Params::Pes { params, .. } => match params.output {
+            Output::Tap => selector.set_packets(Give::Payload),
+            Output::TsdemuxTap => selector.set_packets(Give::Whole),
             Output::TsTap | Output::Decoder => selector.set_none(),
         },
-    }
-}
-
-/// The selector of a PES filter goes on with other PIDs.
-pub fn rename(selector: &mut Selector, params: &PesParams, pids: &Pids)
-    requires choice { selector.old.choice ≡ choice_by params.now.output }
-    requires others { (old : List ℕ) × (selector.old.pids ≡ names_of (choice_by params.now.output) old) }
-    ensures { selector.new ≡ with_pids (names_of selector.old.choice pids.now) selector.old }
-{
-    match params.output {
-        Output::Tap | Output::TsdemuxTap => selector.set_pids(pids),
-        Output::TsTap | Output::Decoder => {}
     }
 }

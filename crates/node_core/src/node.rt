@@ -74,7 +74,6 @@ fn act<L: Ledger>(
             kept.pass(input, &batch, now, steps);
             Answer {
                 reply: Reply::Passed,
-                back: None,
                 batch: Some(batch),
             }
         }

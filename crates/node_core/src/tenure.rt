@@ -10,16 +10,16 @@ ghost use Rattle.dmx_calls.specs.Invocation.{Close, SetFilter, SetPes, AddPid, R
 ghost use Rattle.dmx_calls.specs.Capture.{has_flag};
 ghost use Rattle.dmx_calls.specs.Facts.{state_of_filter};
 ghost use Rattle.dmx_calls.specs.Answer.{is_for_anybody, done_dropping};
-ghost use Rattle.dmx_calls.specs.Calls.{invocation_of, response_of, params_of, pids_of};
-ghost use Rattle.dmx_calls.specs.Back.{BackOfRead, GivesBack};
+ghost use Rattle.dmx_calls.specs.Calls.{invocation_of, response_of, params_of};
+ghost use Rattle.dmx_calls.specs.Back.{GivesBack};
 ghost use Rattle.item_select.specs.Selecting.{begun as begun_selecting};
 ghost use Rattle.node_buffer.specs.Inside.Capturing.{terms_of as terms_by, begun};
 ghost use Rattle.node_buffer.specs.Inside.Gives.{owner_refusal, is_close};
-ghost use Rattle.node_core.specs.Offers.{choice_of, names_of};
+ghost use Rattle.node_core.specs.Offers.{choice_of};
 ghost use Rattle.node_core.specs.Inside.Gives.{Gives};
 ghost use Rattle.node_core.specs.Inside.Step.{unset, next};
 
-use crate::filter::{rename, select, starts_at_once};
+use crate::filter::{select, starts_at_once};
 use crate::tap::tap_of_idle;
 use dmx_calls::limits::DEMUX_SIZE;
 use dmx_calls::{
@@ -70,7 +70,7 @@ impl Tenure {
         ensures said { response_of result ≡ done_dropping self.old.buffer.ledger (tap_told (is_recording_for self.old) true self.new) }
         ensures owner { self.new.owner ≡ self.old.owner }
         ensures params { self.new.params ≡ params }
-        ensures selector { self.new.selector ≡ begun_selecting (choice_of (params_of params)) (names_of (choice_of (params_of params)) (pids_of params)) }
+        ensures selector { self.new.selector ≡ begun_selecting (choice_of (params_of params)) }
         ensures size { self.new.buffer.size ≡ self.old.buffer.size }
         ensures ledger { self.new.buffer.ledger ≡ (if has_flag IMMEDIATE_START flags then Some (begun now) else None) }
     {
@@ -138,14 +138,7 @@ impl Tenure {
             Call::Start { now } => plain(self.start(now)),
             Call::Stop => plain(self.stop()),
             Call::SetSize(size) => plain(self.set_size(alloc, size)),
-            Call::Read { now, buf } => {
-                let (reply, back) = self.read(ended, now, buf);
-                Answer {
-                    reply,
-                    back,
-                    batch: None,
-                }
-            }
+            Call::Read { now, buf } => plain(self.read(ended, now, buf)),
             Call::Poll { now } => plain(self.poll(ended, now)),
             Call::Open
             | Call::Close
@@ -190,10 +183,9 @@ impl Tenure {
     {
         let recorded = self.is_recording();
         match &mut self.params {
-            Params::Pes { params, pids } => {
+            Params::Pes { pids, .. } => {
                 // a full set was refused
                 let added = matches!(pids.add(pid), Ok(true));
-                rename(&mut self.selector, params, pids);
                 done(NOTHING, self.tap(recorded, added))
             }
             Params::Empty | Params::Section(_) => unreachable!(),
@@ -208,9 +200,8 @@ impl Tenure {
     {
         let recorded = self.is_recording();
         match &mut self.params {
-            Params::Pes { params, pids } => {
+            Params::Pes { pids, .. } => {
                 let removed = pids.remove(pid);
-                rename(&mut self.selector, params, pids);
                 done(NOTHING, self.tap(recorded, removed))
             }
             Params::Empty | Params::Section(_) => unreachable!(),
@@ -257,12 +248,11 @@ impl Tenure {
         }
     }
 
-    // read(): the reply, with its buffer where the reply doesn't hold it. The filter may expire first.
-    fn read(&mut self, ended: bool, now: u64, buf: ByteBuf) -> (Reply, Option<ByteBuf>)
+    // read(): the reply. The filter may expire first.
+    fn read(&mut self, ended: bool, now: u64, buf: ByteBuf) -> Reply
         requires sound { IsSoundIn self.old }
         requires granted { IsGranted self.old (Read now buf.count) }
-        ensures does { Does ended self.old (Read now buf.count) (response_of result.0) self.new }
-        ensures back { BackOfRead buf result.0 result.1 }
+        ensures does { Does ended self.old (Read now buf.count) (response_of result) self.new }
     {
         self.buffer.expire(now);
         self.buffer.read(ended, buf)

@@ -2,6 +2,8 @@
 use Rattle.std.proofs.Common.{◌≡◌, ℕ, zero, suc, ◌<◌, ◌^◌, Bool, true, false, not, ◌&&◌, ◌||◌, nat_eq, nat_lt, List, [], ◌∷◌, ◌++◌, length, slice_index, refl, sym, ap, ◌∙◌, inl, inr, arith}
 use Rattle.std.specs.List.{list_any, filter}
 use Rattle.std.proofs.lemmas.Bool.{cases_eq, cases_lt}
+use Rattle.std.proofs.Math.Bool.{or-true}
+use Rattle.lemmas.proofs.Tests.{by_bool}
 use Rattle.std.proofs.lemmas.Bool.Decides.{nat_tests}
 use Rattle.std.proofs.lemmas.List.Folds.{list_any-append}
 use Rattle.pid_set.specs.Pids.{has_pid, with_pid, without_pid, IsAscending, ArePids}
@@ -19,10 +21,6 @@ Below p (q ∷ qs) = (q < p) × Below p qs
 abbrev pub Rising : List ℕ → Type 0
 Rising [] = Unit {0}
 Rising (p ∷ ps) = Above p ps × Rising ps
-
-by-bool : (b : Bool) (P : Type 0) → (b ≡ true → P) → (b ≡ false → P) → P
-by-bool true P f g = f refl
-by-bool false P f g = g refl
 
 -- ---- the two forms of ascending
 
@@ -63,25 +61,25 @@ rising-around pid (x ∷ xs) ys r s b a =
 
 above-filter : (t : ℕ → Bool) (p : ℕ) (ps : List ℕ) → Above p ps → Above p (filter t ps)
 above-filter t p [] a = tt
-above-filter t p (q ∷ qs) a = by-bool (t q) (Above p (filter t (q ∷ qs)))
+above-filter t p (q ∷ qs) a = by_bool (t q) (Above p (filter t (q ∷ qs)))
     (λ e. rw e (a.0, above-filter t p qs a.1))
     (λ e. rw e (above-filter t p qs a.1))
 
 rising-filter : (t : ℕ → Bool) (ps : List ℕ) → Rising ps → Rising (filter t ps)
 rising-filter t [] r = tt
-rising-filter t (p ∷ ps) r = by-bool (t p) (Rising (filter t (p ∷ ps)))
+rising-filter t (p ∷ ps) r = by_bool (t p) (Rising (filter t (p ∷ ps)))
     (λ e. rw e (above-filter t p ps r.0, rising-filter t ps r.1))
     (λ e. rw e (rising-filter t ps r.1))
 
 lower-below : (pid : ℕ) (ps : List ℕ) → Below pid (filter (λ p. nat_lt p pid) ps)
 lower-below pid [] = tt
-lower-below pid (p ∷ ps) = by-bool (nat_lt p pid) (Below pid (filter (λ q. nat_lt q pid) (p ∷ ps)))
+lower-below pid (p ∷ ps) = by_bool (nat_lt p pid) (Below pid (filter (λ q. nat_lt q pid) (p ∷ ps)))
     (λ e. let l : p < pid = grind (arith, nat_tests) in rw e (l, lower-below pid ps))
     (λ e. rw e (lower-below pid ps))
 
 higher-above : (pid : ℕ) (ps : List ℕ) → Above pid (filter (λ p. nat_lt pid p) ps)
 higher-above pid [] = tt
-higher-above pid (p ∷ ps) = by-bool (nat_lt pid p) (Above pid (filter (λ q. nat_lt pid q) (p ∷ ps)))
+higher-above pid (p ∷ ps) = by_bool (nat_lt pid p) (Above pid (filter (λ q. nat_lt pid q) (p ∷ ps)))
     (λ e. let l : pid < p = grind (arith, nat_tests) in rw e (l, higher-above pid ps))
     (λ e. rw e (higher-above pid ps))
 
@@ -104,10 +102,6 @@ has-none pid [] a = refl
 has-none pid (p ∷ ps) a = let l = a.0 in let e : nat_eq pid p ≡ false = grind (arith, nat_tests) in rw e (has-none pid ps a.1)
 
 -- ---- the members
-
-or-true : (b : Bool) → (b || true) ≡ true
-or-true true = refl
-or-true false = refl
 
 -- what a PID between two parts adds, told of a list with one more below it, in its place, or above it
 or-low : (x l e h a : Bool) → (l || (e || h)) ≡ (e || a) → ((x || l) || (e || h)) ≡ (e || (x || a))
@@ -199,7 +193,7 @@ same-with pid (p ∷ ps) r h =
 
 same-without : (pid : ℕ) (ps : List ℕ) → has_pid pid ps ≡ false → filter (λ p. not (nat_eq pid p)) ps ≡ ps
 same-without pid [] h = refl
-same-without pid (p ∷ ps) h = by-bool (nat_eq pid p) (filter (λ q. not (nat_eq pid q)) (p ∷ ps) ≡ p ∷ ps)
+same-without pid (p ∷ ps) h = by_bool (nat_eq pid p) (filter (λ q. not (nat_eq pid q)) (p ∷ ps) ≡ p ∷ ps)
     (λ e. let yes-there : has_pid pid (p ∷ ps) ≡ true = rw e refl in absurd (cc))
     (λ e. let rest : has_pid pid ps ≡ false = rw e at h in rw e (ap (λ qs. p ∷ qs) (same-without pid ps rest)))
 
@@ -234,7 +228,7 @@ fits-append (x ∷ xs) ys h k (suc i) = fits-append xs ys (λ j. h (suc j)) k i
 
 fits-filter : (t : ℕ → Bool) (xs : List ℕ) → ((i : ℕ) → slice_index xs i < 2 ^ 16) → (i : ℕ) → slice_index (filter t xs) i < 2 ^ 16
 fits-filter t [] h i = omega arith
-fits-filter t (x ∷ xs) h i = by-bool (t x) (slice_index (filter t (x ∷ xs)) i < 2 ^ 16)
+fits-filter t (x ∷ xs) h i = by_bool (t x) (slice_index (filter t (x ∷ xs)) i < 2 ^ 16)
     (λ e. rw e (fits-append (x ∷ []) (filter t xs) first (fits-filter t xs (λ j. h (suc j))) i))
     (λ e. rw e (fits-filter t xs (λ j. h (suc j)) i))
   where

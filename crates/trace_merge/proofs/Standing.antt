@@ -54,12 +54,3 @@ pub in-place : (node most : ℕ) (calls : List ToldEntry) (p s : ℕ) (acts : Li
 in-place node most [] p s acts below up sum = feeder-in-place node p s acts
 in-place node most (e ∷ calls) p s acts below up sum =
     before-in-place node most e calls up.1 below (λ p s acts up sum. in-place node most calls p s acts (λ k d low. below (suc k) d (omega (arith, low))) up sum) p s acts up.0 sum
-
--- a test of two numbers, the other way round
-pub flips : (x y : ℕ) → nat_eq x y ≡ nat_eq y x
-flips x y = by_test (nat_eq x y) (nat_eq y x) refl refl where
-  by_test : (b c : Bool) → nat_eq x y ≡ b → nat_eq y x ≡ c → b ≡ c
-  by_test true true p q = refl
-  by_test false false p q = refl
-  by_test true false p q = absurd (grind (arith, nat_tests))
-  by_test false true p q = absurd (grind (arith, nat_tests))

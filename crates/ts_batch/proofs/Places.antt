@@ -7,6 +7,7 @@ use Rattle.std.proofs.lemmas.List.Folds.{list_any-append}
 use Rattle.std.proofs.lemmas.List.Elements.{All-append}
 use Rattle.std.proofs.lemmas.Bool.Decides.{nat_tests}
 use Rattle.std.proofs.lemmas.Bool.{cases_eq}
+use Rattle.std.proofs.Math.Bool.{or-true, or-false}
 use Rattle.ts_packet.specs.Fields.{pid_of}
 use Rattle.pid_set.specs.declared.set.TheConstants.{ALL_PACKETS}
 use Rattle.ts_batch.specs.declared.index.Run.{Run}
@@ -53,10 +54,6 @@ none-named pid packets index h none =
 
 pub has-more : (pid : ℕ) (runs : List Run) (run : Run) → has_run pid (runs ++ run ∷ []) ≡ (has_run pid runs || nat_eq run.pid pid)
 has-more pid runs run = list_any-append (λ r. nat_eq r.pid pid) runs (run ∷ []) ∙ ap (λ b. has_run pid runs || b) (or-false (nat_eq run.pid pid))
-  where
-    or-false : (b : Bool) → (b || false) ≡ b
-    or-false true = refl
-    or-false false = refl
 
 range-kept : (xs ys : List ℕ) (from to : ℕ) → from ≤ to → to ≤ length xs → slice_range (xs ++ ys) from to ≡ slice_range xs from to
 range-kept xs ys from to h k =
@@ -100,7 +97,3 @@ listed packets old pid new places runs h =
   where
     same : (n : ℕ) → nat_eq n n ≡ true
     same n = grind (arith, nat_tests)
-
-    or-true : (b : Bool) → (b || true) ≡ true
-    or-true true = refl
-    or-true false = refl

@@ -3,16 +3,22 @@ ghost use Rattle.std.specs.Prelude.{◌≡◌, ◌<◌, ◌≤◌, ◌++◌, ◌
 ghost use Rattle.ts_make.specs.Made.{header, payload, section_front, section, packet};
 
 use crate::kind::Kind;
+use byteorder::{BigEndian, ByteOrder};
 use section_crc::crc;
 use std::alloc::AllocError as NoMemory;
 use ts_packet::SYNC_BYTE;
 
-// The bit of a unit start in byte 1.
-fn start_bit(unit_start: bool) -> u8
-    ensures value { result ≡ (if unit_start then 0x40 else 0) }
-    ensures fits { result ≤ 0x40 }
+// What stands in front of section_length: section_syntax_indicator 1, the bit 0 and two reserved bits (ISO/IEC 13818-1, 2.4.4.1).
+const LONG_SECTION: u16 = 0xb000;
+
+// section_length: the bytes behind it, CRC_32 among them.
+const SECTION_LENGTH: u16 = 17;
+
+// payload_unit_start_indicator in the two bytes that end with the PID (ISO/IEC 13818-1, 2.4.3.2).
+fn start_bit(unit_start: bool) -> u16
+    ensures { result ≡ (if unit_start then 0x4000 else 0) }
 {
-    if unit_start { 0x40 } else { 0 }
+    if unit_start { 0x4000 } else { 0 }
 }
 
 // Appends the first four bytes.
@@ -21,8 +27,9 @@ fn put_header(out: &mut Vec<u8>, unit_start: bool, pid: u16, counter: u8) -> Res
     requires counter { counter < 16 }
     ensures { OnOk result (out.new.items ≡ out.old.items ++ header unit_start pid counter) }
 {
-    let high = start_bit(unit_start) + (pid / 256) as u8;
-    out.extend_from_slice(&[SYNC_BYTE, high, (pid % 256) as u8, 0x10 + counter])
+    let mut bytes = [SYNC_BYTE, 0, 0, 0x10 + counter];
+    BigEndian::write_u16(&mut bytes[1..], start_bit(unit_start) | pid);
+    out.extend_from_slice(&bytes)
 }
 
 // Appends the payload of the packet in this place: each byte is one more than the one before it, modulo 256.
@@ -39,11 +46,13 @@ fn put_payload(out: &mut Vec<u8>, place: u16) -> Result<(), NoMemory>
 fn front_of_section(table_id: u8, place: u16) -> [u8; 16]
     ensures { result ≡ section_front table_id place }
 {
-    let [high, low] = place.to_be_bytes();
-    let [a, b, c, d, e, f, g, h] = u64::from(place).to_be_bytes();
-    [
-        table_id, 0xb0, 0x11, high, low, 0xc1, 0, 0, a, b, c, d, e, f, g, h,
-    ]
+    let mut bytes = [0; 16];
+    bytes[0] = table_id;
+    BigEndian::write_u16(&mut bytes[1..], LONG_SECTION | SECTION_LENGTH);
+    BigEndian::write_u16(&mut bytes[3..], place);
+    bytes[5] = 0xc1;
+    BigEndian::write_u64(&mut bytes[8..], u64::from(place));
+    bytes
 }
 
 // Appends a section with its CRC.
@@ -51,9 +60,10 @@ fn put_section(out: &mut Vec<u8>, table_id: u8, place: u16) -> Result<(), NoMemo
     ensures { OnOk result (out.new.items ≡ out.old.items ++ section table_id place) }
 {
     let front = front_of_section(table_id, place);
-    let check = crc(&front);
+    let mut check = [0; 4];
+    BigEndian::write_u32(&mut check, crc(&front));
     out.extend_from_slice(&front)?;
-    out.extend_from_slice(&check.to_be_bytes())?;
+    out.extend_from_slice(&check)?;
     Ok(())
 }
 

@@ -1,9 +1,10 @@
 // A packet of 188 bytes, and its fields.
 ghost use Rattle.std.specs.Prelude.{◌≡◌, true, ◌<◌, ◌≤◌, length, slice_index, IsNone, IfSome, ◌↔◌, ◌≢◌};
 ghost use Rattle.std.specs.Option.{option_copied};
-ghost use Rattle.ts_packet.specs.Fields.{IsPacket, error_bit, unit_start, pid_of, counter_of, discontinuity, has_payload, payload_of, null_packet};
+ghost use Rattle.ts_packet.specs.Fields.{IsPacket, bit, error_bit, unit_start, pid_of, counter_of, has_adaptation, discontinuity, payload_start, has_payload, payload_of, null_packet};
 ghost use Rattle.ts_packet.specs.Clean.{repeats, joins};
 
+use byteorder::{BigEndian, ByteOrder};
 use std::marker::Model;
 
 /// The length of a packet in bytes.
@@ -61,55 +62,76 @@ impl Packet {
         &self.bytes
     }
 
-    /// The PID, 0 to 8191.
+    /// PID, 0 to 8191 (ISO/IEC 13818-1, 2.4.3.3).
     pub fn pid(&self) -> u16
         ensures value { result ≡ pid_of self.now }
         ensures fits { result < 8192 }
     {
-        u16::from(self.bytes[1] & 0x1f) * 256 + u16::from(self.bytes[2])
+        BigEndian::read_u16(&self.bytes[1..]) & 0x1fff
     }
 
-    /// The transport_error_indicator: the packet has an error that wasn't corrected.
+    /// transport_error_indicator (ISO/IEC 13818-1, 2.4.3.3): the packet has an error that wasn't corrected.
     pub fn error(&self) -> bool
         ensures { result ≡ error_bit self.now }
     {
-        self.bytes[1] >> 7 & 1 == 1
+        self.bytes[1] & 0x80 != 0
     }
 
-    /// The payload_unit_start_indicator: a section or a PES packet begins in the payload.
+    /// payload_unit_start_indicator (ISO/IEC 13818-1, 2.4.3.3): a section or a PES packet begins in the payload.
     pub fn unit_start(&self) -> bool
         ensures { result ≡ unit_start self.now }
     {
-        self.bytes[1] >> 6 & 1 == 1
+        self.bytes[1] & 0x40 != 0
     }
 
-    /// The continuity_counter, 0 to 15.
+    /// continuity_counter, 0 to 15 (ISO/IEC 13818-1, 2.4.3.3).
     pub fn counter(&self) -> u8
         ensures { result ≡ counter_of self.now }
     {
         self.bytes[3] & 0x0f
     }
 
-    /// The discontinuity_indicator; false where the packet has no adaptation field or an empty one.
+    /// discontinuity_indicator (ISO/IEC 13818-1, 2.4.3.5); false where the packet has no adaptation field or an empty one.
     pub fn discontinuity(&self) -> bool
         ensures { result ≡ discontinuity self.now }
     {
-        self.bytes[3] >> 5 & 1 == 1 && self.bytes[4] > 0 && self.bytes[5] >> 7 & 1 == 1
+        self.has_adaptation() && self.bytes[4] > 0 && self.bytes[5] & 0x80 != 0
     }
 
-    /// The payload, 1 to 184 bytes. None exactly where the packet has none: where adaptation_field_control says so, or
-    /// where the adaptation field's length leaves no byte for it.
+    // The first bit of adaptation_field_control (ISO/IEC 13818-1, 2.4.3.3): an adaptation field follows the header.
+    fn has_adaptation(&self) -> bool
+        ensures { result ≡ has_adaptation self.now }
+    {
+        self.bytes[3] & 0x20 != 0
+    }
+
+    // The second bit of adaptation_field_control (ISO/IEC 13818-1, 2.4.3.3): a payload follows.
+    fn says_payload(&self) -> bool
+        ensures { result ≡ bit (slice_index self.now 3) 16 }
+    {
+        self.bytes[3] & 0x10 != 0
+    }
+
+    // The first place of the payload.
+    fn payload_start(&self) -> usize
+        ensures { result ≡ payload_start self.now }
+    {
+        if self.has_adaptation() {
+            5 + self.bytes[4] as usize
+        } else {
+            4
+        }
+    }
+
+    /// The payload, 1 to 184 bytes. None exactly where the packet has none: where adaptation_field_control (ISO/IEC 13818-1,
+    /// 2.4.3.3) says so, or where the adaptation field's length leaves no byte for it.
     pub fn payload(&self) -> Option<&[u8]>
         ensures value { option_copied result ≡ payload_of self.now }
         ensures some { IfSome result (λ payload. 0 < length payload.now) }
         ensures fits { IfSome result (λ payload. length payload.now ≤ 184) }
     {
-        let start = if self.bytes[3] >> 5 & 1 == 1 {
-            5 + self.bytes[4] as usize
-        } else {
-            4
-        };
-        if self.bytes[3] >> 4 & 1 == 1 && start < PACKET_LEN {
+        let start = self.payload_start();
+        if self.says_payload() && start < PACKET_LEN {
             Some(&self.bytes[start..])
         } else {
             None

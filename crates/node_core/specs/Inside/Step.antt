@@ -1,5 +1,5 @@
 -- How a demux node goes on with an accepted call. The proofs alone use it: no public contract cites it.
-use Rattle.std.specs.Prelude.{ℕ, ◌-◌, Bool, true, not, ◌&&◌, nat_eq, if◌then◌else◌, List, [], ◌∷◌, Option, Some, None, is_some, option_map}
+use Rattle.std.specs.Prelude.{ℕ, ◌-◌, Bool, true, not, ◌&&◌, nat_eq, if◌then◌else◌, List, [], ◌∷◌, filter, Option, Some, None, is_some, option_map}
 use Rattle.pid_set.specs.Pids.{with_pid, without_pid}
 use Rattle.dmx_calls.specs.declared.params.Input.{Input}
 use Rattle.dmx_calls.specs.declared.limits.TheConstants.{DEMUX_SIZE, IMMEDIATE_START}
@@ -7,13 +7,13 @@ use Rattle.dmx_calls.specs.Invocation.{Invocation, Open, Close, SetFilter, SetPe
 use Rattle.dmx_calls.specs.Response.{Response, is_accepted}
 use Rattle.dmx_calls.specs.Tenure.{Params, Empty, Section, Pes}
 use Rattle.dmx_calls.specs.Capture.{has_flag}
-use Rattle.dmx_calls.specs.Items.{is_same_input, timeout_of}
+use Rattle.dmx_calls.specs.Items.{is_same_input, is_named, timeout_of}
 use Rattle.dmx_calls.specs.Facts.{Ledger, Facts, has_had_its_section}
 use Rattle.item_select.specs.Items.{Nothing}
-use Rattle.item_select.specs.Selecting.{Selecting, begun as begun_selecting, begun_again, with_pids, items_found, kept_after}
+use Rattle.item_select.specs.Selecting.{Selecting, begun as begun_selecting, begun_again, items_found, kept_after}
 use Rattle.dmx_calls.specs.Answer.{is_section}
 use Rattle.node_buffer.specs.Inside.Capturing.{begun, terms_of, with_items, expiring, with_response, with_stop}
-use Rattle.node_core.specs.Offers.{choice_of, names_of, input_of}
+use Rattle.node_core.specs.Offers.{choice_of, input_of}
 
 -- what a node knows: what its history says to the next call, and what its selector keeps
 pub record Knows : Type 0 where
@@ -22,7 +22,7 @@ pub record Knows : Type 0 where
 
 -- the selector of a node without a filter
 abbrev pub unset : Selecting
-unset = begun_selecting Nothing []
+unset = begun_selecting Nothing
 
 -- the packets of a pass are offered: the filter runs, and they come from its input
 abbrev pub is_taking : Params → Input → Ledger → Bool
@@ -30,7 +30,7 @@ is_taking set input l =
     is_same_input input (input_of set) &&
     (not l.is_stopped && (not (is_some l.expired) && not (has_had_its_section set l.count)))
 
--- the capture after a pass that brings these packets, once it may have expired the filter
+-- the capture after a pass that brings these packets that its PIDs name, once it may have expired the filter
 abbrev pub passed : Params → (capacity : ℕ) → Input → List (List ℕ) → Selecting → Ledger → Ledger
 passed set capacity input packets s l =
     if is_taking set input l then with_items (terms_of set) capacity l (items_found s packets) else l
@@ -71,20 +71,14 @@ moved k who Close r = record {
 }
 moved k who (SetFilter p now) r = record {
   facts = with_filter k.facts (Section p) (p.pid ∷ []) p.flags now;
-  selecting = begun_selecting (choice_of (Section p)) [];
+  selecting = begun_selecting (choice_of (Section p));
 }
 moved k who (SetPes p now) r = record {
   facts = with_filter k.facts (Pes p) (p.pid ∷ []) p.flags now;
-  selecting = begun_selecting (choice_of (Pes p)) (names_of (choice_of (Pes p)) (p.pid ∷ []));
+  selecting = begun_selecting (choice_of (Pes p));
 }
-moved k who (AddPid pid) r = record {
-  facts = record k.facts { pids = with_pid pid k.facts.pids };
-  selecting = with_pids (names_of k.selecting.choice (with_pid pid k.facts.pids)) k.selecting;
-}
-moved k who (RemovePid pid) r = record {
-  facts = record k.facts { pids = without_pid pid k.facts.pids };
-  selecting = with_pids (names_of k.selecting.choice (without_pid pid k.facts.pids)) k.selecting;
-}
+moved k who (AddPid pid) r = record k { facts = record k.facts { pids = with_pid pid k.facts.pids } }
+moved k who (RemovePid pid) r = record k { facts = record k.facts { pids = without_pid pid k.facts.pids } }
 moved k who (Start now) r = record {
   facts = record k.facts { ledger = Some (begun now) };
   selecting = begun_again k.selecting;
@@ -110,11 +104,11 @@ moved k who (Poll now) r =
 moved k who (Pass input first packets now) r = record {
   facts = record k.facts {
     ledger = option_map
-        (λ l. passed k.facts.params (k.facts.size - 1) input packets k.selecting
+        (λ l. passed k.facts.params (k.facts.size - 1) input (filter (is_named k.facts.pids) packets) k.selecting
         (expiring (timeout_of k.facts.params) now l)) k.facts.ledger;
   };
   selecting =
-      passed_by k.facts.params input packets k.selecting
+      passed_by k.facts.params input (filter (is_named k.facts.pids) packets) k.selecting
       (option_map (expiring (timeout_of k.facts.params) now) k.facts.ledger);
 }
 moved k who End r = record k { facts = record k.facts { has_ended = true } }

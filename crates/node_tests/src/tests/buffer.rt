@@ -62,13 +62,11 @@ fn params_of(filter: Filter) -> Params {
     }
 }
 
-/// A Read gives what is wanted, and hands its buffer back where the reply doesn't hold it. The stream hasn't ended.
+/// A Read gives what is wanted. The stream hasn't ended.
 fn reads(alloc: Global, buffer: &mut Buffer, count: u32, want: Want) -> Result<bool, NoMemory> {
     let buf = ByteBuf::new(alloc, count.min(65_536))?;
-    let (reply, back) = buffer.read(false, buf);
     let answer = Answer {
-        reply,
-        back,
+        reply: buffer.read(false, buf),
         batch: None,
     };
     is_answered(alloc, crate::tests::Step::Read(count), &answer, want)

@@ -126,18 +126,16 @@ pub fn is_wanted(alloc: Global, reply: &Reply, want: Want) -> Result<bool, NoMem
     })
 }
 
-/// The answer to the call of a step is as wanted: the reply is, a Read gets its buffer back where the reply doesn't hold it, packets
-/// that passed get their batch back, and nothing else is handed back.
+/// The answer to the call of a step is as wanted: the reply is, packets that passed get their batch back, and nothing else is handed
+/// back.
 pub fn is_answered(
     alloc: Global,
     step: Step,
     answer: &Answer,
     want: Want,
 ) -> Result<bool, NoMemory> {
-    let gives = matches!(answer.reply, Reply::Data(_));
-    let reads = matches!(step, Step::Read(_));
     let passes = matches!(step, Step::Feed(_) | Step::Many(..) | Step::Write(_));
-    if answer.back.is_some() != (reads && !gives) || answer.batch.is_some() != passes {
+    if answer.batch.is_some() != passes {
         return Ok(false);
     }
     is_wanted(alloc, &answer.reply, want)

@@ -6,10 +6,13 @@ mod rows;
 
 use crate::tests::{Sent, are_named, packet_of};
 use filter_match::{Place, SectionFilter};
-use item_select::{Selector, all_items_are_given, one_shot_gives_no_more, one_shot_is_spent};
+use item_select::{
+    Checks, Give, Selector, all_items_are_given, one_shot_gives_no_more, one_shot_is_spent,
+};
 use pid_set::Pids;
-use rows::{ANEW, PACKETS, SECTIONS};
+use rows::{ANEW, PACKETS, SECTIONS, UNCHECKED};
 use std::alloc::{AllocError as NoMemory, Global};
+use ts_packet::Packet;
 
 /// How a row begins.
 #[derive(Clone, Copy, Drop)]
@@ -18,12 +21,12 @@ enum Begin {
     Stays,
     /// No filter.
     Nothing,
-    /// A filter of the sections of PID 256 that match these places, with or without a check and once.
-    Sections(&'static [Place], bool, bool),
+    /// A filter of the sections of PID 256 that match these places and pass these checks.
+    Sections(&'static [Place], Checks),
     /// A filter of any section of this PID.
     Any(u16),
-    /// A filter of packets, whole or their payloads, by their PIDs.
-    Packets(bool, &'static [u16]),
+    /// A filter of packets, whole or their payloads, which is offered those of these PIDs.
+    Packets(Give, &'static [u16]),
     /// A filter of the whole packets of the first PID, which is offered this packet, and then has the second PID.
     Renamed(u16, Sent, u16),
     /// The filter begins anew.
@@ -52,26 +55,55 @@ fn pids_of(pids: &[u16]) -> Pids {
     set
 }
 
+/// A selector, and the PIDs of the packets that it is offered; None for all.
+#[derive(Drop)]
+struct Filter {
+    selector: Selector,
+    pids: Option<Pids>,
+}
+
+// Offers a packet that the PIDs name.
+fn offer(filter: &mut Filter, packet: &Packet)
+    requires { filter.old.selector.ready ≡ [] }
+{
+    let is_named = match &filter.pids {
+        Some(pids) => pids.names(packet.pid()),
+        None => true,
+    };
+    if is_named {
+        filter.selector.offer(packet);
+    }
+}
+
 // Does what a row begins with.
-fn prepare(selector: &mut Selector, first: Begin) {
+fn prepare(filter: &mut Filter, first: Begin) {
+    let selector = &mut filter.selector;
     match first {
         Begin::Stays => {}
         Begin::Nothing => selector.set_none(),
-        Begin::Sections(places, check, once) => {
-            selector.set_sections(256, &SectionFilter::of(places), check, once)
+        Begin::Sections(places, checks) => {
+            filter.pids = None;
+            selector.set_sections(256, &SectionFilter::of(places), checks);
         }
-        Begin::Any(pid) => selector.set_sections(pid, &SectionFilter::of(&[]), false, false),
-        Begin::Packets(whole, pids) => selector.set_packets(whole, &pids_of(pids)),
+        Begin::Any(pid) => {
+            filter.pids = None;
+            selector.set_sections(pid, &SectionFilter::of(&[]), UNCHECKED);
+        }
+        Begin::Packets(give, pids) => {
+            filter.pids = Some(pids_of(pids));
+            selector.set_packets(give);
+        }
         Begin::Renamed(before, packet, behind) => {
-            selector.set_packets(true, &pids_of(&[before]));
-            selector.offer(&packet_of(packet));
-            selector.set_pids(&pids_of(&[behind]));
+            filter.pids = Some(pids_of(&[before]));
+            selector.set_packets(Give::Whole);
+            offer(filter, &packet_of(packet));
+            filter.pids = Some(pids_of(&[behind]));
         }
         Begin::Restart => selector.restart(),
         Begin::Lost(packet) => {
             selector.restart();
-            selector.offer(&packet_of(packet));
-            selector.restart();
+            offer(filter, &packet_of(packet));
+            filter.selector.restart();
         }
     }
 }
@@ -89,15 +121,15 @@ fn take(alloc: Global, selector: &mut Selector, found: &mut Vec<Vec<u8>>) -> Res
 // The items that wait, and those of these packets, each taken before the next packet is offered.
 fn all_items(
     alloc: Global,
-    selector: &mut Selector,
+    filter: &mut Filter,
     stream: &[Sent],
 ) -> Result<Vec<Vec<u8>>, NoMemory> {
     let mut found = Vec::new(alloc);
     for sent in stream {
-        take(alloc, selector, &mut found)?;
-        selector.offer(&packet_of(*sent));
+        take(alloc, &mut filter.selector, &mut found)?;
+        offer(filter, &packet_of(*sent));
     }
-    take(alloc, selector, &mut found)?;
+    take(alloc, &mut filter.selector, &mut found)?;
     Ok(found)
 }
 
@@ -120,12 +152,15 @@ fn are_wanted(found: &[Vec<u8>], wanted: Items) -> bool {
     }
 }
 
-// Does the rows with one selector, one after another, and gives the number of the first whose items aren't the wanted ones.
+// Does the rows with one filter, one after another, and gives the number of the first whose items aren't the wanted ones.
 fn odd_row(alloc: Global, rows: &[Row]) -> Result<Option<usize>, NoMemory> {
-    let mut selector = Selector::new(alloc)?;
+    let mut filter = Filter {
+        selector: Selector::new(alloc)?,
+        pids: None,
+    };
     for (number, (first, stream, wanted)) in rows.iter().enumerate() {
-        prepare(&mut selector, *first);
-        let found = all_items(alloc, &mut selector, stream)?;
+        prepare(&mut filter, *first);
+        let found = all_items(alloc, &mut filter, stream)?;
         if !are_wanted(&found, *wanted) {
             return Ok(Some(number));
         }

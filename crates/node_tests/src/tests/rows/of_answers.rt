@@ -165,42 +165,36 @@ const EMPTY: Want = Want::Data(&[]);
 
 const PACKETS: &[Cell] = &[P0];
 
-// A step, what is wanted of an answer that is this, whether the answer has a buffer and a batch, and whether it is the wanted one.
-type AnswerRow = (Step, Want, bool, bool, bool);
+// A step, what is wanted of an answer that is this, whether the answer has a batch, and whether it is the wanted one.
+type AnswerRow = (Step, Want, bool, bool);
 
 const ANSWERS: &[AnswerRow] = &[
-    (Step::Read(4), AGAIN, true, false, true),
-    (Step::Read(4), AGAIN, false, false, false),
-    (Step::Read(4), EMPTY, false, false, true),
-    (Step::Read(4), EMPTY, true, false, false),
-    (Step::Poll, AGAIN, false, false, true),
-    (Step::Poll, AGAIN, true, false, false),
-    (Step::Poll, AGAIN, false, true, false),
-    (Step::Feed(PACKETS), AGAIN, false, true, true),
-    (Step::Feed(PACKETS), AGAIN, false, false, false),
-    (Step::Write(PACKETS), AGAIN, false, true, true),
-    (Step::Write(PACKETS), AGAIN, false, false, false),
-    (Step::Many(P0, 1), AGAIN, false, true, true),
-    (Step::Many(P0, 1), AGAIN, false, false, false),
+    (Step::Read(4), AGAIN, false, true),
+    (Step::Read(4), AGAIN, true, false),
+    (Step::Read(4), EMPTY, false, true),
+    (Step::Read(4), EMPTY, true, false),
+    (Step::Poll, AGAIN, false, true),
+    (Step::Poll, AGAIN, true, false),
+    (Step::Feed(PACKETS), AGAIN, true, true),
+    (Step::Feed(PACKETS), AGAIN, false, false),
+    (Step::Write(PACKETS), AGAIN, true, true),
+    (Step::Write(PACKETS), AGAIN, false, false),
+    (Step::Many(P0, 1), AGAIN, true, true),
+    (Step::Many(P0, 1), AGAIN, false, false),
 ];
 
-// An answer with the reply that is wanted, and with a buffer and a batch where the row says so.
+// An answer with the reply that is wanted, and with a batch where the row says so.
 fn answer_of(alloc: Global, row: &AnswerRow) -> Result<Answer, NoMemory> {
     let reply = match row.1 {
         Want::Data(_) => data(alloc, &[])?,
         _ => Reply::Again { ended: false },
     };
-    let back = if row.2 {
-        Some(ByteBuf::new(alloc, 4)?)
-    } else {
-        None
-    };
-    let batch = if row.3 {
+    let batch = if row.2 {
         batch_of(alloc, PACKETS)?
     } else {
         None
     };
-    Ok(Answer { reply, back, batch })
+    Ok(Answer { reply, batch })
 }
 
 // Whether that answer is taken for the wanted one just where the row says so, and never for that of a pass.
@@ -208,11 +202,11 @@ fn is_told(alloc: Global, row: &AnswerRow) -> Result<bool, NoMemory> {
     let answer = answer_of(alloc, row)?;
     let found = is_answered(alloc, row.0, &answer, row.1)?;
     let passed = is_answered(alloc, row.0, &answer, Want::Passed)?;
-    Ok(found == row.4 && !passed)
+    Ok(found == row.3 && !passed)
 }
 
 #[test]
-fn buffers_and_batches_are_handed_back(rt: HostRuntime) -> Result<(), NoMemory> {
+fn batches_are_handed_back(rt: HostRuntime) -> Result<(), NoMemory> {
     for (number, row) in ANSWERS.iter().enumerate() {
         assert!(rt; is_told(rt.alloc(), row)?, "row {number}");
     }

@@ -60,12 +60,11 @@ impl Machine for Parrot {
     fn apply<L: Ledger>(&mut self, who: u32, call: Call, _steps: &mut Steps<L>) -> Answer {
         self.made += 1;
         let reply = reply_to(who, &call);
-        let (back, batch) = match call {
-            Call::Read { buf, .. } => (Some(buf), None),
-            Call::Pass { batch, .. } => (None, Some(batch)),
-            _ => (None, None),
+        let batch = match call {
+            Call::Pass { batch, .. } => Some(batch),
+            _ => None,
         };
-        Answer { reply, back, batch }
+        Answer { reply, batch }
     }
 
     ghost names = { λ who call answer. refl };

@@ -4,6 +4,31 @@ use super::{Begin, Items, Row};
 use crate::tests::Sent::{self, Filled, X1, X2};
 use crate::tests::at;
 use filter_match::Place;
+use item_select::{Checks, Give};
+
+/// Every section that matches.
+pub const UNCHECKED: Checks = Checks {
+    crc: false,
+    once: false,
+};
+
+// Those without a CRC, and those with a right one.
+const WITH_CHECK: Checks = Checks {
+    crc: true,
+    once: false,
+};
+
+// The first that matches.
+const FIRST: Checks = Checks {
+    crc: false,
+    once: true,
+};
+
+// The first of those without a CRC, and of those with a right one.
+const FIRST_WITH_CHECK: Checks = Checks {
+    crc: true,
+    once: true,
+};
 
 // A packet of PID 256 with A and B.
 const AB: Sent = Filled(
@@ -80,25 +105,25 @@ pub const SECTIONS: &[Row] = &[
     (Begin::Any(256), &[AB], Items::Named("AB")),
     // a table
     (
-        Begin::Sections(&[TABLE_43], false, false),
+        Begin::Sections(&[TABLE_43], UNCHECKED),
         &[AB, A_BEHIND],
         Items::Named("B"),
     ),
     // any version but 0
     (
-        Begin::Sections(&[TABLE_42, NOT_VERSION_0], false, false),
+        Begin::Sections(&[TABLE_42, NOT_VERSION_0], UNCHECKED),
         &[VERSIONS],
         Items::Named("N"),
     ),
     // version 0
     (
-        Begin::Sections(&[TABLE_42, VERSION_0], false, false),
+        Begin::Sections(&[TABLE_42, VERSION_0], UNCHECKED),
         &[VERSIONS],
         Items::Named("O"),
     ),
     // a masked byte behind the end of A
     (
-        Begin::Sections(&[BYTE_17], false, false),
+        Begin::Sections(&[BYTE_17], UNCHECKED),
         &[AB],
         Items::Named(""),
     ),
@@ -106,35 +131,39 @@ pub const SECTIONS: &[Row] = &[
     (Begin::Any(256), &[CHECKED], Items::Named("DPA")),
     // a check
     (
-        Begin::Sections(ANY, true, false),
+        Begin::Sections(ANY, WITH_CHECK),
         &[CHECKED],
         Items::Named("PA"),
     ),
     // no packets
-    (Begin::Sections(ANY, true, true), &[], Items::Named("")),
+    (
+        Begin::Sections(ANY, FIRST_WITH_CHECK),
+        &[],
+        Items::Named(""),
+    ),
     // once, of two in a packet
-    (Begin::Sections(ANY, false, true), &[AB], Items::Named("A")),
+    (Begin::Sections(ANY, FIRST), &[AB], Items::Named("A")),
     // once, and a packet behind
     (
-        Begin::Sections(ANY, false, true),
+        Begin::Sections(ANY, FIRST),
         &[AB, A_BEHIND],
         Items::Named("A"),
     ),
     // once, of a later packet
     (
-        Begin::Sections(&[TABLE_43], false, true),
+        Begin::Sections(&[TABLE_43], FIRST),
         &[X1, X2, AB],
         Items::Named("B"),
     ),
     // once, the second of a packet
     (
-        Begin::Sections(&[TABLE_43], false, true),
+        Begin::Sections(&[TABLE_43], FIRST),
         &[AB],
         Items::Named("B"),
     ),
     // once, the first with a right CRC
     (
-        Begin::Sections(ANY, true, true),
+        Begin::Sections(ANY, FIRST_WITH_CHECK),
         &[CHECKED],
         Items::Named("P"),
     ),
@@ -146,54 +175,58 @@ pub const SECTIONS: &[Row] = &[
 pub const PACKETS: &[Row] = &[
     // whole packets of a PID
     (
-        Begin::Packets(true, &[256]),
+        Begin::Packets(Give::Whole, &[256]),
         &[FULL, OTHER, EMPTY, BYTE],
         Items::Parts(&[(FULL, 0), (EMPTY, 0), (BYTE, 0)]),
     ),
     // payloads of a PID
     (
-        Begin::Packets(false, &[256]),
+        Begin::Packets(Give::Payload, &[256]),
         &[FULL, OTHER, EMPTY, BYTE],
         Items::Parts(&[(FULL, 4), (BYTE, 187)]),
     ),
     // packets of two PIDs
     (
-        Begin::Packets(true, &[257, 256]),
+        Begin::Packets(Give::Whole, &[257, 256]),
         &[FULL, OTHER],
         Items::Parts(&[(FULL, 0), (OTHER, 0)]),
     ),
     // all packets
     (
-        Begin::Packets(true, &[0x2000]),
+        Begin::Packets(Give::Whole, &[0x2000]),
         &[FULL, OTHER, EMPTY],
         Items::Parts(&[(FULL, 0), (OTHER, 0), (EMPTY, 0)]),
     ),
     // the payloads of all packets
     (
-        Begin::Packets(false, &[0x2000]),
+        Begin::Packets(Give::Payload, &[0x2000]),
         &[FULL, OTHER, EMPTY],
         Items::Parts(&[(FULL, 4), (OTHER, 4)]),
     ),
     // a packet that two PIDs name
     (
-        Begin::Packets(true, &[256, 0x2000]),
+        Begin::Packets(Give::Whole, &[256, 0x2000]),
         &[FULL, OTHER],
         Items::Parts(&[(FULL, 0), (OTHER, 0)]),
     ),
     // packets as they are
     (
-        Begin::Packets(true, &[256]),
+        Begin::Packets(Give::Whole, &[256]),
         &[FULL, FULL, BAD],
         Items::Parts(&[(FULL, 0), (FULL, 0), (BAD, 0)]),
     ),
     // payloads as they are
     (
-        Begin::Packets(false, &[256]),
+        Begin::Packets(Give::Payload, &[256]),
         &[FULL, FULL, BAD],
         Items::Parts(&[(FULL, 4), (FULL, 4), (BAD, 4)]),
     ),
     // no PIDs
-    (Begin::Packets(true, &[]), &[FULL, OTHER], Items::Parts(&[])),
+    (
+        Begin::Packets(Give::Whole, &[]),
+        &[FULL, OTHER],
+        Items::Parts(&[]),
+    ),
     // new PIDs name the packets behind them
     // a packet that was offered before
     (
@@ -212,7 +245,11 @@ pub const ANEW: &[Row] = &[
     // a new selector
     (Begin::Stays, &[AB, FULL], Items::Named("")),
     // a filter of packets
-    (Begin::Packets(true, &[0x2000]), &[], Items::Named("")),
+    (
+        Begin::Packets(Give::Whole, &[0x2000]),
+        &[],
+        Items::Named(""),
+    ),
     // no filter behind it
     (Begin::Nothing, &[AB, FULL], Items::Named("")),
     // the two packets of X
@@ -226,7 +263,7 @@ pub const ANEW: &[Row] = &[
     (Begin::Any(256), &[X2], Items::Named("A")),
     // what waits
     // no packets
-    (Begin::Packets(true, &[256]), &[], Items::Named("")),
+    (Begin::Packets(Give::Whole, &[256]), &[], Items::Named("")),
     // a packet that waited
     (Begin::Lost(FULL), &[], Items::Named("")),
     // no sections
@@ -235,7 +272,7 @@ pub const ANEW: &[Row] = &[
     (Begin::Lost(AB), &[], Items::Named("")),
     // a section each time that a one-shot filter begins
     // once
-    (Begin::Sections(ANY, false, true), &[AB], Items::Named("A")),
+    (Begin::Sections(ANY, FIRST), &[AB], Items::Named("A")),
     // a packet behind it
     (Begin::Stays, &[A_BEHIND], Items::Named("")),
     // once more

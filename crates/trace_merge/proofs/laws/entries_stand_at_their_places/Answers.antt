@@ -9,7 +9,8 @@ use Rattle.dmx_calls.specs.Histories.{pass_act, feeder_acts, woven, AreInPlace}
 use Rattle.dmx_calls.specs.declared.log.Act.TheVariants.{End as EndAct}
 use Rattle.dmx_calls.proofs.Weaving.{woven-length, woven_nodes-at}
 use Rattle.trace_merge.specs.Inside.Placing.{entries_on, length_on, StandAtTheirPlaces}
-use Rattle.trace_merge.proofs.Standing.{ascends, flips, in-place}
+use Rattle.trace_merge.proofs.Standing.{ascends, in-place}
+use Rattle.lemmas.proofs.Tests.{nat_eq_turned}
 use Rattle.trace_merge.proofs.laws.entries_stand_at_their_places.Goals as goal
 
 stand : StandAtTheirPlaces
@@ -25,7 +26,7 @@ stand feeding logs nodes merged node low names h at =
     let both : Some h ≡ Some (woven node acts (map told_entry calls)) = sym at ∙ woven_there in
     let same : h ≡ woven node acts (map told_entry calls) = cc both in
     let moved = merged.entries node calls own in
-    let once = IsDistinct-IsPermutation nat_eq flips (map (λ (e : ToldEntry). e.place) (entries_on node logs)) (map (λ (e : ToldEntry). e.place) calls) (IsPermutation-map (λ (e : ToldEntry). e.place) (entries_on node logs) calls moved) names.once in
+    let once = IsDistinct-IsPermutation nat_eq nat_eq_turned (map (λ (e : ToldEntry). e.place) (entries_on node logs)) (map (λ (e : ToldEntry). e.place) calls) (IsPermutation-map (λ (e : ToldEntry). e.place) (entries_on node logs) calls moved) names.once in
     let below = All-permutation (λ (e : ToldEntry). e.place < length_on node feeding logs) (entries_on node logs) calls moved names.below in
     let long = length_permutation (entries_on node logs) calls moved in
     let a = length-append (map pass_act feeding) (EndAct ∷ []) in

@@ -9,5 +9,5 @@ pub returns : goal.returns
 returns c =
     let front = section_front c.args.table_id c.args.place in
     let first : c.extend_from_slice.new.self.items ≡ c.args.out.now.items ++ front = rw (c.in_ok-extend_from_slice.ensures.items, c.front_of_section-front.ensures) refl in
-    let second : c.extend_from_slice-2.new.self.items ≡ c.extend_from_slice.new.self.items ++ to_be_bytes w32 (crc front) = rw (c.in_ok-extend_from_slice-2.ensures.items, c.to_be_bytes.ensures, c.crc-check.ensures, c.front_of_section-front.ensures) refl in
+    let second : c.extend_from_slice-2.new.self.items ≡ c.extend_from_slice.new.self.items ++ to_be_bytes w32 (crc front) = rw (c.in_ok-extend_from_slice-2.ensures.items, c.write_u32.ensures, c.crc.ensures, c.front_of_section-front.ensures) refl in
     two-behind c.args.out.now.items front (to_be_bytes w32 (crc front)) c.extend_from_slice.new.self.items c.extend_from_slice-2.new.self.items first second

@@ -9,10 +9,10 @@ use Rattle.dvr_core.specs.Inside.KeptView.{knows_in}
 use Rattle.dvr_core.proofs.ByValues.{read-said, read-after}
 use Rattle.dvr_core.proofs.tenure.Tenure.read.Goals as goal
 
-pub returns-clause-does : goal.returns-clause-does
-returns-clause-does c = λ now.
+pub returns : goal.returns
+returns c =
     let k : List (Option Tap) → Knows = λ taps. knows_in c.args.ended taps (Some c.args.self.now) in
-    let r = response_of c.read.result.0 in
+    let r = response_of c.read.result in
     let t = c.args.self.now in
     let said : r ≡ read_by c.args.ended (terms_of Empty) t.buffer.ledger c.args.buf.count =
     c.read.ensures.said ∙ ap (λ s. read_by c.args.ended s t.buffer.ledger c.args.buf.count) t.told in
@@ -20,8 +20,10 @@ returns-clause-does c = λ now.
     ap (λ b. b.ledger) c.read.ensures.after ∙ ap (λ s. option_map (with_response s.by_section r) t.buffer.ledger) t.told in
     let size : c.read.new.self.size ≡ c.args.self.now.buffer.size = ap (λ b. b.size) c.read.ensures.after in
     record {
-      said = λ taps. inl (read-said (k taps) c.args.buf.count r said);
-      after = λ taps. rw size (read-after (k taps) c.args.buf.count r said c.read.new.self.ledger after);
-      sound = c.read.ensures.holds;
-      bytes = search rules;
+      does = λ now. record {
+        said = λ taps. inl (read-said (k taps) c.args.buf.count r said);
+        after = λ taps. rw size (read-after (k taps) c.args.buf.count r said c.read.new.self.ledger after);
+        sound = c.read.ensures.holds;
+        bytes = search rules;
+      };
     }

@@ -23,12 +23,12 @@ was-none : (r : Option (Bor (List ℕ))) → IsNone (option_map (λ x. x.now) r)
 was-none None e = refl
 was-none (Some x) e = absurd cc
 
-pub returns-else-whole : goal.returns-else-whole
-returns-else-whole c =
+pub returns-in-Payload : goal.returns-in-Payload
+returns-in-Payload c =
     let i = c.self.inside in
     let s = c.in-Packets in
     let r = c.payload.result in
-    let a = next-payload i.wanted s.whole s.pids i.assembler i.is_spent i.waits i.last (option_map (λ x. x.now) r) s.is c.if-whole.false c.if-not-self.false c.payload.ensures.value in
+    let a = next-payload i.wanted s.give i.assembler i.is_spent i.waits i.last (option_map (λ x. x.now) r) s.is c.in-Payload.is c.if-not-self.false c.payload.ensures.value in
     rw (← c.self.view_is) (
       (refl, λ _. tt, a.gave),
       record {

@@ -1,5 +1,3 @@
-use Rattle.std.proofs.Common.{◌∙◌, ap}
-use Rattle.pid_set.specs.Pids.{names_pid}
 use Rattle.item_select.proofs.Selected.{Selects-offered}
 use Rattle.item_select.proofs.Viewed.{offer-nothing, offer-spent, offer-section, offer-packet, section-bytes, packet-bytes}
 use Rattle.item_select.proofs.selector.Selector.offer.Goals as goal
@@ -40,7 +38,7 @@ pub returns-in-Packets-clause-value : goal.returns-in-Packets-clause-value
 returns-in-Packets-clause-value c =
     let i = c.self.inside in
     let s = c.in-Packets in
-    rw (← c.self.view_is) (offer-packet i.wanted s.whole s.pids i.assembler i.is_spent i.waits c.names-self-inside.result i.last c.args.packet.now s.is (c.names-self-inside.ensures ∙ ap (names_pid s.pids) c.pid.ensures.value))
+    rw (← c.self.view_is) (offer-packet i.wanted s.field-0 i.assembler i.is_spent i.waits i.last c.args.packet.now s.is)
 
 pub returns-in-Packets-clause-stands : goal.returns-in-Packets-clause-stands
 returns-in-Packets-clause-stands c = λ offered given h. Selects-offered offered given c.args.self.now _ c.args.packet.now (returns-in-Packets-clause-value c) c.requires.drained h
@@ -49,4 +47,4 @@ pub returns-in-Packets-clause-bytes : goal.returns-in-Packets-clause-bytes
 returns-in-Packets-clause-bytes c =
     let i = c.self.inside in
     let s = c.in-Packets in
-    rw (← c.self.view_is) (packet-bytes i.wanted s.whole s.pids i.assembler i.is_spent i.waits c.names-self-inside.result i.last c.args.packet.now s.is (c.names-self-inside.ensures ∙ ap (names_pid s.pids) c.pid.ensures.value) c.bytes.ensures.packet.size)
+    rw (← c.self.view_is) (packet-bytes i.wanted s.field-0 i.assembler i.is_spent i.waits i.last c.args.packet.now s.is c.bytes.ensures.packet.size)

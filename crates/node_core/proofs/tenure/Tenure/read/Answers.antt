@@ -10,11 +10,11 @@ use Rattle.node_buffer.proofs.Readings.{total-read}
 use Rattle.node_core.proofs.ByValues.{read-said, read-after, read-sound}
 use Rattle.node_core.proofs.tenure.Tenure.read.Goals as goal
 
-pub returns-clause-does : goal.returns-clause-does
-returns-clause-does c =
+pub returns : goal.returns
+returns c =
     let t = c.args.self.now in
     let k : Knows = knows_in c.args.ended (Some t) in
-    let r = response_of c.read.result.0 in
+    let r = response_of c.read.result in
     let left = c.read.new.self.ledger in
     let terms : c.expire.new.self.terms ≡ terms_of (params_of t.params) = ap (λ b. b.terms) c.expire.ensures.after ∙ t.told in
     let mid : c.expire.new.self.ledger ≡ option_map (expiring (timeout_of (params_of t.params)) c.args.now) t.buffer.ledger =
@@ -26,17 +26,16 @@ returns-clause-does c =
     let size : c.read.new.self.size ≡ t.buffer.size = ap (λ b. b.size) c.read.ensures.after ∙ ap (λ b. b.size) c.expire.ensures.after in
     let same = total-read (is_section (params_of t.params)) r (timeout_of (params_of t.params)) c.args.now t.buffer.ledger c.expire.new.self.ledger left mid after in
     record {
-      said = inl (read-said k c.args.now c.args.buf.count c.expire.new.self.ledger r mid said);
-      after = rw size (read-after k c.args.now c.args.buf.count c.expire.new.self.ledger left r mid said after);
-      sound = record {
-        facts = read-sound (params_of t.params) r c.args.now t.buffer.ledger c.expire.new.self.ledger left mid after c.requires.sound.facts c.read.ensures.holds;
-        selecting = record {
-          choice = c.requires.sound.selecting.choice;
-          pids = c.requires.sound.selecting.pids;
-          given = c.requires.sound.selecting.given;
-          pid = c.requires.sound.selecting.pid;
-          sections = c.requires.sound.selecting.sections;
+      does = record {
+        said = inl (read-said k c.args.now c.args.buf.count c.expire.new.self.ledger r mid said);
+        after = rw size (read-after k c.args.now c.args.buf.count c.expire.new.self.ledger left r mid said after);
+        sound = record {
+          facts = read-sound (params_of t.params) r c.args.now t.buffer.ledger c.expire.new.self.ledger left mid after c.requires.sound.facts c.read.ensures.holds;
+          selecting = record {
+            choice = c.requires.sound.selecting.choice;
+            given = c.requires.sound.selecting.given;
+          };
         };
+        bytes = omega (arith, same);
       };
-      bytes = omega (arith, same);
     }

@@ -1,7 +1,8 @@
--- Packets that no tap names are passed over.
-use Rattle.std.proofs.Common.{◌≡◌, ◌∙◌, ℕ, suc, ◌+◌, ◌<◌, Bool, false, List, [], ◌∷◌, length, get_or, drop, refl, sym, ap, arith}
-use Rattle.std.specs.Prelude.{filter}
+-- Of packets those that are named: a packet that isn't is passed over.
+use Rattle.std.proofs.Common.{◌≡◌, ◌∙◌, ℕ, suc, ◌+◌, ◌<◌, Bool, true, false, List, [], ◌∷◌, Some, length, get_or, drop, refl, sym, ap, arith}
+use Rattle.std.specs.Prelude.{filter, slice_get}
 use Rattle.std.proofs.lemmas.List.{drop_more}
+use Rattle.node_buffer.proofs.Arrivals.{drop-one}
 
 module _ (test : List ℕ → Bool) where
   filter-skip : (p : List ℕ) (ps : List (List ℕ)) → test p ≡ false → filter test (p ∷ ps) ≡ filter test ps
@@ -11,6 +12,13 @@ module _ (test : List ℕ → Bool) where
       → filter test (drop (i + 1) packets) ≡ filter test (drop i packets)
   named-skip packets i within nay =
       sym (ap (filter test) (drop_more packets i [] within) ∙ filter-skip (get_or packets i []) (drop (i + 1) packets) nay)
+
+  filter-first : (p : List ℕ) (ps : List (List ℕ)) → test p ≡ true → filter test (p ∷ ps) ≡ p ∷ filter test ps
+  filter-first p ps yea = rw yea refl
+
+  pub named-next : (packets : List (List ℕ)) (i : ℕ) (p : List ℕ) → slice_get packets i ≡ Some p → test p ≡ true
+      → filter test (drop i packets) ≡ p ∷ filter test (drop (i + 1) packets)
+  named-next packets i p at yea = rw (drop-one packets i p at) (filter-first p (drop (i + 1) packets) yea)
 
   pub none-named : (packets : List (List ℕ)) → ((i : ℕ) → i < length packets → test (get_or packets i []) ≡ false) → filter test packets ≡ []
   none-named [] each = refl

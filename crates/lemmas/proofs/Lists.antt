@@ -1,0 +1,24 @@
+-- Members of lists to which one member, or more, are added.
+use Rattle.std.proofs.Common.{◌≡◌, ◌⊎◌, ℕ, zero, suc, List, [], ◌∷◌, ◌++◌, length, slice_get, Some, inl, inr, ⊎_elim, refl, ap, arith, length-append}
+
+-- the member that was added last
+pub at_last : {A : Type 0} (l : List A) (a : A) → slice_get (l ++ a ∷ []) (length l) ≡ Some a
+at_last [] a = refl
+at_last (x ∷ xs) a = at_last xs a
+
+-- a member stays at its place
+pub at_before : {A : Type 0} (l m : List A) (i : ℕ) (a : A) → slice_get l i ≡ Some a → slice_get (l ++ m) i ≡ Some a
+at_before [] m i a e = absurd (cc e)
+at_before (x ∷ xs) m zero a e = e
+at_before (x ∷ xs) m (suc i) a e = at_before xs m i a e
+
+-- a member of a list with one more is a member of the list, or that one, which stands at the list's length
+pub at_end : {A : Type 0} (l : List A) (a b : A) (i : ℕ) → slice_get (l ++ a ∷ []) i ≡ Some b → (slice_get l i ≡ Some b) ⊎ ((i ≡ length l) × (a ≡ b))
+at_end [] a b zero e = inr (refl, cc e)
+at_end [] a b (suc i) e = absurd (cc e)
+at_end (x ∷ xs) a b zero e = inl e
+at_end (x ∷ xs) a b (suc i) e = ⊎_elim (λ h. inl h) (λ h. inr (ap suc h.0, h.1)) (at_end xs a b i e)
+
+-- a list that goes on behind another isn't that one
+pub not_all : {A : Type 0} (xs ys zs : List A) (y : A) → xs ≡ ys ++ y ∷ zs → ¬ (xs ≡ ys)
+not_all xs ys zs y e = λ f. omega (arith, ap length e, ap length f, length-append ys (y ∷ zs))
