@@ -71,13 +71,13 @@ pub record IsOfScript (lines : List Line) (most : ℕ) (may : ℕ → Bool) (ove
   pub acts : m.acts ≡ acts_of over fs
   pub tiles : Tiles most 0 (length m.stream) fs
   pub count : length m.books ≡ clients_in lines
-  pub called : (c : ℕ) (client : Caller) (log : List LogEntry) → slice_get m.others c ≡ Some client → slice_get m.books c ≡ Some log → HasCalled lines c may client log
+  pub calls : (c : ℕ) (client : Caller) (log : List LogEntry) → slice_get m.others c ≡ Some client → slice_get m.books c ≡ Some log → HasCalled lines c may client log
 
 module _ (lines : List Line) (most : ℕ) (may : ℕ → Bool) (over : Bool) (fs : List Fed) (m : Moment) (s : IsOfScript lines most may over fs m)
     (have : HaveHistories (m.others ++ m.feeder ∷ [])) (low : (e : LogEntry) → IsLoggedIn m.books e → e.node ≤ DEMUX_NODES) (hs : List (List LogEntry)) (w : AreWoven m hs) where
   -- the caller of a log
   pub client_of : (c : ℕ) (log : List LogEntry) → slice_get m.books c ≡ Some log → (client : Caller) × HasCalled lines c may client log
-  client_of c log at = let client = at_place m.others c (omega (arith, place_below m.books c log at, m.logs)) in (client.0, s.called c client.0 log client.1 at)
+  client_of c log at = let client = at_place m.others c (omega (arith, place_below m.books c log at, m.logs)) in (client.0, s.calls c client.0 log client.1 at)
 
   pub log_at : (c : ℕ) → c < clients_in lines → (log : List LogEntry) × (slice_get m.books c ≡ Some log)
   log_at c lt = at_place m.books c (omega (arith, lt, s.count))
@@ -126,7 +126,7 @@ module _ (lines : List Line) (most : ℕ) (may : ℕ → Bool) (over : Bool) (fs
 
   -- ------ the feeder
 
-  fed : IsFedSoFar most (length m.stream) hs
+  pub fed : IsFedSoFar most (length m.stream) hs
   fed = record {
     batches = map batch_of fs;
     each_size = sizes most 0 (length m.stream) fs s.tiles;
@@ -176,7 +176,7 @@ module _ (lines : List Line) (most : ℕ) (may : ℕ → Bool) (over : Bool) (fs
         λ mine. none_between c log i x.0.step e f x.0 book at next (r.1.logged c log book mine) same (r.1.on ∙ same) (omega (arith, r.0)) (omega (arith, r.0, gap)),
       )
 
-  done : (c : ℕ) → c < clients_in lines → HasDoneSoFar Others lines c hs
+  pub done : (c : ℕ) → c < clients_in lines → HasDoneSoFar Others lines c hs
   done c lt =
       let log = log_at c lt in
       let k = (client_of c log.0 log.1).1 in
@@ -190,7 +190,6 @@ module _ (lines : List Line) (most : ℕ) (may : ℕ → Bool) (over : Bool) (fs
 
   -- They are the histories of a run so far.
   pub so_far : IsSoFar Others lines most m.stream hs
-  unfolding done fed
   so_far = record {
     nodes = w.many;
     places = λ node place h e at here. let r = entry_at node place h e at here in (r.1.on, r.0, r.1.by, r.1.found);
