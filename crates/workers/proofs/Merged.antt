@@ -60,7 +60,7 @@ module _ (m : Moment) where
   pub record TellsNode (acts : List Act) (node : ℕ) (l : List LogEntry) (h : List Entry) : Type 0 where
     pub place : AreInPlace 0 l
     pub is : map (filled_entry m.stream) l ≡ h
-    pub told : (place : ℕ) (e : LogEntry) → slice_get l place ≡ Some e → IsToldBy node acts e
+    pub told : (i : ℕ) (e : LogEntry) → slice_get l i ≡ Some e → IsToldBy node acts e
     pub logged : (e : LogEntry) → IsLoggedIn m.books e → e.node ≡ node → slice_get l e.place ≡ Some e
     pub steps : steps_of 0 l ≡ steps_from 0 acts
 
@@ -233,7 +233,7 @@ module _ (stream : List (List ℕ)) (feeder : Caller) (fs : List Fed) (others : 
         (j.0, at_map told_entry calls j.0 x.0 j.1 ∙ ap (λ z. Some z) x.2)
 
     -- an entry of a log of the code is one of the logs
-    kept : (c : ℕ) (a : List ToldEntry) (e : ToldEntry) → slice_get logs c ≡ Some a → Has a e → IsLoggedIn (books_of logs) (told_entry e)
+    abbrev kept : (c : ℕ) (a : List ToldEntry) (e : ToldEntry) → slice_get logs c ≡ Some a → Has a e → IsLoggedIn (books_of logs) (told_entry e)
     kept c a e at has = let i = at_has a e has in (c, map told_entry a, i.0, at_map (λ log. map told_entry log) logs c a at, at_map told_entry a i.0 e i.1)
 
     rise_on : (c : ℕ) (log : List ToldEntry) → slice_get logs c ≡ Some log → RisesOn node log
