@@ -80,7 +80,7 @@ few_commands (Tick n ∷ lines) = let h = few_commands lines in omega arith
 few_commands (CommandLine line client target verb ∷ lines) = let h = few_commands lines in omega arith
 
 pub not_too_long : (input bytes rest stream : List ℕ) (lines : List Line) (turns : ℕ) → input ≡ bytes ++ rest → length input < 4294967296 → length stream ≤ length bytes → IsScript lines
-    → ((turns ≡ 4294967296) × (turns ≤ length bytes)) ⊎ ((turns ≡ 549755813888) × (turns ≤ most_calls (all_commands lines) (length stream))) → ⊥
+    → ((turns ≡ 4294967296) × (turns ≤ length bytes)) ⊎ ((turns ≡ 2 ^ 39) × (turns ≤ most_calls (all_commands lines) (length stream))) → ⊥
 not_too_long input bytes rest stream lines turns is short fits known (inl (e, le)) =
     let size : length input ≡ length bytes + length rest = ap length is ∙ length-append bytes rest in
     omega arith
@@ -88,7 +88,7 @@ not_too_long input bytes rest stream lines turns is short fits known (inr (e, le
     let size : length input ≡ length bytes + length rest = ap length is ∙ length-append bytes rest in
     let few = few_commands lines in
     let known_few = known.few in
-    let big : 549755813888 ≤ 33 * (all_commands lines + 2 * length stream + 1) = rw (← e) le in
+    let big : 2 ^ 39 ≤ 33 * (all_commands lines + 2 * length stream + 1) = rw (← e) le in
     omega arith
 
 -- ------ the answer that the input determines
@@ -104,7 +104,7 @@ determined : (out : Output) (input : List ℕ) (x y : SourceEnd) (w v : SinkEnd)
     → y.faults ≡ x.faults → v.faults ≡ w.faults → Says out (outside x w) (outside y v) status → (status ≡ NoMemory) ⊎ Determines (grammar (split input).script) input status
 determined out input x y w v Usage has fr fw nr nw says = absurd says
 determined out input x y w v (Script line kind) has fr fw nr nw says =
-    let fault : IfSome (Some input) (λ whole. grammar (split whole).script ≡ Err (record { line = line; kind = kind })) = subst (λ c. IfSome c (λ whole. grammar (split whole).script ≡ Err (record { line = line; kind = kind }))) has says.0.1 in
+    let fault : grammar (split input).script ≡ Err (record { line = line; kind = kind }) = subst (λ c. IfSome c (λ whole. grammar (split whole).script ≡ Err (record { line = line; kind = kind }))) has says.0.1 in
     inr (rw fault refl)
 determined out input x y w v (TooLong turns) has fr fw nr nw says =
     let g = says.0 in

@@ -1,5 +1,5 @@
 -- What is to be written for a session, and why there is nothing.
-use Rattle.std.proofs.Common.{◌≡◌, ◌<◌, ◌≤◌, ◌⊎◌, refl, sym, ap, subst, ◌∙◌, ℕ, Bool, true, false, List, [], ◌++◌, length, map, append-nil, arith, length-append, inl, inr, IsTrue}
+use Rattle.std.proofs.Common.{◌≡◌, ◌<◌, ◌≤◌, ◌^◌, ◌⊎◌, refl, sym, ap, subst, ◌∙◌, ℕ, Bool, true, false, List, [], ◌++◌, length, map, append-nil, arith, length-append, inl, inr, IsTrue}
 use Rattle.std.proofs.lemmas.Bool.{cases_lt}
 use Rattle.std.proofs.KnownBytes.{Consumes-trans}
 use Rattle.std.specs.Prelude.{◌↔◌, Option, Some, None, IfSome, Ok, Err}
@@ -112,7 +112,7 @@ made_of out lines puller x y z first failed text takes h of rose later end =
 -- ------ a run that was given up
 
 cause_of : (lines : List Line) (start turns : ℕ) (ahead taken first : List ℕ) → start ≤ length first → IsTooLong lines start turns ahead taken
-    → ((turns ≡ 4294967296) × (turns ≤ length (first ++ taken))) ⊎ ((turns ≡ 549755813888) × (turns ≤ most_calls (all_commands lines) (length (ahead ++ taken))))
+    → ((turns ≡ 4294967296) × (turns ≤ length (first ++ taken))) ⊎ ((turns ≡ 2 ^ 39) × (turns ≤ most_calls (all_commands lines) (length (ahead ++ taken))))
 cause_of lines start turns ahead taken first reads (inl (is, le)) = inl (is, omega (arith, length-append first taken))
 cause_of lines start turns ahead taken first reads (inr (is, le)) = inr (is, rw (length-append ahead taken, is) le)
 

@@ -1,5 +1,5 @@
 -- What is read of a session, and what is to be written for it.
-use Rattle.std.specs.Prelude.{◌≡◌, ◌⊎◌, ⊤, ℕ, ◌≤◌, ◌++◌, Bool, true, false, List, [], length, map, Option, Some, None, Ok, Err, IfSome}
+use Rattle.std.specs.Prelude.{◌≡◌, ◌⊎◌, ⊤, ℕ, ◌≤◌, ◌^◌, ◌++◌, Bool, true, false, List, [], length, map, Option, Some, None, Ok, Err, IfSome}
 use Rattle.std.specs.Io.KnownBytes.{Consumes, IsAtEnd}
 use Rattle.emu_io.specs.Causes.{Rose}
 use Rattle.emu_io.specs.Ends.{SourceEnd}
@@ -118,7 +118,7 @@ pub record GivesUp (before after : SourceEnd) (turns : ℕ) : Type 0 where
   pub session : IsSession bytes lines stream
   pub known : IsScript lines
   pub cause : ((turns ≡ 4294967296) × (turns ≤ length bytes))
-      ⊎ ((turns ≡ 549755813888) × (turns ≤ most_calls (all_commands lines) (length stream)))
+      ⊎ ((turns ≡ 2 ^ 39) × (turns ≤ most_calls (all_commands lines) (length stream)))
 
 -- the script of the input has this fault
 abbrev pub HasFault : ScriptFault → (before after : SourceEnd) → Type 0

@@ -72,6 +72,16 @@ pub record IsDone (p : Pulling) : Type 0 where
   pub waiting : p.waiting ≡ []
   pub unread : p.unread ≡ []
 
+-- whatever stream the puller stands behind, all its packets were given
+abbrev pub HasGivenAll : Pulling → Type 0
+HasGivenAll p = (ahead taken : List ℕ) (given : List (List ℕ)) → Pulls ahead taken given p
+    → (cut (ahead ++ taken)).packets ≡ given
+
+-- .. and they were watched
+abbrev pub HasWatchedAll : Pulling → Type 0
+HasWatchedAll p = (ahead taken : List ℕ) (given : List (List ℕ)) → Pulls ahead taken given p
+    → Watched (cut (ahead ++ taken)).packets p.watch
+
 -- a read failed
 abbrev pub has_failed : Reading → Bool
 has_failed Going = false

@@ -5,7 +5,7 @@ ghost use Rattle.ts_packet.specs.Cut.{cut};
 ghost use Rattle.ts_packet.specs.Cutting.{IsTally};
 ghost use Rattle.ts_watch.specs.Watching.{Watched};
 ghost use Rattle.ts_watch.specs.Head.{told_head, head_of};
-ghost use Rattle.feed_pull.specs.Pulling.{Pulling, IsPulling, Pulls, IsDone, HadFewer, IsNearEnd, fault_of, has_failed, given_by};
+ghost use Rattle.feed_pull.specs.Pulling.{Pulling, IsPulling, Pulls, IsDone, HasGivenAll, HasWatchedAll, HadFewer, IsNearEnd, fault_of, has_failed, given_by};
 ghost use Rattle.feed_pull.specs.Steps.{Goes, Gathers, Follows, work, HasGiven, ReadsNothing, Carries};
 
 use crate::fault::{PullFault, Reading};
@@ -52,9 +52,31 @@ impl Model for Puller {
 
     ghost Value = { Pulling };
 
-    ghost view = { λ p. record { cutting = p.cutter; waiting = p.hand; unread = p.piece; given = p.given; found_before_last_read = p.found_before_last_read; start = p.reads_before; taken = p.taken; reads = p.reads; reading = p.reading; watch = p.watch } };
+    ghost view = { λ p. record {
+      cutting = p.cutter;
+      waiting = p.hand;
+      unread = p.piece;
+      given = p.given;
+      found_before_last_read = p.found_before_last_read;
+      start = p.reads_before;
+      taken = p.taken;
+      reads = p.reads;
+      reading = p.reading;
+      watch = p.watch;
+    } };
 
-    ghost invariant = { λ p. IsPulling (record { cutting = p.cutter; waiting = p.hand; unread = p.piece; given = p.given; found_before_last_read = p.found_before_last_read; start = p.reads_before; taken = p.taken; reads = p.reads; reading = p.reading; watch = p.watch }) };
+    ghost invariant = { λ p. IsPulling (record {
+      cutting = p.cutter;
+      waiting = p.hand;
+      unread = p.piece;
+      given = p.given;
+      found_before_last_read = p.found_before_last_read;
+      start = p.reads_before;
+      taken = p.taken;
+      reads = p.reads;
+      reading = p.reading;
+      watch = p.watch;
+    }) };
 }
 
 // Counts these packets.
@@ -242,9 +264,9 @@ impl Puller {
         ensures fewer { IfOk result (λ answer. IfSome answer (λ batch. length batch.value.packets < most → IsDone self.new)) }
         ensures none { IfOk result (λ answer. IfNone answer (IsDone self.new)) }
         // At None all packets of the stream were given.
-        ensures all { IfOk result (λ answer. IfNone answer ((ahead taken : List ℕ) (given : List (List ℕ)) → Pulls ahead taken given self.new → (cut (ahead ++ taken)).packets ≡ given)) }
+        ensures all { IfOk result (λ answer. IfNone answer (HasGivenAll self.new)) }
         // .. and the watch was shown just these.
-        ensures watched { IfOk result (λ answer. IfNone answer ((ahead taken : List ℕ) (given : List (List ℕ)) → Pulls ahead taken given self.new → Watched (cut (ahead ++ taken)).packets self.new.watch)) }
+        ensures watched { IfOk result (λ answer. IfNone answer (HasWatchedAll self.new)) }
         // Once reading has stopped it stays so. It ends where the source has nothing left, and fails where its count rose.
         ensures follows { Follows self.old.reading self.new.reading (S.end source.old) (S.end source.new) }
         ensures too_many { self.new.reading ≡ Reading.TooMany → 4294967296 ≤ self.new.start + self.new.taken }
