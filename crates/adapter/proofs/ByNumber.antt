@@ -1,11 +1,10 @@
 -- The kind of a node, by its number, and what its machine stands for.
-use Rattle.std.proofs.Common.{◌≡◌, ℕ, ◌<◌, List, ap, subst, sym, refl, reverse}
-use Rattle.std.specs.Prelude.{if◌then◌else◌}
+use Rattle.std.proofs.Common.{◌≡◌, ℕ, ◌<◌, List, subst, sym, reverse}
 use Rattle.dmx_calls.specs.declared.limits.TheConstants.{DEMUX_NODES}
 use Rattle.dmx_calls.specs.History.{Entry}
-use Rattle.dmx_calls.specs.Rules.{Rules, demux, dvr, rules_at}
+use Rattle.dmx_calls.specs.Rules.{Rules}
 use Rattle.dmx_calls.specs.Legal.{IsLegalFor}
-use Rattle.std.proofs.lemmas.Bool.{lt-ltb}
+use Rattle.dmx_calls.proofs.Numbered.{demux_rules, dvr_rules}
 use Rattle.node_core.specs.Stands.{CoreValue, StandsFor}
 use Rattle.dvr_core.specs.Stands.{CoreValue as DvrValue, StandsFor as DvrStandsFor}
 use Rattle.adapter.specs.Nodes.{IsLegalAt}
@@ -16,14 +15,6 @@ DemuxStood h = (m : CoreValue) × StandsFor m (reverse h)
 
 abbrev pub DvrStood : List Entry → Type 0
 DvrStood h = (m : DvrValue) × DvrStandsFor m (reverse h)
-
-demux_rules : (node : ℕ) → node < DEMUX_NODES → rules_at node ≡ demux
-unfolding rules_at
-demux_rules node below = ap (λ b. if b then demux else dvr) (lt-ltb node DEMUX_NODES below)
-
-dvr_rules : rules_at DEMUX_NODES ≡ dvr
-unfolding rules_at
-dvr_rules = refl
 
 pub demux_legal : (node : ℕ) → node < DEMUX_NODES → (h : List Entry) → DemuxStood h → IsLegalAt node h
 demux_legal node below h s = subst (λ (r : Rules). IsLegalFor r (reverse h)) (sym (demux_rules node below)) s.1.legal

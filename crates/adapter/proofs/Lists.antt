@@ -1,12 +1,6 @@
 -- Members of lists of which one is changed, or to which one is added.
-pub use Rattle.lemmas.proofs.Lists.{at_last, at_before, at_end}
-use Rattle.std.proofs.Common.{◌≡◌, ◌≢◌, ◌⊎◌, ℕ, zero, suc, ◌<◌, List, [], ◌∷◌, ◌++◌, length, slice_get, set, Some, inl, inr, refl, ap, sym, ◌∙◌, arith}
-
--- what stands at a place
-pub at_place : {A : Type 0} (l : List A) (i : ℕ) → i < length l → (a : A) × (slice_get l i ≡ Some a)
-at_place [] i h = absurd (omega arith)
-at_place (x ∷ xs) zero h = (x, refl)
-at_place (x ∷ xs) (suc i) h = at_place xs i (omega arith)
+pub use Rattle.lemmas.proofs.Lists.{at_place, one_value, at_last, at_before, at_end}
+use Rattle.std.proofs.Common.{◌≡◌, ◌≢◌, ◌⊎◌, ℕ, zero, suc, ◌<◌, List, [], ◌∷◌, ◌++◌, length, slice_get, set, Some, inl, inr, refl, ap, arith}
 
 pub place_below : {A : Type 0} (l : List A) (i : ℕ) (a : A) → slice_get l i ≡ Some a → i < length l
 place_below [] i a e = absurd (cc e)
@@ -31,7 +25,3 @@ at_either [] a b zero e = inr (cc e)
 at_either [] a b (suc i) e = absurd (cc e)
 at_either (x ∷ xs) a b zero e = inl e
 at_either (x ∷ xs) a b (suc i) e = at_either xs a b i e
-
--- two members at one place are one
-pub one_value : {A : Type 0} (l : List A) (i : ℕ) (a b : A) → slice_get l i ≡ Some a → slice_get l i ≡ Some b → a ≡ b
-one_value l i a b d e = let same : Some a ≡ Some b = sym d ∙ e in cc same

@@ -1,4 +1,5 @@
--- The passes of one caller of which one is changed: each is still the caller's, of its lock, and has a call left for each that the caller has.
+-- The passes of one caller of which one is changed: each is still the caller's, of its lock, and has a call left for each that
+-- the caller has.
 use Rattle.std.proofs.Common.{◌≡◌, ℕ, ◌-◌, ◌<◌, ◌≤◌, List, slice_get, slice_index, set, Some, refl, ap, sym, ◌∙◌, subst, arith, length-set}
 use mathlib.Core.Logic.{dite}
 use native.Mathlib.Decide.{ℕ_discrete}

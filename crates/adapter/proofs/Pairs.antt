@@ -1,4 +1,5 @@
--- The passes of the demux nodes and those of the dvr node go to the callers, the last caller first; then the clients are made, the first first.
+-- The passes of the demux nodes and those of the dvr node go to the callers, the last caller first; then the clients are made,
+-- the first first.
 use Rattle.std.proofs.Common.{◌≡◌, ⊎_elim, ℕ, zero, suc, ◌+◌, ◌<◌, ◌≤◌, ◌^◌, List, [], ◌∷◌, ◌++◌, length, slice_get, Some, ap, sym, ◌∙◌, subst, arith, length-append}
 use Rattle.atomic_table.specs.Seated.{TableId}
 use Rattle.node_lock.specs.declared.view.View.{View}

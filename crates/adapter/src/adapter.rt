@@ -8,6 +8,7 @@ use crate::client::Client;
 use crate::ending::measure;
 use crate::feeder::Feeder;
 use crate::making::{build, empty_rows, make_clients, with_dvr};
+use dmx_calls::limits::NODES;
 use dvr_core::DvrCore;
 use node_core::NodeCore;
 use node_lock::NodeLock;
@@ -42,7 +43,7 @@ const CALLS: u64 = 1 << 44;
 #[derive(Clone, Copy, Debug, PartialEq, Eq)]
 pub struct Finished {
     /// How many entries each node's history has.
-    pub lengths: [u64; 33],
+    pub lengths: [u64; NODES as usize],
 }
 
 impl Adapter {
@@ -80,6 +81,7 @@ impl Adapter {
         ensures histories { HaveHistories (clients.items ++ feeder ∷ []) }
         ensures locks { length self.now ≡ nodes + 1 }
     {
+        // Its type says how many locks it has.
         let _ = &self.demux;
         let _lengths = self.lengths(feeder, clients);
     }
@@ -95,7 +97,7 @@ impl Adapter {
     }
 
     // The lengths of the histories, once all passes are joined.
-    fn lengths(&self, feeder: Feeder, clients: Vec<Client>) -> [u64; 33]
+    fn lengths(&self, feeder: Feeder, clients: Vec<Client>) -> [u64; NODES as usize]
         requires all { AreAllCallers self.now (clients.items ++ feeder ∷ []) }
         ensures { HaveHistoriesOf result (clients.items ++ feeder ∷ []) }
     {

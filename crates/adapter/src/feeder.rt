@@ -1,12 +1,13 @@
 //! The feeder of the adapter: what passes the nodes comes from it.
 ghost use Rattle.std.specs.Prelude.{◌≡◌, ℕ, ◌+◌, ◌*◌, ◌<◌, ◌≤◌, List, length};
-ghost use Rattle.dmx_calls.specs.declared.limits.TheConstants.{DEMUX_NODES};
+ghost use Rattle.dmx_calls.specs.declared.limits.TheConstants.{DEMUX_NODES, NODES};
 ghost use Rattle.adapter.specs.Rows.{Fits};
 ghost use Rattle.adapter.specs.Nodes.{MakesEachEntry, fed, ended};
 ghost use Rattle.adapter.specs.Callers.{IsSameCaller};
 
 use crate::adapter::Adapter;
 use crate::passes::NodePasses;
+use dmx_calls::limits::NODES;
 use std::marker::Model;
 use std::sync::ledger::Ledger;
 use std::sync::{Arc, Wait};
@@ -42,11 +43,11 @@ impl Feeder {
         batch: Arc<Batch>,
         now: u64,
         steps: &mut Steps<L>,
-    ) -> [u64; 33]
+    ) -> [u64; NODES as usize]
         requires own { Fits adapter.now self.old.passes }
         requires left { 1 ≤ self.old.left }
         ensures entries { MakesEachEntry (fed batch.value now) result self.old.passes self.new.passes }
-        ensures cost { steps.new ≤ steps.old + 33 * length batch.value.packets }
+        ensures cost { steps.new ≤ steps.old + NODES * length batch.value.packets }
         ensures left { self.new.left + 1 ≡ self.old.left }
         ensures same { IsSameCaller self.old self.new }
         ensures own { Fits adapter.now self.new.passes }
@@ -63,7 +64,7 @@ impl Feeder {
         rt: &R,
         adapter: &Adapter,
         steps: &mut Steps<L>,
-    ) -> [u64; 33]
+    ) -> [u64; NODES as usize]
         requires own { Fits adapter.now self.old.passes }
         requires left { 1 ≤ self.old.left }
         ensures entries { MakesEachEntry ended result self.old.passes self.new.passes }
@@ -73,6 +74,7 @@ impl Feeder {
         ensures same { IsSameCaller self.old self.new }
         ensures own { Fits adapter.now self.new.passes }
     {
+        // Its type says that it has a lock for each node.
         let _ = &adapter.demux;
         let places = self.passes.end(rt, adapter, steps);
         self.left -= 1;

@@ -1,6 +1,6 @@
 //! The passes of one caller: one of each node.
 ghost use Rattle.std.specs.Prelude.{◌≡◌, ℕ, ◌+◌, ◌*◌, ◌<◌, ◌≤◌, List, length, [], ◌∷◌, ◌++◌, map, IfOk, IfErr};
-ghost use Rattle.dmx_calls.specs.declared.limits.TheConstants.{DEMUX_NODES as nodes};
+ghost use Rattle.dmx_calls.specs.declared.limits.TheConstants.{DEMUX_NODES as nodes, NODES};
 ghost use Rattle.dmx_calls.specs.Back.{GivesBack};
 ghost use Rattle.dmx_calls.specs.Entries.{told, caller_of, packets_of};
 ghost use Rattle.dmx_calls.specs.History.{entry_of};
@@ -12,7 +12,7 @@ ghost use Rattle.adapter.specs.Nodes.{IsLegalAt};
 
 use crate::adapter::Adapter;
 use crate::rows::{call_in, join_row, len_in, try_in};
-use dmx_calls::limits::DEMUX_NODES;
+use dmx_calls::limits::{DEMUX_NODES, NODES};
 use dmx_calls::{Answer, Call, Input};
 use dvr_core::DvrCore;
 use node_core::NodeCore;
@@ -107,16 +107,17 @@ impl NodePasses {
         batch: Arc<Batch>,
         now: u64,
         steps: &mut Steps<L>,
-    ) -> [u64; 33]
+    ) -> [u64; NODES as usize]
         requires own { Fits adapter.now self.old }
         requires left { MayCall self.old }
         ensures entries { AllCall caller_of IsLegalAt (λ who. entry_of who (asks.Pass Frontend batch.value.first batch.value.packets now) Passed) result self.old self.new }
-        ensures cost { steps.new ≤ steps.old + 33 * length batch.value.packets }
+        ensures cost { steps.new ≤ steps.old + NODES * length batch.value.packets }
     {
+        // Its type says that it has a lock for each node.
         let _ = &adapter.demux;
         let mut batch = batch;
-        let mut places = [0; 33];
-        'nodes: for node in 0..33u32 {
+        let mut places = [0; NODES as usize];
+        'nodes: for node in 0..NODES {
             let call = Call::Pass {
                 input: Input::Frontend,
                 batch,
@@ -135,15 +136,16 @@ impl NodePasses {
         rt: &R,
         adapter: &Adapter,
         steps: &mut Steps<L>,
-    ) -> [u64; 33]
+    ) -> [u64; NODES as usize]
         requires own { Fits adapter.now self.old }
         requires left { MayCall self.old }
         ensures entries { AllCall caller_of IsLegalAt (λ who. entry_of who asks.End Passed) result self.old self.new }
         ensures cost { steps.new ≤ steps.old }
     {
+        // Its type says that it has a lock for each node.
         let _ = &adapter.demux;
-        let mut places = [0; 33];
-        'nodes: for node in 0..33u32 {
+        let mut places = [0; NODES as usize];
+        'nodes: for node in 0..NODES {
             let (place, _) = self.call(rt, adapter, node, Call::End, steps);
             places[node as usize] = place;
         }

@@ -2,17 +2,17 @@
 //!
 //! What a part costs is the difference to what stands before it. `bench/cut`, `bench/sections` and `bench/node` run it.
 //!
-//! `read` only reads the stream, in pieces of 65,536 bytes. `cut` cuts it into packets too, adds up the last byte of each, so that
-//! no compiler leaves out the copying of the packets, and prints the tally. `sections` assembles the sections of the PIDs 0 and 512
-//! as well, and prints how many there are, how many bytes they have, and the sum of their last bytes. `node` cuts the stream,
-//! passes its packets through a demux node or the dvr node, in batches of 64 at most, and reads what the node has after each
-//! piece, with reads of 65,536 bytes. It prints how many reads gave bytes, how many bytes, and the sum of the last byte of each.
-//! `all` does and prints all of it.
+//! `read` only reads the stream, in pieces of 65,536 bytes. `cut` cuts it into packets too, adds up the last byte of each, so
+//! that no compiler leaves out the copying of the packets, and prints the tally. `sections` assembles the sections of the PIDs
+//! 0 and 512 as well, and prints how many there are, how many bytes they have, and the sum of their last bytes. `node` cuts the
+//! stream, passes its packets through a demux node or the dvr node, in batches of 64 at most, and reads what the node has after
+//! each piece, with reads of 65,536 bytes. It prints how many reads gave bytes, how many bytes, and the sum of the last byte of
+//! each. `all` does and prints all of it.
 //!
-//! A second word behind `node` or `all` says what the node is asked for: with `sections` it has a section filter with CRC check on
-//! PID 512, with `payloads` a tap of payloads on PID 256, with `packets` a tap of whole packets on the PIDs 256 and 257. With
-//! `recording` it is the dvr node with taps of these two PIDs, and with `recordings` there are 30 other taps before them. With any
-//! other word nobody opens the node, and the batches are made for nothing.
+//! A second word behind `node` or `all` says what the node is asked for: with `sections` it has a section filter with CRC check
+//! on PID 512, with `payloads` a tap of payloads on PID 256, with `packets` a tap of whole packets on the PIDs 256 and 257.
+//! With `recording` it is the dvr node with taps of these two PIDs, and with `recordings` there are 30 other taps before them.
+//! With any other word nobody opens the node, and the batches are made for nothing.
 //!
 //! What is proved: no call goes past a bound, each byte read is taken by the cutter, each packet is pushed into an assembler
 //! only after all sections before it were taken, and every call that is made is one that the node has. What it prints is tested,

@@ -30,7 +30,8 @@ keep = Done 0 0 KeepTap
 -- a node is opened, set and started, read once and polled
 abbrev pub one_read : List Line
 one_read =
-    Command 1 0 (Node 0) (Once Open) ∷ Command 2 0 (Node 0) (Once (Pes recording)) ∷ Command 3 0 (Node 0) (Once Start) ∷ Feed 3
+    Command 1 0 (Node 0) (Once Open) ∷ Command 2 0 (Node 0) (Once (Pes recording))
+    ∷ Command 3 0 (Node 0) (Once Start) ∷ Feed 3
     ∷ Command 5 0 (Node 0) (Once (Read 4)) ∷ Command 6 0 (Node 0) (Once Poll) ∷ []
 
 abbrev pub read_bytes : Response
@@ -44,7 +45,8 @@ OneRead = outcomes 0 one_read (keep ∷ keep ∷ keep ∷ read_bytes ∷ Ready t
     ≡ done_line 1 0 1 ∷ done_line 2 1 2 ∷ done_line 3 2 3 ∷ done_line 5 3 4 ∷ done_line 6 4 5 ∷ []
 
 abbrev pub OneReadIsNext : Type 0
-OneReadIsNext = next_event 0 one_read (keep ∷ keep ∷ keep ∷ []) ≡ Some (record { step = 3; node = 0; want = Own (Read 4) })
+OneReadIsNext =
+    next_event 0 one_read (keep ∷ keep ∷ keep ∷ []) ≡ Some (record { step = 3; node = 0; want = Own (Read 4) })
 
 abbrev pub FirstEvent : Type 0
 FirstEvent = next_event 0 one_read [] ≡ Some (record { step = 0; node = 0; want = Own Open })
@@ -58,7 +60,8 @@ NoCommands = (next_event 1 one_read [] ≡ None) × (outcomes 1 one_read [] ≡ 
 
 -- a read that waits for bytes
 abbrev pub waiting : List Line
-waiting = Command 1 0 (Node 0) (Once Open) ∷ Command 2 0 (Node 0) (Once (Pes recording)) ∷ Command 3 0 (Node 0) (Once Start)
+waiting = Command 1 0 (Node 0) (Once Open) ∷ Command 2 0 (Node 0) (Once (Pes recording))
+    ∷ Command 3 0 (Node 0) (Once Start)
     ∷ Command 4 0 (Node 0) (ReadWait 2) ∷ []
 
 abbrev pub WaitedRead : Type 0
@@ -106,7 +109,8 @@ TapIsTold =
 
 -- 33 slots are opened, where there are 32 nodes: the open of slot k finds k nodes busy
 abbrev pub slots_opened : List Line
-slots_opened = map (λ k. Command (k + 1) 0 (Slot k) (Once Open)) (range_with_len 0 32) ++ Command 33 0 (Slot 0) (Once Open) ∷ []
+slots_opened =
+    map (λ k. Command (k + 1) 0 (Slot k) (Once Open)) (range_with_len 0 32) ++ Command 33 0 (Slot 0) (Once Open) ∷ []
 
 abbrev pub slot_replies : List Response
 slot_replies = flat_map (λ k. replicate k (Busy 1) ++ keep ∷ []) (range_with_len 0 32) ++ replicate 32 (Busy 1)
@@ -127,7 +131,8 @@ UnboundSlot =
 -- a slot is bound to the first node that isn't busy, and stays bound
 abbrev pub BoundSlot : Type 0
 BoundSlot =
-    next_event 0 (Command 1 0 (Slot 5) (Once Open) ∷ Command 2 0 (Slot 5) (Once Close) ∷ Command 3 0 (Slot 5) (Once Start) ∷ [])
+    next_event 0
+    (Command 1 0 (Slot 5) (Once Open) ∷ Command 2 0 (Slot 5) (Once Close) ∷ Command 3 0 (Slot 5) (Once Start) ∷ [])
     (Busy 2 ∷ keep ∷ keep ∷ [])
     ≡ Some (record { step = 3; node = 1; want = Own Start })
 

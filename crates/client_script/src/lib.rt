@@ -11,13 +11,13 @@
 //! `Count`. A line has one `spelling` (`specs/Spelling.antt`). `split` says how a session's input falls into its script
 //! part and its stream. The spellings of numbers, names and filter bytes are those of `text_forms`.
 //!
-//! What is proved: `Script::read` answers just the lines or the fault that `grammar` gives, unless memory is refused. A
-//! script has at most 1,048,576 lines, each with its client, its target, its numbers and its filter's bytes in the ranges
-//! of the grammar (`IsScript`, which `Script::lines` tells). `Script::clients` is 1 plus the highest client that a line
-//! names, or 0. `print` appends the spelling of a line, and where memory is refused the bytes are as they were. A
-//! `ScriptPart` is the bytes that were added to it, and its `end` tells where the first whole line `stream` ends. A want's, a verb's and a
-//! fault's `name` is its text in `specs/Spelling.antt` and `specs/FaultNames.antt`. What the
-//! grammar gives for lines and scripts worked out by hand are the clauses of `examples`, computed by the check.
+//! What is proved: `Script::read` answers just the lines or the fault that `grammar` gives, unless memory is refused. A script
+//! has at most 1,048,576 lines, each with its client, its target, its numbers and its filter's bytes in the ranges of the
+//! grammar (`IsScript`, which `Script::lines` tells). `Script::clients` is 1 plus the highest client that a line names, or 0.
+//! `print` appends the spelling of a line, and where memory is refused the bytes are as they were. A `ScriptPart` is the bytes
+//! that were added to it, and its `end` tells where the first whole line `stream` ends. A want's, a verb's and a fault's `name`
+//! is its text in `specs/Spelling.antt` and `specs/FaultNames.antt`. What the grammar gives for lines and scripts worked out by
+//! hand are the clauses of `examples`, computed by the check.
 //!
 //! Laws about the definitions alone: what is printed is read again (`printed_lines_are_read_again`); the script part has
 //! the lines, or the fault, of all bytes that are searched for it (`nothing_behind_the_stream_is_examined`); and the first

@@ -1,4 +1,5 @@
--- The items that are left at a place, the first one cut there: their bytes are what is unread, and the first one's length is the rest of the section in which the place stands.
+-- The items that are left at a place, the first one cut there: their bytes are what is unread, and the first one's length is
+-- the rest of the section in which the place stands.
 use Rattle.std.proofs.Common.{ℕ, zero, suc, ◌-◌, ◌<◌, ◌≤◌, ◌≡◌, refl, sym, ◌∙◌, ap, Bool, true, false, List, [], ◌∷◌, ◌++◌, length, drop, arith, length-drop, length-append}
 use Rattle.std.specs.Prelude.{if◌then◌else◌, nat_lt}
 use Rattle.std.specs.List.{concat}

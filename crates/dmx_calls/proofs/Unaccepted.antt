@@ -1,4 +1,5 @@
--- An entry that isn't accepted changes nothing: what was set, the capture, its items and its ledger are read from the accepted entries.
+-- An entry that isn't accepted changes nothing: what was set, the capture, its items and its ledger are read from the accepted
+-- entries.
 use Rattle.std.proofs.Common.{◌≡◌, refl, false, ◌∷◌, Option, Some, None}
 use Rattle.dmx_calls.specs.Response.{is_accepted}
 use Rattle.dmx_calls.specs.History.{Entry, History, Since}
@@ -6,9 +7,9 @@ use Rattle.dmx_calls.specs.Tenure.{tenure, owner, size_or, size, dvr_size, setti
 use Rattle.dmx_calls.specs.Capture.{capture, dvr_capture, started, is_stopped, live}
 use Rattle.dmx_calls.specs.Items.{expiry, offered, items}
 use Rattle.dmx_calls.specs.Taps.{tap_of, dvr_items}
-use Rattle.dmx_calls.specs.Rules.{Rules, demux, dvr, is_told, expired}
+use Rattle.dmx_calls.specs.Rules.{demux, dvr, is_told, expired}
 use Rattle.dmx_calls.specs.Ledger.{joined, total, answered, over, edge}
-use Rattle.dmx_calls.specs.Facts.{ledger_at, ledger_of, facts}
+use Rattle.dmx_calls.specs.Facts.{ledger_of, facts}
 use Rattle.dmx_calls.specs.Laws.{UnacceptedChangesNothing}
 
 -- the ledger, where there is a capture

@@ -1,4 +1,5 @@
--- The histories that are woven of the feeder's calls and the clients' entries: how long they are, how they grow by one call, and what stands where.
+-- The histories that are woven of the feeder's calls and the clients' entries: how long they are, how they grow by one call,
+-- and what stands where.
 use Rattle.std.proofs.Common.{ℕ, zero, suc, ◌+◌, ◌<◌, ◌≤◌, ◌≡◌, refl, sym, ◌∙◌, ap, Bool, true, false, List, [], ◌∷◌, ◌++◌, length, Some, slice_get, arith, nat_lt, if◌then◌else◌}
 use Rattle.std.proofs.lemmas.Bool.Decides.{nat_tests}
 use Rattle.dmx_calls.specs.declared.log.Act.{Act}

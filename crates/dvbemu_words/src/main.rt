@@ -3,9 +3,31 @@
 //! What is only tested, by this run: that each word counts, that nothing is written, and the exit status 2.
 #![tactic(auto)]
 
-use emu_main::emu_main;
+use emu_io::{Ends, NoGate};
+use emu_main::{refused, tell};
+use emu_top::emulate;
+use fault_hints::Keeping;
 use std::process::ExitCode;
 
 fn main(rt: HostRuntime) -> ExitCode {
-    emu_main(&rt, &rt)
+    let Ends {
+        words,
+        source,
+        mut sink,
+        clock,
+    } = match Ends::of(&rt) {
+        Ok(ends) => ends,
+        Err(error) => return refused(&rt, error),
+    };
+    let mut source = Keeping::new(rt.alloc(), source);
+    let status = emulate(
+        &rt,
+        rt.alloc(),
+        &words,
+        &mut source,
+        &mut sink,
+        &clock,
+        &NoGate::new(),
+    );
+    tell(&rt, status, source.kept())
 }

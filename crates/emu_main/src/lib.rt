@@ -1,32 +1,29 @@
-//! What a program of this project does: what the words of its command line say, over standard input and output.
+//! What a program of this project tells of how it ended: a line on standard error, and the exit status.
 //!
-//! `emu_main` hands the real words, source, sink and clock to `emu_top`'s `emulate`, tells on standard error how it ended, and
-//! answers the exit status. Behind the line of a script's fault a second one says what stands there and what was expected
-//! (`fault_hints`), by the script's bytes, which are kept as they are read; where memory for them is refused it is left out, and
-//! nothing else changes. It is a crate of its own so that the gate runs it by several programs, each with one list of words
-//! and one input: `dvbemu`, and `dvbemu_faults` and `dvbemu_words`, which end with a status other than 0.
+//! Each of the programs hands its real words, source, sink and clock to the top call of `emu_top`, and gives the status
+//! here: `tell` writes its line on standard error and answers its number, and so does `refused` where there are no words.
+//! Behind the line of a script's fault a second one says what stands there and what was expected (`fault_hints`), by the
+//! script's bytes, which the program's source keeps as they are read; where memory for them is refused it is left out, and
+//! nothing else changes. The programs are `dvbemu`, and `dvbemu_faults` and `dvbemu_words`, which end with a status other
+//! than 0: the gate runs each with one list of words and one input.
 //!
-//! What a contract sees: nothing. Words, standard input and output and the exit status are the operating system's.
+//! What a contract sees: nothing. Standard error and the exit status are the operating system's.
 //!
-//! What is proved: that it is safe. What it does in between is `emu_top`'s, whose calls are proved for every source and sink.
+//! What is proved: that it is safe.
 //!
-//! What is only tested, by the runs of those programs: the words, standard input and output, and the exit status. The gate
-//! doesn't compare standard error in those runs; `faults/check` does. It also has reads and writes that move fewer bytes than
-//! they are offered, ends that fail, and a timeout by the machine's clock.
+//! What is only tested, by the runs of those programs: the exit status. The gate doesn't compare standard error in those runs;
+//! `faults/check` does. It also has reads and writes that move fewer bytes than they are offered, ends that fail, and a timeout
+//! by the machine's clock.
 //!
 //! What is tried by nothing: the exit status 4 and the line `too long`. They would take 4,294,967,296 reads of a byte each. That
 //! `Status` has this number and this name is a clause of `emu_top`, and tested; that they are passed on is neither.
 #![tactic(auto)]
 
 use client_script::ScriptFault;
-use emu_io::{NoGate, StdClock, StdSink, StdSource};
-use emu_top::{Status, emulate};
-use fault_hints::{Keeping, hint};
-use std::env;
-use std::io::ErrorKind;
+use emu_io::NoWords;
+use emu_top::Status;
+use fault_hints::hint;
 use std::process::ExitCode;
-use std::sync::Wait;
-use std::thread::Threads;
 
 // What words are accepted.
 const USAGE: &str = "  dvbemu steps [--batch B] < SESSION > REPORT
@@ -46,9 +43,8 @@ fn explain(rt: &HostRuntime, script: Option<&[u8]>, fault: ScriptFault) {
     }
 }
 
-// Tells on standard error how it ended, with the bytes that were kept of the script. Where that is closed there is nobody to
-// tell; the exit status still tells it.
-fn tell(rt: &HostRuntime, status: Status, script: Option<&[u8]>) {
+// The line of a status, and what stands behind it.
+fn lines(rt: &HostRuntime, status: Status, script: Option<&[u8]>) {
     let name = status.name();
     match status {
         Status::Ok => {}
@@ -67,46 +63,18 @@ fn tell(rt: &HostRuntime, status: Status, script: Option<&[u8]>) {
     }
 }
 
-// The words behind the program's name. Words that are no texts are refused as wrong words are.
-fn words(rt: &HostRuntime) -> Result<Vec<String>, Status> {
-    match env::args(rt) {
-        Ok(all) => all
-            .skip(1)
-            .collect(rt.alloc())
-            .map_err(|_| Status::NoMemory),
-        Err(error) if error.kind() == ErrorKind::OutOfMemory => Err(Status::NoMemory),
-        Err(_) => Err(Status::Usage),
-    }
-}
-
-// Does what the words say over the real source, sink and clock, with threads where they ask for them, and tells how it ended.
-fn run<R: Threads + Wait + Sync>(rt: &HostRuntime, threads: &R) -> Status {
-    let words = match words(rt) {
-        Ok(words) => words,
-        Err(status) => {
-            tell(rt, status, None);
-            return status;
-        }
-    };
-    let mut source = Keeping::new(rt.alloc(), StdSource::new(rt));
-    let mut sink = StdSink::new(rt);
-    let clock = StdClock::new(rt);
-    let status = emulate(
-        threads,
-        rt.alloc(),
-        &words,
-        &mut source,
-        &mut sink,
-        &clock,
-        &NoGate::new(),
-    );
-    tell(rt, status, source.kept());
-    status
-}
-
-/// Does what the words say, on threads where they ask for them, and tells on standard error how it ended. Answers the
-/// number of the status. A program gives its runtime twice, since `main` alone may pass it on as one that has threads.
-pub fn emu_main<R: Threads + Wait + Sync>(rt: &HostRuntime, threads: &R) -> ExitCode {
-    let status = run(rt, threads);
+/// Tells on standard error how it ended, with the bytes that were kept of the script, and answers the number of the status.
+/// Where standard error is closed there is nobody to tell; the exit status still tells it.
+pub fn tell(rt: &HostRuntime, status: Status, script: Option<&[u8]>) -> ExitCode {
+    lines(rt, status, script);
     ExitCode::from(status.number())
+}
+
+/// Tells why there are no words. Words that are no texts are refused as wrong words are.
+pub fn refused(rt: &HostRuntime, error: NoWords) -> ExitCode {
+    let status = match error {
+        NoWords::NoMemory => Status::NoMemory,
+        NoWords::NoText => Status::Usage,
+    };
+    tell(rt, status, None)
 }

@@ -1,9 +1,10 @@
 -- What a status says, and that the input determines it.
 use Rattle.std.proofs.Common.{◌≡◌, ◌<◌, ◌≤◌, ◌+◌, ◌-◌, ◌*◌, ◌^◌, ◌⊎◌, refl, sym, ap, subst, ◌∙◌, ℕ, Bool, List, [], ◌∷◌, ◌++◌, length, take, drop, append_assoc, arith, length-append, inl, inr}
 use Rattle.std.proofs.lemmas.List.{take-append-drop, length-drop, length-take}
-use Rattle.std.specs.Prelude.{Option, Some, None, IfSome, Ok}
+use Rattle.std.specs.Prelude.{Option, Some, None, IfSome, Ok, Err}
 use Rattle.std.specs.Io.KnownBytes.{Consumes, Keeps}
 use Rattle.emu_io.specs.Causes.{Rose}
+use Rattle.emu_io.specs.Ends.{SourceEnd, SinkEnd}
 use Rattle.client_script.specs.declared.line.Line.{Line}
 use Rattle.client_script.specs.declared.line.Line.TheVariants.{Feed, Tick, Command as CommandLine}
 use Rattle.client_script.specs.Script.{split, parted, grammar, most_bytes, script_len, whole_lines, IsScript}
@@ -14,7 +15,7 @@ use Rattle.command_words.specs.declared.Command.TheVariants.{Steps, Run, Make, S
 use Rattle.command_words.specs.Meant.{meant}
 use Rattle.ts_make.specs.Made.{made}
 use Rattle.emu_top.specs.Session.{Output, IsSerialOutput, IsThreadOutput, IsSums, Makes, Refuses}
-use Rattle.emu_top.specs.Serves.{Outside, NoWriteFails, HasWritten, Says, Determines, Does, Tells, Gives, Obeys, Serves}
+use Rattle.emu_top.specs.Serves.{Outside, outside, NoWriteFails, HasWritten, Says, Determines, Does, Tells, Gives, Obeys, Serves}
 use Rattle.emu_top.specs.declared.status.Status.{Status}
 use Rattle.emu_top.specs.declared.status.Status.TheVariants.{Usage, Script, TooLong, ReadFault, WriteFault, NoMemory, Ok as Done}
 
@@ -24,30 +25,28 @@ keeps (Some xs) = refl
 
 -- ------ a status without output
 
-pub says_refused : (out : Output) (content left w : Option (List ℕ)) (before after f : ℕ) (status : Status) → Refuses content left before after status
-    → Says out (record { left = content; read_faults = before; written = w; write_faults = f }) (record { left = left; read_faults = after; written = w; write_faults = f }) status
-says_refused out content left w before after f Usage r = r
-says_refused out content left w before after f (Script line kind) r = (r, (keeps w, refl))
-says_refused out content left w before after f (TooLong turns) r = (r, (keeps w, refl))
-says_refused out content left w before after f ReadFault r = (refl, inr (r, keeps w))
-says_refused out content left w before after f WriteFault r = absurd r
-says_refused out content left w before after f NoMemory r = (keeps w, refl)
-says_refused out content left w before after f Done r = absurd r
+pub says_refused : (out : Output) (x y : SourceEnd) (w : SinkEnd) (status : Status) → Refuses x y status → Says out (outside x w) (outside y w) status
+says_refused out x y w Usage r = r
+says_refused out x y w (Script line kind) r = (r, (keeps w.written, refl))
+says_refused out x y w (TooLong turns) r = (r, (keeps w.written, refl))
+says_refused out x y w ReadFault r = (refl, inr (r, keeps w.written))
+says_refused out x y w WriteFault r = absurd r
+says_refused out x y w NoMemory r = (keeps w.written, refl)
+says_refused out x y w Done r = absurd r
 
 -- ------ a status with output
 
-pub says_written : (out : Output) (content left old new : Option (List ℕ)) (before after r s : ℕ) (failed : Bool) (text : List ℕ) (status : Status)
-    → Makes out content left before after failed text → HasWritten failed text old new r s status
-    → Says out (record { left = content; read_faults = before; written = old; write_faults = r }) (record { left = left; read_faults = after; written = new; write_faults = s }) status
-says_written out content left old new before after r s failed text Usage m w = absurd w
-says_written out content left old new before after r s failed text (Script line kind) m w = absurd w
-says_written out content left old new before after r s failed text (TooLong turns) m w = absurd w
-says_written out content left old new before after r s failed text ReadFault m (is, written, steady) = (steady, inl (text, subst (λ b. Makes out content left before after b text) is m, written))
-says_written out content left old new before after r s failed text WriteFault m (count, part, written, rose) =
+pub says_written : (out : Output) (x y : SourceEnd) (w v : SinkEnd) (failed : Bool) (text : List ℕ) (status : Status)
+    → Makes out x y failed text → HasWritten failed text w v status → Says out (outside x w) (outside y v) status
+says_written out x y w v failed text Usage m h = absurd h
+says_written out x y w v failed text (Script line kind) m h = absurd h
+says_written out x y w v failed text (TooLong turns) m h = absurd h
+says_written out x y w v failed text ReadFault m (is, written, steady) = (steady, inl (text, subst (λ b. Makes out x y b text) is m, written))
+says_written out x y w v failed text WriteFault m (count, part, written, rose) =
     record { text = text; failed = failed; made = m; front = record { count = count; part = part; written = written; rose = rose } }
-says_written out content left old new before after r s failed text NoMemory m w = absurd w
-says_written out content left old new before after r s failed text Done m (is, written, steady) =
-    record { text = text; made = subst (λ b. Makes out content left before after b text) is m; whole = record { written = written; writes = steady } }
+says_written out x y w v failed text NoMemory m h = absurd h
+says_written out x y w v failed text Done m (is, written, steady) =
+    record { text = text; made = subst (λ b. Makes out x y b text) is m; whole = record { written = written; writes = steady } }
 
 -- ------ what the bytes taken say of the whole input
 
@@ -81,7 +80,7 @@ few_commands (Tick n ∷ lines) = let h = few_commands lines in omega arith
 few_commands (CommandLine line client target verb ∷ lines) = let h = few_commands lines in omega arith
 
 pub not_too_long : (input bytes rest stream : List ℕ) (lines : List Line) (turns : ℕ) → input ≡ bytes ++ rest → length input < 4294967296 → length stream ≤ length bytes → IsScript lines
-    → ((turns ≡ 4294967296) × (turns ≤ length bytes)) ⊎ ((turns ≡ 549755813888) × (turns ≤ most_calls (all_commands lines) (length stream))) → ⊥
+    → ((turns ≡ 4294967296) × (turns ≤ length bytes)) ⊎ ((turns ≡ 2 ^ 39) × (turns ≤ most_calls (all_commands lines) (length stream))) → ⊥
 not_too_long input bytes rest stream lines turns is short fits known (inl (e, le)) =
     let size : length input ≡ length bytes + length rest = ap length is ∙ length-append bytes rest in
     omega arith
@@ -89,7 +88,7 @@ not_too_long input bytes rest stream lines turns is short fits known (inr (e, le
     let size : length input ≡ length bytes + length rest = ap length is ∙ length-append bytes rest in
     let few = few_commands lines in
     let known_few = known.few in
-    let big : 549755813888 ≤ 33 * (all_commands lines + 2 * length stream + 1) = rw (← e) le in
+    let big : 2 ^ 39 ≤ 33 * (all_commands lines + 2 * length stream + 1) = rw (← e) le in
     omega arith
 
 -- ------ the answer that the input determines
@@ -101,42 +100,42 @@ pub by_taken : (input : List ℕ) (left : Option (List ℕ)) (bytes : List ℕ) 
 by_taken input None bytes con = absurd con
 by_taken input (Some rest) bytes con = (rest, con)
 
-determined : (out : Output) (input : List ℕ) (left old new : Option (List ℕ)) (r s w v : ℕ) (status : Status) → r < 2 ^ 64 - 1 → w < 2 ^ 64 - 1 → s ≡ r → v ≡ w
-    → Says out (record { left = Some input; read_faults = r; written = old; write_faults = w }) (record { left = left; read_faults = s; written = new; write_faults = v }) status
-    → (status ≡ NoMemory) ⊎ Determines (grammar (split input).script) input status
-determined out input left old new r s w v Usage fr fw nr nw says = absurd says
-determined out input left old new r s w v (Script line kind) fr fw nr nw says = inr (rw (says.0.1) refl)
-determined out input left old new r s w v (TooLong turns) fr fw nr nw says =
+determined : (out : Output) (input : List ℕ) (x y : SourceEnd) (w v : SinkEnd) (status : Status) → x.left ≡ Some input → x.faults < 2 ^ 64 - 1 → w.faults < 2 ^ 64 - 1
+    → y.faults ≡ x.faults → v.faults ≡ w.faults → Says out (outside x w) (outside y v) status → (status ≡ NoMemory) ⊎ Determines (grammar (split input).script) input status
+determined out input x y w v Usage has fr fw nr nw says = absurd says
+determined out input x y w v (Script line kind) has fr fw nr nw says =
+    let fault : grammar (split input).script ≡ Err (record { line = line; kind = kind }) = subst (λ c. IfSome c (λ whole. grammar (split whole).script ≡ Err (record { line = line; kind = kind }))) has says.0.1 in
+    inr (rw fault refl)
+determined out input x y w v (TooLong turns) has fr fw nr nw says =
     let g = says.0 in
-    let t = by_taken input left g.bytes g.taken in
+    let t = by_taken input y.left g.bytes (subst (λ c. Consumes c y.left g.bytes) has g.taken) in
     let ok = script_of_all input g.bytes t.0 g.stream g.lines t.1 g.session.script g.session.behind in
     let fits = (split_more g.bytes t.0 g.stream g.session.behind).1 in
     inr (rw ok (λ short. absurd (not_too_long input g.bytes t.0 g.stream g.lines turns t.1 short fits g.known g.cause)))
-determined out input left old new r s w v ReadFault fr fw nr nw (steady_writes, inl (text, m, a)) = absurd (steady r fr (subst (λ n. Rose r n) nr m.reads))
-determined out input left old new r s w v ReadFault fr fw nr nw (steady_writes, inr (f, k)) = absurd (steady r fr (subst (λ n. Rose r n) nr f.rose))
-determined out input left old new r s w v WriteFault fr fw nr nw says = absurd (steady w fw (subst (λ n. Rose w n) nw says.front.rose))
-determined out input left old new r s w v NoMemory fr fw nr nw says = inl refl
-determined out input left old new r s w v Done fr fw nr nw says =
+determined out input x y w v ReadFault has fr fw nr nw (steady_writes, inl (text, m, a)) = absurd (steady x.faults fr (subst (λ n. Rose x.faults n) nr m.reads))
+determined out input x y w v ReadFault has fr fw nr nw (steady_writes, inr (f, k)) = absurd (steady x.faults fr (subst (λ n. Rose x.faults n) nr f.rose))
+determined out input x y w v WriteFault has fr fw nr nw says = absurd (steady w.faults fw (subst (λ n. Rose w.faults n) nw says.front.rose))
+determined out input x y w v NoMemory has fr fw nr nw says = inl refl
+determined out input x y w v Done has fr fw nr nw says =
     let m = says.made in
-    let t = by_taken input left m.bytes m.taken in
+    let t = by_taken input y.left m.bytes (subst (λ c. Consumes c y.left m.bytes) has m.taken) in
     let ok = script_of_all input m.bytes t.0 m.stream m.lines t.1 m.session.script m.session.behind in
     inr (rw ok (λ short. refl))
 
-settled_by : (out : Output) (content left old new : Option (List ℕ)) (r s w v : ℕ) (status : Status) → r < 2 ^ 64 - 1 → w < 2 ^ 64 - 1 → s ≡ r → v ≡ w
-    → Says out (record { left = content; read_faults = r; written = old; write_faults = w }) (record { left = left; read_faults = s; written = new; write_faults = v }) status
+settled_by : (out : Output) (content : Option (List ℕ)) (x y : SourceEnd) (w v : SinkEnd) (status : Status) → x.left ≡ content → x.faults < 2 ^ 64 - 1 → w.faults < 2 ^ 64 - 1
+    → y.faults ≡ x.faults → v.faults ≡ w.faults → Says out (outside x w) (outside y v) status
     → IfSome content (λ input. (status ≡ NoMemory) ⊎ Determines (grammar (split input).script) input status)
-settled_by out None left old new r s w v status fr fw nr nw says = tt
-settled_by out (Some input) left old new r s w v status fr fw nr nw says = determined out input left old new r s w v status fr fw nr nw says
+settled_by out None x y w v status has fr fw nr nw says = tt
+settled_by out (Some input) x y w v status has fr fw nr nw says = determined out input x y w v status has fr fw nr nw says
 
 never_usage : (out : Output) (before after : Outside) (status : Status) → Says out before after status → status ≡ Usage → ⊥
 never_usage out before after status says is = subst (λ s. Says out before after s) is says
 
-pub does : (out : Output) (content left old new : Option (List ℕ)) (r s w v : ℕ) (status : Status) → r < 2 ^ 64 - 1 → w < 2 ^ 64 - 1
-    → Says out (record { left = content; read_faults = r; written = old; write_faults = w }) (record { left = left; read_faults = s; written = new; write_faults = v }) status
-    → Does out (record { left = content; read_faults = r; written = old; write_faults = w }) (record { left = left; read_faults = s; written = new; write_faults = v }) status
-does out content left old new r s w v status fr fw says = record {
+pub does : (out : Output) (x y : SourceEnd) (w v : SinkEnd) (status : Status) → x.faults < 2 ^ 64 - 1 → w.faults < 2 ^ 64 - 1
+    → Says out (outside x w) (outside y v) status → Does out (outside x w) (outside y v) status
+does out x y w v status fr fw says = record {
   says = says;
-  settled = λ nr nw. settled_by out content left old new r s w v status fr fw nr nw says;
+  settled = λ nr nw. settled_by out x.left x y w v status refl fr fw nr nw says;
 }
 
 -- ------ a text that is made from a number
@@ -144,21 +143,20 @@ does out content left old new r s w v status fr fw says = record {
 never_usage_told : (IsText : List ℕ → Type 0) (before after : Outside) (status : Status) → Tells IsText before after status → status ≡ Usage → ⊥
 never_usage_told IsText before after status says is = subst (λ s. Tells IsText before after s) is says
 
-settled_told : (IsText : List ℕ → Type 0) (before after : Outside) (status : Status) → before.write_faults < 2 ^ 64 - 1 → Tells IsText before after status
+settled_told : (IsText : List ℕ → Type 0) (before after : Outside) (status : Status) → before.sink.faults < 2 ^ 64 - 1 → Tells IsText before after status
     → NoWriteFails before after → (status ≡ NoMemory) ⊎ (status ≡ Done)
 settled_told IsText before after Usage fw says nw = absurd says
 settled_told IsText before after (Script line kind) fw says nw = absurd says
 settled_told IsText before after (TooLong turns) fw says nw = absurd says
 settled_told IsText before after ReadFault fw says nw = absurd says
-settled_told IsText before after WriteFault fw (text, is, front) nw = absurd (steady before.write_faults fw (subst (λ n. Rose before.write_faults n) nw front.rose))
+settled_told IsText before after WriteFault fw (text, is, front) nw = absurd (steady before.sink.faults fw (subst (λ n. Rose before.sink.faults n) nw front.rose))
 settled_told IsText before after NoMemory fw says nw = inl refl
 settled_told IsText before after Done fw says nw = inr refl
 
-pub gives : (IsText : List ℕ → Type 0) (left old new : Option (List ℕ)) (r w v : ℕ) (status : Status) → w < 2 ^ 64 - 1
-    → Tells IsText (record { left = left; read_faults = r; written = old; write_faults = w }) (record { left = left; read_faults = r; written = new; write_faults = v }) status
-    → Gives IsText (record { left = left; read_faults = r; written = old; write_faults = w }) (record { left = left; read_faults = r; written = new; write_faults = v }) status
-gives IsText left old new r w v status fw says = record {
-  reads = (keeps left, refl);
+pub gives : (IsText : List ℕ → Type 0) (x : SourceEnd) (w v : SinkEnd) (status : Status) → w.faults < 2 ^ 64 - 1
+    → Tells IsText (outside x w) (outside x v) status → Gives IsText (outside x w) (outside x v) status
+gives IsText x w v status fw says = record {
+  reads = (keeps x.left, refl);
   says = says;
   settled = settled_told IsText _ _ status fw says;
 }
@@ -186,7 +184,7 @@ same_command c other m a b = cc
 
 -- words that are accepted
 pub serves : (words : List (List ℕ)) (c : Command) (may : ℕ → Bool) (before after : Outside) (status : Status) → meant words ≡ Some c → Obeys c may before after status
-    → after.read_faults ≤ before.read_faults + 1 → after.write_faults ≤ before.write_faults + 1 → Serves words may before after status
+    → after.source.faults ≤ before.source.faults + 1 → after.sink.faults ≤ before.sink.faults + 1 → Serves words may before after status
 serves words c may before after status is o reads writes = record {
   usage = λ e. absurd (not_usage c may before after status o e);
   refused = λ none. absurd (let e : Some c ≡ None = sym is ∙ none in cc);
@@ -199,7 +197,7 @@ serves words c may before after status is o reads writes = record {
 pub serves_none : (words : List (List ℕ)) (may : ℕ → Bool) (at : Outside) (status : Status) → meant words ≡ None → (status ≡ Usage) ⊎ (status ≡ NoMemory) → Serves words may at at status
 serves_none words may at status is one = record {
   usage = λ e. is;
-  refused = λ none. (one, (keeps at.left, refl), (keeps at.written, refl));
+  refused = λ none. (one, (keeps at.source.left, refl), (keeps at.sink.written, refl));
   obeys = λ c e. absurd (let x : None ≡ Some c = sym is ∙ e in cc);
   reads_once = omega arith;
   writes_once = omega arith;
@@ -211,10 +209,10 @@ says_if None P each = tt
 says_if (Some input) P each = each input
 
 unmade : (IsText : List ℕ → Type 0) (at : Outside) → Gives IsText at at NoMemory
-unmade IsText at = record { reads = (keeps at.left, refl); says = (keeps at.written, refl); settled = λ nw. inl refl }
+unmade IsText at = record { reads = (keeps at.source.left, refl); says = (keeps at.sink.written, refl); settled = λ nw. inl refl }
 
 undone : (out : Output) (at : Outside) → Does out at at NoMemory
-undone out at = record { says = (keeps at.written, refl); settled = λ nr nw. says_if at.left _ (λ input. inl refl) }
+undone out at = record { says = (keeps at.sink.written, refl); settled = λ nr nw. says_if at.source.left _ (λ input. inl refl) }
 
 unread : (c : Command) (may : ℕ → Bool) (at : Outside) → Obeys c may at at NoMemory
 unread (Steps batch) may at = undone (IsSerialOutput batch) at
@@ -225,7 +223,7 @@ unread (SelfTest number batch) may at = unmade (IsSums number batch) at
 pub serves_unread : (words : List (List ℕ)) (may : ℕ → Bool) (at : Outside) → Serves words may at at NoMemory
 serves_unread words may at = record {
   usage = λ e. absurd (cc);
-  refused = λ none. (inr refl, (keeps at.left, refl), (keeps at.written, refl));
+  refused = λ none. (inr refl, (keeps at.source.left, refl), (keeps at.sink.written, refl));
   obeys = λ c e. unread c may at;
   reads_once = omega arith;
   writes_once = omega arith;

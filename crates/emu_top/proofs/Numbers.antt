@@ -4,6 +4,7 @@ use Rattle.std.proofs.lemmas.List.{take_all, length-replicate}
 use Rattle.std.specs.Prelude.{Option, Some, None, Result, Ok, Err, is_ok, replicate}
 use Rattle.std.specs.Io.KnownBytes.{Consumes, IsAtEnd}
 use Rattle.std.specs.Int.{w16, w32, w64, to_be_bytes}
+use Rattle.emu_io.specs.Ends.{SourceEnd}
 use Rattle.section_crc.specs.Crc.{crc}
 use Rattle.ts_watch.specs.Head.{told_head, head_of}
 use Rattle.text_forms.specs.Numbers.{value_after}
@@ -102,8 +103,12 @@ short number =
 
 -- ------ its run
 
+-- a source of which no read failed, and of which so much is left
+abbrev pub unfailed : Option (List ℕ) → SourceEnd
+unfailed left = record { left = left; faults = 0 }
+
 -- nothing but want of memory is told in place of its run
-pub refused : (number : ℕ) (left : Option (List ℕ)) (status : Status) → Refuses (Some (made number)) left 0 0 status → status ≡ NoMemory
+pub refused : (number : ℕ) (left : Option (List ℕ)) (status : Status) → Refuses (unfailed (Some (made number))) (unfailed left) status → status ≡ NoMemory
 refused number left Usage r = absurd r
 refused number left (Script line kind) r = absurd (let e : Ok (lines_of number).0 ≡ Err (record { line = line; kind = kind }) = sym (lines_of number).1 ∙ r.1 in cc)
 refused number left (TooLong turns) g =
@@ -119,11 +124,11 @@ read_whole : (input : List ℕ) (left : Option (List ℕ)) (bytes : List ℕ) �
 read_whole input None bytes con end = absurd con
 read_whole input (Some rest) bytes con end = con ∙ (ap (λ r. bytes ++ r) end ∙ append-nil bytes)
 
-summed_by : (number batch : ℕ) (left : Option (List ℕ)) (ran : Left) (text : List ℕ) (failed : Bool) → ran.head.read_fault ≡ failed → Runs batch (Some (made number)) left 0 0 ran
+summed_by : (number batch : ℕ) (left : Option (List ℕ)) (ran : Left) (text : List ℕ) (failed : Bool) → ran.head.read_fault ≡ failed → Runs batch (unfailed (Some (made number))) (unfailed left) ran
     → text ≡ summary_of (told_head ran.head) ran.histories → IsSums number batch text
-summed_by number batch left ran text true is r e = absurd (steady 0 (omega arith) (subst (λ b. ReadsTo b left 0 0) is r.reads))
+summed_by number batch left ran text true is r e = absurd (steady 0 (omega arith) (subst (λ b. ReadsTo b (unfailed (Some (made number))) (unfailed left)) is r.reads))
 summed_by number batch left ran text false is r e =
-    let reads : ReadsTo false left 0 0 = subst (λ b. ReadsTo b left 0 0) is r.reads in
+    let reads : ReadsTo false (unfailed (Some (made number))) (unfailed left) = subst (λ b. ReadsTo b (unfailed (Some (made number))) (unfailed left)) is r.reads in
     let whole : made number ≡ r.bytes = read_whole (made number) left r.bytes r.taken reads.1 in
     record {
       lines = r.lines;
@@ -135,6 +140,6 @@ summed_by number batch left ran text false is r e =
     }
 
 -- the sums of its run
-pub summed : (number batch : ℕ) (left : Option (List ℕ)) (ran : Left) (text : List ℕ) → Runs batch (Some (made number)) left 0 0 ran
+pub summed : (number batch : ℕ) (left : Option (List ℕ)) (ran : Left) (text : List ℕ) → Runs batch (unfailed (Some (made number))) (unfailed left) ran
     → text ≡ summary_of (told_head ran.head) ran.histories → IsSums number batch text
 summed number batch left ran text r e = summed_by number batch left ran text ran.head.read_fault refl r e

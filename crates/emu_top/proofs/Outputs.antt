@@ -1,10 +1,11 @@
 -- What is to be written for a session, and why there is nothing.
-use Rattle.std.proofs.Common.{◌≡◌, ◌<◌, ◌≤◌, ◌⊎◌, refl, sym, ap, ◌∙◌, ℕ, Bool, true, false, List, [], ◌++◌, length, map, append-nil, arith, length-append, inl, inr, IsTrue}
+use Rattle.std.proofs.Common.{◌≡◌, ◌<◌, ◌≤◌, ◌^◌, ◌⊎◌, refl, sym, ap, subst, ◌∙◌, ℕ, Bool, true, false, List, [], ◌++◌, length, map, append-nil, arith, length-append, inl, inr, IsTrue}
 use Rattle.std.proofs.lemmas.Bool.{cases_lt}
 use Rattle.std.proofs.KnownBytes.{Consumes-trans}
 use Rattle.std.specs.Prelude.{◌↔◌, Option, Some, None, IfSome, Ok, Err}
 use Rattle.std.specs.Io.KnownBytes.{Consumes, IsAtEnd}
 use Rattle.emu_io.specs.Causes.{raised, Rose}
+use Rattle.emu_io.specs.Ends.{SourceEnd}
 use Rattle.ts_packet.specs.Cut.{cut}
 use Rattle.dmx_calls.specs.declared.outcome.Outcome.{Outcome}
 use Rattle.ts_watch.specs.Head.{told_head}
@@ -23,7 +24,7 @@ use Rattle.serial_core.specs.Left.{IsLeftBy}
 use Rattle.serial_core.proofs.Runs.{are_runs}
 use Rattle.report_text.specs.Report.{report_of}
 use Rattle.emu_top.specs.Inside.Part.{IsUnended}
-use Rattle.emu_top.specs.Session.{Output, IsSession, IsSerialOutput, Holds, IsFaultIn, Makes, Runs, FailsEarly, Refuses, ReadsTo, status_of_stop}
+use Rattle.emu_top.specs.Session.{Output, IsSession, IsSerialOutput, Holds, IsFaultIn, Takes, Makes, Runs, FailsEarly, Refuses, ReadsTo, status_of_stop}
 use Rattle.emu_top.specs.declared.status.Status.{Status}
 use Rattle.emu_top.specs.declared.status.Status.TheVariants.{Usage, Script, TooLong, ReadFault, WriteFault, NoMemory, Ok as Done}
 
@@ -32,23 +33,28 @@ use Rattle.emu_top.specs.declared.status.Status.TheVariants.{Usage, Script, TooL
 pub rose_of : (before after : ℕ) → before < after → Rose before after
 rose_of before after lt = grind (arith)
 
-reads_to : (b : Bool) (left : Option (List ℕ)) (before after : ℕ) → (IsTrue b ↔ (before < after)) → before ≤ after → (b ≡ false → IsAtEnd left) → ReadsTo b left before after
-reads_to true left before after rose later end = rose_of before after (rose.0 refl)
-reads_to false left before after rose later end = elim (cases_lt before after) [
+reads_to : (b : Bool) (x y : SourceEnd) → (IsTrue b ↔ (x.faults < y.faults)) → x.faults ≤ y.faults → (b ≡ false → IsAtEnd y.left) → ReadsTo b x y
+reads_to true x y rose later end = rose_of x.faults y.faults (rose.0 refl)
+reads_to false x y rose later end = elim (cases_lt x.faults y.faults) [
   | inl lt ↦ absurd (let e : false ≡ true = rose.1 lt in cc)
   | inr le ↦ (omega arith, end refl)
 ]
+
+-- the same from a moment on at which the count of faults was the same
+reads_from : (b : Bool) (x y z : SourceEnd) → y.faults ≡ x.faults → ReadsTo b y z → ReadsTo b x z
+reads_from true x y z e r = subst (λ n. Rose n z.faults) e r
+reads_from false x y z e r = (r.0 ∙ e, r.1)
 
 session_of : (bytes part stream : List ℕ) (lines : List Line) → split bytes ≡ record { script = part; stream = Some stream } → grammar part ≡ Ok lines → IsSession bytes lines stream
 session_of bytes part stream lines s script = record { script = ap (λ p. grammar p.script) s ∙ script; behind = ap (λ p. p.stream) s }
 
 -- what the run of a session left
-pub run_of : (batch : ℕ) (lines : List Line) (puller : Pulling) (content mid left : Option (List ℕ)) (before after : ℕ) (first : List ℕ) (ran : Left)
-    → 1 ≤ batch → Consumes content mid first → Holds first lines puller
-    → OfStream mid left puller (λ ahead taken. IsLeftBy lines batch (ahead ++ taken) ran)
-    → (IsTrue ran.head.read_fault ↔ (before < after)) → before ≤ after → (ran.head.read_fault ≡ false → IsAtEnd left)
-    → Runs batch content left before after ran
-run_of batch lines puller content mid left before after first ran one con h of rose later end =
+pub run_of : (batch : ℕ) (lines : List Line) (puller : Pulling) (x y z : SourceEnd) (first : List ℕ) (ran : Left)
+    → 1 ≤ batch → Takes x y first → Holds first lines puller
+    → OfStream y z puller (λ ahead taken. IsLeftBy lines batch (ahead ++ taken) ran)
+    → (IsTrue ran.head.read_fault ↔ (y.faults < z.faults)) → y.faults ≤ z.faults → (ran.head.read_fault ≡ false → IsAtEnd z.left)
+    → Runs batch x z ran
+run_of batch lines puller x y z first ran one takes h of rose later end =
     let taken = of.0 in
     let r : IsLeftBy lines batch (h.ahead ++ taken) ran = of.2 h.ahead h.pulls in
     let s = h.splits taken in
@@ -57,8 +63,8 @@ run_of batch lines puller content mid left before after first ran one con h of r
       lines = lines;
       stream = h.ahead ++ taken;
       run = r.run;
-      taken = Consumes-trans _ _ _ _ _ con of.1;
-      reads = reads_to ran.head.read_fault left before after rose later end;
+      taken = Consumes-trans _ _ _ _ _ takes.taken of.1;
+      reads = reads_from ran.head.read_fault x y z takes.steady (reads_to ran.head.read_fault y z rose later end);
       session = session_of (first ++ taken) h.part (h.ahead ++ taken) lines s h.script;
       ran = record {
         serial = r.serial;
@@ -70,10 +76,10 @@ run_of batch lines puller content mid left before after first ran one con h of r
     }
 
 -- its report
-pub reported : (batch : ℕ) (content left : Option (List ℕ)) (before after : ℕ) (ran : Left) (became : List (List Outcome)) (failed : Bool) (text : List ℕ) → Runs batch content left before after ran
+pub reported : (batch : ℕ) (x y : SourceEnd) (ran : Left) (became : List (List Outcome)) (failed : Bool) (text : List ℕ) → Runs batch x y ran
     → failed ≡ ran.head.read_fault → became ≡ map (λ o. o.items) ran.outcomes.items → text ≡ report_of (told_head ran.head) became ran.histories
-    → Makes (IsSerialOutput batch) content left before after failed text
-reported batch content left before after ran became failed text r fault same e = rw fault record {
+    → Makes (IsSerialOutput batch) x y failed text
+reported batch x y ran became failed text r fault same e = rw fault record {
   bytes = r.bytes;
   lines = r.lines;
   stream = r.stream;
@@ -88,17 +94,17 @@ reported batch content left before after ran became failed text r fault same e =
 }
 
 -- of whatever kind it is, the output for the bytes of a script and of the stream behind it
-pub made_of : (out : Output) (lines : List Line) (puller : Pulling) (content mid left : Option (List ℕ)) (before after : ℕ) (first : List ℕ) (failed : Bool) (text : List ℕ)
-    → Consumes content mid first → Holds first lines puller → OfStream mid left puller (λ ahead taken. out lines (ahead ++ taken) failed text)
-    → (IsTrue failed ↔ (before < after)) → before ≤ after → (failed ≡ false → IsAtEnd left) → Makes out content left before after failed text
-made_of out lines puller content mid left before after first failed text con h of rose later end =
+pub made_of : (out : Output) (lines : List Line) (puller : Pulling) (x y z : SourceEnd) (first : List ℕ) (failed : Bool) (text : List ℕ)
+    → Takes x y first → Holds first lines puller → OfStream y z puller (λ ahead taken. out lines (ahead ++ taken) failed text)
+    → (IsTrue failed ↔ (y.faults < z.faults)) → y.faults ≤ z.faults → (failed ≡ false → IsAtEnd z.left) → Makes out x z failed text
+made_of out lines puller x y z first failed text takes h of rose later end =
     let taken = of.0 in
     record {
       bytes = first ++ taken;
       lines = lines;
       stream = h.ahead ++ taken;
-      taken = Consumes-trans _ _ _ _ _ con of.1;
-      reads = reads_to failed left before after rose later end;
+      taken = Consumes-trans _ _ _ _ _ takes.taken of.1;
+      reads = reads_from failed x y z takes.steady (reads_to failed y z rose later end);
       session = session_of (first ++ taken) h.part (h.ahead ++ taken) lines (h.splits taken) h.script;
       output = of.2 h.ahead h.pulls;
     }
@@ -106,22 +112,22 @@ made_of out lines puller content mid left before after first failed text con h o
 -- ------ a run that was given up
 
 cause_of : (lines : List Line) (start turns : ℕ) (ahead taken first : List ℕ) → start ≤ length first → IsTooLong lines start turns ahead taken
-    → ((turns ≡ 4294967296) × (turns ≤ length (first ++ taken))) ⊎ ((turns ≡ 549755813888) × (turns ≤ most_calls (all_commands lines) (length (ahead ++ taken))))
+    → ((turns ≡ 4294967296) × (turns ≤ length (first ++ taken))) ⊎ ((turns ≡ 2 ^ 39) × (turns ≤ most_calls (all_commands lines) (length (ahead ++ taken))))
 cause_of lines start turns ahead taken first reads (inl (is, le)) = inl (is, omega (arith, length-append first taken))
 cause_of lines start turns ahead taken first reads (inr (is, le)) = inr (is, rw (length-append ahead taken, is) le)
 
-pub given_up : (lines : List Line) (puller : Pulling) (content mid left : Option (List ℕ)) (before after : ℕ) (first : List ℕ) (stop : Stop)
-    → ((turns : ℕ) → stop ≡ RunTooLong turns → OfStream mid left puller (IsTooLong lines puller.start turns))
-    → Consumes content mid first → Holds first lines puller → Refuses content left before after (status_of_stop stop)
-given_up lines puller content mid left before after first NoMemoryToRun each con h = tt
-given_up lines puller content mid left before after first (RunTooLong turns) each con h =
+pub given_up : (lines : List Line) (puller : Pulling) (x y z : SourceEnd) (first : List ℕ) (stop : Stop)
+    → ((turns : ℕ) → stop ≡ RunTooLong turns → OfStream y z puller (IsTooLong lines puller.start turns))
+    → Takes x y first → Holds first lines puller → Refuses x z (status_of_stop stop)
+given_up lines puller x y z first NoMemoryToRun each takes h = tt
+given_up lines puller x y z first (RunTooLong turns) each takes h =
     let of = each turns refl in
     let taken = of.0 in
     record {
       bytes = first ++ taken;
       lines = lines;
       stream = h.ahead ++ taken;
-      taken = Consumes-trans _ _ _ _ _ con of.1;
+      taken = Consumes-trans _ _ _ _ _ takes.taken of.1;
       session = session_of (first ++ taken) h.part (h.ahead ++ taken) lines (h.splits taken) h.script;
       known = h.known;
       cause = cause_of lines puller.start turns h.ahead taken first h.reads (of.2 h.ahead h.pulls);
@@ -129,8 +135,8 @@ given_up lines puller content mid left before after first (RunTooLong turns) eac
 
 -- ------ a script part that isn't read
 
-pub fails_early : (content left : Option (List ℕ)) (before after : ℕ) → IsUnended content left → after ≡ raised before → FailsEarly content left before after
-fails_early content left before after u is =
+pub fails_early : (x y : SourceEnd) → IsUnended x y → y.faults ≡ raised x.faults → FailsEarly x y
+fails_early x y u is =
     let s : split (u.taken ++ []) ≡ record { script = u.taken; stream = None } = split-missing u.taken [] u.searched u.none (inr refl) in
     record {
       bytes = u.taken;
@@ -157,12 +163,12 @@ has_fault (Some input) (Some rest) part fault few con end e =
     let same = script_of part rest (script_len (whole_lines part)) few refl (λ none. ended_so part rest (end none)) in
     ap (λ bytes. grammar (split bytes).script) con ∙ (same ∙ e)
 
-pub refused_by : (content left : Option (List ℕ)) (before after : ℕ) (part : List ℕ) (status : Status) → length part ≤ most_bytes → Consumes content left part → after ≡ before
-    → (script_len (whole_lines part) ≡ None → (length part ≡ most_bytes) ⊎ IsAtEnd left) → IsFaultIn part status → Refuses content left before after status
-refused_by content left before after part (Script line kind) few con steady end e = (steady, has_fault content left part (record { line = line; kind = kind }) few con end e)
-refused_by content left before after part NoMemory few con steady end e = tt
-refused_by content left before after part Usage few con steady end e = absurd e
-refused_by content left before after part (TooLong turns) few con steady end e = absurd e
-refused_by content left before after part ReadFault few con steady end e = absurd e
-refused_by content left before after part WriteFault few con steady end e = absurd e
-refused_by content left before after part Done few con steady end e = absurd e
+pub refused_by : (x y : SourceEnd) (part : List ℕ) (status : Status) → length part ≤ most_bytes → Takes x y part
+    → (script_len (whole_lines part) ≡ None → (length part ≡ most_bytes) ⊎ IsAtEnd y.left) → IsFaultIn part status → Refuses x y status
+refused_by x y part (Script line kind) few takes end e = (takes.steady, has_fault x.left y.left part (record { line = line; kind = kind }) few takes.taken end e)
+refused_by x y part NoMemory few takes end e = tt
+refused_by x y part Usage few takes end e = absurd e
+refused_by x y part (TooLong turns) few takes end e = absurd e
+refused_by x y part ReadFault few takes end e = absurd e
+refused_by x y part WriteFault few takes end e = absurd e
+refused_by x y part Done few takes end e = absurd e

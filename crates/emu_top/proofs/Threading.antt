@@ -1,7 +1,8 @@
 -- The report of a run by threads.
 use Rattle.std.proofs.Common.{◌≡◌, ◌<◌, ◌≤◌, ℕ, Bool, false, List, ◌++◌, IsTrue}
-use Rattle.std.specs.Prelude.{◌↔◌, Option}
-use Rattle.std.specs.Io.KnownBytes.{Consumes, IsAtEnd}
+use Rattle.std.specs.Prelude.{◌↔◌}
+use Rattle.std.specs.Io.KnownBytes.{IsAtEnd}
+use Rattle.emu_io.specs.Ends.{SourceEnd}
 use Rattle.ts_packet.specs.Cut.{cut}
 use Rattle.ts_watch.specs.declared.head.Head.{Head}
 use Rattle.dmx_calls.specs.declared.histories.Fed.{Fed}
@@ -15,7 +16,7 @@ use Rattle.feed_pull.specs.Streams.{OfStream}
 use Rattle.adapter.specs.Callers.{Caller}
 use Rattle.workers.specs.Worked.{AreWorked}
 use Rattle.report_text.specs.Report.{report_of}
-use Rattle.emu_top.specs.Session.{Holds, IsThreadOutput, Makes}
+use Rattle.emu_top.specs.Session.{Holds, IsThreadOutput, Takes, Makes}
 use Rattle.emu_top.proofs.Outputs.{made_of}
 
 module _ (batch : ℕ) (may : ℕ → Bool) (lines : List Line) (head : Head) (feeder : Caller) (feeding : List Fed) (others : List Caller) (books : List (List LogEntry)) (became : List (List Outcome)) where
@@ -23,12 +24,12 @@ module _ (batch : ℕ) (may : ℕ → Bool) (lines : List Line) (head : Head) (f
   abbrev pub HaveLeft : List ℕ → Type 0
   HaveLeft stream = AreWorked lines batch may (cut stream).packets feeder feeding others books became × (told_head head ≡ head_of stream head.read_fault)
 
-  pub thread_output : (mid left : Option (List ℕ)) (puller : Pulling) (histories : List (List LogEntry)) (text : List ℕ)
-      → OfStream mid left puller (λ ahead taken. HaveLeft (ahead ++ taken))
+  pub thread_output : (y z : SourceEnd) (puller : Pulling) (histories : List (List LogEntry)) (text : List ℕ)
+      → OfStream y z puller (λ ahead taken. HaveLeft (ahead ++ taken))
       → ((stream : List (List ℕ)) → AreWorked lines batch may stream feeder feeding others books became → IsWholeRun lines batch may stream became histories)
       → text ≡ report_of (told_head head) became histories
-      → OfStream mid left puller (λ ahead taken. IsThreadOutput batch may lines (ahead ++ taken) head.read_fault text)
-  thread_output mid left puller histories text of whole e = (
+      → OfStream y z puller (λ ahead taken. IsThreadOutput batch may lines (ahead ++ taken) head.read_fault text)
+  thread_output y z puller histories text of whole e = (
     of.0,
     of.1,
     λ ahead pulls.
@@ -42,13 +43,13 @@ module _ (batch : ℕ) (may : ℕ → Bool) (lines : List Line) (head : Head) (f
   )
 
   -- and so the output for the session
-  pub threads_made : (content mid left : Option (List ℕ)) (before after : ℕ) (first : List ℕ) (puller : Pulling) (histories : List (List LogEntry)) (failed : Bool) (told : List (List Outcome)) (text : List ℕ)
-      → Consumes content mid first → Holds first lines puller
-      → OfStream mid left puller (λ ahead taken. HaveLeft (ahead ++ taken))
+  pub threads_made : (x y z : SourceEnd) (first : List ℕ) (puller : Pulling) (histories : List (List LogEntry)) (failed : Bool) (told : List (List Outcome)) (text : List ℕ)
+      → Takes x y first → Holds first lines puller
+      → OfStream y z puller (λ ahead taken. HaveLeft (ahead ++ taken))
       → ((stream : List (List ℕ)) → AreWorked lines batch may stream feeder feeding others books became → IsWholeRun lines batch may stream became histories)
-      → (IsTrue head.read_fault ↔ (before < after)) → before ≤ after → (head.read_fault ≡ false → IsAtEnd left)
+      → (IsTrue head.read_fault ↔ (y.faults < z.faults)) → y.faults ≤ z.faults → (head.read_fault ≡ false → IsAtEnd z.left)
       → failed ≡ head.read_fault → told ≡ became → text ≡ report_of (told_head head) told histories
-      → Makes (IsThreadOutput batch may) content left before after failed text
-  threads_made content mid left before after first puller histories failed told text con h of whole rose later end fault same e =
+      → Makes (IsThreadOutput batch may) x z failed text
+  threads_made x y z first puller histories failed told text takes h of whole rose later end fault same e =
       let report : text ≡ report_of (told_head head) became histories = rw (← same) e in
-      rw fault (made_of (IsThreadOutput batch may) lines puller content mid left before after first head.read_fault text con h (thread_output mid left puller histories text of whole report) rose later end)
+      rw fault (made_of (IsThreadOutput batch may) lines puller x y z first head.read_fault text takes h (thread_output y z puller histories text of whole report) rose later end)

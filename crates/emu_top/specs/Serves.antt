@@ -2,6 +2,7 @@
 use Rattle.std.specs.Prelude.{◌≡◌, ◌⊎◌, ℕ, ◌+◌, ◌<◌, ◌≤◌, Bool, true, false, List, length, take, Option, Some, None, Result, Ok, Err, IfSome}
 use Rattle.std.specs.Io.KnownBytes.{Appends, Keeps}
 use Rattle.emu_io.specs.Causes.{Rose}
+use Rattle.emu_io.specs.Ends.{SourceEnd, SinkEnd}
 use Rattle.client_script.specs.declared.line.Line.{Line}
 use Rattle.client_script.specs.declared.fault.ScriptFault.{ScriptFault}
 use Rattle.client_script.specs.Script.{split, grammar}
@@ -13,31 +14,31 @@ use Rattle.emu_top.specs.Session.{Output, IsSerialOutput, IsThreadOutput, IsSums
 use Rattle.emu_top.specs.declared.status.Status.{Status}
 use Rattle.emu_top.specs.declared.status.Status.TheVariants.{Usage, Script, TooLong, ReadFault, WriteFault, NoMemory, Ok as Done}
 
--- What a source and a sink tell at one moment: the bytes that are left and those that were written, where they
--- are told, and their counts of faults.
+-- What a source and a sink tell at one moment.
 pub record Outside : Type 0 where
-  pub left : Option (List ℕ)
-  pub read_faults : ℕ
-  pub written : Option (List ℕ)
-  pub write_faults : ℕ
+  pub source : SourceEnd
+  pub sink : SinkEnd
+
+abbrev pub outside : SourceEnd → SinkEnd → Outside
+outside source sink = record { source = source; sink = sink }
 
 -- ------ what is read and written
 
 abbrev pub NoReadFails : Outside → Outside → Type 0
-NoReadFails before after = after.read_faults ≡ before.read_faults
+NoReadFails before after = after.source.faults ≡ before.source.faults
 
 abbrev pub NoWriteFails : Outside → Outside → Type 0
-NoWriteFails before after = after.write_faults ≡ before.write_faults
+NoWriteFails before after = after.sink.faults ≡ before.sink.faults
 
 -- these bytes came behind those that were written
 abbrev pub Writes : Outside → Outside → List ℕ → Type 0
-Writes before after text = Appends before.written after.written text
+Writes before after text = Appends before.sink.written after.sink.written text
 
 abbrev pub WritesNothing : Outside → Outside → Type 0
-WritesNothing before after = Keeps before.written after.written × NoWriteFails before after
+WritesNothing before after = Keeps before.sink.written after.sink.written × NoWriteFails before after
 
 abbrev pub ReadsNothing : Outside → Outside → Type 0
-ReadsNothing before after = Keeps before.left after.left × NoReadFails before after
+ReadsNothing before after = Keeps before.source.left after.source.left × NoReadFails before after
 
 -- the whole text was written
 pub record WritesWhole (before after : Outside) (text : List ℕ) : Type 0 where
@@ -49,24 +50,24 @@ pub record WritesFront (before after : Outside) (text : List ℕ) : Type 0 where
   pub count : ℕ
   pub part : count < length text
   pub written : Writes before after (take count text)
-  pub rose : Rose before.write_faults after.write_faults
+  pub rose : Rose before.sink.faults after.sink.faults
 
 -- What was written of a session's output, by a status: the whole of it, or a part from its front on where a
 -- write failed. `failed`: reading failed.
-abbrev pub HasWritten : (failed : Bool) → (text : List ℕ) → (old new : Option (List ℕ)) → (before after : ℕ) → Status
-    → Type 0
-HasWritten failed text old new before after WriteFault =
-    (count : ℕ) × (count < length text) × Appends old new (take count text) × Rose before after
-HasWritten failed text old new before after ReadFault = (failed ≡ true) × Appends old new text × (after ≡ before)
-HasWritten failed text old new before after Done = (failed ≡ false) × Appends old new text × (after ≡ before)
-HasWritten failed text old new before after _ = ⊥
+abbrev pub HasWritten : (failed : Bool) → (text : List ℕ) → (before after : SinkEnd) → Status → Type 0
+HasWritten failed text before after WriteFault = (count : ℕ) × (count < length text)
+    × Appends before.written after.written (take count text) × Rose before.faults after.faults
+HasWritten failed text before after ReadFault =
+    (failed ≡ true) × Appends before.written after.written text × (after.faults ≡ before.faults)
+HasWritten failed text before after Done =
+    (failed ≡ false) × Appends before.written after.written text × (after.faults ≡ before.faults)
+HasWritten failed text before after _ = ⊥
 
 -- ------ `steps` and `run`: what each status says
 
 -- the bytes that were taken have this output
 abbrev pub MakesOutput : Output → Outside → Outside → (failed : Bool) → (text : List ℕ) → Type 0
-MakesOutput output before after failed text =
-    Makes output before.left after.left before.read_faults after.read_faults failed text
+MakesOutput output before after failed text = Makes output before.source after.source failed text
 
 -- The input was read to its end, and the whole output for it was written.
 pub record IsDone (output : Output) (before after : Outside) : Type 0 where
@@ -79,7 +80,7 @@ pub record IsDone (output : Output) (before after : Outside) : Type 0 where
 abbrev pub HasReadFault : Output → (before after : Outside) → Type 0
 HasReadFault output before after = NoWriteFails before after
     × (((text : List ℕ) × MakesOutput output before after true text × Writes before after text)
-    ⊎ (FailsEarly before.left after.left before.read_faults after.read_faults × Keeps before.written after.written))
+    ⊎ (FailsEarly before.source after.source × Keeps before.sink.written after.sink.written))
 
 -- A write failed. A part of the output was written, from its front on.
 pub record HasWriteFault (output : Output) (before after : Outside) : Type 0 where
@@ -92,9 +93,8 @@ pub record HasWriteFault (output : Output) (before after : Outside) : Type 0 whe
 abbrev pub Says : Output → Outside → Outside → Status → Type 0
 Says output before after Usage = ⊥
 Says output before after (Script line kind) =
-    HasFault (record { line = line; kind = kind }) before.left before.read_faults after.read_faults
-    × WritesNothing before after
-Says output before after (TooLong turns) = GivesUp before.left after.left turns × WritesNothing before after
+    HasFault (record { line = line; kind = kind }) before.source after.source × WritesNothing before after
+Says output before after (TooLong turns) = GivesUp before.source after.source turns × WritesNothing before after
 Says output before after ReadFault = HasReadFault output before after
 Says output before after WriteFault = HasWriteFault output before after
 Says output before after NoMemory = WritesNothing before after
@@ -111,7 +111,7 @@ Determines (Ok lines) input status = length input < 4294967296 → status ≡ Do
 pub record Does (output : Output) (before after : Outside) (status : Status) : Type 0 where
   pub says : Says output before after status
   pub settled : NoReadFails before after → NoWriteFails before after
-      → IfSome before.left (λ input. (status ≡ NoMemory) ⊎ Determines (grammar (split input).script) input status)
+      → IfSome before.source.left (λ input. (status ≡ NoMemory) ⊎ Determines (grammar (split input).script) input status)
 
 -- ------ `make` and `selftest`: a text that is made from a number
 
@@ -150,5 +150,5 @@ pub record Serves (words : List (List ℕ)) (may : ℕ → Bool) (before after :
   pub obeys : (command : Command) → meant words ≡ Some command → Obeys command may before after status
   -- Whatever the words and the status, at most one read fails and at most one write: after a failed read nothing more
   -- is read, and after a failed write nothing more is written.
-  pub reads_once : after.read_faults ≤ before.read_faults + 1
-  pub writes_once : after.write_faults ≤ before.write_faults + 1
+  pub reads_once : after.source.faults ≤ before.source.faults + 1
+  pub writes_once : after.sink.faults ≤ before.sink.faults + 1

@@ -1,7 +1,8 @@
 -- What is read of a session, and what is to be written for it.
-use Rattle.std.specs.Prelude.{◌≡◌, ◌⊎◌, ⊤, ℕ, ◌≤◌, ◌++◌, Bool, true, false, List, [], length, map, Option, Some, None, Ok, Err, IfSome}
+use Rattle.std.specs.Prelude.{◌≡◌, ◌⊎◌, ⊤, ℕ, ◌≤◌, ◌^◌, ◌++◌, Bool, true, false, List, [], length, map, Option, Some, None, Ok, Err, IfSome}
 use Rattle.std.specs.Io.KnownBytes.{Consumes, IsAtEnd}
 use Rattle.emu_io.specs.Causes.{Rose}
+use Rattle.emu_io.specs.Ends.{SourceEnd}
 use Rattle.ts_packet.specs.Cut.{cut}
 use Rattle.ts_watch.specs.Head.{told_head, head_of}
 use Rattle.dmx_calls.specs.Log.{LogEntry}
@@ -71,22 +72,26 @@ pub record IsSums (number batch : ℕ) (text : List ℕ) : Type 0 where
 
 -- ------ sources
 
--- In what follows a source had `content` left before and `left` after, and its count of faults was `before` and is
--- `after`.
+-- In what follows `before` and `after` are what a source tells before and after.
+
+-- these bytes were taken, and no read failed
+pub record Takes (before after : SourceEnd) (bytes : List ℕ) : Type 0 where
+  pub taken : Consumes before.left after.left bytes
+  pub steady : after.faults ≡ before.faults
 
 -- whether reading failed, or nothing is left
-abbrev pub ReadsTo : (failed : Bool) → (left : Option (List ℕ)) → (before after : ℕ) → Type 0
-ReadsTo true left before after = Rose before after
-ReadsTo false left before after = (after ≡ before) × IsAtEnd left
+abbrev pub ReadsTo : (failed : Bool) → (before after : SourceEnd) → Type 0
+ReadsTo true before after = Rose before.faults after.faults
+ReadsTo false before after = (after.faults ≡ before.faults) × IsAtEnd after.left
 
 -- the bytes that were taken are those of a session, and this is what its run left
-pub record Runs (batch : ℕ) (content left : Option (List ℕ)) (before after : ℕ) (answer : Left) : Type 0 where
+pub record Runs (batch : ℕ) (before after : SourceEnd) (answer : Left) : Type 0 where
   pub bytes : List ℕ
   pub lines : List Line
   pub stream : List ℕ
   pub run : Run
-  pub taken : Consumes content left bytes
-  pub reads : ReadsTo answer.head.read_fault left before after
+  pub taken : Consumes before.left after.left bytes
+  pub reads : ReadsTo answer.head.read_fault before after
   pub session : IsSession bytes lines stream
   pub ran : IsRunOf batch lines stream run
   pub histories : answer.histories ≡ histories_in run
@@ -94,48 +99,46 @@ pub record Runs (batch : ℕ) (content left : Option (List ℕ)) (before after :
   pub head : told_head answer.head ≡ head_of stream answer.head.read_fault
 
 -- the bytes that were taken are those of a session, and have this output
-pub record Makes (is_output : Output) (content left : Option (List ℕ)) (before after : ℕ) (failed : Bool)
-    (text : List ℕ) : Type 0 where
+pub record Makes (is_output : Output) (before after : SourceEnd) (failed : Bool) (text : List ℕ) : Type 0 where
   pub bytes : List ℕ
   pub lines : List Line
   pub stream : List ℕ
-  pub taken : Consumes content left bytes
-  pub reads : ReadsTo failed left before after
+  pub taken : Consumes before.left after.left bytes
+  pub reads : ReadsTo failed before after
   pub session : IsSession bytes lines stream
   pub output : is_output lines stream failed text
 
 -- The run of a script without a fault was given up: so many reads were made, each of which took a byte, or its commands
 -- and the bytes of the stream allow a client so many calls.
-pub record GivesUp (content left : Option (List ℕ)) (turns : ℕ) : Type 0 where
+pub record GivesUp (before after : SourceEnd) (turns : ℕ) : Type 0 where
   pub bytes : List ℕ
   pub lines : List Line
   pub stream : List ℕ
-  pub taken : Consumes content left bytes
+  pub taken : Consumes before.left after.left bytes
   pub session : IsSession bytes lines stream
   pub known : IsScript lines
   pub cause : ((turns ≡ 4294967296) × (turns ≤ length bytes))
-      ⊎ ((turns ≡ 549755813888) × (turns ≤ most_calls (all_commands lines) (length stream)))
+      ⊎ ((turns ≡ 2 ^ 39) × (turns ≤ most_calls (all_commands lines) (length stream)))
 
 -- the script of the input has this fault
-abbrev pub HasFault : ScriptFault → (content : Option (List ℕ)) → (before after : ℕ) → Type 0
-HasFault fault content before after =
-    (after ≡ before) × IfSome content (λ input. grammar (split input).script ≡ Err fault)
+abbrev pub HasFault : ScriptFault → (before after : SourceEnd) → Type 0
+HasFault fault before after =
+    (after.faults ≡ before.faults) × IfSome before.left (λ input. grammar (split input).script ≡ Err fault)
 
 -- a read failed before the line `stream` was whole
-pub record FailsEarly (content left : Option (List ℕ)) (before after : ℕ) : Type 0 where
+pub record FailsEarly (before after : SourceEnd) : Type 0 where
   pub bytes : List ℕ
-  pub taken : Consumes content left bytes
+  pub taken : Consumes before.left after.left bytes
   pub missing : (split bytes).stream ≡ None
-  pub rose : Rose before after
+  pub rose : Rose before.faults after.faults
 
 -- why there is no output
-abbrev pub Refuses : (content left : Option (List ℕ)) → (before after : ℕ) → Status → Type 0
-Refuses content left before after (Script line kind) =
-    HasFault (record { line = line; kind = kind }) content before after
-Refuses content left before after (TooLong turns) = GivesUp content left turns
-Refuses content left before after ReadFault = FailsEarly content left before after
-Refuses content left before after NoMemory = ⊤
-Refuses content left before after _ = ⊥
+abbrev pub Refuses : (before after : SourceEnd) → Status → Type 0
+Refuses before after (Script line kind) = HasFault (record { line = line; kind = kind }) before after
+Refuses before after (TooLong turns) = GivesUp before after turns
+Refuses before after ReadFault = FailsEarly before after
+Refuses before after NoMemory = ⊤
+Refuses before after _ = ⊥
 
 -- ------ the parts
 

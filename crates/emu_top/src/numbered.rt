@@ -30,9 +30,7 @@ fn copy_front(from: &[u8], into: &mut [u8]) -> usize
 }
 
 impl Source for Whole<'_> {
-    ghost left = { λ s. Some s.rest.now };
-
-    ghost faults = { λ s. 0 };
+    ghost end = { λ s. record { left = Some s.rest.now; faults = 0 } };
 
     fn read(&mut self, into: &mut [u8]) -> Result<usize, Failed>
         requires { 0 < length into.old }

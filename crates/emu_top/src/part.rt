@@ -30,13 +30,13 @@ pub struct Front {
 /// Reads until the line `stream` is whole, until all bytes are read that are searched for it, or until the end of input. No
 /// read asks for more than is searched.
 pub fn read_front<S: Source>(alloc: Global, source: &mut S) -> Result<Front, PartError>
-    ensures bytes { IfOk result (λ front. Consumes (S.left source.old) (S.left source.new) front.part) }
+    ensures bytes { IfOk result (λ front. Consumes (S.end source.old).left (S.end source.new).left front.part) }
     ensures fits { IfOk result (λ front. length front.part ≤ most_bytes) }
     ensures reads { IfOk result (λ front. front.reads ≤ length front.part) }
     ensures ahead { IfOk result (λ front. IfSome (script_len (whole_lines front.part)) (λ n. length front.part ≤ n + 65535)) }
-    ensures end { IfOk result (λ front. script_len (whole_lines front.part) ≡ None → (length front.part ≡ most_bytes) ⊎ IsAtEnd (S.left source.new)) }
-    ensures unended { IsErrOf result PartError.Failed → IsUnended (S.left source.old) (S.left source.new) }
-    ensures cause { HasReadCause (S.faults source.old) (S.faults source.new) result }
+    ensures end { IfOk result (λ front. script_len (whole_lines front.part) ≡ None → (length front.part ≡ most_bytes) ⊎ IsAtEnd (S.end source.new).left) }
+    ensures unended { IsErrOf result PartError.Failed → IsUnended (S.end source.old) (S.end source.new) }
+    ensures cause { HasReadCause (S.end source.old).faults (S.end source.new).faults result }
 {
     let mut part = ScriptPart::new(alloc);
     let mut chunk = [0u8; READ];

@@ -1,12 +1,11 @@
 // The output for a session.
 ghost use Rattle.std.specs.Prelude.{◌≡◌, ℕ, ◌+◌, ◌-◌, ◌^◌, ◌<◌, ◌≤◌, List, length, map, IfOk, IfErr, IfSome};
-ghost use Rattle.std.specs.declared.option.Option.{Option};
-ghost use Rattle.std.specs.Io.KnownBytes.{Consumes};
 ghost use Rattle.client_script.specs.Script.{script_len, whole_lines, most_bytes};
 ghost use Rattle.ts_watch.specs.Head.{told_head};
 ghost use Rattle.report_text.specs.Report.{report_of};
+ghost use Rattle.emu_io.specs.Ends.{SourceEnd};
 ghost use Rattle.feed_pull.specs.declared.fault.Reading.TheVariants.{Going};
-ghost use Rattle.emu_top.specs.Session.{Holds, IsFaultIn, IsSerialOutput, Makes, Refuses, Runs, status_of_error, status_of_stop};
+ghost use Rattle.emu_top.specs.Session.{Holds, IsFaultIn, IsSerialOutput, Makes, Refuses, Runs, Takes, status_of_error, status_of_stop};
 
 use crate::Status;
 use crate::part::{Front, PartError, read_front};
@@ -84,11 +83,11 @@ fn session_of(alloc: Global, front: Front) -> Result<Session, Status>
 
 /// Reads the script part of a source: its script, and the stream behind it.
 pub fn read_session<S: Source>(alloc: Global, source: &mut S) -> Result<Session, Status>
-    ensures begins { IfOk result (λ session. (first : List ℕ) × Consumes (S.left source.old) (S.left source.new) first × Holds first session.script session.puller) }
+    ensures begins { IfOk result (λ session. (first : List ℕ) × Takes (S.end source.old) (S.end source.new) first × Holds first session.script session.puller) }
     ensures going { IfOk result (λ session. (session.puller.reading ≡ Going) × (session.puller.given ≡ 0)) }
-    ensures steady { IfOk result (λ session. S.faults source.new ≡ S.faults source.old) }
-    ensures refuses { IfErr result (λ status. Refuses (S.left source.old) (S.left source.new) (S.faults source.old) (S.faults source.new) status) }
-    ensures once { S.faults source.new ≤ S.faults source.old + 1 }
+    ensures steady { IfOk result (λ session. (S.end source.new).faults ≡ (S.end source.old).faults) }
+    ensures refuses { IfErr result (λ status. Refuses (S.end source.old) (S.end source.new) status) }
+    ensures once { (S.end source.new).faults ≤ (S.end source.old).faults + 1 }
 {
     match read_front(alloc, source) {
         Ok(front) => session_of(alloc, front),
@@ -108,12 +107,12 @@ fn run_session<S: Source>(
     requires few { batch ≤ 64 }
     requires going { session.puller.reading ≡ Going }
     requires fresh { session.puller.given ≡ 0 }
-    requires faults { S.faults source.old < 2 ^ 64 - 1 }
-    ensures runs { IfOk result (λ ran. (content : Option (List ℕ)) (first : List ℕ) → Consumes content (S.left source.old) first → Holds first session.script session.puller
-        → Runs batch content (S.left source.new) (S.faults source.old) (S.faults source.new) ran) }
-    ensures refuses { IfErr result (λ status. (content : Option (List ℕ)) (first : List ℕ) → Consumes content (S.left source.old) first → Holds first session.script session.puller
-        → Refuses content (S.left source.new) (S.faults source.old) (S.faults source.new) status) }
-    ensures once { S.faults source.new ≤ S.faults source.old + 1 }
+    requires faults { (S.end source.old).faults < 2 ^ 64 - 1 }
+    ensures runs { IfOk result (λ ran. (begun : SourceEnd) (first : List ℕ) → Takes begun (S.end source.old) first → Holds first session.script session.puller
+        → Runs batch begun (S.end source.new) ran) }
+    ensures refuses { IfErr result (λ status. (begun : SourceEnd) (first : List ℕ) → Takes begun (S.end source.old) first → Holds first session.script session.puller
+        → Refuses begun (S.end source.new) status) }
+    ensures once { (S.end source.new).faults ≤ (S.end source.old).faults + 1 }
 {
     let Session { script, puller } = session;
     match run_steps(alloc, &script, source, puller, batch) {
@@ -126,10 +125,10 @@ fn run_session<S: Source>(
 pub fn ran_of<S: Source>(alloc: Global, source: &mut S, batch: u32) -> Result<Left, Status>
     requires some { 1 ≤ batch }
     requires few { batch ≤ 64 }
-    requires faults { S.faults source.old < 2 ^ 64 - 1 }
-    ensures runs { IfOk result (λ ran. Runs batch (S.left source.old) (S.left source.new) (S.faults source.old) (S.faults source.new) ran) }
-    ensures refuses { IfErr result (λ status. Refuses (S.left source.old) (S.left source.new) (S.faults source.old) (S.faults source.new) status) }
-    ensures once { S.faults source.new ≤ S.faults source.old + 1 }
+    requires faults { (S.end source.old).faults < 2 ^ 64 - 1 }
+    ensures runs { IfOk result (λ ran. Runs batch (S.end source.old) (S.end source.new) ran) }
+    ensures refuses { IfErr result (λ status. Refuses (S.end source.old) (S.end source.new) status) }
+    ensures once { (S.end source.new).faults ≤ (S.end source.old).faults + 1 }
 {
     match read_session(alloc, source) {
         Ok(session) => run_session(alloc, source, session, batch),
@@ -161,10 +160,10 @@ pub fn reported(
 pub fn output_of<S: Source>(alloc: Global, source: &mut S, batch: u32) -> Result<Output, Status>
     requires some { 1 ≤ batch }
     requires few { batch ≤ 64 }
-    requires faults { S.faults source.old < 2 ^ 64 - 1 }
-    ensures makes { IfOk result (λ output. Makes (IsSerialOutput batch) (S.left source.old) (S.left source.new) (S.faults source.old) (S.faults source.new) output.read_fault output.text.items) }
-    ensures refuses { IfErr result (λ status. Refuses (S.left source.old) (S.left source.new) (S.faults source.old) (S.faults source.new) status) }
-    ensures once { S.faults source.new ≤ S.faults source.old + 1 }
+    requires faults { (S.end source.old).faults < 2 ^ 64 - 1 }
+    ensures makes { IfOk result (λ output. Makes (IsSerialOutput batch) (S.end source.old) (S.end source.new) output.read_fault output.text.items) }
+    ensures refuses { IfErr result (λ status. Refuses (S.end source.old) (S.end source.new) status) }
+    ensures once { (S.end source.new).faults ≤ (S.end source.old).faults + 1 }
 {
     match ran_of(alloc, source, batch) {
         Ok(ran) => reported(alloc, &ran.head, &ran.outcomes, &ran.histories),

@@ -1,9 +1,8 @@
 // The output for a session that threads run.
 ghost use Rattle.std.specs.Prelude.{◌≡◌, ℕ, ◌+◌, ◌-◌, ◌^◌, ◌<◌, ◌≤◌, List, IfOk, IfErr};
-ghost use Rattle.std.specs.declared.option.Option.{Option};
-ghost use Rattle.std.specs.Io.KnownBytes.{Consumes};
+ghost use Rattle.emu_io.specs.Ends.{SourceEnd};
 ghost use Rattle.feed_pull.specs.declared.fault.Reading.TheVariants.{Going};
-ghost use Rattle.emu_top.specs.Session.{Holds, IsThreadOutput, Makes, Refuses};
+ghost use Rattle.emu_top.specs.Session.{Holds, IsThreadOutput, Makes, Refuses, Takes};
 
 use crate::Status;
 use crate::session::{Output, Session, read_session, reported, status_of_run};
@@ -28,12 +27,12 @@ fn run_threads<R: Threads + Wait + Sync, S: Source + Send, C: Clock + Sync, G: G
     requires few { batch ≤ 64 }
     requires going { session.puller.reading ≡ Going }
     requires fresh { session.puller.given ≡ 0 }
-    requires faults { S.faults source.old < 2 ^ 64 - 1 }
-    ensures makes { IfOk result (λ output. (content : Option (List ℕ)) (first : List ℕ) → Consumes content (S.left source.old) first → Holds first session.script session.puller
-        → Makes (IsThreadOutput batch (C.may_give clock.now)) content (S.left source.new) (S.faults source.old) (S.faults source.new) output.read_fault output.text.items) }
-    ensures refuses { IfErr result (λ status. (content : Option (List ℕ)) (first : List ℕ) → Consumes content (S.left source.old) first → Holds first session.script session.puller
-        → Refuses content (S.left source.new) (S.faults source.old) (S.faults source.new) status) }
-    ensures once { S.faults source.new ≤ S.faults source.old + 1 }
+    requires faults { (S.end source.old).faults < 2 ^ 64 - 1 }
+    ensures makes { IfOk result (λ output. (begun : SourceEnd) (first : List ℕ) → Takes begun (S.end source.old) first → Holds first session.script session.puller
+        → Makes (IsThreadOutput batch (C.may_give clock.now)) begun (S.end source.new) output.read_fault output.text.items) }
+    ensures refuses { IfErr result (λ status. (begun : SourceEnd) (first : List ℕ) → Takes begun (S.end source.old) first → Holds first session.script session.puller
+        → Refuses begun (S.end source.new) status) }
+    ensures once { (S.end source.new).faults ≤ (S.end source.old).faults + 1 }
 {
     let Session { script, puller } = session;
     let Ok((adapter, feeder, clients)) = Adapter::new(alloc, script.clients()) else {
@@ -68,10 +67,10 @@ pub fn output_of_threads<
 >(rt: &R, alloc: Global, source: &mut S, batch: u32, clock: &C, gate: &G) -> Result<Output, Status>
     requires some { 1 ≤ batch }
     requires few { batch ≤ 64 }
-    requires faults { S.faults source.old < 2 ^ 64 - 1 }
-    ensures makes { IfOk result (λ output. Makes (IsThreadOutput batch (C.may_give clock.now)) (S.left source.old) (S.left source.new) (S.faults source.old) (S.faults source.new) output.read_fault output.text.items) }
-    ensures refuses { IfErr result (λ status. Refuses (S.left source.old) (S.left source.new) (S.faults source.old) (S.faults source.new) status) }
-    ensures once { S.faults source.new ≤ S.faults source.old + 1 }
+    requires faults { (S.end source.old).faults < 2 ^ 64 - 1 }
+    ensures makes { IfOk result (λ output. Makes (IsThreadOutput batch (C.may_give clock.now)) (S.end source.old) (S.end source.new) output.read_fault output.text.items) }
+    ensures refuses { IfErr result (λ status. Refuses (S.end source.old) (S.end source.new) status) }
+    ensures once { (S.end source.new).faults ≤ (S.end source.old).faults + 1 }
 {
     let session = read_session(alloc, source)?;
     run_threads(rt, alloc, source, session, batch, clock, gate)

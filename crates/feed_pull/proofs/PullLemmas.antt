@@ -56,7 +56,7 @@ empty-list [] h = refl
 empty-list (x ∷ xs) h = absurd (omega arith)
 
 -- where nothing is cut and nothing read
-pub Goes-same : (a b : Pulling) → IsRest a.cutting.rest → b.cutting ≡ a.cutting → b.waiting ≡ a.waiting → b.unread ≡ a.unread → b.given ≡ a.given → b.start ≡ a.start → b.taken ≡ a.taken → b.earlier ≡ a.earlier → b.watch ≡ a.watch → Goes a [] b
+pub Goes-same : (a b : Pulling) → IsRest a.cutting.rest → b.cutting ≡ a.cutting → b.waiting ≡ a.waiting → b.unread ≡ a.unread → b.given ≡ a.given → b.start ≡ a.start → b.taken ≡ a.taken → b.found_before_last_read ≡ a.found_before_last_read → b.watch ≡ a.watch → Goes a [] b
 Goes-same a b rest cutting waiting unread given start taken earlier watch = record {
   passed = [];
   found = [];
@@ -71,7 +71,7 @@ Goes-same a b rest cutting waiting unread given start taken earlier watch = reco
 }
 
 -- where a piece is read and nothing cut
-pub Goes-read : (a b : Pulling) → IsRest a.cutting.rest → a.unread ≡ [] → a.cutting.packets ≡ a.given + length a.waiting → b.cutting ≡ a.cutting → b.waiting ≡ a.waiting → length b.unread ≤ 65536 → b.given ≡ a.given → b.start ≡ a.start → b.taken ≡ a.taken + length b.unread → b.earlier ≡ a.given + length a.waiting → b.watch ≡ a.watch → Goes a b.unread b
+pub Goes-read : (a b : Pulling) → IsRest a.cutting.rest → a.unread ≡ [] → a.cutting.packets ≡ a.given + length a.waiting → b.cutting ≡ a.cutting → b.waiting ≡ a.waiting → length b.unread ≤ 65536 → b.given ≡ a.given → b.start ≡ a.start → b.taken ≡ a.taken + length b.unread → b.found_before_last_read ≡ a.given + length a.waiting → b.watch ≡ a.watch → Goes a b.unread b
 Goes-read a b rest none found cutting waiting fits given start taken earlier watch =
     let e : a.cutting.rest ++ (a.unread ++ []) ≡ a.cutting.rest = rw none (append-nil a.cutting.rest) in
     let k : length (cut (a.cutting.rest ++ (a.unread ++ []))).packets ≡ 0 = rw (e, cut-rest a.cutting.rest rest) refl in
@@ -90,7 +90,7 @@ Goes-read a b rest none found cutting waiting fits given start taken earlier wat
 
 -- what is left after bytes from the front were cut
 abbrev pub cut_to : Pulling → Cutting → List (List ℕ) → List ℕ → Pulling
-cut_to a cutting waiting unread = record { cutting = cutting; waiting = waiting; unread = unread; given = a.given; earlier = a.earlier; start = a.start; taken = a.taken; reads = a.reads; reading = a.reading; watch = a.watch }
+cut_to a cutting waiting unread = record { cutting = cutting; waiting = waiting; unread = unread; given = a.given; found_before_last_read = a.found_before_last_read; start = a.start; taken = a.taken; reads = a.reads; reading = a.reading; watch = a.watch }
 
 pub Goes-cut : (a : Pulling) (k : Cutting) (w : List (List ℕ)) (u bytes : List ℕ) (n : ℕ) → bytes ≡ a.unread → Cuts a.cutting (take n bytes) (drop (length a.waiting) w) k → w ≡ a.waiting ++ drop (length a.waiting) w → u ≡ drop n a.unread → Goes a [] (cut_to a k w u)
 Goes-cut a k w u bytes n same cuts grown rest = record {
@@ -113,7 +113,7 @@ IsPulling-cut a k w u bytes n i same cuts grown rest within taken fits =
       few = fits;
       rest = Cuts-is_rest a.cutting k (take n bytes) (drop (length a.waiting) w) cuts;
       found = omega (arith, cuts.counted, i.found, length-grown a.waiting w grown);
-      earlier = omega (arith, i.earlier, length-grown a.waiting w grown);
+      found_before_last_read = omega (arith, i.found_before_last_read, length-grown a.waiting w grown);
       watched = i.watched;
       bytes = omega (arith, i.bytes, taken);
       piece = omega (arith, i.piece);
@@ -130,7 +130,7 @@ found-then a b m n g =
     let e : a.unread ++ (m ++ n) ≡ g.passed ++ (b.unread ++ n) = sym (append_assoc a.unread m n) ∙ ap (λ (l : List ℕ). l ++ n) (sym g.bytes) ∙ append_assoc g.passed b.unread n in
     rw (e, packets-then a.cutting b.cutting g.passed (b.unread ++ n) g.found g.cuts, g.cuts.counted) (omega (arith, length-append g.found (cut (b.cutting.rest ++ (b.unread ++ n))).packets))
 
-Last-then : (a b c : Pulling) (m n : List ℕ) → Goes a m b → ((n ≡ []) × (c.earlier ≡ b.earlier)) ⊎ Reads b n c.earlier → ((m ≡ []) × (b.earlier ≡ a.earlier)) ⊎ Reads a m b.earlier → ((m ++ n ≡ []) × (c.earlier ≡ a.earlier)) ⊎ Reads a (m ++ n) c.earlier
+Last-then : (a b c : Pulling) (m n : List ℕ) → Goes a m b → ((n ≡ []) × (c.found_before_last_read ≡ b.found_before_last_read)) ⊎ Reads b n c.found_before_last_read → ((m ≡ []) × (b.found_before_last_read ≡ a.found_before_last_read)) ⊎ Reads a m b.found_before_last_read → ((m ++ n ≡ []) × (c.found_before_last_read ≡ a.found_before_last_read)) ⊎ Reads a (m ++ n) c.found_before_last_read
 Last-then a b c m n g (inr r) first = inr (record {
   front = m ++ r.front;
   latest = r.latest;
@@ -257,7 +257,7 @@ Pulls-new ahead p w u g t k watch = record {
   stream = u ∙ sym (append-nil ahead);
   last = refl;
   piece = omega arith;
-  earlier = λ h. absurd (omega arith);
+  found_before_last_read = λ h. absurd (omega arith);
 }
 
 Pulls-stream : (ahead taken more : List ℕ) (given : List (List ℕ)) (a b : Pulling) (p : Pulls ahead taken given a) (g : Goes a more b) → (p.passed ++ g.passed) ++ b.unread ≡ ahead ++ (taken ++ more)
@@ -275,7 +275,7 @@ Pulls-found ahead taken more given a p =
     let f : (cut (p.passed ++ (a.unread ++ more))).packets ≡ (given ++ a.waiting) ++ (cut (a.cutting.rest ++ (a.unread ++ more))).packets = packets-then fresh a.cutting p.passed (a.unread ++ more) (given ++ a.waiting) p.cuts in
     rw (e, f) (omega (arith, p.cuts.counted, length-append (given ++ a.waiting) (cut (a.cutting.rest ++ (a.unread ++ more))).packets))
 
-Pulls-goes-by : (ahead taken more : List ℕ) (given : List (List ℕ)) (a b : Pulling) → Pulls ahead taken given a → Goes a more b → ((more ≡ []) × (b.earlier ≡ a.earlier)) ⊎ Reads a more b.earlier → Pulls ahead (taken ++ more) given b
+Pulls-goes-by : (ahead taken more : List ℕ) (given : List (List ℕ)) (a b : Pulling) → Pulls ahead taken given a → Goes a more b → ((more ≡ []) × (b.found_before_last_read ≡ a.found_before_last_read)) ⊎ Reads a more b.found_before_last_read → Pulls ahead (taken ++ more) given b
 Pulls-goes-by ahead taken more given a b p g (inl h) = record {
   passed = p.passed ++ g.passed;
   before = p.before;
@@ -287,7 +287,7 @@ Pulls-goes-by ahead taken more given a b p g (inl h) = record {
   stream = Pulls-stream ahead taken more given a b p g;
   last = ap (λ (l : List ℕ). taken ++ l) h.0 ∙ append-nil taken ∙ p.last;
   piece = p.piece;
-  earlier = λ long. h.1 ∙ p.earlier (rw (h.0, append-nil taken) at long);
+  found_before_last_read = λ long. h.1 ∙ p.found_before_last_read (rw (h.0, append-nil taken) at long);
 }
 Pulls-goes-by ahead taken more given a b p g (inr r) = record {
   passed = p.passed ++ g.passed;
@@ -300,7 +300,7 @@ Pulls-goes-by ahead taken more given a b p g (inr r) = record {
   stream = Pulls-stream ahead taken more given a b p g;
   last = ap (λ (l : List ℕ). taken ++ l) r.whole ∙ sym (append_assoc taken r.front r.latest);
   piece = r.piece;
-  earlier = λ _. r.count ∙ Pulls-found ahead taken r.front given a p;
+  found_before_last_read = λ _. r.count ∙ Pulls-found ahead taken r.front given a p;
 }
 
 pub Pulls-goes : (ahead taken more : List ℕ) (given : List (List ℕ)) (a b : Pulling) → Pulls ahead taken given a → Goes a more b → Pulls ahead (taken ++ more) given b
@@ -320,7 +320,7 @@ Pulls-given ahead taken given packets a b p h =
       stream = ap (λ (l : List ℕ). p.passed ++ l) h.unread ∙ p.stream;
       last = p.last;
       piece = p.piece;
-      earlier = λ long. h.earlier ∙ p.earlier long;
+      found_before_last_read = λ long. h.found_before_last_read ∙ p.found_before_last_read long;
     }
 
 pub Carries-by : (a b c : Pulling) (x y : SourceEnd) (packets : List (List ℕ)) → Gathers x y a b → HasGiven packets b c → Carries x y a packets c
@@ -360,7 +360,7 @@ front-of xs ys earlier later e h =
     let t : take (length earlier) xs ≡ earlier = sym (take-append-le (length earlier) xs ys h) ∙ ap (take (length earlier)) e ∙ take-append_seam earlier later in
     sym (take-append-drop (length earlier) xs) ∙ ap (λ (l : List ℕ). l ++ drop (length earlier) xs) t
 
-pub Pulls-near : (ahead taken : List ℕ) (given : List (List ℕ)) (p : Pulling) → Pulls ahead taken given p → p.earlier < p.given → IsNear ahead taken given
+pub Pulls-near : (ahead taken : List ℕ) (given : List (List ℕ)) (p : Pulling) → Pulls ahead taken given p → p.found_before_last_read < p.given → IsNear ahead taken given
 Pulls-near ahead taken given p h lt earlier later e long =
     let s : h.before ++ h.latest ≡ earlier ++ later = sym h.last ∙ e in
     let n : length h.before + length h.latest ≡ length earlier + length later = sym (length-append h.before h.latest) ∙ ap length s ∙ length-append earlier later in
@@ -368,12 +368,12 @@ Pulls-near ahead taken given p h lt earlier later e long =
     let w : ahead ++ h.before ≡ (ahead ++ earlier) ++ drop (length earlier) h.before = ap (λ (l : List ℕ). ahead ++ l) f ∙ sym (append_assoc ahead earlier (drop (length earlier) h.before)) in
     let k : length (cut (ahead ++ h.before)).packets ≡ length (cut ((ahead ++ earlier) ++ drop (length earlier) h.before)).packets = ap (λ (l : List ℕ). length (cut l).packets) w in
     let t : 65535 < length taken = omega (arith, ap length e, length-append earlier later) in
-    omega (arith, k, packets-fewer (ahead ++ earlier) (drop (length earlier) h.before), h.earlier t, h.count)
+    omega (arith, k, packets-fewer (ahead ++ earlier) (drop (length earlier) h.before), h.found_before_last_read t, h.count)
 
 pub Pulls-tally : (p : Pulling) (tally : Tally) → ((bytes : List ℕ) (found : List (List ℕ)) → Cuts fresh bytes found p.cutting → IsTally (cut bytes) tally) → IsDone p → (ahead taken : List ℕ) (given : List (List ℕ)) → Pulls ahead taken given p → IsTally (cut (ahead ++ taken)) tally
 Pulls-tally p tally h d ahead taken given k = h (ahead ++ taken) given (Pulls-done ahead taken given p k d)
 
-pub near-from : {T E : Type 0} (r : Result (Option T) E) (size : T → ℕ) (most : ℕ) (p : Pulling) → IfOk r (λ answer. IfSome answer (λ batch. size batch ≡ most → p.earlier < p.given)) → IfOk r (λ answer. IfSome answer (λ batch. size batch ≡ most → (ahead taken : List ℕ) (given : List (List ℕ)) → Pulls ahead taken given p → IsNear ahead taken given))
+pub near-from : {T E : Type 0} (r : Result (Option T) E) (size : T → ℕ) (most : ℕ) (p : Pulling) → IfOk r (λ answer. IfSome answer (λ batch. size batch ≡ most → p.found_before_last_read < p.given)) → IfOk r (λ answer. IfSome answer (λ batch. size batch ≡ most → (ahead taken : List ℕ) (given : List (List ℕ)) → Pulls ahead taken given p → IsNear ahead taken given))
 near-from (Ok None) size most p h = tt
 near-from (Ok (Some batch)) size most p h = λ e ahead taken given k. Pulls-near ahead taken given p k (h e)
 near-from (Err e) size most p h = tt

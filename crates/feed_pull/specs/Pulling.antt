@@ -20,7 +20,7 @@ pub record Pulling : Type 0 where
   -- how many packets were given
   pub given : ℕ
   -- how many had been found when the last bytes were read
-  pub earlier : ℕ
+  pub found_before_last_read : ℕ
   -- how many reads were made before the puller was
   pub start : ℕ
   -- how many bytes its reads took
@@ -38,7 +38,7 @@ pub record IsPulling (p : Pulling) : Type 0 where
   pub few : length p.waiting ≤ 64
   pub rest : IsRest p.cutting.rest
   pub found : p.cutting.packets ≡ p.given + length p.waiting
-  pub earlier : p.earlier ≤ p.given + length p.waiting
+  pub found_before_last_read : p.found_before_last_read ≤ p.given + length p.waiting
   pub watched : p.watch.watched ≡ p.given
   pub bytes : bytes_taken p.cutting + length p.unread ≤ 65536 + p.taken
   pub piece : length p.unread ≤ 65536
@@ -64,13 +64,23 @@ pub record Pulls (ahead taken : List ℕ) (given : List (List ℕ)) (p : Pulling
   pub piece : length latest ≤ 65536
   -- once more bytes were taken than one read may leave behind a packet, it knows how many packets there are in front of
   -- the last read
-  pub earlier : 65535 < length taken → p.earlier ≡ length (cut (ahead ++ before)).packets
+  pub found_before_last_read : 65535 < length taken → p.found_before_last_read ≡ length (cut (ahead ++ before)).packets
 
 -- reading has stopped, and nothing is left to be given
 pub record IsDone (p : Pulling) : Type 0 where
   pub stopped : p.reading ≢ Going
   pub waiting : p.waiting ≡ []
   pub unread : p.unread ≡ []
+
+-- whatever stream the puller stands behind, all its packets were given
+abbrev pub HasGivenAll : Pulling → Type 0
+HasGivenAll p = (ahead taken : List ℕ) (given : List (List ℕ)) → Pulls ahead taken given p
+    → (cut (ahead ++ taken)).packets ≡ given
+
+-- .. and they were watched
+abbrev pub HasWatchedAll : Pulling → Type 0
+HasWatchedAll p = (ahead taken : List ℕ) (given : List (List ℕ)) → Pulls ahead taken given p
+    → Watched (cut (ahead ++ taken)).packets p.watch
 
 -- a read failed
 abbrev pub has_failed : Reading → Bool
@@ -92,8 +102,16 @@ given_by (Ok None) packets = []
 given_by (Ok (Some batch)) packets = packets batch
 given_by (Err e) packets = []
 
+-- before the last read fewer than so many packets were in hand
+abbrev pub HadFewer : (most : ℕ) → Pulling → Type 0
+HadFewer most p = p.found_before_last_read < p.given + most
+
 -- At most 65,535 of the bytes taken stand behind the last of these packets: a stream that lacks more of them at its end
 -- has fewer packets.
 abbrev pub IsNear : List ℕ → List ℕ → List (List ℕ) → Type 0
 IsNear ahead taken given = (earlier later : List ℕ) → taken ≡ earlier ++ later → 65535 < length later
     → length (cut (ahead ++ earlier)).packets < length given
+
+-- whatever stream the puller stands behind, at most 65,535 of the bytes taken stand behind the packets given
+abbrev pub IsNearEnd : Pulling → Type 0
+IsNearEnd p = (ahead taken : List ℕ) (given : List (List ℕ)) → Pulls ahead taken given p → IsNear ahead taken given

@@ -33,7 +33,7 @@ pub record Goes (old : Pulling) (more : List ℕ) (new : Pulling) : Type 0 where
   pub start : new.start ≡ old.start
   pub taken : new.taken ≡ old.taken + length more
   pub watch : new.watch ≡ old.watch
-  pub last : ((more ≡ []) × (new.earlier ≡ old.earlier)) ⊎ Reads old more new.earlier
+  pub last : ((more ≡ []) × (new.found_before_last_read ≡ old.found_before_last_read)) ⊎ Reads old more new.found_before_last_read
 
 -- no read was made
 pub record ReadsNothing (old new : Pulling) : Type 0 where
@@ -78,7 +78,7 @@ pub record HasGiven (packets : List (List ℕ)) (old new : Pulling) : Type 0 whe
   pub watch : (before : List (List ℕ)) → Watched before old.watch → Watched (before ++ packets) new.watch
   pub cutting : new.cutting ≡ old.cutting
   pub unread : new.unread ≡ old.unread
-  pub earlier : new.earlier ≡ old.earlier
+  pub found_before_last_read : new.found_before_last_read ≡ old.found_before_last_read
   pub start : new.start ≡ old.start
   pub taken : new.taken ≡ old.taken
   pub reads : new.reads ≡ old.reads

@@ -83,6 +83,7 @@ impl Hand {
         requires { count ≤ length self.old }
         ensures { self.new ≡ drop count self.old }
     {
+        // So that it is known that there are at most 64.
         let _ = self.found.len();
         self.from += count;
     }
@@ -101,6 +102,7 @@ impl Hand {
         drop_front(&mut self.found, self.from);
         self.from = 0;
         let count = cutter.push(bytes, &mut self.found);
+        // So that it is known that there are at most 64.
         let _ = self.found.len();
         count
     }

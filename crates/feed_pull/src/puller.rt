@@ -5,7 +5,7 @@ ghost use Rattle.ts_packet.specs.Cut.{cut};
 ghost use Rattle.ts_packet.specs.Cutting.{IsTally};
 ghost use Rattle.ts_watch.specs.Watching.{Watched};
 ghost use Rattle.ts_watch.specs.Head.{told_head, head_of};
-ghost use Rattle.feed_pull.specs.Pulling.{Pulling, IsPulling, Pulls, IsDone, IsNear, fault_of, has_failed, given_by};
+ghost use Rattle.feed_pull.specs.Pulling.{Pulling, IsPulling, Pulls, IsDone, HasGivenAll, HasWatchedAll, HadFewer, IsNearEnd, fault_of, has_failed, given_by};
 ghost use Rattle.feed_pull.specs.Steps.{Goes, Gathers, Follows, work, HasGiven, ReadsNothing, Carries};
 
 use crate::fault::{PullFault, Reading};
@@ -29,13 +29,17 @@ pub struct Puller {
     cutter: Cutter,
     hand: Hand,
     piece: Piece,
-    // How many packets were given, and how many had been found when the last bytes were read.
+    // How many packets were given.
     given: u64,
-    earlier: u64,
-    // How many reads were made before, how many bytes were taken, and how many reads were made in all.
-    start: u64,
+    // How many packets had been found when the last bytes were read.
+    found_before_last_read: u64,
+    // How many reads were made before the puller was.
+    reads_before: u64,
+    // How many bytes its reads took.
     taken: u64,
+    // How many reads were made in all.
     reads: u64,
+    // How reading goes.
     reading: Reading,
     // What was counted of the packets that were given.
     watch: Watch,
@@ -48,9 +52,31 @@ impl Model for Puller {
 
     ghost Value = { Pulling };
 
-    ghost view = { λ p. record { cutting = p.cutter; waiting = p.hand; unread = p.piece; given = p.given; earlier = p.earlier; start = p.start; taken = p.taken; reads = p.reads; reading = p.reading; watch = p.watch } };
+    ghost view = { λ p. record {
+      cutting = p.cutter;
+      waiting = p.hand;
+      unread = p.piece;
+      given = p.given;
+      found_before_last_read = p.found_before_last_read;
+      start = p.reads_before;
+      taken = p.taken;
+      reads = p.reads;
+      reading = p.reading;
+      watch = p.watch;
+    } };
 
-    ghost invariant = { λ p. IsPulling (record { cutting = p.cutter; waiting = p.hand; unread = p.piece; given = p.given; earlier = p.earlier; start = p.start; taken = p.taken; reads = p.reads; reading = p.reading; watch = p.watch }) };
+    ghost invariant = { λ p. IsPulling (record {
+      cutting = p.cutter;
+      waiting = p.hand;
+      unread = p.piece;
+      given = p.given;
+      found_before_last_read = p.found_before_last_read;
+      start = p.reads_before;
+      taken = p.taken;
+      reads = p.reads;
+      reading = p.reading;
+      watch = p.watch;
+    }) };
 }
 
 // Counts these packets.
@@ -73,7 +99,7 @@ impl Puller {
         ensures stream { IfOk result (λ puller. Pulls ahead.items [] [] puller) }
         ensures numbers { IfOk result (λ puller. (puller.start ≡ turns) × (puller.reads ≡ turns) × (puller.taken ≡ 0) × (puller.given ≡ 0)) }
         ensures going { IfOk result (λ puller. puller.reading ≡ Reading.Going) }
-        ensures late { IfOk result (λ puller. puller.earlier ≤ puller.given) }
+        ensures late { IfOk result (λ puller. puller.found_before_last_read ≤ puller.given) }
     {
         let piece = Piece::of(alloc, &ahead)?;
         Ok(Puller {
@@ -82,8 +108,8 @@ impl Puller {
             hand: Hand::new(),
             piece,
             given: 0,
-            earlier: 0,
-            start: turns,
+            found_before_last_read: 0,
+            reads_before: turns,
             taken: 0,
             reads: turns,
             reading: Reading::Going,
@@ -99,7 +125,7 @@ impl Puller {
         ensures gathers { Gathers (S.end source.old) (S.end source.new) self.old self.new }
         ensures follows { Follows self.old.reading self.new.reading (S.end source.old) (S.end source.new) }
         ensures less { work self.new < work self.old }
-        ensures late { self.new.earlier ≤ max self.old.earlier (self.old.given + length self.old.waiting) }
+        ensures late { self.new.found_before_last_read ≤ max self.old.found_before_last_read (self.old.given + length self.old.waiting) }
     {
         if self.reads == MOST_READS {
             self.reading = Reading::TooMany;
@@ -110,7 +136,7 @@ impl Puller {
             Err(_) => self.reading = Reading::Failed,
             Ok(0) => self.reading = Reading::Ended,
             Ok(count) => {
-                self.earlier = self.given + self.hand.len() as u64;
+                self.found_before_last_read = self.given + self.hand.len() as u64;
                 self.taken += count as u64;
             }
         }
@@ -123,7 +149,7 @@ impl Puller {
         ensures goes { Goes self.old [] self.new }
         ensures reading { self.new.reading ≡ self.old.reading }
         ensures reads { self.new.reads ≡ self.old.reads }
-        ensures earlier { self.new.earlier ≡ self.old.earlier }
+        ensures earlier { self.new.found_before_last_read ≡ self.old.found_before_last_read }
         ensures less { length self.new.unread < length self.old.unread }
     {
         let count = self.hand.fill(&mut self.cutter, self.piece.rest());
@@ -161,7 +187,7 @@ impl Puller {
         ensures gathers { Gathers (S.end source.old) (S.end source.new) self.old self.new }
         ensures follows { Follows self.old.reading self.new.reading (S.end source.old) (S.end source.new) }
         ensures less { work self.new < work self.old }
-        ensures late { self.new.earlier ≤ max self.old.earlier (self.old.given + length self.old.waiting) }
+        ensures late { self.new.found_before_last_read ≤ max self.old.found_before_last_read (self.old.given + length self.old.waiting) }
         ensures stopped { self.old.reading ≢ Reading.Going → ReadsNothing self.old self.new }
     {
         if self.is_cut() {
@@ -178,10 +204,11 @@ impl Puller {
         ensures gathers { Gathers (S.end source.old) (S.end source.new) self.old self.new }
         ensures follows { Follows self.old.reading self.new.reading (S.end source.old) (S.end source.new) }
         ensures fewer { length self.new.waiting < most → (self.new.unread ≡ []) × (self.new.reading ≢ Reading.Going) }
-        ensures late { self.old.earlier < self.old.given + most → self.new.earlier < self.new.given + most }
+        ensures late { HadFewer most self.old → HadFewer most self.new }
         ensures full { most ≤ length self.old.waiting → (S.end source.new ≡ S.end source.old) × (self.new ≡ self.old) }
         ensures stopped { self.old.reading ≢ Reading.Going → ReadsNothing self.old self.new }
     {
+        // So that the loop knows what is true of each puller.
         let _ = &self.hand;
         'gathering: while self.waiting() < most && self.has_more() {
             self.step(source);
@@ -196,8 +223,8 @@ impl Puller {
         ensures count { IfOk result (λ answer. IfSome answer (λ batch. length batch.value.packets ≡ min most (length self.old.waiting))) }
         ensures some { IfOk result (λ answer. IfSome answer (λ batch. 1 ≤ length batch.value.packets)) }
         ensures none { IfOk result (λ answer. IfNone answer (self.old.waiting ≡ [])) }
-        ensures late { self.old.earlier < self.old.given + most → IfOk result (λ _. self.new.earlier ≤ self.new.given) }
-        ensures whole { self.old.earlier < self.old.given + most → IfOk result (λ answer. IfSome answer (λ batch. length batch.value.packets ≡ most → self.new.earlier < self.new.given)) }
+        ensures late { HadFewer most self.old → IfOk result (λ _. self.new.found_before_last_read ≤ self.new.given) }
+        ensures whole { HadFewer most self.old → IfOk result (λ answer. IfSome answer (λ batch. length batch.value.packets ≡ most → self.new.found_before_last_read < self.new.given)) }
         ensures sound { IsPulling self.new }
     {
         let count = most.min(self.hand.len());
@@ -237,9 +264,9 @@ impl Puller {
         ensures fewer { IfOk result (λ answer. IfSome answer (λ batch. length batch.value.packets < most → IsDone self.new)) }
         ensures none { IfOk result (λ answer. IfNone answer (IsDone self.new)) }
         // At None all packets of the stream were given.
-        ensures all { IfOk result (λ answer. IfNone answer ((ahead taken : List ℕ) (given : List (List ℕ)) → Pulls ahead taken given self.new → (cut (ahead ++ taken)).packets ≡ given)) }
+        ensures all { IfOk result (λ answer. IfNone answer (HasGivenAll self.new)) }
         // .. and the watch was shown just these.
-        ensures watched { IfOk result (λ answer. IfNone answer ((ahead taken : List ℕ) (given : List (List ℕ)) → Pulls ahead taken given self.new → Watched (cut (ahead ++ taken)).packets self.new.watch)) }
+        ensures watched { IfOk result (λ answer. IfNone answer (HasWatchedAll self.new)) }
         // Once reading has stopped it stays so. It ends where the source has nothing left, and fails where its count rose.
         ensures follows { Follows self.old.reading self.new.reading (S.end source.old) (S.end source.new) }
         ensures too_many { self.new.reading ≡ Reading.TooMany → 4294967296 ≤ self.new.start + self.new.taken }
@@ -247,14 +274,14 @@ impl Puller {
         // Where enough packets wait, or reading has stopped, nothing is read.
         ensures full { most ≤ length self.old.waiting → (S.end source.new ≡ S.end source.old) × ReadsNothing self.old self.new }
         ensures stopped { self.old.reading ≢ Reading.Going → ReadsNothing self.old self.new }
-        ensures bytes { self.new.taken ≤ 281474976710656 }
+        ensures bytes { self.new.taken ≤ 2 ^ 48 }
         ensures numbers { 188 * self.new.given ≤ 65536 + self.new.taken }
         ensures packets { (ahead taken : List ℕ) (given : List (List ℕ)) → Pulls ahead taken given self.new → 188 * length given ≤ length ahead + length taken }
         // Before the last read fewer than `most` packets were in hand, unless a pull that asked for more was refused memory
         // since; so at most 65,535 of the bytes taken stand behind a batch of `most`. An answer begins this anew.
-        ensures late { self.old.earlier < self.old.given + most → IfOk result (λ _. self.new.earlier ≤ self.new.given) }
-        ensures asked { self.old.earlier < self.old.given + most → self.new.earlier < self.new.given + most }
-        ensures near { self.old.earlier < self.old.given + most → IfOk result (λ answer. IfSome answer (λ batch. length batch.value.packets ≡ most → (ahead taken : List ℕ) (given : List (List ℕ)) → Pulls ahead taken given self.new → IsNear ahead taken given)) }
+        ensures late { HadFewer most self.old → IfOk result (λ _. self.new.found_before_last_read ≤ self.new.given) }
+        ensures asked { HadFewer most self.old → HadFewer most self.new }
+        ensures near { HadFewer most self.old → IfOk result (λ answer. IfSome answer (λ batch. length batch.value.packets ≡ most → IsNearEnd self.new)) }
     {
         self.gather(source, most);
         self.give(most)

@@ -1,7 +1,7 @@
 -- The items that a filter selects from packets.
 -- Source: the Linux media API, chapter Digital TV demux (dmx_sct_filter_params, dmx_pes_filter_params, dmx_output);
 -- ISO/IEC 13818-1, 2.4.3 for packets and 2.4.4 for sections.
-use Rattle.std.specs.Prelude.{ℕ, Bool, not, ◌&&◌, ◌||◌, nat_eq, List, [], take, filter, filter_map, slice_index, Option, Some, None, if◌then◌else◌}
+use Rattle.std.specs.Prelude.{ℕ, Bool, not, ◌&&◌, ◌||◌, nat_eq, List, [], take, filter, filter_map, slice_index, Option, Some, if◌then◌else◌}
 use Rattle.ts_packet.specs.Fields.{bit, payload_of}
 use Rattle.section_parse.specs.Sections.{sections}
 use Rattle.section_crc.specs.Crc.{crc}

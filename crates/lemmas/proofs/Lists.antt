@@ -1,5 +1,15 @@
--- Members of lists to which one member, or more, are added.
-use Rattle.std.proofs.Common.{◌≡◌, ◌⊎◌, ℕ, zero, suc, List, [], ◌∷◌, ◌++◌, length, slice_get, Some, inl, inr, ⊎_elim, refl, ap, arith, length-append}
+-- Members of lists, and of lists to which one member, or more, are added.
+use Rattle.std.proofs.Common.{◌≡◌, ◌⊎◌, ℕ, zero, suc, ◌<◌, List, [], ◌∷◌, ◌++◌, length, slice_get, Some, inl, inr, ⊎_elim, refl, ap, sym, ◌∙◌, arith, length-append}
+
+-- what stands at a place
+pub at_place : {A : Type 0} (l : List A) (i : ℕ) → i < length l → (a : A) × (slice_get l i ≡ Some a)
+at_place [] i h = absurd (omega arith)
+at_place (x ∷ xs) zero h = (x, refl)
+at_place (x ∷ xs) (suc i) h = at_place xs i (omega arith)
+
+-- two members at one place are one
+pub one_value : {A : Type 0} (l : List A) (i : ℕ) (a b : A) → slice_get l i ≡ Some a → slice_get l i ≡ Some b → a ≡ b
+one_value l i a b d e = let same : Some a ≡ Some b = sym d ∙ e in cc same
 
 -- the member that was added last
 pub at_last : {A : Type 0} (l : List A) (a : A) → slice_get (l ++ a ∷ []) (length l) ≡ Some a

@@ -1,5 +1,5 @@
 -- A section filter that is offered the packets of its PID alone selects as if it were offered all.
-use Rattle.std.proofs.Common.{◌≡◌, ℕ, ◌&&◌, ◌||◌, Bool, true, false, not, nat_eq, List, [], ◌∷◌, ◌++◌, Option, Some, None, refl, sym, ap, subst, ◌∙◌}
+use Rattle.std.proofs.Common.{◌≡◌, ℕ, ◌||◌, Bool, true, false, not, nat_eq, List, [], ◌∷◌, ◌++◌, Option, Some, None, refl, sym, ap, subst, ◌∙◌}
 use Rattle.std.specs.Prelude.{if◌then◌else◌, fold}
 use Rattle.std.specs.List.{filter}
 use Rattle.std.proofs.lemmas.List.Elements.{filter-append}
@@ -9,7 +9,7 @@ use Rattle.pid_set.specs.declared.set.TheConstants.{ALL_PACKETS}
 use Rattle.section_parse.specs.Inside.Keeping.{Assembly, cleared, after_packet, all_given, kept, repeats_last, joins_last, taken, opened, longer}
 use Rattle.section_parse.specs.Segments.{pointed}
 use Rattle.section_parse.specs.Sections.{sections}
-use Rattle.item_select.specs.Items.{Choice, Nothing, Sections, Packets, items_of}
+use Rattle.item_select.specs.Items.{Choice, items_of}
 use Rattle.item_select.specs.Selecting.{Selecting, Selects, Follows}
 use Rattle.dmx_calls.specs.declared.params.Params.{Params as SetParams}
 use Rattle.dmx_calls.specs.declared.params.Params.TheVariants.{Empty as EmptySet, Section as SectionSet, Pes as PesSet}

@@ -1,6 +1,5 @@
 -- What a history offers to its selector, and the items that it selects.
-use Rattle.std.proofs.Common.{ℕ, ◌≡◌, refl, sym, ◌∙◌, ap, Bool, true, false, List, [], ◌∷◌, ◌++◌, Some, None, map}
-use Rattle.std.specs.Prelude.{if◌then◌else◌}
+use Rattle.std.proofs.Common.{ℕ, ◌≡◌, refl, sym, ◌∙◌, ap, true, List, [], ◌∷◌, ◌++◌, None}
 use Rattle.std.specs.List.{filter, filter_map}
 use Rattle.std.proofs.lemmas.List.{append-nil}
 use Rattle.std.proofs.lemmas.List.Elements.{filter_map-append}
@@ -10,7 +9,7 @@ use Rattle.dmx_calls.specs.declared.params.SectionParams.{SectionParams}
 use Rattle.dmx_calls.specs.declared.params.PesParams.{PesParams}
 use Rattle.dmx_calls.specs.History.{Event, History}
 use Rattle.dmx_calls.specs.Tenure.{Params, Empty, Section, Pes, params, pids}
-use Rattle.dmx_calls.specs.Items.{packets_in, packets_of, selects, section_items, is_named, item_of, picked, pes_items, selected, offered, items}
+use Rattle.dmx_calls.specs.Items.{packets_in, packets_of, selects, section_items, is_named, item_of, pes_items, selected, offered, items}
 use Rattle.dmx_calls.specs.declared.params.Input.TheVariants.{Frontend}
 use Rattle.item_select.specs.declared.selector.Give.{Give}
 use Rattle.item_select.specs.declared.selector.Give.TheVariants.{Payload, Whole}

@@ -73,7 +73,8 @@ module _ (e : Entry) (h : History) (t s : Since) (stays : Stays e h) (held : ten
 
 -- ------ a pass
 
--- What a selector takes in of packets, where they are offered, and where a one-shot filter has had its section: it stands for them, has none ready, and has the same filter.
+-- What a selector takes in of packets, where they are offered, and where a one-shot filter has had its section: it stands for
+-- them, has none ready, and has the same filter.
 take_in : (k : Selecting) (before given packets : List (List ℕ)) (offering had : Bool) → k.ready ≡ [] → (had ≡ true → k.is_spent ≡ true) → Selects before given k
     → Selects (before ++ (if offering then packets else [])) (given ++ (if offering && not had then items_found k packets else [])) (if offering && not had then kept_after k packets else k)
     × ((if offering && not had then kept_after k packets else k).ready ≡ [])

@@ -78,8 +78,8 @@ pub fn emulated<
     clock: &C,
     gate: &G,
 ) -> Result<Status, NoMemory>
-    requires source_can_count { S.faults source.old < 2 ^ 64 - 1 }
-    requires sink_can_count { K.faults sink.old < 2 ^ 64 - 1 }
+    requires source_can_count { (S.end source.old).faults < 2 ^ 64 - 1 }
+    requires sink_can_count { (K.end sink.old).faults < 2 ^ 64 - 1 }
 {
     let words = words_of(rt.alloc(), words)?;
     Ok(emulate(rt, rt.alloc(), &words, source, sink, clock, gate))

@@ -24,7 +24,7 @@ ghost use Rattle.dmx_calls.specs.declared.limits.TheConstants.{DEMUX_NODES};
 ghost use Rattle.dmx_calls.specs.Histories.{histories_of};
 ghost use Rattle.trace_merge.specs.Merging.{AreOnNodes, AreByPlace, IsDealt, AreDealt, AreSorted};
 
-use dmx_calls::limits::DEMUX_NODES;
+use dmx_calls::limits::NODES;
 use dmx_calls::{Entry, Fed, Histories};
 use std::alloc::{AllocError as NoMemory, Global};
 
@@ -33,8 +33,8 @@ fn empty_lists(alloc: Global) -> Result<Vec<Vec<Entry>>, NoMemory>
     ensures long { IfOk result (λ nodes. length nodes.items ≡ DEMUX_NODES + 1) }
     ensures empty { IfOk result (λ nodes. (node : ℕ) → get_or (map (λ calls. calls.items) nodes.items) node [] ≡ []) }
 {
-    let mut nodes: Vec<Vec<Entry>> = Vec::with_capacity(alloc, 33)?;
-    'nodes: for _ in 0..DEMUX_NODES + 1 {
+    let mut nodes: Vec<Vec<Entry>> = Vec::with_capacity(alloc, NODES as usize)?;
+    'nodes: for _ in 0..NODES {
         nodes.push(Vec::new(alloc))?;
     }
     Ok(nodes)

@@ -22,7 +22,7 @@ use Rattle.workers.proofs.Members.{has_at}
 use Rattle.workers.proofs.Feeders.{behind_of, acts_of, fed_is}
 use Rattle.workers.proofs.Owning.{Moment}
 use Rattle.workers.proofs.Merged.{are_woven}
-use Rattle.workers.proofs.SoFar.{has_logged, IsOfScript, log_at, so_far}
+use Rattle.workers.proofs.SoFar.{has_logged, IsOfScript, log_at, done, so_far}
 
 -- whether the end has passed
 over_or_not : (behind : List Entry) → (behind ≡ []) ⊎ (behind ≡ ended ∷ []) → (over : Bool) × (behind ≡ behind_of over)
@@ -47,13 +47,13 @@ module _ (lines : List Line) (most : ℕ) (may : ℕ → Bool) (packets : List (
   }
 
   of_script : IsOfScript lines most may over fs m
-  of_script = record { acts = refl; tiles = r.fed.tiles; count = r.logs; called = r.called }
+  of_script = record { acts = refl; tiles = r.fed.tiles; count = r.logs; calls = r.called }
 
   low : (e : LogEntry) → IsLoggedIn books e → e.node ≤ DEMUX_NODES
   low e (c, log, i, book, at) = has_all (λ (e : LogEntry). e.node ≤ DEMUX_NODES) log (r.nodes c log book) e (has_at log e i at)
 
   within : (c : ℕ) (log : List LogEntry) → slice_get books c ≡ Some log → length log ≤ most_calls (all_commands lines) (188 * length packets)
-  unfolding so_far
+  unfolding so_far done
   within c log book =
       let hs = are_woven m r.histories in
       let is : c < clients_in lines = omega (arith, slice_get_within books c log book, r.logs) in

@@ -15,7 +15,8 @@ use Rattle.dmx_calls.specs.declared.log.Entry.{Entry as ToldEntry}
 use Rattle.dmx_calls.specs.Calls.{told_entry}
 use Rattle.trace_merge.specs.Merging.{is_on, all_of}
 use Rattle.trace_merge.specs.Inside.Placing.{entries_on}
-use Rattle.trace_merge.proofs.Standing.{Ascends, ascends, flips}
+use Rattle.lemmas.proofs.Tests.{nat_eq_turned}
+use Rattle.trace_merge.proofs.Standing.{Ascends, ascends}
 use Rattle.workers.proofs.Weaves.{Rises}
 use Rattle.workers.proofs.Members.{at_has, has_at}
 
@@ -127,4 +128,4 @@ module _ (node : ℕ) (logs : List (List ToldEntry)) (calls : List ToldEntry) (m
 
   pub merged_rise : IsNonDecreasingBy (λ (e : ToldEntry). e.place) calls → ((c : ℕ) (log : List ToldEntry) → slice_get logs c ≡ Some log → RisesOn node log) → AreApart node logs → Rises 0 (map told_entry calls)
   merged_rise order up apart =
-      rises_told 0 calls (ascends calls order (IsDistinct-IsPermutation nat_eq flips (places_of (entries_on node logs)) (places_of calls) (IsPermutation-map (λ (e : ToldEntry). e.place) (entries_on node logs) calls moved) (distinct (places_of (entries_on node logs)) (once_all node logs up apart))))
+      rises_told 0 calls (ascends calls order (IsDistinct-IsPermutation nat_eq nat_eq_turned (places_of (entries_on node logs)) (places_of calls) (IsPermutation-map (λ (e : ToldEntry). e.place) (entries_on node logs) calls moved) (distinct (places_of (entries_on node logs)) (once_all node logs up apart))))

@@ -23,7 +23,7 @@ use Rattle.workers.proofs.Members.{steps_tile}
 use Rattle.workers.proofs.Batches.{total_is}
 use Rattle.workers.proofs.Owning.{Moment, at_end, acts_by}
 use Rattle.workers.proofs.Merged.{AreWoven, there, node_low}
-use Rattle.workers.proofs.SoFar.{has_logged, IsOfScript, log_at, moment_at, so_far}
+use Rattle.workers.proofs.SoFar.{has_logged, IsOfScript, log_at, moment_at, done, fed, so_far}
 
 -- what became of a client
 became : (lines : List Line) (most : ℕ) (may : ℕ → Bool) (stream : List (List ℕ)) (feeder : Caller) (fs : List Fed) (others : List Caller) (books : List (List LogEntry)) (told : List (List Outcome))
@@ -52,7 +52,7 @@ module _ (lines : List Line) (most : ℕ) (may : ℕ → Bool) (stream : List (L
     acts = refl;
     tiles = w.fed.fed.tiles;
     count = w.logs;
-    called = λ c client log at book. (became lines most may stream feeder fs others books told w c client log at book).2.called;
+    calls = λ c client log at book. (became lines most may stream feeder fs others books told w c client log at book).2.called;
   }
 
   module _ (hs : List (List LogEntry)) (woven : AreWoven m hs) where
@@ -67,7 +67,7 @@ module _ (lines : List Line) (most : ℕ) (may : ℕ → Bool) (stream : List (L
         (b.0, b.1, b.2.ends, b.2.outcomes)
 
     over : IsOver now
-    unfolding now
+    unfolding now so_far done fed
     over = record {
       whole = let t = total_is most 0 (length stream) fs w.fed.fed.tiles in omega (arith, t);
       ended = λ node h at.
@@ -77,6 +77,7 @@ module _ (lines : List Line) (most : ℕ) (may : ℕ → Bool) (stream : List (L
     }
 
     pub whole_run : IsWholeRun lines most may stream told hs
+    unfolding now so_far done fed
     whole_run =
         let ends = runs_end Others lines most stream hs now over in
         record {
@@ -89,7 +90,7 @@ module _ (lines : List Line) (most : ℕ) (may : ℕ → Bool) (stream : List (L
         } where
           told_of : (c : ℕ) (is : c < clients_in lines) → ((runs_end Others lines most stream hs now over).0.clients_done c is).made ≡ (now.clients c is).made
               → slice_get told c ≡ Some (outcomes c lines (replies ((runs_end Others lines most stream hs now over).0.clients_done c is).made))
-          unfolding now
+          unfolding now so_far done fed
           told_of c is same =
               let log = log_at lines most may true fs m of_script have low hs woven c is in
               let o = out_of c log.0 log.1 in

@@ -126,7 +126,7 @@ abbrev pub behind_of : (over : Bool) → List Entry
 behind_of true = ended ∷ []
 behind_of false = []
 
-abbrev acts_behind : (over : Bool) → List Act
+abbrev pub acts_behind : (over : Bool) → List Act
 acts_behind true = EndAct ∷ []
 acts_behind false = []
 

@@ -60,7 +60,7 @@ module _ (m : Moment) where
   pub record TellsNode (acts : List Act) (node : ℕ) (l : List LogEntry) (h : List Entry) : Type 0 where
     pub place : AreInPlace 0 l
     pub is : map (filled_entry m.stream) l ≡ h
-    pub told : (place : ℕ) (e : LogEntry) → slice_get l place ≡ Some e → IsToldBy node acts e
+    pub told : (i : ℕ) (e : LogEntry) → slice_get l i ≡ Some e → IsToldBy node acts e
     pub logged : (e : LogEntry) → IsLoggedIn m.books e → e.node ≡ node → slice_get l e.place ≡ Some e
     pub steps : steps_of 0 l ≡ steps_from 0 acts
 
@@ -191,26 +191,27 @@ pub full : (locks : List TableId) (others : List Caller) (feeder : Caller) → A
     → (node : ℕ) → node ≤ DEMUX_NODES → (p : TableId × View Entry) × (slice_get feeder.passes node ≡ Some p)
 full locks others feeder all long node low = at_place feeder.passes node (omega (arith, (all.fits (length others) feeder (at_last others feeder)).0, long, low))
 
-pub tell : (stream : List (List ℕ)) (feeder : Caller) (fs : List Fed) (others : List Caller) (books : List (List LogEntry)) (c : HaveCalled stream feeder fs others books)
-    → ((node : ℕ) → node ≤ DEMUX_NODES → (p : TableId × View Entry) × (slice_get feeder.passes node ≡ Some p)) → HaveHistories (others ++ feeder ∷ []) → ((e : LogEntry) → IsLoggedIn books e → e.node ≤ DEMUX_NODES)
-    → (hs : List (List LogEntry)) → AreWoven (at_end stream feeder fs others books c) hs → TellWhatWasCalled stream feeder fs others books hs
-tell stream feeder fs others books c full have low hs w = record {
-  nodes = w.many;
-  logged = stands m have low hs w;
-  others = λ node place h e at here.
-      let t = (there m have low hs w node h at).2 in
-      let is : e.place ≡ place = omega (arith, in_place-at 0 h t.place place e here) in
-      subst (λ k. IsLoggedIn books e ⊎ (e ≡ feeder_entry node k e.step e.act)) is (⊎_elim (λ l. inl l.1) (λ f. inr f.0) (t.told place e here));
-  fed = λ node h at. let t = there m have low hs w node h at in t.2.steps ∙ ap (λ o. steps_from 0 (acts_by m o)) (full node (node_low m have low hs w node h at)).1;
-  locks = λ node h at.
-      let t = there m have low hs w node h at in
-      (subst (IsHistory node (passes_on m node)) (sym t.2.is) t.1, λ other is. sym (tells m node h (w.each node h at) other is).is ∙ refl);
-} where
-  m : Moment
-  m = at_end stream feeder fs others books c
+module _ (stream : List (List ℕ)) (feeder : Caller) (fs : List Fed) (others : List Caller) (books : List (List LogEntry)) (c : HaveCalled stream feeder fs others books)
+    (all : (node : ℕ) → node ≤ DEMUX_NODES → (p : TableId × View Entry) × (slice_get feeder.passes node ≡ Some p)) (have : HaveHistories (others ++ feeder ∷ [])) (low : (e : LogEntry) → IsLoggedIn books e → e.node ≤ DEMUX_NODES) where
+  abbrev when : Moment
+  when = at_end stream feeder fs others books c
+
+  pub tell : (hs : List (List LogEntry)) → AreWoven when hs → TellWhatWasCalled stream feeder fs others books hs
+  tell hs w = record {
+    nodes = w.many;
+    logged = stands when have low hs w;
+    others = λ node place h e at here.
+        let t = (there when have low hs w node h at).2 in
+        let is : e.place ≡ place = omega (arith, in_place-at 0 h t.place place e here) in
+        subst (λ k. IsLoggedIn books e ⊎ (e ≡ feeder_entry node k e.step e.act)) is (⊎_elim (λ l. inl l.1) (λ f. inr f.0) (t.told place e here));
+    fed = λ node h at. let t = there when have low hs w node h at in t.2.steps ∙ ap (λ o. steps_from 0 (acts_by when o)) (all node (node_low when have low hs w node h at)).1;
+    locks = λ node h at.
+        let t = there when have low hs w node h at in
+        (subst (IsHistory node (passes_on when node)) (sym t.2.is) t.1, λ other is. sym (tells when node h (w.each node h at) other is).is);
+  }
 
 module _ (stream : List (List ℕ)) (feeder : Caller) (fs : List Fed) (others : List Caller) (logs : List (List ToldEntry)) (c : HaveCalled stream feeder fs others (books_of logs))
-    (full : (node : ℕ) → node ≤ DEMUX_NODES → (p : TableId × View Entry) × (slice_get feeder.passes node ≡ Some p)) (nodes : List (List ToldEntry)) (merged : AreByPlace logs nodes) (have : HaveHistories (others ++ feeder ∷ [])) where
+    (all : (node : ℕ) → node ≤ DEMUX_NODES → (p : TableId × View Entry) × (slice_get feeder.passes node ≡ Some p)) (nodes : List (List ToldEntry)) (merged : AreByPlace logs nodes) (have : HaveHistories (others ++ feeder ∷ [])) where
   abbrev m : Moment
   m = at_end stream feeder fs others (books_of logs) c
 
@@ -232,7 +233,7 @@ module _ (stream : List (List ℕ)) (feeder : Caller) (fs : List Fed) (others : 
         (j.0, at_map told_entry calls j.0 x.0 j.1 ∙ ap (λ z. Some z) x.2)
 
     -- an entry of a log of the code is one of the logs
-    kept : (c : ℕ) (a : List ToldEntry) (e : ToldEntry) → slice_get logs c ≡ Some a → Has a e → IsLoggedIn (books_of logs) (told_entry e)
+    abbrev kept : (c : ℕ) (a : List ToldEntry) (e : ToldEntry) → slice_get logs c ≡ Some a → Has a e → IsLoggedIn (books_of logs) (told_entry e)
     kept c a e at has = let i = at_has a e has in (c, map told_entry a, i.0, at_map (λ log. map told_entry log) logs c a at, at_map told_entry a i.0 e i.1)
 
     rise_on : (c : ℕ) (log : List ToldEntry) → slice_get logs c ≡ Some log → RisesOn node log
@@ -268,7 +269,7 @@ module _ (stream : List (List ℕ)) (feeder : Caller) (fs : List Fed) (others : 
         (
           map told_entry calls.0,
           are_calls node calls.0 calls.1 h.0 h.1,
-          ap (λ o. woven node (acts_by m o) (map told_entry calls.0)) (full node low).1 ∙ one_value (histories_of fs nodes) node (woven node (feeder_acts fs) (map told_entry calls.0)) l here at,
+          ap (λ o. woven node (acts_by m o) (map told_entry calls.0)) (all node low).1 ∙ one_value (histories_of fs nodes) node (woven node (feeder_acts fs) (map told_entry calls.0)) l here at,
         )
 
 -- ------ the logs as the code keeps them

@@ -75,7 +75,7 @@ pub record Moment : Type 0 where
   pub each : (c : ℕ) (client : Caller) (log : List LogEntry) → slice_get others c ≡ Some client → slice_get books c ≡ Some log → HasLogged c client log
 
 -- the moment at which all was called
-pub at_end : (stream : List (List ℕ)) (feeder : Caller) (feeding : List Fed) (others : List Caller) (books : List (List LogEntry)) → HaveCalled stream feeder feeding others books → Moment
+abbrev pub at_end : (stream : List (List ℕ)) (feeder : Caller) (feeding : List Fed) (others : List Caller) (books : List (List LogEntry)) → HaveCalled stream feeder feeding others books → Moment
 at_end stream feeder feeding others books w = record {
   stream = stream;
   acts = acts_of true feeding;
@@ -91,6 +91,11 @@ module _ (m : Moment) where
   -- the passes of all callers on a node
   abbrev pub passes_on : (node : ℕ) → List (TableId × View Entry)
   passes_on node = column node (rows_of (m.others ++ m.feeder ∷ []))
+
+  -- what the feeder has called on a node, by its pass; where it has none, nothing
+  abbrev pub acts_by : Option (TableId × View Entry) → List Act
+  acts_by None = []
+  acts_by (Some p) = m.acts
 
   -- the client of a log
   client_of : (c : ℕ) (log : List LogEntry) → slice_get m.books c ≡ Some log → (client : Caller) × (slice_get m.others c ≡ Some client) × HasLogged c client log
@@ -157,11 +162,6 @@ module _ (m : Moment) where
 
     pub feeders_zero : (who place : ℕ) → IsFeeders who place → who ≡ 0
     feeders_zero who place f = let made = m.fed node f.0 f.1 in (has_own made.places who place (subst (λ (z : List (ℕ × ℕ)). Has z (who, place)) made.own f.2)).0
-
-    -- where it has none, it has made none
-    abbrev pub acts_by : Option (TableId × View Entry) → List Act
-    acts_by None = []
-    acts_by (Some p) = m.acts
 
     fed_by : (o : Option (TableId × View Entry)) → slice_get m.feeder.passes node ≡ o → filter by_feeder h ≡ fed_of m.stream (acts_by o)
     fed_by (Some p) is = made_is p is

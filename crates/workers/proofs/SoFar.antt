@@ -71,13 +71,13 @@ pub record IsOfScript (lines : List Line) (most : ℕ) (may : ℕ → Bool) (ove
   pub acts : m.acts ≡ acts_of over fs
   pub tiles : Tiles most 0 (length m.stream) fs
   pub count : length m.books ≡ clients_in lines
-  pub called : (c : ℕ) (client : Caller) (log : List LogEntry) → slice_get m.others c ≡ Some client → slice_get m.books c ≡ Some log → HasCalled lines c may client log
+  pub calls : (c : ℕ) (client : Caller) (log : List LogEntry) → slice_get m.others c ≡ Some client → slice_get m.books c ≡ Some log → HasCalled lines c may client log
 
 module _ (lines : List Line) (most : ℕ) (may : ℕ → Bool) (over : Bool) (fs : List Fed) (m : Moment) (s : IsOfScript lines most may over fs m)
     (have : HaveHistories (m.others ++ m.feeder ∷ [])) (low : (e : LogEntry) → IsLoggedIn m.books e → e.node ≤ DEMUX_NODES) (hs : List (List LogEntry)) (w : AreWoven m hs) where
   -- the caller of a log
   pub client_of : (c : ℕ) (log : List LogEntry) → slice_get m.books c ≡ Some log → (client : Caller) × HasCalled lines c may client log
-  client_of c log at = let client = at_place m.others c (omega (arith, place_below m.books c log at, m.logs)) in (client.0, s.called c client.0 log client.1 at)
+  client_of c log at = let client = at_place m.others c (omega (arith, place_below m.books c log at, m.logs)) in (client.0, s.calls c client.0 log client.1 at)
 
   pub log_at : (c : ℕ) → c < clients_in lines → (log : List LogEntry) × (slice_get m.books c ≡ Some log)
   log_at c lt = at_place m.books c (omega (arith, lt, s.count))
@@ -126,7 +126,7 @@ module _ (lines : List Line) (most : ℕ) (may : ℕ → Bool) (over : Bool) (fs
 
   -- ------ the feeder
 
-  fed : IsFedSoFar most (length m.stream) hs
+  pub fed : IsFedSoFar most (length m.stream) hs
   fed = record {
     batches = map batch_of fs;
     each_size = sizes most 0 (length m.stream) fs s.tiles;
@@ -144,20 +144,18 @@ module _ (lines : List Line) (most : ℕ) (may : ℕ → Bool) (over : Bool) (fs
   -- between two calls of a client that follow one another none of its calls stands
   none_between : (c : ℕ) (log : List LogEntry) (i k : ℕ) (e f x : LogEntry) → slice_get m.books c ≡ Some log → slice_get log i ≡ Some e → slice_get log (suc i) ≡ Some f → slice_get log k ≡ Some x
       → f.node ≡ e.node → x.node ≡ e.node → e.place < x.place → x.place < f.place → ⊥
-  none_between c log i k e f x book at next there same on above below = go (nat_lt k i) refl (nat_lt (suc i) k) refl where
+  none_between c log i k e f x book at next there same on above below = go (nat_lt k i) refl (nat_lt (suc i) k) refl (nat_lt i k) refl where
     rises : (j l : ℕ) (y z : LogEntry) → j < l → slice_get log j ≡ Some y → slice_get log l ≡ Some z → y.node ≡ z.node → y.place < z.place
     rises = (client_of c log book).1.logged.rises
 
     one : (n : ℕ) (y : LogEntry) → k ≡ n → slice_get log n ≡ Some y → x.place ≡ y.place
     one n y is at_n = ap (λ (z : LogEntry). z.place) (one_value log n x y (subst (λ n. slice_get log n ≡ Some x) is there) at_n)
 
-    go : (u : Bool) → nat_lt k i ≡ u → (v : Bool) → nat_lt (suc i) k ≡ v → ⊥
-    go true yea v any = omega (arith, rises k i x e (grind (arith, nat_tests, yea)) there at on, above)
-    go false nay true yea = omega (arith, rises (suc i) k f x (grind (arith, nat_tests, yea)) next there (same ∙ sym on), below)
-    go false nay false no = here (nat_lt i k) refl where
-      here : (b : Bool) → nat_lt i k ≡ b → ⊥
-      here true yea = omega (arith, one (suc i) f (grind (arith, nat_tests, yea, no)) next, below)
-      here false never = omega (arith, one i e (grind (arith, nat_tests, nay, never)) at, above)
+    go : (u : Bool) → nat_lt k i ≡ u → (v : Bool) → nat_lt (suc i) k ≡ v → (t : Bool) → nat_lt i k ≡ t → ⊥
+    go true yea v any t other = omega (arith, rises k i x e (grind (arith, nat_tests, yea)) there at on, above)
+    go false nay true yea t other = omega (arith, rises (suc i) k f x (grind (arith, nat_tests, yea)) next there (same ∙ sym on), below)
+    go false nay false no true yea = omega (arith, one (suc i) f (grind (arith, nat_tests, yea, no)) next, below)
+    go false nay false no false never = omega (arith, one i e (grind (arith, nat_tests, nay, never)) at, above)
 
   paid : (c : ℕ) (log : List LogEntry) (i : ℕ) (e f : LogEntry) → slice_get m.books c ≡ Some log → slice_get log i ≡ Some e → slice_get log (suc i) ≡ Some f → f.node ≡ e.node
       → IsSome (waits_on c lines (replies (take (suc i) log))) → IsPaidBehind Others c hs e
@@ -176,7 +174,7 @@ module _ (lines : List Line) (most : ℕ) (may : ℕ → Bool) (over : Bool) (fs
         λ mine. none_between c log i x.0.step e f x.0 book at next (r.1.logged c log book mine) same (r.1.on ∙ same) (omega (arith, r.0)) (omega (arith, r.0, gap)),
       )
 
-  done : (c : ℕ) → c < clients_in lines → HasDoneSoFar Others lines c hs
+  pub done : (c : ℕ) → c < clients_in lines → HasDoneSoFar Others lines c hs
   done c lt =
       let log = log_at c lt in
       let k = (client_of c log.0 log.1).1 in
@@ -190,7 +188,6 @@ module _ (lines : List Line) (most : ℕ) (may : ℕ → Bool) (over : Bool) (fs
 
   -- They are the histories of a run so far.
   pub so_far : IsSoFar Others lines most m.stream hs
-  unfolding done fed
   so_far = record {
     nodes = w.many;
     places = λ node place h e at here. let r = entry_at node place h e at here in (r.1.on, r.0, r.1.by, r.1.found);

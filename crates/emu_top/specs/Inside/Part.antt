@@ -1,7 +1,8 @@
 -- When a script part is not read.
-use Rattle.std.specs.Prelude.{◌≡◌, ℕ, ◌≤◌, List, length, Option, None, Result, OnOk, IsErrOf}
+use Rattle.std.specs.Prelude.{◌≡◌, ℕ, ◌≤◌, List, length, None, Result, OnOk, IsErrOf}
 use Rattle.std.specs.Io.KnownBytes.{Consumes}
 use Rattle.emu_io.specs.Causes.{raised}
+use Rattle.emu_io.specs.Ends.{SourceEnd}
 use Rattle.client_script.specs.Script.{script_len, whole_lines, most_bytes}
 use Rattle.emu_top.specs.declared.part.PartError.{PartError}
 use Rattle.emu_top.specs.declared.part.PartError.TheVariants.{Failed, NoMemory}
@@ -14,8 +15,8 @@ pub record HasReadCause {T : Type 0} (before now : ℕ) (result : Result T PartE
   pub failed : IsErrOf result Failed → now ≡ raised before
 
 -- the bytes that were taken are searched, and don't hold the line `stream`
-pub record IsUnended (content left : Option (List ℕ)) : Type 0 where
+pub record IsUnended (before after : SourceEnd) : Type 0 where
   pub taken : List ℕ
-  pub consumes : Consumes content left taken
+  pub consumes : Consumes before.left after.left taken
   pub searched : length taken ≤ most_bytes
   pub none : script_len (whole_lines taken) ≡ None

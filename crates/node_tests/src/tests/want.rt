@@ -126,8 +126,8 @@ pub fn is_wanted(alloc: Global, reply: &Reply, want: Want) -> Result<bool, NoMem
     })
 }
 
-/// The answer to the call of a step is as wanted: the reply is, packets that passed get their batch back, and nothing else is handed
-/// back.
+/// The answer to the call of a step is as wanted: the reply is, packets that passed get their batch back, and nothing else is
+/// handed back.
 pub fn is_answered(
     alloc: Global,
     step: Step,

@@ -7,8 +7,8 @@ use Rattle.emu_top.proofs.part.read_front.Given as goal
 abbrev pub invariant-reading : goal.invariant-reading
 invariant-reading g l = record {
   within : length l.part ≤ most_bytes;
-  bytes : Consumes (g.S.Source.left l.initial.source) (g.S.Source.left l.source) l.part;
-  steady : g.S.Source.faults l.source ≡ g.S.Source.faults l.initial.source;
+  bytes : Consumes (g.S.Source.end l.initial.source).left (g.S.Source.end l.source).left l.part;
+  steady : (g.S.Source.end l.source).faults ≡ (g.S.Source.end l.initial.source).faults;
   counted : l.reads ≤ length l.part;
   ahead : IfSome (script_len (whole_lines l.part)) (λ n. length l.part ≤ n + 65535);
 }

@@ -5,17 +5,17 @@ use Rattle.emu_top.proofs.Threading.{threads_made}
 use Rattle.emu_top.proofs.threads.run_threads.Goals as goal
 
 pub returns-in-Err-clause-refuses : goal.returns-in-Err-clause-refuses
-returns-in-Err-clause-refuses g c content first con h =
-    rw c.status_of_run.ensures (given_up c.args.session.script c.args.session.puller content _ _ _ _ first c.in-Err.stop
-    (λ turns is. c.work.ensures.too_long turns (c.in-Err.is ∙ ap Err is)) con h)
+returns-in-Err-clause-refuses g c begun first takes h =
+    rw c.status_of_run.ensures (given_up c.args.session.script c.args.session.puller begun _ _ first c.in-Err.stop
+    (λ turns is. c.work.ensures.too_long turns (c.in-Err.is ∙ ap Err is)) takes h)
 
 pub returns-in-Ok-histories_of_run-clause-makes : goal.returns-in-Ok-histories_of_run-clause-makes
 returns-in-Ok-histories_of_run-clause-makes g c =
     let worked = c.in-Ok-work.worked in
     let left = c.in-Ok-work.ensures in
     IfOk-weaker c.reported.result _ _
-    (λ output told content first con h. threads_made c.args.batch _ c.args.session.script worked.head worked.feeder worked.feeding.items worked.clients.items _ _
-    content _ _ _ _ first c.args.session.puller c.in-Ok-histories_of_run.histories output.read_fault _ output.text.items
-    con h left.worked (λ stream w. c.in-Ok-histories_of_run.ensures.run c.args.session.script c.args.batch _ stream _ w) left.rose left.later left.end
+    (λ output told begun first takes h. threads_made c.args.batch _ c.args.session.script worked.head worked.feeder worked.feeding.items worked.clients.items _ _
+    begun _ _ first c.args.session.puller c.in-Ok-histories_of_run.histories output.read_fault _ output.text.items
+    takes h left.worked (λ stream w. c.in-Ok-histories_of_run.ensures.run c.args.session.script c.args.batch _ stream _ w) left.rose left.later left.end
     told.0 (ap (map (λ those. those.items)) c.deref.ensures.value) told.1)
     c.reported.ensures.told

@@ -86,7 +86,7 @@ fn a_long_section_is_read_by_pieces(rt: HostRuntime) -> Result<(), NoMemory> {
     }
     for (count, to) in [(200, 5), (200, 205), (200, 264), (3, 267), (3, 269)] {
         let buf = ByteBuf::new(rt.alloc(), count)?;
-        let (reply, _) = buffer.read(false, buf);
+        let reply = buffer.read(false, buf);
         assert!(rt; matches!(reply, Reply::Data(_)));
         assert_eq!(rt; buffer.unread().from, to);
     }

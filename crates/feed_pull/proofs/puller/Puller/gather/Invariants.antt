@@ -7,7 +7,7 @@ abbrev pub invariant-gathering : goal.invariant-gathering
 invariant-gathering g l = record {
   gathers : Gathers (g.S.Source.end l.initial.source) (g.S.Source.end l.source) l.initial.self l.self;
   follows : Follows l.initial.self.reading l.self.reading (g.S.Source.end l.initial.source) (g.S.Source.end l.source);
-  late : l.initial.self.earlier < l.initial.self.given + l.most → l.self.earlier < l.initial.self.given + l.most;
+  late : l.initial.self.found_before_last_read < l.initial.self.given + l.most → l.self.found_before_last_read < l.initial.self.given + l.most;
   full : l.most ≤ length l.initial.self.waiting → (g.S.Source.end l.source ≡ g.S.Source.end l.initial.source) × (l.self ≡ l.initial.self);
   stopped : l.initial.self.reading ≢ Going → ReadsNothing l.initial.self l.self;
 }

@@ -18,4 +18,4 @@ pub returns-clause-near : goal.returns-clause-near
 returns-clause-near g c = λ h. near-from c.give.result (λ batch. length batch.value.packets) c.args.most c.give.new.self (c.give.ensures.whole (c.gather.ensures.late h))
 
 pub returns-clause-asked : goal.returns-clause-asked
-returns-clause-asked g c = λ h. (let k = c.gather.ensures.late h in omega (arith, c.give.ensures.gives.earlier, c.give.ensures.gives.given))
+returns-clause-asked g c = λ h. (let k = c.gather.ensures.late h in omega (arith, c.give.ensures.gives.found_before_last_read, c.give.ensures.gives.given))

@@ -1,4 +1,4 @@
-use Rattle.std.proofs.Common.{◌≡◌, ℕ, ◌-◌, ◌*◌, List, [], length}
+use Rattle.std.proofs.Common.{◌≡◌, ℕ, ◌+◌, ◌-◌, ◌*◌, ◌^◌, List, [], length}
 use Rattle.std.specs.Io.KnownBytes.{Consumes}
 use Rattle.feed_pull.specs.Pulling.{Pulls}
 use Rattle.feed_pull.specs.Steps.{Follows}
@@ -11,4 +11,4 @@ invariant-all g l = record {
 }
 
 abbrev pub decreases-all : goal.decreases-all
-decreases-all g l = 281474976776192 - 188 * l.puller.given
+decreases-all g l = 2 ^ 48 + 65536 - 188 * l.puller.given
