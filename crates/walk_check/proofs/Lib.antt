@@ -1,0 +1,5 @@
+pub mod Asked
+pub mod Walking
+pub mod Queues
+pub mod Doing
+pub mod OneWalk

@@ -1,0 +1,32 @@
+-- What the parts of a walk decide and do.
+use Rattle.std.specs.Prelude.{◌≡◌, ℕ, ◌+◌, List, [], ◌∷◌, length, slice_get, slice_set, Some}
+use Rattle.dmx_calls.specs.declared.log.Act.{Act}
+use Rattle.dmx_calls.specs.declared.log.Act.TheVariants.{SetFilter as SetFilterAct, SetPes as SetPesAct, Start as StartAct, Read as ReadAct, Poll as PollAct, Pass as PassAct}
+use Rattle.dmx_calls.specs.Log.{LogEntry, act_of}
+use Rattle.client_core.specs.declared.event.Want.{Want}
+use Rattle.client_core.specs.Commands.{call_of}
+
+-- the moment of a call; 0 where it has none
+abbrev pub moment_in : Act → ℕ
+moment_in (SetFilterAct params now) = now
+moment_in (SetPesAct params now) = now
+moment_in (StartAct now) = now
+moment_in (ReadAct now count) = now
+moment_in (PollAct now) = now
+moment_in (PassAct input first count now) = now
+moment_in _ = 0
+
+-- the call that is asked for, made at the moment of this one
+abbrev pub asked_at : Want → Act → Act
+asked_at want act = act_of (call_of want (moment_in act))
+
+-- an entry was taken from the front of a node's queue, and nothing else
+pub record IsTaken (node : ℕ) (e : LogEntry) (old new : List (List LogEntry)) : Type 0 where
+  pub later : List LogEntry
+  pub at : slice_get old node ≡ Some (e ∷ later)
+  pub is : new ≡ slice_set old node later
+
+-- how many entries there are on all nodes
+unfoldable pub left_on : List (List LogEntry) → ℕ
+left_on [] = 0
+left_on (h ∷ hs) = length h + left_on hs

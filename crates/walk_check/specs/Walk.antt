@@ -1,0 +1,41 @@
+-- What it means that the told entries of a client are what its commands ask for (this project's own).
+use Rattle.std.specs.Prelude.{◌≡◌, ℕ, ◌+◌, List, [], ◌∷◌, ◌++◌, length, map, filter, nat_eq, slice_get, slice_set, Some, None}
+use Rattle.dmx_calls.specs.Log.{LogEntry}
+use Rattle.dmx_calls.specs.Response.{Response}
+use Rattle.client_script.specs.declared.line.Line.{Line}
+use Rattle.client_core.specs.Events.{next_event}
+use Rattle.client_core.specs.Inside.Core.{Core, IsAfter}
+use Rattle.script_run.specs.IsRun.{IsEvent, replies}
+
+-- ------ the queues of a client
+
+-- the entries of a client on a node, whose caller's number is the client's and one more
+abbrev pub of_client : (client : ℕ) → List LogEntry → List LogEntry
+of_client client h = filter (λ e. nat_eq e.who (client + 1)) h
+
+-- and on each node
+abbrev pub queues_in : (client : ℕ) → List (List LogEntry) → List (List LogEntry)
+queues_in client hs = map (of_client client) hs
+
+-- ------ the walk
+
+-- The entries of the queues, taken one by one, are what the client calls after these replies, to the end of its
+-- commands: each is the first of its node's queue, and is the call that the client's commands ask for next.
+abbrev pub IsRest : (client : ℕ) → List Line → (done : List Response) → (queues : List (List LogEntry)) → (made : List LogEntry)
+    → Type 0
+IsRest client lines done queues [] =
+    (next_event client lines done ≡ None) × ((node : ℕ) (q : List LogEntry) → slice_get queues node ≡ Some q → q ≡ [])
+IsRest client lines done queues (e ∷ made) =
+    IsEvent (next_event client lines done) e × (e.step ≡ length done)
+    × ((later : List LogEntry) × (slice_get queues e.node ≡ Some (e ∷ later))
+    × IsRest client lines (done ++ e.response ∷ []) (slice_set queues e.node later) made)
+
+-- the entries in the queues are what the client calls after these replies, in some order of the nodes
+abbrev pub CanRest : (client : ℕ) → List Line → (done : List Response) → (queues : List (List LogEntry)) → Type 0
+CanRest client lines done queues = (made : List LogEntry) × IsRest client lines done queues made
+
+-- the whole walk of a client, after which its core stands: `made` is its calls in their order
+pub record HasWalked (client : ℕ) (lines : List Line) (queues : List (List LogEntry)) (core : Core) : Type 0 where
+  pub made : List LogEntry
+  pub walk : IsRest client lines [] queues made
+  pub after : IsAfter client lines (replies made) core
