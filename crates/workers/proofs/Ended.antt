@@ -1,5 +1,5 @@
 -- What the threads of a run leave are the histories of a run of the script.
-use Rattle.std.proofs.Common.{◌≡◌, ℕ, Bool, ◌+◌, ◌<◌, ◌≤◌, List, [], ◌∷◌, ◌++◌, append-nil, length, slice_get, Some, None, ap, sym, ◌∙◌, subst, refl, arith}
+use Rattle.std.proofs.Common.{◌≡◌, ℕ, Bool, true, ◌+◌, ◌<◌, ◌≤◌, List, [], ◌∷◌, ◌++◌, length, map, sum, slice_get, Some, None, ap, sym, ◌∙◌, subst, refl, arith}
 use Rattle.atomic_table.specs.Seated.{TableId}
 use Rattle.node_lock.specs.declared.view.View.{View}
 use Rattle.dmx_calls.specs.declared.histories.Fed.{Fed}
@@ -10,13 +10,14 @@ use Rattle.dmx_calls.specs.Log.{LogEntry}
 use Rattle.client_script.specs.declared.line.Line.{Line}
 use Rattle.client_script.specs.Script.{clients_in}
 use Rattle.client_core.specs.Events.{next_event, outcomes}
-use Rattle.script_run.specs.IsRun.{IsRun, feeding, replies, steps_of}
+use Rattle.script_run.specs.IsRun.{Batch, replies}
 use Rattle.script_run.specs.WholeRun.{AreFull, IsWholeRun}
 use Rattle.script_run.specs.SoFar.{others as Others, IsSoFar, IsOver}
 use Rattle.script_run.proofs.Ending.{runs_end, are_accounted}
 use Rattle.adapter.specs.Callers.{Caller}
 use Rattle.adapter.specs.Ends.{HaveHistories}
 use Rattle.adapter.proofs.Lists.{at_place, place_below, one_value}
+use Rattle.workers.specs.Feeding.{batch_of}
 use Rattle.workers.specs.Worked.{HasWorked, AreWorked}
 use Rattle.workers.specs.Telling.{HaveCalled, IsLoggedIn, WorkersHaveCalled, steps_from}
 use Rattle.workers.proofs.Members.{steps_tile}
@@ -66,10 +67,13 @@ module _ (lines : List Line) (most : ℕ) (may : ℕ → Bool) (stream : List (L
         let b = became lines most may stream feeder fs others books told w c client.0 log client.1 book in
         (b.0, b.1, b.2.ends, b.2.outcomes)
 
+    whole_is : sum (map (λ (b : Batch). b.size) (map batch_of fs)) ≡ length stream
+    whole_is = let t = total_is most 0 (length stream) fs w.fed.fed.tiles in omega (arith, t)
+
     over : IsOver now
     unfolding now so_far done fed
     over = record {
-      whole = let t = total_is most 0 (length stream) fs w.fed.fed.tiles in omega (arith, t);
+      whole = whole_is;
       ended = λ node h at.
           (there m have low hs woven node h at).2.steps ∙ ap (λ o. steps_from 0 (acts_by m o)) (full node (node_low m have low hs woven node h at)).1
           ∙ steps_tile most 0 (length stream) 0 fs w.fed.fed.tiles;

@@ -128,8 +128,8 @@ module _ (m : Moment) where
         in_log (subst (λ l. slice_get l j ≡ Some f) log bt) (nat_lt i j) refl (nat_lt j i) refl where
           in_log : slice_get a j ≡ Some f → (u : Bool) → nat_lt i j ≡ u → (v : Bool) → nat_lt j i ≡ v → e ≡ f
           in_log there true less v any = absurd (let up = log_rises m c a at_c i j e f (grind (arith, nat_tests, less)) at there (on ∙ sym on_f) in omega (arith, up, same))
-          in_log there false no true less = absurd (let up = log_rises m c a at_c j i f e (grind (arith, nat_tests, less)) there at (on_f ∙ sym on) in omega (arith, up, same))
-          in_log there false no false more = one_value a j e f (let n : i ≡ j = grind (arith, nat_tests, no, more) in subst (λ n. slice_get a n ≡ Some e) n at) there
+          in_log there false nay true less = absurd (let up = log_rises m c a at_c j i f e (grind (arith, nat_tests, less)) there at (on_f ∙ sym on) in omega (arith, up, same))
+          in_log there false nay false more = one_value a j e f (let n : i ≡ j = grind (arith, nat_tests, nay, more) in subst (λ n. slice_get a n ≡ Some e) n at) there
 
     -- the history tells which they are
     pub calls_there : (calls : List LogEntry) × AreCallsOn node calls

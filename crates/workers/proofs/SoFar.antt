@@ -126,7 +126,7 @@ module _ (lines : List Line) (most : ℕ) (may : ℕ → Bool) (over : Bool) (fs
 
   -- ------ the feeder
 
-  pub fed : IsFedSoFar most (length m.stream) hs
+  unfoldable pub fed : IsFedSoFar most (length m.stream) hs
   fed = record {
     batches = map batch_of fs;
     each_size = sizes most 0 (length m.stream) fs s.tiles;
@@ -144,18 +144,18 @@ module _ (lines : List Line) (most : ℕ) (may : ℕ → Bool) (over : Bool) (fs
   -- between two calls of a client that follow one another none of its calls stands
   none_between : (c : ℕ) (log : List LogEntry) (i k : ℕ) (e f x : LogEntry) → slice_get m.books c ≡ Some log → slice_get log i ≡ Some e → slice_get log (suc i) ≡ Some f → slice_get log k ≡ Some x
       → f.node ≡ e.node → x.node ≡ e.node → e.place < x.place → x.place < f.place → ⊥
-  none_between c log i k e f x book at next there same on above below = go (nat_lt k i) refl (nat_lt (suc i) k) refl (nat_lt i k) refl where
+  none_between c log i k e f x book at next here same on above below = go (nat_lt k i) refl (nat_lt (suc i) k) refl (nat_lt i k) refl where
     rises : (j l : ℕ) (y z : LogEntry) → j < l → slice_get log j ≡ Some y → slice_get log l ≡ Some z → y.node ≡ z.node → y.place < z.place
     rises = (client_of c log book).1.logged.rises
 
     one : (n : ℕ) (y : LogEntry) → k ≡ n → slice_get log n ≡ Some y → x.place ≡ y.place
-    one n y is at_n = ap (λ (z : LogEntry). z.place) (one_value log n x y (subst (λ n. slice_get log n ≡ Some x) is there) at_n)
+    one n y is at_n = ap (λ (z : LogEntry). z.place) (one_value log n x y (subst (λ n. slice_get log n ≡ Some x) is here) at_n)
 
     go : (u : Bool) → nat_lt k i ≡ u → (v : Bool) → nat_lt (suc i) k ≡ v → (t : Bool) → nat_lt i k ≡ t → ⊥
-    go true yea v any t other = omega (arith, rises k i x e (grind (arith, nat_tests, yea)) there at on, above)
-    go false nay true yea t other = omega (arith, rises (suc i) k f x (grind (arith, nat_tests, yea)) next there (same ∙ sym on), below)
-    go false nay false no true yea = omega (arith, one (suc i) f (grind (arith, nat_tests, yea, no)) next, below)
-    go false nay false no false never = omega (arith, one i e (grind (arith, nat_tests, nay, never)) at, above)
+    go true yea v any t other = omega (arith, rises k i x e (grind (arith, nat_tests, yea)) here at on, above)
+    go false nay true yea t other = omega (arith, rises (suc i) k f x (grind (arith, nat_tests, yea)) next here (same ∙ sym on), below)
+    go false nay false past true yea = omega (arith, one (suc i) f (grind (arith, nat_tests, yea, past)) next, below)
+    go false nay false past false never = omega (arith, one i e (grind (arith, nat_tests, nay, never)) at, above)
 
   paid : (c : ℕ) (log : List LogEntry) (i : ℕ) (e f : LogEntry) → slice_get m.books c ≡ Some log → slice_get log i ≡ Some e → slice_get log (suc i) ≡ Some f → f.node ≡ e.node
       → IsSome (waits_on c lines (replies (take (suc i) log))) → IsPaidBehind Others c hs e
@@ -174,7 +174,7 @@ module _ (lines : List Line) (most : ℕ) (may : ℕ → Bool) (over : Bool) (fs
         λ mine. none_between c log i x.0.step e f x.0 book at next (r.1.logged c log book mine) same (r.1.on ∙ same) (omega (arith, r.0)) (omega (arith, r.0, gap)),
       )
 
-  pub done : (c : ℕ) → c < clients_in lines → HasDoneSoFar Others lines c hs
+  unfoldable pub done : (c : ℕ) → c < clients_in lines → HasDoneSoFar Others lines c hs
   done c lt =
       let log = log_at c lt in
       let k = (client_of c log.0 log.1).1 in
@@ -187,7 +187,7 @@ module _ (lines : List Line) (most : ℕ) (may : ℕ → Bool) (over : Bool) (fs
       }
 
   -- They are the histories of a run so far.
-  pub so_far : IsSoFar Others lines most m.stream hs
+  unfoldable pub so_far : IsSoFar Others lines most m.stream hs
   so_far = record {
     nodes = w.many;
     places = λ node place h e at here. let r = entry_at node place h e at here in (r.1.on, r.0, r.1.by, r.1.found);
