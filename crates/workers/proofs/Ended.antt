@@ -94,7 +94,6 @@ module _ (lines : List Line) (most : ℕ) (may : ℕ → Bool) (stream : List (L
         } where
           told_of : (c : ℕ) (is : c < clients_in lines) → ((runs_end Others lines most stream hs now over).0.clients_done c is).made ≡ (now.clients c is).made
               → slice_get told c ≡ Some (outcomes c lines (replies ((runs_end Others lines most stream hs now over).0.clients_done c is).made))
-          unfolding now so_far done fed
           told_of c is same =
               let log = log_at lines most may true fs m of_script have low hs woven c is in
               let o = out_of c log.0 log.1 in

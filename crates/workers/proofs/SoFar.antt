@@ -48,11 +48,11 @@ has_logged lines c may client log k = record {
 }
 
 -- the steps of the first calls begin those of all
-steps_begin : (step : ℕ) (acts more : List Act) → (later : List Step) × (steps_from step acts ++ later ≡ steps_from step (acts ++ more))
+pub steps_begin : (step : ℕ) (acts more : List Act) → (later : List Step) × (steps_from step acts ++ later ≡ steps_from step (acts ++ more))
 steps_begin step [] more = (steps_from step more, refl)
 steps_begin step (a ∷ acts) more = let deeper = steps_begin (suc step) acts more in (deeper.0, ap (λ (l : List Step). record { step = step; act = a } ∷ l) deeper.1)
 
-steps_so_far : (over : Bool) (fs : List Fed) → (later : List Step) × (steps_from 0 (acts_of over fs) ++ later ≡ steps_from 0 (feeder_acts fs))
+pub steps_so_far : (over : Bool) (fs : List Fed) → (later : List Step) × (steps_from 0 (acts_of over fs) ++ later ≡ steps_from 0 (feeder_acts fs))
 steps_so_far true fs = ([], append-nil (steps_from 0 (feeder_acts fs)))
 steps_so_far false fs =
     let begin = steps_begin 0 (map pass_act fs) (EndAct ∷ []) in
@@ -157,7 +157,7 @@ module _ (lines : List Line) (most : ℕ) (may : ℕ → Bool) (over : Bool) (fs
     go false nay false past true yea = omega (arith, one (suc i) f (grind (arith, nat_tests, yea, past)) next, below)
     go false nay false past false never = omega (arith, one i e (grind (arith, nat_tests, nay, never)) at, above)
 
-  paid : (c : ℕ) (log : List LogEntry) (i : ℕ) (e f : LogEntry) → slice_get m.books c ≡ Some log → slice_get log i ≡ Some e → slice_get log (suc i) ≡ Some f → f.node ≡ e.node
+  pub paid : (c : ℕ) (log : List LogEntry) (i : ℕ) (e f : LogEntry) → slice_get m.books c ≡ Some log → slice_get log i ≡ Some e → slice_get log (suc i) ≡ Some f → f.node ≡ e.node
       → IsSome (waits_on c lines (replies (take (suc i) log))) → IsPaidBehind Others c hs e
   paid c log i e f book at next same waits =
       let k = (client_of c log book).1 in
