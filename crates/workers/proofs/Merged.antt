@@ -265,8 +265,7 @@ module _ (stream : List (List ℕ)) (feeder : Caller) (fs : List Fed) (others : 
         let zero_on : 0 + node ≡ node = omega arith in
         let here : slice_get (histories_of fs nodes) node ≡ Some (woven node (feeder_acts fs) (map told_entry calls.0)) =
         woven_nodes-at 0 (feeder_acts fs) (map (λ calls. map told_entry calls) nodes) node (map told_entry calls.0) (at_map (λ calls. map told_entry calls) nodes node calls.0 calls.1)
-        ∙ ap (λ n. Some (woven n (feeder_acts fs) (map told_entry calls.0))) zero_on in
-        (
+        ∙ ap (λ n. Some (woven n (feeder_acts fs) (map told_entry calls.0))) zero_on in (
           map told_entry calls.0,
           are_calls node calls.0 calls.1 h.0 h.1,
           ap (λ o. woven node (acts_by m o) (map told_entry calls.0)) (all node low).1 ∙ one_value (histories_of fs nodes) node (woven node (feeder_acts fs) (map told_entry calls.0)) l here at,
