@@ -1,5 +1,5 @@
 -- What the threads of a run leave are the histories of a run of the script.
-use Rattle.std.proofs.Common.{◌≡◌, ℕ, Bool, true, ◌+◌, ◌<◌, ◌≤◌, List, [], ◌∷◌, ◌++◌, length, map, sum, slice_get, Some, None, ap, sym, ◌∙◌, subst, refl, arith}
+use Rattle.std.proofs.Common.{◌≡◌, ℕ, Bool, true, ◌<◌, ◌≤◌, List, [], ◌∷◌, ◌++◌, length, map, sum, slice_get, Some, None, ap, sym, ◌∙◌, subst, refl, arith}
 use Rattle.atomic_table.specs.Seated.{TableId}
 use Rattle.node_lock.specs.declared.view.View.{View}
 use Rattle.dmx_calls.specs.declared.histories.Fed.{Fed}
@@ -16,10 +16,10 @@ use Rattle.script_run.specs.SoFar.{others as Others, IsSoFar, IsOver}
 use Rattle.script_run.proofs.Ending.{runs_end, are_accounted}
 use Rattle.adapter.specs.Callers.{Caller}
 use Rattle.adapter.specs.Ends.{HaveHistories}
-use Rattle.adapter.proofs.Lists.{at_place, place_below, one_value}
+use Rattle.adapter.proofs.Lists.{at_place, place_below}
 use Rattle.workers.specs.Feeding.{batch_of}
 use Rattle.workers.specs.Worked.{HasWorked, AreWorked}
-use Rattle.workers.specs.Telling.{HaveCalled, IsLoggedIn, WorkersHaveCalled, steps_from}
+use Rattle.workers.specs.Telling.{IsLoggedIn, WorkersHaveCalled, steps_from}
 use Rattle.workers.proofs.Members.{steps_tile}
 use Rattle.workers.proofs.Batches.{total_is}
 use Rattle.workers.proofs.Owning.{Moment, at_end, acts_by}

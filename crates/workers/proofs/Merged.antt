@@ -1,5 +1,5 @@
 -- The merged histories tell what was called.
-use Rattle.std.proofs.Common.{◌≡◌, ◌≢◌, ◌⊎◌, inl, inr, ⊎_elim, ℕ, zero, suc, ◌+◌, ◌<◌, ◌≤◌, Bool, true, false, nat_lt, List, [], ◌∷◌, ◌++◌, length, length-append, map, slice_get, Option, Some, None, All, refl, ap, sym, ◌∙◌, subst, arith}
+use Rattle.std.proofs.Common.{◌≡◌, ◌≢◌, ◌⊎◌, inl, inr, ⊎_elim, ℕ, zero, suc, ◌+◌, ◌≤◌, Bool, true, false, nat_lt, List, [], ◌∷◌, ◌++◌, length, length-append, map, slice_get, Some, All, refl, ap, sym, ◌∙◌, subst, arith}
 use Rattle.std.proofs.lemmas.Bool.Decides.{nat_tests}
 use Rattle.std.proofs.lemmas.List.{length-map}
 use Rattle.std.proofs.lemmas.Option.{slice_get_within}
@@ -19,12 +19,11 @@ use Rattle.script_run.specs.IsRun.{StandsIn, steps_of}
 use Rattle.trace_merge.specs.Merging.{AreOnNodes, AreByPlace}
 use Rattle.adapter.specs.Callers.{Caller, AreAllCallers}
 use Rattle.adapter.specs.Ends.{IsHistory, HaveHistories}
-use Rattle.adapter.proofs.Lists.{at_end as with_last, at_last, at_place, place_below, one_value}
-use Rattle.workers.specs.Telling.{HaveCalled, IsLoggedIn, IsTheHistory, TellWhatWasCalled, steps_from}
+use Rattle.adapter.proofs.Lists.{at_end as with_last, at_last, at_place, one_value}
+use Rattle.workers.specs.Telling.{HaveCalled, IsLoggedIn, TellWhatWasCalled, steps_from}
 use Rattle.workers.proofs.Weaves.{Rises, rises_less, weaves}
 use Rattle.workers.proofs.Members.{all_at, all_from, at_has, has_at, each_woven, has_woven, steps_woven}
 use Rattle.workers.proofs.Calls.{has_all, RisesOn, AreApart, of_some_log, is_merged, merged_rise}
-use Rattle.workers.proofs.Feeders.{got}
 use Rattle.workers.proofs.Owning.{Moment, at_end, passes_on, called, log_rises, logged_there, IsLoggedAt, IsFeeders, feeders_zero, owner, acts_by, told_here}
 
 -- ------ lists that are made of others

@@ -12,7 +12,6 @@ use Rattle.dmx_calls.specs.declared.histories.Fed.{Fed}
 use Rattle.dmx_calls.specs.declared.log.Act.{Act}
 use Rattle.dmx_calls.specs.History.{Entry, entry_of}
 use Rattle.dmx_calls.specs.Log.{LogEntry, filled_act, filled_entry}
-use Rattle.dmx_calls.specs.Histories.{feeder_acts}
 use Rattle.dmx_calls.proofs.Telling.{fills}
 use Rattle.script_run.proofs.Events.{of_stream}
 use Rattle.adapter.specs.Rows.{column}
@@ -28,7 +27,7 @@ use Rattle.workers.proofs.Members.{has_at}
 use Rattle.workers.proofs.Calls.{has_all}
 use Rattle.adapter.proofs.Everybody.{in_column, of_column}
 use Rattle.workers.proofs.Columns.{some_calls}
-use Rattle.workers.proofs.Feeders.{Picks, got, got_back, ups_from, picked, stand_picks, has_own, fed_is, fed_zero, acts_of}
+use Rattle.workers.proofs.Feeders.{got, got_back, ups_from, picked, stand_picks, has_own, fed_is, fed_zero, acts_of}
 
 -- an entry of a client, filled with the stream, is the one that it tells
 fills_entry : (stream : List (List ℕ)) (e : LogEntry) (x : Entry) → Tells e x → PassesNone e.act → filled_entry stream e ≡ x

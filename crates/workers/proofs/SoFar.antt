@@ -1,5 +1,5 @@
 -- Callers of a script, joined at any moment, leave the histories of a run so far.
-use Rattle.std.proofs.Common.{◌≡◌, ◌≢◌, ◌⊎◌, inl, inr, ⊎_elim, ℕ, suc, ◌+◌, ◌<◌, ◌≤◌, Bool, true, false, nat_lt, List, [], ◌∷◌, ◌++◌, append-nil, length, map, sum, take, slice_get, Option, Some, None, All, refl, ap, sym, ◌∙◌, subst, arith}
+use Rattle.std.proofs.Common.{◌≡◌, ◌≢◌, ⊎_elim, ℕ, suc, ◌+◌, ◌<◌, ◌≤◌, Bool, true, false, nat_lt, List, [], ◌∷◌, ◌++◌, append-nil, length, map, take, slice_get, Option, Some, None, All, refl, ap, sym, ◌∙◌, subst, arith}
 use Rattle.std.specs.Prelude.{IsSome, IsTrue, reverse}
 use Rattle.std.specs.List.{AllByRecursion}
 use Rattle.std.proofs.lemmas.Bool.Decides.{nat_tests}
@@ -16,13 +16,13 @@ use Rattle.dmx_calls.specs.History.{Entry}
 use Rattle.dmx_calls.specs.Response.{NoMemory}
 use Rattle.dmx_calls.specs.Rules.{rules_at}
 use Rattle.dmx_calls.specs.Legal.{IsLegalFor}
-use Rattle.dmx_calls.specs.Log.{LogEntry, filled, filled_entry}
+use Rattle.dmx_calls.specs.Log.{LogEntry}
 use Rattle.dmx_calls.specs.Histories.{feeder_acts, feeder_entry, pass_act}
 use Rattle.dmx_calls.proofs.Weaving.{in_place-at}
 use Rattle.client_script.specs.declared.line.Line.{Line}
 use Rattle.client_script.specs.Script.{clients_in}
 use Rattle.client_core.specs.Events.{next_event, waits_on}
-use Rattle.script_run.specs.IsRun.{Step, StandsIn, feeding, replies, steps_of}
+use Rattle.script_run.specs.IsRun.{Step, feeding, replies, steps_of}
 use Rattle.script_run.specs.WholeRun.{IsGiven}
 use Rattle.script_run.specs.SoFar.{PassesNone, others as Others, IsPaidBehind, IsFedSoFar, HasDoneSoFar, IsSoFar}
 use Rattle.script_run.proofs.Events.{event_passes_none}
@@ -37,7 +37,7 @@ use Rattle.workers.proofs.Calls.{has_all, all_has}
 use Rattle.workers.proofs.Batches.{sizes, total_is, given}
 use Rattle.workers.proofs.Feeders.{acts_of}
 use Rattle.workers.proofs.Owning.{Moment, acts_by, called}
-use Rattle.workers.proofs.Merged.{AreWoven, there, node_low, stands}
+use Rattle.workers.proofs.Merged.{AreWoven, there, stands}
 
 -- a client of a script has made just the calls of its log
 pub has_logged : (lines : List Line) (c : ℕ) (may : ℕ → Bool) (client : Caller) (log : List LogEntry) → HasCalled lines c may client log → HasLogged c client log
