@@ -2,28 +2,29 @@
 use Rattle.std.proofs.Common.{◌≡◌, refl, sym, ap, ◌∙◌, ℕ}
 use Rattle.dmx_calls.specs.declared.log.Act.{Act}
 use Rattle.dmx_calls.specs.Log.{act_of}
-use Rattle.client_core.specs.declared.event.Want.{Want}
-use Rattle.client_core.specs.declared.event.Want.TheVariants.{Open, Close, Section, Pes, Add, Remove, Start, Stop, Size, Read, Poll, Attach, Detach}
+use Rattle.client_core.specs.declared.event.Request.{Request}
+use Rattle.client_core.specs.declared.event.Request.TheVariants.{Own, Attach, Detach}
+use Rattle.client_script.specs.declared.line.Want.TheVariants.{Open, Close, Section, Pes, Add, Remove, Start, Stop, Size, Read, Poll}
 use Rattle.client_core.specs.Commands.{call_of}
 use Rattle.walk_check.specs.Inside.Steps.{asked_at}
 
-own : (want : Want) (m : ℕ) → asked_at want (act_of (call_of want m)) ≡ act_of (call_of want m)
-own Open m = refl
-own Close m = refl
-own (Section p) m = refl
-own (Pes p) m = refl
-own (Add pid) m = refl
-own (Remove pid) m = refl
-own Start m = refl
-own Stop m = refl
-own (Size n) m = refl
-own (Read n) m = refl
-own Poll m = refl
+own : (request : Request) (m : ℕ) → asked_at request (act_of (call_of request m)) ≡ act_of (call_of request m)
+own (Own Open) m = refl
+own (Own Close) m = refl
+own (Own (Section p)) m = refl
+own (Own (Pes p)) m = refl
+own (Own (Add pid)) m = refl
+own (Own (Remove pid)) m = refl
+own (Own Start) m = refl
+own (Own Stop) m = refl
+own (Own (Size n)) m = refl
+own (Own (Read n)) m = refl
+own (Own Poll) m = refl
 own (Attach node pids) m = refl
 own (Detach node) m = refl
 
 -- a call that is asked for at some moment is asked for at its own
-pub at_own : (want : Want) (m : ℕ) (act : Act) → act ≡ act_of (call_of want m) → act ≡ asked_at want act
-at_own want m act e = e ∙ (sym (own want m) ∙ ap (asked_at want) (sym e))
+pub at_own : (request : Request) (m : ℕ) (act : Act) → act ≡ act_of (call_of request m) → act ≡ asked_at request act
+at_own request m act e = e ∙ (sym (own request m) ∙ ap (asked_at request) (sym e))
 
 pub ruleset asked_rules = (at_own)

@@ -2,11 +2,12 @@
 ghost use Rattle.std.specs.Prelude.{◌≡◌, ◌≢◌, ◌≤◌, true, false, Some};
 ghost use Rattle.dmx_calls.specs.Calls.{told_entry};
 ghost use Rattle.dmx_calls.specs.Log.{act_of};
-ghost use Rattle.client_core.specs.Commands.{call_of};
+ghost use Rattle.client_core.specs.Commands.{call_of, own_call};
 ghost use Rattle.script_run.specs.IsRun.{IsEvent};
 ghost use Rattle.walk_check.specs.Inside.Steps.{moment_in};
 
-use client_core::{Event, Want};
+use client_core::{Event, Request};
+use client_script::Want;
 use dmx_calls::{Act, Entry};
 
 // The moment of a call; 0 where it has none.
@@ -24,33 +25,36 @@ fn moment_of(act: &Act) -> u64
     }
 }
 
-// What is asked for, made at this moment.
-fn asked(want: &Want, now: u64) -> Act
-    ensures { result ≡ act_of (call_of want.now now) }
+// What a command asks for, made at this moment.
+fn asked_by_command(want: Want, now: u64) -> Act
+    ensures { result ≡ act_of (own_call want now) }
 {
     match want {
         Want::Open => Act::Open,
         Want::Close => Act::Close,
-        Want::Section(params) => Act::SetFilter {
-            params: *params,
-            now,
-        },
-        Want::Pes(params) => Act::SetPes {
-            params: *params,
-            now,
-        },
-        Want::Add(pid) => Act::AddPid(*pid),
-        Want::Remove(pid) => Act::RemovePid(*pid),
+        Want::Section(params) => Act::SetFilter { params, now },
+        Want::Pes(params) => Act::SetPes { params, now },
+        Want::Add(pid) => Act::AddPid(pid),
+        Want::Remove(pid) => Act::RemovePid(pid),
         Want::Start => Act::Start { now },
         Want::Stop => Act::Stop,
-        Want::Size(size) => Act::SetSize(*size),
-        Want::Read(count) => Act::Read { now, count: *count },
+        Want::Size(size) => Act::SetSize(size),
+        Want::Read(count) => Act::Read { now, count },
         Want::Poll => Act::Poll { now },
-        Want::Attach { node, pids } => Act::Attach {
+    }
+}
+
+// What is asked for, made at this moment.
+fn asked(request: &Request, now: u64) -> Act
+    ensures { result ≡ act_of (call_of request.now now) }
+{
+    match request {
+        Request::Own(want) => asked_by_command(*want, now),
+        Request::Attach { node, pids } => Act::Attach {
             node: *node,
             pids: pids.copied(),
         },
-        Want::Detach { node } => Act::Detach { node: *node },
+        Request::Detach { node } => Act::Detach { node: *node },
     }
 }
 

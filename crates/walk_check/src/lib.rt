@@ -15,7 +15,9 @@
 //! queues can be walked in one way only.
 //!
 //! What isn't proved here: whether the replies are those that the nodes give, which `history_check` asks by playing them again.
-//! Nothing is tested yet: the program doesn't use the crate yet.
+//!
+//! What is only tested, in `check_tests`: that the entries meant are walked, and that they aren't where one is missing, left over
+//! or another. The program doesn't use the crate yet.
 //!
 //! A walk passes over the entries of each node once. It takes no memory.
 #![tactic(auto)]

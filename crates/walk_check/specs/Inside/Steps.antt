@@ -3,7 +3,7 @@ use Rattle.std.specs.Prelude.{◌≡◌, ℕ, ◌+◌, List, [], ◌∷◌, leng
 use Rattle.dmx_calls.specs.declared.log.Act.{Act}
 use Rattle.dmx_calls.specs.declared.log.Act.TheVariants.{SetFilter as SetFilterAct, SetPes as SetPesAct, Start as StartAct, Read as ReadAct, Poll as PollAct, Pass as PassAct}
 use Rattle.dmx_calls.specs.Log.{LogEntry, act_of}
-use Rattle.client_core.specs.declared.event.Want.{Want}
+use Rattle.client_core.specs.declared.event.Request.{Request}
 use Rattle.client_core.specs.Commands.{call_of}
 
 -- the moment of a call; 0 where it has none
@@ -17,8 +17,8 @@ moment_in (PassAct input first count now) = now
 moment_in _ = 0
 
 -- the call that is asked for, made at the moment of this one
-abbrev pub asked_at : Want → Act → Act
-asked_at want act = act_of (call_of want (moment_in act))
+abbrev pub asked_at : Request → Act → Act
+asked_at request act = act_of (call_of request (moment_in act))
 
 -- an entry was taken from the front of a node's queue, and nothing else
 pub record IsTaken (node : ℕ) (e : LogEntry) (old new : List (List LogEntry)) : Type 0 where
