@@ -356,7 +356,7 @@ const OTHER_RECORDING: &[Changed] = &[
     (3, Change::Said(DONE)),
     (3, Change::Said(Said::Refused(Errno::Enospc))),
     (4, Change::Said(Said::Attach(&[256]))),
-    (4, Change::Later),
+    (5, Change::Later),
     (5, Change::Said(DONE)),
     (5, Change::Said(Said::Attach(&[]))),
 ];
