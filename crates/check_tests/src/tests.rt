@@ -1,0 +1,5 @@
+// What the rows share, and the rows.
+
+mod played;
+mod told;
+mod walked;
