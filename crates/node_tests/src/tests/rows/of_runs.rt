@@ -4,8 +4,10 @@ use crate::tests::{Cell, DONE, OPEN, OTHER, P0, P1, P2, P3, Row, Step, Want, odd
 use dmx_calls::{Answer, Call, Input, Reply, Span, Tap};
 use machine::Machine;
 use std::alloc::AllocError as NoMemory;
+use std::sync::Arc;
 use std::sync::ledger::Ledger;
 use steps::Steps;
+use ts_batch::Batch;
 
 // A node that tells what it is called: to Open, Busy has the caller; to Start, TimedOut has the moment; to a Pass, Overflow has its
 // packets and its moment, and its first number is 1 where it isn't of the frontend.
@@ -36,6 +38,14 @@ fn reply_to(who: u32, call: &Call) -> Reply {
     }
 }
 
+// The batch that a call brings.
+fn batch_in(call: Call) -> Option<Arc<Batch>> {
+    match call {
+        Call::Pass { batch, .. } => Some(batch),
+        _ => None,
+    }
+}
+
 impl Machine for Parrot {
     ghost use Rattle.std.specs.Prelude.{◌≡◌, length, refl};
 
@@ -60,11 +70,10 @@ impl Machine for Parrot {
     fn apply<L: Ledger>(&mut self, who: u32, call: Call, _steps: &mut Steps<L>) -> Answer {
         self.made += 1;
         let reply = reply_to(who, &call);
-        let batch = match call {
-            Call::Pass { batch, .. } => Some(batch),
-            _ => None,
-        };
-        Answer { reply, batch }
+        Answer {
+            reply,
+            batch: batch_in(call),
+        }
     }
 
     ghost names = { λ who call answer. refl };
