@@ -1,20 +1,13 @@
 -- Tests over the bytes of a filter, one byte more at a time.
 use Rattle.std.proofs.Common.{rules, ◌≡◌, ◌≢◌, ℕ, zero, suc, ◌+◌, ◌-◌, ◌<◌, ◌≤◌, Bool, true, false, not, ◌&&◌, ◌||◌, nat_eq, nat_le, nat_lt, List, [], ◌∷◌, length, slice_index, bit_and, bit_xor, refl, sym, ap, ◌∙◌, inl, inr, arith}
 use Rattle.std.specs.List.{list_all, list_any}
+use Rattle.std.proofs.Math.Bool.{and-true, and-false, or-true, or-false}
 use Rattle.std.proofs.lemmas.List.Folds.{list_all-append, list_any-append}
 use Rattle.std.proofs.lemmas.Bool.{cases_lt}
 use Rattle.std.proofs.lemmas.Bool.Decides.{nat_tests}
 use Rattle.filter_match.specs.declared.filter.SectionFilter.{SectionFilter}
 use Rattle.filter_match.specs.Match.{place_of, numbers_below, reaches_at, differences, equals_at, differs_at, negates_at, matches}
 use Rattle.filter_match.specs.Inside.Compiling.{IsCompiled}
-
-and-true : (b : Bool) → (b && true) ≡ b
-and-true true = refl
-and-true false = refl
-
-or-false : (b : Bool) → (b || false) ≡ b
-or-false true = refl
-or-false false = refl
 
 pub all-more : (p : ℕ → Bool) (n : ℕ) → list_all p (numbers_below (n + 1)) ≡ (list_all p (numbers_below n) && p n)
 unfolding numbers_below
@@ -27,14 +20,6 @@ unfolding numbers_below
 any-more p n =
     let e : n + 1 ≡ suc n = omega arith in
     rw e (list_any-append p (numbers_below n) (n ∷ []) ∙ ap (λ b. list_any p (numbers_below n) || b) (or-false (p n)))
-
-and-false : (b : Bool) → (b && false) ≡ false
-and-false true = refl
-and-false false = refl
-
-or-true : (b : Bool) → (b || true) ≡ true
-or-true true = refl
-or-true false = refl
 
 pub all-next : (p : ℕ → Bool) (n : ℕ) → list_all p (numbers_below n) ≡ true → p n ≡ true → list_all p (numbers_below (n + 1)) ≡ true
 all-next p n h k = all-more p n ∙ rw (h, k) refl

@@ -1,11 +1,13 @@
 -- `matches` says what a filter means bit by bit.
-use Rattle.std.proofs.Common.{rules, ◌≡◌, ◌≢◌, ℕ, zero, suc, ◌+◌, ◌-◌, ◌/◌, ◌%◌, ◌^◌, ◌<◌, min, Bool, true, false, not, ◌&&◌, ◌||◌, nat_eq, nat_lt, List, length, slice_index, bit_and, bit_xor, refl, sym, ap, ◌∙◌, inl, inr, arith, ◌↔◌, IsTrue}
+use Rattle.std.proofs.Common.{rules, ◌≡◌, ◌≢◌, ℕ, zero, suc, ◌+◌, ◌-◌, ◌/◌, ◌%◌, ◌^◌, ◌<◌, min, Bool, true, false, not, ◌||◌, nat_eq, nat_lt, List, length, slice_index, bit_and, bit_xor, refl, sym, ap, ◌∙◌, inl, inr, arith, ◌↔◌, IsTrue}
 use Rattle.std.specs.List.{list_all, list_any}
 use Rattle.std.specs.Int.{w8}
-use Rattle.std.proofs.lemmas.Bool.{cases_eq, cases_lt}
+use Rattle.std.proofs.lemmas.Bool.{cases_eq, cases_lt, and_parts}
 use Rattle.std.proofs.lemmas.Bool.Decides.{nat_tests}
+use Rattle.std.proofs.Math.Bool.{or-true, or-false}
 use Rattle.std.proofs.lemmas.Nat.{and_le_r}
 use Rattle.std.proofs.lemmas.Nat.Bits.{bit_at_and, bit_at_xor, bit_at_not, bit_at-zero, bit_at-trailing_zeros}
+use Rattle.lemmas.proofs.Tests.{by_bool}
 use Rattle.filter_match.specs.declared.filter.SectionFilter.{SectionFilter}
 use Rattle.filter_match.specs.Match.{place_of, numbers_below, reaches_at, differences, equals_at, differs_at, negates_at, matches}
 use Rattle.filter_match.specs.Meaning.{bit_of, HasMode, IsMatch}
@@ -13,28 +15,8 @@ use Rattle.filter_match.proofs.Bytes.{all-none, all-next, all-stops, any-none, a
 
 -- ---- tests over the bytes, as facts on each
 
-by-bool : (b : Bool) (P : Type 0) → (b ≡ true → P) → (b ≡ false → P) → P
-by-bool true P f g = f refl
-by-bool false P f g = g refl
-
-and-left : (a b : Bool) → (a && b) ≡ true → a ≡ true
-and-left true b h = refl
-and-left false b h = h
-
-and-right : (a b : Bool) → (a && b) ≡ true → b ≡ true
-and-right true b h = h
-and-right false b h = absurd (cc)
-
-or-true : (b : Bool) → (b || true) ≡ true
-or-true true = refl
-or-true false = refl
-
-or-false : (b : Bool) → (b || false) ≡ true → b ≡ true
-or-false true h = refl
-or-false false h = h
-
 all-at : (p : ℕ → Bool) (n i : ℕ) → list_all p (numbers_below n) ≡ true → i < n → p i ≡ true
-all-at p n i h l = by-bool (p i) (p i ≡ true) (λ e. e) (λ e. let f : list_all p (numbers_below n) ≡ false = all-stops p i n l e in absurd (cc))
+all-at p n i h l = by_bool (p i) (p i ≡ true) (λ e. e) (λ e. let f : list_all p (numbers_below n) ≡ false = all-stops p i n l e in absurd (cc))
 
 all-from : (p : ℕ → Bool) (n : ℕ) → ((i : ℕ) → i < n → p i ≡ true) → list_all p (numbers_below n) ≡ true
 all-from p zero h = all-none p
@@ -47,11 +29,11 @@ any-some p zero h = let e : list_any p (numbers_below 0) ≡ false = any-none p 
 any-some p (suc n) h =
     let e : n + 1 ≡ suc n = omega arith in
     let split : (list_any p (numbers_below n) || p n) ≡ true = sym (any-more p n) ∙ ap (λ k. list_any p (numbers_below k)) e ∙ h in
-    by-bool (p n) ((i : ℕ) × ((i < suc n) × (p i ≡ true)))
+    by_bool (p n) ((i : ℕ) × ((i < suc n) × (p i ≡ true)))
     (λ y. (n, (omega arith, y)))
     (λ z.
     let earlier : (list_any p (numbers_below n) || false) ≡ true = rw z at split in
-    let found = any-some p n (or-false (list_any p (numbers_below n)) earlier) in
+    let found = any-some p n (sym (or-false (list_any p (numbers_below n))) ∙ earlier) in
     (found.0, (omega (arith, found.1.0), found.1.1)))
 
 any-from : (p : ℕ → Bool) (n i : ℕ) → i < n → p i ≡ true → list_any p (numbers_below n) ≡ true
@@ -178,10 +160,10 @@ module _ (f : SectionFilter) (s : List ℕ) where
     meant : matches f s ≡ true → IsMatch f s
     unfolding matches
     meant h =
-        let first = and-left _ _ h in
-        let reach : list_all (reaches_at f s) (numbers_below 16) ≡ true = and-left _ _ first in
-        let equal : list_all (equals_at f s) (numbers_below 16) ≡ true = and-right _ _ first in
-        let negated : (not (list_any (negates_at f) (numbers_below 16)) || list_any (differs_at f s) (numbers_below 16)) ≡ true = and-right _ _ h in
+        let first = (and_parts _ _ h).0 in
+        let reach : list_all (reaches_at f s) (numbers_below 16) ≡ true = (and_parts _ _ first).0 in
+        let equal : list_all (equals_at f s) (numbers_below 16) ≡ true = (and_parts _ _ first).1 in
+        let negated : (not (list_any (negates_at f) (numbers_below 16)) || list_any (differs_at f s) (numbers_below 16)) ≡ true = (and_parts _ _ h).1 in
         record {
           reaches = λ i l. reaches-at i (all-at (reaches_at f s) 16 i reach l);
           equals = λ i k m. equals-at i k (all-at (equals_at f s) 16 i equal m.byte) m;
@@ -198,7 +180,7 @@ module _ (f : SectionFilter) (s : List ℕ) where
     meant-all h =
         let reach : list_all (reaches_at f s) (numbers_below 16) ≡ true = all-from (reaches_at f s) 16 (λ i l. reaches-from i (h.reaches i l)) in
         let equal : list_all (equals_at f s) (numbers_below 16) ≡ true = all-from (equals_at f s) 16 (λ i l. equals-from i l (λ k. h.equals i k)) in
-        by-bool (list_any (negates_at f) (numbers_below 16)) _
+        by_bool (list_any (negates_at f) (numbers_below 16)) _
         (λ n.
         let i = any-some (negates_at f) 16 n in
         let k = negates-some i.0 i.1.0 i.1.1 in

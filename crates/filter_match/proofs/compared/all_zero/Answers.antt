@@ -1,13 +1,10 @@
-use Rattle.std.proofs.Common.{◌≡◌, Bool, true, false, not, slice_index, nat_eq, ◌∙◌, ap, sym, refl, arith, w8}
+use Rattle.std.proofs.Common.{not, slice_index, nat_eq, ◌∙◌, ap, sym, arith, w8}
 use Rattle.std.specs.List.{list_all}
 use Rattle.std.proofs.lemmas.List.{take_all}
 use Rattle.std.proofs.lemmas.Simd.{bitmask_splat}
+use Rattle.std.proofs.Math.Bool.{not-not}
 use Rattle.filter_match.proofs.Lanes.{mask-none, all-places, all-same}
 use Rattle.filter_match.proofs.compared.all_zero.Goals as goal
-
-not-not : (b : Bool) → not (not b) ≡ b
-not-not true = refl
-not-not false = refl
 
 pub returns : goal.returns
 returns c =

@@ -1,17 +1,10 @@
-use Rattle.std.proofs.Common.{◌≡◌, true, false, Bool, not, ◌||◌, sym, refl}
+use Rattle.std.proofs.Common.{not, sym, refl}
+use Rattle.std.proofs.Math.Bool.{or-true, or-false}
 use Rattle.filter_match.proofs.Bytes.{not-reached, matches-is}
 use Rattle.filter_match.proofs.compiled.Compiled.selects.Goals as goal
 
 pub returns-then-section-self : goal.returns-then-section-self
 returns-then-section-self c = rw (← c.self.view_is) (sym (not-reached c.self.inside.filter c.args.section.now _ _ c.self.invariant c.if-section-self.true))
-
-or-true : (b : Bool) → (b || true) ≡ true
-or-true true = refl
-or-true false = refl
-
-or-false : (b : Bool) → (b || false) ≡ b
-or-false true = refl
-or-false false = refl
 
 pub returns-then-compared-2 : goal.returns-then-compared-2
 returns-then-compared-2 c =
