@@ -1,5 +1,7 @@
--- Members of lists, and of lists to which one member, or more, are added.
-use Rattle.std.proofs.Common.{◌≡◌, ◌⊎◌, ℕ, zero, suc, ◌<◌, List, [], ◌∷◌, ◌++◌, length, slice_get, Some, inl, inr, ⊎_elim, refl, ap, sym, ◌∙◌, arith, length-append}
+-- Members of lists, and of lists to which one member, or more, are added. What each member of a list is. Tests of members.
+use Rattle.std.proofs.Common.{◌≡◌, ◌⊎◌, ℕ, zero, suc, ◌<◌, Bool, ◌||◌, List, [], ◌∷◌, ◌++◌, length, map, slice_get, Some, inl, inr, ⊎_elim, refl, ap, sym, ◌∙◌, arith, length-append}
+use Rattle.std.specs.List.{All, list_any}
+use Rattle.std.proofs.lemmas.List.Elements.{All-nil, All-cons, All-head, All-tail}
 
 -- what stands at a place
 pub at_place : {A : Type 0} (l : List A) (i : ℕ) → i < length l → (a : A) × (slice_get l i ≡ Some a)
@@ -32,3 +34,18 @@ at_end (x ∷ xs) a b (suc i) e = ⊎_elim (λ h. inl h) (λ h. inr (ap suc h.0,
 -- a list that goes on behind another isn't that one
 pub not_all : {A : Type 0} (xs ys zs : List A) (y : A) → xs ≡ ys ++ y ∷ zs → ¬ (xs ≡ ys)
 not_all xs ys zs y e = λ f. omega (arith, ap length e, ap length f, length-append ys (y ∷ zs))
+
+-- what each member of two lists in a row is, each member of the first is
+pub all_front : {A : Type 0} (P : A → Type 0) (xs ys : List A) → All P (xs ++ ys) → All P xs
+all_front P [] ys all = All-nil P
+all_front P (x ∷ xs) ys all = All-cons P x xs (All-head P x (xs ++ ys) all) (all_front P xs ys (All-tail P x (xs ++ ys) all))
+
+-- and each member of the second
+pub all_behind : {A : Type 0} (P : A → Type 0) (xs ys : List A) → All P (xs ++ ys) → All P ys
+all_behind P [] ys all = all
+all_behind P (x ∷ xs) ys all = all_behind P xs ys (All-tail P x (xs ++ ys) all)
+
+-- a test finds one of the values of members just where it finds a member by its value
+pub any_of_map : {A B : Type 0} (test : B → Bool) (value : A → B) (xs : List A) → list_any test (map value xs) ≡ list_any (λ x. test (value x)) xs
+any_of_map test value [] = refl
+any_of_map test value (x ∷ xs) = ap (λ b. test (value x) || b) (any_of_map test value xs)
