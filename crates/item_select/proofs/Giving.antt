@@ -3,6 +3,7 @@ use Rattle.std.specs.Prelude.{slice_get, ◌↔◌, IsNone}
 use Rattle.std.proofs.Common.{◌≡◌, List, [], ◌∷◌, ◌++◌, ℕ, length, Option, Some, None, refl, sym, ap, ◌∙◌, arith, length-append}
 use Rattle.std.proofs.lemmas.List.{append-nil}
 use Rattle.std.proofs.lemmas.List.Sums.{sum_by-cons}
+use Rattle.lemmas.proofs.Lists.{not_all}
 use Rattle.item_select.specs.Items.{items_of}
 use Rattle.item_select.specs.Selecting.{Selecting, Selects, Gave, without_first}
 use Rattle.item_select.proofs.Selected.{Selects-next, without_first-none}
@@ -14,16 +15,12 @@ pub record Answers (s left : Selecting) (o : Option (List ℕ)) : Type 0 where
   pub none : (offered given : List (List ℕ)) → Selects offered given s → (IsNone o ↔ (items_of s.choice offered ≡ given))
   pub gave : Gave s o left
 
--- an item that is ready is one more than were given
-not-all : (xs ys zs : List (List ℕ)) (y : List ℕ) → xs ≡ ys ++ (y ∷ zs) → ¬ (xs ≡ ys)
-not-all xs ys zs y e = λ f. omega (arith, ap length e, ap length f, length-append ys (y ∷ zs))
-
 -- x is the first item that is ready
 answers-first : (s left : Selecting) (x : List ℕ) (ready rest : List (List ℕ)) → s.ready ≡ ready → ready ≡ x ∷ rest → left ≡ without_first s → Answers s left (Some x)
 answers-first s left x ready rest r e f = record {
   item = rw (r, e) refl;
   drained = (λ z. absurd cc, λ z. absurd cc);
-  none = λ offered given h. (λ z. absurd cc, λ z. absurd (not-all (items_of s.choice offered) given rest x (h.so_far ∙ rw (r, e) refl) z));
+  none = λ offered given h. (λ z. absurd cc, λ z. absurd (not_all (items_of s.choice offered) given rest x (h.so_far ∙ rw (r, e) refl) z));
   gave = record {
     value = f;
     drained = λ z. absurd cc;

@@ -11,7 +11,7 @@ use Rattle.section_parse.specs.Segments.{runs}
 use Rattle.section_parse.specs.Sections.{sections}
 use Rattle.section_parse.specs.Inside.Keeping.{Assembly, after_packet, all_given as all_taken, kept as kept_after_all, length_of}
 use Rattle.section_parse.proofs.Assembled.{goes, kept-stands, kept-append, Assembled-push}
-use Rattle.section_parse.proofs.WholeLists.{stay}
+use Rattle.section_parse.proofs.WholeLists.{carried-few, stay}
 use Rattle.item_select.specs.declared.selector.Give.{Give}
 use Rattle.item_select.specs.declared.selector.Give.TheVariants.{Payload, Whole}
 use Rattle.item_select.specs.Items.{Choice, Nothing, Sections, Packets, is_selected, first_if, given_by, items_of}
@@ -198,13 +198,6 @@ sum-payload p false e l = rw e (omega arith)
 pub sum-packet : (give : Give) (p : List ℕ) → length p ≡ 188 → sum_by length (listed (given_by give p)) ≤ 188
 sum-packet Whole p l = rw l (omega (arith, sum_by-cons length p []))
 sum-packet Payload p l = sum-payload p (has_payload p) refl l
-
-carried-few : (p : List ℕ) → length p ≡ 188 → length (carried p) ≤ 184
-carried-few p l = go (has_adaptation p) refl
-  where
-    go : (b : Bool) → has_adaptation p ≡ b → length (carried p) ≤ 184
-    go true e = rw e (omega (arith, length-drop (5 + get_or p 4 0) p))
-    go false e = rw e (omega (arith, length-drop 4 p))
 
 -- a packet adds at most its 188 bytes
 section-bytes : (pid : ℕ) (wanted : SectionFilter) (check once : Bool) (packets : List (List ℕ)) (p : List ℕ) → length p ≡ 188

@@ -1,5 +1,6 @@
 -- What the fields of a selector say after a step.
 use Rattle.std.proofs.Common.{◌≡◌, ℕ, ◌+◌, ◌≤◌, ◌||◌, Bool, true, false, List, [], ◌∷◌, length, filter, Option, Some, None, refl, arith}
+use Rattle.std.proofs.Math.Bool.{or-false}
 use Rattle.ts_packet.specs.Fields.{payload_of}
 use Rattle.section_parse.specs.Inside.Keeping.{Assembly, cleared, after_packet, all_given as all_taken, bytes_kept}
 use Rattle.filter_match.specs.declared.filter.SectionFilter.{SectionFilter}
@@ -60,10 +61,6 @@ pub next-section : (w : Wanted) (pid : ℕ) (f : SectionFilter) (check once : Bo
     → Answers (selecting_of w a is_spent waits last) (selecting_of w b once waits last) (Some x)
 next-section w pid f check true a b is_spent waits last x e t h k = rw (e, t) (answers-some _ _ x [] (rw h refl) (rw (h, k) refl))
 next-section w pid f check false a b is_spent waits last x e t h k = rw (e, t) (answers-some _ _ x (filter (is_selected f check) b.ready) h (rw (h, k) refl))
-
-or-false : (b : Bool) → (b || false) ≡ b
-or-false true = refl
-or-false false = refl
 
 -- the payload of the last packet is given, where it has one
 pub next-payload : (w : Wanted) (give : Give) (a : Assembly) (is_spent waits : Bool) (last : List ℕ) (o : Option (List ℕ)) → w ≡ PacketsWanted give → give ≡ Payload → waits ≡ true → o ≡ payload_of last

@@ -2,7 +2,7 @@
 use Rattle.std.proofs.Common.{◌≡◌, ℕ, zero, suc, ◌<◌, ◌^◌, Bool, true, false, not, ◌&&◌, ◌||◌, nat_eq, nat_lt, List, [], ◌∷◌, ◌++◌, length, slice_index, refl, sym, ap, ◌∙◌, inl, inr, arith}
 use Rattle.std.specs.List.{list_any, filter}
 use Rattle.std.proofs.lemmas.Bool.{cases_eq, cases_lt}
-use Rattle.std.proofs.Math.Bool.{or-true}
+use Rattle.std.proofs.Math.Bool.{or-true, and-false}
 use Rattle.lemmas.proofs.Tests.{by_bool}
 use Rattle.std.proofs.lemmas.Bool.Decides.{nat_tests}
 use Rattle.std.proofs.lemmas.List.Folds.{list_any-append}
@@ -143,11 +143,7 @@ and-same true f a i = i
 and-same false f a i = i
 
 members-others : (p pid : ℕ) (ps : List ℕ) → list_any (nat_eq p) (filter (λ q. not (nat_eq pid q)) ps) ≡ (not (nat_eq p pid) && list_any (nat_eq p) ps)
-members-others p pid [] = and-false (not (nat_eq p pid))
-  where
-    and-false : (b : Bool) → false ≡ (b && false)
-    and-false true = refl
-    and-false false = refl
+members-others p pid [] = sym (and-false (not (nat_eq p pid)))
 members-others p pid (q ∷ qs) =
     let before = members-others p pid qs in
     elim (cases_eq q pid) [

@@ -3,6 +3,7 @@ use Rattle.std.specs.Prelude.{slice_get}
 use Rattle.std.proofs.Common.{◌≡◌, ℕ, ◌+◌, true, List, [], ◌∷◌, ◌++◌, length, take, drop, Option, Some, None, refl, sym, ap, ◌∙◌, arith, length-append}
 use Rattle.std.proofs.lemmas.List.{append-nil}
 use Rattle.std.proofs.lemmas.List.Sums.{sum_by-cons}
+use Rattle.lemmas.proofs.Lists.{not_all}
 use Rattle.section_parse.specs.Sections.{section_length, read_sections, sections, IsSection}
 use Rattle.section_parse.specs.Inside.Keeping.{Assembly, Assembled, without_first, sections_of_open, left_of_open, bytes_kept}
 use Rattle.section_parse.specs.Inside.Held.{Advances, is_drained}
@@ -20,15 +21,12 @@ pub record Gives (a rest : Assembly) (s : List ℕ) : Type 0 where
   pub bytes : bytes_kept rest + length s ≡ bytes_kept a
   pub stands : (packets given : List (List ℕ)) → Assembled packets given a → Assembled packets (given ++ s ∷ []) rest
 
-not-all : (xs ys zs : List (List ℕ)) (y : List ℕ) → xs ≡ ys ++ (y ∷ zs) → ¬ (xs ≡ ys)
-not-all xs ys zs y e = λ f. omega (arith, ap length e, ap length f, length-append ys (y ∷ zs))
-
 gives-by : (pid : ℕ) (before o : Option (List ℕ)) (s : List ℕ) (rest : List (List ℕ)) → IsSection s
     → Gives (record { pid = pid; before = before; ready = s ∷ rest; open_now = o }) (record { pid = pid; before = before; ready = rest; open_now = o }) s
 gives-by pid before o s rest w = record {
   section = refl;
   whole = w;
-  some = λ packets given h. not-all (sections packets pid) given rest s h.so_far;
+  some = λ packets given h. not_all (sections packets pid) given rest s h.so_far;
   left = refl;
   some_ready = λ e. cc;
   drained = λ e. absurd cc;

@@ -48,15 +48,15 @@ unfolding sections
 are_whole packets pid = All-flat_map sections_of_run (λ run. All-segments (segments run)) (runs (clean packets pid))
 
 -- the bytes
-carried-few : (p : List ℕ) → IsPacket p → length (carried p) ≤ 184
-carried-few p h = go (has_adaptation p) refl
+pub carried-few : (p : List ℕ) → length p ≡ 188 → length (carried p) ≤ 184
+carried-few p size = go (has_adaptation p) refl
   where
     go : (b : Bool) → has_adaptation p ≡ b → length (carried p) ≤ 184
-    go true e = rw e (omega (arith, h.size, length-drop (5 + get_or p 4 0) p))
-    go false e = rw e (omega (arith, h.size, length-drop 4 p))
+    go true e = rw e (omega (arith, size, length-drop (5 + get_or p 4 0) p))
+    go false e = rw e (omega (arith, size, length-drop 4 p))
 
 are-few : (packets : List (List ℕ)) → All IsPacket packets → AreFew packets
-are-few packets h = λ k d below. carried-few (get_or packets k d) (h k d below)
+are-few packets h = λ k d below. carried-few (get_or packets k d) (h k d below).size
 
 pub fit : SectionsFitThePackets
 fit packets pid all =
