@@ -1,12 +1,12 @@
 -- What a selector keeps stands for the packets offered, packet by packet and item by item.
-use Rattle.std.proofs.Common.{◌≡◌, ◌≢◌, ℕ, ◌≤◌, ◌&&◌, ◌||◌, subst, Bool, true, false, List, [], ◌∷◌, ◌++◌, length, take, drop, Option, Some, None, refl, sym, ap, ◌∙◌, arith, append_assoc, length-drop, get_or, suc, ◌+◌}
+use Rattle.std.proofs.Common.{◌≡◌, ◌≢◌, ℕ, ◌≤◌, ◌&&◌, ◌||◌, subst, Bool, true, false, List, [], ◌∷◌, ◌++◌, length, take, drop, Option, Some, None, refl, sym, ap, ◌∙◌, arith, append_assoc, length-drop, suc, ◌+◌}
 use Rattle.std.proofs.lemmas.List.{append-nil}
 use Rattle.std.proofs.lemmas.List.Elements.{filter-append, filter_map-append}
 use Rattle.std.proofs.lemmas.List.Sums.{sum_by-cons, sum_by-take-le, sum_by-append}
 use Rattle.std.specs.List.{filter, filter_map, sum_by}
 use Rattle.filter_match.specs.declared.filter.SectionFilter.{SectionFilter}
-use Rattle.ts_packet.specs.Fields.{payload_of, payload_start, has_payload, has_adaptation}
-use Rattle.ts_packet.specs.Clean.{clean, without_repeats_after, carried}
+use Rattle.ts_packet.specs.Fields.{payload_of, payload_start, has_payload}
+use Rattle.ts_packet.specs.Clean.{clean, without_repeats_after}
 use Rattle.section_parse.specs.Segments.{runs}
 use Rattle.section_parse.specs.Sections.{sections}
 use Rattle.section_parse.specs.Inside.Keeping.{Assembly, after_packet, all_given as all_taken, kept as kept_after_all, length_of}

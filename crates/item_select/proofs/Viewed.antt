@@ -1,5 +1,5 @@
 -- What the fields of a selector say after a step.
-use Rattle.std.proofs.Common.{◌≡◌, ℕ, ◌+◌, ◌≤◌, ◌||◌, Bool, true, false, List, [], ◌∷◌, length, filter, Option, Some, None, refl, arith}
+use Rattle.std.proofs.Common.{◌≡◌, ℕ, ◌+◌, ◌≤◌, Bool, true, false, List, [], ◌∷◌, length, filter, Option, Some, None, refl, arith}
 use Rattle.std.proofs.Math.Bool.{or-false}
 use Rattle.ts_packet.specs.Fields.{payload_of}
 use Rattle.section_parse.specs.Inside.Keeping.{Assembly, cleared, after_packet, all_given as all_taken, bytes_kept}
