@@ -23,6 +23,6 @@ pub fn pcr(packet: &Packet) -> Option<u64>
     }
     let bytes = packet.bytes();
     let base = u64::from(BigEndian::read_u32(&bytes[6..])) * 2 + u64::from(bytes[10] >> 7);
-    let extension = u64::from(bytes[10] & 1) * 256 + u64::from(bytes[11]);
+    let extension = u64::from(BigEndian::read_u16(&bytes[10..]) & 0x1ff);
     Some(base * 300 + extension)
 }
