@@ -1,8 +1,8 @@
 -- What a history says, one entry later: tenure, what was set, the capture.
-use Rattle.std.proofs.Common.{ℕ, ◌≡◌, refl, sym, ◌∙◌, ap, Bool, true, false, not, ◌||◌, List, [], ◌∷◌, Option, Some, None}
+use Rattle.std.proofs.Common.{ℕ, ◌≡◌, refl, sym, ◌∙◌, ap, true, false, not, ◌||◌, List, [], ◌∷◌, Option, Some, None}
 use Rattle.std.specs.Prelude.{nat_eq, unwrap_or}
 use Rattle.std.specs.Option.{option_or}
-use Rattle.std.proofs.lemmas.Bool.{eqb-true}
+use Rattle.std.proofs.lemmas.Bool.{eqb-true, not-false, or_from}
 use Rattle.dmx_calls.specs.declared.limits.TheConstants.{DEMUX_SIZE}
 use Rattle.dmx_calls.specs.Invocation.{Invocation, Open, Close, SetFilter, SetPes, AddPid, RemovePid, Start, Stop, SetSize, Read, Poll, Pass, End, Attach, Detach}
 use Rattle.dmx_calls.specs.Response.{is_accepted}
@@ -144,13 +144,6 @@ pub record Stays (e : Entry) (h : History) : Type 0 where
   pub no_set : sets (event e h) ≡ false
   pub no_resize : resizes (event e h) ≡ false
 
-pub twice_not : (b : Bool) → not b ≡ false → b ≡ true
-twice_not true nay = refl
-twice_not false nay = absurd (cc)
-
-or_false : (a b : Bool) → a ≡ false → b ≡ false → (a || b) ≡ false
-or_false a b na nb = rw (na, nb) refl
-
 module _ (e : Entry) (h : History) (t : Since) (stays : Stays e h) (held : tenure h ≡ Some t) where
   pub tenure_stays : tenure (e ∷ h) ≡ Some (more (event e h) t)
   tenure_stays = tenure_after e h t stays.ok stays.no_open stays.no_close held
@@ -169,7 +162,7 @@ module _ (e : Entry) (h : History) (t : Since) (stays : Stays e h) (held : tenur
   size_same Stop is = rw is refl
   size_same (SetSize n) is =
       let same : not (nat_eq n (size h)) ≡ false = rw is at stays.no_resize in
-      rw is (eqb-true n (size h) (twice_not (nat_eq n (size h)) same))
+      rw is (eqb-true n (size h) (not-false (nat_eq n (size h)) same))
   size_same (Read now count) is = rw is refl
   size_same (Poll now) is = rw is refl
   size_same (Pass i first ps now) is = rw is refl
@@ -184,7 +177,7 @@ module _ (e : Entry) (h : History) (t : Since) (stays : Stays e h) (held : tenur
   params_stays = params_after e h t held tenure_stays stays.no_set
 
   pub capture_stays : capture (e ∷ h) ≡ also (event e h) (capture h)
-  capture_stays = capture_also e h t held tenure_stays stays.no_begin (or_false (sets (event e h)) (resizes (event e h)) stays.no_set stays.no_resize)
+  capture_stays = capture_also e h t held tenure_stays stays.no_begin (or_from (sets (event e h)) (resizes (event e h)) stays.no_set stays.no_resize)
 
 -- nothing in a node without an owner
 pub owner_none : (h : History) → owner h ≡ None → tenure h ≡ None

@@ -5,6 +5,7 @@ use Rattle.std.specs.Option.{option_or}
 use Rattle.std.specs.List.{list_any}
 use Rattle.std.proofs.lemmas.List.{append-nil}
 use Rattle.std.proofs.lemmas.List.Elements.{filter-append}
+use Rattle.std.proofs.lemmas.Bool.{or_parts}
 use Rattle.std.proofs.lemmas.Bool.Decides.{nat_tests}
 use Rattle.ts_packet.specs.Clean.{clean, without_repeats_after}
 use Rattle.section_parse.specs.Segments.{runs}
@@ -64,10 +65,6 @@ selected-grows (Section p) ev evs = section_items-grow p ev evs
 selected-grows (Pes p) ev evs = (picked p.output (pids ev.before) (packets_in p.input ev), refl)
 
 -- ------ an entry by which the capture goes on
-
-pub or_right : (a b : Bool) → (a || b) ≡ false → b ≡ false
-or_right true b nay = absurd (cc)
-or_right false b nay = nay
 
 pub unstopped-all : (evs : List Event) → list_any stops evs ≡ false → unstopped evs ≡ evs
 unstopped-all [] nay = refl
@@ -133,7 +130,7 @@ module _ (e : Entry) (h : History) (t s : Since) (stays : Stays e h) (held : ten
   unfolding live is_stopped
   live_more nay =
       let n : list_any stops (event e h ∷ s.after) ≡ false = rw capture_more at nay in
-      let all : unstopped s.after ≡ s.after = unstopped-all s.after (or_right (stops (event e h)) (list_any stops s.after) n) in
+      let all : unstopped s.after ≡ s.after = unstopped-all s.after (or_parts (stops (event e h)) (list_any stops s.after) n).1 in
       rw (capture_more, runs, n, all) refl
 
   expiry_stopped : is_stopped (e ∷ h) ≡ true → expiry (e ∷ h) ≡ expiry h
