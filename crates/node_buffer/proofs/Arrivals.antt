@@ -2,6 +2,7 @@
 use Rattle.std.proofs.Common.{ℕ, zero, suc, take, drop, add-one, ◌+◌, ◌-◌, ◌<◌, ◌≤◌, ◌≡◌, refl, sym, ◌∙◌, ap, subst, Bool, true, false, List, [], ◌∷◌, ◌++◌, Option, Some, None, length, arith, append_assoc, length-append, length-take, length-drop, add-zero, zero-add, add_assoc, one-add}
 use Rattle.std.specs.Prelude.{nat_eq, nat_lt, if◌then◌else◌, slice_get}
 use Rattle.std.specs.List.{concat}
+use Rattle.std.proofs.lemmas.List.Folds.{concat-append}
 use Rattle.std.proofs.lemmas.Bool.Decides.{nat_tests}
 use Rattle.std.proofs.lemmas.List.{append-nil, take-append-le, take_all}
 use Rattle.dmx_calls.specs.History.{History}
@@ -9,7 +10,7 @@ use Rattle.dmx_calls.specs.Tenure.{Params, Empty, Section, Pes}
 use Rattle.dmx_calls.specs.Rules.{Rules}
 use Rattle.dmx_calls.specs.Ledger.{Misfit, keeps, edge_of, joined, total, answered, over, edge}
 use Rattle.dmx_calls.specs.Facts.{Ledger, rest_of_item, rest_of, ledger_at}
-use Rattle.dmx_calls.proofs.Ledgers.{concat-append, PlacedIn, rest_of-end, over_none, ledger_next}
+use Rattle.dmx_calls.proofs.Ledgers.{PlacedIn, rest_of-end, over_none, ledger_next}
 use Rattle.dmx_calls.specs.Answer.{is_section}
 use Rattle.node_buffer.specs.Inside.Capturing.{terms_of, rest_with, with_lost, with_misfit, with_kept, with_item_by, with_item, with_items}
 use Rattle.node_buffer.specs.Inside.Coherent.{UnreadFits, Coherent}
