@@ -32,7 +32,8 @@ sixteen = refl
 abbrev kept : SectionFilter → List ℕ → List Place
 kept f numbers = filter (λ p. not (is_zero p)) (map (place_at f) numbers)
 
-at-HasBytes : (f : SectionFilter) (i : ℕ) → IsFilter f → i < 16 → HasBytes (place_at f i)
+-- each place of a filter is of bytes
+pub at-HasBytes : (f : SectionFilter) (i : ℕ) → IsFilter f → i < 16 → HasBytes (place_at f i)
 at-HasBytes f i is small =
     let a : i < length f.filter = rw is.0.0 small in
     let b : i < length f.mask = rw is.1.0 small in
@@ -129,7 +130,8 @@ filter_text-words f = words_of f (numbers_below 16)
 
 -- ------ the words of a filter
 
-below_each : (P : ℕ → Type 0) (n : ℕ) → ((i : ℕ) → i < n → P i) → All P (numbers_below n)
+-- what holds of each number below n holds of each of these numbers
+pub below_each : (P : ℕ → Type 0) (n : ℕ) → ((i : ℕ) → i < n → P i) → All P (numbers_below n)
 unfolding numbers_below
 below_each P zero each = All-nil P
 below_each P (suc n) each = All-push P (numbers_below n) n (below_each P n (λ i small. each i (omega arith))) (each n (omega arith))

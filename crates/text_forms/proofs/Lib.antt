@@ -1,5 +1,6 @@
 pub mod Below
 pub mod Decimals
+pub mod Filters
 pub mod FiltersRead
 pub mod HexPairs
 pub mod NamesRead
