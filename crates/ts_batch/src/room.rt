@@ -64,7 +64,8 @@ impl BatchRoom {
     /// The packets behind the first `count`.
     pub fn behind(&self, count: u32) -> &[Packet]
         requires { count ≤ length self.now.packets }
-        ensures { result.now ≡ drop count self.now.packets }
+        ensures value { result.now ≡ drop count self.now.packets }
+        ensures fits { length self.now.packets ≤ 64 }
     {
         &self.packets[count as usize..]
     }
