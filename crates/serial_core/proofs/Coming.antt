@@ -99,8 +99,12 @@ module _ (lines : List Line) (batch : ℕ) (packets : List (List ℕ)) (clients 
   fed_made over client c r long m =
       others_made lines client (λ node. entries_at node r) (λ node. entries_at node (fed_to_all c r)) r.has_ended over (replies_of client r)
       (λ node le. inr (entry_for 0 r.turns c (node_at node r), fed_entries node c r long le, λ same. absurd (omega (arith, same))))
-      (λ e le waits open. (entry_for 0 r.turns c (node_at e.node r), subst (λ h. slice_get h (e.place + 1) ≡ Some (entry_for 0 r.turns c (node_at e.node r))) (sym (fed_entries e.node c r long le))
-      (subst (λ n. slice_get (entries_at e.node r ++ entry_for 0 r.turns c (node_at e.node r) ∷ []) n ≡ Some (entry_for 0 r.turns c (node_at e.node r))) open.0 (at_last (entries_at e.node r) (entry_for 0 r.turns c (node_at e.node r)))), refl))
+      (λ e le waits unended. (
+        entry_for 0 r.turns c (node_at e.node r),
+        subst (λ h. slice_get h (e.place + 1) ≡ Some (entry_for 0 r.turns c (node_at e.node r))) (sym (fed_entries e.node c r long le))
+            (subst (λ n. slice_get (entries_at e.node r ++ entry_for 0 r.turns c (node_at e.node r) ∷ []) n ≡ Some (entry_for 0 r.turns c (node_at e.node r))) unended.0 (at_last (entries_at e.node r) (entry_for 0 r.turns c (node_at e.node r)))),
+        refl,
+      ))
       m
 
   not_ended : (r : Run) → HasCome r → 1 ≤ length r.left → r.has_ended ≡ false
@@ -158,20 +162,20 @@ module _ (lines : List Line) (batch : ℕ) (packets : List (List ℕ)) (clients 
 
   -- after a turn of the feeder before the end
   turn_last : (r : Run) → HasCome r → (turned batch r).has_ended ≡ false → (node : ℕ) → node ≤ DEMUX_NODES → IsFedLast node (turned batch r)
-  turn_last r p open node le = go (nat_eq (length r.left) 0) open where
+  turn_last r p unended node le = go (nat_eq (length r.left) 0) unended where
     go : (b : Bool) → (if b then ended r else passed r (min batch (length r.left))).has_ended ≡ false → IsFedLast node (if b then ended r else passed r (min batch (length r.left)))
-    go true open = absurd (let k : true ≡ false = sym (ended_over r) ∙ open in cc k)
-    go false open =
+    go true unended = absurd (let k : true ≡ false = sym (ended_over r) ∙ unended in cc k)
+    go false unended =
         let c : Invocation = call.Pass Frontend r.first (take (min batch (length r.left)) r.left) r.moment in
         (entries_at node r, entry_for 0 r.turns c (node_at node r), fed_entries node c r p.nodes le, refl)
 
   waited_last : (client : ℕ) (r : Run) → HasCome r → Waits lines client (replies_of client (after_waiting lines batch client r)) → (after_waiting lines batch client r).has_ended ≡ false
       → (node : ℕ) → node ≤ DEMUX_NODES → IsFedLast node (after_waiting lines batch client r)
-  waited_last client r p waits open node le =
-      go (is_some (waits_on client lines (replies_of client r))) (subst (λ rs. Waits lines client (slice_index_or rs client [])) (waiting_replies lines batch client r) waits) open where
+  waited_last client r p waits unended node le =
+      go (is_some (waits_on client lines (replies_of client r))) (subst (λ rs. Waits lines client (slice_index_or rs client [])) (waiting_replies lines batch client r) waits) unended where
         go : (b : Bool) → b ≡ true → (if b then turned batch r else r).has_ended ≡ false → IsFedLast node (if b then turned batch r else r)
-        go true is open = turn_last r p open node le
-        go false is open = absurd (cc is)
+        go true is unended = turn_last r p unended node le
+        go false is unended = absurd (cc is)
 
   -- ------ a call of a client
 
@@ -225,8 +229,8 @@ module _ (lines : List Line) (batch : ℕ) (packets : List (List ℕ)) (clients 
     -- the feeder has had its turn where the client waited
     not_last : (x : LogEntry) → x.node ≤ DEMUX_NODES → x.who ≡ client + 1 → slice_get (entries_at x.node r) x.place ≡ Some x → Waits lines client (replies_of client r)
         → IsOpenBehind (λ node. entries_at node r) r.has_ended x → ⊥
-    not_last x le mine there waits (last, open) =
-        let f = fed waits open x.node le in
+    not_last x le mine there waits (last, unended) =
+        let f = fed waits unended x.node le in
         let end : x.place ≡ length f.0 = omega (arith, last, ap length f.2, length-append f.0 (f.1 ∷ [])) in
         let same : f.1 ≡ x = same_some f.1 x (sym (at_last f.0 f.1) ∙ ap (slice_get (f.0 ++ f.1 ∷ [])) (sym end) ∙ ap (λ h. slice_get h x.place) (sym f.2) ∙ there) in
         absurd (omega (arith, mine, f.3, ap (λ y. y.who) same))
@@ -251,7 +255,7 @@ module _ (lines : List Line) (batch : ℕ) (packets : List (List ℕ)) (clients 
         let theirs : replies_of other after ≡ replies_of other r = get_or-set_other r.replies client other (replies_of client r ++ reply_to client e r ∷ []) [] ne in
         subst (λ rs. AreMade lines other (λ node. entries_at node after) r.has_ended rs) (sym theirs)
         (others_made lines other (λ node. entries_at node r) (λ node. entries_at node after) r.has_ended r.has_ended (replies_of other r) (λ node le. others node ne (at node))
-        (λ x le waits open. absurd (let none : IsSome {A = ℕ} None = subst (λ o. IsSome o) (only other ne) waits in cc none)) (p.made other less)) where
+        (λ x le waits unended. absurd (let k : true ≡ false = sym waits ∙ ap is_some (only other ne) in cc k)) (p.made other less)) where
           others : (node : ℕ) → other ≢ client → IsCalledAt client e r node
               → (entries_at node after ≡ entries_at node r) ⊎ ((y : LogEntry) × (entries_at node after ≡ entries_at node r ++ y ∷ []) × (y.who ≢ other + 1))
           others node ne (inl is) =
@@ -268,7 +272,7 @@ module _ (lines : List Line) (batch : ℕ) (packets : List (List ℕ)) (clients 
       sound = λ node le. call_sound node le (at node);
       fed = fed_other batch (λ node. entries_at node r) (λ node. entries_at node after) r.turns r.first r.has_ended p.fed (λ node le. call_fed node (at node));
       made = λ other less. call_made other less (nat_eq other client) refl;
-      silent = λ other no. get_or-set_other r.replies client other (replies_of client r ++ reply_to client e r ∷ []) [] (λ same. absurd (omega (arith, same, no, lt))) ∙ p.silent other no;
+      silent = λ other above. get_or-set_other r.replies client other (replies_of client r ++ reply_to client e r ∷ []) [] (λ same. absurd (omega (arith, same, above, lt))) ∙ p.silent other above;
     }
 
   -- ------ at the beginning
@@ -297,7 +301,7 @@ module _ (lines : List Line) (batch : ℕ) (packets : List (List ℕ)) (clients 
       in_order = λ i j e f less a b on. absurd (no_entry i e [] refl a);
       paid = λ i e is waits. absurd (no_entry i e [] refl is);
     };
-    silent = λ client no. none_said 8 client;
+    silent = λ client above. none_said 8 client;
   }
 
   -- ------ the run

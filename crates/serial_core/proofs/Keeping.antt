@@ -13,7 +13,6 @@ use Rattle.client_script.specs.declared.line.Line.{Line}
 use Rattle.client_script.specs.declared.line.Line.TheVariants.{Feed, Tick, Command}
 use Rattle.client_script.specs.declared.line.Target.{Target}
 use Rattle.client_script.specs.declared.line.Verb.{Verb}
-use Rattle.dmx_calls.specs.Response.{Response}
 use Rattle.std.proofs.lemmas.List.{get_or-set_other}
 use Rattle.client_core.specs.declared.event.Event.{Event}
 use Rattle.client_core.specs.Events.{progress, next_event, next_of_line, waits_on}
@@ -161,7 +160,8 @@ module _ (lines : List Line) (batch : ℕ) where
 
   -- a client's call leaves the others' replies
   called_only : (client : ℕ) (e : Event) (r : Run) → OnlyWaits client r → OnlyWaits client (called client e r)
-  called_only client e r only other ne = ap (λ rs. waits_on other lines rs) (get_or-set_other r.replies client other _ [] ne) ∙ only other ne
+  called_only client e r only other ne =
+      ap (λ rs. waits_on other lines rs) (get_or-set_other r.replies client other (replies_of client r ++ reply_to client e r ∷ []) [] ne) ∙ only other ne
 
   -- where the command of this line is through, the client doesn't wait
   abbrev WaitsIn : (client line : ℕ) → Run → Type 0
@@ -169,10 +169,8 @@ module _ (lines : List Line) (batch : ℕ) where
 
   called_in : (client line : ℕ) (e : Event) (r : Run) → next_of_line client lines line (replies_of client r) ≡ Some e → WaitsIn client line (called client e r)
   called_in client line e r is none = go (index_set r.replies client client (replies_of client r ++ reply_to client e r ∷ [])) where
-    after : List Response
-    after = replies_of client (called client e r)
-
-    go : (after ≡ replies_of client r) ⊎ (client ≡ client) × (after ≡ replies_of client r ++ reply_to client e r ∷ []) → waits_on client lines after ≡ None
+    go : (replies_of client (called client e r) ≡ replies_of client r) ⊎ (client ≡ client) × (replies_of client (called client e r) ≡ replies_of client r ++ reply_to client e r ∷ [])
+        → waits_on client lines (replies_of client (called client e r)) ≡ None
     go (inl same) = absurd (none_ne_some e (sym none ∙ ap (λ rs. next_of_line client lines line rs) same ∙ is))
     go (inr mine) =
         ap (λ rs. waits_on client lines rs) mine.1

@@ -77,7 +77,7 @@ module _ (lines : List Line) (client : ℕ) where
   } where
     paid : (i : ℕ) (e : LogEntry) → e.node ≤ DEMUX_NODES → Waits (replies (take (suc i) m.made)) → IsFedBehind logs e ⊎ (suc i ≡ length m.made) × IsOpenBehind logs ended e → IsFedBehind after e
     paid i e le waits (inl (x, there, feeder)) = (x, stays (logs e.node) (after e.node) (e.place + 1) x (others e.node le) there, feeder)
-    paid i e le waits (inr (last, open)) = pays e le (subst (λ rs. Waits rs) (ap replies (take_all (suc i) m.made (omega (arith, last))) ∙ m.same) waits) open
+    paid i e le waits (inr (last, unended)) = pays e le (subst (λ rs. Waits rs) (ap replies (take_all (suc i) m.made (omega (arith, last))) ∙ m.same) waits) unended
 
   -- ------ a call of the client
 
@@ -86,7 +86,7 @@ module _ (lines : List Line) (client : ℕ) where
       (place : x.place ≡ length (logs x.node)) (act : x.act ≡ act_of (call_of event.want moment)) (here : after x.node ≡ logs x.node ++ x ∷ [])
       (elsewhere : (node : ℕ) → node ≤ DEMUX_NODES → node ≢ x.node → after node ≡ logs node)
       (fed : (e : LogEntry) → e.node ≤ DEMUX_NODES → e.who ≡ client + 1 → slice_get (logs e.node) e.place ≡ Some e → Waits got → IsOpenBehind logs ended e → ⊥)
-      (open : Waits (got ++ x.response ∷ []) → ended ≡ false) where
+      (unended : Waits (got ++ x.response ∷ []) → ended ≡ false) where
     long : length m.made ≡ length got
     long = sym (length-map m.made (λ e. e.response)) ∙ ap length m.same
 
@@ -184,7 +184,7 @@ module _ (lines : List Line) (client : ℕ) where
     new_paid i e (inr new) waits =
         let long : length (after x.node) ≡ x.place + 1 = ap length here ∙ length-append (logs x.node) (x ∷ []) ∙ ap (λ n. n + 1) (sym place) in
         let said : replies (take (suc i) all) ≡ got ++ x.response ∷ [] = ap replies (take_all (suc i) all (omega (arith, count, new.0))) ∙ all_said in
-        inr (omega (arith, count, new.0), subst (λ y. IsOpenBehind after ended y) new.1 (long, open (subst (λ rs. Waits rs) said waits)))
+        inr (omega (arith, count, new.0), subst (λ y. IsOpenBehind after ended y) new.1 (long, unended (subst (λ rs. Waits rs) said waits)))
 
     pub mine_made : AreMade after ended (got ++ x.response ∷ [])
     mine_made = record {

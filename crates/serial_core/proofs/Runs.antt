@@ -1,5 +1,5 @@
 -- A moment of the serial run of a script is a run of it so far, so its calls are paid; and the whole serial run is a run.
-use Rattle.std.proofs.Common.{◌≡◌, ◌≢◌, refl, sym, ap, subst, ◌∙◌, ℕ, suc, ◌+◌, ◌<◌, ◌≤◌, Bool, true, false, not, List, ◌++◌, append_assoc, append-nil, [], Some, None, length, inl, inr, arith}
+use Rattle.std.proofs.Common.{◌≡◌, ◌≢◌, refl, sym, ap, subst, ◌∙◌, ◌⊎◌, ℕ, suc, ◌+◌, ◌*◌, ◌<◌, ◌≤◌, Bool, true, false, not, List, ◌++◌, append-nil, Some, None, length, inl, inr, arith}
 use Rattle.std.specs.Prelude.{IsSome, slice_get}
 use Rattle.std.specs.List.{All}
 use Rattle.std.proofs.lemmas.Bool.{cases_lt}
@@ -66,8 +66,8 @@ module _ (lines : List Line) (batch : ℕ) (packets : List (List ℕ)) (few : cl
     each_size = p.fed.each_size;
     within = omega (arith, p.fed.whole, p.first);
     on_each = λ node h log. (
-        end_of (length p.fed.batches) (not r.has_ended),
-        ap (λ l. l ++ end_of (length p.fed.batches) (not r.has_ended)) (fed_on node h log) ∙ fed_to_end (passes_of 0 0 p.fed.batches) (length p.fed.batches) r.has_ended ∙ all_steps p.fed.batches,
+      end_of (length p.fed.batches) (not r.has_ended),
+      ap (λ l. l ++ end_of (length p.fed.batches) (not r.has_ended)) (fed_on node h log) ∙ fed_to_end (passes_of 0 0 p.fed.batches) (length p.fed.batches) r.has_ended ∙ all_steps p.fed.batches,
     );
   }
 
@@ -82,7 +82,7 @@ module _ (lines : List Line) (batch : ℕ) (packets : List (List ℕ)) (few : cl
 
     paid : (i : ℕ) (e f : LogEntry) → slice_get m.made i ≡ Some e → slice_get m.made (suc i) ≡ Some f → IsFedBehind (λ node. entries_at node r) e ⊎ (suc i ≡ length m.made) × IsOpenBehind (λ node. entries_at node r) r.has_ended e
         → IsPaidBehind feeder client (histories_in r) e
-    paid i e f is next (inr (last, open)) = absurd (omega (arith, last, slice_get_within m.made (suc i) f next))
+    paid i e f is next (inr (last, unended)) = absurd (omega (arith, last, slice_get_within m.made (suc i) f next))
     paid i e f is next (inl (x, there, fed)) =
         let le = (m.steps i e is).within in
         let h : slice_get (histories_in r) e.node ≡ Some (entries_at e.node r) = histories_get r e.node p.nodes le in
@@ -110,7 +110,7 @@ module _ (lines : List Line) (batch : ℕ) (packets : List (List ℕ)) (few : cl
     | inl lt ↦
         let count : length (p.made client lt).made ≡ length (replies_of client r) = sym (length-map (p.made client lt).made (λ e. e.response)) ∙ ap length (p.made client lt).same in
         omega (arith, count, calls_are_paid feeder lines batch packets (histories_in r) so_far are client lt)
-    | inr no ↦ omega (arith, ap length (p.silent client no))
+    | inr above ↦ omega (arith, ap length (p.silent client above))
   ]
 
   -- where it is over it is a run
