@@ -1,4 +1,4 @@
--- A client's calls stand in the logs, each once and in their order; where the client repeats a read, an entry of the feeder stands between.
+-- A client's calls stand in the logs, each once and in their order, and an entry of the feeder behind one that waits.
 use Rattle.std.proofs.Common.{◌≡◌, ◌≢◌, refl, sym, ap, subst, ◌∙◌, ℕ, suc, ◌+◌, ◌<◌, ◌≤◌, Bool, true, false, nat_eq, List, [], ◌∷◌, ◌++◌, Some, length, length-append, take, ◌⊎◌, inl, inr, arith}
 use Rattle.std.specs.Prelude.{IsSome, slice_get}
 use Rattle.std.proofs.lemmas.List.{map-append, length-map, take-append-le, take_all}

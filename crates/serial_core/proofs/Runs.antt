@@ -1,4 +1,4 @@
--- A moment of the serial run of a script is a run of it so far, so its calls are paid; and the whole serial run is a run.
+-- A moment of the serial run of a script is a run of it so far, so its calls are paid; the whole serial run is a run.
 use Rattle.std.proofs.Common.{◌≡◌, ◌≢◌, refl, sym, ap, subst, ◌∙◌, ◌⊎◌, ℕ, suc, ◌+◌, ◌*◌, ◌<◌, ◌≤◌, Bool, true, false, not, List, ◌++◌, append-nil, Some, None, length, inl, inr, arith}
 use Rattle.std.specs.Prelude.{IsSome, slice_get}
 use Rattle.std.specs.List.{All}

@@ -1,4 +1,4 @@
--- Each node's history is legal, finds memory, and brings packets of the stream; it has the end of the stream or not; and its log tells it.
+-- Each node's history is legal, finds memory, brings packets of the stream, and its end or not; and its log tells it.
 use Rattle.std.proofs.Common.{◌≡◌, ◌≢◌, refl, sym, ap, subst, ◌∙◌, ℕ, ◌≤◌, Bool, true, false, nat_eq, List, [], ◌∷◌, Option, Some, None, length, map, reverse, inl, inr}
 use Rattle.std.specs.Prelude.{if◌then◌else◌, slice_get}
 use Rattle.std.proofs.lemmas.List.{map-append, reverse-append}
