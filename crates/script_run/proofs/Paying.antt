@@ -46,7 +46,7 @@ one_command line who target verb lines c = go (nat_eq who c) refl where
   go false nay = omega arith
 
 -- all clients have no more commands than the script
-commands_shared : (lines : List Line) (n : ℕ) → total (commands_by lines) n ≤ all_commands lines
+pub commands_shared : (lines : List Line) (n : ℕ) → total (commands_by lines) n ≤ all_commands lines
 commands_shared [] n = omega (arith, total_same 0 n)
 commands_shared (Feed count ∷ lines) n = commands_shared lines n
 commands_shared (Tick time ∷ lines) n = commands_shared lines n
