@@ -18,7 +18,7 @@ use Rattle.adapter.specs.Callers.{Caller}
 use Rattle.adapter.specs.Ends.{HaveHistories}
 use Rattle.adapter.proofs.Lists.{at_place, place_below}
 use Rattle.workers.specs.Feeding.{batch_of}
-use Rattle.workers.specs.Worked.{HasWorked, AreWorked}
+use Rattle.workers.specs.Left.{HasWorked, AreWorked}
 use Rattle.workers.specs.Telling.{IsLoggedIn, WorkersHaveCalled, steps_from}
 use Rattle.workers.proofs.Members.{steps_tile}
 use Rattle.workers.proofs.Batches.{total_is}

@@ -25,13 +25,13 @@ use Rattle.adapter.proofs.Lists.{at_place, place_below, at_end, at_last, at_befo
 use Rattle.trace_merge.specs.Merging.{AreOnNodes}
 use Rattle.workers.specs.declared.client_worker.ClientWorker.{ClientWorker}
 use Rattle.workers.specs.declared.feeder_worker.FeederWorker.{FeederWorker}
-use Rattle.workers.specs.declared.worked.Worked.{Worked}
+use Rattle.workers.specs.declared.left.Left.{Left}
 use Rattle.workers.specs.Inside.Working.{log_of, IsWorking, HasCome}
 use Rattle.workers.specs.Inside.Begun.{AreFreshWorkers, HaveCome, AreOutcomesOf}
 use Rattle.workers.specs.Feeding.{HasFed, HasFedAll}
 use Rattle.workers.specs.Inside.FeederWork.{HasPassedAll}
-use Rattle.workers.specs.Inside.Leaving.{GoesFirst, StopsBy, IsLeftBehind}
-use Rattle.workers.specs.Worked.{HasWorked, AreWorked}
+use Rattle.workers.specs.Inside.Leaving.{GoesFirst, StopsBy, IsLeftByWorkers}
+use Rattle.workers.specs.Left.{HasWorked, AreWorked}
 use Rattle.workers.proofs.Lists.{mapped}
 use Rattle.workers.proofs.Working.{next_is}
 use Rattle.workers.proofs.Beginning.{begun_works}
@@ -124,7 +124,7 @@ module _ (lines : List Line) (locks : List TableId) (n : ℕ) (feeder : Caller) 
         (λ last. subst (λ (x : Caller). IsSameCaller x d) here.1 (subst (IsSameCaller feeder) last.1 same)) (at_end now g d k there))
         (at_end clients feeder c k at)
 
-  module _ (f : FeederWorker) (w : Worked) (left : IsLeftBehind f new w) (none : (k : ℕ) (v : ClientWorker) → slice_get new k ≡ Some v → v.stop ≡ None) where
+  module _ (f : FeederWorker) (w : Left) (left : IsLeftByWorkers f new w) (none : (k : ℕ) (v : ClientWorker) → slice_get new k ≡ Some v → v.stop ≡ None) where
     -- each client has done its commands
     pub worked_each : (c : ℕ) (client : Caller) (log : List LogEntry) (told : List Outcome) → slice_get w.clients.items c ≡ Some client → slice_get (map (λ (log : Vec ToldEntry Global). map told_entry log.items) w.logs.items) c ≡ Some log → slice_get (map (λ (those : Vec Outcome Global). those.items) w.outcomes.items) c ≡ Some told
         → HasWorked lines c may client log told
