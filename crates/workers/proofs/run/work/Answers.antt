@@ -1,4 +1,4 @@
-use Rattle.std.proofs.Common.{rules, ◌≡◌, ◌≢◌, ◌≤◌, ◌+◌, length, inl, ⊎_elim, [], None, Some, refl, ap, ◌∙◌}
+use Rattle.std.proofs.Common.{rules, ◌≡◌, ◌≢◌, ◌≤◌, ◌+◌, ◌^◌, length, inl, ⊎_elim, [], None, Some, refl, ap, ◌∙◌}
 use Rattle.std.specs.Prelude.{slice_index_or}
 use Rattle.std.proofs.lemmas.Option.{slice_get-get_or}
 use Rattle.script_run.specs.Budget.{IsTooLong}
@@ -102,7 +102,7 @@ returns-in_ok-gather-in-Some-clause-too_long g c turns is =
     let memory = s.memory found in
     let all = fed.all memory.0 in
     ⊎_elim
-    (λ first. let k = fed.too_long turns first in of_stream (g.S.Source.end c.args.source.now) (g.S.Source.end c.work_all.new.source) c.args.puller _ (IsTooLong c.args.script.now c.args.puller.start turns) (λ ahead taken (q : 4294967296 ≤ c.args.puller.start + length taken). inl (k.0, q))
+    (λ first. let k = fed.too_long turns first in of_stream (g.S.Source.end c.args.source.now) (g.S.Source.end c.work_all.new.source) c.args.puller _ (IsTooLong c.args.script.now c.args.puller.start turns) (λ ahead taken (q : 2 ^ 32 ≤ c.args.puller.start + length taken). inl (k.0, q))
     (many_reads _ _ c.args.puller f.puller fed.draws.0 fed.draws.1 k.1))
     (λ many. calls_by c.args.script.now c.args.adapter.now _ c.args.feeder c.args.clients.items r.fresh r.all may ws vs c.in_ok-workers.ensures c.work_all.ensures.clients
     c.args.batch _ _ c.args.puller f all memory.1 refl c.in_ok-gather-in-Some.ensures many_calls turns many.1.0 many.1.1 many.1.2 many.1.3 many.0)
