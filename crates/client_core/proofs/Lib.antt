@@ -1,4 +1,3 @@
-pub mod Options
 pub mod GoesOn
 pub mod FirstCalls
 pub mod More
