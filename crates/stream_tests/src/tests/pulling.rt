@@ -15,7 +15,6 @@ use std::marker::Brand;
 use std::sync::ledger::{Blank, Ledger};
 use steps::Steps;
 use ts_batch::Batch;
-use ts_packet::PACKET_LEN;
 use ts_watch::Head;
 
 // A puller, and the source that it pulls from.
@@ -151,11 +150,7 @@ fn behind_batch<'a, L: Ledger>(bytes: &'a [u8], batch: &Batch, blank: Blank) -> 
     let mut steps: Steps<L> = Steps::new(blank);
     let mut left = bytes;
     for i in 0..batch.count() {
-        let packet = batch.packet(i, &mut steps);
-        if left.len() < PACKET_LEN || left[..PACKET_LEN] != packet.bytes()[..] {
-            return None;
-        }
-        left = &left[PACKET_LEN..];
+        left = left.strip_prefix(batch.packet(i, &mut steps).bytes().as_slice())?;
     }
     Some(left)
 }
