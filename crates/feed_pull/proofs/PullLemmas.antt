@@ -1,5 +1,5 @@
 -- Laws of the steps of a pull, and of what a puller stands for.
-use Rattle.std.proofs.Common.{◌≡◌, ◌≢◌, ◌⊎◌, ℕ, ◌+◌, ◌*◌, ◌<◌, ◌≤◌, List, [], ◌∷◌, ◌++◌, length, take, drop, refl, sym, ap, subst, inl, inr, ◌∙◌, arith, length-append, append_assoc, Result, Ok, Err, None, Some, IfOk, IfSome}
+use Rattle.std.proofs.Common.{◌≡◌, ◌≢◌, ◌⊎◌, ℕ, ◌+◌, ◌*◌, ◌<◌, ◌≤◌, List, [], ◌++◌, length, take, drop, refl, sym, ap, subst, inl, inr, ◌∙◌, arith, length-append, append_assoc, Result, Ok, Err, None, Some, IfOk, IfSome}
 use Rattle.std.proofs.lemmas.List.{append-nil, take-append-le, take-append-drop, length-drop}
 use Rattle.std.proofs.Math.Seq.{take-append_seam}
 use Rattle.std.proofs.lemmas.Bool.{cases_lt}
@@ -85,11 +85,11 @@ Goes-read a b rest none found cutting waiting fits given start taken earlier wat
     }
 
 -- what is left after bytes from the front were cut
-abbrev pub cut_to : Pulling → Cutting → List (List ℕ) → List ℕ → Watching → Pulling
-cut_to a cutting waiting unread watch = record { cutting = cutting; waiting = waiting; room = a.room; unread = unread; given = a.given; found_before_last_read = a.found_before_last_read; start = a.start; taken = a.taken; reads = a.reads; reading = a.reading; watch = watch }
+abbrev pub cut_to : Pulling → Cutting → List (List ℕ) → ℕ → List ℕ → Watching → Pulling
+cut_to a cutting waiting room unread watch = record { cutting = cutting; waiting = waiting; room = room; unread = unread; given = a.given; found_before_last_read = a.found_before_last_read; start = a.start; taken = a.taken; reads = a.reads; reading = a.reading; watch = watch }
 
-pub Goes-cut : (a : Pulling) (k : Cutting) (w : List (List ℕ)) (u bytes : List ℕ) (n : ℕ) (t : Watching) → bytes ≡ a.unread → Cuts a.cutting (take n bytes) (drop (length a.waiting) w) k → w ≡ a.waiting ++ drop (length a.waiting) w → u ≡ drop n a.unread → ((before : List (List ℕ)) → Watched before a.watch → Watched (before ++ drop (length a.waiting) w) t) → Goes a [] (cut_to a k w u t)
-Goes-cut a k w u bytes n t same cuts grown rest watch = record {
+pub Goes-cut : (a : Pulling) (k : Cutting) (w : List (List ℕ)) (m : ℕ) (u bytes : List ℕ) (n : ℕ) (t : Watching) → bytes ≡ a.unread → Cuts a.cutting (take n bytes) (drop (length a.waiting) w) k → w ≡ a.waiting ++ drop (length a.waiting) w → u ≡ drop n a.unread → ((before : List (List ℕ)) → Watched before a.watch → Watched (before ++ drop (length a.waiting) w) t) → Goes a [] (cut_to a k w m u t)
+Goes-cut a k w m u bytes n t same cuts grown rest watch = record {
   passed = take n a.unread;
   found = drop (length a.waiting) w;
   bytes = rw rest (take-append-drop n a.unread ∙ sym (append-nil a.unread));
@@ -102,8 +102,8 @@ Goes-cut a k w u bytes n t same cuts grown rest watch = record {
   last = inl (refl, refl);
 }
 
-pub IsPulling-cut : (a : Pulling) (k : Cutting) (w : List (List ℕ)) (u bytes : List ℕ) (n : ℕ) (t : Watching) → IsPulling a → bytes ≡ a.unread → Cuts a.cutting (take n bytes) (drop (length a.waiting) w) k → w ≡ a.waiting ++ drop (length a.waiting) w → u ≡ drop n a.unread → n ≤ length a.unread → bytes_taken k ≡ bytes_taken a.cutting + n → length w ≤ 64 → t.watched ≡ a.watch.watched + length (drop (length a.waiting) w) → IsPulling (cut_to a k w u t)
-IsPulling-cut a k w u bytes n t i same cuts grown rest within taken fits watched =
+pub IsPulling-cut : (a : Pulling) (k : Cutting) (w : List (List ℕ)) (m : ℕ) (u bytes : List ℕ) (n : ℕ) (t : Watching) → IsPulling a → bytes ≡ a.unread → Cuts a.cutting (take n bytes) (drop (length a.waiting) w) k → w ≡ a.waiting ++ drop (length a.waiting) w → u ≡ drop n a.unread → n ≤ length a.unread → bytes_taken k ≡ bytes_taken a.cutting + n → length w ≤ 64 → t.watched ≡ a.watch.watched + length (drop (length a.waiting) w) → IsPulling (cut_to a k w m u t)
+IsPulling-cut a k w m u bytes n t i same cuts grown rest within taken fits watched =
     let size : length u + n ≡ length a.unread = rw rest (omega (arith, length-drop n a.unread)) in
     record {
       few = fits;
