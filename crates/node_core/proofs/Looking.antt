@@ -20,6 +20,7 @@ use Rattle.node_core.specs.declared.kept.Kept.{Kept}
 use Rattle.node_core.specs.declared.tenure.Tenure.{Tenure}
 use Rattle.node_core.specs.Inside.KeptView.{knows_in, knows_of}
 use Rattle.node_core.specs.Offers.{choice_of, is_offered}
+use Rattle.node_core.proofs.Offerings.{all_offered}
 
 -- ------ the PIDs of a node
 
@@ -116,7 +117,7 @@ offered-named Empty names own before ps given s is k = record {
 }
 offered-named (Pes p) names own before ps given s is k = k
 offered-named (Section p) names own before ps given s is k =
-    let all : filter (is_offered (Section p) names) ps ≡ ps = all-offered ps in
+    let all : filter (is_offered (Section p) names) ps ≡ ps = all_offered ps in
     let same : filter (is_usable p.pid) (before ++ filter (is_named names) ps) ≡ filter (is_usable p.pid) (before ++ filter (is_offered (Section p) names) ps) =
     rw (all, own, filter-append (is_usable p.pid) before (filter (is_named (p.pid ∷ [])) ps), filter-append (is_usable p.pid) before ps, usable-named p.pid ps) refl in
     record {
@@ -124,7 +125,3 @@ offered-named (Section p) names own before ps given s is k =
       follows = let P : Choice → Type 0 = λ c. Follows c (before ++ filter (is_named names) ps) given s → Follows c (before ++ filter (is_offered (Section p) names) ps) given s in
           subst P (sym is) (λ f. (λ e. ((f.0 e).0 ∙ follows-usable p.pid _ _ same, (f.0 e).1), f.1)) k.follows;
     }
-  where
-    all-offered : (ps : List (List ℕ)) → filter (λ packet. true) ps ≡ ps
-    all-offered [] = refl
-    all-offered (q ∷ qs) = ap (λ x. q ∷ x) (all-offered qs)

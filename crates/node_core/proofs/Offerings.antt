@@ -19,7 +19,8 @@ use Rattle.node_core.specs.Offers.{choice_by, choice_of, offers}
 
 -- ------ section filters
 
-all_offered : (ps : List (List ℕ)) → filter (λ packet. true) ps ≡ ps
+-- a filter of no packet out leaves all
+pub all_offered : (ps : List (List ℕ)) → filter (λ packet. true) ps ≡ ps
 all_offered [] = refl
 all_offered (p ∷ ps) = ap (λ qs. p ∷ qs) (all_offered ps)
 

@@ -5,10 +5,11 @@ use Rattle.std.specs.Prelude.{if◌then◌else◌, nat_lt}
 use Rattle.std.specs.List.{All, concat}
 use Rattle.std.proofs.lemmas.Bool.Decides.{nat_tests}
 use Rattle.std.proofs.lemmas.List.{append-nil, drop-append-le}
-use Rattle.std.proofs.lemmas.List.Elements.{All-head, All-tail, All-nil, All-cons}
+use Rattle.std.proofs.lemmas.List.Folds.{concat-append}
 use Rattle.std.proofs.Math.Seq.{take-append_seam}
 use Rattle.std.proofs.Math.ListN.{drop_of_length-le}
 use native.Mathlib.Decide.{dec_le}
+use Rattle.lemmas.proofs.Lists.{all_front}
 use Rattle.section_parse.specs.Sections.{IsSection}
 use Rattle.dmx_calls.specs.declared.params.SectionParams.{SectionParams}
 use Rattle.dmx_calls.specs.Invocation.{Read}
@@ -23,7 +24,7 @@ use Rattle.dmx_calls.specs.Facts.{Ledger, unread_of, rest_of_item, rest_of, ledg
 use Rattle.dmx_calls.specs.Answer.{is_section, ReadTerms, read_terms, most_bytes, read_response}
 use Rattle.dmx_calls.proofs.Going.{Stays}
 use Rattle.dmx_calls.proofs.Nodes.{demux_keeps}
-use Rattle.dmx_calls.proofs.Ledgers.{concat-append, rest_of-end, edge_then}
+use Rattle.dmx_calls.proofs.Ledgers.{rest_of-end, edge_then}
 use Rattle.dmx_calls.proofs.Edges.{IsCut, cut_of}
 use Rattle.dmx_calls.proofs.Reading.{read_each}
 use Rattle.dmx_calls.proofs.After.{expired_then, facts_goes, ledger_still, ledger_told, stays_read, pids_stay}
@@ -79,10 +80,6 @@ module _ (p : SectionParams) (xs ys : List (List ℕ)) (to : ℕ) (end : to ≡ 
       let behind : drop r (drop n (concat xs)) ≡ drop (r + n) (concat xs) = drop-drop r n (concat xs) ∙ ap (λ m. drop m (concat xs)) (add_comm n r) in
       rw (rest_of_first n, rest_of_first (r + n), unread_of_first n, behind) (rest_read xs n r (rw (← rest_of_first n) fits) whole)
 
-all_first : (P : List ℕ → Type 0) (xs ys : List (List ℕ)) → All P (xs ++ ys) → All P xs
-all_first P [] ys all = All-nil P
-all_first P (x ∷ xs) ys all = All-cons P x xs (All-head P x (xs ++ ys) all) (all_first P xs ys (All-tail P x (xs ++ ys) all))
-
 -- the same up to the edge, which moves only where nothing is unread
 rest_after : (set : Params) (k : Bool) (o : Option Misfit) (xs : List (List ℕ)) (n r : ℕ) → IsCut o xs
     → StaysWithin set r (rest_of set (edge_of k o (length (concat xs)) n) xs n) → ((p : SectionParams) → set ≡ Section p → All IsSection xs)
@@ -102,7 +99,7 @@ rest_after (Section p) k None xs n r cut fits whole =
 rest_after (Section p) true (Some x) xs n r cut fits whole =
     let P : List (List ℕ) → Type 0 = λ ys. r ≤ rest_of (Section p) x.place ys n → rest_of (Section p) x.place ys (r + n)
     ≡ (if nat_lt r (rest_of (Section p) x.place ys n) then rest_of (Section p) x.place ys n - r else front_length (drop r (unread_of x.place n (concat ys)))) in
-    let first : All IsSection cut.before = all_first IsSection cut.before cut.behind (subst (All IsSection) cut.whole (whole p refl)) in
+    let first : All IsSection cut.before = all_front IsSection cut.before cut.behind (subst (All IsSection) cut.whole (whole p refl)) in
     subst P (sym cut.whole) (λ within. rest_after_first p cut.before cut.behind x.place cut.end n r within first) fits
 rest_after (Section p) false (Some x) xs n r cut fits whole =
     let none : rest_of (Section p) n xs n ≡ 0 = rest_of-end (Section p) n xs in

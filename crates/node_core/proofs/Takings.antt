@@ -1,6 +1,7 @@
 -- What a selector takes in with an entry by which a capture goes on.
 use Rattle.std.proofs.Common.{ℕ, ◌≡◌, refl, sym, ◌∙◌, ap, Bool, true, false, List, [], ◌∷◌, ◌++◌, Option, Some, None, length, arith}
 use Rattle.std.specs.Prelude.{◌≢◌, ◌&&◌, not, if◌then◌else◌, is_some, nat_lt, filter}
+use Rattle.std.proofs.lemmas.Bool.{and_parts}
 use Rattle.std.proofs.lemmas.Bool.Decides.{nat_tests}
 use Rattle.std.proofs.lemmas.List.{append-nil}
 use Rattle.dmx_calls.specs.declared.params.Input.{Input}
@@ -89,10 +90,6 @@ and_apart true false c d = refl
 and_apart true true false d = refl
 and_apart true true true d = refl
 
-and_true : (a b : Bool) → (a && b) ≡ true → (a ≡ true) × (b ≡ true)
-and_true true b yea = (refl, yea)
-and_true false b yea = absurd (cc)
-
 if_both : (a b : Bool) (packets : List (List ℕ)) → (if b then (if a then packets else []) else []) ≡ (if a && b then packets else [])
 if_both true true packets = refl
 if_both true false packets = refl
@@ -104,7 +101,7 @@ had_once : (set : Params) (given : List (List ℕ)) → has_had_its_section set 
 had_once Empty given yea = absurd (cc)
 had_once (Pes p) given yea = absurd (cc)
 had_once (Section p) given yea =
-    let both = and_true (is_oneshot p) (nat_lt 0 (length given)) yea in
+    let both = and_parts (is_oneshot p) (nat_lt 0 (length given)) yea in
     (both.0, λ none. let k : nat_lt 0 0 ≡ true = rw none at both.1 in absurd (grind (arith, nat_tests)))
 
 module _ (h : History) (t s : Since) (who : ℕ) (input : Input) (first : ℕ) (packets : List (List ℕ)) (now : ℕ) (held : tenure h ≡ Some t) (runs : capture h ≡ Some s) where

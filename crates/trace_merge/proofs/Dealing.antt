@@ -8,9 +8,6 @@ use Rattle.std.proofs.Math.Seq.{get_or-append_seam}
 use Rattle.dmx_calls.specs.declared.log.Entry.{Entry as ToldEntry}
 use Rattle.trace_merge.specs.Merging.{is_on, all_of}
 
-pub all-front : {X : Type 0} (P : X → Type 0) (xs ys : List X) → All P (xs ++ ys) → All P xs
-all-front P xs ys a k d low = subst P (get_or_append_left xs ys d k low) (a k d (let l = length-append xs ys in omega (arith, l, low)))
-
 pub all-last : {X : Type 0} (P : X → Type 0) (xs : List X) (x : X) → All P (xs ++ x ∷ []) → P x
 all-last P xs x a = subst P (get_or-append_seam xs x [] x) (a (length xs) x (let l = length-append xs (x ∷ []) in omega (arith, l)))
 

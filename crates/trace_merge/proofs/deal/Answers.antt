@@ -2,7 +2,8 @@ use Rattle.std.proofs.Common.{◌≡◌, ◌≤◌, ◌<◌, ◌∙◌, ◌++◌
 use Rattle.std.proofs.lemmas.List.{length-map, get_or-map, map-set}
 use Rattle.dmx_calls.specs.declared.log.Entry.{Entry as ToldEntry}
 use Rattle.trace_merge.specs.Merging.{AreOnNodes}
-use Rattle.trace_merge.proofs.Dealing.{all-front, all-last, dealing-more}
+use Rattle.lemmas.proofs.Lists.{all_front}
+use Rattle.trace_merge.proofs.Dealing.{all-last, dealing-more}
 use Rattle.trace_merge.proofs.deal.Goals as goal
 
 pub entries-preserved : goal.entries-preserved
@@ -22,7 +23,7 @@ entries-preserved c =
     let own : get_or lists e.node [] ≡ c.index_mut.result.now.items = get_or-map (λ calls. calls.items) raw e.node c.index_mut.result.now [] there ∙ ap (λ v. v.items) (sym c.index_mut.ensures.value) in
     let pushed : c.push.new.self.items ≡ get_or lists e.node [] ++ e ∷ [] = c.in_ok-push.ensures.items ∙ ap (λ l. l ++ e ∷ []) (sym own) in (
       s ∙ many,
-      all-front (λ (e : ToldEntry). e.node ≤ 32) c.pop.new.self.items (e ∷ []) all,
+      all_front (λ (e : ToldEntry). e.node ≤ 32) c.pop.new.self.items (e ∷ []) all,
       dealing-more lists longer c.entries.left.items c.pop.new.self.items e _ (omega (arith, there, m)) last
           (map-set (λ calls. calls.items) raw e.node c.push.new.self ∙ ap (λ l. set lists e.node l) pushed) (omega (arith, m, n, s)) c.entries.invariant.2,
     )
