@@ -1,5 +1,5 @@
 -- What stays a filter of sixteen places of bytes.
-use Rattle.std.proofs.Common.{◌≡◌, refl, ◌∙◌, ◌<◌, replicate, arith}
+use Rattle.std.proofs.Common.{refl, ◌∙◌, ◌<◌, replicate, arith}
 use Rattle.std.proofs.lemmas.List.{length-set}
 use Rattle.std.proofs.lemmas.List.Elements.{All-replicate, All-set}
 use Rattle.std.specs.List.{All}
