@@ -35,7 +35,7 @@ use Rattle.serial_core.specs.Budget.{IsMoment}
 use Rattle.serial_core.proofs.Answering.{end_answer, end_stays, ends, no_end}
 use Rattle.serial_core.proofs.Logs.{fed_at, called_at, IsCalledAt, entries_of, entries_at, entry_for, entries_answered}
 use Rattle.serial_core.proofs.Sound.{IsSound, answer_open, sound_answered}
-use Rattle.serial_core.proofs.Making.{IsFedBehind, IsOpenBehind, Waits, AreMade, others_made, mine_made}
+use Rattle.serial_core.proofs.Making.{IsOpenBehind, Waits, AreMade, others_made, mine_made}
 use Rattle.serial_core.proofs.Feeding.{AreFed, fed_pass, fed_end, fed_other, none_fed}
 use Rattle.serial_core.proofs.Keeping.{AreBelow, IsKept, OnlyWaits, kept, kept_moment, waiting_replies}
 use Rattle.serial_core.proofs.Replies.{none_said}

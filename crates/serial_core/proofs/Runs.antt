@@ -1,13 +1,11 @@
 -- A moment of the serial run of a script is a run of it so far, so its calls are paid; the whole serial run is a run.
-use Rattle.std.proofs.Common.{◌≡◌, ◌≢◌, refl, sym, ap, subst, ◌∙◌, ◌⊎◌, ℕ, suc, ◌+◌, ◌*◌, ◌<◌, ◌≤◌, Bool, true, false, not, List, ◌++◌, append-nil, Some, None, length, inl, inr, arith}
-use Rattle.std.specs.Prelude.{IsSome, slice_get}
+use Rattle.std.proofs.Common.{◌≡◌, sym, ap, subst, ◌∙◌, ◌⊎◌, ℕ, suc, ◌+◌, ◌*◌, ◌<◌, ◌≤◌, Bool, true, false, not, List, ◌++◌, append-nil, Some, None, length, inl, inr, arith}
+use Rattle.std.specs.Prelude.{slice_get}
 use Rattle.std.specs.List.{All}
 use Rattle.std.proofs.lemmas.Bool.{cases_lt}
 use Rattle.std.proofs.lemmas.List.{length-map}
 use Rattle.std.proofs.lemmas.Option.{slice_get_within}
 use Rattle.ts_packet.specs.Fields.{IsPacket}
-use Rattle.dmx_calls.specs.declared.limits.TheConstants.{DEMUX_NODES}
-use Rattle.dmx_calls.specs.Response.{NoMemory}
 use Rattle.dmx_calls.specs.Rules.{rules_at}
 use Rattle.dmx_calls.specs.Legal.{IsLegalFor}
 use Rattle.dmx_calls.specs.Log.{LogEntry, filled}
@@ -17,7 +15,7 @@ use Rattle.client_script.specs.declared.line.Line.{Line}
 use Rattle.client_core.specs.Commands.{commands_of}
 use Rattle.client_core.specs.Events.{next_event}
 use Rattle.script_run.specs.Budget.{most_calls}
-use Rattle.script_run.specs.IsRun.{Batch, Step, StandsIn, feeding, replies, steps_of}
+use Rattle.script_run.specs.IsRun.{Batch, Step, feeding, replies, steps_of}
 use Rattle.script_run.specs.SoFar.{feeder, IsPaidBehind, IsFedSoFar, HasDoneSoFar, IsSoFar, IsOver}
 use Rattle.script_run.proofs.Ending.{runs_end, are_accounted}
 use Rattle.script_run.proofs.Paying.{calls_are_paid}
