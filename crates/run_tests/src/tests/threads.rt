@@ -223,8 +223,7 @@ fn opens_first<R: Threads + Wait + Sync>(rt: &R, alloc: Global, first: u32, seco
     let gate = Hold::new((second, 0), (first, 1));
     let script = "c0 open n0\nc1 open n0\nstream\n";
     let left = left_by(rt, alloc, script, &[], &FixedClock::new(0), &gate);
-    gate.ran_out.load(SeqCst) == 0
-        && matches!(&left, Some(left) if is_first(left, first, second))
+    gate.ran_out.load(SeqCst) == 0 && matches!(&left, Some(left) if is_first(left, first, second))
 }
 
 #[test]
