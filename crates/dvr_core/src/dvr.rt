@@ -1,9 +1,10 @@
-// The dvr node, and its one call.
+// The dvr node, its one call, and the call of its feeder alone.
 
 ghost use Rattle.std.specs.Prelude.{◌≡◌, ◌≤◌, ◌<◌, ◌+◌, ◌^◌, ◌∷◌, [], false, None};
 ghost use Rattle.dmx_calls.specs.declared.node.NodeKind.TheVariants.{Dvr};
 ghost use Rattle.dmx_calls.specs.History.{History, entry_of};
-ghost use Rattle.dmx_calls.specs.Response.{is_accepted};
+ghost use Rattle.dmx_calls.specs.Invocation.{Pass};
+ghost use Rattle.dmx_calls.specs.Response.{Passed, is_accepted};
 ghost use Rattle.dmx_calls.specs.Rules.{dvr};
 ghost use Rattle.dmx_calls.specs.Legal.{May};
 ghost use Rattle.dmx_calls.specs.Calls.{invocation_of, response_of};
@@ -18,13 +19,14 @@ ghost use Rattle.dvr_core.specs.Stands.{StandsFor};
 
 use crate::kept::Kept;
 use crate::taps::Taps;
-use dmx_calls::{Answer, Call, Reply, Told};
+use dmx_calls::{Answer, Call, Input, Reply, Told};
 use machine::Machine;
 use node_buffer::plain;
 use std::alloc::Global;
 use std::marker::Model;
 use std::sync::ledger::Ledger;
 use steps::Steps;
+use ts_batch::Batch;
 
 /// The dvr node. Fewer than 2^50 calls may be made on it.
 #[derive(Drop)]
@@ -106,6 +108,21 @@ impl DvrCore {
         ensures { result ≡ self.now.entries }
     {
         self.entries
+    }
+
+    /// A batch passes at the moment `now`, in milliseconds. It is the call Pass of the caller 0, answered Passed: the batch is
+    /// lent, and nothing can be refused. The dvr node has no timeout, so `now` is in its history alone.
+    pub fn pass<L: Ledger>(&mut self, input: Input, batch: &Batch, now: u64, steps: &mut Steps<L>)
+        requires few { self.old.entries < 2 ^ 50 }
+        ensures stands { (h : History) → StandsFor self.old h
+            → May dvr h 0 (Pass input batch.now.first batch.now.packets now) Passed
+            × StandsFor self.new (entry_of 0 (Pass input batch.now.first batch.now.packets now) Passed ∷ h) }
+        ensures rises { self.new.entries ≡ self.old.entries + 1 }
+        ensures cost { steps.new ≤ steps.old + named_packets self.old.taps (Pass input batch.now.first batch.now.packets now) }
+        ensures idle { self.old.facts.owner ≡ None → steps.new ≡ steps.old }
+    {
+        self.kept.pass(input, batch, steps);
+        self.entries += 1;
     }
 
     /// Makes a call for the caller `who`, and answers what the node's history says to it. Pass, End, Attach and Detach are

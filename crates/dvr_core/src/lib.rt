@@ -11,8 +11,9 @@
 //! one that this history allows, and the node then stands for the history with that entry; and each answer comes exactly
 //! when `Causes` says. So a packet is recorded once however many taps name it; a Detach removes only its own client's tap;
 //! taps outlast the owner; another size ends the capture and begins another, and the reply names what was unread. `apply`
-//! hands back the batch of a Pass. A Pass takes at most a step for each packet that a tap names (`named_packets`), and none
-//! while the node is free; no other call takes one.
+//! hands back the batch of a Pass. `pass` is lent the batch, and is the same as the call Pass of the caller 0, with the answer
+//! Passed. A Pass takes at most a step for each packet that a tap names (`named_packets`), and none while the node is free; no
+//! other call takes one.
 //!
 //! What is only tested, in `node_tests`: that the rules are those meant, on replies worked by hand. What isn't proved: time.
 //! A Pass asks the batch for the places of each PID of each of the 32 taps.

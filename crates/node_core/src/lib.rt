@@ -8,9 +8,9 @@
 //! that entry. So a refused call changes nothing, and no filter expires by it; and Done says what is to be made of the
 //! node's tap at the dvr node: attach these PIDs, where a filter with DMX_OUT_TS_TAP runs after a start, a set call or a
 //! change of its PIDs; detach, where such a filter ran and no longer does. After want of memory, which only Open and SetSize
-//! to another size can answer, all is as before. `apply` hands back the batch of a Pass. A Pass takes at most a step for each
-//! packet that the filter's PIDs name, and none where the filter doesn't run; no other call takes one. `number` and `entries`
-//! are the node's.
+//! to another size can answer, all is as before. `apply` hands back the batch of a Pass. `pass` is lent the batch, and is the same
+//! as the call Pass of the caller 0, with the answer Passed. A Pass takes at most a step for each packet that the filter's PIDs
+//! name, and none where the filter doesn't run; no other call takes one. `number` and `entries` are the node's.
 //!
 //! What is only tested, in `node_tests`: that the rules are those meant, on replies worked by hand. What isn't proved: time.
 //! An item is copied once into the ring and once out of it, and a section once more where it is selected.

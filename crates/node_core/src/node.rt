@@ -1,10 +1,11 @@
-// A demux node, and its one call.
+// A demux node, its one call, and the call of its feeder alone.
 
 ghost use Rattle.std.specs.Prelude.{◌≡◌, ◌≢◌, ◌≤◌, ◌<◌, ◌+◌, ◌^◌, ◌∷◌, [], false};
 ghost use Rattle.dmx_calls.specs.declared.node.NodeKind.TheVariants.{Demux};
 ghost use Rattle.dmx_calls.specs.declared.limits.TheConstants.{DEMUX_NODES};
 ghost use Rattle.dmx_calls.specs.History.{History, entry_of};
-ghost use Rattle.dmx_calls.specs.Response.{is_accepted};
+ghost use Rattle.dmx_calls.specs.Invocation.{Pass};
+ghost use Rattle.dmx_calls.specs.Response.{Passed, is_accepted};
 ghost use Rattle.dmx_calls.specs.Rules.{demux};
 ghost use Rattle.dmx_calls.specs.Facts.{state_of};
 ghost use Rattle.dmx_calls.specs.Legal.{May};
@@ -19,13 +20,14 @@ ghost use Rattle.node_core.specs.Inside.KeptView.{knows_of, bytes_in};
 ghost use Rattle.node_core.specs.Stands.{StandsFor};
 
 use crate::kept::Kept;
-use dmx_calls::{Answer, Call, Reply, State, Told};
+use dmx_calls::{Answer, Call, Input, Reply, State, Told};
 use machine::Machine;
 use node_buffer::plain;
 use std::alloc::Global;
 use std::marker::Model;
 use std::sync::ledger::Ledger;
 use steps::Steps;
+use ts_batch::Batch;
 
 /// A demux node. Fewer than 2^50 calls may be made on it.
 #[derive(Drop)]
@@ -115,6 +117,22 @@ impl NodeCore {
         ensures { result ≡ self.now.entries }
     {
         self.entries
+    }
+
+    /// A batch passes at the moment `now`, in milliseconds. It is the call Pass of the caller 0, answered Passed: the batch is
+    /// lent, and nothing can be refused.
+    pub fn pass<L: Ledger>(&mut self, input: Input, batch: &Batch, now: u64, steps: &mut Steps<L>)
+        requires few { self.old.entries < 2 ^ 50 }
+        ensures stands { (h : History) → StandsFor self.old h
+            → May demux h 0 (Pass input batch.now.first batch.now.packets now) Passed
+            × StandsFor self.new (entry_of 0 (Pass input batch.now.first batch.now.packets now) Passed ∷ h) }
+        ensures rises { self.new.entries ≡ self.old.entries + 1 }
+        ensures number { self.new.number ≡ self.old.number }
+        ensures cost { steps.new ≤ steps.old + named_packets self.old.facts (Pass input batch.now.first batch.now.packets now) }
+        ensures idle { state_of self.old.facts ≢ State.Go → steps.new ≡ steps.old }
+    {
+        self.kept.pass(input, batch, now, steps);
+        self.entries += 1;
     }
 
     /// Makes a call for the caller `who`, and answers what the node's history says to it. Pass and End are taken from

@@ -5,6 +5,7 @@ mod calls;
 mod cell;
 mod demux;
 mod dvr;
+mod passes;
 mod refusals;
 mod ring;
 mod rows;

@@ -5,13 +5,17 @@ ghost use Rattle.dmx_calls.specs.Calls.{invocation_of, response_of};
 ghost use Rattle.dmx_calls.specs.History.{History, entry_of};
 ghost use Rattle.dmx_calls.specs.Legal.{May};
 ghost use Rattle.dmx_calls.specs.Rules.{rules_at};
+ghost use Rattle.dmx_calls.specs.Invocation as asks;
+ghost use Rattle.dmx_calls.specs.Response.{Passed};
+ghost use Rattle.dmx_calls.specs.declared.params.Input.TheVariants.{Frontend};
 ghost use Rattle.serial_core.specs.Inside.Standing.{StandsAt, entries_in};
 
-use dmx_calls::{Answer, Call};
+use dmx_calls::{Answer, Call, Input};
 use dvr_core::DvrCore;
 use node_core::NodeCore;
 use std::sync::ledger::Ledger;
 use steps::Steps;
+use ts_batch::Batch;
 
 /// A demux node, or the dvr node.
 #[derive(Drop)]
@@ -43,6 +47,19 @@ impl AnyCore {
         match self {
             AnyCore::Demux(node) => node.apply(who, call, steps),
             AnyCore::Dvr(dvr) => dvr.apply(who, call, steps),
+        }
+    }
+
+    /// A batch of the frontend passes at this moment, which is one entry more.
+    pub fn pass<L: Ledger>(&mut self, batch: &Batch, now: u64, steps: &mut Steps<L>)
+        requires few { entries_in self.old < 2 ^ 50 }
+        ensures stands { (number : ℕ) (h : History) → StandsAt self.old number h
+            → StandsAt self.new number (entry_of 0 (asks.Pass Frontend batch.now.first batch.now.packets now) Passed ∷ h) }
+        ensures rises { entries_in self.new ≡ entries_in self.old + 1 }
+    {
+        match self {
+            AnyCore::Demux(node) => node.pass(Input::Frontend, batch, now, steps),
+            AnyCore::Dvr(dvr) => dvr.pass(Input::Frontend, batch, now, steps),
         }
     }
 }

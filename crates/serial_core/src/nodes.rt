@@ -19,7 +19,7 @@ use crate::node::AnyCore;
 use crate::seat::Seat;
 use client_core::{ClientCore, Event, call_of};
 use dmx_calls::limits::DEMUX_NODES;
-use dmx_calls::{Call, Entry, Fed, Histories};
+use dmx_calls::{Entry, Fed, Histories};
 use dvr_core::DvrCore;
 use node_core::NodeCore;
 use std::alloc::{AllocError as NoMemory, Global};
@@ -54,24 +54,17 @@ fn fresh_seats(alloc: Global) -> Result<Vec<Seat>, NoMemory>
     Ok(seats)
 }
 
-// A batch passes each node, and is handed on from one to the next.
-fn pass_all<L: Ledger>(
-    seats: &mut [Seat],
-    batch: Arc<Batch>,
-    now: u64,
-    steps: &mut Steps<L>,
-) -> Result<(), NoMemory>
+// A batch passes each node.
+fn pass_all<L: Ledger>(seats: &mut [Seat], batch: &Batch, now: u64, steps: &mut Steps<L>)
     requires few { AreUnder seats.old (2 ^ 50 - 1) }
-    ensures at { OnOk result ((acts : List ToldAct) (ns : List RunNode) → Pairs (IsSeat acts) seats.old ns
-        → Pairs (IsSeat (acts ++ PassAct Frontend batch.value.first (length batch.value.packets) now ∷ [])) seats.new
-        (map (answered 0 (length acts) (asks.Pass Frontend batch.value.first batch.value.packets now)) ns)) }
-    ensures rises { OnOk result ((most : ℕ) → AreUnder seats.old most → AreUnder seats.new (most + 1)) }
+    ensures at { (acts : List ToldAct) (ns : List RunNode) → Pairs (IsSeat acts) seats.old ns
+        → Pairs (IsSeat (acts ++ PassAct Frontend batch.now.first (length batch.now.packets) now ∷ [])) seats.new
+        (map (answered 0 (length acts) (asks.Pass Frontend batch.now.first batch.now.packets now)) ns) }
+    ensures rises { (most : ℕ) → AreUnder seats.old most → AreUnder seats.new (most + 1) }
 {
-    let mut batch = batch;
     'seats: for seat in seats.iter_mut() {
-        batch = seat.pass(batch, now, steps)?;
+        seat.pass(batch, now, steps);
     }
-    Ok(())
 }
 
 // End passes each node.
@@ -82,7 +75,7 @@ fn end_all<L: Ledger>(seats: &mut [Seat], steps: &mut Steps<L>) -> Result<(), No
     ensures rises { OnOk result ((most : ℕ) → AreUnder seats.old most → AreUnder seats.new (most + 1)) }
 {
     'seats: for seat in seats.iter_mut() {
-        seat.feed(Call::End, steps)?;
+        seat.end(steps)?;
     }
     Ok(())
 }
@@ -135,7 +128,7 @@ impl Nodes {
             count: batch.count(),
             now,
         };
-        pass_all(&mut self.seats, batch, now, steps)?;
+        pass_all(&mut self.seats, &batch, now, steps);
         self.feeding.push(fed)?;
         self.made += 1;
         Ok(())

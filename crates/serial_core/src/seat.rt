@@ -1,24 +1,21 @@
 // A node of a run, with the entries of its clients.
-ghost use Rattle.std.specs.Prelude.{◌≡◌, ℕ, ◌+◌, ◌<◌, ◌^◌, List, [], ◌∷◌, ◌++◌, length, IfOk, OnOk, IsSome, option_map};
-ghost use Rattle.dmx_calls.specs.Back.{HandsBackBatch};
+ghost use Rattle.std.specs.Prelude.{◌≡◌, ℕ, ◌+◌, ◌<◌, ◌^◌, List, [], ◌∷◌, ◌++◌, length, IfOk, OnOk, IsSome};
 ghost use Rattle.dmx_calls.specs.Calls.{invocation_of, response_of};
 ghost use Rattle.dmx_calls.specs.History.{entry_of};
 ghost use Rattle.dmx_calls.specs.declared.log.Act.{Act as ToldAct};
-ghost use Rattle.dmx_calls.specs.declared.log.Act.TheVariants.{Pass as PassAct};
-ghost use Rattle.dmx_calls.specs.Log.{act_of};
+ghost use Rattle.dmx_calls.specs.declared.log.Act.TheVariants.{End as EndAct, Pass as PassAct};
 ghost use Rattle.dmx_calls.specs.declared.params.Input.TheVariants.{Frontend};
 ghost use Rattle.dmx_calls.specs.Invocation as asks;
 ghost use Rattle.dmx_calls.specs.Response.{Response};
 ghost use Rattle.client_script.specs.declared.line.Line.{Line as ScriptLine};
 ghost use Rattle.client_core.specs.Inside.Core.{IsAfter};
 ghost use Rattle.serial_core.specs.Nodes.{Node as RunNode, answer_by, answered, history_of};
-ghost use Rattle.serial_core.specs.Inside.Standing.{IsFeeding, IsSeat, StandsAt, entries_in};
+ghost use Rattle.serial_core.specs.Inside.Standing.{IsSeat, StandsAt, entries_in};
 
 use crate::node::AnyCore;
 use client_core::{ClientCore, fitted, unless_no_memory};
-use dmx_calls::{Act, Call, Entry, Input, Reply};
+use dmx_calls::{Act, Call, Entry, Reply};
 use std::alloc::{AllocError as NoMemory, Global};
-use std::sync::Arc;
 use std::sync::ledger::Ledger;
 use steps::Steps;
 use ts_batch::Batch;
@@ -29,13 +26,6 @@ pub struct Seat {
     pub core: AnyCore,
     pub node: u32,
     pub entries: Vec<Entry>,
-}
-
-/// What a call leaves: its reply, and the batch of a Pass.
-#[derive(Drop)]
-pub struct Heard {
-    pub reply: Reply,
-    pub batch: Option<Arc<Batch>>,
 }
 
 impl Seat {
@@ -52,66 +42,49 @@ impl Seat {
         }
     }
 
-    // The answer to a call, which isn't kept.
+    // The reply to a call, which isn't kept.
     fn hear<L: Ledger>(
         &mut self,
         who: u32,
         call: Call,
         steps: &mut Steps<L>,
-    ) -> Result<Heard, NoMemory>
+    ) -> Result<Reply, NoMemory>
         requires few { entries_in self.old.core < 2 ^ 50 }
-        ensures answer { IfOk result (λ heard. (n : RunNode) → StandsAt self.old.core n.number (history_of n)
-            → (response_of heard.reply ≡ answer_by who (invocation_of call) n)
+        ensures answer { IfOk result (λ reply. (n : RunNode) → StandsAt self.old.core n.number (history_of n)
+            → (response_of reply ≡ answer_by who (invocation_of call) n)
             × StandsAt self.new.core n.number (entry_of who (invocation_of call) (answer_by who (invocation_of call) n) ∷ history_of n)) }
         ensures node { self.new.node ≡ self.old.node }
         ensures entries { self.new.entries ≡ self.old.entries }
         ensures rises { entries_in self.new.core ≡ entries_in self.old.core + 1 }
-        ensures back { IfOk result (λ heard. HandsBackBatch call (option_map (λ batch. batch.value) heard.batch)) }
     {
         let answer = self.core.apply(who, call, steps);
-        Ok(Heard {
-            reply: unless_no_memory(answer.reply)?,
-            batch: answer.batch,
-        })
+        unless_no_memory(answer.reply)
     }
 
-    /// The feeder makes a call, which hands back the batch of a Pass.
-    pub fn feed<L: Ledger>(
-        &mut self,
-        call: Call,
-        steps: &mut Steps<L>,
-    ) -> Result<Option<Arc<Batch>>, NoMemory>
+    /// A batch passes at this moment, which is no entry of a client.
+    pub fn pass<L: Ledger>(&mut self, batch: &Batch, now: u64, steps: &mut Steps<L>)
         requires few { entries_in self.old.core < 2 ^ 50 }
-        requires passes { IsFeeding (invocation_of call) }
-        ensures at { OnOk result ((acts : List ToldAct) (n : RunNode) → IsSeat acts self.old n
-            → IsSeat (acts ++ act_of (invocation_of call) ∷ []) self.new (answered 0 (length acts) (invocation_of call) n)) }
+        ensures at { (acts : List ToldAct) (n : RunNode) → IsSeat acts self.old n
+            → IsSeat (acts ++ PassAct Frontend batch.now.first (length batch.now.packets) now ∷ []) self.new
+            (answered 0 (length acts) (asks.Pass Frontend batch.now.first batch.now.packets now) n) }
+        ensures node { self.new.node ≡ self.old.node }
+        ensures entries { self.new.entries ≡ self.old.entries }
         ensures rises { entries_in self.new.core ≡ entries_in self.old.core + 1 }
-        ensures back { IfOk result (λ batch. HandsBackBatch call (option_map (λ batch. batch.value) batch)) }
     {
-        let heard = self.hear(0, call, steps)?;
-        Ok(heard.batch)
+        self.core.pass(batch, now, steps);
     }
 
-    /// A batch passes at this moment, and is handed back.
-    pub fn pass<L: Ledger>(
-        &mut self,
-        batch: Arc<Batch>,
-        now: u64,
-        steps: &mut Steps<L>,
-    ) -> Result<Arc<Batch>, NoMemory>
+    /// End passes, which is no entry of a client.
+    pub fn end<L: Ledger>(&mut self, steps: &mut Steps<L>) -> Result<(), NoMemory>
         requires few { entries_in self.old.core < 2 ^ 50 }
         ensures at { OnOk result ((acts : List ToldAct) (n : RunNode) → IsSeat acts self.old n
-            → IsSeat (acts ++ PassAct Frontend batch.value.first (length batch.value.packets) now ∷ []) self.new
-            (answered 0 (length acts) (asks.Pass Frontend batch.value.first batch.value.packets now) n)) }
+            → IsSeat (acts ++ EndAct ∷ []) self.new (answered 0 (length acts) asks.End n)) }
+        ensures node { self.new.node ≡ self.old.node }
+        ensures entries { self.new.entries ≡ self.old.entries }
         ensures rises { entries_in self.new.core ≡ entries_in self.old.core + 1 }
-        ensures back { IfOk result (λ back. back.value ≡ batch.value) }
     {
-        let call = Call::Pass {
-            input: Input::Frontend,
-            batch,
-            now,
-        };
-        Ok(self.feed(call, steps)?.unwrap())
+        self.hear(0, Call::End, steps)?;
+        Ok(())
     }
 
     /// A client makes a call, and takes its reply, which joins the entries; `nth` is its number among the client's.
@@ -137,15 +110,15 @@ impl Seat {
     {
         let place = self.core.entries();
         let act = Act::of(&call);
-        let heard = self.hear(who, call, steps)?;
-        client.take(&heard.reply);
+        let reply = self.hear(who, call, steps)?;
+        client.take(&reply);
         self.entries.push(Entry {
             node: self.node,
             place,
             step: nth,
             who,
             act,
-            reply: fitted(alloc, heard.reply)?,
+            reply: fitted(alloc, reply)?,
         })?;
         Ok(())
     }

@@ -3,16 +3,16 @@ use Rattle.dmx_calls.specs.Invocation as call
 use Rattle.serial_core.proofs.FedOn.{fed_more, fed_few, fed_at, fed_under}
 use Rattle.serial_core.proofs.nodes.end_all.Goals as goal
 
-pub feed-requires : goal.feed-requires
-feed-requires g c =
+pub end-requires : goal.end-requires
+end-requires g c =
     let there : c.seats.seat-index < length c.seats.seats = omega (arith, c.seats.auto.seats, c.seats-test.true) in
-    record { few = fed_few call.End c.args.seats.now c.seats.seats c.seats.seat-index c.seat-item.result there c.requires.few c.seats.invariant; passes = tt }
+    record { few = fed_few call.End c.args.seats.now c.seats.seats c.seats.seat-index c.seat-item.result there c.requires.few c.seats.invariant }
 
 pub seats-preserved : goal.seats-preserved
 seats-preserved g c =
     let there : c.seats.seat-index < length c.seats.seats = omega (arith, c.seats.auto.seats, c.seats-test.true) in
-    let k = c.in_ok-feed.ensures in
-    fed_more call.End c.args.seats.now c.seats.seats c.seats.seat-index c.feed.new.self c.seat-item.result there k.at k.rises c.seats.invariant
+    let k = c.in_ok-end.ensures in
+    fed_more call.End c.args.seats.now c.seats.seats c.seats.seat-index c.end.new.self c.seat-item.result there k.at k.rises c.seats.invariant
 
 pub returns-clause-at : goal.returns-clause-at
 returns-clause-at g c =

@@ -10,5 +10,5 @@ pass_all-requires g c =
 pub returns-clause-counted : goal.returns-clause-counted
 returns-clause-counted g c =
     let whole = whole_back c.args.self.now.seats.items c.deref_mut.result.now c.pass_all.new.seats c.args.self.now.seats.len c.args.self.now.seats.ok.0 c.deref_mut.ensures.value c.pass_all.auto.seats in
-    let under = rw c.deref_mut.ensures.value at c.in_ok-pass_all.ensures.rises in
+    let under = rw c.deref_mut.ensures.value at c.pass_all.ensures.rises in
     rw whole (under c.args.self.now.made c.requires.counted)

@@ -1,0 +1,16 @@
+use Rattle.std.proofs.Common.{refl, sym, subst, ◌∷◌}
+use Rattle.dmx_calls.specs.declared.params.Input.TheVariants.{Frontend}
+use Rattle.dmx_calls.specs.Invocation as asks
+use Rattle.dmx_calls.specs.History.{entry_of}
+use Rattle.dmx_calls.specs.Rules.{rules_at}
+use Rattle.serial_core.specs.Nodes.{history_of}
+use Rattle.serial_core.specs.Inside.Standing.{StandsAt}
+use Rattle.serial_core.proofs.Seats.{seat_fed, is_passed}
+use Rattle.serial_core.proofs.seat.Seat.pass.Goals as goal
+
+pub returns-clause-at : goal.returns-clause-at
+returns-clause-at g c acts n at =
+    let h = history_of n in
+    let call = asks.Pass Frontend c.args.batch.now.first c.args.batch.now.packets c.args.now in
+    let stands = subst (λ r. StandsAt c.pass.new.self n.number (entry_of 0 call r ∷ h)) (sym (is_passed (rules_at n.number) h 0 call tt)) (c.pass.ensures.stands n.number h at.core) in
+    seat_fed acts c.args.self.now _ n call tt refl refl stands at
