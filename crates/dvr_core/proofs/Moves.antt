@@ -22,7 +22,7 @@ use Rattle.node_buffer.specs.Inside.Coherent.{Coherent, CoherentIn}
 use Rattle.node_buffer.proofs.Silences.{Silent, accepted_of, quiet_of, nothing_of}
 use Rattle.dvr_core.specs.Tapped.{taps_of}
 use Rattle.dvr_core.specs.Inside.Step.{Knows, moved}
-use Rattle.dvr_core.proofs.Tapping.{taps_refused, taps_attached, taps_detached}
+use Rattle.dvr_core.proofs.Tapping.{taps_same, taps_refused, taps_attached, taps_detached}
 use Rattle.dvr_core.proofs.Going.{facts_opened, facts_closed, facts_resized, Stays, facts_goes}
 use Rattle.dvr_core.proofs.Ledgers.{ledger_recorded}
 
@@ -42,11 +42,8 @@ known_refused e h nay = known_by (e ∷ h) (facts dvr h) (taps_of h) (dvr_same e
 
 -- an accepted call that is neither Attach nor Detach
 pub taps_stay : (e : Entry) (h : History) → is_accepted e.response ≡ true → ((node : ℕ) → tap_after node (event e h ∷ accepted h) ≡ tap_after node (accepted h)) → taps_of (e ∷ h) ≡ taps_of h
-unfolding taps_of tap_of
-taps_stay e h ok same = by_node (range_with_len 0 DEMUX_NODES) where
-  by_node : (nodes : List ℕ) → map (λ node. tap_of node (e ∷ h)) nodes ≡ map (λ node. tap_of node h) nodes
-  by_node [] = refl
-  by_node (node ∷ nodes) = rw (ok, same node) (ap (λ taps. tap_of node h ∷ taps) (by_node nodes))
+unfolding tap_of
+taps_stay e h ok same = taps_same e h (λ node. rw ok (same node))
 
 -- ------ Open and Close
 

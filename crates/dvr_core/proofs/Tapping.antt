@@ -1,8 +1,9 @@
 -- The taps that a history says, one entry later, and the packets that they name.
-use Rattle.std.proofs.Common.{ℕ, zero, suc, ◌+◌, ◌<◌, ◌≡◌, refl, ap, Bool, true, false, List, [], ◌∷◌, Some, map, arith, zero-add}
+use Rattle.std.proofs.Common.{ℕ, zero, suc, ◌+◌, ◌<◌, ◌≡◌, refl, sym, ap, Bool, true, false, List, [], ◌∷◌, Some, map, arith, zero-add}
 use Rattle.std.specs.Prelude.{if◌then◌else◌, ◌||◌, filter, nat_eq}
 use Rattle.std.specs.List.{list_any, range_with_len}
 use Rattle.std.proofs.lemmas.Bool.Decides.{nat_tests}
+use Rattle.lemmas.proofs.Lists.{any_of_map}
 use Rattle.dmx_calls.specs.declared.limits.TheConstants.{DEMUX_NODES}
 use Rattle.dmx_calls.specs.Invocation.{Attach, Detach}
 use Rattle.dmx_calls.specs.Response.{Response, is_accepted}
@@ -33,12 +34,15 @@ module _ {X : Type 0} (change : X → X) (value : ℕ → X) where
 
 -- ------ one entry later
 
-pub taps_refused : (e : Entry) (h : History) → is_accepted e.response ≡ false → taps_of (e ∷ h) ≡ taps_of h
+pub taps_same : (e : Entry) (h : History) → ((node : ℕ) → tap_of node (e ∷ h) ≡ tap_of node h) → taps_of (e ∷ h) ≡ taps_of h
 unfolding taps_of
-taps_refused e h nay = same (range_with_len 0 DEMUX_NODES) where
-  same : (nodes : List ℕ) → map (λ node. tap_of node (e ∷ h)) nodes ≡ map (λ node. tap_of node h) nodes
-  same [] = refl
-  same (node ∷ nodes) = rw ((dvr_same e h nay).taps node, same nodes) refl
+taps_same e h same = by_node (range_with_len 0 DEMUX_NODES) where
+  by_node : (nodes : List ℕ) → map (λ node. tap_of node (e ∷ h)) nodes ≡ map (λ node. tap_of node h) nodes
+  by_node [] = refl
+  by_node (node ∷ nodes) = rw (same node, by_node nodes) refl
+
+pub taps_refused : (e : Entry) (h : History) → is_accepted e.response ≡ false → taps_of (e ∷ h) ≡ taps_of h
+taps_refused e h nay = taps_same e h (dvr_same e h nay).taps
 
 module _ (h : History) (who : ℕ) (r : Response) (ok : is_accepted r ≡ true) where
   pub taps_attached : (node : ℕ) (pids : List ℕ) → taps_of (entry_of who (Attach node pids) r ∷ h) ≡ attached who node pids (taps_of h)
@@ -51,13 +55,9 @@ module _ (h : History) (who : ℕ) (r : Response) (ok : is_accepted r ≡ true) 
 
 -- ------ the packets that they name
 
-any_of_map : {X Y : Type 0} (test : Y → Bool) (value : X → Y) (xs : List X) → list_any (λ x. test (value x)) xs ≡ list_any test (map value xs)
-any_of_map test value [] = refl
-any_of_map test value (x ∷ xs) = ap (λ b. test (value x) || b) (any_of_map test value xs)
-
 names_is : (h : History) (packet : List ℕ) → is_tapped h packet ≡ some_names (taps_of h) packet
 unfolding is_tapped taps_of
-names_is h packet = any_of_map (tap_names packet) (λ node. tap_of node h) (range_with_len 0 DEMUX_NODES)
+names_is h packet = sym (any_of_map (tap_names packet) (λ node. tap_of node h) (range_with_len 0 DEMUX_NODES))
 
 pub tapped_are : (h : History) (packets : List (List ℕ)) → filter (is_tapped h) packets ≡ filter (some_names (taps_of h)) packets
 tapped_are h [] = refl
