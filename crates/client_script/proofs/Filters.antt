@@ -1,14 +1,11 @@
 -- What the words that are still to come make of a filter.
-use Rattle.std.proofs.Common.{◌≡◌, refl, ◌∙◌, ℕ, suc, ◌+◌, ◌<◌, List, [], ◌∷◌, fold, replicate, arith}
-use Rattle.std.proofs.lemmas.List.{length-set}
-use Rattle.std.proofs.lemmas.List.Elements.{All-replicate, All-set}
-use Rattle.std.specs.List.{All}
+use Rattle.std.proofs.Common.{◌≡◌, refl, ℕ, suc, ◌+◌, List, [], ◌∷◌, fold}
 use Rattle.std.specs.Prelude.{Some, None, Ok, Err}
 use Rattle.filter_match.specs.declared.filter.SectionFilter.{SectionFilter}
 use Rattle.filter_match.specs.declared.filter.Place.{Place}
 use Rattle.filter_match.specs.Places.{with_place}
 use Rattle.client_script.specs.Words.{Reading, and_then, mapped}
-use Rattle.text_forms.specs.Places.{HasBytes, IsFilter, place_named}
+use Rattle.text_forms.specs.Places.{place_named}
 use Rattle.client_script.specs.Places.{places_in}
 use Rattle.client_script.specs.declared.fault.FaultKind.TheVariants.{Bytes}
 
@@ -37,18 +34,3 @@ filter_by-place f left more least all word words place some split found = rw (so
     go : (later : Reading (List Place)) → mapped (fold with_place f) (and_then later (λ places words. Ok (place ∷ places, words))) ≡ mapped (fold with_place (with_place f place)) later
     go (Ok read) = refl
     go (Err kind) = refl
-
--- a filter with one more place is a filter
-pub with_place-IsFilter : (f : SectionFilter) (place : Place) → IsFilter f → HasBytes place → IsFilter (with_place f place)
-unfolding with_place
-with_place-IsFilter f place is bytes = (
-  (length-set f.filter place.number place.filter ∙ is.0.0, All-set (λ byte. byte < 256) f.filter place.number place.filter bytes.0 is.0.1),
-  (length-set f.mask place.number place.mask ∙ is.1.0, All-set (λ byte. byte < 256) f.mask place.number place.mask bytes.1 is.1.1),
-  (length-set f.mode place.number place.mode ∙ is.2.0, All-set (λ byte. byte < 256) f.mode place.number place.mode bytes.2 is.2.1),
-)
-
--- zeros are a filter
-pub zeros-IsFilter : IsFilter (record { filter = replicate 16 0; mask = replicate 16 0; mode = replicate 16 0 })
-zeros-IsFilter =
-    let bytes : All (λ byte. byte < 256) (replicate 16 0) = All-replicate (λ byte. byte < 256) 16 0 (omega arith) in
-    ((refl, bytes), (refl, bytes), (refl, bytes))

@@ -1,5 +1,6 @@
 -- Sets of PIDs and filters are read again.
 use Rattle.std.proofs.Common.{◌≡◌, ◌<◌, ◌≤◌, ◌^◌, ◌+◌, ◌/◌, ◌%◌, refl, ap, ◌∙◌, ℕ, zero, suc, List, [], ◌∷◌, ◌++◌, Bool, true, false, length, map, fold, get_or, Some, None, codes, arith, append_assoc, append-nil, length-append}
+use Rattle.std.proofs.Math.Bool.{and-false}
 use Rattle.std.proofs.lemmas.Bool.Decides.{nat_tests}
 use Rattle.std.proofs.lemmas.List.{length-map}
 use Rattle.std.proofs.lemmas.List.Elements.{All-nil, All-get_or, All-from_get_or, All-push, All-head, All-tail, All-map, All-filter}
@@ -20,7 +21,7 @@ use Rattle.text_forms.specs.Places.{HasBytes, IsFilter, is_zero, place_text, fil
 use Rattle.text_forms.proofs.Decimals.{decimal-digits}
 use Rattle.text_forms.proofs.HexPairs.{hex_byte-byte_text}
 use Rattle.text_forms.proofs.PlacesRead.{bytes_behind}
-use Rattle.text_forms.proofs.FiltersRead.{filter_text-words, filter_with-filter_places, length-filter_words}
+use Rattle.text_forms.proofs.FiltersRead.{at-HasBytes, below_each, filter_text-words, filter_with-filter_places, length-filter_words}
 use Rattle.report_text.specs.Acts.{next_pid_text, pids_text}
 use Rattle.report_read.specs.Inside.Reading.{behind, choose, number_in, number16, byte_in, begins_number}
 use Rattle.report_read.specs.Inside.Parts.{is_full_for, pid_step, more_pids, pids_in, place_in, begins_place, place_step, more_places, filter_in}
@@ -89,11 +90,7 @@ fits_first set pid pids all = All-head (λ p. p < 65536) pid pids all
 not_full : (set : List ℕ) (pid n : ℕ) → length set + (1 + n) ≤ 32 → is_full_for pid set ≡ false
 not_full set pid n room =
     let few : nat_eq (length set) 32 ≡ false = grind (arith, nat_tests) in
-    rw few (no_more (not (has_pid pid set)))
-  where
-    no_more : (b : Bool) → (b && false) ≡ false
-    no_more true = refl
-    no_more false = refl
+    rw few (and-false (not (has_pid pid set)))
 
 more_again : (left : ℕ) (set pids rest : List ℕ) → length pids ≤ left → length set + length pids ≤ 32 → Rising (set ++ pids) → All (λ p. p < 65536) pids → EndsSet rest
     → more_pids left set (flat_map next_pid_text pids ++ rest) ≡ Some (set ++ pids, rest)
@@ -160,22 +157,10 @@ places_again (suc left) g (p ∷ ps) rest few all ends =
     let front : begins_number (place_text p ++ (flat_map (λ word. codes " " ++ word) (map place_text ps) ++ rest)) ≡ true = rw (append_assoc (decimal p.number) (bytes_behind p) (flat_map (λ word. codes " " ++ word) (map place_text ps) ++ rest)) begins in
     rw (same, front, one) later
 
-below_each : (P : ℕ → Type 0) (n : ℕ) → ((i : ℕ) → i < n → P i) → All P (numbers_below n)
-unfolding numbers_below
-below_each P zero each = All-nil P
-below_each P (suc n) each = All-push P (numbers_below n) n (below_each P n (λ i few. each i (omega arith))) (each n (omega arith))
-
-at_is : (f : SectionFilter) (i : ℕ) → IsFilter f → i < 16 → IsPlace (place_at f i)
-at_is f i is few =
-    let a : i < length f.filter = rw is.0.0 few in
-    let b : i < length f.mask = rw is.1.0 few in
-    let c : i < length f.mode = rw is.2.0 few in
-    (omega arith, (All-get_or (λ byte. byte < 256) f.filter i 0 a is.0.1, All-get_or (λ byte. byte < 256) f.mask i 0 b is.1.1, All-get_or (λ byte. byte < 256) f.mode i 0 c is.2.1))
-
 places_are : (f : SectionFilter) → IsFilter f → All IsPlace (filter_places f)
 places_are f is =
     All-filter (λ p. not (is_zero p)) IsPlace (map (place_at f) (numbers_below 16))
-    (All-map IsPlace (place_at f) (numbers_below 16) (below_each (λ i. IsPlace (place_at f i)) 16 (λ i few. at_is f i is few)))
+    (All-map IsPlace (place_at f) (numbers_below 16) (below_each (λ i. IsPlace (place_at f i)) 16 (λ i few. (omega arith, at-HasBytes f i is few))))
 
 pub filter_again : (f : SectionFilter) (rest : List ℕ) → IsFilter f → begins_place rest ≡ false → filter_in (filter_text f ++ rest) ≡ Some (f, rest)
 unfolding filter_in

@@ -55,21 +55,6 @@ places_on (suc left) filter bytes filter' rest' some e f =
     let here : more_places (suc left) filter bytes ≡ more_places left filter' rest' = rw (e, f) refl in
     here ∙ ap (λ (n : ℕ). more_places n filter' rest') back
 
--- a filter with one more place is a filter
-pub with_place_filter : (f : SectionFilter) (place : Place) → IsFilter f → HasBytes place → IsFilter (with_place f place)
-unfolding with_place
-with_place_filter f place is bytes = (
-  (length-set f.filter place.number place.filter ∙ is.0.0, All-set (λ byte. byte < 256) f.filter place.number place.filter bytes.0 is.0.1),
-  (length-set f.mask place.number place.mask ∙ is.1.0, All-set (λ byte. byte < 256) f.mask place.number place.mask bytes.1 is.1.1),
-  (length-set f.mode place.number place.mode ∙ is.2.0, All-set (λ byte. byte < 256) f.mode place.number place.mode bytes.2 is.2.1),
-)
-
--- the filter in which no bit counts is one
-pub zeros_filter : IsFilter (record { filter = replicate 16 0; mask = replicate 16 0; mode = replicate 16 0 })
-zeros_filter =
-    let bytes : All (λ byte. byte < 256) (replicate 16 0) = All-replicate (λ byte. byte < 256) 16 0 (omega arith) in
-    ((refl, bytes), (refl, bytes), (refl, bytes))
-
 pub ruleset pids_steps = (pids_none, pids_stop, pids_fail, pids_on)
 
 pub ruleset places_steps = (places_none, places_stop, places_fail, places_on)
