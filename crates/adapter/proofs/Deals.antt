@@ -3,11 +3,12 @@ use Rattle.std.proofs.Common.{◌≡◌, ℕ, ◌+◌, ◌<◌, ◌≤◌, List,
 use mathlib.Core.Logic.{dite}
 use native.Mathlib.Decide.{ℕ_discrete}
 use Rattle.std.proofs.Common.{⊎_elim}
+use Rattle.std.proofs.lemmas.Option.{slice_get_within}
 use Rattle.atomic_table.specs.Seated.{TableId}
 use Rattle.node_lock.specs.declared.view.View.{View}
 use Rattle.node_lock.specs.Passes.{IsFresh, AreFresh}
 use Rattle.adapter.specs.Rows.{IsFreshRow, AreFreshRows, AllDealt}
-use Rattle.adapter.proofs.Lists.{at_place, place_below, set_there, set_elsewhere, at_last, at_before, one_value, at_end}
+use Rattle.adapter.proofs.Lists.{at_place, set_there, set_elsewhere, at_last, at_before, one_value, at_end}
 
 module _ {P V : Type 0} (items : V → List P) (old : List V) (passes : List P) where
   pub record Dealing (rest : List P) (now : List V) : Type 0 where
@@ -28,7 +29,7 @@ module _ {P V : Type 0} (items : V → List P) (old : List V) (passes : List P) 
         later = λ i x below h. j.later i x (omega arith) (sym (set_elsewhere now n i s (λ here. omega arith)) ∙ h);
         done = λ i a b q from d f h. dite (ℕ_discrete i n)
             (λ here.
-            let is_s : s ≡ b = one_value (set now n s) n s b (set_there now n s (place_below now n r at)) (ap (slice_get (set now n s)) (sym here) ∙ h) in
+            let is_s : s ≡ b = one_value (set now n s) n s b (set_there now n s (slice_get_within now n r at)) (ap (slice_get (set now n s)) (sym here) ∙ h) in
             let is_r : r ≡ a = one_value old n r a (j.later n r (omega arith) at) (ap (slice_get old) (sym here) ∙ d) in
             let is_p : p ≡ q = one_value passes n p q (j.begins n p (ap (λ (z : List P). slice_get z n) e ∙ at_last ys p)) (ap (slice_get passes) (sym here) ∙ f) in
             subst (λ z. items z ≡ items a ++ q ∷ []) is_s (subst (λ z. items s ≡ items z ++ q ∷ []) is_r (subst (λ z. items s ≡ items r ++ z ∷ []) is_p is)))
@@ -40,8 +41,8 @@ module _ {N : Type 0} where
   fresh_row callers who ls ps l p f is = (
     length-append ps (p ∷ []) ∙ (ap (λ (n : ℕ). n + 1) f.0 ∙ sym (length-append ls (l ∷ []))),
     λ i m q a b. let long = f.0 in ⊎_elim
-        (λ x. ⊎_elim (λ y. f.1 i m q x y) (λ y. let low = place_below ls i m x in let at : i ≡ length ps = y.0 in absurd (omega arith)) (at_end ps p q i b))
-        (λ x. ⊎_elim (λ y. let low = place_below ps i q y in let at : i ≡ length ls = x.0 in absurd (omega arith)) (λ y. subst (λ z. IsFresh m callers who z) y.1 (subst (λ z. IsFresh z callers who p) x.1 is)) (at_end ps p q i b))
+        (λ x. ⊎_elim (λ y. f.1 i m q x y) (λ y. let low = slice_get_within ls i m x in let at : i ≡ length ps = y.0 in absurd (omega arith)) (at_end ps p q i b))
+        (λ x. ⊎_elim (λ y. let low = slice_get_within ps i q y in let at : i ≡ length ls = x.0 in absurd (omega arith)) (λ y. subst (λ z. IsFresh m callers who z) y.1 (subst (λ z. IsFresh z callers who p) x.1 is)) (at_end ps p q i b))
         (at_end ls l m i a),
   )
 
@@ -49,7 +50,7 @@ module _ {N : Type 0} where
       → AreFreshRows items callers ls old → AreFresh l callers passes → length passes ≡ callers → AllDealt items old passes new → AreFreshRows items callers (ls ++ l ∷ []) new
   fresh_rows items callers ls l old new passes f fresh long d = (
     d.0 ∙ f.0,
-    λ who s at. let low = place_below new who s at in let a = d.0 in let b = f.0 in
+    λ who s at. let low = slice_get_within new who s at in let a = d.0 in let b = f.0 in
         let r = at_place old who (omega arith) in let p = at_place passes who (omega arith) in
         subst (IsFreshRow callers who (ls ++ l ∷ [])) (sym (d.1 who r.0 s p.0 r.1 p.1 at)) (fresh_row callers who ls (items r.0) l p.0 (f.1 who r.0 r.1) (fresh who p.0 p.1)),
   )

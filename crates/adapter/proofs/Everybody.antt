@@ -2,15 +2,16 @@
 use Rattle.std.proofs.Common.{◌≡◌, ℕ, zero, suc, ◌<◌, List, [], ◌∷◌, ◌++◌, length, slice_get, Option, Some, None, inl, refl, ap, sym, ◌∙◌, subst, arith}
 use Rattle.std.proofs.lemmas.List.{map-append}
 use Rattle.std.specs.Option.{option_to_list}
+use Rattle.std.proofs.lemmas.Option.{slice_get_within}
 use Rattle.atomic_table.specs.Seated.{TableId}
 use Rattle.node_lock.specs.declared.view.View.{View}
-use Rattle.node_lock.specs.Inside.Lists.{Has}
+use Rattle.lemmas.specs.Lists.{Has}
 use Rattle.dmx_calls.specs.History.{Entry}
 use Rattle.node_lock.specs.Passes.{IsSamePass}
 use Rattle.adapter.specs.Rows.{Fits, AreSamePasses, SomeHas, AreAll, AreAllRows, column}
 use Rattle.adapter.specs.Callers.{Caller, IsSameCaller, SomeIs, AreAllCallers}
 use Rattle.adapter.specs.Ends.{rows_of}
-use Rattle.adapter.proofs.Lists.{at_place, place_below}
+use Rattle.adapter.proofs.Lists.{at_place}
 use Rattle.adapter.proofs.Mine.{fits_same}
 
 caller_at : (cs : List Caller) (k : ℕ) (row : List (TableId × View Entry)) → slice_get (rows_of cs) k ≡ Some row → (c : Caller) × (slice_get cs k ≡ Some c) × (c.passes ≡ row)
@@ -40,7 +41,7 @@ of_column i (d ∷ cs) (suc k) c p at is = behind (slice_get d.passes i) (of_col
 module _ (locks : List TableId) (cs : List Caller) (a : AreAllCallers locks cs) where
   some_has : (i w : ℕ) (l : TableId) → slice_get locks i ≡ Some l → SomeIs cs w → SomeHas (column i (rows_of cs)) w
   some_has i w l at s =
-      let f = a.fits s.0 s.1 s.2 in let low = place_below locks i l at in let long = f.0 in let p = at_place s.1.passes i (omega arith) in
+      let f = a.fits s.0 s.1 s.2 in let low = slice_get_within locks i l at in let long = f.0 in let p = at_place s.1.passes i (omega arith) in
       let j = of_column i cs s.0 s.1 p.0 s.2 p.1 in
       (j.0, p.0, j.1, subst (λ (ns : List ℕ). Has ns w) (sym (a.own s.0 s.1 s.2 i p.0 p.1)) (inl s.3))
 
@@ -59,7 +60,7 @@ same_passes : (ps qs rs : List (TableId × View Entry)) → AreSamePasses ps qs 
 same_passes ps qs rs a b = (
   b.0 ∙ a.0,
   λ i p r x z.
-      let low = place_below ps i p x in let long = a.0 in let q = at_place qs i (omega arith) in let f = a.1 i p q.0 x q.1 in let g = b.1 i q.0 r q.1 z in
+      let low = slice_get_within ps i p x in let long = a.0 in let q = at_place qs i (omega arith) in let f = a.1 i p q.0 x q.1 in let g = b.1 i q.0 r q.1 z in
       (g.0 ∙ f.0, g.1 ∙ f.1, g.2 ∙ f.2, g.3 ∙ f.3),
 )
 
@@ -75,10 +76,10 @@ still_all locks old new a s = record {
   fits = λ k d at. let b = before k d at in fits_same locks b.0.passes d.passes (a.fits k b.0 b.1) b.2.1;
   own = λ k d at i q is. let b = before k d at in let p = pass_before b.0 d b.2 i q is in p.2.2 ∙ a.own k b.0 b.1 i p.0 p.1 ∙ ap (λ (n : ℕ). n ∷ []) (sym b.2.0);
   all = λ k d at i q is w below. let b = before k d at in let p = pass_before b.0 d b.2 i q is in let m = a.all k b.0 b.1 i p.0 p.1 w (subst (λ (n : ℕ). w < n) p.2.3 below) in
-      let low = place_below old m.0 m.1 m.2 in let long = s.0 in let now = at_place new m.0 (omega arith) in (m.0, now.0, now.1, (s.1 m.0 m.1 now.0 m.2 now.1).0 ∙ m.3);
+      let low = slice_get_within old m.0 m.1 m.2 in let long = s.0 in let now = at_place new m.0 (omega arith) in (m.0, now.0, now.1, (s.1 m.0 m.1 now.0 m.2 now.1).0 ∙ m.3);
 } where
   before : (k : ℕ) (d : Caller) → slice_get new k ≡ Some d → (c : Caller) × (slice_get old k ≡ Some c) × IsSameCaller c d
-  before k d at = let low = place_below new k d at in let long = s.0 in let c = at_place old k (omega arith) in (c.0, c.1, s.1 k c.0 d c.1 at)
+  before k d at = let low = slice_get_within new k d at in let long = s.0 in let c = at_place old k (omega arith) in (c.0, c.1, s.1 k c.0 d c.1 at)
 
   pass_before : (c d : Caller) → IsSameCaller c d → (i : ℕ) (q : TableId × View Entry) → slice_get d.passes i ≡ Some q → (p : TableId × View Entry) × (slice_get c.passes i ≡ Some p) × IsSamePass p q
-  pass_before c d t i q is = let low = place_below d.passes i q is in let long = t.1.0 in let p = at_place c.passes i (omega arith) in (p.0, p.1, t.1.1 i p.0 q p.1 is)
+  pass_before c d t i q is = let low = slice_get_within d.passes i q is in let long = t.1.0 in let p = at_place c.passes i (omega arith) in (p.0, p.1, t.1.1 i p.0 q p.1 is)

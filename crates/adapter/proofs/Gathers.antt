@@ -4,11 +4,12 @@ use Rattle.std.specs.Option.{option_to_list}
 use Rattle.atomic_table.specs.Seated.{TableId}
 use Rattle.node_lock.specs.declared.view.View.{View}
 use Rattle.std.proofs.lemmas.List.{map-append}
+use Rattle.std.proofs.lemmas.Option.{slice_get_within}
 use Rattle.dmx_calls.specs.History.{Entry}
 use Rattle.adapter.specs.Callers.{Caller}
 use Rattle.adapter.specs.Ends.{rows_of}
 use Rattle.adapter.specs.Rows.{Fits}
-use Rattle.adapter.proofs.Lists.{at_place, place_below, at_last, at_before}
+use Rattle.adapter.proofs.Lists.{at_place, at_last, at_before}
 use Rattle.adapter.proofs.Joins.{Joined, first_joined, next_joined, all_joined}
 use Rattle.adapter.specs.Rows.{AllJoin, column, AreAllRows, AreGathered}
 
@@ -35,7 +36,7 @@ module _ {N : Type 0} where
   module _ (locks : List TableId) (all rest ys : List (List (TableId × View N))) (into h new : List (TableId × View N)) (g : Gathering locks all rest into) (e : rest ≡ ys ++ h ∷ []) (j : AllJoin into h new) where
     joined_there : (i : ℕ) (l : TableId) (r : TableId × View N) → slice_get locks i ≡ Some l → slice_get new i ≡ Some r → Joined l (column i all) (column i ys) r
     joined_there i l r a c =
-        let low = place_below new i r c in let one = j.long in let f0 = g.own.0 in let t0 = (next_fits locks all rest ys into h g e).0 in
+        let low = slice_get_within new i r c in let one = j.long in let f0 = g.own.0 in let t0 = (next_fits locks all rest ys into h g e).0 in
         let p = at_place into i (omega arith) in let q = at_place h i (omega arith) in let o = j.each i p.0 q.0 r p.1 q.1 c in
         next_joined l (column i all) (column i rest) (column i ys) p.0 q.0 r (g.at i l p.0 a p.1) (ap (column i) e ∙ column_more i ys h q.0 q.1) o.own o.callers o.numbers o.calls o.mine o.theirs
 
@@ -50,7 +51,7 @@ module _ {N : Type 0} where
   all_gathered locks all rest into g e = (
     g.own,
     λ i p d.
-        let low = place_below into i p d in let f0 = g.own.0 in let l = at_place locks i (omega arith) in
+        let low = slice_get_within into i p d in let f0 = g.own.0 in let l = at_place locks i (omega arith) in
         let a = all_joined l.0 (column i all) (column i rest) p (g.at i l.0 p l.1 d) (ap (column i) e) in
         record { whole = a.0; calls = a.1; begins = a.2 },
   )

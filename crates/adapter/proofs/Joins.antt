@@ -3,8 +3,9 @@ use Rattle.std.proofs.Common.{◌≡◌, ◌⊎◌, ℕ, ◌<◌, List, [], ◌�
 use mathlib.Core.List.{IsPrefix}
 use Rattle.atomic_table.specs.Seated.{TableId}
 use Rattle.node_lock.specs.declared.view.View.{View}
-use Rattle.node_lock.specs.Inside.Lists.{Has}
-use Rattle.node_lock.proofs.Views.{has_left, has_right, prefix_trans}
+use Rattle.lemmas.specs.Lists.{Has}
+use Rattle.lemmas.proofs.Lists.{has_left, has_right}
+use Rattle.node_lock.proofs.Views.{prefix_trans}
 use Rattle.adapter.specs.Rows.{SomeHas, AreAll, all_calls, EachBegins}
 use Rattle.adapter.proofs.Lists.{at_either, at_last, at_before}
 

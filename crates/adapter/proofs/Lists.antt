@@ -2,11 +2,6 @@
 pub use Rattle.lemmas.proofs.Lists.{at_place, one_value, at_last, at_before, at_end}
 use Rattle.std.proofs.Common.{◌≡◌, ◌≢◌, ◌⊎◌, ℕ, zero, suc, ◌<◌, List, [], ◌∷◌, ◌++◌, length, slice_get, set, Some, inl, inr, refl, ap, arith}
 
-pub place_below : {A : Type 0} (l : List A) (i : ℕ) (a : A) → slice_get l i ≡ Some a → i < length l
-place_below [] i a e = absurd (cc e)
-place_below (x ∷ xs) zero a e = omega arith
-place_below (x ∷ xs) (suc i) a e = let more = place_below xs i a e in omega arith
-
 pub set_there : {A : Type 0} (l : List A) (i : ℕ) (a : A) → i < length l → slice_get (set l i a) i ≡ Some a
 set_there [] i a h = absurd (omega arith)
 set_there (x ∷ xs) zero a h = refl

@@ -6,7 +6,7 @@ use native.Mathlib.Decide.{ℕ_discrete}
 use Rattle.atomic_table.specs.Seated.{TableId}
 use Rattle.node_lock.specs.declared.view.View.{View}
 use Rattle.node_lock.specs.Passes.{HasJust}
-use Rattle.node_lock.specs.Inside.Lists.{Has}
+use Rattle.lemmas.specs.Lists.{Has}
 use Rattle.node_lock.proofs.Views.{prefix_trans}
 use Rattle.dmx_calls.specs.declared.limits.TheConstants.{DEMUX_NODES}
 use Rattle.dmx_calls.specs.History.{Entry}

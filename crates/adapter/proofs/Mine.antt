@@ -1,6 +1,7 @@
 -- The passes of one caller of which one is changed: each is still the caller's, of its lock, and has a call left for each that
 -- the caller has.
 use Rattle.std.proofs.Common.{◌≡◌, ℕ, ◌-◌, ◌<◌, ◌≤◌, List, slice_get, slice_index, set, Some, refl, ap, sym, ◌∙◌, subst, arith, length-set}
+use Rattle.std.proofs.lemmas.Option.{slice_get_within}
 use mathlib.Core.Logic.{dite}
 use native.Mathlib.Decide.{ℕ_discrete}
 use Rattle.atomic_table.specs.Seated.{TableId}
@@ -10,7 +11,7 @@ use Rattle.dmx_calls.specs.History.{Entry}
 use Rattle.dmx_calls.specs.Entries.{caller_of}
 use Rattle.adapter.specs.Rows.{Fits, MayCall, MayCallAt, AreSamePasses, OneMore, OneCalls, AllCall}
 use Rattle.adapter.specs.Inside.Held.{AreMine}
-use Rattle.adapter.proofs.Lists.{at_place, place_below, set_there, set_elsewhere, one_value}
+use Rattle.adapter.proofs.Lists.{at_place, set_there, set_elsewhere, one_value}
 
 module _ {N : Type 0} where
   same_self : (p : TableId × View N) → IsSamePass p p
@@ -22,7 +23,7 @@ module _ {N : Type 0} where
     λ i a b x y. dite (ℕ_discrete i node)
         (λ here.
         let is_a : p ≡ a = one_value ps node p a was (ap (slice_get ps) (sym here) ∙ x) in
-        let is_b : q ≡ b = one_value (set ps node q) node q b (set_there ps node q (place_below ps node p was)) (ap (slice_get (set ps node q)) (sym here) ∙ y) in
+        let is_b : q ≡ b = one_value (set ps node q) node q b (set_there ps node q (slice_get_within ps node p was)) (ap (slice_get (set ps node q)) (sym here) ∙ y) in
         subst (λ z. IsSamePass z b) is_a (subst (λ z. IsSamePass p z) is_b same))
         (λ other. let is : a ≡ b = one_value ps i a b x (sym (set_elsewhere ps node i q other) ∙ y) in subst (λ z. IsSamePass a z) is (same_self a)),
   )
@@ -34,7 +35,7 @@ module _ {N : Type 0} where
   same_all who_of S entry places ps qs a = (a.long, λ i p q x y. (a.each i p q x y).same)
 
   pub fits_same : (locks : List TableId) (ps qs : List (TableId × View N)) → Fits locks ps → AreSamePasses ps qs → Fits locks qs
-  fits_same locks ps qs f s = (s.0 ∙ f.0, λ i l q x y. let low = place_below qs i q y in let long = s.0 in let p = at_place ps i (omega arith) in (s.1 i p.0 q p.1 y).0 ∙ f.1 i l p.0 x p.1)
+  fits_same locks ps qs f s = (s.0 ∙ f.0, λ i l q x y. let low = slice_get_within qs i q y in let long = s.0 in let p = at_place ps i (omega arith) in (s.1 i p.0 q p.1 y).0 ∙ f.1 i l p.0 x p.1)
 
 module _ (who left : ℕ) where
   pub may_call : (ps : List (TableId × View Entry)) → 0 < left → AreMine who left ps → MayCall ps
@@ -48,7 +49,7 @@ module _ (who left : ℕ) where
   mine_set more node ps qs p q less was is number few mine i r at =
       let here : slice_get (set ps node q) i ≡ Some r = ap (λ (l : List (TableId × View Entry)). slice_get l i) (sym is) ∙ at in
       dite (ℕ_discrete i node)
-      (λ e. let same : q ≡ r = one_value (set ps node q) node q r (set_there ps node q (place_below ps node p was)) (ap (slice_get (set ps node q)) (sym e) ∙ here) in
+      (λ e. let same : q ≡ r = one_value (set ps node q) node q r (set_there ps node q (slice_get_within ps node p was)) (ap (slice_get (set ps node q)) (sym e) ∙ here) in
       subst (λ (z : TableId × View Entry). (z.1.number ≡ who) × (more ≤ z.1.left)) same (number ∙ (mine node p was).0, few))
       (λ n. let m = mine i r (sym (set_elsewhere ps node i q n) ∙ here) in let enough = m.1 in (m.0, omega arith))
 
@@ -70,7 +71,7 @@ module _ (who left : ℕ) where
 
   module _ (S : ℕ → List Entry → Type 0) (entry : ℕ → Entry) (places : List ℕ) (ps qs : List (TableId × View Entry)) where
     pub all_mine : 0 < left → AreMine who left ps → AllCall caller_of S entry places ps qs → AreMine who (left - 1) qs
-    all_mine some mine a i q at = let low = place_below qs i q at in let long = a.long in let p = at_place ps i (omega arith) in let o = a.each i p.0 q p.1 at in let m = mine i p.0 p.1 in let few = m.1 in let fewer = o.left in (o.same.1 ∙ m.0, omega arith)
+    all_mine some mine a i q at = let low = slice_get_within qs i q at in let long = a.long in let p = at_place ps i (omega arith) in let o = a.each i p.0 q p.1 at in let m = mine i p.0 p.1 in let few = m.1 in let fewer = o.left in (o.same.1 ∙ m.0, omega arith)
 
     pub all_by_me : AreMine who left ps → AllCall caller_of S entry places ps qs → AllCall caller_of S (λ _. entry who) places ps qs
     all_by_me mine a = record { long = a.long; each = λ i p q x y. subst (λ (n : ℕ). OneMore caller_of (S i) (entry n) (slice_index places i) p q) (mine i p x).0 (a.each i p q x y) }

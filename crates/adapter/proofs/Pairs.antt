@@ -1,6 +1,7 @@
 -- The passes of the demux nodes and those of the dvr node go to the callers, the last caller first; then the clients are made,
 -- the first first.
 use Rattle.std.proofs.Common.{◌≡◌, ⊎_elim, ℕ, zero, suc, ◌+◌, ◌<◌, ◌≤◌, ◌^◌, List, [], ◌∷◌, ◌++◌, length, slice_get, Some, ap, sym, ◌∙◌, subst, arith, length-append}
+use Rattle.std.proofs.lemmas.Option.{slice_get_within}
 use Rattle.atomic_table.specs.Seated.{TableId}
 use Rattle.node_lock.specs.declared.view.View.{View}
 use Rattle.node_lock.specs.Passes.{AreFresh}
@@ -9,7 +10,7 @@ use Rattle.adapter.specs.Rows.{Fits, IsFreshRow}
 use Rattle.adapter.specs.Callers.{Caller, IsFreshCaller, AreFreshCallers, AreAllCallers, SomeIs}
 use Rattle.adapter.specs.Inside.Held.{AreMine}
 use Rattle.adapter.specs.Inside.Making.{AreLastFirst, AreFreshClients}
-use Rattle.adapter.proofs.Lists.{at_place, place_below, at_last, at_before, at_end}
+use Rattle.adapter.proofs.Lists.{at_place, at_last, at_before, at_end}
 use Rattle.adapter.proofs.Deals.{fresh_row}
 
 module _ {V : Type 0} (items : V → List (TableId × View Entry)) (callers : ℕ) (ls : List TableId) (l : TableId) where
@@ -69,7 +70,7 @@ module _ (callers : ℕ) (locks : List TableId) where
   -- a fresh row is the caller's, with a call left for each that the caller has
   pub fresh_mine : (who left : ℕ) (row : List (TableId × View Entry)) → left ≤ 2 ^ 44 → IsFreshRow callers who locks row → AreMine who left row
   fresh_mine who left row few f i p at =
-      let low = place_below row i p at in let long = f.0 in let l = at_place locks i (omega arith) in let is = f.1 i l.0 p l.1 at in
+      let low = slice_get_within row i p at in let long = f.0 in let l = at_place locks i (omega arith) in let is = f.1 i l.0 p l.1 at in
       let calls : p.1.left ≡ 2 ^ 44 = ap (λ (z : TableId × View Entry). z.1.left) is in (ap (λ (z : TableId × View Entry). z.1.number) is, omega arith)
 
   fresh_fits : (who : ℕ) (row : List (TableId × View Entry)) → IsFreshRow callers who locks row → Fits locks row
@@ -77,7 +78,7 @@ module _ (callers : ℕ) (locks : List TableId) where
 
   fresh_numbers : (who : ℕ) (row : List (TableId × View Entry)) → IsFreshRow callers who locks row → (i : ℕ) (p : TableId × View Entry) → slice_get row i ≡ Some p → (p.1.numbers ≡ who ∷ []) × (p.1.callers ≡ callers)
   fresh_numbers who row f i p at =
-      let low = place_below row i p at in let long = f.0 in let l = at_place locks i (omega arith) in let is = f.1 i l.0 p l.1 at in
+      let low = slice_get_within row i p at in let long = f.0 in let l = at_place locks i (omega arith) in let is = f.1 i l.0 p l.1 at in
       (ap (λ (z : TableId × View Entry). z.1.numbers) is, ap (λ (z : TableId × View Entry). z.1.callers) is)
 
   -- what is said of a fresh caller, whatever its number

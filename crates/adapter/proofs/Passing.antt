@@ -1,6 +1,7 @@
 -- A call is made on one node after another.
 use Rattle.std.proofs.Common.{◌≡◌, ℕ, ◌+◌, ◌<◌, ◌≤◌, List, [], ◌∷◌, ◌++◌, length, reverse, slice_get, slice_index, set, Some, ap, sym, ◌∙◌, subst, arith, length-set}
 use Rattle.std.proofs.lemmas.List.{get_or-set_same, get_or-set_other}
+use Rattle.std.proofs.lemmas.Option.{slice_get_within}
 use mathlib.Core.Logic.{dite}
 use native.Mathlib.Decide.{ℕ_discrete}
 use Rattle.atomic_table.specs.Seated.{TableId}
@@ -14,7 +15,7 @@ use Rattle.dmx_calls.specs.Rules.{rules_at}
 use Rattle.dmx_calls.proofs.Lasts.{last_may}
 use Rattle.dmx_calls.proofs.Telling.{go_by}
 use Rattle.adapter.specs.Rows.{Fits, MayCall}
-use Rattle.adapter.proofs.Lists.{place_below, set_there, set_elsewhere, one_value}
+use Rattle.adapter.proofs.Lists.{set_there, set_elsewhere, one_value}
 use Rattle.adapter.proofs.Fitting.{fits_set}
 use Rattle.adapter.specs.Rows.{OneMore, OneCalls, AllCall}
 use Rattle.adapter.specs.Nodes.{IsLegalAt}
@@ -53,7 +54,7 @@ module _ (locks : List TableId) (entry : ℕ → Entry) (old : List (TableId × 
         done = λ i p q under a b. dite (ℕ_discrete i node)
             (λ here.
             let is_p : o.first ≡ p = one_value old node o.first p (k.later node o.first (omega arith) o.was) (ap (slice_get old) (sym here) ∙ a) in
-            let is_q : o.then ≡ q = one_value (set now node o.then) node o.then q (set_there now node o.then (place_below now node o.first o.was)) (ap (slice_get (set now node o.then)) (sym here) ∙ ap (λ (l : List (TableId × View Entry)). slice_get l i) (sym o.is) ∙ b) in
+            let is_q : o.then ≡ q = one_value (set now node o.then) node o.then q (set_there now node o.then (slice_get_within now node o.first o.was)) (ap (slice_get (set now node o.then)) (sym here) ∙ ap (λ (l : List (TableId × View Entry)). slice_get l i) (sym o.is) ∙ b) in
             subst (λ (j : ℕ). OneMore caller_of (IsLegalAt j) (entry p.1.number) (slice_index (set places node place) j) p q) (sym here)
             (subst (λ (n : ℕ). OneMore caller_of (IsLegalAt node) (entry p.1.number) n p q) (sym (get_or-set_same places node place 0 inside))
             (subst (λ z. OneMore caller_of (IsLegalAt node) (entry z.1.number) place z q) is_p (subst (λ z. OneMore caller_of (IsLegalAt node) (entry o.first.1.number) place o.first z) is_q
@@ -63,4 +64,4 @@ module _ (locks : List TableId) (entry : ℕ → Entry) (old : List (TableId × 
       }
 
   pub all_passed : (node : ℕ) (places : List ℕ) (now : List (TableId × View Entry)) → length locks ≡ DEMUX_NODES + 1 → node ≡ DEMUX_NODES + 1 → PassedTo node places now → AllCall caller_of IsLegalAt entry places old now
-  all_passed node places now all end k = record { long = k.fits.0 ∙ sym k.first.0; each = λ i p q a b. let low = place_below now i q b in let long = k.fits.0 in k.done i p q (omega arith) a b }
+  all_passed node places now all end k = record { long = k.fits.0 ∙ sym k.first.0; each = λ i p q a b. let low = slice_get_within now i q b in let long = k.fits.0 in k.done i p q (omega arith) a b }

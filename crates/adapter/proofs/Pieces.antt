@@ -2,10 +2,11 @@
 use Rattle.std.proofs.Common.{◌≡◌, ℕ, List, [], ◌∷◌, ◌++◌, length, slice_get, set, Some, ap, sym, ◌∙◌}
 use Rattle.std.proofs.lemmas.List.{set-append_left}
 use Rattle.std.proofs.Math.Seq.{set-append_seam}
+use Rattle.std.proofs.lemmas.Option.{slice_get_within}
 use Rattle.atomic_table.specs.Seated.{TableId}
 use Rattle.node_lock.specs.declared.view.View.{View}
 use Rattle.adapter.specs.Rows.{Fits}
-use Rattle.adapter.proofs.Lists.{place_below, at_last, at_before}
+use Rattle.adapter.proofs.Lists.{at_last, at_before}
 use Rattle.node_lock.specs.declared.lock.Held.{Held}
 use Rattle.adapter.specs.Rows.{OneMore, OneCalls, OneMiss, OneMisses, OneLook, OneLooks}
 
@@ -30,7 +31,7 @@ module _ {N : Type 0} where
     was_left node ps p first was = at_before ps (p ∷ []) node first was
 
     is_left : (node : ℕ) (ps qs : List (TableId × View N)) (p first then : TableId × View N) → slice_get ps node ≡ Some first → qs ≡ set ps node then → qs ++ p ∷ [] ≡ set (ps ++ p ∷ []) node then
-    is_left node ps qs p first then was is = ap (λ l. l ++ p ∷ []) is ∙ sym (set-append_left ps (p ∷ []) node then (place_below ps node first was))
+    is_left node ps qs p first then was is = ap (λ l. l ++ p ∷ []) is ∙ sym (set-append_left ps (p ∷ []) node then (slice_get_within ps node first was))
 
     pub calls_left : (node : ℕ) (entry : ℕ → N) (place : ℕ) (ps qs : List (TableId × View N)) (p : TableId × View N)
         → OneCalls who_of S node entry place ps qs → OneCalls who_of T node entry place (ps ++ p ∷ []) (qs ++ p ∷ [])

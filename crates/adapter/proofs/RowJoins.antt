@@ -1,11 +1,12 @@
 -- Rows of passes that are joined place by place, the last place first.
 use Rattle.std.proofs.Common.{◌≡◌, ⊎_elim, ℕ, ◌+◌, ◌<◌, ◌≤◌, List, [], ◌∷◌, ◌++◌, length, slice_get, set, Some, ap, sym, ◌∙◌, subst, arith, length-append}
+use Rattle.std.proofs.lemmas.Option.{slice_get_within}
 use mathlib.Core.Logic.{dite}
 use native.Mathlib.Decide.{ℕ_discrete}
 use Rattle.atomic_table.specs.Seated.{TableId}
 use Rattle.node_lock.specs.declared.view.View.{View}
 use Rattle.adapter.specs.Rows.{Fits}
-use Rattle.adapter.proofs.Lists.{place_below, set_there, set_elsewhere, at_last, at_before, one_value, at_end}
+use Rattle.adapter.proofs.Lists.{set_there, set_elsewhere, at_last, at_before, one_value, at_end}
 use Rattle.adapter.proofs.Fitting.{fits_set}
 use Rattle.adapter.specs.Rows.{OneJoins, AllJoin}
 
@@ -26,7 +27,7 @@ module _ {N : Type 0} (locks : List TableId) (old other : List (TableId × View 
     begins = λ i q e. e;
     few = omega arith;
     later = λ i p b e. e;
-    done = λ i p q r below d e n. let low = place_below other i q e in absurd (omega arith);
+    done = λ i p q r below d e n. let low = slice_get_within other i q e in absurd (omega arith);
   }
 
   -- the pass that is taken is of the lock in its place
@@ -43,7 +44,7 @@ module _ {N : Type 0} (locks : List TableId) (old other : List (TableId × View 
         later = λ i x below h. j.later i x (omega arith) (sym (set_elsewhere now n i r (λ here. omega arith)) ∙ h);
         done = λ i a b c from d f h. dite (ℕ_discrete i n)
             (λ here.
-            let is_r : r ≡ c = one_value (set now n r) n r c (set_there now n r (place_below now n p at)) (ap (slice_get (set now n r)) (sym here) ∙ h) in
+            let is_r : r ≡ c = one_value (set now n r) n r c (set_there now n r (slice_get_within now n p at)) (ap (slice_get (set now n r)) (sym here) ∙ h) in
             let is_p : p ≡ a = one_value old n p a (j.later n p (omega arith) at) (ap (slice_get old) (sym here) ∙ d) in
             let is_q : q ≡ b = one_value other n q b (j.begins n q (ap (λ (z : List (TableId × View N)). slice_get z n) e ∙ at_last ys q)) (ap (slice_get other) (sym here) ∙ f) in
             subst (λ z. OneJoins z b c) is_p (subst (λ z. OneJoins p z c) is_q (subst (λ z. OneJoins p q z) is_r is)))
@@ -58,8 +59,8 @@ pub join_both : {N : Type 0} (ps qs rs : List (TableId × View N)) (p q r : Tabl
 join_both ps qs rs p q r same j o = record {
   long = length-append rs (r ∷ []) ∙ (ap (λ (n : ℕ). n + 1) j.long ∙ sym (length-append ps (p ∷ [])));
   each = λ i a b c d e f. let long = j.long in ⊎_elim
-      (λ x. ⊎_elim (λ y. ⊎_elim (λ z. j.each i a b c x y z) (λ z. let low = place_below ps i a x in let at : i ≡ length rs = z.0 in absurd (omega arith)) (at_end rs r c i f)) (λ y. let low = place_below ps i a x in let at : i ≡ length qs = y.0 in absurd (omega arith)) (at_end qs q b i e))
-      (λ x. let at : i ≡ length ps = x.0 in ⊎_elim (λ y. let low = place_below qs i b y in absurd (omega arith)) (λ y. ⊎_elim (λ z. let low = place_below rs i c z in absurd (omega arith))
+      (λ x. ⊎_elim (λ y. ⊎_elim (λ z. j.each i a b c x y z) (λ z. let low = slice_get_within ps i a x in let at : i ≡ length rs = z.0 in absurd (omega arith)) (at_end rs r c i f)) (λ y. let low = slice_get_within ps i a x in let at : i ≡ length qs = y.0 in absurd (omega arith)) (at_end qs q b i e))
+      (λ x. let at : i ≡ length ps = x.0 in ⊎_elim (λ y. let low = slice_get_within qs i b y in absurd (omega arith)) (λ y. ⊎_elim (λ z. let low = slice_get_within rs i c z in absurd (omega arith))
       (λ z. subst (λ u. OneJoins u b c) x.1 (subst (λ u. OneJoins p u c) y.1 (subst (λ u. OneJoins p q u) z.1 o))) (at_end rs r c i f)) (at_end qs q b i e))
       (at_end ps p a i d);
 }

@@ -5,7 +5,7 @@ use mathlib.Core.List.{IsPrefix}
 use Rattle.atomic_table.specs.Seated.{TableId}
 use Rattle.node_lock.specs.declared.lock.Held.{Held}
 use Rattle.node_lock.specs.declared.view.View.{View}
-use Rattle.node_lock.specs.Inside.Lists.{Has}
+use Rattle.lemmas.specs.Lists.{Has}
 use Rattle.node_lock.specs.Passes.{KnowsItsCalls, IsSamePass, IsFresh, IsWhole, HasJust}
 
 module _ {N : Type 0} where

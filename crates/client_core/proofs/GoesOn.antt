@@ -110,7 +110,7 @@ waits_still s r lt =
     waits_by s r ∙ ap (λ b. if b then waits_with r s.event.node else None) later
 
 -- a command that has just begun waits for nothing
-waits_not : (s : Standing) (r : Response) → s.event.step ≤ s.from → waits_after (Some s) (r ∷ []) ≡ None
+pub waits_not : (s : Standing) (r : Response) → s.event.step ≤ s.from → waits_after (Some s) (r ∷ []) ≡ None
 waits_not s r le =
     let first : nat_lt s.from s.event.step ≡ false = grind (arith, nat_tests) in
     waits_by s r ∙ ap (λ b. if b then waits_with r s.event.node else None) first

@@ -1,5 +1,5 @@
-pub mod Options
 pub mod GoesOn
 pub mod FirstCalls
 pub mod More
 pub mod Numbering
+pub mod Ended

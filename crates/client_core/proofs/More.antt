@@ -141,16 +141,17 @@ done_on_more slots Dvr v step rs r = on_on DEMUX_NODES v step rs r
 
 -- ------ without replies nothing is repeated
 
-abbrev pub LeavesNone : Doing → Type 0
-LeavesNone (stands e) = Unit {0}
-LeavesNone (through ending next left) = left ≡ []
+-- its first call stands there, or it is through and had none
+abbrev pub IsFirst : (step : ℕ) → Doing → Type 0
+IsFirst step (stands e) = e.step ≡ step
+IsFirst step (through ending next left) = left ≡ []
 
-on_none : (node : ℕ) (v : Verb) (step : ℕ) → LeavesNone (done_on node v step []) × (repeats_on v [] ≡ 0)
-on_none node (ReadWait count) step = (tt, refl)
-on_none node (Drain count) step = (tt, refl)
-on_none node (Once w) step = (tt, refl)
+on_none : (node : ℕ) (v : Verb) (step : ℕ) → IsFirst step (done_on node v step []) × (repeats_on v [] ≡ 0)
+on_none node (ReadWait count) step = (refl, refl)
+on_none node (Drain count) step = (refl, refl)
+on_none node (Once w) step = (refl, refl)
 
-at_none : (o : Option ℕ) (v : Verb) (step : ℕ) → LeavesNone (done_at o v step []) × (repeats_at o v [] ≡ 0)
+at_none : (o : Option ℕ) (v : Verb) (step : ℕ) → IsFirst step (done_at o v step []) × (repeats_at o v [] ≡ 0)
 at_none None v step = (refl, refl)
 at_none (Some node) v step = on_none node v step
 
@@ -158,11 +159,11 @@ open_none : (o : Option ℕ) → repeats_at o (Once Open) [] ≡ 0
 open_none None = refl
 open_none (Some node) = refl
 
-slot_none : (slot : ℕ) (slots : Slots) (v : Verb) (step : ℕ) → LeavesNone (done_by_slot slot slots v step []) × (repeats_at (slice_index_or slots slot None) v [] ≡ 0)
-slot_none slot slots (Once Open) step = (tt, open_none (slice_index_or slots slot None))
+slot_none : (slot : ℕ) (slots : Slots) (v : Verb) (step : ℕ) → IsFirst step (done_by_slot slot slots v step []) × (repeats_at (slice_index_or slots slot None) v [] ≡ 0)
+slot_none slot slots (Once Open) step = (refl, open_none (slice_index_or slots slot None))
 slot_none slot slots v step = at_none (slice_index_or slots slot None) v step
 
-done_none : (slots : Slots) (t : Target) (v : Verb) (step : ℕ) → LeavesNone (done slots t v step []) × (repeats_in slots t v [] ≡ 0)
+pub done_none : (slots : Slots) (t : Target) (v : Verb) (step : ℕ) → IsFirst step (done slots t v step []) × (repeats_in slots t v [] ≡ 0)
 done_none slots (Node node) v step = on_none node v step
 done_none slots (Slot slot) v step = slot_none slot slots v step
 done_none slots Dvr v step = on_none DEMUX_NODES v step
@@ -171,7 +172,7 @@ pub repeats_none : (slots : Slots) (step : ℕ) (cs : List Command) → repeats_
 repeats_none slots step [] = refl
 repeats_none slots step (c ∷ cs) = go (λ ending next. repeats_none (slots_after ending slots) next cs) (done slots c.target c.verb step []) (done_none slots c.target c.verb step) where
   go : ((ending : Ending) (next : ℕ) → repeats_from (slots_after ending slots) next cs [] ≡ 0)
-      → (d : Doing) → LeavesNone d × (repeats_in slots c.target c.verb [] ≡ 0)
+      → (d : Doing) → IsFirst step d × (repeats_in slots c.target c.verb [] ≡ 0)
       → repeats_in slots c.target c.verb [] + (elim d [ stands event ↦ 0 | through ending next left ↦ repeats_from (slots_after ending slots) next cs left ]) ≡ 0
   go later (stands e) none = omega (arith, none.1)
   go later (through ending next left) none =

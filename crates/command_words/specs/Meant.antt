@@ -1,5 +1,5 @@
 -- The command that words mean (this project's own rules).
-use Rattle.std.specs.Prelude.{⊤, ℕ, ◌≤◌, List, [], ◌∷◌, take, drop, Option, Some, None, if◌then◌else◌, codes}
+use Rattle.std.specs.Prelude.{⊤, ℕ, ◌≤◌, ◌-◌, ◌^◌, List, [], ◌∷◌, take, drop, Option, Some, None, if◌then◌else◌, codes}
 use Rattle.std.specs.Option.{option_map, option_and_then, option_or}
 use Rattle.text_forms.specs.Numbers.{number_between}
 use Rattle.text_forms.specs.Words.{is_word}
@@ -23,7 +23,7 @@ batch_of _ = None
 
 -- the number of a session
 unfoldable pub session_number : List ℕ → Option ℕ
-session_number word = number_between 0 18446744073709551615 word
+session_number word = number_between 0 (2 ^ 64 - 1) word
 
 -- `steps`: with the option or without it
 unfoldable pub steps_of : List (List ℕ) → Option Command

@@ -11,7 +11,7 @@ use emu_io::{Clock, Gate, Source};
 use std::alloc::Global;
 use std::sync::Wait;
 use std::thread::Threads;
-use workers::{Worked, histories_of_run, work};
+use workers::{Left, histories_of_run, work};
 
 // What is to be written for a session that is begun: a thread passes its stream, and each client has a thread of its own.
 fn run_threads<R: Threads + Wait + Sync, S: Source + Send, C: Clock + Sync, G: Gate + Sync>(
@@ -38,20 +38,20 @@ fn run_threads<R: Threads + Wait + Sync, S: Source + Send, C: Clock + Sync, G: G
     let Ok((adapter, feeder, clients)) = Adapter::new(alloc, script.clients()) else {
         return Err(Status::NoMemory);
     };
-    let worked = match work(
+    let left = match work(
         rt, alloc, &adapter, feeder, clients, &script, source, puller, batch, clock, gate,
     ) {
-        Ok(worked) => worked,
+        Ok(left) => left,
         Err(stop) => return Err(status_of_run(stop)),
     };
-    let Worked {
+    let Left {
         feeding,
         logs,
         outcomes,
         head,
         feeder,
         clients,
-    } = worked;
+    } = left;
     match histories_of_run(alloc, adapter, feeder, clients, feeding, logs) {
         Ok(histories) => reported(alloc, &head, &outcomes, &histories),
         Err(_) => Err(Status::NoMemory),

@@ -1,5 +1,6 @@
 -- Pulls one after another.
-use Rattle.std.proofs.Common.{◌≡◌, ◌≢◌, refl, sym, ap, subst, ◌∙◌, ℕ, List, [], ◌∷◌, ◌++◌, length, length-append, append_assoc, append-nil, arith}
+use Rattle.std.proofs.Common.{◌≡◌, ◌≢◌, refl, sym, ap, subst, ◌∙◌, ℕ, List, [], ◌++◌, length, length-append, append_assoc, append-nil, arith}
+use Rattle.std.proofs.lemmas.List.{nil_from_length}
 use Rattle.std.proofs.KnownBytes.{Consumes-trans, Consumes-nil}
 use Rattle.emu_io.specs.Ends.{SourceEnd}
 use Rattle.ts_packet.specs.Cut.{cut}
@@ -36,17 +37,13 @@ draws_then x y z a b c ps qs g h = record {
 
 -- ------ a puller that is done gives nothing
 
-empty_by : {A : Type 0} (xs : List A) → length xs ≡ 0 → xs ≡ []
-empty_by [] is = refl
-empty_by (x ∷ xs) is = absurd (omega (arith, is))
-
 pub none_given : (x y : SourceEnd) (a b : Pulling) (packets : List (List ℕ)) → Carries x y a packets b → (a.reading ≢ Going → ReadsNothing a b) → IsDone a
     → (ahead taken : List ℕ) (given : List (List ℕ)) → Pulls ahead taken given a → packets ≡ []
 none_given x y a b packets carries still done ahead taken given h =
     let k = carries.pulls ahead taken given h in
-    let none : carries.more ≡ [] = empty_by carries.more (omega (arith, h.size, k.size, length-append taken carries.more, (still done.stopped).taken)) in
+    let none : carries.more ≡ [] = nil_from_length carries.more (omega (arith, h.size, k.size, length-append taken carries.more, (still done.stopped).taken)) in
     let all : (cut (ahead ++ taken)).packets ≡ given = (Pulls-done ahead taken given a h done).packets in
     let front = Pulls-front ahead (taken ++ carries.more) (given ++ packets) b k in
     let same : taken ++ carries.more ≡ taken = ap (λ m. taken ++ m) none ∙ append-nil taken in
     let whole : given ≡ (given ++ packets) ++ front.0 = sym all ∙ (ap (λ t. (cut (ahead ++ t)).packets) (sym same) ∙ front.1) in
-    empty_by packets (omega (arith, ap length whole, length-append (given ++ packets) front.0, length-append given packets))
+    nil_from_length packets (omega (arith, ap length whole, length-append (given ++ packets) front.0, length-append given packets))

@@ -1,5 +1,5 @@
 -- Laws of the steps of a pull, and of what a puller stands for.
-use Rattle.std.proofs.Common.{◌≡◌, ◌≢◌, ◌⊎◌, ℕ, ◌+◌, ◌*◌, ◌<◌, ◌≤◌, List, [], ◌∷◌, ◌++◌, length, take, drop, refl, sym, ap, subst, inl, inr, ◌∙◌, arith, length-append, append_assoc, Result, Ok, Err, None, Some, IfOk, IfSome}
+use Rattle.std.proofs.Common.{◌≡◌, ◌≢◌, ◌⊎◌, ℕ, ◌+◌, ◌*◌, ◌<◌, ◌≤◌, List, [], ◌++◌, length, take, drop, refl, sym, ap, subst, inl, inr, ◌∙◌, arith, length-append, append_assoc, Result, Ok, Err, None, Some, IfOk, IfSome}
 use Rattle.std.proofs.lemmas.List.{append-nil, take-append-le, take-append-drop, length-drop}
 use Rattle.std.proofs.Math.Seq.{take-append_seam}
 use Rattle.std.proofs.lemmas.Bool.{cases_lt}
@@ -11,11 +11,11 @@ use Rattle.ts_packet.specs.Cut.{cut}
 use Rattle.ts_packet.specs.Cutting.{Cutting, fresh, bytes_taken, IsRest, Cuts, IsTally}
 use Rattle.ts_packet.specs.declared.cutter.Tally.{Tally}
 use Rattle.ts_packet.proofs.CutLemmas.{cut-append, cut-rest, cut_after-is_rest, cut_after-size, Cuts-none, Cuts-then, length-grown, packets-then}
-use Rattle.ts_watch.specs.Watching.{Watched}
+use Rattle.ts_watch.specs.Watching.{Watching, Watched}
 use Rattle.feed_pull.specs.declared.fault.Reading.{Reading}
 use Rattle.feed_pull.specs.declared.fault.Reading.TheVariants.{Going, Ended, Failed, TooMany}
 use Rattle.feed_pull.specs.Pulling.{Pulling, IsPulling, Pulls, IsDone, IsNear}
-use Rattle.feed_pull.specs.Steps.{found_with, Reads, Goes, Gathers, Follows, HasGiven, ReadsNothing, Carries}
+use Rattle.feed_pull.specs.Steps.{found_with, Reads, Goes, Gathers, Follows, HasGiven, ReadsNothing, Carries, with_room}
 
 pub cut-is_rest : (xs : List ℕ) → IsRest (cut xs).rest
 unfolding cut
@@ -47,13 +47,9 @@ Goes-none p h = record {
   given = refl;
   start = refl;
   taken = omega arith;
-  watch = refl;
+  watch = λ before w. rw (append-nil before) w;
   last = inl (refl, refl);
 }
-
-pub empty-list : (xs : List ℕ) → length xs ≡ 0 → xs ≡ []
-empty-list [] h = refl
-empty-list (x ∷ xs) h = absurd (omega arith)
 
 -- where nothing is cut and nothing read
 pub Goes-same : (a b : Pulling) → IsRest a.cutting.rest → b.cutting ≡ a.cutting → b.waiting ≡ a.waiting → b.unread ≡ a.unread → b.given ≡ a.given → b.start ≡ a.start → b.taken ≡ a.taken → b.found_before_last_read ≡ a.found_before_last_read → b.watch ≡ a.watch → Goes a [] b
@@ -66,7 +62,7 @@ Goes-same a b rest cutting waiting unread given start taken earlier watch = reco
   given = given;
   start = start;
   taken = omega (arith, taken);
-  watch = watch;
+  watch = λ before w. rw (watch, append-nil before) w;
   last = inl (refl, earlier);
 }
 
@@ -84,16 +80,16 @@ Goes-read a b rest none found cutting waiting fits given start taken earlier wat
       given = given;
       start = start;
       taken = taken;
-      watch = watch;
+      watch = λ before w. rw (watch, append-nil before) w;
       last = inr (record { front = []; latest = b.unread; whole = refl; piece = fits; count = omega (arith, k, earlier, found) });
     }
 
 -- what is left after bytes from the front were cut
-abbrev pub cut_to : Pulling → Cutting → List (List ℕ) → List ℕ → Pulling
-cut_to a cutting waiting unread = record { cutting = cutting; waiting = waiting; unread = unread; given = a.given; found_before_last_read = a.found_before_last_read; start = a.start; taken = a.taken; reads = a.reads; reading = a.reading; watch = a.watch }
+abbrev pub cut_to : Pulling → Cutting → List (List ℕ) → ℕ → List ℕ → Watching → Pulling
+cut_to a cutting waiting room unread watch = record { cutting = cutting; waiting = waiting; room = room; unread = unread; given = a.given; found_before_last_read = a.found_before_last_read; start = a.start; taken = a.taken; reads = a.reads; reading = a.reading; watch = watch }
 
-pub Goes-cut : (a : Pulling) (k : Cutting) (w : List (List ℕ)) (u bytes : List ℕ) (n : ℕ) → bytes ≡ a.unread → Cuts a.cutting (take n bytes) (drop (length a.waiting) w) k → w ≡ a.waiting ++ drop (length a.waiting) w → u ≡ drop n a.unread → Goes a [] (cut_to a k w u)
-Goes-cut a k w u bytes n same cuts grown rest = record {
+pub Goes-cut : (a : Pulling) (k : Cutting) (w : List (List ℕ)) (m : ℕ) (u bytes : List ℕ) (n : ℕ) (t : Watching) → bytes ≡ a.unread → Cuts a.cutting (take n bytes) (drop (length a.waiting) w) k → w ≡ a.waiting ++ drop (length a.waiting) w → u ≡ drop n a.unread → ((before : List (List ℕ)) → Watched before a.watch → Watched (before ++ drop (length a.waiting) w) t) → Goes a [] (cut_to a k w m u t)
+Goes-cut a k w m u bytes n t same cuts grown rest watch = record {
   passed = take n a.unread;
   found = drop (length a.waiting) w;
   bytes = rw rest (take-append-drop n a.unread ∙ sym (append-nil a.unread));
@@ -102,25 +98,56 @@ Goes-cut a k w u bytes n same cuts grown rest = record {
   given = refl;
   start = refl;
   taken = omega arith;
-  watch = refl;
+  watch = watch;
   last = inl (refl, refl);
 }
 
-pub IsPulling-cut : (a : Pulling) (k : Cutting) (w : List (List ℕ)) (u bytes : List ℕ) (n : ℕ) → IsPulling a → bytes ≡ a.unread → Cuts a.cutting (take n bytes) (drop (length a.waiting) w) k → w ≡ a.waiting ++ drop (length a.waiting) w → u ≡ drop n a.unread → n ≤ length a.unread → bytes_taken k ≡ bytes_taken a.cutting + n → length w ≤ 64 → IsPulling (cut_to a k w u)
-IsPulling-cut a k w u bytes n i same cuts grown rest within taken fits =
+pub IsPulling-cut : (a : Pulling) (k : Cutting) (w : List (List ℕ)) (m : ℕ) (u bytes : List ℕ) (n : ℕ) (t : Watching) → IsPulling a → bytes ≡ a.unread → Cuts a.cutting (take n bytes) (drop (length a.waiting) w) k → w ≡ a.waiting ++ drop (length a.waiting) w → u ≡ drop n a.unread → n ≤ length a.unread → bytes_taken k ≡ bytes_taken a.cutting + n → length w ≤ 64 → t.watched ≡ a.watch.watched + length (drop (length a.waiting) w) → IsPulling (cut_to a k w m u t)
+IsPulling-cut a k w m u bytes n t i same cuts grown rest within taken fits watched =
     let size : length u + n ≡ length a.unread = rw rest (omega (arith, length-drop n a.unread)) in
     record {
       few = fits;
       rest = Cuts-is_rest a.cutting k (take n bytes) (drop (length a.waiting) w) cuts;
       found = omega (arith, cuts.counted, i.found, length-grown a.waiting w grown);
       found_before_last_read = omega (arith, i.found_before_last_read, length-grown a.waiting w grown);
-      watched = i.watched;
+      watched = omega (arith, watched, i.watched, length-grown a.waiting w grown);
       bytes = omega (arith, i.bytes, taken);
       piece = omega (arith, i.piece);
       taken = i.taken;
       reads = i.reads;
       going = i.going;
       too_many = i.too_many;
+    }
+
+-- ---- room is made
+
+Reads-room : (a : Pulling) (n : ℕ) (more : List ℕ) (earlier : ℕ) → Reads (with_room a n) more earlier → Reads a more earlier
+Reads-room a n more earlier r = record { front = r.front; latest = r.latest; whole = r.whole; piece = r.piece; count = r.count }
+
+Last-room : (a b : Pulling) (n : ℕ) (more : List ℕ) → ((more ≡ []) × (b.found_before_last_read ≡ a.found_before_last_read)) ⊎ Reads (with_room a n) more b.found_before_last_read → ((more ≡ []) × (b.found_before_last_read ≡ a.found_before_last_read)) ⊎ Reads a more b.found_before_last_read
+Last-room a b n more (inl h) = inl h
+Last-room a b n more (inr r) = inr (Reads-room a n more b.found_before_last_read r)
+
+-- what goes on once there is room goes on from what there was before
+pub Gathers-room : (a c b : Pulling) (n : ℕ) (x y : SourceEnd) → c ≡ with_room a n → Gathers x y c b → Gathers x y a b
+Gathers-room a c b n x y is h =
+    let k : Gathers x y (with_room a n) b = rw is at h in
+    let g = k.goes in
+    record {
+      more = k.more;
+      consumes = k.consumes;
+      goes = record {
+        passed = g.passed;
+        found = g.found;
+        bytes = g.bytes;
+        cuts = g.cuts;
+        waiting = g.waiting;
+        given = g.given;
+        start = g.start;
+        taken = g.taken;
+        watch = g.watch;
+        last = Last-room a b n k.more g.last;
+      };
     }
 
 -- ---- packets are given
@@ -157,7 +184,7 @@ Goes-then a b c m n g h = record {
   given = h.given ∙ g.given;
   start = h.start ∙ g.start;
   taken = omega (arith, g.taken, h.taken, length-append m n);
-  watch = h.watch ∙ g.watch;
+  watch = λ before w. subst (λ (l : List (List ℕ)). Watched l c.watch) (append_assoc before g.found h.found) (h.watch (before ++ g.found) (g.watch before w));
   last = Last-then a b c m n g h.last g.last;
 }
 
@@ -251,7 +278,7 @@ Pulls-new ahead p w u g t k watch = record {
   before = [];
   latest = [];
   count = g;
-  watch = watch;
+  watch = rw w watch;
   size = t;
   cuts = rw w k;
   stream = u ∙ sym (append-nil ahead);
@@ -268,6 +295,11 @@ Pulls-cuts ahead taken more given a b p g =
     let e : given ++ b.waiting ≡ (given ++ a.waiting) ++ g.found = ap (λ (l : List (List ℕ)). given ++ l) g.waiting ∙ sym (append_assoc given a.waiting g.found) in
     rw e (Cuts-then fresh a.cutting b.cutting p.passed g.passed (given ++ a.waiting) g.found p.cuts g.cuts)
 
+Pulls-watched : (ahead taken more : List ℕ) (given : List (List ℕ)) (a b : Pulling) (p : Pulls ahead taken given a) (g : Goes a more b) → Watched (given ++ b.waiting) b.watch
+Pulls-watched ahead taken more given a b p g =
+    let e : given ++ b.waiting ≡ (given ++ a.waiting) ++ g.found = ap (λ (l : List (List ℕ)). given ++ l) g.waiting ∙ sym (append_assoc given a.waiting g.found) in
+    rw e (g.watch (given ++ a.waiting) p.watch)
+
 -- how many packets are found once these bytes are cut is how many the stream with them has
 Pulls-found : (ahead taken more : List ℕ) (given : List (List ℕ)) (a : Pulling) → Pulls ahead taken given a → found_with a more ≡ length (cut (ahead ++ (taken ++ more))).packets
 Pulls-found ahead taken more given a p =
@@ -281,7 +313,7 @@ Pulls-goes-by ahead taken more given a b p g (inl h) = record {
   before = p.before;
   latest = p.latest;
   count = g.given ∙ p.count;
-  watch = rw g.watch p.watch;
+  watch = Pulls-watched ahead taken more given a b p g;
   size = omega (arith, g.taken, p.size, length-append taken more);
   cuts = Pulls-cuts ahead taken more given a b p g;
   stream = Pulls-stream ahead taken more given a b p g;
@@ -294,7 +326,7 @@ Pulls-goes-by ahead taken more given a b p g (inr r) = record {
   before = taken ++ r.front;
   latest = r.latest;
   count = g.given ∙ p.count;
-  watch = rw g.watch p.watch;
+  watch = Pulls-watched ahead taken more given a b p g;
   size = omega (arith, g.taken, p.size, length-append taken more);
   cuts = Pulls-cuts ahead taken more given a b p g;
   stream = Pulls-stream ahead taken more given a b p g;
@@ -314,7 +346,7 @@ Pulls-given ahead taken given packets a b p h =
       before = p.before;
       latest = p.latest;
       count = omega (arith, h.given, p.count, length-append given packets);
-      watch = h.watch given p.watch;
+      watch = rw (e, h.watch) p.watch;
       size = h.taken ∙ p.size;
       cuts = rw (e, h.cutting) p.cuts;
       stream = ap (λ (l : List ℕ). p.passed ++ l) h.unread ∙ p.stream;
@@ -322,6 +354,9 @@ Pulls-given ahead taken given packets a b p h =
       piece = p.piece;
       found_before_last_read = λ long. h.found_before_last_read ∙ p.found_before_last_read long;
     }
+
+pub HasGiven-none : (p : Pulling) → HasGiven [] p p
+HasGiven-none p = record { waiting = refl; given = omega arith; watch = refl; cutting = refl; unread = refl; found_before_last_read = refl; start = refl; taken = refl; reads = refl; reading = refl }
 
 pub Carries-by : (a b c : Pulling) (x y : SourceEnd) (packets : List (List ℕ)) → Gathers x y a b → HasGiven packets b c → Carries x y a packets c
 Carries-by a b c x y packets g h = record {
@@ -345,7 +380,9 @@ Pulls-done ahead taken given p h d =
 
 -- where nothing is left, all packets of the stream were watched
 pub Pulls-watch : (ahead taken : List ℕ) (given : List (List ℕ)) (p : Pulling) → Pulls ahead taken given p → IsDone p → Watched (cut (ahead ++ taken)).packets p.watch
-Pulls-watch ahead taken given p h d = rw (Pulls-done ahead taken given p h d).packets h.watch
+Pulls-watch ahead taken given p h d =
+    let f : given ++ p.waiting ≡ given = ap (λ (l : List (List ℕ)). given ++ l) d.waiting ∙ append-nil given in
+    rw (Pulls-done ahead taken given p h d).packets (rw f at h.watch)
 
 -- the packets given have no more bytes than the stream
 pub Pulls-size : (ahead taken : List ℕ) (given : List (List ℕ)) (p : Pulling) → Pulls ahead taken given p → 188 * length given ≤ length ahead + length taken

@@ -15,6 +15,8 @@ pub record Pulling : Type 0 where
   pub cutting : Cutting
   -- the packets that wait to be given
   pub waiting : List (List ℕ)
+  -- how many packets there is room for, those that wait among them
+  pub room : ℕ
   -- the bytes that were read and aren't cut yet
   pub unread : List ℕ
   -- how many packets were given
@@ -29,7 +31,7 @@ pub record Pulling : Type 0 where
   pub reads : ℕ
   -- how reading goes
   pub reading : Reading
-  -- what was counted of the packets that were given
+  -- what was counted of the packets that were found
   pub watch : Watching
 
 -- What is true of each puller. The numbers of bytes and of reads are bounded, a read took at most 65,536 bytes, and
@@ -39,7 +41,7 @@ pub record IsPulling (p : Pulling) : Type 0 where
   pub rest : IsRest p.cutting.rest
   pub found : p.cutting.packets ≡ p.given + length p.waiting
   pub found_before_last_read : p.found_before_last_read ≤ p.given + length p.waiting
-  pub watched : p.watch.watched ≡ p.given
+  pub watched : p.watch.watched ≡ p.given + length p.waiting
   pub bytes : bytes_taken p.cutting + length p.unread ≤ 65536 + p.taken
   pub piece : length p.unread ≤ 65536
   pub taken : p.taken ≤ 65536 * p.reads
@@ -48,7 +50,7 @@ pub record IsPulling (p : Pulling) : Type 0 where
   pub too_many : p.reading ≡ TooMany → 4294967296 ≤ p.start + p.taken
 
 -- The puller stands behind a stream: these bytes ahead, and behind them these that its pulls took. It has given these
--- packets, and has watched them.
+-- packets, and has watched them and those that wait.
 pub record Pulls (ahead taken : List ℕ) (given : List (List ℕ)) (p : Pulling) : Type 0 where
   -- the bytes that were cut; they have the packets given and those that wait, and the unread bytes are the rest
   pub passed : List ℕ
@@ -56,7 +58,7 @@ pub record Pulls (ahead taken : List ℕ) (given : List (List ℕ)) (p : Pulling
   pub before : List ℕ
   pub latest : List ℕ
   pub count : p.given ≡ length given
-  pub watch : Watched given p.watch
+  pub watch : Watched (given ++ p.waiting) p.watch
   pub size : p.taken ≡ length taken
   pub cuts : Cuts fresh passed (given ++ p.waiting) p.cutting
   pub stream : passed ++ p.unread ≡ ahead ++ taken

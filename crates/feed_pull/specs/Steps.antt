@@ -22,7 +22,7 @@ pub record Reads (old : Pulling) (more : List ℕ) (earlier : ℕ) : Type 0 wher
   pub count : earlier ≡ found_with old front
 
 -- The bytes `more` came behind the unread ones, and bytes were cut from their front. The packets found wait behind
--- those that waited. Either nothing was read, or `more` ends with the bytes of the last read.
+-- those that waited, and were watched. Either nothing was read, or `more` ends with the bytes of the last read.
 pub record Goes (old : Pulling) (more : List ℕ) (new : Pulling) : Type 0 where
   pub passed : List ℕ
   pub found : List (List ℕ)
@@ -32,8 +32,12 @@ pub record Goes (old : Pulling) (more : List ℕ) (new : Pulling) : Type 0 where
   pub given : new.given ≡ old.given
   pub start : new.start ≡ old.start
   pub taken : new.taken ≡ old.taken + length more
-  pub watch : new.watch ≡ old.watch
+  pub watch : (before : List (List ℕ)) → Watched before old.watch → Watched (before ++ found) new.watch
   pub last : ((more ≡ []) × (new.found_before_last_read ≡ old.found_before_last_read)) ⊎ Reads old more new.found_before_last_read
+
+-- the puller once there is room for so many packets
+abbrev pub with_room : Pulling → ℕ → Pulling
+with_room p room = record { cutting = p.cutting; waiting = p.waiting; room = room; unread = p.unread; given = p.given; found_before_last_read = p.found_before_last_read; start = p.start; taken = p.taken; reads = p.reads; reading = p.reading; watch = p.watch }
 
 -- no read was made
 pub record ReadsNothing (old new : Pulling) : Type 0 where
@@ -70,12 +74,11 @@ to_read TooMany reads = 0
 abbrev pub work : Pulling → ℕ
 work p = to_read p.reading p.reads + length p.unread
 
--- the puller's state after these packets were given from the front of those that
--- wait, and watched behind those before them
+-- the puller's state after these packets were given from the front of those that wait
 pub record HasGiven (packets : List (List ℕ)) (old new : Pulling) : Type 0 where
   pub waiting : old.waiting ≡ packets ++ new.waiting
   pub given : new.given ≡ old.given + length packets
-  pub watch : (before : List (List ℕ)) → Watched before old.watch → Watched (before ++ packets) new.watch
+  pub watch : new.watch ≡ old.watch
   pub cutting : new.cutting ≡ old.cutting
   pub unread : new.unread ≡ old.unread
   pub found_before_last_read : new.found_before_last_read ≡ old.found_before_last_read

@@ -1,21 +1,20 @@
 // Pulls batches of packets from a source.
-ghost use Rattle.std.specs.Prelude.{◌≡◌, ◌≢◌, ◌⊎◌, ℕ, ◌+◌, ◌-◌, ◌*◌, ◌^◌, ◌<◌, ◌≤◌, ◌↔◌, List, [], ◌++◌, length, take, drop, min, max, OnOk, IfOk, IfSome, IfNone, IsTrue, IsFalse, MatchOption, vec_len};
+ghost use Rattle.std.specs.Prelude.{◌≡◌, ◌≢◌, ◌⊎◌, ℕ, ◌+◌, ◌-◌, ◌*◌, ◌^◌, ◌<◌, ◌≤◌, ◌↔◌, List, [], ◌++◌, length, take, drop, min, max, OnOk, OnErr, IfOk, IfSome, IfNone, IsTrue, IsFalse, MatchOption, vec_len};
 ghost use Rattle.std.specs.Io.KnownBytes.{Consumes, IsAtEnd};
 ghost use Rattle.ts_packet.specs.Cut.{cut};
 ghost use Rattle.ts_packet.specs.Cutting.{IsTally};
 ghost use Rattle.ts_watch.specs.Watching.{Watched};
 ghost use Rattle.ts_watch.specs.Head.{told_head, head_of};
 ghost use Rattle.feed_pull.specs.Pulling.{Pulling, IsPulling, Pulls, IsDone, HasGivenAll, HasWatchedAll, HadFewer, IsNearEnd, fault_of, has_failed, given_by};
-ghost use Rattle.feed_pull.specs.Steps.{Goes, Gathers, Follows, work, HasGiven, ReadsNothing, Carries};
+ghost use Rattle.feed_pull.specs.Steps.{Goes, Gathers, Follows, work, HasGiven, ReadsNothing, Carries, with_room};
 
 use crate::fault::{PullFault, Reading};
-use crate::hand::Hand;
 use crate::piece::Piece;
 use emu_io::Source;
 use std::alloc::{AllocError as NoMemory, Global};
 use std::marker::Model;
 use std::sync::Arc;
-use ts_batch::Batch;
+use ts_batch::{Batch, BatchRoom};
 use ts_packet::{Cutter, Packet, Tally};
 use ts_watch::{Head, Watch};
 
@@ -27,7 +26,7 @@ const MOST_READS: u64 = 4_294_967_296;
 pub struct Puller {
     alloc: Global,
     cutter: Cutter,
-    hand: Hand,
+    room: BatchRoom,
     piece: Piece,
     // How many packets were given.
     given: u64,
@@ -41,7 +40,7 @@ pub struct Puller {
     reads: u64,
     // How reading goes.
     reading: Reading,
-    // What was counted of the packets that were given.
+    // What was counted of the packets that were found.
     watch: Watch,
 }
 
@@ -54,7 +53,8 @@ impl Model for Puller {
 
     ghost view = { λ p. record {
       cutting = p.cutter;
-      waiting = p.hand;
+      waiting = p.room.packets;
+      room = p.room.most;
       unread = p.piece;
       given = p.given;
       found_before_last_read = p.found_before_last_read;
@@ -67,7 +67,8 @@ impl Model for Puller {
 
     ghost invariant = { λ p. IsPulling (record {
       cutting = p.cutter;
-      waiting = p.hand;
+      waiting = p.room.packets;
+      room = p.room.most;
       unread = p.piece;
       given = p.given;
       found_before_last_read = p.found_before_last_read;
@@ -105,7 +106,7 @@ impl Puller {
         Ok(Puller {
             alloc,
             cutter: Cutter::new(),
-            hand: Hand::new(),
+            room: BatchRoom::new(alloc),
             piece,
             given: 0,
             found_before_last_read: 0,
@@ -125,6 +126,8 @@ impl Puller {
         ensures gathers { Gathers (S.end source.old) (S.end source.new) self.old self.new }
         ensures follows { Follows self.old.reading self.new.reading (S.end source.old) (S.end source.new) }
         ensures less { work self.new < work self.old }
+        ensures waiting { self.new.waiting ≡ self.old.waiting }
+        ensures room { self.new.room ≡ self.old.room }
         ensures late { self.new.found_before_last_read ≤ max self.old.found_before_last_read (self.old.given + length self.old.waiting) }
     {
         if self.reads == MOST_READS {
@@ -136,23 +139,27 @@ impl Puller {
             Err(_) => self.reading = Reading::Failed,
             Ok(0) => self.reading = Reading::Ended,
             Ok(count) => {
-                self.found_before_last_read = self.given + self.hand.len() as u64;
+                self.found_before_last_read = self.given + self.room.len() as u64;
                 self.taken += count as u64;
             }
         }
     }
 
-    // Cuts bytes of the piece, up to its end or the packet that fills the hand.
+    // Cuts bytes of the piece, up to its end or the packet that fills the room, and counts the packets found.
     fn cut(&mut self)
         requires some { 0 < length self.old.unread }
-        requires room { length self.old.waiting < 64 }
+        requires room { length self.old.waiting < self.old.room }
         ensures goes { Goes self.old [] self.new }
+        ensures fits { length self.new.waiting ≤ self.old.room }
+        ensures room { self.new.room ≡ self.old.room }
         ensures reading { self.new.reading ≡ self.old.reading }
         ensures reads { self.new.reads ≡ self.old.reads }
         ensures earlier { self.new.found_before_last_read ≡ self.old.found_before_last_read }
         ensures less { length self.new.unread < length self.old.unread }
     {
-        let count = self.hand.fill(&mut self.cutter, self.piece.rest());
+        let before = self.room.len();
+        let count = self.cutter.push(self.piece.rest(), &mut self.room);
+        watch_all(&mut self.watch, self.room.behind(before));
         self.piece.pass(count);
     }
 
@@ -176,19 +183,21 @@ impl Puller {
         ensures value { result ≡ length self.now.waiting }
         ensures fits { result ≤ 64 }
     {
-        self.hand.len()
+        self.room.len()
     }
 
     // Cuts what is left of the piece, or reads the next.
     fn step<S: Source>(&mut self, source: &mut S)
         requires more { self.old.unread ≡ [] → self.old.reading ≡ Reading.Going }
-        requires room { length self.old.waiting < 64 }
+        requires room { length self.old.waiting < self.old.room }
         requires faults { self.old.reading ≡ Reading.Going → (S.end source.old).faults < 2 ^ 64 - 1 }
         ensures gathers { Gathers (S.end source.old) (S.end source.new) self.old self.new }
         ensures follows { Follows self.old.reading self.new.reading (S.end source.old) (S.end source.new) }
         ensures less { work self.new < work self.old }
         ensures late { self.new.found_before_last_read ≤ max self.old.found_before_last_read (self.old.given + length self.old.waiting) }
         ensures stopped { self.old.reading ≢ Reading.Going → ReadsNothing self.old self.new }
+        ensures fits { length self.new.waiting ≤ self.old.room }
+        ensures room { self.new.room ≡ self.old.room }
     {
         if self.is_cut() {
             self.read(source);
@@ -197,22 +206,55 @@ impl Puller {
         }
     }
 
-    // Reads and cuts until as many packets wait as are asked for, or nothing is left.
-    fn gather<S: Source>(&mut self, source: &mut S, most: u32)
-        requires most { most ≤ 64 }
+    // Takes memory for as many packets as are asked for. Where it is refused, nothing changes.
+    fn make_room(&mut self, most: u32) -> Result<(), NoMemory>
+        requires { most ≤ 64 }
+        ensures made { OnOk result (self.new ≡ with_room self.old most) }
+        ensures refused { OnErr result (self.new ≡ self.old) }
+    {
+        self.room.make_room(most)?;
+        Ok(())
+    }
+
+    // Reads and cuts until as many packets wait as are asked for, or nothing is left. There is room for just these.
+    fn fill<S: Source>(&mut self, source: &mut S, most: u32)
+        requires room { self.old.room ≡ most }
         requires faults { self.old.reading ≡ Reading.Going → (S.end source.old).faults < 2 ^ 64 - 1 }
         ensures gathers { Gathers (S.end source.old) (S.end source.new) self.old self.new }
         ensures follows { Follows self.old.reading self.new.reading (S.end source.old) (S.end source.new) }
         ensures fewer { length self.new.waiting < most → (self.new.unread ≡ []) × (self.new.reading ≢ Reading.Going) }
+        ensures fits { length self.old.waiting ≤ most → length self.new.waiting ≤ most }
         ensures late { HadFewer most self.old → HadFewer most self.new }
         ensures full { most ≤ length self.old.waiting → (S.end source.new ≡ S.end source.old) × (self.new ≡ self.old) }
         ensures stopped { self.old.reading ≢ Reading.Going → ReadsNothing self.old self.new }
     {
         // So that the loop knows what is true of each puller.
-        let _ = &self.hand;
+        let _ = &self.room;
         'gathering: while self.waiting() < most && self.has_more() {
             self.step(source);
         }
+    }
+
+    // Makes room for as many packets as are asked for, and then reads and cuts until as many wait, or nothing is left.
+    // Where memory is refused, nothing is read.
+    fn gather<S: Source>(&mut self, source: &mut S, most: u32) -> Result<(), NoMemory>
+        requires most { most ≤ 64 }
+        requires faults { self.old.reading ≡ Reading.Going → (S.end source.old).faults < 2 ^ 64 - 1 }
+        ensures gathers { Gathers (S.end source.old) (S.end source.new) self.old self.new }
+        ensures follows { Follows self.old.reading self.new.reading (S.end source.old) (S.end source.new) }
+        ensures fewer { OnOk result (length self.new.waiting < most → (self.new.unread ≡ []) × (self.new.reading ≢ Reading.Going)) }
+        ensures fits { OnOk result (length self.old.waiting ≤ most → length self.new.waiting ≤ most) }
+        ensures late { HadFewer most self.old → HadFewer most self.new }
+        ensures full { most ≤ length self.old.waiting → (S.end source.new ≡ S.end source.old) × ReadsNothing self.old self.new }
+        ensures stopped { self.old.reading ≢ Reading.Going → ReadsNothing self.old self.new }
+        ensures sound { IsPulling self.new }
+    {
+        // So that it is known what is true of each puller.
+        let _ = &self.room;
+        self.make_room(most)?;
+        self.fill(source, most);
+        let _ = &self.room;
+        Ok(())
     }
 
     // Gives the packets in front, as many as are asked for or wait.
@@ -224,23 +266,22 @@ impl Puller {
         ensures some { IfOk result (λ answer. IfSome answer (λ batch. 1 ≤ length batch.value.packets)) }
         ensures none { IfOk result (λ answer. IfNone answer (self.old.waiting ≡ [])) }
         ensures late { HadFewer most self.old → IfOk result (λ _. self.new.found_before_last_read ≤ self.new.given) }
+        ensures left { length self.old.waiting ≤ most → IfOk result (λ _. self.new.waiting ≡ []) }
         ensures whole { HadFewer most self.old → IfOk result (λ answer. IfSome answer (λ batch. length batch.value.packets ≡ most → self.new.found_before_last_read < self.new.given)) }
         ensures sound { IsPulling self.new }
     {
-        let count = most.min(self.hand.len());
+        let count = most.min(self.room.len());
         if count == 0 {
             return Ok(None);
         }
-        let front = self.hand.front(count);
-        let batch = Batch::of_slice(self.alloc, self.given, front)?;
-        watch_all(&mut self.watch, front);
-        self.hand.pass(count);
+        let batch = Batch::of_front(self.alloc, self.given, &mut self.room, count)?;
         self.given += count as u64;
         Ok(Some(batch))
     }
 
     /// The next packets, as many as are asked for or as are left, 1 to 64. None exactly where reading has stopped and no
-    /// packet is left. Where memory is refused, all that was read and found stays for the next pull.
+    /// packet is left. Where memory is refused, all that was read and found stays for the next pull; where it is refused for
+    /// the packets themselves, nothing is read.
     pub fn pull<S: Source>(
         &mut self,
         source: &mut S,
@@ -255,6 +296,8 @@ impl Puller {
         ensures stream { Carries (S.end source.old) (S.end source.new) self.old (given_by result (λ batch. batch.value.packets)) self.new }
         // What was given so far is the front of the stream's packets.
         ensures front { (ahead taken : List ℕ) (given : List (List ℕ)) → Pulls ahead taken given self.new → (later : List (List ℕ)) × ((cut (ahead ++ taken)).packets ≡ given ++ later) }
+        // Nothing that was found is left over, unless more packets waited than are asked for.
+        ensures left { length self.old.waiting ≤ most → IfOk result (λ _. self.new.waiting ≡ []) }
         // A batch's first number is the number of packets given before.
         ensures first { IfOk result (λ answer. IfSome answer (λ batch. batch.value.first ≡ self.old.given)) }
         ensures given { self.new.given ≡ self.old.given + length (given_by result (λ batch. batch.value.packets)) }
@@ -283,7 +326,7 @@ impl Puller {
         ensures asked { HadFewer most self.old → HadFewer most self.new }
         ensures near { HadFewer most self.old → IfOk result (λ answer. IfSome answer (λ batch. length batch.value.packets ≡ most → IsNearEnd self.new)) }
     {
-        self.gather(source, most);
+        self.gather(source, most)?;
         self.give(most)
     }
 

@@ -2,6 +2,7 @@
 use Rattle.std.proofs.Common.{◌≡◌, ◌⊎◌, ℕ, zero, suc, ◌<◌, Bool, ◌||◌, List, [], ◌∷◌, ◌++◌, length, map, slice_get, Some, inl, inr, ⊎_elim, refl, ap, sym, ◌∙◌, arith, length-append}
 use Rattle.std.specs.List.{All, list_any}
 use Rattle.std.proofs.lemmas.List.Elements.{All-nil, All-cons, All-head, All-tail}
+use Rattle.lemmas.specs.Lists.{Has}
 
 -- what stands at a place
 pub at_place : {A : Type 0} (l : List A) (i : ℕ) → i < length l → (a : A) × (slice_get l i ≡ Some a)
@@ -49,3 +50,28 @@ all_behind P (x ∷ xs) ys all = all_behind P xs ys (All-tail P x (xs ++ ys) all
 pub any_of_map : {A B : Type 0} (test : B → Bool) (value : A → B) (xs : List A) → list_any test (map value xs) ≡ list_any (λ x. test (value x)) xs
 any_of_map test value [] = refl
 any_of_map test value (x ∷ xs) = ap (λ b. test (value x) || b) (any_of_map test value xs)
+
+-- what is made of a member stands at its place
+pub at_map : {A B : Type 0} (f : A → B) (xs : List A) (i : ℕ) (x : A) → slice_get xs i ≡ Some x → slice_get (map f xs) i ≡ Some (f x)
+at_map f [] i x at = absurd (cc at)
+at_map f (y ∷ xs) zero x at = let same : y ≡ x = cc at in ap (λ z. Some (f z)) same
+at_map f (y ∷ xs) (suc i) x at = at_map f xs i x at
+
+-- ------ what stands in a list
+
+pub has_at : {A : Type 0} (xs : List A) (x : A) (i : ℕ) → slice_get xs i ≡ Some x → Has xs x
+has_at [] x i at = absurd (cc at)
+has_at (y ∷ xs) x zero at = inl (cc at)
+has_at (y ∷ xs) x (suc i) at = inr (has_at xs x i at)
+
+pub has_left : {A : Type 0} (xs ys : List A) (x : A) → Has xs x → Has (xs ++ ys) x
+has_left [] ys x h = absurd h
+has_left (y ∷ xs) ys x h = ⊎_elim (λ e. inl e) (λ m. inr (has_left xs ys x m)) h
+
+pub has_right : {A : Type 0} (xs ys : List A) (x : A) → Has ys x → Has (xs ++ ys) x
+has_right [] ys x h = h
+has_right (y ∷ xs) ys x h = inr (has_right xs ys x h)
+
+pub has_either : {A : Type 0} (xs ys : List A) (x : A) → Has (xs ++ ys) x → Has xs x ⊎ Has ys x
+has_either [] ys x h = inr h
+has_either (y ∷ xs) ys x h = ⊎_elim (λ e. inl (inl e)) (λ m. ⊎_elim (λ a. inl (inr a)) (λ b. inr b) (has_either xs ys x m)) h

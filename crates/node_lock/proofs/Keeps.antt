@@ -12,12 +12,14 @@ use Rattle.node_lock.specs.declared.view.Stage.{Stage}
 use Rattle.node_lock.specs.declared.view.Stage.TheVariants.{Free, Drawn, Turn}
 use Rattle.node_lock.specs.declared.view.Miss.{Miss}
 use Rattle.node_lock.specs.declared.view.View.{View}
-use Rattle.node_lock.specs.Inside.Lists.{Has, Once, up_from, tail}
+use Rattle.lemmas.specs.Lists.{Has}
+use Rattle.lemmas.proofs.Lists.{has_either, has_right}
+use Rattle.node_lock.specs.Inside.Lists.{Once, up_from, tail}
 use Rattle.node_lock.specs.Inside.Seats.{calls_of, out_of, IsLive, HasTicket, starting, dealt, fresh, spent}
 use Rattle.node_lock.specs.Passes.{Stands, KnowsItsCalls, HasJust, KeptBegins, IsWhole}
 use Rattle.node_lock.specs.Rule.{Where, home, out, lies, IsOut, EachTicketHasASeat, OneSeatHasTheTurn, MachineStands, ThereIsOneHistory, IsTrueMiss, MissesAreTrue, LockRule}
 use Rattle.node_lock.specs.Inside.Kinds.{drew, sees, made, took_turn, missed, split_left, split_right, joined, TellsTicket, TellsDone, TellsCalls, GetsTurn, TellsLookAt, TellsLook, TellsTry}
-use Rattle.node_lock.proofs.Views.{put, put_here, put_else, lefts_set, lefts_end, lefts_at, at_below, at_there, one_member, now_here, each_set, each_end, some_set, prefix_self, prefix_more, prefix_trans, prefix_whole, longer_is, has_either, has_right, up_from_below}
+use Rattle.node_lock.proofs.Views.{put, put_here, put_else, lefts_set, lefts_end, lefts_at, at_below, at_there, one_member, now_here, each_set, each_end, some_set, prefix_self, prefix_more, prefix_trans, prefix_whole, longer_is, up_from_below}
 use Rattle.node_lock.proofs.Bounds.{bounded_set, bounded_end, bounded_made, bounded_join}
 use Rattle.node_lock.proofs.Callers.{counted_same, counted_end, counted_cut, counted_join, knows_of}
 

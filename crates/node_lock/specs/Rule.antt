@@ -10,7 +10,8 @@ use Rattle.atomic_table.specs.Table.{State}
 use Rattle.node_lock.specs.declared.view.Stage.TheVariants.{Turn}
 use Rattle.node_lock.specs.declared.view.Miss.{Miss}
 use Rattle.node_lock.specs.declared.view.View.{View}
-use Rattle.node_lock.specs.Inside.Lists.{Has, Once}
+use Rattle.lemmas.specs.Lists.{Has}
+use Rattle.node_lock.specs.Inside.Lists.{Once}
 use Rattle.node_lock.specs.Inside.Seats.{IsLive, HasTicket, out_of, calls_of, lefts}
 use Rattle.node_lock.specs.Passes.{Stands, KeptBegins}
 

@@ -26,19 +26,19 @@ abbrev pub IsActInRange : Act → Type 0
 IsActInRange OpenAct = Unit {0}
 IsActInRange CloseAct = Unit {0}
 IsActInRange (SetFilterAct p now) =
-    (p.pid < 65536) × (p.timeout < 4294967296) × (p.flags < 4294967296) × IsFilter p.filter × (now < 2 ^ 64)
-IsActInRange (SetPesAct p now) = (p.pid < 65536) × (p.pes_type < 4294967296) × (p.flags < 4294967296) × (now < 2 ^ 64)
+    (p.pid < 65536) × (p.timeout < 2 ^ 32) × (p.flags < 2 ^ 32) × IsFilter p.filter × (now < 2 ^ 64)
+IsActInRange (SetPesAct p now) = (p.pid < 65536) × (p.pes_type < 2 ^ 32) × (p.flags < 2 ^ 32) × (now < 2 ^ 64)
 IsActInRange (AddPidAct pid) = pid < 65536
 IsActInRange (RemovePidAct pid) = pid < 65536
 IsActInRange (StartAct now) = now < 2 ^ 64
 IsActInRange StopAct = Unit {0}
-IsActInRange (SetSizeAct size) = size < 4294967296
-IsActInRange (ReadAct now count) = (count < 4294967296) × (now < 2 ^ 64)
+IsActInRange (SetSizeAct size) = size < 2 ^ 32
+IsActInRange (ReadAct now count) = (count < 2 ^ 32) × (now < 2 ^ 64)
 IsActInRange (PollAct now) = now < 2 ^ 64
-IsActInRange (PassAct input first count now) = (first < 2 ^ 64) × (count < 4294967296) × (now < 2 ^ 64)
+IsActInRange (PassAct input first count now) = (first < 2 ^ 64) × (count < 2 ^ 32) × (now < 2 ^ 64)
 IsActInRange EndAct = Unit {0}
-IsActInRange (AttachAct node pids) = (node < 4294967296) × IsPidSet pids
-IsActInRange (DetachAct node) = node < 4294967296
+IsActInRange (AttachAct node pids) = (node < 2 ^ 32) × IsPidSet pids
+IsActInRange (DetachAct node) = node < 2 ^ 32
 
 -- ------ replies
 
@@ -51,14 +51,14 @@ IsTapInRange DetachTap = Unit {0}
 -- a reply
 abbrev pub IsResponseInRange : Response → Type 0
 IsResponseInRange (Done from to tap) = (from < 2 ^ 64) × (to < 2 ^ 64) × IsTapInRange tap
-IsResponseInRange (Busy owner) = owner < 4294967296
+IsResponseInRange (Busy owner) = owner < 2 ^ 32
 IsResponseInRange (Refused errno) = Unit {0}
 IsResponseInRange NoMemory = Unit {0}
 IsResponseInRange (Data bytes) = All (λ byte. byte < 256) bytes × (length bytes ≤ LARGEST_READ)
 IsResponseInRange (Again ended) = Unit {0}
 IsResponseInRange (Overflow from to item need room) =
     (from < 2 ^ 64) × (to < 2 ^ 64) × (item < 2 ^ 64) × (need < 2 ^ 64) × (room < 2 ^ 64)
-IsResponseInRange (TimedOut started now timeout) = (started < 2 ^ 64) × (now < 2 ^ 64) × (timeout < 4294967296)
+IsResponseInRange (TimedOut started now timeout) = (started < 2 ^ 64) × (now < 2 ^ 64) × (timeout < 2 ^ 32)
 IsResponseInRange (Ready readable error at ended) = at < 2 ^ 64
 IsResponseInRange Passed = Unit {0}
 
@@ -68,7 +68,7 @@ IsResponseInRange Passed = Unit {0}
 pub record IsEntryInRange (e : LogEntry) : Type 0 where
   pub place : e.place < 2 ^ 64
   pub step : e.step < 2 ^ 64
-  pub who : e.who < 4294967296
+  pub who : e.who < 2 ^ 32
   pub act : IsActInRange e.act
   pub response : IsResponseInRange e.response
 
@@ -96,11 +96,11 @@ IsRowInRange row = (row.0 < 65536) × AreCountsInRange row.1
 pub record IsTallyInRange (tally : Tally) : Type 0 where
   pub packets : tally.packets < 2 ^ 64
   pub skipped : tally.skipped < 2 ^ 64
-  pub rest : tally.rest < 4294967296
+  pub rest : tally.rest < 2 ^ 32
 
 -- a command of a client
 pub record IsOutcomeInRange (o : Outcome) : Type 0 where
-  pub line : o.line < 4294967296
+  pub line : o.line < 2 ^ 32
   pub from : o.from < 2 ^ 64
   pub to : o.to < 2 ^ 64
 

@@ -6,6 +6,8 @@ use Rattle.std.specs.List.{All}
 use Rattle.std.proofs.lemmas.Bool.Decides.{nat_tests}
 use Rattle.std.proofs.lemmas.List.Elements.{All-weaker}
 use Rattle.std.proofs.lemmas.Option.{slice_get_within}
+use Rattle.lemmas.specs.Lists.{Has}
+use Rattle.lemmas.proofs.Lists.{at_place, one_value, has_at}
 use Rattle.ts_packet.specs.Fields.{IsPacket}
 use Rattle.dmx_calls.specs.declared.reply.Errno.TheVariants.{Ebadf}
 use Rattle.dmx_calls.specs.Invocation.{brought}
@@ -23,7 +25,7 @@ use Rattle.client_core.specs.Events.{next_event}
 use Rattle.script_run.specs.Budget.{all_commands, most_calls, bytes_in}
 use Rattle.script_run.specs.IsRun.{IsEvent, StandsIn, replies}
 use Rattle.script_run.specs.SoFar.{Payers, feeder, others, MayPay, IsPaidBehind, HasDoneSoFar, IsSoFar, commands_for, CallsArePaid}
-use Rattle.script_run.proofs.Lists.{Has, has_got, has_filter, at_place, one_value}
+use Rattle.script_run.proofs.Lists.{has_filter}
 use Rattle.script_run.proofs.Counting.{total, total_le, total_add, total_same, total_33, total_but, total_one, one_at, but, sum_of, Pool, both, all_pools, HaveTokens, counts_fit}
 use Rattle.script_run.proofs.ReadReplies.{read_there, next_is_refused}
 use Rattle.script_run.proofs.HistoryBytes.{OnlyFeederBrings, bytes_fit, feeder_long}
@@ -46,7 +48,7 @@ one_command line who target verb lines c = go (nat_eq who c) refl where
   go false nay = omega arith
 
 -- all clients have no more commands than the script
-commands_shared : (lines : List Line) (n : ℕ) → total (commands_by lines) n ≤ all_commands lines
+pub commands_shared : (lines : List Line) (n : ℕ) → total (commands_by lines) n ≤ all_commands lines
 commands_shared [] n = omega (arith, total_same 0 n)
 commands_shared (Feed count ∷ lines) n = commands_shared lines n
 commands_shared (Tick time ∷ lines) n = commands_shared lines n
@@ -119,7 +121,7 @@ module _ (payers : Payers) (lines : List Line) (most : ℕ) (stream : List (List
   StandsOn node e = (h : List LogEntry) × (slice_get hs node ≡ Some h) × Has h e
 
   stands_on : (e : LogEntry) → StandsIn hs e → (node : ℕ) × (node < 33) × StandsOn node e
-  stands_on e stands = (e.node, node_below e stands, (stands.0, stands.1, has_got stands.0 e.place e stands.2))
+  stands_on e stands = (e.node, node_below e stands, (stands.0, stands.1, has_at stands.0 e e.place stands.2))
 
   -- the bytes of an entry
   abbrev bytes_of : LogEntry → ℕ
@@ -283,7 +285,7 @@ module _ (payers : Payers) (lines : List Line) (most : ℕ) (stream : List (List
     either x stands may true yea = inl (feeders x stands (grind (arith, nat_tests, yea)))
     either x stands may false nay =
         let m : IsMade x = made_by x stands (λ none. grind (arith, nat_tests, nay, none)) in
-        inr (m.client, m.low, ((λ same. may (m.who ∙ ap (λ n. n + 1) same)), (λ low. has_got (s.clients m.client low).made x.step x (m.made low))))
+        inr (m.client, m.low, ((λ same. may (m.who ∙ ap (λ n. n + 1) same)), (λ low. has_at (s.clients m.client low).made x x.step (m.made low))))
 
 pub calls_are_paid : CallsArePaid
 calls_are_paid feeder lines most stream hs s are c is =

@@ -24,7 +24,7 @@ use Rattle.dmx_calls.specs.Owning.{HasRead}
 use Rattle.dmx_calls.proofs.Nodes.{demux_keeps, dvr_keeps}
 use Rattle.dmx_calls.proofs.Pending.{names_a_byte}
 use Rattle.dmx_calls.proofs.Owning.{readers_call_between}
-use Rattle.script_run.proofs.Lists.{at_map}
+use Rattle.lemmas.proofs.Lists.{at_map}
 
 -- a reply to a read, where the stream has ended or not
 abbrev pub IsReadReply : (ended : Bool) → Response → Type 0

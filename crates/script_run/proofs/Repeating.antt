@@ -20,7 +20,8 @@ use Rattle.script_run.specs.Budget.{bytes_in}
 use Rattle.client_core.specs.Inside.More.{added_by}
 use Rattle.client_core.proofs.More.{one_reply_more, some_of, repeats_none}
 use Rattle.script_run.proofs.Counting.{total, total_le, total_add, weigh, weight_at, weigh_places, weight_got}
-use Rattle.script_run.proofs.Lists.{at_place, take_next, length_taken}
+use Rattle.lemmas.proofs.Lists.{at_place}
+use Rattle.script_run.proofs.Lists.{take_next, length_taken}
 use Rattle.script_run.proofs.ReadReplies.{IsOpenAgain, not_ended, IsAnyReadReply}
 use Rattle.client_core.proofs.FirstCalls.{first_calls, stays_on}
 

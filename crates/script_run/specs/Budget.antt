@@ -1,8 +1,9 @@
 -- How many calls a client makes in a run (this project's own).
-use Rattle.std.specs.Prelude.{ℕ, ◌≡◌, ◌⊎◌, ◌≤◌, ◌+◌, ◌*◌, ◌-◌, List, [], ◌∷◌, length}
+use Rattle.std.specs.Prelude.{ℕ, ◌≡◌, ◌⊎◌, ◌≤◌, ◌+◌, ◌*◌, ◌-◌, ◌^◌, List, [], ◌∷◌, length}
 use Rattle.dmx_calls.specs.Response.{Response, Data, Overflow}
 use Rattle.client_script.specs.declared.line.Line.{Line}
 use Rattle.client_script.specs.declared.line.Line.TheVariants.{Command}
+use Rattle.client_core.specs.declared.stop.TheConstants.{MOST_CALLS}
 
 -- how many commands a script has
 abbrev pub all_commands : List Line → ℕ
@@ -18,8 +19,8 @@ most_calls commands bytes = 33 * (commands + 2 * bytes + 1)
 -- the bytes allow a client so many calls.
 abbrev pub IsTooLong : (lines : List Line) → (start turns : ℕ) → (ahead taken : List ℕ) → Type 0
 IsTooLong lines start turns ahead taken =
-    ((turns ≡ 4294967296) × (4294967296 ≤ start + length taken))
-    ⊎ ((turns ≡ 549755813888) × (549755813888 ≤ most_calls (all_commands lines) (length ahead + length taken)))
+    ((turns ≡ 2 ^ 32) × (2 ^ 32 ≤ start + length taken))
+    ⊎ ((turns ≡ MOST_CALLS) × (MOST_CALLS ≤ most_calls (all_commands lines) (length ahead + length taken)))
 
 -- the bytes that a reply gives, or names as lost
 abbrev pub bytes_in : Response → ℕ

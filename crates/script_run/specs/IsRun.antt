@@ -77,14 +77,17 @@ pub record HasDone (lines : List Line) (client : ℕ) (hs : List (List LogEntry)
 
 -- ------ the run
 
+-- each entry stands on its node and at its place, its caller is the feeder or a client, and memory was found
+abbrev pub ArePlaced : List Line → List (List LogEntry) → Type 0
+ArePlaced lines hs =
+    (node place : ℕ) (h : List LogEntry) (e : LogEntry) → slice_get hs node ≡ Some h → slice_get h place ≡ Some e
+    → (e.node ≡ node) × (e.place ≡ place) × (e.who ≤ clients_in lines) × (e.response ≢ NoMemory)
+
 -- These histories are those of a run of the script: `most` is the greatest number of packets of a batch, and
 -- `stream` is the packets of the stream.
 pub record IsRun (lines : List Line) (most : ℕ) (stream : List (List ℕ)) (hs : List (List LogEntry)) : Type 0 where
   pub nodes : length hs ≡ DEMUX_NODES + 1
-  -- each entry stands on its node and at its place, its caller is the feeder or a client, and memory was found
-  pub places : (node place : ℕ) (h : List LogEntry) (e : LogEntry) → slice_get hs node ≡ Some h
-      → slice_get h place ≡ Some e → (e.node ≡ node) × (e.place ≡ place) × (e.who ≤ clients_in lines)
-      × (e.response ≢ NoMemory)
+  pub places : ArePlaced lines hs
   -- each response is the one that the entries before it give
   pub legal : (node : ℕ) (h : List LogEntry) → slice_get hs node ≡ Some h → IsLegalFor (rules_at node) (filled stream h)
   pub fed : IsFed most (length stream) hs

@@ -5,7 +5,6 @@ use Rattle.dmx_calls.specs.declared.limits.TheConstants.{DEMUX_NODES}
 use Rattle.dmx_calls.specs.declared.log.Act.{Act}
 use Rattle.dmx_calls.specs.declared.log.Act.TheVariants.{Pass as PassAct}
 use Rattle.dmx_calls.specs.Accounted.{IsAccounted}
-use Rattle.dmx_calls.specs.Response.{NoMemory}
 use Rattle.dmx_calls.specs.Legal.{IsLegalFor}
 use Rattle.dmx_calls.specs.Log.{LogEntry, filled}
 use Rattle.dmx_calls.specs.Rules.{rules_at}
@@ -14,7 +13,7 @@ use Rattle.client_script.specs.Script.{clients_in}
 use Rattle.client_core.specs.Commands.{commands_of}
 use Rattle.client_core.specs.Events.{next_event, waits_on}
 use Rattle.script_run.specs.Budget.{all_commands, most_calls}
-use Rattle.script_run.specs.IsRun.{Batch, Step, IsEvent, IsRun, StandsIn, feeding, replies, steps_of}
+use Rattle.script_run.specs.IsRun.{ArePlaced, Batch, Step, IsEvent, IsRun, StandsIn, feeding, replies, steps_of}
 
 -- ------ the feeder
 
@@ -74,9 +73,7 @@ pub record HasDoneSoFar (payers : Payers) (lines : List Line) (client : ℕ)
 pub record IsSoFar (payers : Payers) (lines : List Line) (most : ℕ) (stream : List (List ℕ))
     (hs : List (List LogEntry)) : Type 0 where
   pub nodes : length hs ≡ DEMUX_NODES + 1
-  pub places : (node place : ℕ) (h : List LogEntry) (e : LogEntry) → slice_get hs node ≡ Some h
-      → slice_get h place ≡ Some e → (e.node ≡ node) × (e.place ≡ place) × (e.who ≤ clients_in lines)
-      × (e.response ≢ NoMemory)
+  pub places : ArePlaced lines hs
   pub legal : (node : ℕ) (h : List LogEntry) → slice_get hs node ≡ Some h → IsLegalFor (rules_at node) (filled stream h)
   pub fed : IsFedSoFar most (length stream) hs
   pub clients : (c : ℕ) → c < clients_in lines → HasDoneSoFar payers lines c hs

@@ -6,11 +6,12 @@
 //! own, and no code runs here.
 //!
 //! What a contract sees: `IsRun` (`specs/IsRun.antt`) says that the histories are those of a run; `IsWholeRun`
-//! (`specs/WholeRun.antt`) says beside it that each is accounted, that the batches are full, that the moments are the clock's, and
-//! what became of each client's commands. `IsSoFar` (`specs/SoFar.antt`) says the same of a run that may not be over: some
-//! batches have passed a node, then the end has or has not, and each client has made some of its calls; and where a client repeats a read that
-//! found nothing, another's entry stands between, the feeder's or any other caller's (`Payers`). `most_calls`
-//! (`specs/Budget.antt`) is the most calls of a client, for so many commands and bytes.
+//! (`specs/WholeRun.antt`) says beside it that each is accounted, that the batches are full, that the moments are the
+//! clock's, and what became of each client's commands. `IsSoFar` (`specs/SoFar.antt`) says the same of a run that may
+//! not be over: some batches have passed a node, then the end has or has not, and each client has made some of its
+//! calls; and where a client repeats a read that found nothing, another's entry stands between, the feeder's or any
+//! other caller's (`Payers`). `most_calls` (`specs/Budget.antt`) is the most calls of a client, for so many commands
+//! and bytes.
 //!
 //! What is proved, as laws of the definitions: a run so far that is over is a run (`runs_end`); each history of a
 //! run is accounted (`runs_are_accounted`); and at each moment of a run a client has made at most `most_calls` calls

@@ -10,12 +10,11 @@ use Rattle.client_core.specs.Events.{next_of_line, waits_on}
 use Rattle.serial_core.specs.declared.nodes.Nodes.{Nodes}
 use Rattle.serial_core.specs.declared.runner.Runner.{Runner}
 use Rattle.serial_core.specs.SerialRun.{Run, replies_of, called, made, reply_to, after_waiting, turned, calls}
-use Rattle.serial_core.specs.Budget.{one_if, IsPaid}
+use Rattle.serial_core.specs.Budget.{no_call}
 use Rattle.serial_core.specs.Inside.Standing.{AreCounted, IsNodes}
-use Rattle.serial_core.specs.Inside.Moving.{IsSound, Moves, ComesByCalls}
+use Rattle.serial_core.specs.Inside.Moving.{one_if, IsSound, Moves, ComesByCalls}
 use Rattle.feed_pull.proofs.Drawing.{draws_none}
-use Rattle.serial_core.proofs.Keeping.{kept_called, waiting_replies}
-use Rattle.serial_core.proofs.Within.{paid_steps}
+use Rattle.serial_core.proofs.Keeping.{begun_on, waiting_replies}
 
 -- ------ one call
 
@@ -55,13 +54,13 @@ replies_called : (client : ℕ) (e : Event) (r : Run) → client < length r.repl
 replies_called client e r lt = get_or-set_same r.replies client (replies_of client r ++ reply_to client e r ∷ []) [] lt
 
 pub comes_none : (lines : List Line) (batch client line : ℕ) (r : Run) (core : Core) → length r.replies ≡ 8 → IsAfter client lines (replies_of client r) core → ComesByCalls lines batch client line r r core
-comes_none lines batch client line r core clients after = record { after = after; clients = clients; others = λ other ne. refl; worked = λ s w. w; paid = λ packets p. p }
+comes_none lines batch client line r core clients after = record { after = after; clients = clients; others = λ other ne. refl; worked = λ s w. w; begun = no_call r }
 
 pub comes_on : (lines : List Line) (batch client line : ℕ) (first now s : Run) (core next : Core) (e : Event)
-    → 1 ≤ batch → client < 8 → ComesByCalls lines batch client line first now core → next_of_line client lines line (replies_of client now) ≡ Some e
+    → client < 8 → ComesByCalls lines batch client line first now core → next_of_line client lines line (replies_of client now) ≡ Some e
     → s ≡ called client e (after_waiting lines batch client now) → IsAfter client lines (replies_of client now ++ reply_to client e (after_waiting lines batch client now) ∷ []) next
     → ComesByCalls lines batch client line first s next
-comes_on lines batch client line first now s core next e some lt comes is to after =
+comes_on lines batch client line first now s core next e lt comes is to after =
     let waited : Run = after_waiting lines batch client now in
     let same : waited.replies ≡ now.replies = waiting_replies lines batch client now in
     let long : length waited.replies ≡ 8 = ap length same ∙ comes.clients in
@@ -72,7 +71,7 @@ comes_on lines batch client line first now s core next e some lt comes is to aft
       clients = length-set waited.replies client _ ∙ long;
       others = λ other ne. get_or-set_other waited.replies client other _ [] ne ∙ (ap (λ rs. slice_index_or rs other []) same ∙ comes.others other ne);
       worked = λ t w. comes.worked t (calls now t e is w);
-      paid = λ packets p. kept_called lines batch 8 (IsPaid lines packets) (paid_steps lines packets batch 8 some) client line now e lt is (comes.paid packets p);
+      begun = begun_on lines batch client line first now e comes.begun is;
     }
 
 pub none_by : (o : Option Event) → ((x : Event) → o ≡ Some x → ⊥) → o ≡ None

@@ -12,6 +12,7 @@ use Rattle.dmx_calls.specs.Calls.{told_entry}
 use Rattle.dmx_calls.specs.declared.log.Act.{Act}
 use Rattle.dmx_calls.specs.Histories.{feeder_acts, histories_of, woven, woven_nodes}
 use Rattle.emu_io.specs.Ends.{SourceEnd}
+use Rattle.client_script.specs.Grammar.{IsInRange}
 use Rattle.client_script.specs.declared.line.Line.{Line}
 use Rattle.serial_core.specs.declared.seat.Seat.{Seat}
 use Rattle.serial_core.specs.declared.nodes.Nodes.{Nodes}
@@ -33,7 +34,8 @@ use Rattle.serial_core.specs.Left.{IsLeftBy, IsFreshRunner, AreFreshCores, histo
 use Rattle.feed_pull.specs.Streams.{OfStream}
 use Rattle.feed_pull.proofs.CutPackets.{are_packets}
 use Rattle.serial_core.proofs.Lawful.{serial_legal}
-use Rattle.serial_core.proofs.Within.{paid_begun, within, own_commands}
+use Rattle.script_run.proofs.Paying.{commands_shared}
+use Rattle.serial_core.proofs.Runs.{within_budget}
 
 -- ------ histories
 
@@ -99,16 +101,16 @@ module _ (lines : List Line) (batch : ℕ) (x y : SourceEnd) (old new : Runner) 
         head = head ahead taken ps p;
       })
 
-  pub overrun_is : Moves x y old new (λ r s. length r.replies ≡ 8 → AreAfter lines r cores → Overruns lines r s)
+  pub overrun_is : All IsInRange lines → 1 ≤ batch → Moves x y old new (λ r s. length r.replies ≡ 8 → AreAfter lines r cores → Overruns lines batch lines r s)
       → OfStream x y old.puller (λ ahead taken. 2 ^ 39 ≤ most_calls (all_commands lines) (length ahead + length taken))
-  overrun_is moves = of_run (λ r s. length r.replies ≡ 8 → AreAfter lines r cores → Overruns lines r s) (λ ahead taken. 2 ^ 39 ≤ most_calls (all_commands lines) (length ahead + length taken)) moves
+  overrun_is ranges one moves =
+      of_run (λ r s. length r.replies ≡ 8 → AreAfter lines r cores → Overruns lines batch lines r s) (λ ahead taken. 2 ^ 39 ≤ most_calls (all_commands lines) (length ahead + length taken)) moves
       (λ ahead taken ps r p goes at.
       let front = Pulls-front ahead taken ps new.puller p in
       let packets : All IsPacket ps = All-take_front ps front.0 (subst (λ qs. All IsPacket qs) front.1 (are_packets (ahead ++ taken))) in
       let o = goes refl (fresh_after lines ps cores fresh) in
-      let paid = o.paid ps (paid_begun lines ps packets) in
-      let few = within lines ps r o.client (all_commands lines) (length ahead + length taken) paid (own_commands o.client lines) (Pulls-size ahead taken ps new.puller p) in
-      omega (arith, few, o.calls))
+      let few = within_budget.moments lines batch ps r ranges one packets o.way o.client in
+      omega (arith, few, o.calls, commands_shared lines (suc o.client), Pulls-size ahead taken ps new.puller p))
     where
       All-take_front : (xs ys : List (List ℕ)) → All IsPacket (xs ++ ys) → All IsPacket xs
       All-take_front xs ys all k d lt = subst IsPacket (get_or_append_left xs ys d k lt) (all k d (omega (arith, lt, length-append xs ys)))

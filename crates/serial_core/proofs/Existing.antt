@@ -4,6 +4,7 @@ use Rattle.std.specs.Prelude.{slice_index_or}
 use Rattle.std.specs.List.{All}
 use Rattle.std.proofs.lemmas.List.{length-set, get_or-set_same}
 use Rattle.std.proofs.lemmas.List.Elements.{All-head, All-tail}
+use Rattle.ts_packet.specs.Fields.{IsPacket}
 use Rattle.client_script.specs.Grammar.{IsInRange}
 use Rattle.client_script.specs.declared.line.Line.{Line}
 use Rattle.client_script.specs.declared.line.Line.TheVariants.{Feed, Tick, Command}
@@ -12,19 +13,18 @@ use Rattle.client_core.specs.Commands.{commands_of}
 use Rattle.client_core.specs.Events.{next_of_line}
 use Rattle.script_run.specs.Budget.{most_calls}
 use Rattle.serial_core.specs.SerialRun.{Run, begun, fed, ticked, replies_of, reply_to, called, after_waiting, IsWorked, through, calls, AreDone, finished}
-use Rattle.serial_core.specs.Budget.{IsPaid}
+use Rattle.serial_core.specs.Budget.{IsBegun, no_call, one_call, IsOnTheWay, IsMoment}
 use Rattle.serial_core.specs.Runs.{HaveSerialRuns}
-use Rattle.serial_core.proofs.Keeping.{kept_called, kept_fed, kept_worked, fed_replies, waiting_replies}
-use Rattle.serial_core.proofs.Paid.{paid_feeds, paid_ticked}
-use Rattle.serial_core.proofs.Within.{paid_begun, paid_steps, within}
+use Rattle.serial_core.proofs.Keeping.{fed_replies, waiting_replies, way_fed, way_ticked, way_worked, way_begun}
+use Rattle.serial_core.proofs.Runs.{within_budget}
 
-module _ (lines : List Line) (batch : ℕ) (packets : List (List ℕ)) (one : 1 ≤ batch) where
+module _ (lines : List Line) (batch : ℕ) (packets : List (List ℕ)) (ranges : All IsInRange lines) (are : All IsPacket packets) (one : 1 ≤ batch) where
   -- the most calls of a client
   abbrev most : (client : ℕ) → ℕ
   most client = most_calls (length (commands_of client lines)) (188 * length packets)
 
-  paid_most : (client : ℕ) (r : Run) → IsPaid lines packets r → length (replies_of client r) ≤ most client
-  paid_most client r p = within lines packets r client (length (commands_of client lines)) (188 * length packets) p (omega arith) (omega arith)
+  calls_most : (client : ℕ) (r : Run) → IsMoment lines batch packets r → length (replies_of client r) ≤ most client
+  calls_most client r moment = within_budget.moments lines batch packets r ranges one are moment client
 
   -- a call leaves eight clients, and gives the caller one reply
   call_clients : (client : ℕ) (e : Event) (r : Run) → length r.replies ≡ 8 → length (called client e (after_waiting lines batch client r)).replies ≡ 8
@@ -40,10 +40,11 @@ module _ (lines : List Line) (batch : ℕ) (packets : List (List ℕ)) (one : 1 
       ap length (get_or-set_same w.replies client (replies_of client w ++ reply_to client e w ∷ []) [] there) ∙ length-append (replies_of client w) (reply_to client e w ∷ [])
       ∙ ap (λ rs. length (slice_index_or rs client []) + 1) same
 
-  command_ends : (fuel client line : ℕ) (r : Run) → client < 8 → length r.replies ≡ 8 → IsPaid lines packets r → length (replies_of client r) + fuel ≡ most client + 1 → (s : Run) × IsWorked lines batch client line r s
-  command_ends zero client line r lt eight p is = absurd (omega (arith, is, paid_most client r p))
-  command_ends (suc fuel) client line r lt eight p is =
-      go (λ e at. command_ends fuel client line (called client e (after_waiting lines batch client r)) lt (call_clients client e r eight) (kept_called lines batch 8 (IsPaid lines packets) (paid_steps lines packets batch 8 one) client line r e lt at p)
+  command_ends : (fuel client line : ℕ) (r : Run) → client < 8 → length r.replies ≡ 8 → ((s : Run) → IsBegun lines batch client line r s → IsMoment lines batch packets s)
+      → length (replies_of client r) + fuel ≡ most client + 1 → (s : Run) × IsWorked lines batch client line r s
+  command_ends zero client line r lt eight moment is = absurd (omega (arith, is, calls_most client r (moment r (no_call r))))
+  command_ends (suc fuel) client line r lt eight moment is =
+      go (λ e at. command_ends fuel client line (called client e (after_waiting lines batch client r)) lt (call_clients client e r eight) (λ s begun. moment s (one_call r s e at begun))
       (omega (arith, is, call_replies client e r lt eight))) (next_of_line client lines line (replies_of client r)) refl where
         go : ((e : Event) → next_of_line client lines line (replies_of client r) ≡ Some e → (s : Run) × IsWorked lines batch client line (called client e (after_waiting lines batch client r)) s)
             → (o : Option Event) → next_of_line client lines line (replies_of client r) ≡ o → (s : Run) × IsWorked lines batch client line r s
@@ -54,19 +55,21 @@ module _ (lines : List Line) (batch : ℕ) (packets : List (List ℕ)) (one : 1 
   worked_clients client line r s (through _ none) eight = eight
   worked_clients client line r s (calls _ _ e at w) eight = worked_clients client line _ s w (call_clients client e r eight)
 
-  lines_end : (more : List Line) (r : Run) → All IsInRange more → length r.replies ≡ 8 → IsPaid lines packets r → (t : Run) × AreDone lines batch more r t
-  lines_end [] r ranges eight p = (r, refl)
-  lines_end (Feed count ∷ more) r ranges eight p =
-      lines_end more (fed batch count r) (All-tail IsInRange (Feed count) more ranges) (ap length (fed_replies batch count r) ∙ eight) (kept_fed batch (IsPaid lines packets) (paid_feeds lines packets batch one) count r p)
-  lines_end (Tick time ∷ more) r ranges eight p = lines_end more (ticked time r) (All-tail IsInRange (Tick time) more ranges) eight (paid_ticked lines packets r time p)
-  lines_end (Command line client target verb ∷ more) r ranges eight p =
-      let lt : client < 8 = omega (arith, (All-head IsInRange (Command line client target verb) more ranges).2) in
-      let within : length (replies_of client r) ≤ most client = paid_most client r p in
-      let done = command_ends (most client + 1 - length (replies_of client r)) client line r lt eight p (omega (arith, within)) in
-      let later = lines_end more done.0 (All-tail IsInRange (Command line client target verb) more ranges) (worked_clients client line r done.0 done.1 eight) (kept_worked lines batch 8 (IsPaid lines packets) (paid_steps lines packets batch 8 one) client line r done.0 lt done.1 p) in
+  lines_end : (more : List Line) (r : Run) → All IsInRange more → length r.replies ≡ 8 → ((s : Run) → IsOnTheWay lines batch more r s → IsMoment lines batch packets s) → (t : Run) × AreDone lines batch more r t
+  lines_end [] r fit eight moment = (r, refl)
+  lines_end (Feed count ∷ more) r fit eight moment =
+      lines_end more (fed batch count r) (All-tail IsInRange (Feed count) more fit) (ap length (fed_replies batch count r) ∙ eight) (λ s way. moment s (way_fed lines batch count more r s way))
+  lines_end (Tick time ∷ more) r fit eight moment = lines_end more (ticked time r) (All-tail IsInRange (Tick time) more fit) eight (λ s way. moment s (way_ticked lines batch time more r s way))
+  lines_end (Command line client target verb ∷ more) r fit eight moment =
+      let lt : client < 8 = omega (arith, (All-head IsInRange (Command line client target verb) more fit).2) in
+      let begun : (s : Run) → IsBegun lines batch client line r s → IsMoment lines batch packets s = λ s b. moment s (way_begun lines batch line client target verb more r s b) in
+      let within : length (replies_of client r) ≤ most client = calls_most client r (begun r (no_call r)) in
+      let done = command_ends (most client + 1 - length (replies_of client r)) client line r lt eight begun (omega (arith, within)) in
+      let later = lines_end more done.0 (All-tail IsInRange (Command line client target verb) more fit) (worked_clients client line r done.0 done.1 eight)
+      (λ s way. moment s (way_worked lines batch line client target verb more r done.0 s done.1 way)) in
       (later.0, (done.0, done.1, later.1))
 
 pub have_runs : HaveSerialRuns
 have_runs lines batch packets ranges are one =
-    let end = lines_end lines batch packets one lines (begun packets) ranges refl (paid_begun lines packets are) in
+    let end = lines_end lines batch packets ranges are one lines (begun packets) ranges refl (λ s way. way) in
     (finished batch end.0, (end.0, end.1, refl))

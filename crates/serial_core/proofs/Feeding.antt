@@ -11,7 +11,7 @@ use Rattle.dmx_calls.specs.declared.limits.TheConstants.{DEMUX_NODES}
 use Rattle.dmx_calls.specs.declared.log.Act.TheVariants.{Pass as PassAct, End as EndAct}
 use Rattle.dmx_calls.specs.Log.{LogEntry}
 use Rattle.script_run.specs.IsRun.{Batch, Step, feeding, steps_of}
-use Rattle.serial_core.specs.Budget.{one_if}
+use Rattle.serial_core.specs.Inside.Moving.{one_if}
 
 -- ------ the feeder's calls in a log
 

@@ -1,5 +1,5 @@
 -- What each step of a serial run keeps, the whole run keeps.
-use Rattle.std.proofs.Common.{◌≡◌, refl, sym, ap, subst, ◌∙◌, ℕ, zero, suc, ◌+◌, ◌/◌, ◌%◌, ◌==◌, ◌<◌, ◌≤◌, Bool, true, false, nat_lt, nat_eq, List, [], ◌∷◌, ◌++◌, Some, length, drop, fold, replicate, min, zero-add, arith, length-drop}
+use Rattle.std.proofs.Common.{◌≡◌, ◌≢◌, ◌⊎◌, inl, inr, refl, sym, ap, subst, ◌∙◌, ℕ, zero, suc, ◌+◌, ◌/◌, ◌%◌, ◌==◌, ◌<◌, ◌≤◌, Bool, true, false, nat_lt, nat_eq, List, [], ◌∷◌, ◌++◌, append-nil, Some, None, length, drop, fold, replicate, min, zero-add, arith, length-drop}
 use Rattle.std.specs.Prelude.{if◌then◌else◌, sum, is_some, slice_index_or}
 use Rattle.std.proofs.lemmas.Bool.Decides.{nat_tests}
 use Rattle.std.proofs.lemmas.List.Sums.{sum_by-append, sum_by-cons}
@@ -11,12 +11,18 @@ use Rattle.std.proofs.lemmas.List.Elements.{All-head, All-tail}
 use Rattle.client_script.specs.Script.{clients_of, clients_in}
 use Rattle.client_script.specs.declared.line.Line.{Line}
 use Rattle.client_script.specs.declared.line.Line.TheVariants.{Feed, Tick, Command}
+use Rattle.client_script.specs.declared.line.Target.{Target}
+use Rattle.client_script.specs.declared.line.Verb.{Verb}
+use Rattle.std.proofs.lemmas.List.{get_or-set_other}
 use Rattle.client_core.specs.declared.event.Event.{Event}
-use Rattle.client_core.specs.Events.{next_event, next_of_line, waits_on}
+use Rattle.client_core.specs.Events.{progress, next_event, next_of_line, waits_on}
+use Rattle.client_core.proofs.Ended.{ended_waits_not}
+use Rattle.client_core.proofs.GoesOn.{none_waits as before_first}
+use Rattle.client_core.proofs.Options.{none_ne_some}
 use Rattle.script_run.proofs.Clients.{clients_within}
-use Rattle.serial_core.specs.Budget.{IsBegun, no_call, one_call, AreBegun, IsMoment}
-use Rattle.serial_core.specs.SerialRun.{Run, begun, fed_to_all, passed, batch_sizes, all_passed, ended, fed, turned, ticked, replies_of, called, after_waiting, IsWorked, through, calls, AreDone, IsSerialRun}
-use Rattle.serial_core.proofs.Replies.{next_at_line}
+use Rattle.serial_core.specs.Budget.{IsBegun, no_call, one_call, AreBegun, IsOnTheWay, IsMoment}
+use Rattle.serial_core.specs.SerialRun.{Run, begun, fed_to_all, passed, batch_sizes, all_passed, ended, fed, turned, ticked, replies_of, reply_to, called, after_waiting, IsWorked, through, calls, AreDone, IsSerialRun}
+use Rattle.serial_core.proofs.Replies.{index_set, next_at_line, none_said}
 
 -- ------ sizes
 
@@ -135,49 +141,106 @@ below_all clients (Command line client target verb ∷ lines) all =
 pub all_below : (lines : List Line) → AreBelow (clients_in lines) lines
 all_below lines = below_all (clients_in lines) lines (clients_within lines)
 
+-- ------ who waits
+
+module _ (lines : List Line) (batch : ℕ) where
+  -- no client waits
+  abbrev pub NoneWaits : Run → Type 0
+  NoneWaits r = (client : ℕ) → waits_on client lines (replies_of client r) ≡ None
+
+  -- no client waits but this one
+  abbrev pub OnlyWaits : (client : ℕ) → Run → Type 0
+  OnlyWaits client r = (other : ℕ) → other ≢ client → waits_on other lines (replies_of other r) ≡ None
+
+  same_waits : (r s : Run) → s.replies ≡ r.replies → NoneWaits r → NoneWaits s
+  same_waits r s same none client = ap (λ rs. waits_on client lines (slice_index_or rs client [])) same ∙ none client
+
+  waited_only : (client : ℕ) (r : Run) → OnlyWaits client r → OnlyWaits client (after_waiting lines batch client r)
+  waited_only client r only other ne = ap (λ rs. waits_on other lines (slice_index_or rs other [])) (waiting_replies lines batch client r) ∙ only other ne
+
+  -- a client's call leaves the others' replies
+  called_only : (client : ℕ) (e : Event) (r : Run) → OnlyWaits client r → OnlyWaits client (called client e r)
+  called_only client e r only other ne =
+      ap (λ rs. waits_on other lines rs) (get_or-set_other r.replies client other (replies_of client r ++ reply_to client e r ∷ []) [] ne) ∙ only other ne
+
+  -- where the command of this line is through, the client doesn't wait
+  abbrev WaitsIn : (client line : ℕ) → Run → Type 0
+  WaitsIn client line r = next_of_line client lines line (replies_of client r) ≡ None → waits_on client lines (replies_of client r) ≡ None
+
+  called_in : (client line : ℕ) (e : Event) (r : Run) → next_of_line client lines line (replies_of client r) ≡ Some e → WaitsIn client line (called client e r)
+  called_in client line e r is none = go (index_set r.replies client client (replies_of client r ++ reply_to client e r ∷ [])) where
+    go : (replies_of client (called client e r) ≡ replies_of client r) ⊎ (client ≡ client) × (replies_of client (called client e r) ≡ replies_of client r ++ reply_to client e r ∷ [])
+        → waits_on client lines (replies_of client (called client e r)) ≡ None
+    go (inl same) = absurd (none_ne_some e (sym none ∙ ap (λ rs. next_of_line client lines line rs) same ∙ is))
+    go (inr mine) =
+        ap (λ rs. waits_on client lines rs) mine.1
+        ∙ ended_waits_not client lines line (replies_of client r) (reply_to client e r) e is (sym (ap (λ rs. next_of_line client lines line rs) mine.1) ∙ none)
+
+  none_waits : (client : ℕ) (r : Run) → OnlyWaits client r → waits_on client lines (replies_of client r) ≡ None → NoneWaits r
+  none_waits client r only none other = go (nat_eq other client) refl where
+    go : (b : Bool) → nat_eq other client ≡ b → waits_on other lines (replies_of other r) ≡ None
+    go true yea = let same : other ≡ client = grind (arith, nat_tests, yea) in subst (λ c. waits_on c lines (replies_of c r) ≡ None) (sym same) none
+    go false nay = only other (λ same. grind (arith, nat_tests, nay, same))
+
+  begun_waits : (packets : List (List ℕ)) → NoneWaits (begun packets)
+  begun_waits packets client = ap (λ rs. waits_on client lines rs) (none_said 8 client) ∙ sym (before_first (progress client lines []).standing)
+
+-- ------ steps
+
 -- what each step of the run keeps; a client's call, as the turn before it where the client waits, keeps it
 pub record IsKept (lines : List Line) (batch clients : ℕ) (P : Run → Type 0) : Type 0 where
   pub feeds : IsFedOn batch P
   pub ticks : (r : Run) (time : ℕ) → P r → P (ticked time r)
   pub calls : (r : Run) (client : ℕ) (e : Event) → client < clients → next_event client lines (replies_of client (after_waiting lines batch client r)) ≡ Some e
-      → P r → P (after_waiting lines batch client r) → P (called client e (after_waiting lines batch client r))
+      → OnlyWaits lines batch client (after_waiting lines batch client r) → P r → P (after_waiting lines batch client r) → P (called client e (after_waiting lines batch client r))
 
 module _ (lines : List Line) (batch clients : ℕ) (P : Run → Type 0) (keeps : IsKept lines batch clients P) where
-  pub kept_waited : (client : ℕ) (r : Run) → P r → P (after_waiting lines batch client r)
+  kept_waited : (client : ℕ) (r : Run) → P r → P (after_waiting lines batch client r)
   kept_waited client r p = go (is_some (waits_on client lines (replies_of client r))) where
     go : (w : Bool) → P (if w then turned batch r else r)
     go true = kept_turned batch P keeps.feeds r p
     go false = p
 
-  pub kept_called : (client line : ℕ) (r : Run) (e : Event) → client < clients → next_of_line client lines line (replies_of client r) ≡ Some e → P r → P (called client e (after_waiting lines batch client r))
-  kept_called client line r e lt is p =
-      let same : replies_of client (after_waiting lines batch client r) ≡ replies_of client r = ap (λ rs. slice_index_or rs client []) (waiting_replies lines batch client r) in
-      keeps.calls r client e lt (ap (λ rs. next_event client lines rs) same ∙ next_at_line client lines line (replies_of client r) e is) p (kept_waited client r p)
+  -- what holds while a client's command is done
+  record IsAtWork (client : ℕ) (r : Run) : Type 0 where
+    kept : P r
+    only : OnlyWaits lines batch client r
 
-  pub kept_worked : (client line : ℕ) (r s : Run) → client < clients → IsWorked lines batch client line r s → P r → P s
-  kept_worked client line r s lt (through _ none) p = p
-  kept_worked client line r s lt (calls _ _ e is w) p = kept_worked client line _ s lt w (kept_called client line r e lt is p)
+  work_called : (client line : ℕ) (r : Run) (e : Event) → client < clients → next_of_line client lines line (replies_of client r) ≡ Some e → IsAtWork client r
+      → IsAtWork client (called client e (after_waiting lines batch client r)) × WaitsIn lines batch client line (called client e (after_waiting lines batch client r))
+  work_called client line r e lt is w =
+      let x : Run = after_waiting lines batch client r in
+      let same : replies_of client x ≡ replies_of client r = ap (λ rs. slice_index_or rs client []) (waiting_replies lines batch client r) in
+      let only : OnlyWaits lines batch client x = waited_only lines batch client r w.only in (
+        record {
+          kept = keeps.calls r client e lt (ap (λ rs. next_event client lines rs) same ∙ next_at_line client lines line (replies_of client r) e is) only w.kept (kept_waited client r w.kept);
+          only = called_only lines batch client e x only;
+        },
+        called_in lines batch client line e x (ap (λ rs. next_of_line client lines line rs) same ∙ is),
+      )
 
-  pub kept_done : (more : List Line) (r t : Run) → AreBelow clients more → AreDone lines batch more r t → P r → P t
-  kept_done [] r t below same p = subst P (sym same) p
-  kept_done (Feed count ∷ more) r t below d p = kept_done more (fed batch count r) t below d (kept_fed batch P keeps.feeds count r p)
-  kept_done (Tick time ∷ more) r t below d p = kept_done more (ticked time r) t below d (keeps.ticks r time p)
-  kept_done (Command line client target verb ∷ more) r t below d p = kept_done more d.0 t below.1 d.2 (kept_worked client line r d.0 below.0 d.1 p)
+  kept_worked : (client line : ℕ) (r s : Run) → client < clients → IsWorked lines batch client line r s → IsAtWork client r → WaitsIn lines batch client line r → P s × NoneWaits lines batch s
+  kept_worked client line r s lt (through _ none) w waits = (w.kept, none_waits lines batch client r w.only (waits none))
+  kept_worked client line r s lt (calls _ _ e is more) w waits = let k = work_called client line r e lt is w in kept_worked client line _ s lt more k.0 k.1
 
-  pub kept : (packets : List (List ℕ)) (t : Run) → AreBelow clients lines → IsSerialRun lines batch packets t → P (begun packets) → P t
-  kept packets t below is p = subst P (sym is.2) (kept_finished batch P keeps.feeds is.0 (kept_done lines (begun packets) is.0 below is.1 p))
+  kept_done : (more : List Line) (r t : Run) → AreBelow clients more → AreDone lines batch more r t → P r → NoneWaits lines batch r → P t × NoneWaits lines batch t
+  kept_done [] r t below same p none = subst (λ s. P s × NoneWaits lines batch s) (sym same) (p, none)
+  kept_done (Feed count ∷ more) r t below d p none =
+      kept_done more (fed batch count r) t below d (kept_fed batch P keeps.feeds count r p) (same_waits lines batch r (fed batch count r) (fed_replies batch count r) none)
+  kept_done (Tick time ∷ more) r t below d p none = kept_done more (ticked time r) t below d (keeps.ticks r time p) none
+  kept_done (Command line client target verb ∷ more) r t below d p none =
+      let k = kept_worked client line r d.0 below.0 d.1 (record { kept = p; only = λ other ne. none other }) (λ through. none client) in
+      kept_done more d.0 t below.1 d.2 k.0 k.1
 
-  -- ------ a moment on the way
+  kept_begun : (client line : ℕ) (r s : Run) → client < clients → IsBegun lines batch client line r s → IsAtWork client r → P s
+  kept_begun client line r s lt (no_call _) w = w.kept
+  kept_begun client line r s lt (one_call _ _ e is more) w = kept_begun client line _ s lt more (work_called client line r e lt is w).0
 
-  kept_begun : (client line : ℕ) (r s : Run) → client < clients → IsBegun lines batch client line r s → P r → P s
-  kept_begun client line r s lt (no_call _) p = p
-  kept_begun client line r s lt (one_call _ _ e is w) p = kept_begun client line _ s lt w (kept_called client line r e lt is p)
-
-  kept_line : (more : List Line) (r s : Run) → AreBelow clients more → AreBegun lines batch more r s → P r → P s
-  kept_line [] r s below same p = subst P (sym same) p
-  kept_line (Feed count ∷ more) r s below same p = subst P (sym same) p
-  kept_line (Tick time ∷ more) r s below same p = subst P (sym same) p
-  kept_line (Command line client target verb ∷ more) r s below w p = kept_begun client line r s below.0 w p
+  kept_line : (more : List Line) (r s : Run) → AreBelow clients more → AreBegun lines batch more r s → P r → NoneWaits lines batch r → P s
+  kept_line [] r s below same p none = subst P (sym same) p
+  kept_line (Feed count ∷ more) r s below same p none = subst P (sym same) p
+  kept_line (Tick time ∷ more) r s below same p none = subst P (sym same) p
+  kept_line (Command line client target verb ∷ more) r s below w p none = kept_begun client line r s below.0 w (record { kept = p; only = λ other ne. none other })
 
   both_below : (before more : List Line) → AreBelow clients (before ++ more) → AreBelow clients before × AreBelow clients more
   both_below [] more below = (tt, below)
@@ -188,4 +251,34 @@ module _ (lines : List Line) (batch clients : ℕ) (P : Run → Type 0) (keeps :
   pub kept_moment : (packets : List (List ℕ)) (s : Run) → AreBelow clients lines → IsMoment lines batch packets s → P (begun packets) → P s
   kept_moment packets s below (before, more, whole, r, d, w) p =
       let k = both_below before more (subst (AreBelow clients) (sym whole) below) in
-      kept_line more r s k.1 w (kept_done before (begun packets) r k.0 d p)
+      let done = kept_done before (begun packets) r k.0 d p (begun_waits lines batch packets) in
+      kept_line more r s k.1 w done.0 done.1
+
+  pub kept : (packets : List (List ℕ)) (t : Run) → AreBelow clients lines → IsSerialRun lines batch packets t → P (begun packets) → P t
+  kept packets t below is p =
+      subst P (sym is.2) (kept_finished batch P keeps.feeds is.0 (kept_moment packets is.0 below (lines, [], append-nil lines, is.0, is.1, refl) p))
+
+-- ------ the way through lines
+
+module _ (lines : List Line) (batch : ℕ) where
+  abbrev Way : List Line → Run → Run → Type 0
+  Way = IsOnTheWay lines batch
+
+  pub way_fed : (count : ℕ) (more : List Line) (r s : Run) → Way more (fed batch count r) s → Way (Feed count ∷ more) r s
+  way_fed count more r s (before, behind, whole, x, done, begun) = (Feed count ∷ before, behind, ap (λ ls. Feed count ∷ ls) whole, x, done, begun)
+
+  pub way_ticked : (time : ℕ) (more : List Line) (r s : Run) → Way more (ticked time r) s → Way (Tick time ∷ more) r s
+  way_ticked time more r s (before, behind, whole, x, done, begun) = (Tick time ∷ before, behind, ap (λ ls. Tick time ∷ ls) whole, x, done, begun)
+
+  pub way_worked : (line client : ℕ) (target : Target) (verb : Verb) (more : List Line) (r m s : Run) → IsWorked lines batch client line r m → Way more m s → Way (Command line client target verb ∷ more) r s
+  way_worked line client target verb more r m s w (before, behind, whole, x, done, begun) =
+      (Command line client target verb ∷ before, behind, ap (λ ls. Command line client target verb ∷ ls) whole, x, (m, w, done), begun)
+
+  pub way_begun : (line client : ℕ) (target : Target) (verb : Verb) (more : List Line) (r s : Run) → IsBegun lines batch client line r s → Way (Command line client target verb ∷ more) r s
+  way_begun line client target verb more r s begun = ([], Command line client target verb ∷ more, refl, r, refl, begun)
+
+  -- one call more
+  pub begun_on : (client line : ℕ) (r s : Run) (e : Event) → IsBegun lines batch client line r s → next_of_line client lines line (replies_of client s) ≡ Some e
+      → IsBegun lines batch client line r (called client e (after_waiting lines batch client s))
+  begun_on client line r s e (no_call _) is = one_call r _ e is (no_call _)
+  begun_on client line r s e (one_call _ _ x at more) is = one_call r _ x at (begun_on client line _ s e more is)

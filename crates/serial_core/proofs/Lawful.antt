@@ -82,7 +82,7 @@ module _ (packets : List (List ℕ)) where
           };
     };
     ticks = λ r time p. record { legal = record { numbers = p.legal.numbers; legal = p.legal.legal }; gone = p.gone; through = p.through; whole = p.whole };
-    calls = λ before client e lt stands was p. let r = after_waiting lines batch client before in
+    calls = λ before client e lt stands only was p. let r = after_waiting lines batch client before in
         let c : Invocation = call_of e.want r.moment in
         let n : Node = node_at e.node r in
         let m : Node = answered (client + 1) e.step c n in

@@ -8,15 +8,13 @@ pub mod Batches
 pub mod Turning
 pub mod Replies
 pub mod Answering
-pub mod Paid
-pub mod Calling
-pub mod Within
 pub mod Keeping
 pub mod Throughout
 pub mod Logs
 pub mod Sound
 pub mod Making
 pub mod Feeding
+pub mod Coming
 pub mod Runs
 pub mod Commanding
 pub mod Lawful

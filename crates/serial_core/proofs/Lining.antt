@@ -17,21 +17,20 @@ use Rattle.serial_core.specs.Inside.Moving.{IsAt, IsSound, Moves, IsDoneBy, Come
 use Rattle.feed_pull.specs.Streams.{Draws}
 use Rattle.serial_core.specs.Inside.Lines.{AreAfter, calls_by, AreInBudget, ComesByLines, IsLineBy, IsFrontBy, IsWholeBy, Overruns, OverrunsBy}
 use Rattle.feed_pull.proofs.Drawing.{draws_none}
-use Rattle.serial_core.specs.Budget.{IsPaid}
-use Rattle.serial_core.proofs.Keeping.{kept_fed, fed_replies, finished_replies}
-use Rattle.serial_core.proofs.Paid.{paid_feeds, paid_ticked}
+use Rattle.serial_core.specs.Budget.{IsOnTheWay}
+use Rattle.serial_core.proofs.Keeping.{fed_replies, finished_replies, way_fed, way_ticked, way_worked, way_begun}
 
 -- ------ a feed
 
 after_same : (lines : List Line) (r s : Run) (cores : List Core) → s.replies ≡ r.replies → AreAfter lines r cores → AreAfter lines s cores
 after_same lines r s cores same after c d lt = subst (λ rs. IsAfter c lines (slice_index_or rs c []) (slice_index_or cores c d)) (sym same) (after c d lt)
 
-pub feed_done : (batch count : ℕ) (cores : List Core) (r s : Run) → 1 ≤ batch → s ≡ fed batch count r → IsLineBy batch (Feed count) cores cores r s
-feed_done batch count cores r s some is lines rest clients after =
+pub feed_done : (batch count : ℕ) (cores : List Core) (r s : Run) → s ≡ fed batch count r → IsLineBy batch (Feed count) cores cores r s
+feed_done batch count cores r s is lines rest clients after =
     subst (λ x. ComesByLines lines batch rest (Feed count ∷ rest) r x cores) (sym is) record {
       clients = ap length (fed_replies batch count r) ∙ clients;
       after = after_same lines r (fed batch count r) cores (fed_replies batch count r) after;
-      paid = λ packets p. kept_fed batch (IsPaid lines packets) (paid_feeds lines packets batch some) count r p;
+      way = way_fed lines batch count rest r;
       done = λ t d. d;
     }
 
@@ -41,7 +40,7 @@ pub tick_done : (batch time : ℕ) (cores : List Core) (r : Run) → IsLineBy ba
 tick_done batch time cores r lines rest clients after = record {
   clients = clients;
   after = after;
-  paid = λ packets p. paid_ticked lines packets r time p;
+  way = way_ticked lines batch time rest r;
   done = λ t d. d;
 }
 
@@ -65,7 +64,7 @@ command_done batch line client target verb cores core next r s there is done lin
     record {
       clients = k.0.clients;
       after = λ c d lt. go lines clients after own k.0 c d lt (nat_eq c client) refl;
-      paid = k.0.paid;
+      way = λ t w. way_worked lines batch line client target verb rest r s t (k.0.worked s (through s k.1)) w;
       done = λ t d. (s, k.0.worked s (through s k.1), d);
     } where
       go : (lines : List Line) → length r.replies ≡ 8 → AreAfter lines r cores → IsAfter client lines (replies_of client r) core
@@ -81,12 +80,12 @@ command_done batch line client target verb cores core next r s there is done lin
           subst (λ rs. IsAfter c lines rs (slice_index_or (set cores client next) c d)) (sym (come.others c ne))
           (subst (λ x. IsAfter c lines (replies_of c r) x) (sym (get_or-set_other cores client c next d ne)) (after c d long))
 
-pub overruns : (batch line client : ℕ) (cores : List Core) (core next : Core) (r s : Run) → client < length cores → core ≡ get_or cores client core
-    → 2 ^ 39 ≤ next.step → ComesBy batch client line core next r s → OverrunsBy cores r s
-overruns batch line client cores core next r s there is many come lines clients after =
+pub overruns : (batch line client : ℕ) (target : Target) (verb : Verb) (cores : List Core) (core next : Core) (r s : Run) → client < length cores → core ≡ get_or cores client core
+    → 2 ^ 39 ≤ next.step → ComesBy batch client line core next r s → OverrunsBy batch (Command line client target verb) cores r s
+overruns batch line client target verb cores core next r s there is many come lines rest clients after =
     let own : IsAfter client lines (replies_of client r) core = subst (λ c. IsAfter client lines (replies_of client r) c) (sym is) (after client core there) in
     let k = come lines clients own in
-    record { client = client; calls = omega (arith, many, k.after.steps); paid = k.paid }
+    record { client = client; calls = omega (arith, many, k.after.steps); way = way_begun lines batch line client target verb rest r s k.begun }
 
 -- ------ numbers
 
@@ -107,19 +106,19 @@ front_more batch count lines rest line a b c r s t here behind front by clients 
     record {
       clients = n.clients;
       after = n.after;
-      paid = λ packets p. n.paid packets (f.paid packets p);
+      way = λ u w. f.way u (subst (λ ls. IsOnTheWay lines batch ls s u) (sym here) (n.way u (subst (λ ls. IsOnTheWay lines batch ls t u) behind w)));
       done = λ u d. f.done u (subst (λ ls. AreDone lines batch ls s u) (sym here) (n.done u (subst (λ ls. AreDone lines batch ls t u) behind d)));
     }
 
 pub front_none : (batch : ℕ) (lines : List Line) (cores : List Core) (r : Run) → IsFrontBy batch lines 0 cores cores r r
-front_none batch lines cores r clients after = record { clients = clients; after = after; paid = λ packets p. p; done = λ t d. d }
+front_none batch lines cores r clients after = record { clients = clients; after = after; way = λ t w. w; done = λ t d. d }
 
-pub front_overruns : (batch count : ℕ) (lines : List Line) (a b : List Core) (r s t : Run) → IsFrontBy batch lines count a b r s → OverrunsBy b s t
-    → length r.replies ≡ 8 → AreAfter lines r a → Overruns lines r t
-front_overruns batch count lines a b r s t front over clients after =
+pub front_overruns : (batch count : ℕ) (lines rest : List Line) (line : Line) (a b : List Core) (r s t : Run) → drop count lines ≡ line ∷ rest → IsFrontBy batch lines count a b r s → OverrunsBy batch line b s t
+    → length r.replies ≡ 8 → AreAfter lines r a → Overruns lines batch lines r t
+front_overruns batch count lines rest line a b r s t here front over clients after =
     let f = front clients after in
-    let n = over lines f.clients f.after in
-    record { client = n.client; calls = n.calls; paid = λ packets p. n.paid packets (f.paid packets p) }
+    let n = over lines rest f.clients f.after in
+    record { client = n.client; calls = n.calls; way = f.way t (subst (λ ls. IsOnTheWay lines batch ls s t) (sym here) n.way) }
 
 -- ------ the whole run
 

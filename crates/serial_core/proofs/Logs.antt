@@ -9,7 +9,7 @@ use Rattle.dmx_calls.specs.Invocation.{Invocation}
 use Rattle.dmx_calls.specs.Log.{LogEntry, act_of}
 use Rattle.client_core.specs.declared.event.Event.{Event}
 use Rattle.client_core.specs.Commands.{call_of}
-use Rattle.client_core.proofs.Options.{same_some}
+use Rattle.lemmas.proofs.Options.{same_some}
 use Rattle.serial_core.specs.Nodes.{Told, Node, uncalled, answer_by, answered, log_in, log_of}
 use Rattle.serial_core.specs.SerialRun.{Run, fed_to_all, node_at, called}
 use Rattle.serial_core.specs.Left.{histories_in}

@@ -1,7 +1,7 @@
--- A client's calls stand in the logs, each once and in their order.
-use Rattle.std.proofs.Common.{◌≡◌, ◌≢◌, refl, sym, ap, subst, ◌∙◌, ℕ, ◌+◌, ◌<◌, ◌≤◌, Bool, true, false, nat_eq, List, [], ◌∷◌, ◌++◌, Some, length, take, ◌⊎◌, inl, inr, arith}
-use Rattle.std.specs.Prelude.{slice_get}
-use Rattle.std.proofs.lemmas.List.{map-append, length-map, take-append-le}
+-- A client's calls stand in the logs, each once and in their order, and an entry of the feeder behind one that waits.
+use Rattle.std.proofs.Common.{◌≡◌, ◌≢◌, refl, sym, ap, subst, ◌∙◌, ℕ, suc, ◌+◌, ◌<◌, ◌≤◌, Bool, true, false, nat_eq, List, [], ◌∷◌, ◌++◌, Some, length, length-append, take, ◌⊎◌, inl, inr, arith}
+use Rattle.std.specs.Prelude.{IsSome, slice_get}
+use Rattle.std.proofs.lemmas.List.{map-append, length-map, take-append-le, take_all}
 use Rattle.std.proofs.lemmas.Option.{slice_get_within}
 use Rattle.std.proofs.lemmas.Bool.Decides.{nat_tests}
 use Rattle.std.proofs.Math.Seq.{take-append_seam}
@@ -11,11 +11,23 @@ use Rattle.dmx_calls.specs.Log.{LogEntry, act_of}
 use Rattle.client_script.specs.declared.line.Line.{Line}
 use Rattle.client_core.specs.declared.event.Event.{Event}
 use Rattle.client_core.specs.Commands.{call_of}
-use Rattle.client_core.specs.Events.{next_event}
+use Rattle.client_core.specs.Events.{next_event, waits_on}
 use Rattle.script_run.specs.IsRun.{IsEvent, replies}
 use Rattle.lemmas.proofs.Lists.{at_before, at_last as got_last, at_end}
 
+-- right behind the entry stands one of the feeder's
+abbrev pub IsFedBehind : (logs : ℕ → List LogEntry) → LogEntry → Type 0
+IsFedBehind logs e = (x : LogEntry) × (slice_get (logs e.node) (e.place + 1) ≡ Some x) × (x.who ≡ 0)
+
+-- the entry is the last on its node, and the stream has not ended
+abbrev pub IsOpenBehind : (logs : ℕ → List LogEntry) → (ended : Bool) → LogEntry → Type 0
+IsOpenBehind logs ended e = (length (logs e.node) ≡ e.place + 1) × (ended ≡ false)
+
 module _ (lines : List Line) (client : ℕ) where
+  -- the client waits after these replies
+  abbrev pub Waits : List Response → Type 0
+  Waits got = IsSome (waits_on client lines got)
+
   -- it is call i of the client, and stands in these logs
   pub record IsMadeAt (logs : ℕ → List LogEntry) (before : List Response) (i : ℕ) (e : LogEntry) : Type 0 where
     pub step : e.step ≡ i
@@ -24,13 +36,15 @@ module _ (lines : List Line) (client : ℕ) where
     pub there : slice_get (logs e.node) e.place ≡ Some e
     pub event : IsEvent (next_event client lines before) e
 
-  -- the calls that a client has made, by the logs of the nodes and its replies
-  pub record AreMade (logs : ℕ → List LogEntry) (got : List Response) : Type 0 where
+  -- the calls that a client has made, by the logs of the nodes and its replies, where the stream has ended or not
+  pub record AreMade (logs : ℕ → List LogEntry) (ended : Bool) (got : List Response) : Type 0 where
     pub made : List LogEntry
     pub same : replies made ≡ got
     pub steps : (i : ℕ) (e : LogEntry) → slice_get made i ≡ Some e → IsMadeAt logs (replies (take i made)) i e
     pub only : (node place : ℕ) (e : LogEntry) → node ≤ DEMUX_NODES → slice_get (logs node) place ≡ Some e → e.who ≡ client + 1 → slice_get made e.step ≡ Some e
     pub in_order : (i j : ℕ) (e f : LogEntry) → i < j → slice_get made i ≡ Some e → slice_get made j ≡ Some f → e.node ≡ f.node → e.place < f.place
+    -- where the client waits after a call, the feeder's entry is behind it, or is to come before the client's next
+    pub paid : (i : ℕ) (e : LogEntry) → slice_get made i ≡ Some e → Waits (replies (take (suc i) made)) → IsFedBehind logs e ⊎ (suc i ≡ length made) × IsOpenBehind logs ended e
 
   -- ------ a call of another
 
@@ -49,8 +63,9 @@ module _ (lines : List Line) (client : ℕ) where
     go (inl old) = old
     go (inr new) = absurd (not (ap (λ y. y.who) new.1 ∙ mine))
 
-  pub others_made : (logs after : ℕ → List LogEntry) (got : List Response) → ((node : ℕ) → node ≤ DEMUX_NODES → IsOthers (logs node) (after node)) → AreMade logs got → AreMade after got
-  others_made logs after got others m = record {
+  pub others_made : (logs after : ℕ → List LogEntry) (ended over : Bool) (got : List Response) → ((node : ℕ) → node ≤ DEMUX_NODES → IsOthers (logs node) (after node))
+      → ((e : LogEntry) → e.node ≤ DEMUX_NODES → Waits got → IsOpenBehind logs ended e → IsFedBehind after e) → AreMade logs ended got → AreMade after over got
+  others_made logs after ended over got others pays m = record {
     made = m.made;
     same = m.same;
     steps = λ i e is.
@@ -58,14 +73,20 @@ module _ (lines : List Line) (client : ℕ) where
         record { step = at.step; who = at.who; within = at.within; there = stays (logs e.node) (after e.node) e.place e (others e.node at.within) at.there; event = at.event };
     only = λ node place e le is mine. m.only node place e le (was (logs node) (after node) place e (others node le) mine is) mine;
     in_order = m.in_order;
-  }
+    paid = λ i e is waits. inl (paid i e (m.steps i e is).within waits (m.paid i e is waits));
+  } where
+    paid : (i : ℕ) (e : LogEntry) → e.node ≤ DEMUX_NODES → Waits (replies (take (suc i) m.made)) → IsFedBehind logs e ⊎ (suc i ≡ length m.made) × IsOpenBehind logs ended e → IsFedBehind after e
+    paid i e le waits (inl (x, there, feeder)) = (x, stays (logs e.node) (after e.node) (e.place + 1) x (others e.node le) there, feeder)
+    paid i e le waits (inr (last, unended)) = pays e le (subst (λ rs. Waits rs) (ap replies (take_all (suc i) m.made (omega (arith, last))) ∙ m.same) waits) unended
 
   -- ------ a call of the client
 
-  module _ (logs after : ℕ → List LogEntry) (got : List Response) (x : LogEntry) (event : Event) (moment : ℕ) (m : AreMade logs got)
+  module _ (logs after : ℕ → List LogEntry) (got : List Response) (x : LogEntry) (event : Event) (moment : ℕ) (ended : Bool) (m : AreMade logs ended got)
       (stands : next_event client lines got ≡ Some event) (on : x.node ≡ event.node) (within : x.node ≤ DEMUX_NODES) (step : x.step ≡ length got) (who : x.who ≡ client + 1)
       (place : x.place ≡ length (logs x.node)) (act : x.act ≡ act_of (call_of event.want moment)) (here : after x.node ≡ logs x.node ++ x ∷ [])
-      (elsewhere : (node : ℕ) → node ≤ DEMUX_NODES → node ≢ x.node → after node ≡ logs node) where
+      (elsewhere : (node : ℕ) → node ≤ DEMUX_NODES → node ≢ x.node → after node ≡ logs node)
+      (fed : (e : LogEntry) → e.node ≤ DEMUX_NODES → e.who ≡ client + 1 → slice_get (logs e.node) e.place ≡ Some e → Waits got → IsOpenBehind logs ended e → ⊥)
+      (unended : Waits (got ++ x.response ∷ []) → ended ≡ false) where
     long : length m.made ≡ length got
     long = sym (length-map m.made (λ e. e.response)) ∙ ap length m.same
 
@@ -142,11 +163,35 @@ module _ (lines : List Line) (client : ℕ) where
         let nodes : e.node ≡ x.node = same ∙ sym (ap (λ y. y.node) b.1) in
         omega (arith, old, ap (λ n. length (logs n)) nodes, place, ap (λ y. y.place) b.1)
 
-    pub mine_made : AreMade after (got ++ x.response ∷ [])
+    -- each call before it is paid for, since the feeder has had its turn
+    old_paid : (i : ℕ) (e : LogEntry) → slice_get m.made i ≡ Some e → Waits (replies (take (suc i) m.made)) → IsFedBehind logs e ⊎ (suc i ≡ length m.made) × IsOpenBehind logs ended e → IsFedBehind after e
+    old_paid i e is waits (inl (y, there, feeder)) = (y, stays_here e.node (e.place + 1) y (m.steps i e is).within there, feeder)
+    old_paid i e is waits (inr (last, behind)) =
+        let at = m.steps i e is in
+        absurd (fed e at.within at.who at.there (subst (λ rs. Waits rs) (ap replies (take_all (suc i) m.made (omega (arith, last))) ∙ m.same) waits) behind)
+
+    count : length all ≡ length m.made + 1
+    count = length-append m.made (x ∷ [])
+
+    all_said : replies all ≡ got ++ x.response ∷ []
+    all_said = map-append (λ e. e.response) m.made (x ∷ []) ∙ ap (λ rs. rs ++ x.response ∷ []) m.same
+
+    new_paid : (i : ℕ) (e : LogEntry) → (slice_get m.made i ≡ Some e) ⊎ (i ≡ length m.made) × (x ≡ e) → Waits (replies (take (suc i) all)) → IsFedBehind after e ⊎ (suc i ≡ length all) × IsOpenBehind after ended e
+    new_paid i e (inl old) waits =
+        let taken : take (suc i) all ≡ take (suc i) m.made = take-append-le (suc i) m.made (x ∷ []) (omega (arith, slice_get_within m.made i e old)) in
+        let before : Waits (replies (take (suc i) m.made)) = subst (λ l. Waits (replies l)) taken waits in
+        inl (old_paid i e old before (m.paid i e old before))
+    new_paid i e (inr new) waits =
+        let long : length (after x.node) ≡ x.place + 1 = ap length here ∙ length-append (logs x.node) (x ∷ []) ∙ ap (λ n. n + 1) (sym place) in
+        let said : replies (take (suc i) all) ≡ got ++ x.response ∷ [] = ap replies (take_all (suc i) all (omega (arith, count, new.0))) ∙ all_said in
+        inr (omega (arith, count, new.0), subst (λ y. IsOpenBehind after ended y) new.1 (long, unended (subst (λ rs. Waits rs) said waits)))
+
+    pub mine_made : AreMade after ended (got ++ x.response ∷ [])
     mine_made = record {
       made = all;
-      same = map-append (λ e. e.response) m.made (x ∷ []) ∙ ap (λ rs. rs ++ x.response ∷ []) m.same;
+      same = all_said;
       steps = λ i e is. new_steps i e (at_end m.made x e i is);
       only = λ node place e le is mine. new_only e node place le (was_here node place e le is) mine;
       in_order = λ i j e f lt a b same. new_order i j e f lt (at_end m.made x e i a) (at_end m.made x f j b) same;
+      paid = λ i e is waits. new_paid i e (at_end m.made x e i is) waits;
     }

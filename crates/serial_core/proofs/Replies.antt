@@ -5,7 +5,7 @@ use Rattle.dmx_calls.specs.Response.{Response}
 use Rattle.client_script.specs.declared.line.Line.{Line}
 use Rattle.client_core.specs.declared.event.Event.{Event}
 use Rattle.client_core.specs.Events.{Standing, progress, next_event, next_of_line, standing_at}
-use Rattle.client_core.proofs.Options.{none_ne_some}
+use Rattle.std.proofs.lemmas.Option.{none-some}
 
 -- another client's replies stay, and so do those of a client that isn't there
 pub index_set : (xs : List (List Response)) (i j : ℕ) (y : List Response) → (slice_index_or (slice_set xs i y) j [] ≡ slice_index_or xs j []) ⊎ (j ≡ i) × (slice_index_or (slice_set xs i y) j [] ≡ y)
@@ -24,10 +24,10 @@ pub next_at_line : (client : ℕ) (lines : List Line) (line : ℕ) (rs : List Re
 next_at_line client lines line rs e is = go (progress client lines rs).standing is where
   by_line : (s : Standing) (b : Bool) → (if b then Some s.event else None) ≡ Some e → Some s.event ≡ Some e
   by_line s true at = at
-  by_line s false at = absurd (none_ne_some e at)
+  by_line s false at = absurd (none-some e at)
 
   go : (o : Option Standing) → standing_at line o ≡ Some e → option_map (λ s. s.event) o ≡ Some e
-  go None at = absurd (none_ne_some e at)
+  go None at = absurd (none-some e at)
   go (Some s) at = by_line s (nat_eq s.line line) at
 
 -- before the first call none has got a reply

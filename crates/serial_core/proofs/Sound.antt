@@ -1,4 +1,4 @@
--- Each node's history is legal, finds memory, and brings packets of the stream; and its log tells it.
+-- Each node's history is legal, finds memory, brings packets of the stream, and its end or not; and its log tells it.
 use Rattle.std.proofs.Common.{◌≡◌, ◌≢◌, refl, sym, ap, subst, ◌∙◌, ℕ, ◌≤◌, Bool, true, false, nat_eq, List, [], ◌∷◌, Option, Some, None, length, map, reverse, inl, inr}
 use Rattle.std.specs.Prelude.{if◌then◌else◌, slice_get}
 use Rattle.std.proofs.lemmas.List.{map-append, reverse-append}
@@ -6,8 +6,9 @@ use Rattle.dmx_calls.specs.declared.reply.Errno.{Errno}
 use Rattle.dmx_calls.specs.Invocation as call
 use Rattle.dmx_calls.specs.Invocation.{Invocation}
 use Rattle.dmx_calls.specs.declared.reply.Tap.{Tap as TapChange}
-use Rattle.dmx_calls.specs.Response.{Response, NoMemory}
-use Rattle.dmx_calls.specs.History.{History}
+use Rattle.dmx_calls.specs.Response.{Response, NoMemory, Again}
+use Rattle.dmx_calls.specs.History.{History, entry_of}
+use Rattle.dmx_calls.specs.Tenure.{has_ended}
 use Rattle.dmx_calls.specs.Rules.{Rules, rules_at}
 use Rattle.dmx_calls.specs.Facts.{Ledger, Facts, facts}
 use Rattle.dmx_calls.specs.Answer.{ReadTerms, read_terms, answer, with_call, response_unless, refusal_to, response_to, response_of_read, expired_of, open_response, done_dropping}
@@ -15,59 +16,66 @@ use Rattle.dmx_calls.specs.Legal.{IsLegalFor}
 use Rattle.dmx_calls.specs.Log.{LogEntry, IsOfStream, act_of, filled_entry, filled}
 use Rattle.dmx_calls.proofs.Reading.{read_each}
 use Rattle.dmx_calls.proofs.Telling.{fills}
-use Rattle.serial_core.specs.Nodes.{Told, Node, history_in, history_of, answered, log_in}
+use Rattle.serial_core.specs.Nodes.{Told, Node, history_in, history_of, answer_by, answered, log_in}
 use Rattle.lemmas.proofs.Lists.{at_end}
 use Rattle.serial_core.proofs.Logs.{entries_of, log_number}
 
--- ------ an answer is never want of memory
+-- ------ an answer is never want of memory, and Again says whether the stream has ended
 
-abbrev pub IsFound : Response → Type 0
-IsFound NoMemory = ⊥
-IsFound _ = Unit {0}
+abbrev pub IsFit : (ended : Bool) → Response → Type 0
+IsFit ended NoMemory = ⊥
+IsFit ended (Again has) = has ≡ ended
+IsFit ended _ = Unit {0}
 
-if_found : (b : Bool) (r q : Response) → IsFound r → IsFound q → IsFound (if b then r else q)
-if_found true r q x y = x
-if_found false r q x y = y
+module _ (ended : Bool) where
+  if_fit : (b : Bool) (r q : Response) → IsFit ended r → IsFit ended q → IsFit ended (if b then r else q)
+  if_fit true r q x y = x
+  if_fit false r q x y = y
 
-unless_found : (o : Option Errno) (r : Response) → IsFound r → IsFound (response_unless o r)
-unless_found None r is = is
-unless_found (Some errno) r is = tt
+  unless_fit : (o : Option Errno) (r : Response) → IsFit ended r → IsFit ended (response_unless o r)
+  unless_fit None r is = is
+  unless_fit (Some errno) r is = tt
 
-open_found : (o : Option ℕ) → IsFound (open_response o)
-open_found None = tt
-open_found (Some who) = tt
+  open_fit : (o : Option ℕ) → IsFit ended (open_response o)
+  open_fit None = tt
+  open_fit (Some who) = tt
 
-dropping_found : (o : Option Ledger) (tap : TapChange) → IsFound (done_dropping o tap)
-dropping_found None tap = tt
-dropping_found (Some l) tap = tt
+  dropping_fit : (o : Option Ledger) (tap : TapChange) → IsFit ended (done_dropping o tap)
+  dropping_fit None tap = tt
+  dropping_fit (Some l) tap = tt
 
-read_found : (t : ReadTerms) (o : Option Ledger) (expired : Option ℕ) (count : ℕ) → IsFound (response_of_read t o expired count)
-read_found t None expired count = tt
-read_found t (Some l) expired count = read_each IsFound t l expired count (λ x is none. tt) (λ moment is. tt) tt tt tt
+read_fit : (t : ReadTerms) (o : Option Ledger) (expired : Option ℕ) (count : ℕ) → IsFit t.has_ended (response_of_read t o expired count)
+read_fit t None expired count = tt
+read_fit t (Some l) expired count = read_each (IsFit t.has_ended) t l expired count (λ x is none. tt) (λ moment is. tt) tt refl tt
 
-response_found : (f g : Facts) (c : Invocation) → IsFound (response_to f g c)
-response_found f g call.Open = open_found f.owner
-response_found f g call.Close = dropping_found f.ledger _
-response_found f g (call.SetFilter p now) = dropping_found f.ledger _
-response_found f g (call.SetPes p now) = dropping_found f.ledger _
-response_found f g (call.AddPid n) = tt
-response_found f g (call.RemovePid n) = tt
-response_found f g (call.Start now) = dropping_found f.ledger _
-response_found f g call.Stop = tt
-response_found f g (call.SetSize n) = if_found (nat_eq n f.size) _ (done_dropping f.ledger _) tt (dropping_found f.ledger _)
-response_found f g (call.Read now count) = read_found (read_terms f) f.ledger (expired_of g.ledger) count
-response_found f g (call.Poll now) = tt
-response_found f g (call.Pass i first ps now) = tt
-response_found f g call.End = tt
-response_found f g (call.Attach n ps) = tt
-response_found f g (call.Detach n) = tt
+response_fit : (f g : Facts) (c : Invocation) → IsFit f.has_ended (response_to f g c)
+response_fit f g call.Open = open_fit f.has_ended f.owner
+response_fit f g call.Close = dropping_fit f.has_ended f.ledger _
+response_fit f g (call.SetFilter p now) = dropping_fit f.has_ended f.ledger _
+response_fit f g (call.SetPes p now) = dropping_fit f.has_ended f.ledger _
+response_fit f g (call.AddPid n) = tt
+response_fit f g (call.RemovePid n) = tt
+response_fit f g (call.Start now) = dropping_fit f.has_ended f.ledger _
+response_fit f g call.Stop = tt
+response_fit f g (call.SetSize n) = if_fit f.has_ended (nat_eq n f.size) _ (done_dropping f.ledger _) tt (dropping_fit f.has_ended f.ledger _)
+response_fit f g (call.Read now count) = read_fit (read_terms f) f.ledger (expired_of g.ledger) count
+response_fit f g (call.Poll now) = tt
+response_fit f g (call.Pass i first ps now) = tt
+response_fit f g call.End = tt
+response_fit f g (call.Attach n ps) = tt
+response_fit f g (call.Detach n) = tt
 
-found_not : (r : Response) → IsFound r → r ≢ NoMemory
-found_not r is same = subst IsFound same is
+answer_fit : (node : Rules) (h : History) (who : ℕ) (c : Invocation) → IsFit (has_ended h) (answer node h who c)
+unfolding answer facts
+answer_fit node h who c =
+    unless_fit (has_ended h) (refusal_to node.kind (facts node h) who c) (response_to (facts node h) (facts node (with_call h who c)) c) (response_fit (facts node h) (facts node (with_call h who c)) c)
 
 pub answer_found : (node : Rules) (h : History) (who : ℕ) (c : Invocation) → answer node h who c ≢ NoMemory
-unfolding answer
-answer_found node h who c = found_not (answer node h who c) (unless_found (refusal_to node.kind (facts node h) who c) (response_to (facts node h) (facts node (with_call h who c)) c) (response_found (facts node h) (facts node (with_call h who c)) c))
+answer_found node h who c same = subst (IsFit (has_ended h)) same (answer_fit node h who c)
+
+-- Again false is answered only where the stream has not ended
+pub answer_open : (node : Rules) (h : History) (who : ℕ) (c : Invocation) → answer node h who c ≡ Again false → has_ended h ≡ false
+answer_open node h who c same = sym (subst (IsFit (has_ended h)) same (answer_fit node h who c))
 
 -- ------ a node
 
@@ -77,16 +85,19 @@ module _ (packets : List (List ℕ)) (clients : ℕ) where
   AreGood [] = Unit {0}
   AreGood (told ∷ calls) = AreGood calls × (told.entry.who ≤ clients) × (told.entry.response ≢ NoMemory) × IsOfStream packets told.entry.invocation
 
-  pub record IsSound (node : ℕ) (n : Node) : Type 0 where
+  pub record IsSound (over : Bool) (node : ℕ) (n : Node) : Type 0 where
     pub number : n.number ≡ node
     pub legal : IsLegalFor (rules_at n.number) (history_of n)
     pub good : AreGood n.calls
+    pub ended : has_ended (history_of n) ≡ over
 
-  pub sound_answered : (node : ℕ) (n : Node) (who step : ℕ) (c : Invocation) → who ≤ clients → IsOfStream packets c → IsSound node n → IsSound node (answered who step c n)
-  sound_answered node n who step c le of s = record {
+  pub sound_answered : (ended over : Bool) (node : ℕ) (n : Node) (who step : ℕ) (c : Invocation) → who ≤ clients → IsOfStream packets c
+      → has_ended (entry_of who c (answer_by who c n) ∷ history_of n) ≡ over → IsSound ended node n → IsSound over node (answered who step c n)
+  sound_answered ended over node n who step c le of is s = record {
     number = s.number;
     legal = (s.legal, inl refl);
     good = (s.good, le, answer_found (rules_at n.number) (history_of n) who c, of);
+    ended = is;
   }
 
   -- what a log says of its entries
@@ -111,8 +122,8 @@ module _ (packets : List (List ℕ)) (clients : ℕ) where
     | inr new ↦ subst (IsPlaced number place) new.1 (log_number number calls, sym new.0, good.1, good.2)
   ]
 
-  pub sound_placed : (node : ℕ) (n : Node) → IsSound node n → (place : ℕ) (e : LogEntry) → slice_get (entries_of n) place ≡ Some e → IsPlaced node place e
-  sound_placed node n s place e is = subst (λ k. IsPlaced k place e) s.number (placed n.number n.calls s.good place e is)
+  pub sound_placed : (ended : Bool) (node : ℕ) (n : Node) → IsSound ended node n → (place : ℕ) (e : LogEntry) → slice_get (entries_of n) place ≡ Some e → IsPlaced node place e
+  sound_placed ended node n s place e is = subst (λ k. IsPlaced k place e) s.number (placed n.number n.calls s.good place e is)
 
   -- filled with the packets of the stream, a log is the history
   fills_log : (number : ℕ) (calls : List Told) → AreGood calls → filled packets (log_in number calls).entries ≡ history_in calls
@@ -124,5 +135,5 @@ module _ (packets : List (List ℕ)) (clients : ℕ) where
       ∙ ap (λ h. filled_entry packets x ∷ h) (fills_log number calls good.0)
       ∙ ap (λ c. record { who = told.entry.who; invocation = c; response = told.entry.response } ∷ history_in calls) (fills packets told.entry.invocation good.3)
 
-  pub sound_filled : (node : ℕ) (n : Node) → IsSound node n → filled packets (entries_of n) ≡ history_of n
-  sound_filled node n s = fills_log n.number n.calls s.good
+  pub sound_filled : (ended : Bool) (node : ℕ) (n : Node) → IsSound ended node n → filled packets (entries_of n) ≡ history_of n
+  sound_filled ended node n s = fills_log n.number n.calls s.good

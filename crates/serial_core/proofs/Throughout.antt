@@ -1,5 +1,5 @@
 -- After all lines, all commands are through.
-use Rattle.std.proofs.Common.{◌≡◌, refl, sym, ap, subst, ◌∙◌, ℕ, ◌+◌, Bool, true, false, nat_eq, List, [], ◌∷◌, ◌++◌, None, append_assoc, append-nil, arith, ◌⊎◌, inl, inr}
+use Rattle.std.proofs.Common.{◌≡◌, refl, sym, ap, subst, ◌∙◌, ℕ, Bool, true, false, nat_eq, List, [], ◌∷◌, ◌++◌, None, append_assoc, append-nil, arith, ◌⊎◌, inl, inr}
 use Rattle.std.specs.Prelude.{if◌then◌else◌, slice_index_or, slice_set, option_map}
 use Rattle.std.proofs.lemmas.Bool.Decides.{nat_tests}
 use Rattle.std.proofs.lemmas.Grind.{flat_map-append}
@@ -15,7 +15,7 @@ use Rattle.client_core.specs.Events.{progress, progress_from, no_slots, next_eve
 use Rattle.client_core.proofs.Numbering.{AreThrough, through_more, through_next}
 use Rattle.serial_core.specs.SerialRun.{Run, begun, fed, ticked, replies_of, reply_to, called, after_waiting, IsWorked, through, calls, AreDone, finished}
 use Rattle.serial_core.proofs.Replies.{index_set}
-use Rattle.serial_core.proofs.Keeping.{IsKept, kept_worked, fed_replies, finished_replies}
+use Rattle.serial_core.proofs.Keeping.{fed_replies, finished_replies, waiting_replies}
 
 -- these lines of a client are through
 abbrev pub IsThrough : (client : ℕ) → List Line → List Response → Type 0
@@ -46,15 +46,11 @@ abbrev in_line : (line : ℕ) → Target → Verb → Bool → List ClientComman
 in_line line target verb b = if b then record { line = line; target = target; verb = verb } ∷ [] else []
 
 module _ (lines : List Line) (batch : ℕ) where
-  steps : (client : ℕ) (before : List Line) (clients : ℕ) → IsKept lines batch clients (λ r. IsThrough client before (replies_of client r))
-  steps client before clients = record {
-    feeds = record { passes = λ r size fit le is. is; ends = λ r none unended is. is };
-    ticks = λ r time is. is;
-    calls = λ r who e lt stands was is. through_called client before who e (after_waiting lines batch who r) is;
-  }
-
   through_worked : (client : ℕ) (before : List Line) (who line : ℕ) (r s : Run) → IsWorked lines batch who line r s → IsThrough client before (replies_of client r) → IsThrough client before (replies_of client s)
-  through_worked client before who line r s w is = kept_worked lines batch (who + 1) (λ r. IsThrough client before (replies_of client r)) (steps client before (who + 1)) who line r s (omega arith) w is
+  through_worked client before who line r s (through _ none) is = is
+  through_worked client before who line r s (calls _ _ e at w) is =
+      through_worked client before who line _ s w
+      (through_called client before who e (after_waiting lines batch who r) (subst (λ rs. IsThrough client before (slice_index_or rs client [])) (sym (waiting_replies lines batch who r)) is))
 
   worked_none : (who line : ℕ) (r s : Run) → IsWorked lines batch who line r s → next_of_line who lines line (replies_of who s) ≡ None
   worked_none who line r s (through _ none) = none

@@ -13,7 +13,8 @@ pub fn what_is_tried_is_the_run()
     ensures { TriedIsRun }
 {}
 
-/// Each client of a serial run makes at most `most_calls` calls, for its own commands and the bytes of the stream's packets.
+/// Each client of the serial run of a script's lines makes at most `most_calls` calls, for its own commands and the bytes
+/// of the stream's packets.
 pub fn clients_are_within_budget()
     ensures { IsWithinBudget }
 {}

@@ -13,10 +13,11 @@
 //! What is proved: `run_steps` gives the histories, the outcomes and the head of the serial run of the stream, which is what
 //! stood ahead in the puller and the bytes that were taken; the source failed just where its count rose, and else it has
 //! nothing left. However it ends, at most one read has failed: after it nothing more is read. `TooLong` comes only where so
-//! many reads were made, or where the commands and the bytes allow a client so many calls. Where the run stops early, what was
-//! taken of the source is told as the puller's pulls tell it. Laws of each serial run: its 33 histories are legal, every packet
-//! passes each node once and in order, and no client makes more calls than its commands and the bytes allow. Worked runs are
-//! computed by the check.
+//! many reads were made, or where the commands and the bytes allow a client so many calls. Where the run stops early, what
+//! was taken of the source is told as the puller's pulls tell it. Laws of each serial run: its 33 histories are legal, and
+//! every packet passes each node once and in order. Of a script's lines it is a run as `script_run` says it, and each of its
+//! moments is a run so far: so no client makes more calls than its commands and the bytes allow. Worked runs are computed by
+//! the check.
 //!
 //! What is only tested, in `run_tests`: that memory isn't refused where there is enough of it.
 //!

@@ -31,7 +31,7 @@ impl Runner {
         ensures moves { OnOk result (Moves (S.end source.old) (S.end source.new) self.old self.new (IsLineBy batch asked cores.old cores.new)) }
         ensures draws { OnErr result (HasDrawn (S.end source.old) (S.end source.new) self.old.puller self.new.puller) }
         ensures too_long { (turns : ℕ) → IsErrOf result (Stop.TooLong turns) → (turns ≡ 2 ^ 39)
-            × Moves (S.end source.old) (S.end source.new) self.old self.new (OverrunsBy cores.old) }
+            × Moves (S.end source.old) (S.end source.new) self.old self.new (OverrunsBy batch asked cores.old) }
         ensures made { OnOk result (MadeAtMost self.new (calls_by cores.new)) }
         ensures calls { OnOk result (AreInBudget cores.new) }
         ensures moment { OnOk result (self.new.moment ≤ self.old.moment + 2 ^ 32) }
@@ -67,7 +67,7 @@ impl Runner {
         ensures moves { OnOk result (Moves (S.end source.old) (S.end source.new) self.old self.new (IsFrontBy batch lines.now (length lines.now) cores.old cores.new)) }
         ensures draws { OnErr result (HasDrawn (S.end source.old) (S.end source.new) self.old.puller self.new.puller) }
         ensures too_long { (turns : ℕ) → IsErrOf result (Stop.TooLong turns) → (turns ≡ 2 ^ 39)
-            × Moves (S.end source.old) (S.end source.new) self.old self.new (λ r s. length r.replies ≡ 8 → AreAfter lines.now r cores.old → Overruns lines.now r s) }
+            × Moves (S.end source.old) (S.end source.new) self.old self.new (λ r s. length r.replies ≡ 8 → AreAfter lines.now r cores.old → Overruns lines.now batch lines.now r s) }
         ensures made { OnOk result (MadeAtMost self.new (2 ^ 42)) }
     {
         'lines: for line in lines {
@@ -90,7 +90,7 @@ impl Runner {
         ensures moves { OnOk result (Moves (S.end source.old) (S.end source.new) self.old self.new (IsWholeBy batch lines.now cores.old cores.new)) }
         ensures draws { OnErr result (HasDrawn (S.end source.old) (S.end source.new) self.old.puller self.new.puller) }
         ensures too_long { (turns : ℕ) → IsErrOf result (Stop.TooLong turns) → (turns ≡ 2 ^ 39)
-            × Moves (S.end source.old) (S.end source.new) self.old self.new (λ r s. length r.replies ≡ 8 → AreAfter lines.now r cores.old → Overruns lines.now r s) }
+            × Moves (S.end source.old) (S.end source.new) self.old self.new (λ r s. length r.replies ≡ 8 → AreAfter lines.now r cores.old → Overruns lines.now batch lines.now r s) }
         ensures ended { OnOk result (self.new.nodes.has_ended ≡ true) }
     {
         self.lines(source, batch, cores, lines, steps)?;

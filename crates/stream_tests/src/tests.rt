@@ -33,6 +33,17 @@ fn bytes_of(alloc: Global, parts: &[Part], times: u32) -> Result<Vec<u8>, NoMemo
     Ok(bytes)
 }
 
+// 70 packets, of whose payloads the first is of bytes 0, the next of bytes 1, and so on, and a byte 00.
+fn long_stream(alloc: Global) -> Result<Vec<u8>, NoMemory> {
+    let mut stream = Vec::new(alloc);
+    for i in 0..70u8 {
+        stream.extend_from_slice(&[0x47, 0x01, 0x00, 0x10 + i % 16])?;
+        stream.extend_from_slice(&[i; 184])?;
+    }
+    stream.push(0x00)?;
+    Ok(stream)
+}
+
 // The packet that begins with these bytes, and whose other bytes are all `fill`. None where the first isn't the sync byte.
 fn packet_of(front: [u8; 6], fill: u8) -> Option<Packet> {
     let mut bytes = [fill; PACKET_LEN];

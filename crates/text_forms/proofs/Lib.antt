@@ -8,3 +8,4 @@ pub mod PlacesRead
 pub mod Values
 pub mod Visible
 pub mod WordsRead
+pub mod Short

@@ -1,5 +1,5 @@
 // The names of clients, slots and nodes.
-ghost use Rattle.std.specs.Prelude.{◌≡◌, ◌+◌, ◌<◌, ◌≤◌, ◌∷◌, ◌++◌, IfSome, OnOk, OnErr};
+ghost use Rattle.std.specs.Prelude.{◌≡◌, ◌+◌, ◌<◌, ◌≤◌, ◌∷◌, ◌++◌, IfSome, OnOk, OnErr, length, vec_len, vec_capacity};
 ghost use Rattle.std.specs.Fmt.{decimal};
 ghost use Rattle.text_forms.specs.Names.{numbered as number_behind, client_text, client_named as client_of_word, demux_text, demux_named as demux_of_word, slot_text, slot_named as slot_of_word, who_text, who_named as who_of_word, node_text, node_named as node_of_word};
 
@@ -37,6 +37,9 @@ fn numbered(letter: u8, most: u32, word: &[u8]) -> Option<u32>
 // Appends a letter and a number.
 fn write_numbered(out: &mut Vec<u8>, letter: u8, n: u32) -> Result<(), NoMemory>
     ensures appended { OnOk result (out.new.items ≡ out.old.items ++ letter ∷ decimal n) }
+    ensures full { OnErr result (vec_capacity out.old < vec_len out.old + 20) }
+    ensures few { vec_len out.new ≤ vec_len out.old + 20 }
+    ensures room { vec_capacity out.old ≤ vec_capacity out.new }
     ensures unchanged { OnErr result (out.new.items ≡ out.old.items) }
 {
     out.reserve(MOST_BYTES)?;
@@ -53,6 +56,9 @@ fn write_numbered(out: &mut Vec<u8>, letter: u8, n: u32) -> Result<(), NoMemory>
 /// `NoMemory`; `out` is then as it was.
 pub fn write_client(out: &mut Vec<u8>, client: u32) -> Result<(), NoMemory>
     ensures appended { OnOk result (out.new.items ≡ out.old.items ++ client_text client) }
+    ensures full { OnErr result (vec_capacity out.old < vec_len out.old + 20) }
+    ensures few { vec_len out.new ≤ vec_len out.old + 20 }
+    ensures room { vec_capacity out.old ≤ vec_capacity out.new }
     ensures unchanged { OnErr result (out.new.items ≡ out.old.items) }
 {
     write_numbered(out, b'c', client)
@@ -73,6 +79,9 @@ pub fn client_named(word: &[u8]) -> Option<u32>
 /// `NoMemory`; `out` is then as it was.
 pub fn write_demux(out: &mut Vec<u8>, node: u32) -> Result<(), NoMemory>
     ensures appended { OnOk result (out.new.items ≡ out.old.items ++ demux_text node) }
+    ensures full { OnErr result (vec_capacity out.old < vec_len out.old + 20) }
+    ensures few { vec_len out.new ≤ vec_len out.old + 20 }
+    ensures room { vec_capacity out.old ≤ vec_capacity out.new }
     ensures unchanged { OnErr result (out.new.items ≡ out.old.items) }
 {
     write_numbered(out, b'n', node)
@@ -93,6 +102,9 @@ pub fn demux_named(word: &[u8]) -> Option<u32>
 /// `NoMemory`; `out` is then as it was.
 pub fn write_slot(out: &mut Vec<u8>, slot: u32) -> Result<(), NoMemory>
     ensures appended { OnOk result (out.new.items ≡ out.old.items ++ slot_text slot) }
+    ensures full { OnErr result (vec_capacity out.old < vec_len out.old + 20) }
+    ensures few { vec_len out.new ≤ vec_len out.old + 20 }
+    ensures room { vec_capacity out.old ≤ vec_capacity out.new }
     ensures unchanged { OnErr result (out.new.items ≡ out.old.items) }
 {
     write_numbered(out, b'h', slot)
@@ -114,6 +126,9 @@ pub fn slot_named(word: &[u8]) -> Option<u32>
 #[tactic(auto, unfolding(crate::specs::Names::who_text))]
 pub fn write_who(out: &mut Vec<u8>, who: u32) -> Result<(), NoMemory>
     ensures appended { OnOk result (out.new.items ≡ out.old.items ++ who_text who) }
+    ensures full { OnErr result (vec_capacity out.old < vec_len out.old + 20) }
+    ensures few { vec_len out.new ≤ vec_len out.old + 20 }
+    ensures room { vec_capacity out.old ≤ vec_capacity out.new }
     ensures unchanged { OnErr result (out.new.items ≡ out.old.items) }
 {
     if who == 0 {
@@ -144,6 +159,9 @@ pub fn who_named(word: &[u8]) -> Option<u32>
 #[tactic(auto, unfolding(crate::specs::Names::node_text))]
 pub fn write_node(out: &mut Vec<u8>, node: u32) -> Result<(), NoMemory>
     ensures appended { OnOk result (out.new.items ≡ out.old.items ++ node_text node) }
+    ensures full { OnErr result (vec_capacity out.old < vec_len out.old + 20) }
+    ensures few { vec_len out.new ≤ vec_len out.old + 20 }
+    ensures room { vec_capacity out.old ≤ vec_capacity out.new }
     ensures unchanged { OnErr result (out.new.items ≡ out.old.items) }
 {
     if node == DEMUX_NODES {

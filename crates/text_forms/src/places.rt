@@ -63,6 +63,9 @@ fn put_filter_place(out: &mut Vec<u8>, filter: &SectionFilter, i: u32)
 /// `NoMemory`; `out` is then as it was.
 pub fn write_filter(out: &mut Vec<u8>, filter: &SectionFilter) -> Result<(), NoMemory>
     ensures appended { OnOk result (out.new.items ≡ out.old.items ++ filter_text filter.now) }
+    ensures full { OnErr result (vec_capacity out.old < vec_len out.old + 192) }
+    ensures few { vec_len out.new ≤ vec_len out.old + 192 }
+    ensures room { vec_capacity out.old ≤ vec_capacity out.new }
     ensures unchanged { OnErr result (out.new.items ≡ out.old.items) }
 {
     out.reserve(PLACES as usize * MOST_BYTES)?;

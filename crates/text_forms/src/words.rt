@@ -1,5 +1,5 @@
 // Words, and those that name inputs and outputs.
-ghost use Rattle.std.specs.Prelude.{◌≡◌, ◌++◌, OnOk, OnErr};
+ghost use Rattle.std.specs.Prelude.{◌≡◌, ◌++◌, OnOk, OnErr, ◌+◌, ◌<◌, ◌≤◌, length, vec_len, vec_capacity};
 ghost use Rattle.dmx_calls.specs.Names.{input_text, output_text};
 ghost use Rattle.text_forms.specs.Words.{is_word as is_this_word, input_named as input_of_word, output_named as output_of_word};
 
@@ -18,8 +18,12 @@ pub fn is_word(word: &[u8], text: &str) -> bool
 /// # Errors
 ///
 /// `NoMemory`; `out` is then as it was.
+#[tactic(auto, using(crate::proofs::Short::short_input))]
 pub fn write_input(out: &mut Vec<u8>, input: Input) -> Result<(), NoMemory>
     ensures appended { OnOk result (out.new.items ≡ out.old.items ++ input_text input) }
+    ensures full { OnErr result (vec_capacity out.old < vec_len out.old + 20) }
+    ensures few { vec_len out.new ≤ vec_len out.old + 20 }
+    ensures room { vec_capacity out.old ≤ vec_capacity out.new }
     ensures unchanged { OnErr result (out.new.items ≡ out.old.items) }
 {
     out.extend_from_slice(input.name().as_bytes())
@@ -30,8 +34,12 @@ pub fn write_input(out: &mut Vec<u8>, input: Input) -> Result<(), NoMemory>
 /// # Errors
 ///
 /// `NoMemory`; `out` is then as it was.
+#[tactic(auto, using(crate::proofs::Short::short_output))]
 pub fn write_output(out: &mut Vec<u8>, output: Output) -> Result<(), NoMemory>
     ensures appended { OnOk result (out.new.items ≡ out.old.items ++ output_text output) }
+    ensures full { OnErr result (vec_capacity out.old < vec_len out.old + 20) }
+    ensures few { vec_len out.new ≤ vec_len out.old + 20 }
+    ensures room { vec_capacity out.old ≤ vec_capacity out.new }
     ensures unchanged { OnErr result (out.new.items ≡ out.old.items) }
 {
     out.extend_from_slice(output.name().as_bytes())

@@ -1,3 +1,4 @@
 pub mod Batch
 pub mod Places
+pub mod Room
 pub mod Inside

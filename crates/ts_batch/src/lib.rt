@@ -1,18 +1,22 @@
 //! Batches: stretches of a stream's packets that pass the nodes together.
 //!
 //! A batch has 1 to 64 packets and the number of its first packet in the stream. It is made once, shared behind an
-//! `Arc`, and never changed or copied; it holds the memory of its packets, each copied once, and of an index of at most
-//! 128 places by PID.
+//! `Arc`, and never changed or copied; it holds the memory of its packets and of an index of at most 128 places by PID.
+//! A `BatchRoom` gathers packets, as a cutter finds them, in the memory that becomes the batch's: so each packet is
+//! copied once, when it is put into the room. Others are copied into a batch that is made of them.
 //!
 //! What a contract sees: the record of `first` and the list of `packets`, each packet as the list of its bytes; a
-//! `PlaceSet` as a list of marks, one for each place.
+//! `BatchRoom` as the list of its packets and how many it has room for; a `PlaceSet` as a list of marks, one for each
+//! place.
 //!
-//! What is proved: `Batch::of` and `Batch::of_slice` give the batch of these packets, or answer want of memory. `first`
-//! and `count` are the first packet's number and the number of packets. `packet` gives the packet in a place and raises
-//! the counter of steps by one. `places` gives the places of the packets that a PID names, ascending: those that have
-//! it, and all for PID 0x2000. It takes no memory and no step, and neither do the calls of `PlaceSet`, which collects
-//! places: `add` adds those of the packets that a PID names, and `add_all` those of the packets that some PID of a set
-//! names. Every batch has 1 to 64 packets, each of 188 bytes with the sync byte in front.
+//! What is proved: `Batch::of`, `Batch::of_slice` and `Batch::of_front` give the batch of these packets, or answer want of
+//! memory. `of_front` leaves just the packets behind the batch's in the room, and all of them where memory was refused.
+//! A room has at most 64 packets, and never more than there is room for. `first` and `count` are the first packet's
+//! number and the number of packets. `packet` gives the packet in a place and raises the counter of steps by one.
+//! `places` gives the places of the packets that a PID names, ascending: those that have it, and all for PID 0x2000. It
+//! takes no memory and no step, and neither do the calls of `PlaceSet`, which collects places: `add` adds those of the
+//! packets that a PID names, and `add_all` those of the packets that some PID of a set names. Every batch has 1 to 64
+//! packets, each of 188 bytes with the sync byte in front.
 //!
 //! There is no other way to the bytes of a packet than `packet`, so the counter of steps bounds how many were looked at.
 //!
@@ -21,14 +25,16 @@
 
 mod index;
 mod place_set;
+mod room;
 
-ghost use Rattle.std.specs.Prelude.{◌≡◌, ◌<◌, ◌≤◌, ◌+◌, ◌^◌, length, All, IfOk, slice_get};
+ghost use Rattle.std.specs.Prelude.{◌≡◌, ◌<◌, ◌≤◌, ◌+◌, ◌^◌, [], length, take, drop, All, IfOk, OnOk, OnErr, slice_get};
 ghost use Rattle.ts_packet.specs.Fields.{IsPacket};
 ghost use Rattle.ts_batch.specs.Batch.{IsBatch};
 ghost use Rattle.ts_batch.specs.Places.{places_of};
 
 use index::Index;
 pub use place_set::PlaceSet;
+pub use room::BatchRoom;
 use std::alloc::{AllocError as NoMemory, Global};
 use std::marker::Model;
 use std::sync::Arc;
@@ -84,6 +90,59 @@ impl Batch {
             index: Index::of(alloc, packets)?,
         };
         Ok(Arc::new(alloc, batch)?)
+    }
+
+    /// The batch of the first `count` packets of the room, 1 to all of them, the first of which has the number `first` in
+    /// the stream. The numbers fit in 64 bits. Where the room has no more, its memory becomes the batch's and no packet is
+    /// copied; else each of these is copied once more, and the others stay. Where memory is refused, all stay. Room has to be
+    /// made anew before the next packet.
+    pub fn of_front(
+        alloc: Global,
+        first: u64,
+        room: &mut BatchRoom,
+        count: u32,
+    ) -> Result<Arc<Batch>, NoMemory>
+        requires some { 0 < count }
+        requires within { count ≤ length room.old.packets }
+        requires numbered { first + 64 < 2 ^ 64 }
+        ensures batch { IfOk result (λ batch. batch.value ≡ record { first = first; packets = take count room.old.packets }) }
+        ensures given { OnOk result (room.new.packets ≡ drop count room.old.packets) }
+        ensures refused { OnErr result (room.new.packets ≡ room.old.packets) }
+        ensures most { room.new.most ≤ room.old.most }
+    {
+        if count < room.len() {
+            let batch = Batch::of_slice(alloc, first, &room.as_slice()[..count as usize])?;
+            room.drop_front(count);
+            return Ok(batch);
+        }
+        Batch::of_room(alloc, first, room)
+    }
+
+    // The batch of all packets of the room, which takes their memory.
+    fn of_room(alloc: Global, first: u64, room: &mut BatchRoom) -> Result<Arc<Batch>, NoMemory>
+        requires some { 0 < length room.old.packets }
+        requires numbered { first + 64 < 2 ^ 64 }
+        ensures batch { IfOk result (λ batch. batch.value ≡ record { first = first; packets = room.old.packets }) }
+        ensures given { OnOk result (room.new.packets ≡ []) }
+        ensures refused { OnErr result (room.new.packets ≡ room.old.packets) }
+        ensures most { room.new.most ≤ room.old.most }
+    {
+        let index = Index::of(alloc, room.as_slice())?;
+        let packets = room.take(alloc);
+        match Arc::new(
+            alloc,
+            Batch {
+                first,
+                packets,
+                index,
+            },
+        ) {
+            Ok(batch) => Ok(batch),
+            Err(refused) => {
+                room.put_back(refused.value.packets);
+                Err(NoMemory)
+            }
+        }
     }
 
     /// The number of the batch's first packet in the stream, counted from 0.

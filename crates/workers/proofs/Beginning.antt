@@ -2,7 +2,7 @@
 use Rattle.std.proofs.Common.{◌≡◌, ◌≢◌, inr, ℕ, Bool, ◌+◌, ◌≤◌, ◌^◌, List, [], ◌∷◌, ◌++◌, length, map, Some, refl, ap, sym, ◌∙◌, subst, arith}
 use Rattle.std.specs.Prelude.{slice_get, option_map, All, IsTrue}
 use Rattle.emu_io.specs.Ends.{SourceEnd}
-use Rattle.std.proofs.lemmas.Option.{slice_get-map}
+use Rattle.std.proofs.lemmas.Option.{slice_get-map, slice_get_within}
 use Rattle.std.proofs.lemmas.List.Elements.{All-nil}
 use Rattle.atomic_table.specs.Seated.{TableId}
 use Rattle.node_lock.specs.declared.view.View.{View}
@@ -13,12 +13,13 @@ use Rattle.dmx_calls.specs.Response.{NoMemory}
 use Rattle.dmx_calls.specs.declared.histories.Fed.{Fed}
 use Rattle.dmx_calls.specs.declared.log.Entry.{Entry as ToldEntry}
 use Rattle.client_script.specs.declared.line.Line.{Line}
+use Rattle.client_core.specs.declared.stop.TheConstants.{MOST_CALLS}
 use Rattle.client_core.specs.Inside.Core.{IsAfter}
 use Rattle.script_run.specs.IsRun.{replies}
 use Rattle.script_run.specs.WholeRun.{IsGiven}
 use Rattle.adapter.specs.Callers.{Caller, IsFreshCaller, AreFreshCallers, AreAllCallers}
 use Rattle.adapter.specs.Rows.{Fits}
-use Rattle.adapter.proofs.Lists.{at_place, place_below, at_before, at_last}
+use Rattle.adapter.proofs.Lists.{at_place, at_before, at_last}
 use Rattle.trace_merge.specs.Merging.{AreOnNodes}
 use Rattle.workers.specs.declared.client_worker.ClientWorker.{ClientWorker}
 use Rattle.workers.specs.declared.feeder_worker.FeederWorker.{FeederWorker}
@@ -33,7 +34,7 @@ module _ (locks : List TableId) (callers who left : ℕ) (c : Caller) (f : IsFre
   -- a pass that has made no call
   pub fresh_pass : (i : ℕ) (p : TableId × View Entry) → slice_get c.passes i ≡ Some p → (p.1.number ≡ who) × (p.1.own ≡ [])
   fresh_pass i p at =
-      let low = place_below c.passes i p at in let long = f.row.0 in let l = at_place locks i (omega arith) in
+      let low = slice_get_within c.passes i p at in let long = f.row.0 in let l = at_place locks i (omega arith) in
       let e = f.row.1 i l.0 p l.1 at in (ap (λ (z : TableId × View Entry). z.1.number) e, ap (λ (z : TableId × View Entry). z.1.own) e)
 
   logged_none : IsLogged c []
@@ -84,7 +85,7 @@ module _ (lines : List Line) (locks : List TableId) (n : ℕ) (feeder : Caller) 
       after = subst (λ (es : List ToldEntry). IsAfter c lines (replies (map told_entry es)) w.core) (sym k.log) k.core;
     }
 
-    pub begun_few : w.core.step ≤ 549755813888
+    pub begun_few : w.core.step ≤ MOST_CALLS
     begun_few = let k = b.each c w at in let none = k.core.steps in omega (arith, none)
 
   -- the feeder before its first call

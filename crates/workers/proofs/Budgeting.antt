@@ -2,6 +2,7 @@
 use Rattle.std.proofs.Common.{◌≡◌, refl, sym, ap, subst, ◌∙◌, ℕ, ◌*◌, ◌<◌, ◌≤◌, Bool, true, false, List, [], ◌∷◌, ◌++◌, length, slice_get, Some, inl, inr, arith}
 use Rattle.std.specs.Prelude.{◌⊎◌}
 use Rattle.std.proofs.lemmas.Option.{slice_get_within}
+use Rattle.lemmas.proofs.Lists.{has_at}
 use Rattle.dmx_calls.specs.declared.histories.Fed.{Fed}
 use Rattle.dmx_calls.specs.declared.limits.TheConstants.{DEMUX_NODES}
 use Rattle.dmx_calls.specs.History.{Entry}
@@ -18,7 +19,6 @@ use Rattle.workers.specs.Budget.{IsRunning, CallsAreWithinBudget, FewBytesAreFew
 use Rattle.workers.specs.Feeding.{HasMade, fed_entries}
 use Rattle.workers.specs.Telling.{IsLoggedIn}
 use Rattle.workers.proofs.Calls.{has_all}
-use Rattle.workers.proofs.Members.{has_at}
 use Rattle.workers.proofs.Feeders.{behind_of, acts_of, fed_is}
 use Rattle.workers.proofs.Owning.{Moment}
 use Rattle.workers.proofs.Merged.{are_woven}

@@ -9,8 +9,10 @@ use Rattle.std.proofs.lemmas.Map.Keys.{IsDistinct-cons, IsDistinct-IsPermutation
 use Rattle.std.proofs.lemmas.Option.{get_or_from_slice_get, slice_get_within, slice_get-get_or}
 use mathlib.Core.Logic.{dite}
 use native.Mathlib.Decide.{ℕ_discrete}
-use Rattle.node_lock.specs.Inside.Lists.{Has, Once}
-use Rattle.node_lock.proofs.Views.{has_left, has_right, has_either, once_append}
+use Rattle.lemmas.specs.Lists.{Has}
+use Rattle.lemmas.proofs.Lists.{has_at, has_either, has_left, has_right}
+use Rattle.node_lock.specs.Inside.Lists.{Once}
+use Rattle.node_lock.proofs.Views.{once_append}
 use Rattle.dmx_calls.specs.declared.log.Entry.{Entry as ToldEntry}
 use Rattle.dmx_calls.specs.Calls.{told_entry}
 use Rattle.trace_merge.specs.Merging.{is_on, all_of}
@@ -18,7 +20,7 @@ use Rattle.trace_merge.specs.Inside.Placing.{entries_on}
 use Rattle.lemmas.proofs.Tests.{nat_eq_turned}
 use Rattle.trace_merge.proofs.Standing.{Ascends, ascends}
 use Rattle.workers.proofs.Weaves.{Rises}
-use Rattle.workers.proofs.Members.{at_has, has_at}
+use Rattle.workers.proofs.Members.{at_has}
 
 -- ------ members
 

@@ -2,8 +2,8 @@
 use Rattle.std.proofs.Common.{◌≡◌, ⊎_elim, ℕ, suc, List, [], ◌∷◌, slice_get, Some, refl}
 use Rattle.atomic_table.specs.Seated.{TableId}
 use Rattle.node_lock.specs.declared.view.View.{View}
-use Rattle.node_lock.specs.Inside.Lists.{Has}
-use Rattle.node_lock.proofs.Views.{has_either}
+use Rattle.lemmas.specs.Lists.{Has}
+use Rattle.lemmas.proofs.Lists.{has_either}
 use Rattle.dmx_calls.specs.History.{Entry}
 use Rattle.adapter.specs.Rows.{all_calls}
 

@@ -1,5 +1,6 @@
 -- What the threads of a run leave are the histories of a run of the script.
 use Rattle.std.proofs.Common.{◌≡◌, ℕ, Bool, true, ◌<◌, ◌≤◌, List, [], ◌∷◌, ◌++◌, length, map, sum, slice_get, Some, None, ap, sym, ◌∙◌, subst, refl, arith}
+use Rattle.std.proofs.lemmas.Option.{slice_get_within}
 use Rattle.atomic_table.specs.Seated.{TableId}
 use Rattle.node_lock.specs.declared.view.View.{View}
 use Rattle.dmx_calls.specs.declared.histories.Fed.{Fed}
@@ -16,9 +17,9 @@ use Rattle.script_run.specs.SoFar.{others as Others, IsSoFar, IsOver}
 use Rattle.script_run.proofs.Ending.{runs_end, are_accounted}
 use Rattle.adapter.specs.Callers.{Caller}
 use Rattle.adapter.specs.Ends.{HaveHistories}
-use Rattle.adapter.proofs.Lists.{at_place, place_below}
+use Rattle.adapter.proofs.Lists.{at_place}
 use Rattle.workers.specs.Feeding.{batch_of}
-use Rattle.workers.specs.Worked.{HasWorked, AreWorked}
+use Rattle.workers.specs.Left.{HasWorked, AreWorked}
 use Rattle.workers.specs.Telling.{IsLoggedIn, WorkersHaveCalled, steps_from}
 use Rattle.workers.proofs.Members.{steps_tile}
 use Rattle.workers.proofs.Batches.{total_is}
@@ -31,7 +32,7 @@ became : (lines : List Line) (most : ℕ) (may : ℕ → Bool) (stream : List (L
     → AreWorked lines most may stream feeder fs others books told → (c : ℕ) (client : Caller) (log : List LogEntry) → slice_get others c ≡ Some client → slice_get books c ≡ Some log
     → (out : List Outcome) × (slice_get told c ≡ Some out) × HasWorked lines c may client log out
 became lines most may stream feeder fs others books told w c client log at book =
-    let out = at_place told c (omega (arith, place_below books c log book, w.logs, w.outcomes)) in
+    let out = at_place told c (omega (arith, slice_get_within books c log book, w.logs, w.outcomes)) in
     (out.0, out.1, w.each c client log out.0 at book out.1)
 
 -- what the threads leave was called so
@@ -63,7 +64,7 @@ module _ (lines : List Line) (most : ℕ) (may : ℕ → Bool) (stream : List (L
     -- what became of the client of a log
     out_of : (c : ℕ) (log : List LogEntry) → slice_get books c ≡ Some log → (out : List Outcome) × (slice_get told c ≡ Some out) × (next_event c lines (replies log) ≡ None) × (out ≡ outcomes c lines (replies log))
     out_of c log book =
-        let client = at_place others c (omega (arith, place_below books c log book, w.logs, w.clients)) in
+        let client = at_place others c (omega (arith, slice_get_within books c log book, w.logs, w.clients)) in
         let b = became lines most may stream feeder fs others books told w c client.0 log client.1 book in
         (b.0, b.1, b.2.ends, b.2.outcomes)
 

@@ -7,7 +7,7 @@ use mathlib.Core.Option.{some, some-injective, some-ne-none}
 use mathlib.Core.List.{IsPrefix}
 use native.Mathlib.Decide.{ℕ_discrete}
 use lib.ListN.{get_elem?}
-use Rattle.node_lock.specs.Inside.Lists.{Has}
+use Rattle.lemmas.specs.Lists.{Has}
 use Rattle.node_lock.proofs.Views.{prefix_at}
 use Rattle.dmx_calls.specs.declared.histories.Fed.{Fed}
 use Rattle.dmx_calls.specs.History.{Entry}

@@ -4,6 +4,7 @@ use Rattle.std.specs.Prelude.{IsTrue, All, slice_get}
 use Rattle.std.proofs.lemmas.List.{map-append, take-append-le, drop-append-le, length-drop}
 use Rattle.std.proofs.Math.Seq.{drop-append_seam, take-length}
 use Rattle.std.proofs.lemmas.List.Elements.{All-push, All-tail}
+use Rattle.std.proofs.lemmas.Option.{slice_get_within}
 use mathlib.Core.Option.{some}
 use mathlib.Core.List.{IsPrefix}
 use lib.ListN.{get_elem?}
@@ -21,7 +22,7 @@ use Rattle.dmx_calls.specs.Entries.{caller_of}
 use Rattle.adapter.specs.Callers.{Caller}
 use Rattle.adapter.specs.Nodes.{MakesEachEntry, IsLegalAt, fed, ended}
 use Rattle.adapter.specs.Rows.{OneMore}
-use Rattle.adapter.proofs.Lists.{at_place, place_below, at_end}
+use Rattle.adapter.proofs.Lists.{at_place, at_end}
 use Rattle.workers.specs.Feeding.{fed_entry, fed_entries, Tiles, AreFullBatches, StandAt, HasMade, HasFed}
 use Rattle.workers.proofs.Logging.{prefix_long}
 
@@ -53,7 +54,7 @@ made_more entries S x place p q m o =
           (λ old_i. ⊎_elim (λ old_j. m.rise i j a b low old_i old_j)
           (λ last. let under = stands_below p.1.seen entries m.places m.stand i a old_i in let long = prefix_long p.1.seen o.before o.seen in let is = o.at in let same : place ≡ b = last.1 in omega arith)
           (at_end m.places place b j second))
-          (λ last. let i_is : i ≡ length m.places = last.0 in let long = place_below (m.places ++ place ∷ []) j b second in absurd (omega (arith, length-append m.places (place ∷ []))))
+          (λ last. let i_is : i ≡ length m.places = last.0 in let long = slice_get_within (m.places ++ place ∷ []) j b second in absurd (omega (arith, length-append m.places (place ∷ []))))
           (at_end m.places place a i first);
     }
 
@@ -90,7 +91,7 @@ entry_now packets more first now is = ap (λ (ps : List (List ℕ)). entry_of 0 
 module _ (most : ℕ) (may : ℕ → Bool) (packets : List (List ℕ)) (c d : Caller) (feeding : List Fed) (places : List ℕ) (who : d.who ≡ c.who) where
   made_on : (x : Entry) → MakesEachEntry x places c.passes d.passes → HasFed most may packets [] c feeding → (node : ℕ) (q : TableId × View Entry) → slice_get d.passes node ≡ Some q → HasMade ((fed_entries packets feeding ++ []) ++ x ∷ []) q
   made_on x a h node q at =
-      let low = place_below d.passes node q at in let long = a.long in let p = at_place c.passes node (omega arith) in
+      let low = slice_get_within d.passes node q at in let long = a.long in let p = at_place c.passes node (omega arith) in
       let o = a.each node p.0 q p.1 at in made_more (fed_entries packets feeding ++ []) (IsLegalAt node) x _ p.0 q (h.made node p.0 p.1) o
 
   pub fed_more : (batch : Packets) (now : ℕ) → HasFed most may packets [] c feeding → MakesEachEntry (fed batch now) places c.passes d.passes → batch.first ≡ length packets → 1 ≤ length batch.packets → length batch.packets ≤ most → IsTrue (may now)

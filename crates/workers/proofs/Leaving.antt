@@ -1,7 +1,7 @@
 -- The workers at their end.
 use Rattle.std.proofs.Common.{◌≡◌, ◌≢◌, ◌⊎◌, inl, inr, ⊎_elim, ℕ, Bool, ◌+◌, List, [], ◌∷◌, ◌++◌, length, map, Vec, Global, Option, Some, None, refl, ap, sym, ◌∙◌, subst, arith, length-append}
 use Rattle.std.specs.Prelude.{slice_get, slice_index_or, option_map, All}
-use Rattle.std.proofs.lemmas.Option.{slice_get-map, slice_get-get_or, get_or_from_slice_get}
+use Rattle.std.proofs.lemmas.Option.{slice_get-map, slice_get-get_or, get_or_from_slice_get, slice_get_within}
 use Rattle.std.proofs.lemmas.List.{length-map}
 use Rattle.atomic_table.specs.Seated.{TableId}
 use Rattle.ts_packet.specs.Cut.{cut}
@@ -13,6 +13,7 @@ use Rattle.dmx_calls.specs.declared.outcome.Outcome.{Outcome}
 use Rattle.client_script.specs.declared.line.Line.{Line}
 use Rattle.client_script.specs.Script.{clients_in}
 use Rattle.script_run.specs.IsRun.{replies}
+use Rattle.client_core.specs.declared.stop.TheConstants.{MOST_CALLS}
 use Rattle.client_core.specs.declared.stop.Stop.{Stop}
 use Rattle.client_core.specs.declared.stop.Stop.TheVariants.{NoMemory, TooLong}
 use Rattle.emu_io.specs.Ends.{SourceEnd}
@@ -21,17 +22,17 @@ use Rattle.feed_pull.proofs.PullLemmas.{Pulls-done}
 use Rattle.adapter.specs.Callers.{Caller, IsSameCaller, AreFreshCallers, AreAllCallers}
 use Rattle.adapter.specs.Nodes.{ended}
 use Rattle.adapter.proofs.Everybody.{still_all}
-use Rattle.adapter.proofs.Lists.{at_place, place_below, at_end, at_last, at_before, one_value}
+use Rattle.adapter.proofs.Lists.{at_place, at_end, at_last, at_before, one_value}
 use Rattle.trace_merge.specs.Merging.{AreOnNodes}
 use Rattle.workers.specs.declared.client_worker.ClientWorker.{ClientWorker}
 use Rattle.workers.specs.declared.feeder_worker.FeederWorker.{FeederWorker}
-use Rattle.workers.specs.declared.worked.Worked.{Worked}
+use Rattle.workers.specs.declared.left.Left.{Left}
 use Rattle.workers.specs.Inside.Working.{log_of, IsWorking, HasCome}
 use Rattle.workers.specs.Inside.Begun.{AreFreshWorkers, HaveCome, AreOutcomesOf}
 use Rattle.workers.specs.Feeding.{HasFed, HasFedAll}
 use Rattle.workers.specs.Inside.FeederWork.{HasPassedAll}
-use Rattle.workers.specs.Inside.Leaving.{GoesFirst, StopsBy, IsLeftBehind}
-use Rattle.workers.specs.Worked.{HasWorked, AreWorked}
+use Rattle.workers.specs.Inside.Leaving.{GoesFirst, StopsBy, IsLeftByWorkers}
+use Rattle.workers.specs.Left.{HasWorked, AreWorked}
 use Rattle.workers.proofs.Lists.{mapped}
 use Rattle.workers.proofs.Working.{next_is}
 use Rattle.workers.proofs.Beginning.{begun_works}
@@ -56,7 +57,7 @@ no_stop stop is e = absurd (cc (sym is ∙ e))
 module _ (may : ℕ → Bool) (locks : List TableId) where
   pub come_at : (old new : List ClientWorker) → HaveCome may locks old new → (k : ℕ) (w : ClientWorker) → slice_get new k ≡ Some w → (v : ClientWorker) × (slice_get old k ≡ Some v) × HasCome may locks v w
   come_at old new h k w at =
-      let low = place_below new k w at in let long = h.long in let v = at_place old k (omega arith) in
+      let low = slice_get_within new k w at in let long = h.long in let v = at_place old k (omega arith) in
       let come = h.each k w (omega arith) in
       (v.0, v.1, subst (λ (z : ClientWorker). HasCome may locks z w) (get_or_from_slice_get old k v.0 w v.1) (subst (λ (z : ClientWorker). HasCome may locks (slice_index_or old k w) z) (get_or_from_slice_get new k w w at) come))
 
@@ -119,12 +120,12 @@ module _ (lines : List Line) (locks : List TableId) (n : ℕ) (feeder : Caller) 
 
     each : (k : ℕ) (c d : Caller) → slice_get (clients ++ feeder ∷ []) k ≡ Some c → slice_get (now ++ g ∷ []) k ≡ Some d → IsSameCaller c d
     each k c d at there = ⊎_elim
-        (λ before. ⊎_elim (λ after. client_same k c d before after) (λ last. let low = place_below clients k c before in let e = last.0 in absurd (omega (arith, count))) (at_end now g d k there))
-        (λ here. ⊎_elim (λ after. let low = place_below now k d after in let e = here.0 in absurd (omega (arith, count)))
+        (λ before. ⊎_elim (λ after. client_same k c d before after) (λ last. let low = slice_get_within clients k c before in let e = last.0 in absurd (omega (arith, count))) (at_end now g d k there))
+        (λ here. ⊎_elim (λ after. let low = slice_get_within now k d after in let e = here.0 in absurd (omega (arith, count)))
         (λ last. subst (λ (x : Caller). IsSameCaller x d) here.1 (subst (IsSameCaller feeder) last.1 same)) (at_end now g d k there))
         (at_end clients feeder c k at)
 
-  module _ (f : FeederWorker) (w : Worked) (left : IsLeftBehind f new w) (none : (k : ℕ) (v : ClientWorker) → slice_get new k ≡ Some v → v.stop ≡ None) where
+  module _ (f : FeederWorker) (w : Left) (left : IsLeftByWorkers f new w) (none : (k : ℕ) (v : ClientWorker) → slice_get new k ≡ Some v → v.stop ≡ None) where
     -- each client has done its commands
     pub worked_each : (c : ℕ) (client : Caller) (log : List LogEntry) (told : List Outcome) → slice_get w.clients.items c ≡ Some client → slice_get (map (λ (log : Vec ToldEntry Global). map told_entry log.items) w.logs.items) c ≡ Some log → slice_get (map (λ (those : Vec Outcome Global). those.items) w.outcomes.items) c ≡ Some told
         → HasWorked lines c may client log told
@@ -159,6 +160,6 @@ module _ (lines : List Line) (locks : List TableId) (n : ℕ) (feeder : Caller) 
 
 -- the feeder has made too many reads, or a client too many calls
 pub one_of_both : (may : ℕ → Bool) (locks : List TableId) (old new : List ClientWorker) → HaveCome may locks old new → (feeder stop : Option Stop) (turns : ℕ) → StopsBy feeder new stop → stop ≡ Some (TooLong turns)
-    → (feeder ≡ Some (TooLong turns)) ⊎ ((turns ≡ 549755813888) × ((k : ℕ) × (w : ClientWorker) × (slice_get new k ≡ Some w) × (w.core.step ≡ 549755813888)))
+    → (feeder ≡ Some (TooLong turns)) ⊎ ((turns ≡ MOST_CALLS) × ((k : ℕ) × (w : ClientWorker) × (slice_get new k ≡ Some w) × (w.core.step ≡ MOST_CALLS)))
 one_of_both may locks old new h feeder stop turns s is = ⊎_elim (λ first. inl (sym first ∙ is))
     (λ one. let u = come_at may locks old new h one.0 one.1 one.2 in let k = u.2.too_long turns (sym one.3 ∙ is) in inr (k.0, (one.0, one.1, one.2, k.1))) s.one

@@ -2,7 +2,8 @@
 use Rattle.std.proofs.Common.{◌≡◌, ⊎_elim, ℕ, zero, suc, List, [], ◌∷◌, ◌++◌, length, map, Some, refl, ap, sym, ◌∙◌, subst, arith, Vec, Global}
 use Rattle.std.specs.Prelude.{slice_get}
 use Rattle.std.proofs.lemmas.List.{map-append, length-map}
-use Rattle.adapter.proofs.Lists.{at_end, place_below}
+use Rattle.std.proofs.lemmas.Option.{slice_get_within}
+use Rattle.adapter.proofs.Lists.{at_end}
 use Rattle.dmx_calls.specs.declared.outcome.Outcome.{Outcome}
 use Rattle.workers.specs.declared.client_worker.ClientWorker.{ClientWorker}
 use Rattle.workers.specs.Inside.Begun.{AreOutcomesOf}
@@ -34,7 +35,7 @@ module _ (ys : List ClientWorker) (w : ClientWorker) (os new : List (Vec Outcome
       let size = length-map os (λ (o : Vec Outcome Global). o.items) in
       let here = at_end (map (λ (o : Vec Outcome Global). o.items) os) those.items told c (ap (λ (l : List (List Outcome)). slice_get l c) (sym told_more) ∙ at_told) in
       ⊎_elim
-      (λ old. ⊎_elim (λ old_told. all c v told old old_told) (λ last. let low = place_below ys c v old in let e = last.0 in absurd (omega (arith, size, long))) here)
-      (λ last. ⊎_elim (λ old_told. let low = place_below (map (λ (o : Vec Outcome Global). o.items) os) c told old_told in let e = last.0 in absurd (omega (arith, size, long)))
+      (λ old. ⊎_elim (λ old_told. all c v told old old_told) (λ last. let low = slice_get_within ys c v old in let e = last.0 in absurd (omega (arith, size, long))) here)
+      (λ last. ⊎_elim (λ old_told. let low = slice_get_within (map (λ (o : Vec Outcome Global). o.items) os) c told old_told in let e = last.0 in absurd (omega (arith, size, long)))
       (λ last_told. subst (λ (x : ClientWorker). AreOutcomesOf x.core told) last.1 (subst (λ (o : List Outcome). AreOutcomesOf w.core o) last_told.1 one)) here)
       (at_end ys w v c at_v)

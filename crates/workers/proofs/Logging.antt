@@ -4,6 +4,7 @@ use Rattle.std.specs.Prelude.{if◌then◌else◌, IsSome}
 use Rattle.std.proofs.lemmas.List.{take-append-le}
 use Rattle.std.proofs.Math.Seq.{take-append_seam}
 use Rattle.std.proofs.lemmas.List.Elements.{All-push}
+use Rattle.std.proofs.lemmas.Option.{slice_get_within}
 use mathlib.Core.Logic.{dite}
 use mathlib.Core.Option.{some}
 use mathlib.Core.List.{IsPrefix}
@@ -23,7 +24,7 @@ use Rattle.script_run.specs.IsRun.{IsEvent, replies}
 use Rattle.script_run.specs.WholeRun.{IsGiven}
 use Rattle.adapter.specs.Callers.{Caller}
 use Rattle.adapter.specs.Rows.{OneCalls, OneLooks}
-use Rattle.adapter.proofs.Lists.{place_below, set_there, set_elsewhere, one_value, at_end}
+use Rattle.adapter.proofs.Lists.{set_there, set_elsewhere, one_value, at_end}
 use Rattle.workers.specs.Logged.{Tells, TellsIn, calls_on, IsLogged, HasCalled}
 
 pub prefix_long : {A : Type 0} (xs ys : List A) → IsPrefix xs ys → length xs ≤ length ys
@@ -48,7 +49,7 @@ on_other node (x ∷ log) e not = ap (λ (l : List (ℕ × ℕ)). if nat_eq x.no
 
 module _ (ps qs : List (TableId × View Entry)) (node : ℕ) (first now : TableId × View Entry) (was : slice_get ps node ≡ Some first) (is : qs ≡ set ps node now) (seen : IsPrefix first.1.seen now.1.seen) where
   pub now_there : slice_get qs node ≡ Some now
-  now_there = ap (λ (l : List (TableId × View Entry)). slice_get l node) is ∙ set_there ps node now (place_below ps node first was)
+  now_there = ap (λ (l : List (TableId × View Entry)). slice_get l node) is ∙ set_there ps node now (slice_get_within ps node first was)
 
   pub else_there : (i : ℕ) → i ≢ node → slice_get qs i ≡ slice_get ps i
   else_there i n = ap (λ (l : List (TableId × View Entry)). slice_get l i) is ∙ set_elsewhere ps node i now n
@@ -100,7 +101,7 @@ module _ (c d : Caller) (S : List Entry → Type 0) (node place : ℕ) (x : Entr
             (λ last. let is_node : g.node ≡ node = ap (λ (z : LogEntry). z.node) (sym last.1) ∙ node_is in let t = l.tells i f old_i in
             let under = before_this f t.0 t.1 t.2 (same ∙ is_node) in let is_place : g.place ≡ place = ap (λ (z : LogEntry). z.place) (sym last.1) ∙ place_is in omega arith)
             (at_end log e g j b))
-            (λ last_i. let at_i : i ≡ length log = last_i.0 in let long = place_below (log ++ e ∷ []) j g b in absurd (omega (arith, length-append log (e ∷ []))))
+            (λ last_i. let at_i : i ≡ length log = last_i.0 in let long = slice_get_within (log ++ e ∷ []) j g b in absurd (omega (arith, length-append log (e ∷ []))))
             (at_end log e f i a);
         just = λ n q at. dite (ℕ_discrete n node)
             (λ here. let same : o.then ≡ q = one_value d.passes node o.then q there (ap (slice_get d.passes) (sym here) ∙ at) in
@@ -127,7 +128,7 @@ module _ (c d : Caller) (S : List Entry → Type 0) (node place : ℕ) (x : Entr
       found = All-push (λ (z : LogEntry). z.response ≢ NoMemory) log e l.found found;
       moments = All-push (λ (z : LogEntry). IsGiven may z.act) log e l.moments given;
       paid = λ i f g at next waits. ⊎_elim
-          (λ old. let low = place_below log (i + 1) g old in
+          (λ old. let low = slice_get_within log (i + 1) g old in
           l.paid i f g (inside i f (omega arith) at) old (subst (λ (m : List LogEntry). IsSome (waits_on client lines (replies m))) (front (i + 1) (omega arith)) waits))
           (λ last. let long : i + 1 ≡ length log = last.0 in
           let w = subst (λ (m : List LogEntry). IsSome (waits_on client lines (replies m))) (all (i + 1) long) waits in
@@ -136,7 +137,7 @@ module _ (c d : Caller) (S : List Entry → Type 0) (node place : ℕ) (x : Entr
           (at_end log e g (i + 1) next);
     } where
       below : (i : ℕ) (f : LogEntry) → slice_get log i ≡ Some f → i ≤ length log
-      below i f at = let low = place_below log i f at in omega arith
+      below i f at = let low = slice_get_within log i f at in omega arith
 
       front : (i : ℕ) → i ≤ length log → take i (log ++ e ∷ []) ≡ take i log
       front i low = take-append-le i log (e ∷ []) low

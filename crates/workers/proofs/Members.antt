@@ -2,7 +2,7 @@
 use Rattle.std.proofs.Common.{◌≡◌, ◌≢◌, ◌⊎◌, inl, inr, ⊎_elim, ℕ, zero, suc, Bool, true, false, nat_eq, nat_lt, ne_eqb, ◌+◌, List, [], ◌∷◌, ◌++◌, map, filter, slice_get, Some, refl, ap, ◌∙◌}
 use Rattle.std.specs.Prelude.{if◌then◌else◌}
 use Rattle.std.specs.List.{AllByRecursion}
-use Rattle.node_lock.specs.Inside.Lists.{Has}
+use Rattle.lemmas.specs.Lists.{Has}
 use Rattle.dmx_calls.specs.declared.histories.Fed.{Fed}
 use Rattle.dmx_calls.specs.declared.log.Act.{Act}
 use Rattle.dmx_calls.specs.declared.log.Act.TheVariants.{End as EndAct}
@@ -67,11 +67,6 @@ has_woven node (c ∷ calls) (suc j) x at place step acts = has_before node c x 
 pub at_has : {A : Type 0} (xs : List A) (x : A) → Has xs x → (i : ℕ) × (slice_get xs i ≡ Some x)
 at_has [] x h = absurd h
 at_has (y ∷ xs) x h = ⊎_elim (λ e. (0, ap (λ z. Some z) e)) (λ m. let r = at_has xs x m in (suc r.0, r.1)) h
-
-pub has_at : {A : Type 0} (xs : List A) (x : A) (i : ℕ) → slice_get xs i ≡ Some x → Has xs x
-has_at [] x i at = absurd (cc at)
-has_at (y ∷ xs) x zero at = inl (cc at)
-has_at (y ∷ xs) x (suc i) at = inr (has_at xs x i at)
 
 -- ------ the feeder's steps
 

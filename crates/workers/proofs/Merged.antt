@@ -5,7 +5,8 @@ use Rattle.std.proofs.lemmas.List.{length-map}
 use Rattle.std.proofs.lemmas.Option.{slice_get_within}
 use Rattle.atomic_table.specs.Seated.{TableId}
 use Rattle.node_lock.specs.declared.view.View.{View}
-use Rattle.node_lock.specs.Inside.Lists.{Has}
+use Rattle.lemmas.specs.Lists.{Has}
+use Rattle.lemmas.proofs.Lists.{at_map, has_at}
 use Rattle.dmx_calls.specs.declared.histories.Fed.{Fed}
 use Rattle.dmx_calls.specs.declared.limits.TheConstants.{DEMUX_NODES}
 use Rattle.dmx_calls.specs.declared.log.Act.{Act}
@@ -22,21 +23,10 @@ use Rattle.adapter.specs.Ends.{IsHistory, HaveHistories}
 use Rattle.adapter.proofs.Lists.{at_end as with_last, at_last, at_place, one_value}
 use Rattle.workers.specs.Telling.{HaveCalled, IsLoggedIn, TellWhatWasCalled, steps_from}
 use Rattle.workers.proofs.Weaves.{Rises, rises_less, weaves}
-use Rattle.workers.proofs.Members.{all_at, all_from, at_has, has_at, each_woven, has_woven, steps_woven}
+use Rattle.workers.proofs.Lists.{mapped}
+use Rattle.workers.proofs.Members.{all_at, all_from, at_has, each_woven, has_woven, steps_woven}
 use Rattle.workers.proofs.Calls.{has_all, RisesOn, AreApart, of_some_log, is_merged, merged_rise}
 use Rattle.workers.proofs.Owning.{Moment, at_end, passes_on, called, log_rises, logged_there, IsLoggedAt, IsFeeders, feeders_zero, owner, acts_by, told_here}
-
--- ------ lists that are made of others
-
-pub map_at : {A B : Type 0} (f : A → B) (xs : List A) (i : ℕ) (y : B) → slice_get (map f xs) i ≡ Some y → (x : A) × (slice_get xs i ≡ Some x) × (f x ≡ y)
-map_at f [] i y at = absurd (cc at)
-map_at f (x ∷ xs) zero y at = (x, refl, cc at)
-map_at f (x ∷ xs) (suc i) y at = map_at f xs i y at
-
-pub at_map : {A B : Type 0} (f : A → B) (xs : List A) (i : ℕ) (x : A) → slice_get xs i ≡ Some x → slice_get (map f xs) i ≡ Some (f x)
-at_map f [] i x at = absurd (cc at)
-at_map f (y ∷ xs) zero x at = let same : y ≡ x = cc at in ap (λ z. Some (f z)) same
-at_map f (y ∷ xs) (suc i) x at = at_map f xs i x at
 
 -- the logs as contracts see them
 abbrev pub books_of : List (List ToldEntry) → List (List LogEntry)
@@ -216,12 +206,12 @@ module _ (stream : List (List ℕ)) (feeder : Caller) (fs : List Fed) (others : 
 
   -- the entry of a log, as the code keeps it
   book_at : (c : ℕ) (log : List LogEntry) (i : ℕ) (e : LogEntry) → slice_get (books_of logs) c ≡ Some log → slice_get log i ≡ Some e → (l : List ToldEntry) × (slice_get logs c ≡ Some l) × ((x : ToldEntry) × (slice_get l i ≡ Some x) × (told_entry x ≡ e))
-  book_at c log i e at there = let l = map_at (λ log. map told_entry log) logs c log at in (l.0, l.1, map_at told_entry l.0 i e (subst (λ z. slice_get z i ≡ Some e) (sym l.2) there))
+  book_at c log i e at there = let l = mapped (λ log. map told_entry log) logs c log at in (l.0, l.1, mapped told_entry l.0 i e (subst (λ z. slice_get z i ≡ Some e) (sym l.2) there))
 
   module _ (node : ℕ) (calls : List ToldEntry) (mine : slice_get nodes node ≡ Some calls) (h : List Entry) (is : IsHistory node (passes_on m node) h) where
     of_some : (j : ℕ) (e : LogEntry) → slice_get (map told_entry calls) j ≡ Some e → (e.node ≡ node) × IsLoggedIn (books_of logs) e
     of_some j e at =
-        let x = map_at told_entry calls j e at in let l = of_some_log node logs calls (merged.entries node calls mine) x.0 (has_at calls x.0 j x.1) in
+        let x = mapped told_entry calls j e at in let l = of_some_log node logs calls (merged.entries node calls mine) x.0 (has_at calls x.0 j x.1) in
         let i = at_has l.1.1 x.0 l.1.3 in
         (ap (λ (z : LogEntry). z.node) (sym x.2) ∙ l.0, (l.1.0, map told_entry l.1.1, i.0, at_map (λ log. map told_entry log) logs l.1.0 l.1.1 l.1.2, at_map told_entry l.1.1 i.0 x.0 i.1 ∙ ap (λ z. Some z) x.2))
 
@@ -274,6 +264,6 @@ module _ (stream : List (List ℕ)) (feeder : Caller) (fs : List Fed) (others : 
 
 pub nodes_low : (logs : List (List ToldEntry)) → All (λ log. AreOnNodes log) logs → (e : LogEntry) → IsLoggedIn (books_of logs) e → e.node ≤ DEMUX_NODES
 nodes_low logs all e (c, log, i, at, there) =
-    let l = map_at (λ log. map told_entry log) logs c log at in
-    let x = map_at told_entry l.0 i e (subst (λ z. slice_get z i ≡ Some e) (sym l.2) there) in
+    let l = mapped (λ log. map told_entry log) logs c log at in
+    let x = mapped told_entry l.0 i e (subst (λ z. slice_get z i ≡ Some e) (sym l.2) there) in
     subst (λ (y : LogEntry). y.node ≤ DEMUX_NODES) x.2 (has_all (λ (e : ToldEntry). e.node ≤ DEMUX_NODES) l.0 (has_all (λ (log : List ToldEntry). AreOnNodes log) logs all l.0 (has_at logs l.0 c l.1)) x.0 (has_at l.0 x.0 i x.1))

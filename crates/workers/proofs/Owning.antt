@@ -1,12 +1,14 @@
 -- Each entry of a node's history is in a client's log, or is the feeder's; so the logs and the batches tell the history.
 use Rattle.std.proofs.Common.{◌≡◌, ◌≢◌, ◌⊎◌, inl, inr, ⊎_elim, ℕ, suc, true, eq-eqb, ne_eqb, ◌+◌, ◌<◌, List, [], ◌∷◌, ◌++◌, length, filter, slice_get, Option, Some, None, refl, ap, sym, ◌∙◌, subst, arith}
 use Rattle.std.specs.Prelude.{if◌then◌else◌}
+use Rattle.std.proofs.lemmas.Option.{slice_get_within}
 use mathlib.Core.Logic.{dite}
 use mathlib.Core.List.{IsPrefix}
 use native.Mathlib.Decide.{ℕ_discrete}
 use Rattle.atomic_table.specs.Seated.{TableId}
 use Rattle.node_lock.specs.declared.view.View.{View}
-use Rattle.node_lock.specs.Inside.Lists.{Has}
+use Rattle.lemmas.specs.Lists.{Has}
+use Rattle.lemmas.proofs.Lists.{has_at}
 use Rattle.node_lock.proofs.Views.{prefix_at}
 use Rattle.dmx_calls.specs.declared.histories.Fed.{Fed}
 use Rattle.dmx_calls.specs.declared.log.Act.{Act}
@@ -17,13 +19,12 @@ use Rattle.script_run.proofs.Events.{of_stream}
 use Rattle.adapter.specs.Rows.{column}
 use Rattle.adapter.specs.Callers.{Caller}
 use Rattle.adapter.specs.Ends.{IsHistory, rows_of}
-use Rattle.adapter.proofs.Lists.{at_place, place_below, at_either, at_last, at_before, one_value}
+use Rattle.adapter.proofs.Lists.{at_place, at_either, at_last, at_before, one_value}
 use Rattle.workers.specs.Logged.{Tells, calls_on}
 use Rattle.workers.specs.Feeding.{HasMade}
 use Rattle.script_run.specs.SoFar.{PassesNone}
 use Rattle.workers.specs.Telling.{HasLogged, HaveCalled, IsLoggedIn}
 use Rattle.workers.proofs.Weaves.{AreTold, fed_of, by_feeder}
-use Rattle.workers.proofs.Members.{has_at}
 use Rattle.workers.proofs.Calls.{has_all}
 use Rattle.adapter.proofs.Everybody.{in_column, of_column}
 use Rattle.workers.proofs.Columns.{some_calls}
@@ -99,13 +100,13 @@ module _ (m : Moment) where
   -- the client of a log
   client_of : (c : ℕ) (log : List LogEntry) → slice_get m.books c ≡ Some log → (client : Caller) × (slice_get m.others c ≡ Some client) × HasLogged c client log
   client_of c log at =
-      let low = place_below m.books c log at in let n = m.logs in
+      let low = slice_get_within m.books c log at in let n = m.logs in
       let client = at_place m.others c (omega arith) in
       (client.0, client.1, m.each c client.0 log client.1 at)
 
   log_of : (c : ℕ) (client : Caller) → slice_get m.others c ≡ Some client → (log : List LogEntry) × (slice_get m.books c ≡ Some log) × HasLogged c client log
   log_of c client at =
-      let low = place_below m.others c client at in let n = m.logs in
+      let low = slice_get_within m.others c client at in let n = m.logs in
       let log = at_place m.books c (omega arith) in
       (log.0, log.1, m.each c client log.0 at log.1)
 

@@ -6,8 +6,8 @@ use Rattle.std.proofs.lemmas.Bool.Decides.{nat_tests}
 use Rattle.std.proofs.lemmas.Option.{slice_get_within}
 use Rattle.atomic_table.specs.Seated.{TableId}
 use Rattle.node_lock.specs.declared.view.View.{View}
-use Rattle.node_lock.specs.Inside.Lists.{Has}
-use Rattle.node_lock.proofs.Views.{has_left}
+use Rattle.lemmas.specs.Lists.{Has}
+use Rattle.lemmas.proofs.Lists.{has_at, has_left}
 use Rattle.dmx_calls.specs.declared.histories.Fed.{Fed}
 use Rattle.dmx_calls.specs.declared.limits.TheConstants.{DEMUX_NODES}
 use Rattle.dmx_calls.specs.declared.log.Act.{Act}
@@ -28,11 +28,11 @@ use Rattle.script_run.specs.SoFar.{PassesNone, others as Others, IsPaidBehind, I
 use Rattle.script_run.proofs.Events.{event_passes_none}
 use Rattle.adapter.specs.Callers.{Caller}
 use Rattle.adapter.specs.Ends.{HaveHistories}
-use Rattle.adapter.proofs.Lists.{at_place, place_below, one_value}
+use Rattle.adapter.proofs.Lists.{at_place, one_value}
 use Rattle.workers.specs.Logged.{HasCalled}
 use Rattle.workers.specs.Feeding.{Tiles, batch_of}
 use Rattle.workers.specs.Telling.{HasLogged, IsLoggedIn, steps_from}
-use Rattle.workers.proofs.Members.{all_at, at_has, has_at, steps_tile}
+use Rattle.workers.proofs.Members.{all_at, at_has, steps_tile}
 use Rattle.workers.proofs.Calls.{has_all, all_has}
 use Rattle.workers.proofs.Batches.{sizes, total_is, given}
 use Rattle.workers.proofs.Feeders.{acts_of}
@@ -77,7 +77,7 @@ module _ (lines : List Line) (most : ℕ) (may : ℕ → Bool) (over : Bool) (fs
     (have : HaveHistories (m.others ++ m.feeder ∷ [])) (low : (e : LogEntry) → IsLoggedIn m.books e → e.node ≤ DEMUX_NODES) (hs : List (List LogEntry)) (w : AreWoven m hs) where
   -- the caller of a log
   pub client_of : (c : ℕ) (log : List LogEntry) → slice_get m.books c ≡ Some log → (client : Caller) × HasCalled lines c may client log
-  client_of c log at = let client = at_place m.others c (omega (arith, place_below m.books c log at, m.logs)) in (client.0, s.calls c client.0 log client.1 at)
+  client_of c log at = let client = at_place m.others c (omega (arith, slice_get_within m.books c log at, m.logs)) in (client.0, s.calls c client.0 log client.1 at)
 
   pub log_at : (c : ℕ) → c < clients_in lines → (log : List LogEntry) × (slice_get m.books c ≡ Some log)
   log_at c lt = at_place m.books c (omega (arith, lt, s.count))
@@ -98,7 +98,7 @@ module _ (lines : List Line) (most : ℕ) (may : ℕ → Bool) (over : Bool) (fs
       let p = called m c log i e at here in
       record {
         on = on;
-        by = omega (arith, place_below m.books c log at, s.count, p.1);
+        by = omega (arith, slice_get_within m.books c log at, s.count, p.1);
         found = has_all (λ (e : LogEntry). e.response ≢ NoMemory) log k.found e (has_at log e i here);
         logged = λ d other at_d mine.
             let same : d ≡ c = omega (arith, p.1, mine) in

@@ -14,6 +14,7 @@ use Rattle.dmx_calls.specs.declared.log.Entry.{Entry as ToldEntry}
 use Rattle.client_script.specs.declared.line.Line.{Line}
 use Rattle.client_script.specs.Script.{clients_in}
 use Rattle.script_run.specs.Budget.{IsTooLong}
+use Rattle.client_core.specs.declared.stop.TheConstants.{MOST_CALLS}
 use Rattle.client_core.specs.declared.stop.Stop.TheVariants.{NoMemory}
 use Rattle.feed_pull.specs.Pulling.{Pulling, Pulls}
 use Rattle.feed_pull.specs.Streams.{OfStream}
@@ -72,10 +73,10 @@ module _ (lines : List Line) (locks : List TableId) (n : ℕ) (feeder : Caller) 
   }
 
   -- a client has made so many calls
-  pub calls_by : ManyCallsAreTooLong → (turns i : ℕ) (w : ClientWorker) → slice_get new i ≡ Some w → w.core.step ≡ 549755813888 → turns ≡ 549755813888 → OfStream x y first (IsTooLong lines first.start turns)
+  pub calls_by : ManyCallsAreTooLong → (turns i : ℕ) (w : ClientWorker) → slice_get new i ≡ Some w → w.core.step ≡ MOST_CALLS → turns ≡ MOST_CALLS → OfStream x y first (IsTooLong lines first.start turns)
   calls_by law turns i w at calls turns_is =
       let u = come_at may locks old new h i w at in
-      let size : length (log_of w) ≡ 549755813888 = length-map w.log.items told_entry ∙ (sym (u.2.fit (found i w at)).steps ∙ calls) in (
+      let size : length (log_of w) ≡ MOST_CALLS = length-map w.log.items told_entry ∙ (sym (u.2.fit (found i w at)).steps ∙ calls) in (
         k.draws.carries.more,
         k.draws.carries.consumes,
         λ ahead pulls. subst (λ (t : ℕ). IsTooLong lines first.start t ahead k.draws.carries.more) (size ∙ sym turns_is)

@@ -1,5 +1,5 @@
 -- How many calls a client makes in a run by threads (this project's own).
-use Rattle.std.specs.Prelude.{◌≡◌, ◌⊎◌, ◌<◌, ◌≤◌, ◌+◌, ◌*◌, ℕ, Bool, List, [], ◌∷◌, ◌++◌, length, slice_get, Some, All}
+use Rattle.std.specs.Prelude.{◌≡◌, ◌⊎◌, ◌<◌, ◌≤◌, ◌+◌, ◌*◌, ◌^◌, ℕ, Bool, List, [], ◌∷◌, ◌++◌, length, slice_get, Some, All}
 use Rattle.ts_packet.specs.Fields.{IsPacket}
 use Rattle.dmx_calls.specs.declared.histories.Fed.{Fed}
 use Rattle.dmx_calls.specs.declared.limits.TheConstants.{DEMUX_NODES}
@@ -7,6 +7,7 @@ use Rattle.dmx_calls.specs.History.{Entry}
 use Rattle.dmx_calls.specs.Log.{LogEntry}
 use Rattle.client_script.specs.declared.line.Line.{Line}
 use Rattle.client_script.specs.Script.{clients_in}
+use Rattle.client_core.specs.declared.stop.TheConstants.{MOST_CALLS}
 use Rattle.script_run.specs.Budget.{most_calls, all_commands, IsTooLong}
 use Rattle.adapter.specs.Callers.{Caller}
 use Rattle.adapter.specs.Ends.{HaveHistories}
@@ -44,8 +45,8 @@ FewBytesAreFewCalls =
     (lines : List Line) (most : ℕ) (may : ℕ → Bool) (packets : List (List ℕ)) (behind : List Entry) (feeder : Caller)
     (feeding : List Fed) (others : List Caller) (books : List (List LogEntry))
     → IsRunning lines most may packets behind feeder feeding others books
-    → all_commands lines + 188 * length packets < 4294967296
-    → (c : ℕ) (log : List LogEntry) → slice_get books c ≡ Some log → length log < 549755813888
+    → all_commands lines + 188 * length packets < 2 ^ 32
+    → (c : ℕ) (log : List LogEntry) → slice_get books c ≡ Some log → length log < MOST_CALLS
 
 -- Where a client comes to 549,755,813,888 calls, the run is too long: its cause is in the commands and in
 -- the bytes of which the packets were cut.
@@ -55,5 +56,5 @@ ManyCallsAreTooLong =
     (feeding : List Fed) (others : List Caller) (books : List (List LogEntry))
     → IsRunning lines most may packets behind feeder feeding others books
     → (start : ℕ) (ahead taken : List ℕ) → 188 * length packets ≤ length ahead + length taken
-    → (c : ℕ) (log : List LogEntry) → slice_get books c ≡ Some log → length log ≡ 549755813888
+    → (c : ℕ) (log : List LogEntry) → slice_get books c ≡ Some log → length log ≡ MOST_CALLS
     → IsTooLong lines start (length log) ahead taken

@@ -1,6 +1,6 @@
 pub mod Logged
 pub mod Feeding
-pub mod Worked
+pub mod Left
 pub mod Telling
 pub mod Budget
 pub mod Inside

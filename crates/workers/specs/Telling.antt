@@ -18,7 +18,7 @@ use Rattle.adapter.specs.Ends.{IsHistory, rows_of}
 use Rattle.adapter.specs.Nodes.{ended}
 use Rattle.workers.specs.Logged.{IsLogged}
 use Rattle.workers.specs.Feeding.{HasMade, fed_entries}
-use Rattle.workers.specs.Worked.{AreWorked}
+use Rattle.workers.specs.Left.{AreWorked}
 
 -- ------ what was called
 

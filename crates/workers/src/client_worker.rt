@@ -6,6 +6,7 @@ ghost use Rattle.dmx_calls.specs.History.{Entry as HistoryEntry};
 ghost use Rattle.dmx_calls.specs.Log.{act_of};
 ghost use Rattle.dmx_calls.specs.declared.limits.TheConstants.{DEMUX_NODES as nodes};
 ghost use Rattle.client_script.specs.declared.line.Line.{Line};
+ghost use Rattle.client_core.specs.declared.stop.TheConstants.{MOST_CALLS as most_calls};
 ghost use Rattle.client_core.specs.Commands.{IsRequestInRange, call_of as call_at};
 ghost use Rattle.client_core.specs.Inside.Core.{next_of};
 ghost use Rattle.client_core.specs.Events.{next_event};
@@ -49,7 +50,7 @@ impl ClientWorker {
         steps: &mut Steps<L>,
     ) -> Result<(), NoMemory>
         requires fit { IsFit adapter.now self.old }
-        requires few { self.old.core.step < 549755813888 }
+        requires few { self.old.core.step < most_calls }
         requires next { next_of self.old.core ≡ Some event }
         requires some { IsSome self.old.core.current }
         requires node { event.node ≤ nodes }
@@ -126,7 +127,7 @@ impl ClientWorker {
         ensures fit { OnOk result (IsFit adapter.now self.new) }
         ensures works { OnOk result (GoesOn (C.may_give clock.now) self.old self.new) }
         ensures ends { OnOk result (next_of self.new.core ≡ None) }
-        ensures too_long { (turns : ℕ) → IsErrOf result (Stop.TooLong turns) → (turns ≡ 549755813888) × (self.new.core.step ≡ 549755813888)
+        ensures too_long { (turns : ℕ) → IsErrOf result (Stop.TooLong turns) → (turns ≡ most_calls) × (self.new.core.step ≡ most_calls)
             × IsFit adapter.now self.new × GoesOn (C.may_give clock.now) self.old self.new }
     {
         'calls: while let Some(event) = self.core.next() {

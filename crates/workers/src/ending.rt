@@ -7,7 +7,7 @@ ghost use Rattle.script_run.specs.WholeRun.{IsWholeRun};
 ghost use Rattle.adapter.specs.Callers.{AreAllCallers};
 ghost use Rattle.trace_merge.specs.Merging.{AreOnNodes};
 ghost use Rattle.workers.specs.Telling.{HaveCalled, TellWhatWasCalled};
-ghost use Rattle.workers.specs.Worked.{AreWorked};
+ghost use Rattle.workers.specs.Left.{AreWorked};
 
 use adapter::{Adapter, Client, Feeder};
 use dmx_calls::{Entry, Fed, Histories};

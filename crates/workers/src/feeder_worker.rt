@@ -96,7 +96,7 @@ impl FeederWorker {
     fn stop_of(&self, passed: Result<(), NoMemory>) -> Option<Stop>
         ensures memory { result ≢ Some WantOfMemory → IsOk passed }
         ensures none { result ≡ None → self.now.puller.reading ≢ TooMany }
-        ensures too_long { (turns : ℕ) → result ≡ Some (Stop.TooLong turns) → (turns ≡ 4294967296) × (4294967296 ≤ self.now.puller.start + self.now.puller.taken) }
+        ensures too_long { (turns : ℕ) → result ≡ Some (Stop.TooLong turns) → (turns ≡ 2 ^ 32) × (2 ^ 32 ≤ self.now.puller.start + self.now.puller.taken) }
     {
         if passed.is_err() {
             return Some(Stop::NoMemory);

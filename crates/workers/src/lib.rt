@@ -8,9 +8,9 @@
 //! What a contract sees: a client's log as the list of its calls. `IsLogged` ties it to what the client's passes know: they
 //! have just these calls, each at the place that it was told. `HasCalled` says of a log that its calls are those that the
 //! script's commands ask for, by the replies before them, and `HasFed` of the feeder's batches that they are the packets of a
-//! stream, in their order; `AreWorked` says both of all callers, at the end of a run.
+//! stream, in their order; `AreWorked` says both of all callers, at the end of a run, and `IsLeftBy` of what `work` leaves.
 //!
-//! What is proved, whatever the order in which the threads act: `work` leaves all that `AreWorked` says, over the stream that
+//! What is proved, whatever the order in which the threads act: `work` leaves what `IsLeftBy` says, over the stream that
 //! stood ahead in the puller and the bytes that were taken, in full batches but for the last, each moment one that the clock may
 //! give; the head is that of the stream. The source failed just where its count rose, and else it has nothing left; however the
 //! run ends, at most one read has failed. `TooLong` comes only where so many reads were made, or where the commands and the bytes
@@ -36,18 +36,18 @@
 #![tactic(auto)]
 
 mod client_worker;
-mod done;
+mod clients;
 mod ending;
 mod feeder_worker;
 mod laws;
+mod left;
 mod moment;
 mod run;
 mod threads;
-mod worked;
 
 pub use ending::histories_of_run;
 pub use laws::{
     calls_are_within_budget, few_bytes_are_few_calls, many_calls_are_too_long, workers_have_called,
 };
+pub use left::Left;
 pub use run::work;
-pub use worked::Worked;

@@ -1,9 +1,6 @@
 // The run of a script by threads.
 ghost use Rattle.std.specs.Prelude.{◌≡◌, false, ℕ, ◌+◌, ◌-◌, ◌<◌, ◌≤◌, ◌^◌, ◌↔◌, List, [], ◌∷◌, ◌++◌, map, All, IfOk, OnOk, OnErr, IsErrOf, IsTrue};
 ghost use Rattle.std.specs.Io.KnownBytes.{IsAtEnd};
-ghost use Rattle.ts_packet.specs.Cut.{cut};
-ghost use Rattle.dmx_calls.specs.Calls.{told_entry};
-ghost use Rattle.ts_watch.specs.Head.{head_of, told_head};
 ghost use Rattle.client_script.specs.Script.{clients_in};
 ghost use Rattle.script_run.specs.Budget.{IsTooLong};
 ghost use Rattle.feed_pull.specs.declared.fault.Reading.TheVariants.{Going};
@@ -12,14 +9,14 @@ ghost use Rattle.feed_pull.specs.Streams.{Draws, OfStream};
 ghost use Rattle.adapter.specs.Callers.{AreAllCallers, AreFreshCallers};
 ghost use Rattle.adapter.specs.Ends.{HaveHistories};
 ghost use Rattle.trace_merge.specs.Merging.{AreOnNodes};
-ghost use Rattle.workers.specs.Inside.Leaving.{GoesFirst, StopsBy, IsLeftBehind};
-ghost use Rattle.workers.specs.Worked.{AreWorked};
+ghost use Rattle.workers.specs.Inside.Leaving.{GoesFirst, StopsBy, IsLeftByWorkers};
+ghost use Rattle.workers.specs.Left.{IsLeftBy};
 
 use crate::client_worker::ClientWorker;
-use crate::done::{Done, done_of, workers_of};
+use crate::clients::{ClientsLeft, left_by_clients, workers_of};
 use crate::feeder_worker::FeederWorker;
+use crate::left::Left;
 use crate::threads::work_all;
-use crate::worked::Worked;
 use adapter::{Adapter, Client, Feeder};
 use client_core::Stop;
 use client_script::Script;
@@ -60,19 +57,19 @@ fn gather(
     requires { AreAllCallers adapter.now (map (λ w. w.client) clients.items ++ feeder.feeder ∷ []) }
     ensures { OnOk result (HaveHistories (map (λ w. w.client) clients.items ++ feeder.feeder ∷ [])) }
 {
-    let Done { clients, .. } = done_of(alloc, clients)?;
+    let ClientsLeft { clients, .. } = left_by_clients(alloc, clients)?;
     adapter.gather(feeder.feeder, clients);
     Ok(())
 }
 
 // What is left of workers that came to their end.
-fn worked_of(
+fn left_by(
     alloc: Global,
     feeder: FeederWorker,
     clients: Vec<ClientWorker>,
-) -> Result<Worked, NoMemory>
+) -> Result<Left, NoMemory>
     requires { IsDone feeder.puller }
-    ensures { IfOk result (IsLeftBehind feeder clients.items) }
+    ensures { IfOk result (IsLeftByWorkers feeder clients.items) }
 {
     let FeederWorker {
         feeder,
@@ -81,12 +78,12 @@ fn worked_of(
         ..
     } = feeder;
     let head = puller.head(alloc)?;
-    let Done {
+    let ClientsLeft {
         clients,
         logs,
         outcomes,
-    } = done_of(alloc, clients)?;
-    Ok(Worked {
+    } = left_by_clients(alloc, clients)?;
+    Ok(Left {
         feeding,
         logs,
         outcomes,
@@ -125,7 +122,7 @@ pub fn work<R: Threads + Wait + Sync, S: Source + Send, C: Clock + Sync, G: Gate
     batch: u32,
     clock: &C,
     gate: &G,
-) -> Result<Worked, Stop>
+) -> Result<Left, Stop>
     requires fresh { AreFreshCallers adapter.now (clients_in script.now) feeder clients.items }
     requires all { AreAllCallers adapter.now (clients.items ++ feeder ∷ []) }
     requires some { 1 ≤ batch }
@@ -134,18 +131,16 @@ pub fn work<R: Threads + Wait + Sync, S: Source + Send, C: Clock + Sync, G: Gate
     requires given { puller.given ≡ 0 }
     requires faults { (S.end source.old).faults < 2 ^ 64 - 1 }
     // The whole stream has passed, and each client has done just its commands; the head is that of the stream.
-    ensures worked { IfOk result (λ w. OfStream (S.end source.old) (S.end source.new) puller (λ ahead taken.
-        AreWorked script.now batch (C.may_give clock.now) (cut (ahead ++ taken)).packets w.feeder w.feeding.items w.clients.items (map (λ log. map told_entry log.items) w.logs.items) (map (λ those. those.items) w.outcomes.items)
-        × (told_head w.head ≡ head_of (ahead ++ taken) w.head.read_fault))) }
+    ensures left { IfOk result (λ left. OfStream (S.end source.old) (S.end source.new) puller (λ ahead taken. IsLeftBy script.now batch (C.may_give clock.now) (ahead ++ taken) left)) }
     // They are still the adapter's callers.
-    ensures all { IfOk result (λ w. AreAllCallers adapter.now (w.clients.items ++ w.feeder ∷ [])) }
-    ensures nodes { IfOk result (λ w. All (λ log. AreOnNodes log.items) w.logs.items) }
+    ensures all { IfOk result (λ left. AreAllCallers adapter.now (left.clients.items ++ left.feeder ∷ [])) }
+    ensures nodes { IfOk result (λ left. All (λ log. AreOnNodes log.items) left.logs.items) }
     // The source failed exactly where its count rose; else it has nothing left.
-    ensures rose { IfOk result (λ w. IsTrue w.head.read_fault ↔ ((S.end source.old).faults < (S.end source.new).faults)) }
+    ensures rose { IfOk result (λ left. IsTrue left.head.read_fault ↔ ((S.end source.old).faults < (S.end source.new).faults)) }
     ensures later { IfOk result (λ _. (S.end source.old).faults ≤ (S.end source.new).faults) }
     // At most one read has failed: after it nothing more is read, however the run ends.
     ensures once { (S.end source.new).faults ≤ (S.end source.old).faults + 1 }
-    ensures end { IfOk result (λ w. w.head.read_fault ≡ false → IsAtEnd (S.end source.new).left) }
+    ensures end { IfOk result (λ left. left.head.read_fault ≡ false → IsAtEnd (S.end source.new).left) }
     // So many reads were made, or the commands and the bytes allow a client so many calls.
     ensures too_long { (turns : ℕ) → IsErrOf result (Stop.TooLong turns) → OfStream (S.end source.old) (S.end source.new) puller (IsTooLong script.now puller.start turns) }
     // What was taken of the source where the run stopped, as the puller's pulls tell it.
@@ -170,7 +165,7 @@ pub fn work<R: Threads + Wait + Sync, S: Source + Send, C: Clock + Sync, G: Gate
         gate,
     );
     match stop_of(feeder.stop, &workers) {
-        None => Ok(worked_of(alloc, feeder, workers)?),
+        None => Ok(left_by(alloc, feeder, workers)?),
         Some(Stop::NoMemory) => Err(Stop::NoMemory),
         Some(stop) => {
             gather(alloc, adapter, feeder, workers)?;

@@ -14,7 +14,7 @@ use std::alloc::{AllocError as NoMemory, Global};
 use std::marker::Brand;
 use std::sync::ledger::{Blank, Ledger};
 use steps::Steps;
-use ts_packet::{Packet, PacketBuf};
+use ts_packet::{Packet, PacketBuf, PacketRoom};
 
 // The packets of the stream: the PID is 256 or 257, and the counter.
 static STREAM: [(u8, u8); 5] = [(0, 0), (1, 0), (0, 1), (0, 2), (0, 3)];

@@ -1,10 +1,6 @@
 -- Words on lists.
-use Rattle.std.specs.Prelude.{◌≡◌, ◌⊎◌, ℕ, zero, suc, List, [], ◌∷◌, length, cond, nat_lt}
-
--- x stands in the list
-abbrev pub Has : {A : Type 0} → List A → A → Type 0
-Has [] x = ⊥
-Has (y ∷ ys) x = (y ≡ x) ⊎ Has ys x
+use Rattle.std.specs.Prelude.{ℕ, zero, suc, List, [], ◌∷◌, length, cond, nat_lt}
+use Rattle.lemmas.specs.Lists.{Has}
 
 -- each member stands there once
 abbrev pub Once : {A : Type 0} → List A → Type 0

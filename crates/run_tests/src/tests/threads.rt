@@ -11,7 +11,7 @@ use std::sync::Wait;
 use std::sync::atomic::AtomicU64;
 use std::sync::atomic::Ordering::SeqCst;
 use std::thread::Threads;
-use workers::{Worked, work};
+use workers::{Left, work};
 
 // A clock that counts its calls, and gives that number.
 #[derive(Drop)]
@@ -80,7 +80,7 @@ fn left_by<R: Threads + Wait + Sync, C: Clock + Sync, G: Gate + Sync>(
     packets: &[(u8, u8)],
     clock: &C,
     gate: &G,
-) -> Option<Worked> {
+) -> Option<Left> {
     let stream = stream_of(alloc, packets).ok()?;
     let mut source = MemSource::new(stream, 100, Vec::new(alloc));
     let script = script_of(alloc, script)?;
@@ -105,8 +105,8 @@ fn left_by<R: Threads + Wait + Sync, C: Clock + Sync, G: Gate + Sync>(
 }
 
 // The calls of a client.
-fn log_of(worked: &Worked, client: usize) -> &[Entry] {
-    match worked.logs.get(client) {
+fn log_of(left: &Left, client: usize) -> &[Entry] {
+    match left.logs.get(client) {
         Some(log) => log,
         None => &[],
     }
@@ -135,20 +135,20 @@ fn moment_in(entry: &Entry) -> Option<u64> {
 }
 
 // Whether the one call is a client's open, before or behind the stream's end, and nothing passed.
-fn has_one_open(worked: &Worked) -> bool {
-    let [open] = log_of(worked, 0) else {
+fn has_one_open(left: &Left) -> bool {
+    let [open] = log_of(left, 0) else {
         return false;
     };
     is_done(open)
         && open.place <= 1
         && (open.node, open.step, open.who) == (0, 0, 1)
-        && worked.feeding.is_empty()
-        && worked.head.tally.packets == 0
+        && left.feeding.is_empty()
+        && left.head.tally.packets == 0
 }
 
 // Whether the one command was done by the first call.
-fn has_one_outcome(worked: &Worked) -> bool {
-    let [those] = worked.outcomes.as_slice() else {
+fn has_one_outcome(left: &Left) -> bool {
+    let [those] = left.outcomes.as_slice() else {
         return false;
     };
     let [one] = those.as_slice() else {
@@ -161,13 +161,13 @@ fn has_one_outcome(worked: &Worked) -> bool {
 fn an_open_stands_before_or_behind_the_end(rt: HostRuntime) {
     let clock = FixedClock::new(7);
     let script = "c0 open n0\nstream\n";
-    let worked = left_by(&rt, rt.alloc(), script, &[], &clock, &NoGate::new());
-    assert!(rt; matches!(&worked, Some(worked) if has_one_open(worked) && has_one_outcome(worked)));
+    let left = left_by(&rt, rt.alloc(), script, &[], &clock, &NoGate::new());
+    assert!(rt; matches!(&left, Some(left) if has_one_open(left) && has_one_outcome(left)));
 }
 
 // Whether the one call is a poll at moment 7, of a node that the client doesn't own.
-fn has_one_poll(worked: &Worked) -> bool {
-    let [poll] = log_of(worked, 0) else {
+fn has_one_poll(left: &Left) -> bool {
+    let [poll] = log_of(left, 0) else {
         return false;
     };
     poll.act == Act::Poll { now: 7 } && matches!(poll.reply, Reply::Refused(Errno::Ebadf))
@@ -177,13 +177,13 @@ fn has_one_poll(worked: &Worked) -> bool {
 fn a_poll_has_the_moment_of_the_clock(rt: HostRuntime) {
     let clock = FixedClock::new(7);
     let script = "c0 poll n0\nstream\n";
-    let worked = left_by(&rt, rt.alloc(), script, &[], &clock, &NoGate::new());
-    assert!(rt; matches!(&worked, Some(worked) if has_one_poll(worked)));
+    let left = left_by(&rt, rt.alloc(), script, &[], &clock, &NoGate::new());
+    assert!(rt; matches!(&left, Some(left) if has_one_poll(left)));
 }
 
 // Whether the last of four calls was told that the timeout of 1 ms is over, at a later moment than that of the start.
-fn has_timed_out(worked: &Worked) -> bool {
-    let [_, _, _, read] = log_of(worked, 0) else {
+fn has_timed_out(left: &Left) -> bool {
+    let [_, _, _, read] = log_of(left, 0) else {
         return false;
     };
     match read.reply {
@@ -202,17 +202,17 @@ fn each_call_reads_the_clock_anew(rt: HostRuntime) {
         calls: AtomicU64::new(0),
     };
     let script = "c0 open n0\nc0 section n0 256 1 0\nc0 start n0\nc0 readw n0 1\nstream\n";
-    let worked = left_by(&rt, rt.alloc(), script, &[], &clock, &NoGate::new());
-    assert!(rt; matches!(&worked, Some(worked) if has_timed_out(worked)));
+    let left = left_by(&rt, rt.alloc(), script, &[], &clock, &NoGate::new());
+    assert!(rt; matches!(&left, Some(left) if has_timed_out(left)));
     assert_eq!(rt; clock.calls.load(SeqCst), 3);
 }
 
 // Whether of the opens of two callers that of the first is done, and that of the second, which stands behind it, names the first.
-fn is_first(worked: &Worked, first: u32, second: u32) -> bool {
-    let [one] = log_of(worked, first.saturating_sub(1) as usize) else {
+fn is_first(left: &Left, first: u32, second: u32) -> bool {
+    let [one] = log_of(left, first.saturating_sub(1) as usize) else {
         return false;
     };
-    let [two] = log_of(worked, second.saturating_sub(1) as usize) else {
+    let [two] = log_of(left, second.saturating_sub(1) as usize) else {
         return false;
     };
     is_done(one) && owner_in(two) == first && one.place < two.place
@@ -222,9 +222,8 @@ fn is_first(worked: &Worked, first: u32, second: u32) -> bool {
 fn opens_first<R: Threads + Wait + Sync>(rt: &R, alloc: Global, first: u32, second: u32) -> bool {
     let gate = Hold::new((second, 0), (first, 1));
     let script = "c0 open n0\nc1 open n0\nstream\n";
-    let worked = left_by(rt, alloc, script, &[], &FixedClock::new(0), &gate);
-    gate.ran_out.load(SeqCst) == 0
-        && matches!(&worked, Some(worked) if is_first(worked, first, second))
+    let left = left_by(rt, alloc, script, &[], &FixedClock::new(0), &gate);
+    gate.ran_out.load(SeqCst) == 0 && matches!(&left, Some(left) if is_first(left, first, second))
 }
 
 #[test]
@@ -235,12 +234,12 @@ fn the_first_of_two_clients_opens_the_node(rt: HostRuntime) {
 
 // How many of eight clients have opened a node, and how many are told its owner; None where a client has made another number of
 // calls than one, or two calls have the same place.
-fn opens_of(worked: &Worked) -> Option<(u32, u32)> {
+fn opens_of(left: &Left) -> Option<(u32, u32)> {
     let mut done = 0u32;
     let mut busy = 0u32;
     let mut places = [false; 9];
     for client in 0..8usize {
-        let [open] = log_of(worked, client) else {
+        let [open] = log_of(left, client) else {
             return None;
         };
         let place = places.get_mut(open.place as usize)?;
@@ -263,15 +262,15 @@ fn one_of_eight_clients_opens_the_node(rt: HostRuntime) {
     let clock = FixedClock::new(0);
     let script =
         "c0 open n0\nc1 open n0\nc2 open n0\nc3 open n0\nc4 open n0\nc5 open n0\nc6 open n0\nc7 open n0\nstream\n";
-    let worked = left_by(&rt, rt.alloc(), script, &[], &clock, &NoGate::new());
+    let left = left_by(&rt, rt.alloc(), script, &[], &clock, &NoGate::new());
     assert!(rt;
-        matches!(&worked, Some(worked) if opens_of(worked) == Some((1, 7)) && worked.clients.len() == 8)
+        matches!(&left, Some(left) if opens_of(left) == Some((1, 7)) && left.clients.len() == 8)
     );
 }
 
 // Whether three calls have the moments of a clock that runs backwards.
-fn have_falling_moments(worked: &Worked) -> bool {
-    let [one, two, three] = log_of(worked, 0) else {
+fn have_falling_moments(left: &Left) -> bool {
+    let [one, two, three] = log_of(left, 0) else {
         return false;
     };
     moment_in(one) == Some(u64::MAX)
@@ -285,13 +284,13 @@ fn moments_may_go_back(rt: HostRuntime) {
         calls: AtomicU64::new(0),
     };
     let script = "c0 poll n0\nc0 poll n1\nc0 poll dvr\nstream\n";
-    let worked = left_by(&rt, rt.alloc(), script, &[], &clock, &NoGate::new());
-    assert!(rt; matches!(&worked, Some(worked) if have_falling_moments(worked)));
+    let left = left_by(&rt, rt.alloc(), script, &[], &clock, &NoGate::new());
+    assert!(rt; matches!(&left, Some(left) if have_falling_moments(left)));
 }
 
 // Whether the first of two reads found nothing, behind three calls, and the second, behind a batch, a packet.
-fn has_waited(worked: &Worked) -> bool {
-    let [_, _, _, first, second] = log_of(worked, 0) else {
+fn has_waited(left: &Left) -> bool {
+    let [_, _, _, first, second] = log_of(left, 0) else {
         return false;
     };
     let Reply::Data(buf) = &second.reply else {
@@ -304,11 +303,11 @@ fn has_waited(worked: &Worked) -> bool {
 }
 
 // Whether two packets passed, one by one.
-fn has_passed_two(worked: &Worked) -> bool {
-    let [one, two] = worked.feeding.as_slice() else {
+fn has_passed_two(left: &Left) -> bool {
+    let [one, two] = left.feeding.as_slice() else {
         return false;
     };
-    worked.head.tally.packets == 2
+    left.head.tally.packets == 2
         && (one.first, one.count) == (0, 1)
         && (two.first, two.count) == (1, 1)
 }
@@ -320,7 +319,7 @@ fn a_client_waits_until_a_batch_has_passed(rt: HostRuntime) {
     let script =
         "c0 open n0\nc0 pes n0 256 frontend tsdemux_tap 20 0\nc0 start n0\nc0 readw n0 188\nstream\n";
     let clock = FixedClock::new(0);
-    let worked = left_by(&rt, rt.alloc(), script, &[(0, 0), (0, 1)], &clock, &gate);
+    let left = left_by(&rt, rt.alloc(), script, &[(0, 0), (0, 1)], &clock, &gate);
     assert_eq!(rt; gate.ran_out.load(SeqCst), 0);
-    assert!(rt; matches!(&worked, Some(worked) if has_waited(worked) && has_passed_two(worked)));
+    assert!(rt; matches!(&left, Some(left) if has_waited(left) && has_passed_two(left)));
 }

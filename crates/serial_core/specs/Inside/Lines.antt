@@ -5,7 +5,7 @@ use Rattle.client_script.specs.declared.line.Line.{Line}
 use Rattle.client_core.specs.Inside.Core.{Core, IsAfter}
 use Rattle.serial_core.specs.SerialRun.{Run, replies_of, finished, AreDone}
 use Rattle.serial_core.specs.declared.runner.Runner.{Runner}
-use Rattle.serial_core.specs.Budget.{IsPaid}
+use Rattle.serial_core.specs.Budget.{IsOnTheWay}
 use Rattle.serial_core.specs.Inside.Moving.{MadeAtMost}
 
 -- each core stands after the replies of its client
@@ -31,12 +31,12 @@ pub record MayBegin (lines : List Line) (cores : List Core) (v : Runner) : Type 
   pub calls : AreInBudget cores
   pub made : MadeAtMost v (calls_by cores)
 
--- The run has come from `first` by lines: where those behind them are done, all of them are.
+-- The run has come from `first` by lines: what those behind them do, all of them do.
 pub record ComesByLines (lines : List Line) (batch : ℕ) (behind all : List Line) (first now : Run)
     (cores : List Core) : Type 0 where
   pub clients : length now.replies ≡ 8
   pub after : AreAfter lines now cores
-  pub paid : (packets : List (List ℕ)) → IsPaid lines packets first → IsPaid lines packets now
+  pub way : (t : Run) → IsOnTheWay lines batch behind now t → IsOnTheWay lines batch all first t
   pub done : (t : Run) → AreDone lines batch behind now t → AreDone lines batch all first t
 
 -- this line is done
@@ -50,14 +50,15 @@ abbrev pub IsFrontBy : (batch : ℕ) (lines : List Line) (count : ℕ) (old new 
 IsFrontBy batch lines count old new r s =
     length r.replies ≡ 8 → AreAfter lines r old → ComesByLines lines batch (drop count lines) lines r s new
 
--- a client has made as many calls as it may
-pub record Overruns (lines : List Line) (first now : Run) : Type 0 where
+-- on the way through these lines a client has made as many calls as it may
+pub record Overruns (lines : List Line) (batch : ℕ) (all : List Line) (first now : Run) : Type 0 where
   pub client : ℕ
   pub calls : 2 ^ 39 ≤ length (replies_of client now)
-  pub paid : (packets : List (List ℕ)) → IsPaid lines packets first → IsPaid lines packets now
+  pub way : IsOnTheWay lines batch all first now
 
-abbrev pub OverrunsBy : List Core → Run → Run → Type 0
-OverrunsBy old r s = (lines : List Line) → length r.replies ≡ 8 → AreAfter lines r old → Overruns lines r s
+abbrev pub OverrunsBy : (batch : ℕ) (line : Line) → List Core → Run → Run → Type 0
+OverrunsBy batch line old r s =
+    (lines rest : List Line) → length r.replies ≡ 8 → AreAfter lines r old → Overruns lines batch (line ∷ rest) r s
 
 -- All lines are done, and the rest of the stream has passed.
 pub record IsWhole (lines : List Line) (batch : ℕ) (r s : Run) (cores : List Core) : Type 0 where

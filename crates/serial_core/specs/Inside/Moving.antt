@@ -1,5 +1,5 @@
 -- How the code goes on with the run, while the stream is pulled as it is wanted.
-use Rattle.std.specs.Prelude.{◌≡◌, ◌≢◌, ℕ, ◌+◌, ◌-◌, ◌^◌, ◌<◌, ◌≤◌, true, List, [], ◌++◌, length, None}
+use Rattle.std.specs.Prelude.{◌≡◌, ◌≢◌, ℕ, ◌+◌, ◌-◌, ◌^◌, ◌<◌, ◌≤◌, Bool, true, false, List, [], ◌++◌, length, None}
 use Rattle.emu_io.specs.Ends.{SourceEnd}
 use Rattle.client_script.specs.declared.line.Line.{Line}
 use Rattle.client_core.specs.Inside.Core.{Core, IsAfter}
@@ -9,7 +9,7 @@ use Rattle.feed_pull.specs.Pulling.{Pulling, Pulls, IsDone}
 use Rattle.feed_pull.specs.Streams.{Draws}
 use Rattle.serial_core.specs.declared.runner.Runner.{Runner}
 use Rattle.serial_core.specs.SerialRun.{Run, replies_of, IsWorked}
-use Rattle.serial_core.specs.Budget.{one_if, IsPaid}
+use Rattle.serial_core.specs.Budget.{IsBegun}
 use Rattle.serial_core.specs.Inside.Standing.{IsNodes, AreCounted}
 
 -- The code is where the run is, whatever is left of the stream.
@@ -19,6 +19,10 @@ pub record IsAt (v : Runner) (r : Run) : Type 0 where
   pub moment : v.moment ≡ r.moment
 
 -- ------ numbers
+
+abbrev pub one_if : Bool → ℕ
+one_if true = 1
+one_if false = 0
 
 -- the feeder has a turn for each packet at most, and one for End
 abbrev pub turns_of : Runner → ℕ
@@ -69,7 +73,7 @@ pub record ComesByCalls (lines : List Line) (batch client line : ℕ) (first now
   pub clients : length now.replies ≡ 8
   pub others : (other : ℕ) → other ≢ client → replies_of other now ≡ replies_of other first
   pub worked : (s : Run) → IsWorked lines batch client line now s → IsWorked lines batch client line first s
-  pub paid : (packets : List (List ℕ)) → IsPaid lines packets first → IsPaid lines packets now
+  pub begun : IsBegun lines batch client line first now
 
 -- so it comes from each run after which the old core stood
 abbrev pub ComesBy : (batch client line : ℕ) → (old new : Core) → Run → Run → Type 0

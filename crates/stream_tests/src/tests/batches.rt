@@ -9,7 +9,7 @@ use std::sync::Arc;
 use std::sync::ledger::{Blank, Ledger};
 use steps::Steps;
 use ts_batch::{Batch, PlaceSet};
-use ts_packet::{Cutter, PacketBuf};
+use ts_packet::{Cutter, PacketBuf, PacketRoom};
 
 // Three packets of PID 256.
 static THREE: [Part; 3] = [

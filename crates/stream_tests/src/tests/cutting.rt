@@ -1,8 +1,8 @@
 // Packets written by hand: their fields, and the cutting of a stream into them.
 
-use super::{NoMemory, Part, bytes_of};
+use super::{NoMemory, Part, bytes_of, long_stream};
 use std::alloc::Global;
-use ts_packet::{Cutter, PACKET_LEN, Packet, PacketBuf, Tally, cutting_law};
+use ts_packet::{Cutter, PACKET_LEN, Packet, PacketBuf, PacketRoom, Tally, cutting_law};
 
 // A header, and the fields that ISO/IEC 13818-1, 2.4.3, gives a packet with it.
 struct Row {
@@ -254,20 +254,9 @@ fn pieces_of_any_size_are_cut_alike(rt: HostRuntime) {
     assert_eq!(rt; odd_size(rt.alloc()), Ok(None));
 }
 
-// 70 packets, of whose payloads the first is of bytes 0, the next of bytes 1, and so on, and a byte 00.
-fn long_stream(alloc: Global) -> Result<Vec<u8>, NoMemory> {
-    let mut stream = Vec::new(alloc);
-    for i in 0..70u8 {
-        stream.extend_from_slice(&[0x47, 0x01, 0x00, 0x10 + i % 16])?;
-        stream.extend_from_slice(&[i; 184])?;
-    }
-    stream.push(0x00)?;
-    Ok(stream)
-}
-
 // Whether a buffer has 64 packets, the last of them with this last byte.
 fn is_full(packets: &PacketBuf, last: u8) -> bool {
-    packets.full() && packets.len() == 64 && packets.get(63).bytes()[187] == last
+    packets.is_full() && packets.len() == 64 && packets.get(63).bytes()[187] == last
 }
 
 // Whether a buffer has six packets, the last of them with this counter.

@@ -6,11 +6,15 @@ ghost use Rattle.feed_pull.specs.declared.fault.Reading.TheVariants.{Going};
 
 mod rows;
 
-use super::{NoMemory, Part, bytes_of};
+use super::{NoMemory, Part, bytes_of, long_stream};
 use emu_io::{MemSource, Source};
 use feed_pull::Puller;
 use rows::{PACKET, ROWS, Row, Told};
 use std::alloc::Global;
+use std::marker::Brand;
+use std::sync::ledger::{Blank, Ledger};
+use steps::Steps;
+use ts_batch::Batch;
 use ts_watch::Head;
 
 // A puller, and the source that it pulls from.
@@ -137,6 +141,57 @@ fn odd_row(alloc: Global) -> Result<Option<usize>, NoMemory> {
 #[test]
 fn streams_are_pulled_as_the_rows_say(rt: HostRuntime) {
     assert_eq!(rt; odd_row(rt.alloc()), Ok(None));
+}
+
+// What is left of these bytes behind the packets of a batch. None where they don't begin with these.
+fn behind_batch<'a, L: Ledger>(bytes: &'a [u8], batch: &Batch, blank: Blank) -> Option<&'a [u8]>
+    requires ledger { (blank.name ≡ L.name) × (blank.parts ≡ L.parts) × (L.parts ≡ 1) }
+{
+    let mut steps: Steps<L> = Steps::new(blank);
+    let mut left = bytes;
+    for i in 0..batch.count() {
+        left = left.strip_prefix(batch.packet(i, &mut steps).bytes().as_slice())?;
+    }
+    Some(left)
+}
+
+impl Stream {
+    // What is left of these bytes behind the packets of batches of these sizes, pulled one after another. None where a
+    // batch has another size or other packets.
+    fn behind_batches<'a>(
+        &mut self,
+        bytes: &'a [u8],
+        sizes: &[u32],
+    ) -> Result<Option<&'a [u8]>, NoMemory> {
+        let mut left = bytes;
+        'sizes: for size in sizes {
+            let Some(batch) = self.puller.pull(&mut self.source, (*size).clamp(1, 64))? else {
+                return Ok(None);
+            };
+            match behind_batch::<Brand>(left, &batch, Blank::new(1)) {
+                Some(rest) if batch.count() == *size => left = rest,
+                _ => return Ok(None),
+            }
+        }
+        Ok(Some(left))
+    }
+}
+
+// Whether a stream of 70 packets, read by 1,000 bytes, comes whole and in order in batches of 3, 64, 1 and 2 packets.
+fn comes_in_batches(alloc: Global) -> Result<bool, NoMemory> {
+    let bytes = long_stream(alloc)?;
+    let source = source_of(alloc, &bytes, 1_000, &[])?;
+    let puller = Puller::new(alloc, Vec::new(alloc), 0)?;
+    let mut stream = Stream { puller, source };
+    match stream.behind_batches(&bytes, &[3, 64, 1, 2])? {
+        Some(left) => Ok(left == [0u8].as_slice()),
+        None => Ok(false),
+    }
+}
+
+#[test]
+fn batches_of_any_size_have_the_packets_of_the_stream(rt: HostRuntime) {
+    assert_eq!(rt; comes_in_batches(rt.alloc()), Ok(true));
 }
 
 // How many packets the stream of a puller has that has begun with no bytes ahead: where no fault stopped reading, those of

@@ -8,7 +8,7 @@ use Rattle.client_core.specs.Inside.Core.{Core, IsAfter}
 use Rattle.client_core.specs.Events.{outcomes}
 use Rattle.adapter.specs.Callers.{Caller}
 use Rattle.workers.specs.declared.client_worker.ClientWorker.{ClientWorker}
-use Rattle.workers.specs.declared.done.Done.{Done}
+use Rattle.workers.specs.declared.clients.ClientsLeft.{ClientsLeft}
 use Rattle.workers.specs.Inside.Working.{HasCome}
 
 -- the worker of a client of a script that has made no call
@@ -34,9 +34,9 @@ AreOutcomesOf core told = (client : ℕ) (lines : List Line) (replies : List Res
     → told ≡ outcomes client lines replies
 
 -- what is left of the workers: the clients, their logs and the outcomes of their commands, in their order
-pub record IsLeft (workers : List ClientWorker) (done : Done) : Type 0 where
-  pub clients : done.clients.items ≡ map (λ w. w.client) workers
-  pub logs : map (λ log. log.items) done.logs.items ≡ map (λ w. w.log.items) workers
-  pub outcomes : length done.outcomes.items ≡ length workers
+pub record IsLeftByClients (workers : List ClientWorker) (left : ClientsLeft) : Type 0 where
+  pub clients : left.clients.items ≡ map (λ w. w.client) workers
+  pub logs : map (λ log. log.items) left.logs.items ≡ map (λ w. w.log.items) workers
+  pub outcomes : length left.outcomes.items ≡ length workers
   pub each : (c : ℕ) (w : ClientWorker) (told : List Outcome) → slice_get workers c ≡ Some w
-      → slice_get (map (λ those. those.items) done.outcomes.items) c ≡ Some told → AreOutcomesOf w.core told
+      → slice_get (map (λ those. those.items) left.outcomes.items) c ≡ Some told → AreOutcomesOf w.core told

@@ -18,7 +18,7 @@ pub record IsFitFeeder (locks : List TableId) (f : FeederWorker) : Type 0 where
   pub fits : Fits locks f.feeder.passes
   pub left : f.feeder.left + length f.feeding.items ≡ 2 ^ 44
   pub few : length f.feeding.items ≤ f.puller.given
-  pub given : f.puller.given ≤ 2199023255552
+  pub given : f.puller.given ≤ 2 ^ 41
 
 -- What holds whenever it may pass a batch: this has 1 to 64 packets, and the source, which has failed so
 -- often, may be read where reading goes on.
@@ -62,4 +62,4 @@ pub record HasFedToEnd (most : ℕ) (may : ℕ → Bool) (before after : SourceE
   pub all : new.stop ≢ Some NoMemory → HasPassedAll most may before after old.puller new
   pub few : new.stop ≡ None → new.puller.reading ≢ TooMany
   pub too_long : (turns : ℕ) → new.stop ≡ Some (TooLong turns)
-      → (turns ≡ 4294967296) × (4294967296 ≤ new.puller.start + new.puller.taken)
+      → (turns ≡ 2 ^ 32) × (2 ^ 32 ≤ new.puller.start + new.puller.taken)

@@ -7,7 +7,7 @@ use Rattle.client_core.specs.declared.stop.Stop.TheVariants.{NoMemory}
 use Rattle.feed_pull.specs.Pulling.{Pulls, has_failed}
 use Rattle.workers.specs.declared.client_worker.ClientWorker.{ClientWorker}
 use Rattle.workers.specs.declared.feeder_worker.FeederWorker.{FeederWorker}
-use Rattle.workers.specs.declared.worked.Worked.{Worked}
+use Rattle.workers.specs.declared.left.Left.{Left}
 use Rattle.workers.specs.Inside.Begun.{AreOutcomesOf}
 
 -- of two stops, if they are any: none comes of none, want of memory of either, and else it is one of them
@@ -25,14 +25,14 @@ pub record StopsBy (feeder : Option Stop) (clients : List ClientWorker) (stop : 
   pub one : (stop ≡ feeder) ⊎ ((k : ℕ) × (w : ClientWorker) × (slice_get clients k ≡ Some w) × (stop ≡ w.stop))
 
 -- the feeder with its batches and the stream's head, and the clients with their logs and outcomes
-pub record IsLeftBehind (f : FeederWorker) (workers : List ClientWorker) (w : Worked) : Type 0 where
-  pub feeder : w.feeder ≡ f.feeder
-  pub feeding : w.feeding ≡ f.feeding
+pub record IsLeftByWorkers (f : FeederWorker) (workers : List ClientWorker) (left : Left) : Type 0 where
+  pub feeder : left.feeder ≡ f.feeder
+  pub feeding : left.feeding ≡ f.feeding
   pub head : (ahead taken : List ℕ) (given : List (List ℕ)) → Pulls ahead taken given f.puller
-      → told_head w.head ≡ head_of (ahead ++ taken) w.head.read_fault
-  pub fault : w.head.read_fault ≡ has_failed f.puller.reading
-  pub clients : w.clients.items ≡ map (λ v. v.client) workers
-  pub logs : map (λ log. log.items) w.logs.items ≡ map (λ v. v.log.items) workers
-  pub outcomes : length w.outcomes.items ≡ length workers
+      → told_head left.head ≡ head_of (ahead ++ taken) left.head.read_fault
+  pub fault : left.head.read_fault ≡ has_failed f.puller.reading
+  pub clients : left.clients.items ≡ map (λ v. v.client) workers
+  pub logs : map (λ log. log.items) left.logs.items ≡ map (λ v. v.log.items) workers
+  pub outcomes : length left.outcomes.items ≡ length workers
   pub each : (c : ℕ) (v : ClientWorker) (told : List Outcome) → slice_get workers c ≡ Some v
-      → slice_get (map (λ those. those.items) w.outcomes.items) c ≡ Some told → AreOutcomesOf v.core told
+      → slice_get (map (λ those. those.items) left.outcomes.items) c ≡ Some told → AreOutcomesOf v.core told

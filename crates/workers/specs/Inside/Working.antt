@@ -6,6 +6,7 @@ use Rattle.dmx_calls.specs.Calls.{told_entry}
 use Rattle.dmx_calls.specs.History.{Entry}
 use Rattle.dmx_calls.specs.Log.{LogEntry}
 use Rattle.client_script.specs.declared.line.Line.{Line}
+use Rattle.client_core.specs.declared.stop.TheConstants.{MOST_CALLS}
 use Rattle.client_core.specs.Inside.Core.{IsAfter, next_of}
 use Rattle.client_core.specs.declared.stop.Stop.TheVariants.{NoMemory, TooLong}
 use Rattle.client_core.specs.Events.{waits_on}
@@ -32,7 +33,7 @@ pub record IsFit (locks : List TableId) (w : ClientWorker) : Type 0 where
 -- it has made no more calls than a run allows
 pub record MayWork (locks : List TableId) (w : ClientWorker) : Type 0 where
   pub fit : IsFit locks w
-  pub few : w.core.step ≤ 549755813888
+  pub few : w.core.step ≤ MOST_CALLS
 
 -- Its log has the calls so far of this client of a script, and its core stands after their replies.
 pub record IsWorking (lines : List Line) (client : ℕ) (may : ℕ → Bool) (w : ClientWorker) : Type 0 where
@@ -64,4 +65,4 @@ pub record HasCome (may : ℕ → Bool) (locks : List TableId) (old new : Client
   pub fit : new.stop ≢ Some NoMemory → IsFit locks new
   pub goes_on : new.stop ≢ Some NoMemory → GoesOn may old new
   pub ends : new.stop ≡ None → next_of new.core ≡ None
-  pub too_long : (turns : ℕ) → new.stop ≡ Some (TooLong turns) → (turns ≡ 549755813888) × (new.core.step ≡ 549755813888)
+  pub too_long : (turns : ℕ) → new.stop ≡ Some (TooLong turns) → (turns ≡ MOST_CALLS) × (new.core.step ≡ MOST_CALLS)

@@ -11,11 +11,11 @@ returns-in-Err-clause-refuses g c begun first takes h =
 
 pub returns-in-Ok-histories_of_run-clause-makes : goal.returns-in-Ok-histories_of_run-clause-makes
 returns-in-Ok-histories_of_run-clause-makes g c =
-    let worked = c.in-Ok-work.worked in
-    let left = c.in-Ok-work.ensures in
+    let left = c.in-Ok-work.left in
+    let is = c.in-Ok-work.ensures in
     IfOk-weaker c.reported.result _ _
-    (λ output told begun first takes h. threads_made c.args.batch _ c.args.session.script worked.head worked.feeder worked.feeding.items worked.clients.items _ _
+    (λ output told begun first takes h. threads_made c.args.batch _ c.args.session.script left
     begun _ _ first c.args.session.puller c.in-Ok-histories_of_run.histories output.read_fault _ output.text.items
-    takes h left.worked (λ stream w. c.in-Ok-histories_of_run.ensures.run c.args.session.script c.args.batch _ stream _ w) left.rose left.later left.end
+    takes h is.left (λ stream w. c.in-Ok-histories_of_run.ensures.run c.args.session.script c.args.batch _ stream _ w) is.rose is.later is.end
     told.0 (ap (map (λ those. those.items)) c.deref.ensures.value) told.1)
     c.reported.ensures.told

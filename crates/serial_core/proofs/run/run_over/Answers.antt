@@ -61,7 +61,7 @@ returns-clause-too_long g c turns is =
     let same : c.in-Err.stop ≡ TooLong turns = cc in
     let k = c.whole.ensures.too_long turns (c.in-Err.is ∙ ap Err same) in
     of_stream (g.S.Source.end c.args.source.now) (g.S.Source.end c.whole.new.source) c.args.runner.puller _ (IsTooLong c.args.script.now c.args.runner.puller.start turns) (λ ahead taken (q : 2 ^ 39 ≤ most_calls (all_commands c.args.script.now) (length ahead + length taken)). inr (k.0, q))
-    (overrun_is c.args.script.now c.args.batch _ _ c.args.runner c.whole.new.self c.args.cores.now c.requires.begun c.requires.fresh (rw c.lines.ensures.lines at k.1))
+    (overrun_is c.args.script.now c.args.batch _ _ c.args.runner c.whole.new.self c.args.cores.now c.requires.begun c.requires.fresh (rw c.lines.ensures.lines at c.lines.ensures.known.ranges) c.requires.some (rw c.lines.ensures.lines at k.1))
 
 pub returns-clause-draws : goal.returns-clause-draws
 returns-clause-draws g c = let d = c.in-Err.ensures.draws in (d.0, (c.whole.new.self.puller, d.1))

@@ -7,7 +7,7 @@ use Rattle.text_forms.proofs.places.write_filter.Goals as goal
 
 pub places-init : goal.places-init
 unfolding numbers_below
-places-init c = record { written = sym (append-nil c.reserve.new.self.items); room = search rules }
+places-init c = record { written = sym (append-nil c.reserve.new.self.items); room = search rules; few = search rules; kept = search rules }
 
 pub places-preserved : goal.places-preserved
 places-preserved c =
@@ -15,4 +15,6 @@ places-preserved c =
     record {
       written = rw (below_more c.places.i) (c.put_filter_place.ensures.appended ∙ (ap (λ text. text ++ f c.places.i) c.places.invariant.written ∙ flat_map_more f c.reserve.new.self.items (numbers_below c.places.i) c.places.i));
       room = omega arith;
+      few = omega arith;
+      kept = omega arith;
     }

@@ -1,9 +1,9 @@
-use Rattle.std.proofs.Common.{rules, ◌≡◌, ◌≢◌, ◌≤◌, ◌+◌, length, inl, ⊎_elim, [], None, Some, refl, ap, ◌∙◌}
+use Rattle.std.proofs.Common.{rules, ◌≡◌, ◌≢◌, ◌≤◌, ◌+◌, ◌^◌, length, inl, ⊎_elim, [], None, Some, refl, ap, ◌∙◌}
 use Rattle.std.specs.Prelude.{slice_index_or}
 use Rattle.std.proofs.lemmas.Option.{slice_get-get_or}
 use Rattle.script_run.specs.Budget.{IsTooLong}
 use Rattle.client_core.specs.declared.stop.Stop.TheVariants.{NoMemory, TooLong}
-use Rattle.workers.specs.Inside.Leaving.{IsLeftBehind, StopsBy}
+use Rattle.workers.specs.Inside.Leaving.{IsLeftByWorkers, StopsBy}
 use Rattle.feed_pull.proofs.Drawing.{draws_none}
 use Rattle.workers.proofs.Beginning.{begun_fit, begun_few, begun_feeder, begun_passed}
 use Rattle.feed_pull.proofs.Stopping.{on_err, many_reads, of_stream}
@@ -46,8 +46,8 @@ work_all-requires-clause-clients g c κs within k d low =
       few = begun_few c.args.script.now c.args.adapter.now _ c.args.feeder c.args.clients.items r.fresh r.all ws b k (slice_index_or ws k d) at;
     }
 
-pub returns-in_ok-worked_of-in-None-clause-worked : goal.returns-in_ok-worked_of-in-None-clause-worked
-returns-in_ok-worked_of-in-None-clause-worked g c =
+pub returns-in_ok-left_by-in-None-clause-left : goal.returns-in_ok-left_by-in-None-clause-left
+returns-in_ok-left_by-in-None-clause-left g c =
     let r = c.requires in let ws = c.in_ok-workers.workers.items in let vs = c.work_all.new.clients.items in
     let f = c.work_all.new.feeder in let fed = c.work_all.ensures.feeder in
     let may = g.C.Clock.may_give c.args.clock.now in
@@ -55,35 +55,35 @@ returns-in_ok-worked_of-in-None-clause-worked g c =
     let stop : c.stop_of.result ≡ None = search rules in
     let s : StopsBy f.stop vs c.stop_of.result = rw (← c.deref.ensures.value) c.stop_of.ensures in
     let none = s.none stop in
-    let left : IsLeftBehind f vs c.in_ok-worked_of-in-None.field-0 = c.in_ok-worked_of-in-None.ensures in
+    let left : IsLeftByWorkers f vs c.in_ok-left_by-in-None.field-0 = c.in_ok-left_by-in-None.ensures in
     let all = fed.all (no_stop f.stop none.0) in
     let more = all.draws.carries.more in (
       more,
       all.draws.carries.consumes,
-      λ ahead pulls. (
-        all_worked c.args.script.now c.args.adapter.now _ c.args.feeder c.args.clients.items r.fresh r.all may ws vs b c.work_all.ensures.clients f c.in_ok-worked_of-in-None.field-0 left none.1
-            c.args.batch _ refl (worked_feeder c.args.batch may _ _ c.args.puller f all ahead pulls),
-        left.head ahead more all.packets (all.draws.carries.pulls ahead [] [] pulls),
-      ),
+      λ ahead pulls. record {
+        worked = all_worked c.args.script.now c.args.adapter.now _ c.args.feeder c.args.clients.items r.fresh r.all may ws vs b c.work_all.ensures.clients f c.in_ok-left_by-in-None.field-0 left none.1
+            c.args.batch _ refl (worked_feeder c.args.batch may _ _ c.args.puller f all ahead pulls);
+        head = left.head ahead more all.packets (all.draws.carries.pulls ahead [] [] pulls);
+      },
     )
 
-pub returns-in_ok-worked_of-in-None-clause-all : goal.returns-in_ok-worked_of-in-None-clause-all
-returns-in_ok-worked_of-in-None-clause-all g c =
+pub returns-in_ok-left_by-in-None-clause-all : goal.returns-in_ok-left_by-in-None-clause-all
+returns-in_ok-left_by-in-None-clause-all g c =
     let r = c.requires in let ws = c.in_ok-workers.workers.items in let vs = c.work_all.new.clients.items in let f = c.work_all.new.feeder in
     let may = g.C.Clock.may_give c.args.clock.now in
     let b = c.in_ok-workers.ensures in
     let stop : c.stop_of.result ≡ None = search rules in
     let s : StopsBy f.stop vs c.stop_of.result = rw (← c.deref.ensures.value) c.stop_of.ensures in
-    all_same c.args.script.now c.args.adapter.now _ c.args.feeder c.args.clients.items r.fresh r.all may ws vs b c.work_all.ensures.clients f c.in_ok-worked_of-in-None.field-0 c.in_ok-worked_of-in-None.ensures (s.none stop).1 c.work_all.ensures.feeder.same
+    all_same c.args.script.now c.args.adapter.now _ c.args.feeder c.args.clients.items r.fresh r.all may ws vs b c.work_all.ensures.clients f c.in_ok-left_by-in-None.field-0 c.in_ok-left_by-in-None.ensures (s.none stop).1 c.work_all.ensures.feeder.same
 
-pub returns-in_ok-worked_of-in-None-clause-nodes : goal.returns-in_ok-worked_of-in-None-clause-nodes
-returns-in_ok-worked_of-in-None-clause-nodes g c =
+pub returns-in_ok-left_by-in-None-clause-nodes : goal.returns-in_ok-left_by-in-None-clause-nodes
+returns-in_ok-left_by-in-None-clause-nodes g c =
     let r = c.requires in let ws = c.in_ok-workers.workers.items in let vs = c.work_all.new.clients.items in let f = c.work_all.new.feeder in
     let may = g.C.Clock.may_give c.args.clock.now in
     let b = c.in_ok-workers.ensures in
     let stop : c.stop_of.result ≡ None = search rules in
     let s : StopsBy f.stop vs c.stop_of.result = rw (← c.deref.ensures.value) c.stop_of.ensures in
-    all_on_nodes c.args.script.now c.args.adapter.now _ c.args.feeder c.args.clients.items r.fresh r.all may ws vs b c.work_all.ensures.clients f c.in_ok-worked_of-in-None.field-0 c.in_ok-worked_of-in-None.ensures (s.none stop).1
+    all_on_nodes c.args.script.now c.args.adapter.now _ c.args.feeder c.args.clients.items r.fresh r.all may ws vs b c.work_all.ensures.clients f c.in_ok-left_by-in-None.field-0 c.in_ok-left_by-in-None.ensures (s.none stop).1
 
 pub gather-requires : goal.gather-requires
 gather-requires g c =
@@ -102,7 +102,7 @@ returns-in_ok-gather-in-Some-clause-too_long g c turns is =
     let memory = s.memory found in
     let all = fed.all memory.0 in
     ⊎_elim
-    (λ first. let k = fed.too_long turns first in of_stream (g.S.Source.end c.args.source.now) (g.S.Source.end c.work_all.new.source) c.args.puller _ (IsTooLong c.args.script.now c.args.puller.start turns) (λ ahead taken (q : 4294967296 ≤ c.args.puller.start + length taken). inl (k.0, q))
+    (λ first. let k = fed.too_long turns first in of_stream (g.S.Source.end c.args.source.now) (g.S.Source.end c.work_all.new.source) c.args.puller _ (IsTooLong c.args.script.now c.args.puller.start turns) (λ ahead taken (q : 2 ^ 32 ≤ c.args.puller.start + length taken). inl (k.0, q))
     (many_reads _ _ c.args.puller f.puller fed.draws.0 fed.draws.1 k.1))
     (λ many. calls_by c.args.script.now c.args.adapter.now _ c.args.feeder c.args.clients.items r.fresh r.all may ws vs c.in_ok-workers.ensures c.work_all.ensures.clients
     c.args.batch _ _ c.args.puller f all memory.1 refl c.in_ok-gather-in-Some.ensures many_calls turns many.1.0 many.1.1 many.1.2 many.1.3 many.0)

@@ -1,26 +1,13 @@
-use Rattle.std.proofs.Common.{arith, rules, ◌≡◌, ◌<◌, length, refl, sym, ◌∙◌}
-use Rattle.feed_pull.proofs.PullLemmas.{Gathers-none, Gathers-then, Follows-none, Follows-then, ReadsNothing-then, most-waits}
+use Rattle.std.proofs.Common.{sym, subst}
+use Rattle.feed_pull.specs.Pulling.{Pulling, IsPulling}
+use Rattle.feed_pull.proofs.PullLemmas.{Gathers-none, Gathers-room}
 use Rattle.feed_pull.proofs.puller.Puller.gather.Goals as goal
 
-pub gathering-init : goal.gathering-init
-gathering-init g c = record {
-  gathers = Gathers-none c.args.self.now _ (rw (← c.self.view_is) c.self.invariant.rest);
-  follows = Follows-none c.args.self.now.reading _;
-  late = λ h. h;
-  full = λ _. (refl, refl);
-  stopped = λ _. record { taken = refl; reads = refl };
-}
+pub returns-in_err-make_room-clause-gathers : goal.returns-in_err-make_room-clause-gathers
+returns-in_err-make_room-clause-gathers g c = rw c.in_err-make_room.ensures.refused (Gathers-none c.args.self.now _ (rw (← c.self.view_is) c.self.invariant.rest))
 
-pub gathering-preserved : goal.gathering-preserved
-gathering-preserved g c =
-    let i = c.gathering.invariant in
-    let s = c.step.ensures in
-    let room : length c.gathering.self.waiting < c.args.most = search rules in
-    let same : c.gathering.self.given ≡ c.args.self.now.given = i.gathers.goes.given in
-    record {
-      gathers = Gathers-then c.args.self.now c.gathering.self c.step.new.self _ _ _ i.gathers s.gathers;
-      follows = Follows-then c.args.self.now.reading c.gathering.self.reading c.step.new.self.reading _ _ _ i.follows s.follows;
-      late = λ h. (let k = i.late h in omega (arith, s.late));
-      full = λ h. absurd (most-waits c.args.most c.args.self.now c.gathering.self (i.full h).1 h room);
-      stopped = λ h. ReadsNothing-then c.args.self.now c.gathering.self c.step.new.self (i.stopped h) (s.stopped (λ e. h (sym (i.follows.stays h) ∙ e)));
-    }
+pub returns-in_err-make_room-clause-sound : goal.returns-in_err-make_room-clause-sound
+returns-in_err-make_room-clause-sound g c = subst (λ (p : Pulling). IsPulling p) (sym c.in_err-make_room.ensures.refused) (rw (← c.self.view_is) c.self.invariant)
+
+pub returns-clause-gathers : goal.returns-clause-gathers
+returns-clause-gathers g c = Gathers-room c.args.self.now c.make_room.new.self c.fill.new.self c.args.most _ _ c.in_ok-make_room.ensures.made c.fill.ensures.gathers

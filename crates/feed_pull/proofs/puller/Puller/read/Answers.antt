@@ -1,6 +1,7 @@
 use Rattle.std.proofs.Common.{arith, ◌≡◌, [], refl, sym, ◌∙◌}
+use Rattle.std.proofs.lemmas.List.{nil_from_length}
 use Rattle.std.proofs.KnownBytes.{Consumes-nil}
-use Rattle.feed_pull.proofs.PullLemmas.{Goes-same, Goes-read, empty-list}
+use Rattle.feed_pull.proofs.PullLemmas.{Goes-same, Goes-read}
 use Rattle.feed_pull.proofs.puller.Puller.read.Goals as goal
 
 pub returns-then-self-eq-MOST_READS-clause-gathers : goal.returns-then-self-eq-MOST_READS-clause-gathers
@@ -14,7 +15,7 @@ returns-in-Err-clause-gathers g c =
 
 pub returns-in-Ok-eq0-clause-gathers : goal.returns-in-Ok-eq0-clause-gathers
 returns-in-Ok-eq0-clause-gathers g c =
-    let none : c.read.new.self ≡ [] = empty-list c.read.new.self (omega (arith, c.in-Ok-eq0.ensures.count, c.in-Ok-eq0.field-0-is)) in
+    let none : c.read.new.self ≡ [] = nil_from_length c.read.new.self (omega (arith, c.in-Ok-eq0.ensures.count, c.in-Ok-eq0.field-0-is)) in
     let was = rw (← c.self.view_is) at c.requires.empty in
     rw (← c.self.view_is) (record { more = []; consumes = rw none at c.in-Ok-eq0.ensures.bytes; goes = Goes-same _ _ c.self.invariant.rest refl refl (none ∙ sym was) refl refl refl refl refl })
 

@@ -4,7 +4,7 @@ use Rattle.client_script.specs.declared.line.Line.{Line}
 use Rattle.client_core.specs.Inside.Core.{IsAfter}
 use Rattle.serial_core.specs.SerialRun.{Run, called, replies_of, reply_to, after_waiting}
 use Rattle.serial_core.proofs.Moving.{moves_then}
-use Rattle.serial_core.specs.Budget.{one_if}
+use Rattle.serial_core.specs.Inside.Moving.{one_if}
 use Rattle.serial_core.proofs.Commanding.{moves_called, one_if_small}
 use Rattle.serial_core.proofs.runner.Runner.advance.Goals as goal
 

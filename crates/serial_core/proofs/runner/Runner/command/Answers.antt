@@ -31,7 +31,7 @@ calls-preserved g c =
           (lines : List Line) (clients : length r.replies ≡ 8) (after : IsAfter client lines (replies_of client r) c.args.core.now).
           let come = a lines clients after in
           let n = b lines come.after in
-          comes_on lines batch client line r s t core next e c.requires.ready.some c.requires.client come (sym (c.next_at.ensures.tied client lines _ come.after) ∙ c.in-Some.is) n.0 n.1)
+          comes_on lines batch client line r s t core next e c.requires.client come (sym (c.next_at.ensures.tied client lines _ come.after) ∙ c.in-Some.is) n.0 n.1)
           c.calls.invariant.moves k.moves;
       moment = k.moment ∙ c.calls.invariant.moment;
       made = λ calls made. let m = k.made (core.step + calls) (c.calls.invariant.made calls made) in omega (arith, m, k.step);

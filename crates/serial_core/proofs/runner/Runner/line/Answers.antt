@@ -24,7 +24,7 @@ command-requires-clause-made g c =
 
 pub returns-in_ok-feed-in-Feed-clause-moves : goal.returns-in_ok-feed-in-Feed-clause-moves
 returns-in_ok-feed-in-Feed-clause-moves g c =
-    rw c.in-Feed.is (moves_by _ _ _ _ _ _ (λ (r s : Run) (a : s ≡ fed c.args.batch c.in-Feed.count r). feed_done c.args.batch c.in-Feed.count c.args.cores.now r s c.requires.ready.some a) c.in_ok-feed-in-Feed.ensures.moves)
+    rw c.in-Feed.is (moves_by _ _ _ _ _ _ (λ (r s : Run) (a : s ≡ fed c.args.batch c.in-Feed.count r). feed_done c.args.batch c.in-Feed.count c.args.cores.now r s a) c.in_ok-feed-in-Feed.ensures.moves)
 
 pub returns-in_ok-feed-in-Feed-clause-made : goal.returns-in_ok-feed-in-Feed-clause-made
 returns-in_ok-feed-in-Feed-clause-made g c = c.in_ok-feed-in-Feed.ensures.made (calls_by c.args.cores.now) c.requires.made
@@ -67,10 +67,11 @@ returns-in_err-command-in-Command-clause-too_long g c turns is =
     let core = c.index-cores-client.result in
     let there : client + 1 ≤ length cores = rw c.in-Command.is at c.requires.client in
     let same = err_and _ _ (TooLong turns) is c.from_residual-in_err-command-in-Command.ensures.1 in
-    let k = c.command.ensures.too_long turns (c.in_err-command-in-Command.was ∙ ap Err (sym same)) in (
+    let k = c.command.ensures.too_long turns (c.in_err-command-in-Command.was ∙ ap Err (sym same)) in
+    rw c.in-Command.is (
       k.0,
       moves_by _ _ _ _ _ _
           (λ (r s : Run) (a : ComesBy c.args.batch client c.in-Command.line (get_or cores client core) c.command.new.core r s).
-          overruns c.args.batch c.in-Command.line client cores (get_or cores client core) c.command.new.core r s (omega (arith, there)) (ap (get_or cores client) c.index-cores-client.is) k.1 a)
+          overruns c.args.batch c.in-Command.line client c.in-Command.target c.in-Command.verb cores (get_or cores client core) c.command.new.core r s (omega (arith, there)) (ap (get_or cores client) c.index-cores-client.is) k.1 a)
           k.2,
     )

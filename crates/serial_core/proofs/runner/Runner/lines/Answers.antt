@@ -1,4 +1,4 @@
-use Rattle.std.proofs.Common.{◌≡◌, refl, sym, ap, ◌∙◌, ◌+◌, ◌<◌, ◌∷◌, length, drop, get_or, add-one, Err, arith}
+use Rattle.std.proofs.Common.{◌≡◌, refl, sym, ap, ◌∙◌, suc, ◌+◌, ◌<◌, ◌∷◌, length, drop, get_or, add-one, Err, arith}
 use Rattle.std.proofs.Math.Seq.{drop-cons}
 use Rattle.client_script.specs.declared.line.Line.TheVariants.{Feed}
 use Rattle.client_core.specs.declared.stop.Stop.TheVariants.{TooLong}
@@ -26,11 +26,14 @@ returns-in_err-line-clause-draws g c = drawn_then _ _ _ _ _ _ _ c.from_residual.
 pub returns-in_err-line-clause-too_long : goal.returns-in_err-line-clause-too_long
 returns-in_err-line-clause-too_long g c turns is =
     let same = err_and _ _ (TooLong turns) is c.from_residual.ensures.1 in
+    let lines = c.args.lines.now in
+    let i = c.lines.line-index in
+    let there : i < length lines = omega (arith, c.lines-test.true, c.lines.auto.line-index-end) in
     let k = c.line.ensures.too_long turns (c.in_err-line.was ∙ ap Err (sym same)) in (
       k.0,
       moves_then _ _ _ _ _ _ _ _ _
-          (λ (r s t : Run) (a : IsFrontBy c.args.batch c.args.lines.now c.lines.line-index c.args.cores.now c.lines.cores r s) (b : OverrunsBy c.lines.cores s t).
-          front_overruns c.args.batch c.lines.line-index c.args.lines.now c.args.cores.now c.lines.cores r s t a b)
+          (λ (r s t : Run) (a : IsFrontBy c.args.batch lines i c.args.cores.now c.lines.cores r s) (b : OverrunsBy c.args.batch _ c.lines.cores s t).
+          front_overruns c.args.batch i lines (drop (suc i) lines) _ c.args.cores.now c.lines.cores r s t (drop-cons lines i (Feed 0) there) a b)
           c.lines.invariant.moves k.1,
     )
 

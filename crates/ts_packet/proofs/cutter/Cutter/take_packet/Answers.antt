@@ -4,7 +4,7 @@ use Rattle.ts_packet.proofs.CutLemmas.{Cuts-packet}
 use Rattle.ts_packet.proofs.cutter.Cutter.take_packet.Goals as goal
 
 pub returns-clause-cuts : goal.returns-clause-cuts
-returns-clause-cuts c =
+returns-clause-cuts g c =
     let i = c.self.inside in
     let empty : take i.len i.held ≡ [] = ap (λ (z : Cutting). z.rest) c.self.view_is ∙ c.requires.empty in
     rw (← c.self.view_is)

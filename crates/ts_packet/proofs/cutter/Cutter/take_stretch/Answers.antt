@@ -6,14 +6,14 @@ use Rattle.ts_packet.proofs.cutter.Cutter.take_stretch.Goals as goal
 use Rattle.ts_packet.proofs.cutter.Cutter.take_stretch.Goals.{then-self-eq0+else-piece-ne-SYNC_BYTE+in_default, else-self-eq0}
 
 pub returns-then-piece-ne-SYNC_BYTE-clause-soon : goal.returns-then-piece-ne-SYNC_BYTE-clause-soon
-returns-then-piece-ne-SYNC_BYTE-clause-soon c = λ k lt.
+returns-then-piece-ne-SYNC_BYTE-clause-soon g c = λ k lt.
     let piece = c.args.piece.now in
     let n : length (take k piece) ≡ k = length-take-le k piece (omega (arith, c.skip.ensures.within)) in
     none-in-skipped c.args.self.now.rest (take k piece) (rw (← c.self.view_is, c.if-self-eq0.true) refl)
     (λ j below. rw (get_or-take k piece j 0 (omega arith)) (c.skip.ensures.before j (omega arith)))
 
 pub returns-in-Some-clause-soon : goal.returns-in-Some-clause-soon
-returns-in-Some-clause-soon c = λ k lt.
+returns-in-Some-clause-soon g c = λ k lt.
     let piece = c.args.piece.now in
     let is_rest : IsRest c.args.self.now.rest = rw (← c.self.view_is) c.self.invariant.1 in
     let empty : c.args.self.now.rest ≡ [] = rw (← c.self.view_is, c.if-self-eq0.true) refl in
@@ -22,7 +22,7 @@ returns-in-Some-clause-soon c = λ k lt.
     none-in-rest c.args.self.now.rest (take k piece) is_rest (rw empty (omega arith)) (λ z some. rw (get_or-take k piece 0 0 (omega arith)) (omega arith))
 
 pub returns-clause-soon : goal.returns-clause-soon
-returns-clause-soon c = λ k lt.
+returns-clause-soon g c = λ k lt.
     let piece = c.args.piece.now in
     let is_rest : IsRest c.args.self.now.rest = rw (← c.self.view_is) c.self.invariant.1 in
     let n : length (take k piece) ≡ k = length-take-le k piece (omega (arith, c.fill.ensures.within)) in

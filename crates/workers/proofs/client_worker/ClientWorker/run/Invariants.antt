@@ -1,4 +1,5 @@
 use Rattle.std.proofs.Common.{◌≤◌, ◌-◌}
+use Rattle.client_core.specs.declared.stop.TheConstants.{MOST_CALLS}
 use Rattle.adapter.specs.Callers.{IsSameCaller}
 use Rattle.workers.specs.Inside.Working.{IsFit, GoesOn}
 use Rattle.workers.proofs.client_worker.ClientWorker.run.Given as goal
@@ -7,9 +8,9 @@ abbrev pub invariant-calls : goal.invariant-calls
 invariant-calls g l = record {
   same : IsSameCaller l.fn.self.client l.self.client;
   fit : IsFit l.adapter l.self;
-  few : l.self.core.step ≤ 549755813888;
+  few : l.self.core.step ≤ MOST_CALLS;
   goes_on : GoesOn (g.C.Clock.may_give l.clock) l.fn.self l.self;
 }
 
 abbrev pub decreases-calls : goal.decreases-calls
-decreases-calls g l = 549755813888 - l.self.core.step
+decreases-calls g l = MOST_CALLS - l.self.core.step

@@ -1,4 +1,4 @@
-use Rattle.std.proofs.Common.{◌-◌, ℕ, List}
+use Rattle.std.proofs.Common.{◌-◌, ◌^◌, ℕ, List}
 use Rattle.emu_io.specs.Ends.{SourceEnd}
 use Rattle.adapter.specs.Callers.{IsSameCaller}
 use Rattle.feed_pull.specs.Pulling.{Pulling}
@@ -16,4 +16,4 @@ invariant-batches g l = record {
 }
 
 abbrev pub decreases-batches : goal.decreases-batches
-decreases-batches g l = 2199023255552 - l.self.puller.given
+decreases-batches g l = 2 ^ 41 - l.self.puller.given

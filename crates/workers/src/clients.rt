@@ -1,7 +1,7 @@
 // The clients' workers before their first calls, and what is left of them.
 ghost use Rattle.std.specs.Prelude.{◌≡◌, length, IfOk};
 ghost use Rattle.client_script.specs.Script.{clients_in};
-ghost use Rattle.workers.specs.Inside.Begun.{AreFreshWorkers, IsLeft};
+ghost use Rattle.workers.specs.Inside.Begun.{AreFreshWorkers, IsLeftByClients};
 
 use crate::client_worker::ClientWorker;
 use adapter::Client;
@@ -12,7 +12,7 @@ use std::alloc::{AllocError as NoMemory, Global};
 
 /// What is left of the clients' workers, in the clients' order.
 #[derive(Drop)]
-pub struct Done {
+pub struct ClientsLeft {
     pub clients: Vec<Client>,
     pub logs: Vec<Vec<Entry>>,
     pub outcomes: Vec<Vec<Outcome>>,
@@ -44,8 +44,8 @@ pub fn workers_of(
 }
 
 /// The clients, their logs and the outcomes of their commands.
-pub fn done_of(alloc: Global, workers: Vec<ClientWorker>) -> Result<Done, NoMemory>
-    ensures { IfOk result (IsLeft workers.items) }
+pub fn left_by_clients(alloc: Global, workers: Vec<ClientWorker>) -> Result<ClientsLeft, NoMemory>
+    ensures { IfOk result (IsLeftByClients workers.items) }
 {
     let mut clients = Vec::new(alloc);
     let mut logs = Vec::new(alloc);
@@ -61,7 +61,7 @@ pub fn done_of(alloc: Global, workers: Vec<ClientWorker>) -> Result<Done, NoMemo
         clients.push(client)?;
         logs.push(log)?;
     }
-    Ok(Done {
+    Ok(ClientsLeft {
         clients,
         logs,
         outcomes,

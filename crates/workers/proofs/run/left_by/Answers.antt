@@ -1,6 +1,6 @@
 use Rattle.std.proofs.Common.{◌++◌, refl, sym, ap, ◌∙◌}
 use Rattle.ts_watch.specs.Head.{head_of}
-use Rattle.workers.proofs.run.worked_of.Goals as goal
+use Rattle.workers.proofs.run.left_by.Goals as goal
 
 pub returns : goal.returns
 returns c =

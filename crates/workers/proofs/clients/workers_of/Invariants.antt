@@ -2,7 +2,7 @@ use Rattle.std.proofs.Common.{◌≡◌, ℕ, length, map, Some}
 use Rattle.std.specs.Prelude.{slice_get}
 use Rattle.workers.specs.declared.client_worker.ClientWorker.{ClientWorker}
 use Rattle.workers.specs.Inside.Begun.{IsFreshWorker}
-use Rattle.workers.proofs.done.workers_of.Given as goal
+use Rattle.workers.proofs.clients.workers_of.Given as goal
 
 abbrev pub invariant-callers : goal.invariant-callers
 invariant-callers l = record {

@@ -6,7 +6,7 @@ use Rattle.adapter.specs.Callers.{Caller}
 use Rattle.workers.specs.declared.client_worker.ClientWorker.{ClientWorker}
 use Rattle.workers.specs.Inside.Begun.{IsFreshWorker}
 use Rattle.workers.proofs.Lists.{each_more}
-use Rattle.workers.proofs.done.workers_of.Goals as goal
+use Rattle.workers.proofs.clients.workers_of.Goals as goal
 
 pub overflow_add-number : goal.overflow_add-number
 overflow_add-number c =

@@ -2,7 +2,7 @@ use Rattle.std.proofs.Common.{rules, ◌≡◌, ◌+◌, ℕ, [], ◌∷◌, ◌
 use Rattle.dmx_calls.specs.declared.log.Entry.{Entry}
 use Rattle.workers.specs.declared.client_worker.ClientWorker.{ClientWorker}
 use Rattle.workers.proofs.Lists.{maps_more, gives_more, outcomes_more}
-use Rattle.workers.proofs.done.done_of.Goals as goal
+use Rattle.workers.proofs.clients.left_by_clients.Goals as goal
 
 pub workers-preserved : goal.workers-preserved
 workers-preserved c =

@@ -1,13 +1,17 @@
--- What the threads of a run leave.
-use Rattle.std.specs.Prelude.{◌≡◌, ℕ, Bool, List, length, slice_get, Some, None}
+-- What `work` answers.
+use Rattle.std.specs.Prelude.{◌≡◌, ℕ, Bool, List, length, map, slice_get, Some, None}
+use Rattle.ts_packet.specs.Cut.{cut}
+use Rattle.ts_watch.specs.Head.{told_head, head_of}
 use Rattle.dmx_calls.specs.declared.histories.Fed.{Fed}
 use Rattle.dmx_calls.specs.declared.outcome.Outcome.{Outcome}
+use Rattle.dmx_calls.specs.Calls.{told_entry}
 use Rattle.dmx_calls.specs.Log.{LogEntry}
 use Rattle.client_script.specs.declared.line.Line.{Line}
 use Rattle.client_script.specs.Script.{clients_in}
 use Rattle.client_core.specs.Events.{next_event, outcomes}
 use Rattle.script_run.specs.IsRun.{replies}
 use Rattle.adapter.specs.Callers.{Caller}
+use Rattle.workers.specs.declared.left.Left.{Left}
 use Rattle.workers.specs.Logged.{HasCalled}
 use Rattle.workers.specs.Feeding.{HasFedAll}
 
@@ -29,3 +33,9 @@ pub record AreWorked (lines : List Line) (most : ℕ) (may : ℕ → Bool) (stre
   pub each : (c : ℕ) (client : Caller) (log : List LogEntry) (became : List Outcome) → slice_get others c ≡ Some client
       → slice_get books c ≡ Some log → slice_get told c ≡ Some became
       → HasWorked lines c may client log became
+
+-- This is what the threads of a run of a script leave over a stream of these bytes, in which the source failed or not.
+pub record IsLeftBy (lines : List Line) (most : ℕ) (may : ℕ → Bool) (stream : List ℕ) (left : Left) : Type 0 where
+  pub worked : AreWorked lines most may (cut stream).packets left.feeder left.feeding.items left.clients.items
+      (map (λ log. map told_entry log.items) left.logs.items) (map (λ those. those.items) left.outcomes.items)
+  pub head : told_head left.head ≡ head_of stream left.head.read_fault

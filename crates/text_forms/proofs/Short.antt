@@ -1,0 +1,19 @@
+-- The words of inputs and outputs are short.
+use Rattle.std.proofs.Common.{◌≤◌, length, arith}
+use Rattle.dmx_calls.specs.Names.{input_text, output_text}
+use Rattle.dmx_calls.specs.declared.params.Input.{Input}
+use Rattle.dmx_calls.specs.declared.params.Input.TheVariants.{Frontend, Dvr}
+use Rattle.dmx_calls.specs.declared.params.Output.{Output}
+use Rattle.dmx_calls.specs.declared.params.Output.TheVariants.{Decoder, Tap, TsTap, TsdemuxTap}
+
+pub short_input : (input : Input) → length (input_text input) ≤ 20
+unfolding input_text
+short_input Frontend = omega arith
+short_input Dvr = omega arith
+
+pub short_output : (output : Output) → length (output_text output) ≤ 20
+unfolding output_text
+short_output Decoder = omega arith
+short_output Tap = omega arith
+short_output TsTap = omega arith
+short_output TsdemuxTap = omega arith
