@@ -27,7 +27,7 @@ use Rattle.client_core.specs.Events.{Standing, progress, next_event, waits_after
 use Rattle.script_run.specs.IsRun.{steps_of}
 use Rattle.client_core.proofs.GoesOn.{last_counts}
 use Rattle.client_core.proofs.Numbering.{next_is_numbered}
-use Rattle.client_core.proofs.Options.{same_some}
+use Rattle.lemmas.proofs.Options.{same_some}
 use Rattle.script_run.proofs.Events.{no_pass, of_stream}
 use Rattle.serial_core.specs.Nodes.{Node, uncalled, history_of, answer_by, answered}
 use Rattle.serial_core.specs.SerialRun.{Run, begun, fed_to_all, passed, ended, turned, ticked, node_at, replies_of, reply_to, called, after_waiting, IsSerialRun}

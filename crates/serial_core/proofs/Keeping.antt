@@ -18,7 +18,7 @@ use Rattle.client_core.specs.declared.event.Event.{Event}
 use Rattle.client_core.specs.Events.{progress, next_event, next_of_line, waits_on}
 use Rattle.client_core.proofs.Ended.{ended_waits_not}
 use Rattle.client_core.proofs.GoesOn.{none_waits as before_first}
-use Rattle.client_core.proofs.Options.{none_ne_some}
+use Rattle.std.proofs.lemmas.Option.{none-some}
 use Rattle.script_run.proofs.Clients.{clients_within}
 use Rattle.serial_core.specs.Budget.{IsBegun, no_call, one_call, AreBegun, IsOnTheWay, IsMoment}
 use Rattle.serial_core.specs.SerialRun.{Run, begun, fed_to_all, passed, batch_sizes, all_passed, ended, fed, turned, ticked, replies_of, reply_to, called, after_waiting, IsWorked, through, calls, AreDone, IsSerialRun}
@@ -171,7 +171,7 @@ module _ (lines : List Line) (batch : ℕ) where
   called_in client line e r is none = go (index_set r.replies client client (replies_of client r ++ reply_to client e r ∷ [])) where
     go : (replies_of client (called client e r) ≡ replies_of client r) ⊎ (client ≡ client) × (replies_of client (called client e r) ≡ replies_of client r ++ reply_to client e r ∷ [])
         → waits_on client lines (replies_of client (called client e r)) ≡ None
-    go (inl same) = absurd (none_ne_some e (sym none ∙ ap (λ rs. next_of_line client lines line rs) same ∙ is))
+    go (inl same) = absurd (none-some e (sym none ∙ ap (λ rs. next_of_line client lines line rs) same ∙ is))
     go (inr mine) =
         ap (λ rs. waits_on client lines rs) mine.1
         ∙ ended_waits_not client lines line (replies_of client r) (reply_to client e r) e is (sym (ap (λ rs. next_of_line client lines line rs) mine.1) ∙ none)
