@@ -46,10 +46,8 @@ fn a_demux_node_takes_what_it_is_lent(rt: HostRuntime) -> Result<(), NoMemory> {
 fn is_recorded<L: Ledger>(alloc: Global, blank: Blank) -> Result<bool, NoMemory>
     requires ledger { (blank.name ≡ L.name) × (blank.parts ≡ L.parts) × (0 < L.parts) }
 {
-    let (Some(read), Some(batch)) = (
-        call_of(alloc, READ, 0)?,
-        batch_of(alloc, &[P0, OTHER, P1])?,
-    ) else {
+    let (Some(read), Some(batch)) = (call_of(alloc, READ, 0)?, batch_of(alloc, &[P0, OTHER, P1])?)
+    else {
         return Ok(false);
     };
     let attach = Call::Attach {

@@ -1,4 +1,3 @@
-use Rattle.std.proofs.Common.{refl}
 use Rattle.dmx_calls.specs.Invocation as asks
 use Rattle.serial_core.proofs.Seats.{seat_fed}
 use Rattle.serial_core.proofs.seat.Seat.end.Goals as goal
