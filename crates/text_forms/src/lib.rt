@@ -11,10 +11,11 @@
 //! case.
 //!
 //! What is proved: each function answers what its definition says. A writing side appends just its text, and where memory
-//! is refused the bytes are as they were. It appends at most as many bytes as its clause `few` says, takes no room away, and
-//! can't fail where there is room for so many. Reading a spelling gives its value again: that are the laws
-//! `numbers_are_read_again`, `bytes_are_read_again`, `words_are_read_again`, `script_names_are_read_again`,
-//! `report_names_are_read_again`, `places_are_read_again` and `filters_are_read_again`.
+//! is refused the bytes are as they were. It takes no room away, and can't fail where there is room for as many bytes as
+//! its clause `full` says; `few` says how many it appends at most, where that isn't the length of its text. Reading a
+//! spelling gives its value again: that are the laws `numbers_are_read_again`, `bytes_are_read_again`,
+//! `words_are_read_again`, `script_names_are_read_again`, `report_names_are_read_again`, `places_are_read_again` and
+//! `filters_are_read_again`.
 //!
 //! What is only tested, in `text_tests`: that memory isn't refused where there is enough.
 //!
