@@ -1,10 +1,9 @@
 -- One step of the readers that go over several parts.
-use Rattle.std.proofs.lemmas.List.{take_all, length-set}
-use Rattle.std.proofs.lemmas.List.Elements.{All-replicate, All-set}
-use Rattle.std.specs.List.{All}
+use Rattle.std.proofs.lemmas.List.{take_all}
 use Rattle.filter_match.specs.declared.filter.Place.{Place}
 use Rattle.filter_match.specs.Places.{with_place}
-use Rattle.text_forms.specs.Places.{HasBytes, IsFilter}
+use Rattle.text_forms.specs.Places.{IsFilter}
+use Rattle.text_forms.proofs.Filters.{zeros-IsFilter}
 use Rattle.std.proofs.Common.{◌≡◌, ◌<◌, ◌≤◌, ◌-◌, take, drop, get_or, refl, ap, ◌∙◌, ℕ, zero, suc, List, [], ◌∷◌, length, true, false, arith, Some, None, codes, replicate}
 use Rattle.filter_match.specs.declared.filter.SectionFilter.{SectionFilter}
 use Rattle.report_read.specs.Inside.Reading.{behind, choose, bytes_in, with_first}
@@ -54,6 +53,10 @@ places_on (suc left) filter bytes filter' rest' some e f =
     let back : left ≡ suc left - 1 = omega arith in
     let here : more_places (suc left) filter bytes ≡ more_places left filter' rest' = rw (e, f) refl in
     here ∙ ap (λ (n : ℕ). more_places n filter' rest') back
+
+-- the filter in which no bit counts is one
+pub zeros_filter : IsFilter (record { filter = replicate 16 0; mask = replicate 16 0; mode = replicate 16 0 })
+zeros_filter = zeros-IsFilter
 
 pub ruleset pids_steps = (pids_none, pids_stop, pids_fail, pids_on)
 
