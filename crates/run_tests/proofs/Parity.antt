@@ -4,9 +4,9 @@ use mathlib.Core.Logic.{dite}
 use native.Mathlib.Decide.{ℕ_discrete}
 use Rattle.atomic_table.specs.Seated.{TableId}
 use Rattle.node_lock.specs.declared.view.View.{View}
-use Rattle.node_lock.specs.Inside.Lists.{Has}
+use Rattle.lemmas.specs.Lists.{Has}
+use Rattle.lemmas.proofs.Lists.{has_left, has_right}
 use Rattle.node_lock.specs.Passes.{IsSamePass, IsFresh, AreFresh}
-use Rattle.node_lock.proofs.Views.{has_left, has_right}
 use Rattle.adapter.proofs.Lists.{at_last, at_before}
 
 module _ {N : Type 0} (t : TableId) (n : ℕ) where

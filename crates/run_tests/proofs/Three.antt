@@ -1,10 +1,11 @@
 -- An adapter's feeder and its two clients, as they make calls and end.
 use Rattle.std.proofs.Common.{◌≡◌, ℕ, zero, suc, ◌<◌, ◌^◌, List, [], ◌∷◌, slice_get, Some, refl, ap, sym, ◌∙◌, subst, arith}
+use Rattle.std.proofs.lemmas.Option.{slice_get_within}
 use Rattle.atomic_table.specs.Seated.{TableId}
 use Rattle.node_lock.specs.declared.view.View.{View}
 use Rattle.dmx_calls.specs.History.{Entry}
 use Rattle.adapter.specs.Callers.{Caller, IsSameCaller, IsFreshCaller, AreFreshCallers, SomeIs, AreAllCallers}
-use Rattle.adapter.proofs.Lists.{at_place, place_below}
+use Rattle.adapter.proofs.Lists.{at_place}
 use Rattle.adapter.proofs.Mine.{fits_same}
 use Rattle.adapter.proofs.Pairs.{caller_fits}
 use Rattle.run_tests.specs.Three.{IsOfThree, AreDone, AreReady}
@@ -14,7 +15,7 @@ module _ (locks : List TableId) where
   pub still_one : (a b : Caller) → IsOfThree locks a → IsSameCaller a b → IsOfThree locks b
   still_one a b o s = record {
     fits = fits_same locks a.passes b.passes o.fits s.1;
-    own = λ i q is. let low = place_below b.passes i q is in let long = s.1.0 in let p = at_place a.passes i (omega arith) in
+    own = λ i q is. let low = slice_get_within b.passes i q is in let long = s.1.0 in let p = at_place a.passes i (omega arith) in
         let same = s.1.1 i p.0 q p.1 is in let was = o.own i p.0 p.1 in
         (same.2 ∙ was.0 ∙ ap (λ (n : ℕ). n ∷ []) (sym s.0), same.3 ∙ was.1);
   }
@@ -23,7 +24,7 @@ module _ (locks : List TableId) where
   fresh_one who left c f = (
     record {
       fits = caller_fits 3 locks who left c f;
-      own = λ i p is. let low = place_below c.passes i p is in let long = f.row.0 in let l = at_place locks i (omega arith) in let e = f.row.1 i l.0 p l.1 is in
+      own = λ i p is. let low = slice_get_within c.passes i p is in let long = f.row.0 in let l = at_place locks i (omega arith) in let e = f.row.1 i l.0 p l.1 is in
           (ap (λ (z : TableId × View Entry). z.1.numbers) e ∙ ap (λ (n : ℕ). n ∷ []) (sym f.number), ap (λ (z : TableId × View Entry). z.1.callers) e);
     },
     f.number,
