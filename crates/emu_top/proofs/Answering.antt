@@ -1,7 +1,7 @@
 -- What a status says, and that the input determines it.
 use Rattle.std.proofs.Common.{◌≡◌, ◌<◌, ◌≤◌, ◌+◌, ◌-◌, ◌*◌, ◌^◌, ◌⊎◌, refl, sym, ap, subst, ◌∙◌, ℕ, Bool, List, [], ◌∷◌, ◌++◌, length, take, drop, append_assoc, arith, length-append, inl, inr}
 use Rattle.std.proofs.lemmas.List.{take-append-drop, length-drop, length-take}
-use Rattle.std.specs.Prelude.{Option, Some, None, IfSome, Ok, Err}
+use Rattle.std.specs.Prelude.{Option, Some, None, IfSome, Result, Ok, Err, IfOk, IfErr}
 use Rattle.std.specs.Io.KnownBytes.{Consumes, Keeps}
 use Rattle.emu_io.specs.Causes.{Rose}
 use Rattle.emu_io.specs.Ends.{SourceEnd, SinkEnd}
@@ -14,7 +14,8 @@ use Rattle.command_words.specs.declared.Command.{Command}
 use Rattle.command_words.specs.declared.Command.TheVariants.{Steps, Run, Make, SelfTest}
 use Rattle.command_words.specs.Meant.{meant}
 use Rattle.ts_make.specs.Made.{made}
-use Rattle.emu_top.specs.Session.{Output, IsSerialOutput, IsThreadOutput, IsSums, Makes, Refuses}
+use Rattle.serial_core.specs.declared.run.Left.{Left}
+use Rattle.emu_top.specs.Session.{Output, IsSerialOutput, IsThreadOutput, IsSums, Makes, Refuses, report_over}
 use Rattle.emu_top.specs.Serves.{Outside, outside, NoWriteFails, HasWritten, Says, Determines, Does, Tells, Gives, Obeys, Serves}
 use Rattle.emu_top.specs.declared.status.Status.{Status}
 use Rattle.emu_top.specs.declared.status.Status.TheVariants.{Usage, Script, TooLong, ReadFault, WriteFault, NoMemory, Ok as Done}
@@ -44,9 +45,24 @@ says_written out x y w v failed text (TooLong turns) m h = absurd h
 says_written out x y w v failed text ReadFault m (is, written, steady) = (steady, inl (text, subst (λ b. Makes out x y b text) is m, written))
 says_written out x y w v failed text WriteFault m (count, part, written, rose) =
     record { text = text; failed = failed; made = m; front = record { count = count; part = part; written = written; rose = rose } }
-says_written out x y w v failed text NoMemory m h = absurd h
+says_written out x y w v failed text NoMemory m h = h
 says_written out x y w v failed text Done m (is, written, steady) =
     record { text = text; made = subst (λ b. Makes out x y b text) is m; whole = record { written = written; writes = steady } }
+
+-- ------ a status, with output or without
+
+pub says_ended : (out : Output) (x y : SourceEnd) (w v : SinkEnd) (left : Result Left Status) (status : Status)
+    → IfOk left (λ left. Makes out x y left.head.read_fault (report_over left)) → IfErr left (λ why. Refuses x y why)
+    → IfOk left (λ left. HasWritten left.head.read_fault (report_over left) w v status) → IfErr left (λ why. (status ≡ why) × (v ≡ w))
+    → Says out (outside x w) (outside y v) status
+says_ended out x y w v (Ok left) status made refused written kept = says_written out x y w v left.head.read_fault (report_over left) status made written
+says_ended out x y w v (Err why) status made refused written kept = rw (kept.0, kept.1) (says_refused out x y w why refused)
+
+-- a sink that is as it was tells what it told
+pub kept_end : {K T : Type 0} (end : K → SinkEnd) {old new : K} {status : Status} (left : Result T Status) → IfErr left (λ why. (status ≡ why) × (new ≡ old))
+    → IfErr left (λ why. (status ≡ why) × (end new ≡ end old))
+kept_end end (Ok left) kept = tt
+kept_end end (Err why) kept = (kept.0, ap end kept.1)
 
 -- ------ what the bytes taken say of the whole input
 

@@ -52,8 +52,8 @@ pub record WritesFront (before after : Outside) (text : List ℕ) : Type 0 where
   pub written : Writes before after (take count text)
   pub rose : Rose before.sink.faults after.sink.faults
 
--- What was written of a session's output, by a status: the whole of it, or a part from its front on where a
--- write failed. `failed`: reading failed.
+-- What was written of a session's output, by a status: the whole of it, a part from its front on where a write
+-- failed, or nothing where memory was refused. `failed`: reading failed.
 abbrev pub HasWritten : (failed : Bool) → (text : List ℕ) → (before after : SinkEnd) → Status → Type 0
 HasWritten failed text before after WriteFault = (count : ℕ) × (count < length text)
     × Appends before.written after.written (take count text) × Rose before.faults after.faults
@@ -61,6 +61,8 @@ HasWritten failed text before after ReadFault =
     (failed ≡ true) × Appends before.written after.written text × (after.faults ≡ before.faults)
 HasWritten failed text before after Done =
     (failed ≡ false) × Appends before.written after.written text × (after.faults ≡ before.faults)
+HasWritten failed text before after NoMemory =
+    Keeps before.written after.written × (after.faults ≡ before.faults)
 HasWritten failed text before after _ = ⊥
 
 -- ------ `steps` and `run`: what each status says

@@ -84,6 +84,10 @@ abbrev pub ReadsTo : (failed : Bool) → (before after : SourceEnd) → Type 0
 ReadsTo true before after = Rose before.faults after.faults
 ReadsTo false before after = (after.faults ≡ before.faults) × IsAtEnd after.left
 
+-- the report over what a run left
+abbrev pub report_over : Left → List ℕ
+report_over left = report_of (told_head left.head) (map (λ those. those.items) left.outcomes.items) left.histories
+
 -- the bytes that were taken are those of a session, and this is what its run left
 pub record Runs (batch : ℕ) (before after : SourceEnd) (answer : Left) : Type 0 where
   pub bytes : List ℕ
