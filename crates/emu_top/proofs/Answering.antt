@@ -1,9 +1,9 @@
 -- What a status says, and that the input determines it.
-use Rattle.std.proofs.Common.{◌≡◌, ◌<◌, ◌≤◌, ◌+◌, ◌-◌, ◌*◌, ◌^◌, ◌⊎◌, refl, sym, ap, subst, ◌∙◌, ℕ, Bool, List, [], ◌∷◌, ◌++◌, length, take, drop, append_assoc, arith, length-append, inl, inr}
+use Rattle.std.proofs.Common.{◌≡◌, ◌<◌, ◌≤◌, ◌+◌, ◌-◌, ◌*◌, ◌^◌, ◌⊎◌, refl, sym, ap, subst, ◌∙◌, ℕ, Bool, true, false, List, [], ◌∷◌, ◌++◌, length, map, take, drop, append_assoc, arith, length-append, inl, inr}
 use Rattle.std.proofs.lemmas.List.{take-append-drop, length-drop, length-take}
 use Rattle.std.specs.Prelude.{Option, Some, None, IfSome, Result, Ok, Err, IfOk, IfErr}
-use Rattle.std.specs.Io.KnownBytes.{Consumes, Keeps}
-use Rattle.emu_io.specs.Causes.{Rose}
+use Rattle.std.specs.Io.KnownBytes.{Appends, Consumes, Keeps}
+use Rattle.emu_io.specs.Causes.{raised, Rose}
 use Rattle.emu_io.specs.Ends.{SourceEnd, SinkEnd}
 use Rattle.client_script.specs.declared.line.Line.{Line}
 use Rattle.client_script.specs.declared.line.Line.TheVariants.{Feed, Tick, Command as CommandLine}
@@ -14,7 +14,11 @@ use Rattle.command_words.specs.declared.Command.{Command}
 use Rattle.command_words.specs.declared.Command.TheVariants.{Steps, Run, Make, SelfTest}
 use Rattle.command_words.specs.Meant.{meant}
 use Rattle.ts_make.specs.Made.{made}
+use Rattle.dmx_calls.specs.declared.outcome.Outcome.{Outcome}
+use Rattle.ts_watch.specs.Head.{told_head}
 use Rattle.serial_core.specs.declared.run.Left.{Left}
+use Rattle.report_text.specs.Report.{report_of}
+use Rattle.report_text.specs.Inside.Pieces.{AddsPart}
 use Rattle.emu_top.specs.Session.{Output, IsSerialOutput, IsThreadOutput, IsSums, Makes, Refuses, report_over}
 use Rattle.emu_top.specs.Serves.{Outside, outside, NoWriteFails, HasWritten, Says, Determines, Does, Tells, Gives, Obeys, Serves}
 use Rattle.emu_top.specs.declared.status.Status.{Status}
@@ -48,6 +52,29 @@ says_written out x y w v failed text WriteFault m (count, part, written, rose) =
 says_written out x y w v failed text NoMemory m h = h
 says_written out x y w v failed text Done m (is, written, steady) =
     record { text = text; made = subst (λ b. Makes out x y b text) is m; whole = record { written = written; writes = steady } }
+
+-- ------ what a report that is written says of the sink
+
+module _ (left : Left) (became : List (List Outcome)) (same : became ≡ map (λ those. those.items) left.outcomes.items) (w v : SinkEnd) where
+  over : report_of (told_head left.head) became left.histories ≡ report_over left
+  over = ap (λ b. report_of (told_head left.head) b left.histories) same
+
+  pub whole_done : left.head.read_fault ≡ false → Appends w.written v.written (report_of (told_head left.head) became left.histories) → v.faults ≡ w.faults
+      → HasWritten left.head.read_fault (report_over left) w v Done
+  whole_done no whole steady = (no, subst (Appends w.written v.written) over whole, steady)
+
+  pub whole_read_fault : left.head.read_fault ≡ true → Appends w.written v.written (report_of (told_head left.head) became left.histories) → v.faults ≡ w.faults
+      → HasWritten left.head.read_fault (report_over left) w v ReadFault
+  whole_read_fault yes whole steady = (yes, subst (Appends w.written v.written) over whole, steady)
+
+  pub part_failed : AddsPart w.written v.written [] (report_of (told_head left.head) became left.histories) → v.faults ≡ raised w.faults → HasWritten left.head.read_fault (report_over left) w v WriteFault
+  part_failed p rose =
+      let part : AddsPart w.written v.written [] (report_over left) = subst (AddsPart w.written v.written []) over p in
+      (part.count, part.part, part.written, subst (λ n. raised w.faults ≤ n) (sym rose) (omega arith))
+
+-- a sink that is as it was got nothing
+pub nothing_written : {K : Type 0} (end : K → SinkEnd) (failed : Bool) (text : List ℕ) {old new : K} → new ≡ old → HasWritten failed text (end old) (end new) NoMemory
+nothing_written end failed text {old} {new} same = subst (λ k. HasWritten failed text (end old) (end k) NoMemory) (sym same) (keeps (end old).written, refl)
 
 -- ------ a status, with output or without
 

@@ -100,6 +100,13 @@ whole_written {a} {b} {waited} text none p =
     let same : text ≡ p.front = sym (ap (λ l. l ++ text) none) ∙ (p.rest ∙ append-nil p.front) in
     subst (Appends a b) (sym same) p.written
 
+-- the same text, told otherwise
+pub adds_as : {a b : Option (List ℕ)} {u v s t : List ℕ} → s ≡ t → Adds a b u v s → Adds a b u v t
+adds_as {a} {b} {u} {v} same p = subst (Adds a b u v) same p
+
+pub part_as : {a b : Option (List ℕ)} {u s t : List ℕ} → s ≡ t → AddsPart a b u s → AddsPart a b u t
+part_as {a} {b} {u} same p = subst (AddsPart a b u) same p
+
 -- no text, of which something is said
 pub some_nothing : {now : Option (List ℕ)} {waited : List ℕ} (IsSo : List ℕ → Type 0) → IsSo [] → AddsSome now now waited waited IsSo
 some_nothing IsSo is = ([], adds_nothing, is)

@@ -1,5 +1,5 @@
 -- How the lines of a node are written.
-use Rattle.std.proofs.Common.{ℕ, suc, ◌+◌, ◌<◌, ◌≤◌, ◌≡◌, ◌∙◌, ◌⊎◌, refl, sym, ap, subst, false, true, List, [], ◌∷◌, ◌++◌, length, map, drop, append_assoc, codes, get_or}
+use Rattle.std.proofs.Common.{ℕ, suc, ◌+◌, ◌<◌, ◌≤◌, ◌≡◌, ◌∙◌, ◌⊎◌, refl, sym, ap, subst, false, true, List, [], ◌∷◌, ◌++◌, length, map, drop, append_assoc, codes, get_or, arith}
 use Rattle.std.specs.Prelude.{Option}
 use Rattle.std.specs.List.{flat_map, list_any}
 use Rattle.dmx_calls.specs.declared.histories.Fed.{Fed}
@@ -103,13 +103,21 @@ module _ (feeding : List Fed) (calls : List ToldEntry) (told step : ℕ) where
       → t ++ flat_map entry_text (feeder_entries node (told + step) step (drop step (feeder_acts feeding))) ≡ node_lines node
   last_lines t past so_far node = ap (λ l. t ++ flat_map entry_text (woven_from node l (told + step) step (drop step (feeder_acts feeding)))) (sym (calls-none calls told past)) ∙ so_far node
 
-  pub entries_done : {a b c : Option (List ℕ)} {u v w : List ℕ} → length calls ≤ told → AddsSome a b u v (IsWeaving feeding calls told step [])
-      → ((node : ℕ) → Adds b c v w (flat_map entry_text (feeder_entries node (told + step) step (drop step (feeder_acts feeding))))) → (node : ℕ) → Adds a c u w (node_lines node)
-  entries_done {a} {b} {c} {u} {v} {w} past t last node = subst (Adds a c u w) (last_lines t.0 past t.2 node) (adds_both t.0 _ t.1 (last node))
+  -- what the feeder's calls behind the last entry of a client add
+  abbrev ending : (told node : ℕ) → List ℕ
+  ending told node = flat_map entry_text (feeder_entries node (told + step) step (drop step (feeder_acts feeding)))
 
-  pub end_breaks : {a b c : Option (List ℕ)} {u v : List ℕ} → length calls ≤ told → AddsSome a b u v (IsWeaving feeding calls told step [])
-      → ((node : ℕ) → AddsPart b c v (flat_map entry_text (feeder_entries node (told + step) step (drop step (feeder_acts feeding))))) → (node : ℕ) → AddsPart a c u (node_lines node)
-  end_breaks {a} {b} {c} {u} {v} past t last node = subst (AddsPart a c u) (last_lines t.0 past t.2 node) (part_behind t.0 _ t.1 (last node))
+  pub entries_done : {a b c : Option (List ℕ)} {u v w : List ℕ} → told ≡ length calls → AddsSome a b u v (IsWeaving feeding calls told step [])
+      → ((node : ℕ) → Adds b c v w (flat_map entry_text (feeder_entries node (length calls + step) step (drop step (feeder_acts feeding))))) → (node : ℕ) → Adds a c u w (node_lines node)
+  entries_done {a} {b} {c} {u} {v} {w} all t last node =
+      let there : Adds b c v w (ending told node) = subst (λ n. Adds b c v w (ending n node)) (sym all) (last node) in
+      subst (Adds a c u w) (last_lines t.0 (omega (arith, all)) t.2 node) (adds_both t.0 (ending told node) t.1 there)
+
+  pub end_breaks : {a b c : Option (List ℕ)} {u v : List ℕ} → told ≡ length calls → AddsSome a b u v (IsWeaving feeding calls told step [])
+      → ((node : ℕ) → AddsPart b c v (flat_map entry_text (feeder_entries node (length calls + step) step (drop step (feeder_acts feeding))))) → (node : ℕ) → AddsPart a c u (node_lines node)
+  end_breaks {a} {b} {c} {u} {v} all t last node =
+      let there : AddsPart b c v (ending told node) = subst (λ n. AddsPart b c v (ending n node)) (sym all) (last node) in
+      subst (AddsPart a c u) (last_lines t.0 (omega (arith, all)) t.2 node) (part_behind t.0 (ending told node) t.1 there)
 
 -- ------ a node, or none
 

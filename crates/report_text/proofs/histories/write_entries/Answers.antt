@@ -1,7 +1,5 @@
-use Rattle.std.proofs.Common.{◌≡◌, length, subst, refl, [], arith}
+use Rattle.std.proofs.Common.{◌≡◌, length, refl, [], arith}
 use Rattle.std.proofs.lemmas.Result.{on_ok_weaker, on_err_weaker}
-use Rattle.report_text.specs.Inside.Pieces.{AddsSome}
-use Rattle.report_text.proofs.Turning.{IsWeaving}
 use Rattle.report_text.proofs.Pieces.{some_nothing, on_any_err}
 use Rattle.report_text.proofs.Writing.{entries_more, entries_break, turns_break, entries_done, end_breaks}
 use Rattle.report_text.proofs.histories.write_entries.Goals as goal
@@ -22,18 +20,14 @@ returns-in_err-step-clause-part g c =
 
 pub returns-in_err-write_entry-clause-part : goal.returns-in_err-write_entry-clause-part
 returns-in_err-write_entry-clause-part g c =
-    on_any_err c.from_residual-2.result (entries_break c.args.feeding.now c.args.calls.now c.calls.told c.calls.step c.in_ok-step.step c.index-calls-told.result c.calls-test.true c.index-calls-told.is c.calls.invariant.adds c.in_ok-step.ensures.adds c.in_err-write_entry.ensures.part)
+    on_any_err c.from_residual-in_err-write_entry.result (entries_break c.args.feeding.now c.args.calls.now c.calls.told c.calls.step c.in_ok-step.step c.index-calls-told.result c.calls-test.true c.index-calls-told.is c.calls.invariant.adds c.in_ok-step.ensures.adds c.in_err-write_entry.ensures.part)
 
 pub returns-clause-adds : goal.returns-clause-adds
 returns-clause-adds g c =
     let all : c.calls.told ≡ length c.args.calls.now = omega (arith, c.calls-test.false, c.calls.auto.told-end) in
-    on_ok_weaker c.write_turns_behind.result
-    (entries_done c.args.feeding.now c.args.calls.now (length c.args.calls.now) c.calls.step (omega arith) (subst (λ told. AddsSome _ _ _ _ (IsWeaving c.args.feeding.now c.args.calls.now told c.calls.step [])) all c.calls.invariant.adds))
-    c.write_turns_behind.ensures.adds
+    on_ok_weaker c.write_turns_behind.result (λ last. entries_done c.args.feeding.now c.args.calls.now c.calls.told c.calls.step all c.calls.invariant.adds last) c.write_turns_behind.ensures.adds
 
 pub returns-clause-part : goal.returns-clause-part
 returns-clause-part g c =
     let all : c.calls.told ≡ length c.args.calls.now = omega (arith, c.calls-test.false, c.calls.auto.told-end) in
-    on_err_weaker c.write_turns_behind.result
-    (end_breaks c.args.feeding.now c.args.calls.now (length c.args.calls.now) c.calls.step (omega arith) (subst (λ told. AddsSome _ _ _ _ (IsWeaving c.args.feeding.now c.args.calls.now told c.calls.step [])) all c.calls.invariant.adds))
-    c.write_turns_behind.ensures.part
+    on_err_weaker c.write_turns_behind.result (λ last. end_breaks c.args.feeding.now c.args.calls.now c.calls.told c.calls.step all c.calls.invariant.adds last) c.write_turns_behind.ensures.part
