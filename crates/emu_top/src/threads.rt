@@ -64,12 +64,14 @@ fn run_threads<R: Threads + Wait + Sync, S: Source + Send, C: Clock + Sync, G: G
 }
 
 /// Reads the session of a source and runs it by threads, in batches of this size.
-pub fn left_by_threads<
-    R: Threads + Wait + Sync,
-    S: Source + Send,
-    C: Clock + Sync,
-    G: Gate + Sync,
->(rt: &R, alloc: Global, source: &mut S, batch: u32, clock: &C, gate: &G) -> Result<Left, Status>
+pub fn left_by_threads<R: Threads + Wait + Sync, S: Source + Send, C: Clock + Sync, G: Gate + Sync>(
+    rt: &R,
+    alloc: Global,
+    source: &mut S,
+    batch: u32,
+    clock: &C,
+    gate: &G,
+) -> Result<Left, Status>
     requires some { 1 ≤ batch }
     requires few { batch ≤ 64 }
     requires faults { (S.end source.old).faults < 2 ^ 64 - 1 }
