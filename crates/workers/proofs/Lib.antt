@@ -8,7 +8,7 @@ pub mod Batches
 pub mod Merged
 pub mod SoFar
 pub mod Ended
-mod Beginning
+pub mod Beginning
 mod Feeding
 mod FeederWork
 mod Leaving
