@@ -14,7 +14,7 @@ use std::alloc::{AllocError as NoMemory, Global};
 ///
 /// `NoMemory` where memory was refused.
 pub fn seats_of(alloc: Global, clients: Vec<Client>) -> Result<Vec<Seat>, NoMemory>
-    requires few { length clients.items ≤ 8 }
+    requires { length clients.items ≤ 8 }
     ensures { IfOk result (λ seats. (locks : List TableId) (feeder : Caller) → AreFreshCallers locks (length clients.items) feeder clients.items
         → AreReady locks clients.items seats.items) }
 {

@@ -61,11 +61,13 @@ impl Seat {
 
 /// Each seat, in a thread of its own, answers the requests of its line until that has ended or failed, and closes then what its
 /// program has.
-pub fn sit_all<
-    R: Threads + Wait + Sync,
-    T: Source + Sink + Send + Drop,
-    C: Clock + Sync,
->(rt: &R, alloc: Global, adapter: &Adapter, clock: &C, desks: &mut Vec<Desk<T>>)
+pub fn sit_all<R: Threads + Wait + Sync, T: Source + Sink + Send + Drop, C: Clock + Sync>(
+    rt: &R,
+    alloc: Global,
+    adapter: &Adapter,
+    clock: &C,
+    desks: &mut Vec<Desk<T>>,
+)
     requires ready { All (λ d. IsReady adapter.now d.seat) desks.old.items }
     ensures { HaveServed adapter.now desks.old.items desks.new.items }
 {

@@ -67,7 +67,7 @@ abbrev pub call_of : (verb node number len : ℕ) → (argument : List ℕ) → 
 call_of verb node number len argument =
     if verb == CLOSE then Call node want.Close
     else (if verb == IOCTL then
-      (if nat_lt ARGUMENT_LEN len then Refused EINVAL else ioctl_of node (decoded number (take len argument)))
+    (if nat_lt ARGUMENT_LEN len then Refused EINVAL else ioctl_of node (decoded number (take len argument)))
     else (if verb == READ then Call node (want.Read (min number LARGEST_READ))
     else (if verb == POLL then Call node want.Poll else Refused EINVAL)))
 

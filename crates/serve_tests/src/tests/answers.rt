@@ -28,7 +28,12 @@ fn pat() -> [u8; 60] {
 }
 
 // The seat of an adapter's one client.
-pub fn one_seat(adapter: &Adapter, feeder: &Feeder, alloc: Global, clients: Vec<Client>) -> Option<Seat>
+pub fn one_seat(
+    adapter: &Adapter,
+    feeder: &Feeder,
+    alloc: Global,
+    clients: Vec<Client>,
+) -> Option<Seat>
     requires { AreFreshCallers adapter.now 1 feeder.now clients.items }
     ensures ready { IfSome result (IsReady adapter.now) }
     ensures feeder { Fits adapter.now feeder.now.passes × (feeder.now.left ≡ 2 ^ 44) }
@@ -126,15 +131,7 @@ fn filtered_anew<L: Ledger, R: Wait>(rt: &R, alloc: Global, blank: Blank) -> Opt
     let batch = batch_of_pat(alloc)?;
     let (adapter, mut feeder, clients) = Adapter::new(alloc, 1).ok()?;
     let mut seat = one_seat(&adapter, &feeder, alloc, clients)?;
-    Some(filtered::<L, R>(
-        rt,
-        alloc,
-        &adapter,
-        &mut feeder,
-        &mut seat,
-        batch,
-        blank,
-    ))
+    Some(filtered::<L, R>(rt, alloc, &adapter, &mut feeder, &mut seat, batch, blank))
 }
 
 #[test]

@@ -4,8 +4,8 @@ ghost use Rattle.std.specs.Io.{ReadsAtMost};
 ghost use Rattle.std.specs.Io.KnownBytes.{ReadConsumes, WriteAppends};
 ghost use Rattle.emu_io.specs.Causes.{HasCause};
 
-use super::request;
 use super::answers::one_seat;
+use super::request;
 use adapter::Adapter;
 use dmx_calls::{Act, Entry};
 use emu_io::{Failed, FixedClock, MemSink, MemSource, Sink, Source};
@@ -99,7 +99,9 @@ fn is_cut<R: Wait>(rt: &R, alloc: Global, whole: &[u8], cut: usize) -> bool {
         return false;
     };
     match sat(rt, alloc, requests, 1000) {
-        Some(left) => left.written == [0; 24].as_slice() && left.log.len() == 2 && closes(&left.log) == 1,
+        Some(left) => left.written == [0; 24].as_slice()
+            && left.log.len() == 2
+            && closes(&left.log) == 1,
         None => false,
     }
 }

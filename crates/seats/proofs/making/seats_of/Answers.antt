@@ -1,4 +1,4 @@
-use Rattle.std.proofs.Common.{rules, ◌≡◌, ◌+◌, ℕ, List, [], ◌∷◌, ◌++◌, length, map, refl, sym, ap, ◌∙◌, arith, length-append}
+use Rattle.std.proofs.Common.{rules, ◌≡◌, ◌+◌, ℕ, List, [], ◌∷◌, ◌++◌, length, map, sym, ap, ◌∙◌, arith, length-append}
 use Rattle.std.proofs.lemmas.List.{map-append, length-map}
 use Rattle.std.proofs.lemmas.Iterator.Consumers.{YieldsList-turn}
 use Rattle.std.proofs.lemmas.Iterator.Adapters.{YieldsList-from_vec}
@@ -29,3 +29,8 @@ clients-preserved c =
       number = ap (λ (n : ℕ). n + 1) i.number ∙ (sym (length-append c.clients.seats.items (s ∷ [])) ∙ sym (ap length now));
       each = each_more (λ (n : ℕ) (z : Seat). IsNew (n + 1) z) c.clients.seats.items c.push.new.self.items s c.clients.number now i.number i.each c.in_ok-new.ensures.1;
     }
+
+pub returns : goal.returns
+returns c locks feeder fresh =
+    let are : map (λ (s : Seat). s.client) c.clients.seats.items ≡ c.args.clients.items = search rules in
+    all_ready locks (length c.args.clients.items) feeder c.args.clients.items fresh c.clients.seats.items are c.clients.invariant.each

@@ -19,6 +19,7 @@ module _ (t : Tell) (len : ℕ) (f : (t.code < 2 ^ 32) × (t.value < 2 ^ 32) × 
 pub returns : goal.returns
 returns c =
     let t : Tell = c.args.told.now in
-    let bytes = c.copy_from_slice.ensures.after ∙ c.as_slice.ensures.value ∙ c.head-written.ensures in
-    (c.read.ensures.told ∙ ap (λ (b : List ℕ). tell (field 0 4 b) (field 8 4 b) (field 16 8 b)) bytes ∙ told t c.args.len c.fits.ensures,
-    c.read.ensures.len ∙ ap (λ (b : List ℕ). field 4 4 b) bytes ∙ long t c.args.len c.fits.ensures)
+    let bytes = c.copy_from_slice.ensures.after ∙ c.as_slice.ensures.value ∙ c.head-written.ensures in (
+      c.read.ensures.told ∙ ap (λ (b : List ℕ). tell (field 0 4 b) (field 8 4 b) (field 16 8 b)) bytes ∙ told t c.args.len c.fits.ensures,
+      c.read.ensures.len ∙ ap (λ (b : List ℕ). field 4 4 b) bytes ∙ long t c.args.len c.fits.ensures,
+    )
