@@ -49,12 +49,14 @@ fn failed(rt: &HostRuntime, why: &str) -> ExitCode {
 }
 
 fn main(rt: HostRuntime) -> ExitCode {
-    let Ok(Ends {
-        words,
-        mut source,
-        mut sink,
-        clock,
-    }) = Ends::of(&rt)
+    let Ok(
+        Ends {
+            words,
+            mut source,
+            mut sink,
+            clock,
+        },
+    ) = Ends::of(&rt)
     else {
         return failed(&rt, "no words");
     };

@@ -22,7 +22,9 @@ fn report_of(alloc: Global, feeder: FeederWorker, books: Books) -> Result<Vec<u8
     requires nodes { All (λ log. AreOnNodes log.items) books.logs.items }
 {
     let FeederWorker {
-        puller, feeding, ..
+        puller,
+        feeding,
+        ..
     } = feeder;
     let Books { logs, outcomes } = books;
     let head = puller.head(alloc)?;
@@ -41,13 +43,7 @@ pub fn serve<
     S: Source + Send,
     T: Source + Sink + Send + Drop,
     C: Clock + Sync,
->(
-    rt: &R,
-    alloc: Global,
-    source: &mut S,
-    lines: Vec<T>,
-    clock: &C,
-) -> Result<Vec<u8>, Stop>
+>(rt: &R, alloc: Global, source: &mut S, lines: Vec<T>, clock: &C) -> Result<Vec<u8>, Stop>
     requires few { vec_len lines ≤ 8 }
     requires faults { (S.end source.old).faults < 2 ^ 64 - 1 }
 {
