@@ -21,25 +21,21 @@
 ghost use Rattle.report_runs.specs.Laws.{ReportsTell, RunsAreCompleted, IdleRunsAreRuns, RightAreOfRuns};
 
 /// The law that a report is the text of what it tells. It has nothing to do.
-#[tactic(auto, using(crate::proofs::Shown::reports_tell))]
 pub fn reports_tell()
     ensures { ReportsTell }
 {}
 
 /// The law that a report of a run gives all histories of the run, where a client called a node. It has nothing to do.
-#[tactic(auto, using(crate::proofs::Idle::runs_are_completed))]
 pub fn runs_are_completed()
     ensures { RunsAreCompleted }
 {}
 
 /// The law that a report of a run stands for a run, where no client called a node. It has nothing to do.
-#[tactic(auto, using(crate::proofs::Empty::idle_runs))]
 pub fn idle_runs_are_runs()
     ensures { IdleRunsAreRuns }
 {}
 
 /// The law that the reports of runs are those that are right. It has nothing to do.
-#[tactic(auto, using(crate::proofs::Right::right_are_of_runs))]
 pub fn right_are_of_runs()
     ensures { RightAreOfRuns }
 {}
