@@ -10,3 +10,4 @@ pub mod Deciding
 pub mod Few
 pub mod Checking
 pub mod Playing
+pub mod Dealt

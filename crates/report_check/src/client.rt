@@ -4,7 +4,7 @@ ghost use Rattle.dmx_calls.specs.declared.limits.TheConstants.{DEMUX_NODES as no
 ghost use Rattle.dmx_calls.specs.Calls.{told_entry};
 ghost use Rattle.report_runs.specs.Completed.{complete};
 ghost use Rattle.walk_check.specs.Inside.Steps.{left_on};
-ghost use Rattle.report_check.specs.Inside.Parts.{dealt as dealt_to, IsDoneAs, AreDoneAs};
+ghost use Rattle.report_check.specs.Inside.Parts.{told_nodes, dealt as dealt_to, IsDoneAs, AreDoneAs};
 
 use crate::fault::{FaultKind, Odd};
 use crate::stop::odd_call;
@@ -17,8 +17,8 @@ use walk_check::is_walked;
 
 // The entries of this node, and the nodes behind it; no entries where the first node isn't this one.
 fn entries_of(nodes: &[(u32, Vec<Entry>)], node: u32) -> (&[Entry], &[(u32, Vec<Entry>)])
-    ensures { (left : ℕ) → complete (left + 1) node [] (map (λ n. record { node = n.0; entries = map told_entry n.1.items }) nodes.now)
-        ≡ map told_entry result.0.now ∷ complete left (node + 1) [] (map (λ n. record { node = n.0; entries = map told_entry n.1.items }) result.1.now) }
+    ensures { (left : ℕ) → complete (left + 1) node [] (told_nodes nodes.now)
+        ≡ map told_entry result.0.now ∷ complete left (node + 1) [] (told_nodes result.1.now) }
 {
     match nodes {
         [first, later @ ..] if first.0 == node => (first.1.as_slice(), later),
@@ -31,7 +31,7 @@ fn dealt<'a>(
     alloc: Global,
     nodes: &'a [(u32, Vec<Entry>)],
 ) -> Result<Vec<&'a [Entry]>, NoMemory>
-    ensures dealt { IfOk result (λ hs. map (λ h. map told_entry h.now) hs.items ≡ dealt_to (map (λ n. record { node = n.0; entries = map told_entry n.1.items }) nodes.now)) }
+    ensures dealt { IfOk result (λ hs. map (λ h. map told_entry h.now) hs.items ≡ dealt_to (told_nodes nodes.now)) }
     ensures long { IfOk result (λ hs. length hs.items ≡ nodes_of_demux + 1) }
 {
     let mut dealt = Vec::with_capacity(alloc, DEMUX_NODES as usize + 1)?;
@@ -60,10 +60,10 @@ fn odd_of(
     told: &[Outcome],
 ) -> Result<Option<Odd>, NoMemory>
     requires client { client < 4294967295 }
-    requires few { left_on (dealt_to (map (λ n. record { node = n.0; entries = map told_entry n.1.items }) nodes.now)) < 2 ^ 46 }
+    requires few { left_on (dealt_to (told_nodes nodes.now)) < 2 ^ 46 }
     ensures { IfOk result (λ odd. MatchOption odd
-        (IsDoneAs script.now (dealt_to (map (λ n. record { node = n.0; entries = map told_entry n.1.items }) nodes.now)) client told.now)
-        (λ _. IsDoneAs script.now (dealt_to (map (λ n. record { node = n.0; entries = map told_entry n.1.items }) nodes.now)) client told.now → ⊥)) }
+        (IsDoneAs script.now (dealt_to (told_nodes nodes.now)) client told.now)
+        (λ _. IsDoneAs script.now (dealt_to (told_nodes nodes.now)) client told.now → ⊥)) }
 {
     let mut core = ClientCore::new(alloc, script, client)?;
     let mut queues = dealt(alloc, nodes)?;
@@ -85,10 +85,10 @@ pub fn odd_client(
     outcomes: &[Vec<Outcome>],
 ) -> Result<Option<Odd>, NoMemory>
     requires clients { length outcomes.now < 4294967295 }
-    requires few { left_on (dealt_to (map (λ n. record { node = n.0; entries = map told_entry n.1.items }) nodes.now)) < 2 ^ 46 }
+    requires few { left_on (dealt_to (told_nodes nodes.now)) < 2 ^ 46 }
     ensures { IfOk result (λ odd. MatchOption odd
-        (AreDoneAs script.now (dealt_to (map (λ n. record { node = n.0; entries = map told_entry n.1.items }) nodes.now)) 0 (map (λ o. o.items) outcomes.now))
-        (λ _. AreDoneAs script.now (dealt_to (map (λ n. record { node = n.0; entries = map told_entry n.1.items }) nodes.now)) 0 (map (λ o. o.items) outcomes.now) → ⊥)) }
+        (AreDoneAs script.now (dealt_to (told_nodes nodes.now)) 0 (map (λ o. o.items) outcomes.now))
+        (λ _. AreDoneAs script.now (dealt_to (told_nodes nodes.now)) 0 (map (λ o. o.items) outcomes.now) → ⊥)) }
 {
     let mut client: u32 = 0;
     let mut rest = outcomes;
