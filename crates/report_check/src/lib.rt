@@ -22,7 +22,6 @@
 //! the crate yet.
 #![tactic(auto)]
 
-mod check;
 mod client;
 mod fault;
 mod feeder;
@@ -30,7 +29,8 @@ mod head;
 mod line;
 mod node;
 mod play;
+mod report;
 mod stop;
 
-pub use check::{check, first_fault};
 pub use fault::{Fault, FaultKind};
+pub use report::{check, first_fault};

@@ -3,7 +3,7 @@ use Rattle.ts_watch.specs.Head.{told_head}
 use Rattle.report_text.specs.Told.{text_of}
 use Rattle.report_read.specs.Report.{told_of, IsReport}
 use Rattle.report_check.proofs.Checking.{right, no_report, other_head, not_passed}
-use Rattle.report_check.proofs.check.first_fault.Goals as goal
+use Rattle.report_check.proofs.report.first_fault.Goals as goal
 
 pub returns-in_default : goal.returns-in_default
 returns-in_default c r = no_report c.args.script.now c.args.packets.now (told_head c.args.head.now) c.args.bytes.now c.in_ok-told.ensures r

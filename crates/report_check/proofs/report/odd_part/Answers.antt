@@ -8,7 +8,7 @@ use Rattle.report_check.specs.Inside.Parts.{AreSoundNodes, IsPlayed, HasPassed}
 use Rattle.report_check.proofs.Few.{few_left}
 use Rattle.report_check.proofs.Checking.{bounds, sound_all}
 use Rattle.report_check.proofs.Ways.{ok_by_other}
-use Rattle.report_check.proofs.check.odd_part.Goals as goal
+use Rattle.report_check.proofs.report.odd_part.Goals as goal
 
 pub returns-then-len-ne-clients : goal.returns-then-len-ne-clients
 returns-then-len-ne-clients c passed = ?
