@@ -1,13 +1,12 @@
 -- Where no client called a node, a run in batches of 64 at moment 0 has the same report.
-use Rattle.std.proofs.Common.{◌≡◌, ◌<◌, ◌≤◌, ◌+◌, ◌-◌, refl, sym, ap, subst, ◌∙◌, ℕ, zero, suc, List, [], ◌∷◌, ◌++◌, Bool, true, false, nat_eq, nat_lt, length, map, take, sum, min, arith, inl, inr, append_assoc, append-nil}
+use Rattle.std.proofs.Common.{◌≡◌, ◌<◌, ◌≤◌, ◌+◌, ◌-◌, refl, sym, ap, subst, ◌∙◌, ℕ, zero, suc, List, [], ◌∷◌, ◌++◌, Bool, true, false, nat_eq, nat_lt, length, map, sum, min, arith, inl, append_assoc, append-nil}
 use Rattle.std.proofs.lemmas.Bool.Decides.{nat_tests}
 use Rattle.std.proofs.lemmas.List.Elements.{All-nil, All-cons}
 use Rattle.std.proofs.lemmas.List.Sums.{sum_by-cons}
-use Rattle.std.specs.Prelude.{Option, Some, None, filter, slice_get, ◌≢◌, if◌then◌else◌}
+use Rattle.std.specs.Prelude.{Some, None, slice_get, if◌then◌else◌}
 use Rattle.std.specs.List.{All, list_any}
 use Rattle.dmx_calls.specs.declared.limits.TheConstants.{DEMUX_NODES}
 use Rattle.dmx_calls.specs.declared.outcome.Outcome.{Outcome}
-use Rattle.dmx_calls.specs.declared.params.Input.TheVariants.{Frontend}
 use Rattle.dmx_calls.specs.declared.log.Act.{Act}
 use Rattle.dmx_calls.specs.declared.log.Act.TheVariants.{Pass as PassAct, End as EndAct}
 use Rattle.ts_watch.specs.Head.{StreamHead}
@@ -18,12 +17,11 @@ use Rattle.dmx_calls.specs.Answer.{answer}
 use Rattle.dmx_calls.specs.Legal.{May, IsLegalFor}
 use Rattle.dmx_calls.specs.Log.{LogEntry, filled_act, filled_entry, filled}
 use Rattle.client_script.specs.declared.line.Line.{Line}
-use Rattle.client_script.specs.Script.{clients_in}
 use Rattle.client_core.specs.Events.{next_event}
-use Rattle.script_run.specs.IsRun.{Batch, Step, feeding, steps_of, IsFed, HasDone, IsRun, replies, StandsIn, IsEvent}
+use Rattle.script_run.specs.IsRun.{Batch, feeding, steps_of, HasDone, IsRun, replies, StandsIn}
 use Rattle.report_text.specs.Entries.{is_of_client}
-use Rattle.report_text.specs.Told.{ToldNode, Told}
-use Rattle.report_runs.specs.Completed.{shown, renumbered, of_feeder, tiled, feeder_of, complete, completed}
+use Rattle.report_text.specs.Told.{ToldNode}
+use Rattle.report_runs.specs.Completed.{shown, renumbered, tiled, feeder_of, complete, completed}
 use Rattle.report_runs.specs.Completed.{told_by}
 use Rattle.report_runs.proofs.Completing.{step_of}
 use Rattle.report_runs.proofs.Idle.{IsFeed, AllZero, uncalled, filled_append}

@@ -1,25 +1,23 @@
 -- In a run, a node that no client called has the feeder's calls alone.
-use Rattle.std.proofs.Common.{◌≡◌, ◌<◌, ◌≤◌, ◌+◌, refl, sym, ap, subst, ◌∙◌, ℕ, zero, suc, List, [], ◌∷◌, ◌++◌, Bool, true, false, nat_eq, length, map, reverse, arith, append_assoc}
+use Rattle.std.proofs.Common.{◌≡◌, ◌+◌, refl, sym, ap, subst, ◌∙◌, ℕ, zero, suc, List, [], ◌∷◌, ◌++◌, Bool, true, false, nat_eq, length, map, arith, append_assoc}
 use Rattle.std.proofs.lemmas.Bool.Decides.{nat_tests}
 use Rattle.std.proofs.lemmas.List.{map-append, reverse-append}
-use Rattle.std.specs.Prelude.{Option, Some, None, filter, slice_get, nat_lt, ◌||◌}
+use Rattle.std.specs.Prelude.{Some, slice_get, nat_lt, ◌||◌}
 use Rattle.std.specs.List.{list_any}
 use Rattle.dmx_calls.specs.declared.outcome.Outcome.{Outcome}
 use Rattle.dmx_calls.specs.declared.log.Act.{Act}
-use Rattle.dmx_calls.specs.declared.log.Act.TheVariants.{Open as OpenAct, Close as CloseAct, SetFilter as SetFilterAct, SetPes as SetPesAct, AddPid as AddPidAct, RemovePid as RemovePidAct, Start as StartAct, Stop as StopAct, SetSize as SetSizeAct, Read as ReadAct, Poll as PollAct, Pass as PassAct, End as EndAct, Attach as AttachAct, Detach as DetachAct}
+use Rattle.dmx_calls.specs.declared.log.Act.TheVariants.{Pass as PassAct, End as EndAct}
 use Rattle.ts_watch.specs.Head.{StreamHead}
 use Rattle.dmx_calls.specs.History.{History}
-use Rattle.dmx_calls.specs.Invocation.{Pass, End}
 use Rattle.dmx_calls.specs.Response.{Response, Passed}
 use Rattle.dmx_calls.specs.Rules.{Rules, rules_at}
 use Rattle.dmx_calls.specs.Legal.{May, IsLegalFor}
-use Rattle.dmx_calls.specs.Laws.{PassesGoBy}
 use Rattle.dmx_calls.specs.Log.{LogEntry, filled_act, filled_entry, filled}
 use Rattle.dmx_calls.proofs.Telling.{go_by}
 use Rattle.client_script.specs.declared.line.Line.{Line}
-use Rattle.script_run.specs.IsRun.{Batch, Step, feeding, steps_of, IsRun}
+use Rattle.script_run.specs.IsRun.{Batch, Step, feeding, IsRun}
 use Rattle.report_text.specs.Entries.{is_of_client}
-use Rattle.report_text.specs.Told.{ToldNode, Told}
+use Rattle.report_text.specs.Told.{ToldNode}
 use Rattle.report_runs.specs.Completed.{shown, renumbered, of_feeder, feeder_of, complete, completed}
 use Rattle.report_runs.specs.Completed.{told_by}
 use Rattle.report_runs.proofs.Completing.{step_of, AreFeeders, ArePassed, same_feeders, AreIdle, complete_shown}

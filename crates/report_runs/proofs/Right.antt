@@ -1,22 +1,20 @@
 -- The reports of runs are those that are right.
-use Rattle.std.proofs.Common.{◌≡◌, ◌<◌, ◌≤◌, ◌+◌, refl, sym, ap, subst, ◌∙◌, ℕ, zero, suc, List, [], ◌∷◌, Bool, true, false, nat_eq, length, arith}
+use Rattle.std.proofs.Common.{◌≡◌, ◌<◌, ◌+◌, refl, sym, ap, subst, ◌∙◌, ℕ, zero, suc, List, [], ◌∷◌, Bool, true, false, nat_eq, length, arith}
 use Rattle.std.proofs.lemmas.Bool.Decides.{nat_tests}
 use Rattle.std.proofs.lemmas.List.Elements.{All-head, All-tail, All-nil, All-cons}
-use Rattle.std.specs.Prelude.{Option, Some, None, slice_get, nat_le, nat_lt, ◌&&◌}
+use Rattle.std.specs.Prelude.{Some, slice_get, nat_le, nat_lt, ◌&&◌}
 use Rattle.std.specs.List.{All, list_any}
 use Rattle.dmx_calls.specs.declared.limits.TheConstants.{DEMUX_NODES}
 use Rattle.dmx_calls.specs.declared.outcome.Outcome.{Outcome}
 use Rattle.dmx_calls.specs.Log.{LogEntry}
 use Rattle.ts_watch.specs.Head.{StreamHead}
 use Rattle.client_script.specs.declared.line.Line.{Line}
-use Rattle.client_script.specs.Script.{clients_in}
-use Rattle.client_core.specs.Events.{outcomes, next_event}
-use Rattle.script_run.specs.IsRun.{IsRun, HasDone, replies, StandsIn, IsEvent}
+use Rattle.client_core.specs.Events.{outcomes}
+use Rattle.script_run.specs.IsRun.{replies}
 use Rattle.report_text.specs.Entries.{is_of_client}
-use Rattle.report_text.specs.Report.{report_of}
 use Rattle.report_text.specs.Told.{ToldNode, Told, text_of}
 use Rattle.report_read.specs.Ranges.{IsInRange, IsNodeInRange}
-use Rattle.report_read.specs.Report.{are_placed, are_nodes, are_rows, is_whole_node, IsInOrder, IsReport}
+use Rattle.report_read.specs.Report.{are_placed, are_nodes, are_rows, is_whole_node}
 use Rattle.report_runs.specs.Completed.{shown, told_by, renumbered, of_feeder, tiled, feeder_of, complete, completed}
 use Rattle.report_runs.specs.Right.{IsRunOf, IsReportOfRun, IsRightReport}
 use Rattle.report_runs.proofs.Shown.{reports_tell}

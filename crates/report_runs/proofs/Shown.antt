@@ -1,10 +1,10 @@
 -- A report is the text of what it tells.
-use Rattle.std.proofs.Common.{◌≡◌, refl, ap, ℕ, suc, List, [], ◌∷◌, ◌++◌, Bool, true, false, codes}
+use Rattle.std.proofs.Common.{◌≡◌, refl, ℕ, suc, List, [], ◌∷◌, Bool, true, false}
 use Rattle.std.specs.List.{flat_map, list_any}
 use Rattle.dmx_calls.specs.declared.outcome.Outcome.{Outcome}
 use Rattle.ts_watch.specs.Head.{StreamHead}
 use Rattle.dmx_calls.specs.Log.{LogEntry}
-use Rattle.report_text.specs.Entries.{is_of_client, history_text, histories_text}
+use Rattle.report_text.specs.Entries.{is_of_client, histories_text}
 use Rattle.report_text.specs.Report.{report_of}
 use Rattle.report_text.specs.Told.{told_node_text, text_of}
 use Rattle.report_runs.specs.Completed.{shown}
