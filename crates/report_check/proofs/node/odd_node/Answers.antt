@@ -1,4 +1,4 @@
-use Rattle.std.proofs.Common.{◌≡◌, ◌∷◌, List, map, sym, subst, false, true}
+use Rattle.std.proofs.Common.{◌≡◌, ◌∙◌, List, map, sym, subst, true}
 use Rattle.std.proofs.lemmas.Bool.{false≢true}
 use Rattle.std.specs.List.{All}
 use Rattle.dmx_calls.specs.Calls.{told_entry}
@@ -17,7 +17,7 @@ pub returns-in-Some : goal.returns-in-Some
 returns-in-Some c sound =
     let front = parted c.args.nodes.now c.first-item.result _ c.in-len1-up.len_at_least c.first-item.is in
     let there = subst (λ ns. AreSoundNodes c.args.clients c.args.packets (told_nodes ns)) front sound in
-    false≢true (sym c.in-Some.ensures ∙ there.0)
+    false≢true (sym (rw c.deref.ensures.value at c.in-Some.ensures) ∙ there.0)
 
 pub returns : goal.returns
 returns c =
@@ -25,6 +25,6 @@ returns c =
     let ns : List ToldNode = told_nodes (behind c.args.nodes.now) in
     let front = parted c.args.nodes.now c.first-item.result _ c.in-len1-up.len_at_least c.first-item.is in
     by_other c.odd_among.result (All (IsSoundNode c.args.clients c.args.packets n.entries) (told_nodes c.args.nodes.now)) (AreSoundNodes c.args.clients c.args.packets (told_nodes c.args.nodes.now))
-    (λ all. subst (λ xs. AreSoundNodes c.args.clients c.args.packets (told_nodes xs)) (sym front) (c.in_default-unfed.ensures, subst (λ xs. All (IsSoundNode c.args.clients c.args.packets n.entries) (told_nodes xs)) front all))
+    (λ all. subst (λ xs. AreSoundNodes c.args.clients c.args.packets (told_nodes xs)) (sym front) (rw c.deref.ensures.value at c.in_default-unfed.ensures, subst (λ xs. All (IsSoundNode c.args.clients c.args.packets n.entries) (told_nodes xs)) front all))
     (λ sound. subst (λ xs. All (IsSoundNode c.args.clients c.args.packets n.entries) (told_nodes xs)) (sym front) (subst (λ xs. AreSoundNodes c.args.clients c.args.packets (told_nodes xs)) front sound).1)
-    c.odd_among.ensures
+    (rw c.deref-2.ensures.value at c.odd_among.ensures)

@@ -5,8 +5,8 @@ use Rattle.report_check.specs.Inside.Parts.{IsPlayed}
 use Rattle.report_check.proofs.Ways.{ok_by_other}
 use Rattle.report_check.proofs.play.odd_with.Goals as goal
 
-pub returns-else-node-ltDEMUX_NODES : goal.returns-else-node-ltDEMUX_NODES
-returns-else-node-ltDEMUX_NODES g c =
+pub returns : goal.returns
+returns g c =
     let last : c.args.node ≡ DEMUX_NODES = omega arith in
     ok_by_other c.odd_of_dvr.result (IsPlayed c.args.packets.now (record { node = DEMUX_NODES; entries = map told_entry c.args.entries.now }))
     (IsPlayed c.args.packets.now (record { node = c.args.node; entries = map told_entry c.args.entries.now }))
