@@ -1,5 +1,5 @@
-"""What the programs of this folder share: runs of the real program over ends that fail, that take less than is offered, and where memory
-is refused, and the cases that are counted."""
+"""What the programs of this folder share: runs of the real program over ends that fail, that take less than is offered, and where
+memory is refused, and the cases that are counted."""
 import os
 import resource
 import subprocess
@@ -113,8 +113,8 @@ def run_told(words, session, **more):
 
 
 def run_each(words, session, name, **more):
-    """Runs with the numbers from 1 on in the environment variable of this name, up to the first in which nothing was told: each number
-    with its run."""
+    """Runs with the numbers from 1 on in the environment variable of this name, up to the first in which nothing was told: each
+    number with its run."""
     number, was = 0, True
     while was:
         number += 1
