@@ -7,7 +7,8 @@ mod told;
 ghost use Rattle.std.specs.Prelude.{◌≡◌, IfOk, length};
 
 use dmx_calls::{Entry, Fed, Histories, Outcome};
-use report_text::{report, summary};
+use emu_io::MemSink;
+use report_text::{summary, write_report};
 use runs::{SUMMED, SUMS, reports};
 use std::alloc::{AllocError as NoMemory, Global};
 use told::{Row, entry_of};
@@ -89,11 +90,19 @@ fn histories_of(alloc: Global, run: &Run) -> Result<Histories, NoMemory> {
     Ok(Histories::new(feeding, nodes))
 }
 
+// The most bytes of a report.
+const MOST_BYTES: usize = 65536;
+
+// The report of a run as a sink gets it that takes few bytes at a time; no bytes where it isn't written whole.
 fn report_of(alloc: Global, run: &Run) -> Result<Vec<u8>, NoMemory> {
     let head = head_of(alloc, run)?;
     let outcomes = outcomes_of(alloc, run)?;
     let histories = histories_of(alloc, run)?;
-    report(alloc, &head, &outcomes, &histories)
+    let mut sink = MemSink::new(alloc, MOST_BYTES, 100, Vec::new(alloc))?;
+    match write_report(alloc, &mut sink, &head, &outcomes, &histories) {
+        Ok(()) => sink.bytes().to_vec(alloc),
+        Err(_) => Ok(Vec::new(alloc)),
+    }
 }
 
 // The number of the first line in which two texts differ, counted from 0; None where they are the same.
