@@ -11,7 +11,7 @@ use std::marker::Model;
 // The fewest bytes of a piece but the last, and the most bytes of one write.
 const PIECE: usize = 65536;
 
-// The most bytes of a line: a client's, with 65,535 bytes of data in two digits each.
+// The most bytes of a line: a client's, with 65,536 bytes of data in two digits each.
 const LONGEST_LINE: usize = 132000;
 
 /// The text that waits to be written: less than a piece, with room for a longest line behind it. A contract sees its bytes.
