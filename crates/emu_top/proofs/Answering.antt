@@ -62,20 +62,16 @@ module _ (left : Left) (became : List (List Outcome)) (same : became ≡ map (λ
 
   pub whole_done : left.head.read_fault ≡ false → Appends w.written v.written (report_of (told_head left.head) became left.histories) → v.faults ≡ w.faults
       → HasReported left w v Done
-  whole_done no whole steady = (no, subst (Appends w.written v.written) over whole, steady)
+  whole_done sound whole steady = (sound, subst (Appends w.written v.written) over whole, steady)
 
   pub whole_read_fault : left.head.read_fault ≡ true → Appends w.written v.written (report_of (told_head left.head) became left.histories) → v.faults ≡ w.faults
       → HasReported left w v ReadFault
-  whole_read_fault yes whole steady = (yes, subst (Appends w.written v.written) over whole, steady)
+  whole_read_fault failed whole steady = (failed, subst (Appends w.written v.written) over whole, steady)
 
   pub part_failed : AddsPart w.written v.written [] (report_of (told_head left.head) became left.histories) → v.faults ≡ raised w.faults → HasReported left w v WriteFault
   part_failed p rose =
       let part : AddsPart w.written v.written [] (report_over left) = subst (AddsPart w.written v.written []) over p in
       (part.count, part.part, part.written, subst (λ n. raised w.faults ≤ n) (sym rose) (omega arith))
-
--- a sink that is as it was got nothing
-pub nothing_written : {K : Type 0} (end : K → SinkEnd) (left : Left) {old new : K} → new ≡ old → HasReported left (end old) (end new) NoMemory
-nothing_written end left {old} {new} same = subst (λ k. HasReported left (end old) (end k) NoMemory) (sym same) (keeps (end old).written, refl)
 
 says_reported : (out : Output) (x y : SourceEnd) (w v : SinkEnd) (left : Left) (status : Status)
     → Makes out x y left.head.read_fault (report_over left) → HasReported left w v status → Says out (outside x w) (outside y v) status
@@ -97,10 +93,10 @@ says_ended out x y w v (Ok left) status made refused written kept = says_reporte
 says_ended out x y w v (Err why) status made refused written kept = rw (kept.0, kept.1) (says_refused out x y w why refused)
 
 -- a sink that is as it was tells what it told
-pub kept_end : {K T : Type 0} (end : K → SinkEnd) {old new : K} {status : Status} (left : Result T Status) → IfErr left (λ why. (status ≡ why) × (new ≡ old))
+pub kept_end : {K T : Type 0} (end : K → SinkEnd) (old new : K) (status : Status) (left : Result T Status) → IfErr left (λ why. (status ≡ why) × (new ≡ old))
     → IfErr left (λ why. (status ≡ why) × (end new ≡ end old))
-kept_end end (Ok left) kept = tt
-kept_end end (Err why) kept = (kept.0, ap end kept.1)
+kept_end end old new status (Ok left) kept = tt
+kept_end end old new status (Err why) kept = (kept.0, ap end kept.1)
 
 -- ------ what the bytes taken say of the whole input
 
