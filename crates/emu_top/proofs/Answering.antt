@@ -1,9 +1,9 @@
 -- What a status says, and that the input determines it.
-use Rattle.std.proofs.Common.{◌≡◌, ◌<◌, ◌≤◌, ◌+◌, ◌-◌, ◌*◌, ◌^◌, ◌⊎◌, refl, sym, ap, subst, ◌∙◌, ℕ, Bool, List, [], ◌∷◌, ◌++◌, length, take, drop, append_assoc, arith, length-append, inl, inr}
+use Rattle.std.proofs.Common.{◌≡◌, ◌<◌, ◌≤◌, ◌+◌, ◌-◌, ◌*◌, ◌^◌, ◌⊎◌, refl, sym, ap, subst, ◌∙◌, ℕ, Bool, true, false, List, [], ◌∷◌, ◌++◌, length, map, take, drop, append_assoc, arith, length-append, inl, inr}
 use Rattle.std.proofs.lemmas.List.{take-append-drop, length-drop, length-take}
-use Rattle.std.specs.Prelude.{Option, Some, None, IfSome, Ok, Err}
-use Rattle.std.specs.Io.KnownBytes.{Consumes, Keeps}
-use Rattle.emu_io.specs.Causes.{Rose}
+use Rattle.std.specs.Prelude.{Option, Some, None, IfSome, Result, Ok, Err, IfOk, IfErr}
+use Rattle.std.specs.Io.KnownBytes.{Appends, Consumes, Keeps}
+use Rattle.emu_io.specs.Causes.{raised, Rose}
 use Rattle.emu_io.specs.Ends.{SourceEnd, SinkEnd}
 use Rattle.client_script.specs.declared.line.Line.{Line}
 use Rattle.client_script.specs.declared.line.Line.TheVariants.{Feed, Tick, Command as CommandLine}
@@ -14,7 +14,13 @@ use Rattle.command_words.specs.declared.Command.{Command}
 use Rattle.command_words.specs.declared.Command.TheVariants.{Steps, Run, Make, SelfTest}
 use Rattle.command_words.specs.Meant.{meant}
 use Rattle.ts_make.specs.Made.{made}
+use Rattle.dmx_calls.specs.declared.outcome.Outcome.{Outcome}
+use Rattle.ts_watch.specs.Head.{told_head}
+use Rattle.serial_core.specs.declared.run.Left.{Left}
+use Rattle.report_text.specs.Report.{report_of}
+use Rattle.report_text.specs.Inside.Pieces.{AddsPart}
 use Rattle.emu_top.specs.Session.{Output, IsSerialOutput, IsThreadOutput, IsSums, Makes, Refuses}
+use Rattle.emu_top.specs.Inside.Reporting.{report_over, HasReported}
 use Rattle.emu_top.specs.Serves.{Outside, outside, NoWriteFails, HasWritten, Says, Determines, Does, Tells, Gives, Obeys, Serves}
 use Rattle.emu_top.specs.declared.status.Status.{Status}
 use Rattle.emu_top.specs.declared.status.Status.TheVariants.{Usage, Script, TooLong, ReadFault, WriteFault, NoMemory, Ok as Done}
@@ -47,6 +53,50 @@ says_written out x y w v failed text WriteFault m (count, part, written, rose) =
 says_written out x y w v failed text NoMemory m h = absurd h
 says_written out x y w v failed text Done m (is, written, steady) =
     record { text = text; made = subst (λ b. Makes out x y b text) is m; whole = record { written = written; writes = steady } }
+
+-- ------ what a report that is written says of the sink
+
+module _ (left : Left) (became : List (List Outcome)) (same : became ≡ map (λ those. those.items) left.outcomes.items) (w v : SinkEnd) where
+  over : report_of (told_head left.head) became left.histories ≡ report_over left
+  over = ap (λ b. report_of (told_head left.head) b left.histories) same
+
+  pub whole_done : left.head.read_fault ≡ false → Appends w.written v.written (report_of (told_head left.head) became left.histories) → v.faults ≡ w.faults
+      → HasReported left w v Done
+  whole_done sound whole steady = (sound, subst (Appends w.written v.written) over whole, steady)
+
+  pub whole_read_fault : left.head.read_fault ≡ true → Appends w.written v.written (report_of (told_head left.head) became left.histories) → v.faults ≡ w.faults
+      → HasReported left w v ReadFault
+  whole_read_fault failed whole steady = (failed, subst (Appends w.written v.written) over whole, steady)
+
+  pub part_failed : AddsPart w.written v.written [] (report_of (told_head left.head) became left.histories) → v.faults ≡ raised w.faults → HasReported left w v WriteFault
+  part_failed p rose =
+      let part : AddsPart w.written v.written [] (report_over left) = subst (AddsPart w.written v.written []) over p in
+      (part.count, part.part, part.written, subst (λ n. raised w.faults ≤ n) (sym rose) (omega arith))
+
+says_reported : (out : Output) (x y : SourceEnd) (w v : SinkEnd) (left : Left) (status : Status)
+    → Makes out x y left.head.read_fault (report_over left) → HasReported left w v status → Says out (outside x w) (outside y v) status
+says_reported out x y w v left Usage m h = absurd h
+says_reported out x y w v left (Script line kind) m h = absurd h
+says_reported out x y w v left (TooLong turns) m h = absurd h
+says_reported out x y w v left ReadFault m h = says_written out x y w v left.head.read_fault (report_over left) ReadFault m h
+says_reported out x y w v left WriteFault m h = says_written out x y w v left.head.read_fault (report_over left) WriteFault m h
+says_reported out x y w v left NoMemory m h = h
+says_reported out x y w v left Done m h = says_written out x y w v left.head.read_fault (report_over left) Done m h
+
+-- ------ a status, with output or without
+
+pub says_ended : (out : Output) (x y : SourceEnd) (w v : SinkEnd) (left : Result Left Status) (status : Status)
+    → IfOk left (λ left. Makes out x y left.head.read_fault (report_over left)) → IfErr left (λ why. Refuses x y why)
+    → IfOk left (λ left. HasReported left w v status) → IfErr left (λ why. (status ≡ why) × (v ≡ w))
+    → Says out (outside x w) (outside y v) status
+says_ended out x y w v (Ok left) status made refused written kept = says_reported out x y w v left status made written
+says_ended out x y w v (Err why) status made refused written kept = rw (kept.0, kept.1) (says_refused out x y w why refused)
+
+-- a sink that is as it was tells what it told
+pub kept_end : {K T : Type 0} (end : K → SinkEnd) (old new : K) (status : Status) (left : Result T Status) → IfErr left (λ why. (status ≡ why) × (new ≡ old))
+    → IfErr left (λ why. (status ≡ why) × (end new ≡ end old))
+kept_end end old new status (Ok left) kept = tt
+kept_end end old new status (Err why) kept = (kept.0, ap end kept.1)
 
 -- ------ what the bytes taken say of the whole input
 
