@@ -1,0 +1,10 @@
+pub mod Lists
+pub mod Feeding
+pub mod Nodes
+pub mod Ranges
+pub mod Callable
+pub mod Feeder
+pub mod Passed
+pub mod Deciding
+pub mod Few
+pub mod Checking
