@@ -1,5 +1,5 @@
 // The output for a session.
-ghost use Rattle.std.specs.Prelude.{◌≡◌, ℕ, ◌+◌, ◌-◌, ◌^◌, ◌<◌, ◌≤◌, List, length, map, IfOk, IfErr, IfSome};
+ghost use Rattle.std.specs.Prelude.{◌≡◌, ℕ, ◌+◌, ◌-◌, ◌^◌, ◌<◌, ◌≤◌, List, length, map, IfOk, IfErr, IfSome, IsErrOf};
 ghost use Rattle.client_script.specs.Script.{script_len, whole_lines, most_bytes};
 ghost use Rattle.ts_watch.specs.Head.{told_head};
 ghost use Rattle.report_text.specs.Report.{report_of};
@@ -87,6 +87,7 @@ pub fn read_session<S: Source>(alloc: Global, source: &mut S) -> Result<Session,
     ensures going { IfOk result (λ session. (session.puller.reading ≡ Going) × (session.puller.given ≡ 0)) }
     ensures steady { IfOk result (λ session. (S.end source.new).faults ≡ (S.end source.old).faults) }
     ensures refuses { IfErr result (λ status. Refuses (S.end source.old) (S.end source.new) status) }
+    ensures not_too_long { (turns : ℕ) → IsErrOf result (Status.TooLong turns) → ⊥ }
     ensures once { (S.end source.new).faults ≤ (S.end source.old).faults + 1 }
 {
     match read_front(alloc, source) {
