@@ -50,6 +50,11 @@ def example(name):
     return Example(name, words, bytes_of(path + ".session"), bytes_of(path + ".report"))
 
 
+def asked(report, session):
+    """The input of `check`: how long a report is, the report, and the session that it may be of."""
+    return f"report {len(report)}\n".encode() + report + session
+
+
 def files(ending):
     """The files of examples/ with this ending, without it: `rules/one-tap`, .."""
     paths = glob.glob(os.path.join(glob.escape(EXAMPLES), "*", "*" + ending))

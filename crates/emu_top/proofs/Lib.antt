@@ -6,3 +6,4 @@ pub mod Judging
 pub mod Rows
 pub mod Numbers
 pub mod Threading
+pub mod Whole
