@@ -145,9 +145,11 @@ in_more b more (Some size) a e = by (nat_le size (length b)) refl where
   by true t =
       let within : size ≤ length b = grind (arith, nat_tests, t) in
       let fits : nat_le size (length (b ++ more)) ≡ true = grind (arith, nat_tests, length-append b more, within) in
-      let is : Ok (record { report = take size b; session = drop size b }) ≡ Ok a = rw t at e in
-      let front : take size (b ++ more) ≡ a.report = take-append-le size b more within ∙ cc in
-      let behind : drop size (b ++ more) ≡ a.session ++ more = drop-append-le size b more within ∙ cc in
+      let here : Asked = record { report = take size b; session = drop size b } in
+      let is : Ok here ≡ Ok a = rw t at e in
+      let same : here ≡ a = cc in
+      let front : take size (b ++ more) ≡ a.report = take-append-le size b more within ∙ ap (λ r. r.report) same in
+      let behind : drop size (b ++ more) ≡ a.session ++ more = drop-append-le size b more within ∙ ap (λ r. r.session ++ more) same in
       rw (fits, front, behind) refl
   by false t = let is : Err (in_front NoStream) ≡ Ok a = rw t at e in absurd (cc)
 

@@ -111,12 +111,18 @@ module _ (bytes : List ℕ) (stream : Stream) (whole : IsWholeOf bytes stream) w
   pub packets_are : All IsPacket stream.packets.items
   packets_are = subst (All IsPacket) (sym whole.packets) (are_packets bytes)
 
+  told_right : (lines : List Line) (report : List ℕ) → IsRightReport lines stream.packets.items (told_head stream.head) report → IsRightReport lines (cut bytes).packets (head_of bytes false) report
+  told_right lines report r = subst (λ h. IsRightReport lines (cut bytes).packets h report) whole.head (subst (λ packets. IsRightReport lines packets (told_head stream.head) report) whole.packets r)
+
+  right_told : (lines : List Line) (report : List ℕ) → IsRightReport lines (cut bytes).packets (head_of bytes false) report → IsRightReport lines stream.packets.items (told_head stream.head) report
+  right_told lines report r = subst (λ h. IsRightReport lines stream.packets.items h report) (sym whole.head) (subst (λ packets. IsRightReport lines packets (head_of bytes false) report) (sym whole.packets) r)
+
   right_or_not : (lines : List Line) (report : List ℕ) (right : Bool) → (right ≡ true → IsRightReport lines stream.packets.items (told_head stream.head) report)
       → (right ≡ false → IsRightReport lines stream.packets.items (told_head stream.head) report → ⊥) → IsAnswer right report lines bytes
   right_or_not lines report true yes no =
-      (right_are_of_runs lines (cut bytes).packets (head_of bytes false) report (head_rows bytes false) count_of).1 (rw (← whole.packets, ← whole.head) (yes refl))
+      (right_are_of_runs lines (cut bytes).packets (head_of bytes false) report (head_rows bytes false) count_of).1 (told_right lines report (yes refl))
   right_or_not lines report false yes no =
-      λ of. no refl (rw (whole.packets, whole.head) ((right_are_of_runs lines (cut bytes).packets (head_of bytes false) report (head_rows bytes false) count_of).0 of))
+      λ of. no refl (right_told lines report ((right_are_of_runs lines (cut bytes).packets (head_of bytes false) report (head_rows bytes false) count_of).0 of))
 
 pub judged_by : (report first : List ℕ) (x y z w : SourceEnd) (lines : List Line) (puller : Pulling) (stream : Stream) (right : Bool)
     → Begins report x y → Takes y z first → Holds first lines puller → OfStream z w puller (λ ahead taken. IsWholeOf (ahead ++ taken) stream) → ReadsTo false z w
