@@ -20,7 +20,9 @@ use Rattle.emu_top.specs.Inside.Asking.{AsksFor, Begins}
 
 skip_line : (line more : List ℕ) → drop (length line + 1) ((line ++ 10 ∷ []) ++ more) ≡ more
 skip_line [] more = refl
-skip_line (byte ∷ line) more = skip_line line more
+skip_line (byte ∷ line) more =
+    let on : length (byte ∷ line) + 1 ≡ suc (length line + 1) = omega arith in
+    ap (λ n. drop n (((byte ∷ line) ++ 10 ∷ []) ++ more)) on ∙ skip_line line more
 
 take_line : (n : ℕ) (line more : List ℕ) → length line < n → (rest : List ℕ) × (take n ((line ++ 10 ∷ []) ++ more) ≡ line ++ 10 ∷ rest)
 take_line zero line more fits = absurd (omega (arith, fits))
@@ -72,8 +74,8 @@ no_line x y bytes con steady none few end =
 -- a first line that isn't of its form
 pub other_line : (x y : SourceEnd) (line : List ℕ) (size : Option ℕ) → Consumes x.left y.left (line ++ 10 ∷ []) → y.faults ≡ x.faults → HasNoFeed line → length line < 40 → size_of line ≡ size → size ≡ None
     → HasFirstFault (in_front Number) x y
-other_line x y line size con steady none fits is no =
-    (steady, of_input x.left y.left (line ++ 10 ∷ []) (in_front Number) con (λ rest at. ap lines_asked (asked_line line rest none fits ∙ ap (asked_in rest) (is ∙ no))))
+other_line x y line size con steady none fits is other =
+    (steady, of_input x.left y.left (line ++ 10 ∷ []) (in_front Number) con (λ rest at. ap lines_asked (asked_line line rest none fits ∙ ap (asked_in rest) (is ∙ other))))
 
 -- and one that is
 pub sized : (x y : SourceEnd) (line : List ℕ) (size : ℕ) → Consumes x.left y.left (line ++ 10 ∷ []) → y.faults ≡ x.faults → HasNoFeed line → length line < 40 → size_of line ≡ Some size → AsksFor size x y

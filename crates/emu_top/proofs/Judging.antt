@@ -119,16 +119,16 @@ module _ (bytes : List ℕ) (stream : Stream) (whole : IsWholeOf bytes stream) w
 
   right_or_not : (lines : List Line) (report : List ℕ) (right : Bool) → (right ≡ true → IsRightReport lines stream.packets.items (told_head stream.head) report)
       → (right ≡ false → IsRightReport lines stream.packets.items (told_head stream.head) report → ⊥) → IsAnswer right report lines bytes
-  right_or_not lines report true yes no =
-      (right_are_of_runs lines (cut bytes).packets (head_of bytes false) report (head_rows bytes false) count_of).1 (told_right lines report (yes refl))
-  right_or_not lines report false yes no =
-      λ of. no refl (right_told lines report ((right_are_of_runs lines (cut bytes).packets (head_of bytes false) report (head_rows bytes false) count_of).0 of))
+  right_or_not lines report true right wrong =
+      (right_are_of_runs lines (cut bytes).packets (head_of bytes false) report (head_rows bytes false) count_of).1 (told_right lines report (right refl))
+  right_or_not lines report false right wrong =
+      λ of. wrong refl (right_told lines report ((right_are_of_runs lines (cut bytes).packets (head_of bytes false) report (head_rows bytes false) count_of).0 of))
 
 pub judged_by : (report first : List ℕ) (x y z w : SourceEnd) (lines : List Line) (puller : Pulling) (stream : Stream) (right : Bool)
     → Begins report x y → Takes y z first → Holds first lines puller → OfStream z w puller (λ ahead taken. IsWholeOf (ahead ++ taken) stream) → ReadsTo false z w
     → (right ≡ true → IsRightReport lines stream.packets.items (told_head stream.head) report)
     → (right ≡ false → IsRightReport lines stream.packets.items (told_head stream.head) report → ⊥) → Judges right x w
-judged_by report first x y z w lines puller stream right b t h of reads yes no =
+judged_by report first x y z w lines puller stream right b t h of reads told untold =
     let taken = of.0 in
     record {
       bytes = b.bytes ++ (first ++ taken);
@@ -138,7 +138,7 @@ judged_by report first x y z w lines puller stream right b t h of reads yes no =
       taken = taken_all report first taken x y z w b t of.1;
       reads = (reads.0 ∙ (t.steady ∙ b.steady), reads.1);
       asks = asks report first taken x y lines puller b h;
-      answer = right_or_not (h.ahead ++ taken) stream (of.2 h.ahead h.pulls) lines report right yes no;
+      answer = right_or_not (h.ahead ++ taken) stream (of.2 h.ahead h.pulls) lines report right told untold;
     }
 
 pub judged : (report first : List ℕ) (x y z w : SourceEnd) (lines : List Line) (puller : Pulling) (stream : Stream) (fault : Option Fault)

@@ -7,3 +7,4 @@ pub mod Rows
 pub mod Numbers
 pub mod Threading
 pub mod Whole
+pub mod Written
