@@ -1,9 +1,9 @@
 -- What an input asks, by the bytes that were taken of it.
-use Rattle.std.proofs.Common.{◌≡◌, ◌<◌, ◌≤◌, ◌+◌, ◌⊎◌, refl, sym, ap, subst, ◌∙◌, ℕ, zero, suc, Bool, true, false, List, [], ◌∷◌, ◌++◌, length, take, drop, append-nil, append_assoc, inl, inr, arith, length-append}
+use Rattle.std.proofs.Common.{◌≡◌, ◌<◌, ◌≤◌, ◌+◌, ◌⊎◌, refl, sym, ap, subst, ◌∙◌, ℕ, zero, suc, Bool, true, false, List, [], ◌∷◌, ◌++◌, length, take, drop, get_or, append-nil, append_assoc, inl, inr, arith, length-append}
 use Rattle.std.proofs.lemmas.Bool.Decides.{nat_tests}
 use Rattle.std.proofs.lemmas.List.{take_all, take-append-le, take-append-drop, drop-append-le, length-take}
 use Rattle.std.proofs.KnownBytes.{Consumes-trans}
-use Rattle.std.specs.Prelude.{Option, Some, None, Result, Ok, Err, IfSome, nat_le}
+use Rattle.std.specs.Prelude.{Option, Some, None, Result, Ok, Err, IfSome, IfNone, nat_le}
 use Rattle.std.specs.Io.KnownBytes.{Consumes, IsAtEnd}
 use Rattle.emu_io.specs.Causes.{raised}
 use Rattle.emu_io.specs.Ends.{SourceEnd}
@@ -85,6 +85,25 @@ sized x y line size con steady none fits is = record {
   steady = steady;
   parts = λ more. asked_line line more none fits ∙ ap (asked_in more) is;
 }
+
+-- one byte was read
+pub one_byte : (into : List ℕ) (n : ℕ) → length into ≡ 1 → n ≤ length into → 1 ≤ n → get_or into 0 0 ≡ 10 → take n into ≡ 10 ∷ []
+one_byte [] n one within some is = absurd (omega (arith, one))
+one_byte (byte ∷ []) zero one within some is = absurd (omega (arith, some))
+one_byte (byte ∷ []) (suc zero) one within some is = ap (λ b. b ∷ []) is
+one_byte (byte ∷ []) (suc (suc n)) one within some is = absurd (omega (arith, within))
+one_byte (byte ∷ next ∷ bytes) n one within some is = absurd (omega (arith, one))
+
+-- by what was read of it
+pub when_sized : (x y : SourceEnd) (line : List ℕ) (size : Option ℕ) → Consumes x.left y.left (line ++ 10 ∷ []) → y.faults ≡ x.faults → HasNoFeed line → length line < 40 → size ≡ size_of line
+    → IfSome size (λ n. AsksFor n x y)
+when_sized x y line None con steady none fits is = tt
+when_sized x y line (Some n) con steady none fits is = sized x y line n con steady none fits (sym is)
+
+pub when_other : (x y : SourceEnd) (line : List ℕ) (size : Option ℕ) → Consumes x.left y.left (line ++ 10 ∷ []) → y.faults ≡ x.faults → HasNoFeed line → length line < 40 → size ≡ size_of line
+    → IfNone size (HasFirstFault (in_front Number) x y)
+when_other x y line None con steady none fits is = other_line x y line None con steady none fits (sym is) refl
+when_other x y line (Some n) con steady none fits is = tt
 
 -- ------ the report
 

@@ -1,7 +1,7 @@
 -- The answer to what an input asks, and that the input determines it.
 use Rattle.std.proofs.Common.{◌≡◌, ◌<◌, ◌≤◌, ◌-◌, ◌^◌, ◌⊎◌, refl, sym, ap, subst, ◌∙◌, ℕ, Bool, true, false, List, ◌++◌, length, codes, inl, inr, arith, length-append}
 use Rattle.std.proofs.KnownBytes.{Consumes-trans}
-use Rattle.std.specs.Prelude.{All, Option, Some, None, IfSome, MatchOption, Ok, Err}
+use Rattle.std.specs.Prelude.{All, Option, Some, None, IfSome, MatchOption, Result, Ok, Err, IfErr, IsErrAnd}
 use Rattle.std.specs.Io.KnownBytes.{Consumes}
 use Rattle.emu_io.specs.Causes.{Rose}
 use Rattle.emu_io.specs.Ends.{SourceEnd, SinkEnd}
@@ -97,6 +97,11 @@ declined_by_stream report first x y z w lines puller WriteFault b t h c = absurd
 declined_by_stream report first x y z w lines puller NoMemory b t h c = tt
 declined_by_stream report first x y z w lines puller Done b t h c = absurd c
 declined_by_stream report first x y z w lines puller (Wrong fault) b t h c = absurd c
+
+-- a status that is handed on
+pub handed_on : {T : Type 0} (r : Result T Status) (status : Status) (P : Status → Type 0) → IsErrAnd r (λ e. e ≡ status) → P status → IfErr r P
+handed_on (Ok x) status P is p = tt
+handed_on (Err e) status P is p = subst P (sym is) p
 
 -- ------ the answer
 

@@ -1,8 +1,8 @@
 -- The rows of a stream's head stand in their order.
-use Rattle.std.proofs.Common.{◌≡◌, ◌<◌, ◌≤◌, refl, ℕ, zero, suc, Bool, true, List, [], ◌∷◌, ◌++◌, ⊤, arith}
+use Rattle.std.proofs.Common.{◌≡◌, ◌<◌, ◌≤◌, ◌+◌, refl, sym, ap, subst, ◌∙◌, ℕ, zero, suc, add-one, Bool, true, false, List, [], ◌∷◌, ◌++◌, inl, inr, arith}
 use Rattle.std.proofs.lemmas.Bool.{cases_lt}
 use Rattle.std.proofs.lemmas.Bool.Decides.{nat_tests}
-use Rattle.std.specs.Prelude.{nat_le, nat_lt, ◌&&◌}
+use Rattle.std.specs.Prelude.{⊤, nat_le, nat_lt, ◌&&◌}
 use Rattle.ts_packet.specs.Counts.{counts}
 use Rattle.ts_packet.specs.Cut.{cut}
 use Rattle.ts_watch.specs.declared.seen.PidRow.{PidRow}
@@ -42,17 +42,25 @@ in_order least pid row (r ∷ rows) low most some ordered below =
     let later = in_order (suc r.0) pid row rows next most some parts.1 below.1 in
     rw (parts.0, later) refl
 
-rows_ordered : (pid : ℕ) (packets : List (List ℕ)) → pid ≤ 8192 → (are_rows 0 (rows_below pid packets) ≡ true) × AreBelow pid (rows_below pid packets)
+-- rows in their order, of PIDs below this number
+abbrev AreOrdered : ℕ → List (ℕ × PidRow) → Type 0
+AreOrdered pid rows = (are_rows 0 rows ≡ true) × AreBelow pid rows
+
+none_ordered : AreOrdered 0 []
 unfolding are_rows
-rows_ordered zero packets few = rw (rows-none packets) (refl, tt)
+none_ordered = (refl, tt)
+
+rows_ordered : (pid : ℕ) (packets : List (List ℕ)) → pid ≤ 8192 → AreOrdered pid (rows_below pid packets)
+rows_ordered zero packets few = subst (AreOrdered 0) (sym (rows-none packets)) none_ordered
 rows_ordered (suc pid) packets few =
     let before = rows_ordered pid packets (omega (arith, few)) in
+    let next : rows_below (suc pid) packets ≡ rows_below (pid + 1) packets = ap (λ n. rows_below n packets) (sym (add-one pid)) in
     elim (cases_lt 0 (counts packets pid).packets) [
-      | inl some ↦ rw (rows-more pid packets some) (
+      | inl some ↦ subst (AreOrdered (suc pid)) (sym (next ∙ rows-more pid packets some)) (
           in_order 0 pid (row_of packets pid) (rows_below pid packets) (omega arith) (omega (arith, few)) some before.0 before.1,
           is_below pid (row_of packets pid) (rows_below pid packets) before.1,
         )
-      | inr none ↦ rw (rows-same pid packets none) (before.0, wider pid (rows_below pid packets) before.1)
+      | inr none ↦ subst (AreOrdered (suc pid)) (sym (next ∙ rows-same pid packets none)) (before.0, wider pid (rows_below pid packets) before.1)
     ]
 
 pub head_rows : (bytes : List ℕ) (failed : Bool) → are_rows 0 (head_of bytes failed).rows ≡ true

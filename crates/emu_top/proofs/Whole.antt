@@ -1,7 +1,7 @@
 -- A stream that is read to its end, or isn't.
-use Rattle.std.proofs.Common.{◌≡◌, ◌≢◌, ◌<◌, ◌≤◌, ◌+◌, refl, sym, ap, subst, ◌∙◌, ℕ, true, false, List, [], ◌++◌, length, arith}
+use Rattle.std.proofs.Common.{◌≡◌, ◌≢◌, ◌<◌, ◌≤◌, ◌+◌, refl, sym, ap, subst, ◌∙◌, ℕ, zero, suc, true, false, List, [], ◌∷◌, ◌++◌, length, take, inl, inr, arith}
 use Rattle.std.proofs.lemmas.Bool.{cases_lt}
-use Rattle.std.specs.Prelude.{Option, Some, None}
+use Rattle.std.specs.Prelude.{Option, Some, None, slice_get}
 use Rattle.emu_io.specs.Ends.{SourceEnd}
 use Rattle.ts_watch.specs.Head.{told_head, head_of}
 use Rattle.feed_pull.specs.declared.fault.Reading.{Reading}
@@ -17,6 +17,14 @@ use Rattle.emu_top.specs.Inside.Asking.{IsCutOff, IsWholeOf}
 use Rattle.emu_top.specs.declared.stream.Stream.{Stream}
 use Rattle.emu_top.specs.declared.status.Status.TheVariants.{TooLong, ReadFault}
 use Rattle.emu_top.proofs.Outputs.{rose_of}
+
+-- one more from the front
+pub take_next : {A : Type 0} (xs : List A) (i : ℕ) (x : A) → slice_get xs i ≡ Some x → take (i + 1) xs ≡ take i xs ++ x ∷ []
+take_next [] i x at = absurd (cc)
+take_next (y ∷ ys) zero x at = let same : y ≡ x = cc in ap (λ z. z ∷ []) same
+take_next (y ∷ ys) (suc i) x at =
+    let on : suc i + 1 ≡ suc (i + 1) = omega arith in
+    ap (λ n. take n (y ∷ ys)) on ∙ ap (λ zs. y ∷ zs) (take_next ys i x at)
 
 -- the packets and the head of all that was taken
 pub whole_of : (x y : SourceEnd) (old new : Pulling) (stream : Stream) → Draws x y old new stream.packets.items → HasGivenAll new → has_failed new.reading ≡ false
@@ -39,6 +47,12 @@ ended_of Going is stopped = absurd (stopped refl)
 ended_of Ended is stopped = refl
 ended_of Failed is stopped = absurd (cc)
 ended_of TooMany is stopped = absurd (cc)
+
+pub unfailed_of : (r : Reading) → fault_of r ≡ None → has_failed r ≡ false
+unfailed_of Going is = refl
+unfailed_of Ended is = refl
+unfailed_of Failed is = absurd (cc)
+unfailed_of TooMany is = refl
 
 failed_of : (r : Reading) → fault_of r ≡ Some pull.ReadFault → r ≡ Failed
 failed_of Going is = absurd (cc)

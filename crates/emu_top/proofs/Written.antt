@@ -33,14 +33,15 @@ wider lines most packets hs few run = record {
 -- the numbers from one on
 length_range : (from n : ℕ) → length (range_with_len from n) ≡ n
 length_range from zero = refl
-length_range from (suc n) = ap suc (length_range (suc from) n)
+length_range from (suc n) = ap suc (length_range (from + 1) n)
 
 place_in : {A : Type 0} (f : ℕ → A) (from n c : ℕ) → c < n → slice_get (map f (range_with_len from n)) c ≡ Some (f (c + from))
 place_in f from zero c lt = absurd (omega (arith, lt))
-place_in f from (suc n) zero lt = refl
-place_in f from (suc n) (suc c) lt = place_in f (suc from) n c (omega (arith, lt)) ∙ ap (λ i. Some (f i)) (omega arith)
+place_in f from (suc n) zero lt = ap (λ i. Some (f i)) (omega arith)
+place_in f from (suc n) (suc c) lt = place_in f (from + 1) n c (omega (arith, lt)) ∙ ap (λ i. Some (f i)) (omega arith)
 
 serial_run : (lines : List Line) (batch : ℕ) (packets : List (List ℕ)) (r : Run) → batch ≤ 64 → IsAccountedRun lines batch packets r → IsRunOf lines packets (outcomes_in lines r) (histories_in r)
+unfolding wider
 serial_run lines batch packets r few a = record {
   run = wider lines batch packets (histories_in r) few a.run;
   clients = length-map (range_with_len 0 (clients_in lines)) (λ client. outcomes client lines (replies_of client r)) ∙ length_range 0 (clients_in lines);
@@ -59,6 +60,7 @@ serial_outputs batch lines stream text few o range = record {
 }
 
 pub thread_outputs : ThreadOutputsAreOfRuns
+unfolding wider
 thread_outputs batch may lines stream text few o range = record {
   histories = o.histories;
   outcomes = o.outcomes;

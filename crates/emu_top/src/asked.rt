@@ -47,7 +47,7 @@ fn read_size<S: Source>(alloc: Global, source: &mut S) -> Result<Option<u32>, Pa
     'reading: while line.len() < LINE {
         match source.read(&mut byte) {
             Err(_) => return Err(PartError::Failed),
-            Ok(0) => break,
+            Ok(0) => return Ok(None),
             Ok(_) => {}
         }
         if byte[0] == b'\n' {
