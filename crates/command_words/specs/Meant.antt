@@ -4,7 +4,7 @@ use Rattle.std.specs.Option.{option_map, option_and_then, option_or}
 use Rattle.text_forms.specs.Numbers.{number_between}
 use Rattle.text_forms.specs.Words.{is_word}
 use Rattle.command_words.specs.declared.Command.{Command}
-use Rattle.command_words.specs.declared.Command.TheVariants.{Steps, Run, Make, SelfTest}
+use Rattle.command_words.specs.declared.Command.TheVariants.{Steps, Run, Make, SelfTest, Check}
 
 -- how many packets a batch has by one word, `--batch=B`
 unfoldable pub batch_joined : List ℕ → Option ℕ
@@ -53,6 +53,11 @@ self_test_of (a ∷ b ∷ c ∷ []) =
     (self_test_by (session_number c) (batch_of (a ∷ b ∷ [])))
 self_test_of _ = None
 
+-- `check`: alone
+unfoldable pub check_of : List (List ℕ) → Option Command
+check_of [] = Some Check
+check_of _ = None
+
 -- the command of a first word and the words behind it
 unfoldable pub command_of : List ℕ → List (List ℕ) → Option Command
 command_of first rest =
@@ -60,7 +65,8 @@ command_of first rest =
     else (if is_word first (codes "run") then run_of rest
     else (if is_word first (codes "make") then make_of rest
     else (if is_word first (codes "selftest") then self_test_of rest
-    else None)))
+    else (if is_word first (codes "check") then check_of rest
+    else None))))
 
 -- the command of the words behind the program's name; None where they are refused
 unfoldable pub meant : List (List ℕ) → Option Command
@@ -73,3 +79,4 @@ IsInRange (Steps batch) = (1 ≤ batch) × (batch ≤ 64)
 IsInRange (Run batch) = (1 ≤ batch) × (batch ≤ 64)
 IsInRange (Make number) = ⊤
 IsInRange (SelfTest number batch) = (1 ≤ batch) × (batch ≤ 64)
+IsInRange Check = ⊤

@@ -1,6 +1,6 @@
 // The words behind the first, command by command.
 ghost use Rattle.std.specs.Prelude.{◌≡◌, ◌≤◌, IfOk, IfSome, map, string_bytes};
-ghost use Rattle.command_words.specs.Meant.{IsInRange, batch_of, make_of, run_of, self_test_by, self_test_of, session_number as number_of_word, steps_of};
+ghost use Rattle.command_words.specs.Meant.{IsInRange, batch_of, check_of, make_of, run_of, self_test_by, self_test_of, session_number as number_of_word, steps_of};
 
 use crate::Command;
 use crate::options::batch_in;
@@ -88,4 +88,16 @@ pub fn self_test(alloc: Global, rest: &[String]) -> Result<Option<Command>, NoMe
         return self_test_with(alloc, word, option);
     }
     Ok(None)
+}
+
+/// Behind `check`.
+#[tactic(auto, unfolding(crate::specs::Meant::check_of))]
+pub fn check(rest: &[String]) -> Option<Command>
+    ensures value { result ≡ check_of (map string_bytes rest.now) }
+    ensures range { IfSome result IsInRange }
+{
+    match rest {
+        [] => Some(Command::Check),
+        _ => None,
+    }
 }

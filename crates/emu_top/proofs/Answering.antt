@@ -11,7 +11,7 @@ use Rattle.client_script.specs.Script.{split, parted, grammar, most_bytes, scrip
 use Rattle.client_script.proofs.Splitting.{split-found}
 use Rattle.script_run.specs.Budget.{most_calls, all_commands}
 use Rattle.command_words.specs.declared.Command.{Command}
-use Rattle.command_words.specs.declared.Command.TheVariants.{Steps, Run, Make, SelfTest}
+use Rattle.command_words.specs.declared.Command.TheVariants.{Steps, Run, Make, SelfTest, Check}
 use Rattle.command_words.specs.Meant.{meant}
 use Rattle.ts_make.specs.Made.{made}
 use Rattle.dmx_calls.specs.declared.outcome.Outcome.{Outcome}
@@ -21,9 +21,9 @@ use Rattle.report_text.specs.Report.{report_of}
 use Rattle.report_text.specs.Inside.Pieces.{AddsPart}
 use Rattle.emu_top.specs.Session.{Output, IsSerialOutput, IsThreadOutput, IsSums, Makes, Refuses}
 use Rattle.emu_top.specs.Inside.Reporting.{report_over, HasReported}
-use Rattle.emu_top.specs.Serves.{Outside, outside, NoWriteFails, HasWritten, Says, Determines, Does, Tells, Gives, Obeys, Serves}
+use Rattle.emu_top.specs.Serves.{Answers, Outside, outside, NoWriteFails, HasWritten, Says, Determines, Does, Tells, Gives, Obeys, Serves}
 use Rattle.emu_top.specs.declared.status.Status.{Status}
-use Rattle.emu_top.specs.declared.status.Status.TheVariants.{Usage, Script, TooLong, ReadFault, WriteFault, NoMemory, Ok as Done}
+use Rattle.emu_top.specs.declared.status.Status.TheVariants.{Usage, Script, TooLong, ReadFault, WriteFault, NoMemory, Ok as Done, Wrong}
 
 pub keeps : (w : Option (List ℕ)) → Keeps w w
 keeps None = tt
@@ -39,6 +39,7 @@ says_refused out x y w ReadFault r = (refl, inr (r, keeps w.written))
 says_refused out x y w WriteFault r = absurd r
 says_refused out x y w NoMemory r = (keeps w.written, refl)
 says_refused out x y w Done r = absurd r
+says_refused out x y w (Wrong fault) r = absurd r
 
 -- ------ a status with output
 
@@ -53,6 +54,7 @@ says_written out x y w v failed text WriteFault m (count, part, written, rose) =
 says_written out x y w v failed text NoMemory m h = absurd h
 says_written out x y w v failed text Done m (is, written, steady) =
     record { text = text; made = subst (λ b. Makes out x y b text) is m; whole = record { written = written; writes = steady } }
+says_written out x y w v failed text (Wrong fault) m h = absurd h
 
 -- ------ what a report that is written says of the sink
 
@@ -171,6 +173,7 @@ determined out input x y w v Done has fr fw nr nw says =
     let t = by_taken input y.left m.bytes (subst (λ c. Consumes c y.left m.bytes) has m.taken) in
     let ok = script_of_all input m.bytes t.0 m.stream m.lines t.1 m.session.script m.session.behind in
     inr (rw ok (λ short. refl))
+determined out input x y w v (Wrong fault) has fr fw nr nw says = absurd says
 
 settled_by : (out : Output) (content : Option (List ℕ)) (x y : SourceEnd) (w v : SinkEnd) (status : Status) → x.left ≡ content → x.faults < 2 ^ 64 - 1 → w.faults < 2 ^ 64 - 1
     → y.faults ≡ x.faults → v.faults ≡ w.faults → Says out (outside x w) (outside y v) status
@@ -202,6 +205,7 @@ settled_told IsText before after ReadFault fw says nw = absurd says
 settled_told IsText before after WriteFault fw (text, is, front) nw = absurd (steady before.sink.faults fw (subst (λ n. Rose before.sink.faults n) nw front.rose))
 settled_told IsText before after NoMemory fw says nw = inl refl
 settled_told IsText before after Done fw says nw = inr refl
+settled_told IsText before after (Wrong fault) fw says nw = absurd says
 
 pub gives : (IsText : List ℕ → Type 0) (x : SourceEnd) (w v : SinkEnd) (status : Status) → w.faults < 2 ^ 64 - 1
     → Tells IsText (outside x w) (outside x v) status → Gives IsText (outside x w) (outside x v) status
@@ -220,6 +224,7 @@ told_as IsText text before after ReadFault is says = absurd says
 told_as IsText text before after WriteFault is (whole, e, front) = (whole, subst IsText (sym e) is, front)
 told_as IsText text before after NoMemory is says = says
 told_as IsText text before after Done is (whole, e, all) = (whole, subst IsText (sym e) is, all)
+told_as IsText text before after (Wrong fault) is says = absurd says
 
 -- ------ the whole
 
@@ -228,6 +233,7 @@ not_usage (Steps batch) may before after status d is = never_usage (IsSerialOutp
 not_usage (Run batch) may before after status d is = never_usage (IsThreadOutput batch may) before after status d.says is
 not_usage (Make number) may before after status d is = never_usage_told (λ text. text ≡ made number) before after status d.says is
 not_usage (SelfTest number batch) may before after status d is = never_usage_told (IsSums number batch) before after status d.says is
+not_usage Check may before after status d is = let says : Answers before after Usage = subst (λ s. Answers before after s) is d.says in says.0
 
 same_command : (c other : Command) (m : Option Command) → m ≡ Some c → m ≡ Some other → c ≡ other
 same_command c other m a b = cc
@@ -269,6 +275,7 @@ unread (Steps batch) may at = undone (IsSerialOutput batch) at
 unread (Run batch) may at = undone (IsThreadOutput batch may) at
 unread (Make number) may at = unmade (λ text. text ≡ made number) at
 unread (SelfTest number batch) may at = unmade (IsSums number batch) at
+unread Check may at = record { says = (tt, (keeps at.sink.written, refl)); settled = λ nr nw. says_if at.source.left _ (λ input. inl refl) }
 
 pub serves_unread : (words : List (List ℕ)) (may : ℕ → Bool) (at : Outside) → Serves words may at at NoMemory
 serves_unread words may at = record {

@@ -24,7 +24,7 @@ use Rattle.emu_top.specs.Inside.Part.{IsUnended}
 use Rattle.emu_top.specs.Inside.Reporting.{report_over}
 use Rattle.emu_top.specs.Session.{Output, IsSession, IsSerialOutput, Holds, IsFaultIn, Takes, Makes, Runs, FailsEarly, Refuses, ReadsTo, status_of_stop}
 use Rattle.emu_top.specs.declared.status.Status.{Status}
-use Rattle.emu_top.specs.declared.status.Status.TheVariants.{Usage, Script, TooLong, ReadFault, WriteFault, NoMemory, Ok as Done}
+use Rattle.emu_top.specs.declared.status.Status.TheVariants.{Usage, Script, TooLong, ReadFault, WriteFault, NoMemory, Ok as Done, Wrong}
 
 -- ------ the output
 
@@ -168,3 +168,4 @@ refused_by x y part (TooLong turns) few takes end e = absurd e
 refused_by x y part ReadFault few takes end e = absurd e
 refused_by x y part WriteFault few takes end e = absurd e
 refused_by x y part Done few takes end e = absurd e
+refused_by x y part (Wrong fault) few takes end e = absurd e

@@ -1,5 +1,5 @@
 // A session and its run on one thread.
-ghost use Rattle.std.specs.Prelude.{◌≡◌, ℕ, ◌+◌, ◌-◌, ◌^◌, ◌<◌, ◌≤◌, List, length, IfOk, IfErr, IfSome};
+ghost use Rattle.std.specs.Prelude.{◌≡◌, ℕ, ◌+◌, ◌-◌, ◌^◌, ◌<◌, ◌≤◌, List, length, IfOk, IfErr, IfSome, IsErrOf};
 ghost use Rattle.client_script.specs.Script.{script_len, whole_lines, most_bytes};
 ghost use Rattle.emu_io.specs.Ends.{SourceEnd};
 ghost use Rattle.feed_pull.specs.declared.fault.Reading.TheVariants.{Going};
@@ -74,6 +74,7 @@ pub fn read_session<S: Source>(alloc: Global, source: &mut S) -> Result<Session,
     ensures going { IfOk result (λ session. (session.puller.reading ≡ Going) × (session.puller.given ≡ 0)) }
     ensures steady { IfOk result (λ session. (S.end source.new).faults ≡ (S.end source.old).faults) }
     ensures refuses { IfErr result (λ status. Refuses (S.end source.old) (S.end source.new) status) }
+    ensures not_too_long { (turns : ℕ) → IsErrOf result (Status.TooLong turns) → ⊥ }
     ensures once { (S.end source.new).faults ≤ (S.end source.old).faults + 1 }
 {
     match read_front(alloc, source) {

@@ -18,8 +18,7 @@
 //! `check_tests`: that a report worked out by hand is right, and that line and kind are those of what is changed in it.
 //!
 //! The cost is linear in the report and the packets that its nodes are passed: nothing is sorted, and the stream isn't walked for
-//! itself. All memory is what was read of the report, its text once more, and a batch or a buffer at a time. The program doesn't use
-//! the crate yet.
+//! itself. All memory is what was read of the report, its text once more, and a batch or a buffer at a time.
 #![tactic(auto)]
 
 mod client;

@@ -60,7 +60,7 @@ fn odd_on(
         return Some(Odd::Entry {
             node: node.0,
             place,
-            kind: FaultKind::Left,
+            kind: FaultKind::Place,
         });
     }
     if let Some(place) = fed_unlike(others, &node.1) {

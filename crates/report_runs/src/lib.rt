@@ -15,7 +15,7 @@
 //! those of a run, too (`idle_runs_are_runs`). And a report is the report of a run exactly where it is right (`right_are_of_runs`),
 //! so that to ask whether it is right asks what was read of it alone.
 //!
-//! No code of the crate runs, so nothing of it is tested. The program doesn't use it yet.
+//! No code of the crate runs, so nothing of it is tested.
 #![tactic(auto)]
 
 ghost use Rattle.report_runs.specs.Laws.{ReportsTell, RunsAreCompleted, IdleRunsAreRuns, RightAreOfRuns};

@@ -200,11 +200,12 @@ const ROWS: &[Row] = &[
         Some((5, FaultKind::Call)),
     ),
     (&[(9, 10, &[])], Some((5, FaultKind::Call))),
-    // entries that nobody asked for
+    // an entry of a client that isn't there
     (
         &[(15, 1, &["5 c1 4 read 2 at=0 = again ended=0"])],
-        Some((16, FaultKind::Left)),
+        Some((16, FaultKind::Place)),
     ),
+    // an entry that nobody asked for
     (
         &[(19, 0, &["9 c0 6 stop = done drop=0..0 tap=keep"])],
         Some((20, FaultKind::Left)),

@@ -16,7 +16,7 @@ macro_rules! self_test {
 }
 
 // Words, each with a bar behind it, and the command that they name, or None where they are refused.
-static WORDS: [(&str, Option<Command>); 70] = [
+static WORDS: [(&str, Option<Command>); 80] = [
     ("steps|", Some(Command::Steps { batch: 64 })),
     ("steps|--batch|1|", Some(Command::Steps { batch: 1 })),
     ("steps|--batch|64|", Some(Command::Steps { batch: 64 })),
@@ -67,6 +67,16 @@ static WORDS: [(&str, Option<Command>); 70] = [
     ("steps|--batch=|", None),
     ("steps|--batch==1|", None),
     ("steps|7|", None),
+    ("check|", Some(Command::Check)),
+    ("check||", None),
+    ("check|7|", None),
+    ("check|check|", None),
+    ("check|--batch|1|", None),
+    ("check|--batch=64|", None),
+    ("check|--|", None),
+    ("check|--packet|188|", None),
+    ("check|--help|", None),
+    ("Check|", None),
     ("make|", None),
     ("make||", None),
     ("make|01|", None),
