@@ -4,6 +4,7 @@ ghost use Rattle.dmx_calls.specs.declared.limits.TheConstants.{DEMUX_NODES as no
 ghost use Rattle.adapter.specs.Callers.{AreAllCallers, AreFreshCallers};
 ghost use Rattle.adapter.specs.Ends.{HaveHistories, HaveHistoriesOf};
 
+use crate::boxed::Boxed;
 use crate::client::Client;
 use crate::ending::measure;
 use crate::feeder::Feeder;
@@ -20,8 +21,8 @@ use std::marker::Model;
 /// Contracts see a list of locks, that of the dvr node last.
 #[derive(Drop)]
 pub struct Adapter {
-    pub(crate) demux: Vec<NodeLock<NodeCore>>,
-    pub(crate) dvr: NodeLock<DvrCore>,
+    pub(crate) demux: Vec<NodeLock<Boxed<NodeCore>>>,
+    pub(crate) dvr: NodeLock<Boxed<DvrCore>>,
 }
 
 impl Model for Adapter {
@@ -59,7 +60,11 @@ impl Adapter {
         let callers = clients + 1;
         let mut rows = empty_rows(alloc, callers)?;
         let demux = build(alloc, callers, &mut rows)?;
-        let Ok((dvr, passes)) = NodeLock::new(alloc, DvrCore::new(alloc), callers) else {
+        let Ok((dvr, passes)) = NodeLock::new(
+            alloc,
+            Boxed::new(alloc, DvrCore::new(alloc))?,
+            callers,
+        ) else {
             return Err(NoMemory);
         };
         let mut all = with_dvr(alloc, &demux, &dvr, rows, passes)?;
