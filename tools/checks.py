@@ -2,18 +2,11 @@
 command `check` is asked."""
 import glob
 import os
-import subprocess
 from typing import NamedTuple
 
 ROOT = os.path.dirname(os.path.dirname(os.path.realpath(__file__)))
 PROGRAM = os.path.join(ROOT, "dvbemu")
 EXAMPLES = os.path.join(ROOT, "examples")
-
-
-def has_check(program=PROGRAM):
-    """Whether a program has the command `check`: whether the words that it accepts, which it tells where there are none, name it."""
-    told = subprocess.run([program], stdin=subprocess.DEVNULL, capture_output=True, check=False)
-    return b"dvbemu check" in told.stderr
 
 
 def asked_of(report, session):

@@ -84,6 +84,7 @@ says_reported out x y w v left ReadFault m h = says_written out x y w v left.hea
 says_reported out x y w v left WriteFault m h = says_written out x y w v left.head.read_fault (report_over left) WriteFault m h
 says_reported out x y w v left NoMemory m h = h
 says_reported out x y w v left Done m h = says_written out x y w v left.head.read_fault (report_over left) Done m h
+says_reported out x y w v left (Wrong fault) m h = absurd h
 
 -- ------ a status, with output or without
 
