@@ -5,8 +5,8 @@
 //! Behind the line of a script's fault a second one says what stands there and what was expected (`fault_hints`), by the
 //! script's bytes, which the program's source keeps as they are read; where memory for them is refused it is left out, and
 //! nothing else changes. On `check` a fault in front of the session has a second line too, and the answer `no` has a line
-//! that says what is wrong with the report. The programs are `dvbemu`, and `dvbemu_faults` and `dvbemu_words`, which end with a status other
-//! than 0: the gate runs each with one list of words and one input.
+//! that says what is wrong with the report. The programs are `dvbemu`, and `dvbemu_faults` and `dvbemu_words`, which end with
+//! a status other than 0: the gate runs each with one list of words and one input.
 //!
 //! What a contract sees: nothing. Standard error and the exit status are the operating system's.
 //!
@@ -66,8 +66,10 @@ fn session_in<'a>(words: &[String], kept: Option<&'a [u8]>) -> Option<&'a [u8]> 
 // What was expected in front of a session.
 fn expected_in_front(kind: FaultKind) -> &'static str {
     match kind {
-        FaultKind::NoStream => "  the input ends before the report does: is N in 'report N' the number of its bytes?",
-        _ => "  the input of check begins with a line 'report N', N from 0 to 4294967295, the number of bytes of the report",
+        FaultKind::NoStream =>
+            "  the input ends before the report does: is N in 'report N' the number of its bytes?",
+        _ =>
+            "  the input of check begins with a line 'report N', N from 0 to 4294967295, the number of bytes of the report",
     }
 }
 
@@ -119,12 +121,7 @@ fn lines(rt: &HostRuntime, status: Status, script: Option<&[u8]>) {
 
 /// Tells on standard error how the command of these words ended, with the bytes that were kept of the input, and answers the
 /// number of the status. Where standard error is closed there is nobody to tell; the exit status still tells it.
-pub fn tell(
-    rt: &HostRuntime,
-    words: &[String],
-    status: Status,
-    kept: Option<&[u8]>,
-) -> ExitCode {
+pub fn tell(rt: &HostRuntime, words: &[String], status: Status, kept: Option<&[u8]>) -> ExitCode {
     lines(rt, status, session_in(words, kept));
     ExitCode::from(status.number())
 }

@@ -136,10 +136,12 @@ begins x y z size report a con steady is = record {
 pub ends_before : (x y z : SourceEnd) (size : ℕ) (report : List ℕ) → AsksFor size x y → Consumes y.left z.left report → z.faults ≡ y.faults → length report < size → IsAtEnd z.left
     → HasFirstFault (in_front NoStream) x z
 ends_before x y z size report a con steady short end =
-    let whole : Consumes x.left z.left (a.bytes ++ report) = Consumes-trans _ _ _ _ _ a.taken con in
-    (steady ∙ a.steady, of_input x.left z.left (a.bytes ++ report) (in_front NoStream) whole (λ rest is.
-      let same : (a.bytes ++ report) ++ rest ≡ a.bytes ++ report = ap (λ r. (a.bytes ++ report) ++ r) (at_end z.left rest is end) ∙ append-nil (a.bytes ++ report) in
-      ap (λ bytes. lines_asked (asked bytes)) same ∙ ap lines_asked (a.parts report ∙ too_short size report short)))
+    let whole : Consumes x.left z.left (a.bytes ++ report) = Consumes-trans _ _ _ _ _ a.taken con in (
+      steady ∙ a.steady,
+      of_input x.left z.left (a.bytes ++ report) (in_front NoStream) whole (λ rest is.
+          let same : (a.bytes ++ report) ++ rest ≡ a.bytes ++ report = ap (λ r. (a.bytes ++ report) ++ r) (at_end z.left rest is end) ∙ append-nil (a.bytes ++ report) in
+          ap (λ bytes. lines_asked (asked bytes)) same ∙ ap lines_asked (a.parts report ∙ too_short size report short)),
+    )
 
 -- ------ reads that fail
 
@@ -183,7 +185,7 @@ more_by bytes more a (line ∷ lines) w e =
     let size : length (take 40 bytes) ≡ length line + length (10 ∷ f.behind) = ap length f.split_so ∙ length-append line (10 ∷ f.behind) in
     let fits : length line < 40 = omega (arith, size, length-take 40 bytes) in
     let is : bytes ≡ (line ++ 10 ∷ []) ++ rest =
-        sym (take-append-drop 40 bytes) ∙ (ap (λ xs. xs ++ drop 40 bytes) f.split_so ∙ (append_assoc line (10 ∷ f.behind) (drop 40 bytes) ∙ sym (append_assoc line (10 ∷ []) rest))) in
+    sym (take-append-drop 40 bytes) ∙ (ap (λ xs. xs ++ drop 40 bytes) f.split_so ∙ (append_assoc line (10 ∷ f.behind) (drop 40 bytes) ∙ sym (append_assoc line (10 ∷ []) rest))) in
     let here : asked_in rest (size_of line) ≡ Ok a = sym (asked_front line rest f.stays fits) ∙ (ap asked (sym is) ∙ e) in
     let longer : bytes ++ more ≡ (line ++ 10 ∷ []) ++ (rest ++ more) = ap (λ xs. xs ++ more) is ∙ append_assoc (line ++ 10 ∷ []) rest more in
     ap asked longer ∙ (asked_front line (rest ++ more) f.stays fits ∙ in_more rest more (size_of line) a here)

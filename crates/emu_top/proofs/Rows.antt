@@ -57,9 +57,9 @@ rows_ordered (suc pid) packets few =
     let next : rows_below (suc pid) packets ≡ rows_below (pid + 1) packets = ap (λ n. rows_below n packets) (sym (add-one pid)) in
     elim (cases_lt 0 (counts packets pid).packets) [
       | inl some ↦ subst (AreOrdered (suc pid)) (sym (next ∙ rows-more pid packets some)) (
-          in_order 0 pid (row_of packets pid) (rows_below pid packets) (omega arith) (omega (arith, few)) some before.0 before.1,
-          is_below pid (row_of packets pid) (rows_below pid packets) before.1,
-        )
+        in_order 0 pid (row_of packets pid) (rows_below pid packets) (omega arith) (omega (arith, few)) some before.0 before.1,
+        is_below pid (row_of packets pid) (rows_below pid packets) before.1,
+      )
       | inr none ↦ subst (AreOrdered (suc pid)) (sym (next ∙ rows-same pid packets none)) (before.0, wider pid (rows_below pid packets) before.1)
     ]
 

@@ -81,9 +81,12 @@ module _ (lines : List Line) (packets : List (List ℕ)) (t : Told) (nodes : All
       let range = all_at IsNodeInRange t.nodes nodes is.index is.node is.at in
       let one = all_at (IsEntryOf is.node.node) is.node.entries range.entries place e at in
       let sound = sound_nodes (clients_in lines) (length packets) t.head.tally.packets t.nodes p.nodes is.index is.node is.at in
-      let played = all_at (IsPlayed packets) t.nodes p.played is.index is.node is.at in
-      (one.1 ∙ is.number, in_place is.node (each_whole 0 t.nodes order is.index is.node is.at) place e at, sound_at (clients_in lines) (length packets) is.node.entries sound.0 place e at,
-      all_at (λ x. x.response ≢ NoMemory) is.node.entries played.1 place e at)
+      let played = all_at (IsPlayed packets) t.nodes p.played is.index is.node is.at in (
+        one.1 ∙ is.number,
+        in_place is.node (each_whole 0 t.nodes order is.index is.node is.at) place e at,
+        sound_at (clients_in lines) (length packets) is.node.entries sound.0 place e at,
+        all_at (λ x. x.response ≢ NoMemory) is.node.entries played.1 place e at,
+      )
   places_by node place h e (inr same) here =
       let at : slice_get (renumbered node 0 (feeder_of t.head.tally.packets t.nodes)) place ≡ Some e = subst (λ (es : List LogEntry). slice_get es place ≡ Some e) same here in
       let one = told_there node 0 (feeder_of t.head.tally.packets t.nodes) feeder.plain place e at in
@@ -105,7 +108,7 @@ module _ (lines : List Line) (packets : List (List ℕ)) (t : Told) (nodes : All
   legal_by node h (inr same) =
       let legal = legal_on (rules_at node) packets node 0 (feeder_of t.head.tally.packets t.nodes) [] tt feeder.plain in
       let mine : IsLegalFor (rules_at node) (filled packets (renumbered node 0 (feeder_of t.head.tally.packets t.nodes))) =
-          subst (λ (g : History). IsLegalFor (rules_at node) g) (append-nil (filled packets (renumbered node 0 (feeder_of t.head.tally.packets t.nodes)))) legal in
+      subst (λ (g : History). IsLegalFor (rules_at node) g) (append-nil (filled packets (renumbered node 0 (feeder_of t.head.tally.packets t.nodes)))) legal in
       subst (λ (es : List LogEntry). IsLegalFor (rules_at node) (filled packets es)) (sym same) mine
 
   steps_by : (node : ℕ) (h : List LogEntry) → TellsOrNot t.nodes (feeder_of t.head.tally.packets t.nodes) node h → steps_of 0 h ≡ feeding 0 0 feeder.fed.batches

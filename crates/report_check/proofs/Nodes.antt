@@ -148,7 +148,7 @@ told_at (suc left) node feeder (m ∷ ns) order below i n at k is =
     let first = first_of node m ns order in
     by (nat_eq m.node node) refl i k at is
     (λ e j l there sum'. let same : m.node ≡ node = grind (arith, nat_tests) in
-        told_at left (suc node) feeder ns (subst (λ (x : ℕ). are_nodes (suc x) ns ≡ true) same first.later) (All-tail (λ (x : ToldNode). x.node < suc node + left) m ns lower) j n there l sum')
+    told_at left (suc node) feeder ns (subst (λ (x : ℕ). are_nodes (suc x) ns ≡ true) same first.later) (All-tail (λ (x : ToldNode). x.node < suc node + left) m ns lower) j n there l sum')
     (λ e l sum'. told_at left (suc node) feeder (m ∷ ns) (from_there node m ns first first.low e) lower i n at l sum')
     (λ e. none_lower (suc node) (m ∷ ns) (from_there node m ns first first.low e) i n at)
     (λ j there. none_lower (suc m.node) ns first.later j n there)

@@ -35,9 +35,10 @@ pub done_from : (lines : List Line) (hs : List (List LogEntry)) (client : ℕ) (
     → ((i : ℕ) (o : List Outcome) → slice_get told i ≡ Some o → IsDoneAs lines hs (client + i) o) → AreDoneAs lines hs client told
 done_from lines hs client [] each = tt
 done_from lines hs client (o ∷ told) each =
-    let start : client + 0 ≡ client = omega arith in
-    (subst (λ (c : ℕ). IsDoneAs lines hs c o) start (each 0 o refl),
-    done_from lines hs (client + 1) told (λ i p at. let sum : client + suc i ≡ client + 1 + i = omega arith in subst (λ (c : ℕ). IsDoneAs lines hs c p) sum (each (suc i) p at)))
+    let start : client + 0 ≡ client = omega arith in (
+      subst (λ (c : ℕ). IsDoneAs lines hs c o) start (each 0 o refl),
+      done_from lines hs (client + 1) told (λ i p at. let sum : client + suc i ≡ client + 1 + i = omega arith in subst (λ (c : ℕ). IsDoneAs lines hs c p) sum (each (suc i) p at)),
+    )
 
 pub done_at : (lines : List Line) (hs : List (List LogEntry)) (client : ℕ) (told : List (List Outcome)) → AreDoneAs lines hs client told
     → (i : ℕ) (o : List Outcome) → slice_get told i ≡ Some o → IsDoneAs lines hs (client + i) o
@@ -65,10 +66,11 @@ module _ (lines : List Line) (packets : List (List ℕ)) (t : Told) (ranges : Al
   nodes_by [] there = tt
   nodes_by (n ∷ ns) there =
       let first : steps_of 0 n.entries ≡ feeding 0 0 r.run.fed.batches = fed 0 n (there 0 n refl) in
-      let all : feeds (length packets) 0 0 (feeding 0 0 r.run.fed.batches) ≡ true = is_feeds (length packets) 0 0 r.run.fed.batches r.run.fed.each_size (omega (arith, r.run.fed.whole)) in
-      (subst (λ (ss : List Step). feeds (length packets) 0 0 ss ≡ true) (sym first) all,
-      at_all (IsSoundNode (clients_in lines) (length packets) n.entries) (n ∷ ns) (λ i m at.
-          (sound lines packets (completed t) ranges r.run m.node m.entries (stands i m (there i m at)), fed i m (there i m at) ∙ sym first)))
+      let all : feeds (length packets) 0 0 (feeding 0 0 r.run.fed.batches) ≡ true = is_feeds (length packets) 0 0 r.run.fed.batches r.run.fed.each_size (omega (arith, r.run.fed.whole)) in (
+        subst (λ (ss : List Step). feeds (length packets) 0 0 ss ≡ true) (sym first) all,
+        at_all (IsSoundNode (clients_in lines) (length packets) n.entries) (n ∷ ns) (λ i m at.
+            (sound lines packets (completed t) ranges r.run m.node m.entries (stands i m (there i m at)), fed i m (there i m at) ∙ sym first)),
+      )
 
   played : (i : ℕ) (n : ToldNode) → slice_get t.nodes i ≡ Some n → IsPlayed packets n
   played i n at =

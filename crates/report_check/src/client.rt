@@ -27,10 +27,7 @@ fn entries_of(nodes: &[(u32, Vec<Entry>)], node: u32) -> (&[Entry], &[(u32, Vec<
 }
 
 // The entries of each node, none for a node that isn't told.
-fn dealt<'a>(
-    alloc: Global,
-    nodes: &'a [(u32, Vec<Entry>)],
-) -> Result<Vec<&'a [Entry]>, NoMemory>
+fn dealt<'a>(alloc: Global, nodes: &'a [(u32, Vec<Entry>)]) -> Result<Vec<&'a [Entry]>, NoMemory>
     ensures dealt { IfOk result (λ hs. map (λ h. map told_entry h.now) hs.items ≡ dealt_to (told_nodes nodes.now)) }
     ensures long { IfOk result (λ hs. length hs.items ≡ nodes_of_demux + 1) }
 {

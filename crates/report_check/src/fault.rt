@@ -59,5 +59,8 @@ pub enum Odd {
         kind: FaultKind,
     },
     /// In what is told of a client of this number.
-    Client { client: u32, kind: FaultKind },
+    Client {
+        client: u32,
+        kind: FaultKind,
+    },
 }

@@ -34,13 +34,8 @@ fn passed_behind(act: &Act, first: u64, packets: u64) -> Option<u64>
             first: from,
             count,
             ..
-        } if *from == first
-            && *count > 0
-            && *count <= 64
-            && u64::from(*count) <= packets - first =>
-        {
-            Some(first + u64::from(*count))
-        }
+        } if *from == first && *count > 0 && *count <= 64 && u64::from(*count) <= packets - first =>
+            { Some(first + u64::from(*count)) }
         _ => None,
     }
 }

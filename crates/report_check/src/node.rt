@@ -15,10 +15,7 @@ fn is_callable(act: &Act, packets: u64) -> bool
     match act {
         Act::Read { count, .. } => *count <= LARGEST_READ,
         Act::Pass { first, count, .. } => {
-            *count > 0
-                && *count <= 64
-                && *first <= packets
-                && u64::from(*count) <= packets - *first
+            *count > 0 && *count <= 64 && *first <= packets && u64::from(*count) <= packets - *first
         }
         _ => true,
     }
@@ -46,12 +43,7 @@ fn unsound(entries: &[Entry], clients: u32, packets: u64) -> Option<u64>
 }
 
 // What is wrong on a node whose entries aren't sound, or whose feeder's calls aren't the same as in these others.
-fn odd_on(
-    node: &(u32, Vec<Entry>),
-    others: &[Entry],
-    clients: u32,
-    packets: u64,
-) -> Option<Odd>
+fn odd_on(node: &(u32, Vec<Entry>), others: &[Entry], clients: u32, packets: u64) -> Option<Odd>
     ensures { MatchOption result
         (IsSoundNode clients packets (map told_entry others.now) (told_node node.now))
         (λ _. IsSoundNode clients packets (map told_entry others.now) (told_node node.now) → ⊥) }

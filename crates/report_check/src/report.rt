@@ -37,7 +37,10 @@ fn odd_part(
     let clients = script.clients();
     if told.outcomes.len() != clients as usize {
         let kind = FaultKind::Outcome;
-        return Ok(Some(Odd::Client { client: clients, kind }));
+        return Ok(Some(Odd::Client {
+            client: clients,
+            kind,
+        }));
     }
     if let Some(odd) = odd_node(&told.nodes, clients, packets.len() as u64) {
         return Ok(Some(odd));

@@ -210,13 +210,25 @@ static FAULTY: [(&str, u32, ScriptKind); 16] = [
     ("report 4294967296\nstream\n", 0, ScriptKind::Number),
     ("Report 0\nstream\n", 0, ScriptKind::Number),
     // 40 bytes without a line feed, and 39 with one behind them.
-    ("report 000000000000000000000000000000001\nstream\n", 0, ScriptKind::Number),
-    ("report 00000000000000000000000000000001\nstream\n", 0, ScriptKind::Number),
+    (
+        "report 000000000000000000000000000000001\nstream\n",
+        0,
+        ScriptKind::Number,
+    ),
+    (
+        "report 00000000000000000000000000000001\nstream\n",
+        0,
+        ScriptKind::Number,
+    ),
     ("report 5\nabc", 0, ScriptKind::NoStream),
     ("report 4294967295\nstream\n", 0, ScriptKind::NoStream),
     ("report 0\n", 1, ScriptKind::NoStream),
     ("report 7\nstream\n", 1, ScriptKind::NoStream),
-    ("report 3\n \n \nc0 open n0\nc0 strat n0\nstream\n", 3, ScriptKind::Command),
+    (
+        "report 3\n \n \nc0 open n0\nc0 strat n0\nstream\n",
+        3,
+        ScriptKind::Command,
+    ),
 ];
 
 // Whether an input has this fault.
@@ -235,9 +247,7 @@ fn is_told<R: AllocGlobal + Threads + Wait + Sync>(
 
 #[test]
 fn the_first_fault_of_what_is_asked_is_told(rt: HostRuntime) {
-    let odd = FAULTY
-        .iter()
-        .position(|row| is_told(&rt, row) != Ok(true));
+    let odd = FAULTY.iter().position(|row| is_told(&rt, row) != Ok(true));
     assert_eq!(rt; odd, None);
 }
 
@@ -295,9 +305,7 @@ fn is_left<R: AllocGlobal + Threads + Wait + Sync>(
 
 #[test]
 fn a_write_fault_leaves_the_front_of_the_answer(rt: HostRuntime) {
-    let odd = WRITES
-        .iter()
-        .position(|row| is_left(&rt, row) != Ok(true));
+    let odd = WRITES.iter().position(|row| is_left(&rt, row) != Ok(true));
     assert_eq!(rt; odd, None);
 }
 

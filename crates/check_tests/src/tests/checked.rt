@@ -189,10 +189,14 @@ const ROWS: &[Row] = &[
         Some((14, FaultKind::Call)),
     ),
     (
-        &[(12, 2, &[
-            "2 c0 3 start at=0 = done drop=0..0 tap=keep",
-            "3 c0 2 read 2 at=0 = again ended=0",
-        ])],
+        &[(
+            12,
+            2,
+            &[
+                "2 c0 3 start at=0 = done drop=0..0 tap=keep",
+                "3 c0 2 read 2 at=0 = again ended=0",
+            ],
+        )],
         Some((13, FaultKind::Call)),
     ),
     (
@@ -212,19 +216,35 @@ const ROWS: &[Row] = &[
     ),
     // the feeder
     (
-        &[(14, 1, &["4 feed 0 pass input=frontend first=1 count=1 at=0 = passed"])],
+        &[(
+            14,
+            1,
+            &["4 feed 0 pass input=frontend first=1 count=1 at=0 = passed"],
+        )],
         Some((15, FaultKind::Feeder)),
     ),
     (
-        &[(14, 1, &["4 feed 0 pass input=frontend first=0 count=2 at=0 = passed"])],
+        &[(
+            14,
+            1,
+            &["4 feed 0 pass input=frontend first=0 count=2 at=0 = passed"],
+        )],
         Some((17, FaultKind::Feeder)),
     ),
     (
-        &[(14, 1, &["4 feed 0 pass input=dvr first=0 count=1 at=0 = passed"])],
+        &[(
+            14,
+            1,
+            &["4 feed 0 pass input=dvr first=0 count=1 at=0 = passed"],
+        )],
         Some((15, FaultKind::Feeder)),
     ),
     (
-        &[(14, 1, &["4 feed 1 pass input=frontend first=0 count=1 at=0 = passed"])],
+        &[(
+            14,
+            1,
+            &["4 feed 1 pass input=frontend first=0 count=1 at=0 = passed"],
+        )],
         Some((15, FaultKind::Feeder)),
     ),
     (&[(18, 1, &[])], Some((19, FaultKind::Feeder))),

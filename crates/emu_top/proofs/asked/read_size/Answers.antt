@@ -27,7 +27,7 @@ returns-then-byte-eq10-clause-some g c =
     let some : 1 ≤ c.in-Ok.field-0 = grind (arith, common_steps, c.in-Ok.field-0-test) in
     let is = one_byte into c.in-Ok.field-0 one within some c.if-byte-eq10.true in
     let read : Consumes (g.S.Source.end c.reading.source).left (g.S.Source.end c.read.new.self).left (10 ∷ []) =
-        subst (λ bytes. Consumes (g.S.Source.end c.reading.source).left (g.S.Source.end c.read.new.self).left bytes) is c.in-Ok.ensures.bytes.0 in
+    subst (λ bytes. Consumes (g.S.Source.end c.reading.source).left (g.S.Source.end c.read.new.self).left bytes) is c.in-Ok.ensures.bytes.0 in
     let steady : (g.S.Source.end c.read.new.self).faults ≡ (g.S.Source.end c.args.source.now).faults = search rules in
     let few : length c.reading.line.items < 40 = search rules in
     when_sized _ _ c.reading.line.items c.size_in.result (Consumes-trans _ _ _ _ _ c.reading.invariant.bytes read) steady c.reading.invariant.none few (c.size_in.ensures ∙ ap size_of c.deref.ensures.value)
@@ -40,7 +40,7 @@ returns-then-byte-eq10-clause-none g c =
     let some : 1 ≤ c.in-Ok.field-0 = grind (arith, common_steps, c.in-Ok.field-0-test) in
     let is = one_byte into c.in-Ok.field-0 one within some c.if-byte-eq10.true in
     let read : Consumes (g.S.Source.end c.reading.source).left (g.S.Source.end c.read.new.self).left (10 ∷ []) =
-        subst (λ bytes. Consumes (g.S.Source.end c.reading.source).left (g.S.Source.end c.read.new.self).left bytes) is c.in-Ok.ensures.bytes.0 in
+    subst (λ bytes. Consumes (g.S.Source.end c.reading.source).left (g.S.Source.end c.read.new.self).left bytes) is c.in-Ok.ensures.bytes.0 in
     let steady : (g.S.Source.end c.read.new.self).faults ≡ (g.S.Source.end c.args.source.now).faults = search rules in
     let few : length c.reading.line.items < 40 = search rules in
     when_other _ _ c.reading.line.items c.size_in.result (Consumes-trans _ _ _ _ _ c.reading.invariant.bytes read) steady c.reading.invariant.none few (c.size_in.ensures ∙ ap size_of c.deref.ensures.value)

@@ -27,6 +27,6 @@ returns-clause-draws g c =
     let none : qs ≡ [] = search rules in
     let pulled : Draws (g.S.Source.end c.batches.source) (g.S.Source.end c.pull.new.source) c.batches.puller c.pull.new.self qs = record { carries = e.stream; follows = e.follows; start = e.start } in
     let last : Draws (g.S.Source.end c.batches.source) (g.S.Source.end c.pull.new.source) c.batches.puller c.pull.new.self [] =
-        subst (λ packets. Draws (g.S.Source.end c.batches.source) (g.S.Source.end c.pull.new.source) c.batches.puller c.pull.new.self packets) none pulled in
+    subst (λ packets. Draws (g.S.Source.end c.batches.source) (g.S.Source.end c.pull.new.source) c.batches.puller c.pull.new.self packets) none pulled in
     subst (λ packets. Draws (g.S.Source.end c.args.source.now) (g.S.Source.end c.pull.new.source) c.args.puller.now c.pull.new.self packets) (append-nil c.batches.packets.items)
     (draws_then _ _ _ _ _ _ _ _ c.batches.invariant.draws last)

@@ -25,7 +25,7 @@ odd_reply-requires-clause-few c =
 pub odd_reply-requires-clause-sound : goal.odd_reply-requires-clause-sound
 odd_reply-requires-clause-sound c =
     let sound : are_sound c.nodes.invariant.sound.0 (length c.args.packets.now) (map told_entry c.node-item.result.1.items) ≡ true =
-        at_front told_node (IsSoundFor c.nodes.invariant.sound.0 (length c.args.packets.now)) c.nodes.rest.now c.node-item.result _ c.in-len1-up.len_at_least c.node-item.is c.nodes.invariant.sound.1 in
+    at_front told_node (IsSoundFor c.nodes.invariant.sound.0 (length c.args.packets.now)) c.nodes.rest.now c.node-item.result _ c.in-len1-up.len_at_least c.node-item.is c.nodes.invariant.sound.1 in
     (c.nodes.invariant.sound.0, rw c.deref.ensures.value sound)
 
 pub returns-in-Some : goal.returns-in-Some

@@ -36,7 +36,7 @@ returns-in-Some-2 c passed =
     let Done : List Node → List (Vec Outcome Global) → Type 0 = λ ns os. AreDoneAs c.args.script.now (dealt (told_nodes ns)) 0 (map (λ o. o.items) os) in
     let done : Done c.args.told.now.nodes.items c.args.told.now.outcomes.items = passed.done in
     let there : Done c.deref-2.result.now c.deref-3.result.now =
-        subst (λ (ns : List Node). Done ns c.deref-3.result.now) (sym c.deref-2.ensures.value) (subst (λ (os : List (Vec Outcome Global)). Done c.args.told.now.nodes.items os) (sym c.deref-3.ensures.value) done) in
+    subst (λ (ns : List Node). Done ns c.deref-3.result.now) (sym c.deref-2.ensures.value) (subst (λ (os : List (Vec Outcome Global)). Done c.args.told.now.nodes.items os) (sym c.deref-3.ensures.value) done) in
     at_some c.in_ok-odd.field-0 c.in-Some-2.odd (Done c.deref-2.result.now c.deref-3.result.now) (Done c.deref-2.result.now c.deref-3.result.now → ⊥) c.in_ok-odd.ensures c.in-Some-2.is there
 
 pub odd_play-requires-clause-nodes : goal.odd_play-requires-clause-nodes
@@ -53,9 +53,9 @@ returns c =
     let sound : AreSoundNodes (clients_in c.args.script.now) (length c.args.packets.now) (told_nodes c.args.told.now.nodes.items) = rw (c.clients-clients.ensures.count, c.deref.ensures.value) at c.in_default.ensures in
     let Done : List Node → List (Vec Outcome Global) → Type 0 = λ ns os. AreDoneAs c.args.script.now (dealt (told_nodes ns)) 0 (map (λ o. o.items) os) in
     let there : Done c.deref-2.result.now c.deref-3.result.now =
-        at_none c.in_ok-odd.field-0 (Done c.deref-2.result.now c.deref-3.result.now) (Done c.deref-2.result.now c.deref-3.result.now → ⊥) c.in_ok-odd.ensures c.in_default-2.is in
+    at_none c.in_ok-odd.field-0 (Done c.deref-2.result.now c.deref-3.result.now) (Done c.deref-2.result.now c.deref-3.result.now → ⊥) c.in_ok-odd.ensures c.in_default-2.is in
     let done : Done c.args.told.now.nodes.items c.args.told.now.outcomes.items =
-        subst (λ (ns : List Node). Done ns c.args.told.now.outcomes.items) c.deref-2.ensures.value (subst (λ (os : List (Vec Outcome Global)). Done c.deref-2.result.now os) c.deref-3.ensures.value there) in
+    subst (λ (ns : List Node). Done ns c.args.told.now.outcomes.items) c.deref-2.ensures.value (subst (λ (os : List (Vec Outcome Global)). Done c.deref-2.result.now os) c.deref-3.ensures.value there) in
     let same : length c.args.told.now.outcomes.items ≡ clients_in c.args.script.now = omega (arith, c.if-len-clients.false, c.args.told.now.outcomes.ok.0) in
     let clients : length (map (λ o. o.items) c.args.told.now.outcomes.items) ≡ clients_in c.args.script.now = rw length-map same in
     let played : IfOk c.odd_play.result (λ odd. MatchOption odd (All (IsPlayed c.args.packets.now) (told_nodes c.args.told.now.nodes.items)) (λ _. All (IsPlayed c.args.packets.now) (told_nodes c.args.told.now.nodes.items) → ⊥)) = rw c.deref-4.ensures.value at c.odd_play.ensures in
