@@ -31,6 +31,6 @@ mod request;
 mod writer;
 
 pub use laws::{one_request_is_spelled, what_is_written_spells_the_request, written_and_read};
-pub use reader::decode;
+pub use reader::{argument_len, decode};
 pub use request::{AbiFault, Request};
 pub use writer::encode;
