@@ -3,7 +3,7 @@
 //! A program asks a demux device for something by `ioctl(fd, number, argument)` (Linux media API, Digital TV demux; numbers and
 //! structures of linux/dvb/dmx.h on the usual ABI, lowest byte first). `decode` reads such a number and the bytes of its
 //! structure as a `Request`, and `encode` writes a `Request` as both. DMX_SET_BUFFER_SIZE takes the size itself in place of a
-//! structure; here it has the size's four bytes, which is this project's rule. The program doesn't use the crate yet.
+//! structure; here it has the size's four bytes, which is this project's rule. The `numbers` are named as in the header.
 //!
 //! What a contract sees: a request as its variant with its fields, an argument as the list of its bytes. `Spells` in
 //! `specs/Layout.antt` is the table: a row a request, which says where in the argument each field stands.
@@ -25,7 +25,7 @@
 
 pub mod examples;
 mod laws;
-mod numbers;
+pub mod numbers;
 mod reader;
 mod request;
 mod writer;

@@ -3,15 +3,14 @@ ghost use Rattle.std.specs.Prelude.{◌≡◌, ◌+◌, ◌<◌, ◌≤◌, ◌+
 ghost use Rattle.std.specs.List.{flat_map};
 ghost use Rattle.ts_watch.specs.Head.{told_head};
 ghost use Rattle.report_text.specs.Entries.{histories_text};
-ghost use Rattle.report_text.specs.Report.{tally_text, row_text, outcome_text, client_text, clients_text, end_text, report_of};
+ghost use Rattle.report_text.specs.Report.{tally_text, row_text, kind_text, outcome_text, client_text, clients_text, end_text, report_of};
 
 use crate::acts::add_field;
 use crate::entries::add_history;
 use crate::feeder_line::feeder_lines;
-use crate::replies::add_word;
 use crate::room::room_for_nodes;
 use dmx_calls::limits::DEMUX_NODES;
-use dmx_calls::{Histories, Outcome};
+use dmx_calls::{Histories, Outcome, OutcomeKind};
 use std::alloc::{AllocError as NoMemory, Global};
 use ts_packet::Tally;
 use ts_watch::{Head, PidRow};
@@ -49,6 +48,23 @@ fn add_rows(out: &mut Vec<u8>, rows: &[(u16, PidRow)]) -> Result<(), NoMemory>
     Ok(())
 }
 
+// How a command ended.
+#[tactic(auto, unfolding(crate::specs::Report::kind_text))]
+fn add_kind(out: &mut Vec<u8>, kind: OutcomeKind) -> Result<(), NoMemory>
+    ensures { OnOk result (out.new.items ≡ out.old.items ++ kind_text kind) }
+{
+    match kind {
+        OutcomeKind::Done => out.extend_from_slice(b"done"),
+        OutcomeKind::Emfile => out.extend_from_slice(b"EMFILE"),
+        OutcomeKind::Unbound => out.extend_from_slice(b"unbound"),
+        OutcomeKind::Stc { base, value } => {
+            add_field(out, b"stc base=", base as u64)?;
+            add_field(out, b" value=", value)
+        }
+        OutcomeKind::NoStc => out.extend_from_slice(b"nostc"),
+    }
+}
+
 // A command of a client.
 fn add_outcome(out: &mut Vec<u8>, outcome: &Outcome) -> Result<(), NoMemory>
     ensures { OnOk result (out.new.items ≡ out.old.items ++ outcome_text outcome.now) }
@@ -56,7 +72,8 @@ fn add_outcome(out: &mut Vec<u8>, outcome: &Outcome) -> Result<(), NoMemory>
     add_field(out, b"line ", outcome.line as u64)?;
     add_field(out, b" steps ", outcome.from)?;
     add_field(out, b"..", outcome.to)?;
-    add_word(out, b" ", outcome.kind.name())?;
+    out.extend_from_slice(b" ")?;
+    add_kind(out, outcome.kind)?;
     out.extend_from_slice(b"\n")
 }
 
