@@ -1,5 +1,5 @@
 // The client machine.
-ghost use Rattle.std.specs.Prelude.{◌≡◌, ℕ, ◌+◌, ◌*◌, ◌<◌, ◌≤◌, ◌^◌, List, [], ◌∷◌, ◌++◌, length, false, Some, None, IsSome, IsNone, IfSome, IfOk, All, ◌↔◌, MatchOption, vec_capacity};
+ghost use Rattle.std.specs.Prelude.{◌≡◌, ℕ, ◌+◌, ◌*◌, ◌<◌, ◌≤◌, ◌^◌, List, [], ◌∷◌, ◌++◌, length, true, false, Some, None, IsSome, IsNone, IfSome, IfOk, All, ◌↔◌, MatchOption, vec_capacity};
 ghost use Rattle.dmx_calls.specs.declared.limits.TheConstants.{DEMUX_NODES as nodes};
 ghost use Rattle.dmx_calls.specs.Calls.{response_of};
 ghost use Rattle.dmx_calls.specs.Response.{Response};
@@ -73,7 +73,8 @@ fn commands(alloc: Global, lines: &[Line], client: u32) -> Result<Vec<Command>, 
 
 // Whether one of these commands asks for a counter.
 fn asks(commands: &[Command]) -> bool
-    ensures { result ≡ false → All (CanBegin 0) commands.now }
+    ensures none { result ≡ false → All (CanBegin 0) commands.now }
+    ensures some { result ≡ true → All (CanBegin 0) commands.now → ⊥ }
 {
     'commands: for command in commands {
         if let Verb::GetStc(_) = command.verb {
@@ -110,7 +111,9 @@ fn waits_after(task: &Task, reply: &Reply) -> Option<u32>
 impl ClientCore {
     /// The client before its first call. All memory is taken here.
     pub fn new(alloc: Global, script: &Script, client: u32) -> Result<ClientCore, NoMemory>
-        ensures { IfOk result (λ core. IsAfter client script.now [] core) }
+        ensures after { IfOk result (λ core. IsAfter client script.now [] core) }
+        // Where no command asks for a counter, no clock is kept.
+        ensures kept { IfOk result (λ core. All (CanBegin 0) (commands_of client script.now) → core.clocks ≡ []) }
     {
         let commands = commands(alloc, script.lines(), client)?;
         let mut outcomes = Vec::with_capacity(alloc, commands.len())?;
