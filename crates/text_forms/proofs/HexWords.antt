@@ -1,7 +1,9 @@
 -- Words of hexadecimal digits, pair by pair, and that bytes in such digits are read again.
-use Rattle.std.proofs.Common.{◌≡◌, ◌≢◌, ◌<◌, ◌≤◌, ◌+◌, ◌-◌, ◌/◌, ◌%◌, refl, ap, ◌∙◌, ℕ, zero, suc, List, [], ◌∷◌, ◌++◌, length, take, drop, get_or, Some, None, arith}
+use Rattle.std.proofs.Common.{◌≡◌, ◌≢◌, ◌<◌, ◌≤◌, ◌+◌, ◌-◌, ◌/◌, ◌%◌, refl, ap, sym, ◌∙◌, ℕ, zero, suc, List, [], ◌∷◌, ◌++◌, length, take, drop, get_or, Bool, true, false, Option, Some, None, arith, append_assoc, append-nil, length-append}
+use Rattle.std.proofs.lemmas.Bool.Decides.{nat_tests}
 use Rattle.std.proofs.lemmas.List.Elements.{All-head, All-tail}
 use Rattle.std.proofs.lemmas.List.{take_all}
+use Rattle.std.specs.Prelude.{◌==◌}
 use Rattle.std.specs.List.{All}
 use Rattle.std.specs.Option.{option_map}
 use Rattle.text_forms.specs.Hex.{hex_byte, hex_bytes, digit_text, hex_text}
@@ -44,6 +46,61 @@ pub no_room : (digits : List ℕ) → digits ≢ [] → hex_bytes 0 digits ≡ N
 unfolding hex_bytes
 no_room [] some = absurd (some refl)
 no_room (digit ∷ digits) some = refl
+
+-- ------ a word, pair by pair
+
+-- Of all bytes that a word spells, at most `most`, these are read, and these digits are left.
+abbrev pub IsReading : (most : ℕ) (all : Option (List ℕ)) (done digits : List ℕ) → Type 0
+IsReading most all done digits = all ≡ option_map (λ more. done ++ more) (hex_bytes (most - length done) digits)
+
+same_option : (o : Option (List ℕ)) → o ≡ option_map (λ more. [] ++ more) o
+same_option None = refl
+same_option (Some bytes) = refl
+
+pub nothing_read : (most : ℕ) (word : List ℕ) → IsReading most (hex_bytes most word) [] word
+nothing_read most word =
+    let all : most - 0 ≡ most = omega arith in
+    same_option (hex_bytes most word) ∙ ap (λ n. option_map (λ more. [] ++ more) (hex_bytes n word)) (sym all)
+
+two_maps : (done : List ℕ) (byte : ℕ) (o : Option (List ℕ)) → option_map (λ more. done ++ more) (option_map (λ bytes. byte ∷ bytes) o) ≡ option_map (λ more. (done ++ byte ∷ []) ++ more) o
+two_maps done byte None = refl
+two_maps done byte (Some bytes) = ap Some (sym (append_assoc done (byte ∷ []) bytes))
+
+pub one_read : (most : ℕ) (all : Option (List ℕ)) (done now digits behind : List ℕ) (byte : ℕ) → IsReading most all done digits → length done < most
+    → ((left : ℕ) → hex_bytes (suc left) digits ≡ option_map (λ bytes. byte ∷ bytes) (hex_bytes left behind)) → now ≡ done ++ byte ∷ [] → IsReading most all now behind
+one_read most all done now digits behind byte is few pair longer =
+    let long : length now ≡ length done + 1 = ap length longer ∙ length-append done (byte ∷ []) in
+    let room : most - length done ≡ suc (most - length now) = omega (arith, few, long) in
+    is ∙ ap (λ n. option_map (λ more. done ++ more) (hex_bytes n digits)) room ∙ ap (λ o. option_map (λ more. done ++ more) o) (pair (most - length now))
+    ∙ two_maps done byte (hex_bytes (most - length now) behind) ∙ ap (λ d. option_map (λ more. d ++ more) (hex_bytes (most - length now) behind)) (sym longer)
+
+pub none_read : (most : ℕ) (all : Option (List ℕ)) (done digits : List ℕ) → IsReading most all done digits → ((left : ℕ) → hex_bytes left digits ≡ None) → all ≡ None
+none_read most all done digits is none = is ∙ ap (λ o. option_map (λ more. done ++ more) o) (none (most - length done))
+
+-- what the tests of a full row and of an empty slice say
+full : (n most : ℕ) (b : Bool) → b ≡ (n == most) → b ≡ true → n ≡ most
+full n most b test is = grind (arith, nat_tests)
+
+empty : (digits : List ℕ) (b : Bool) → b ≡ (length digits == 0) → b ≡ true → digits ≡ []
+empty [] b test is = refl
+empty (digit ∷ digits) b test is = absurd (grind (arith, nat_tests))
+
+pub too_many_read : (most : ℕ) (all : Option (List ℕ)) (done digits : List ℕ) (b : Bool) → IsReading most all done digits → b ≡ (length done == most) → b ≡ true → digits ≢ [] → all ≡ None
+too_many_read most all done digits b is test on some =
+    let room : most - length done ≡ 0 = omega (arith, full (length done) most b test on) in
+    is ∙ ap (λ n. option_map (λ more. done ++ more) (hex_bytes n digits)) room ∙ ap (λ o. option_map (λ more. done ++ more) o) (no_room digits some)
+
+pub all_read : (most : ℕ) (all : Option (List ℕ)) (done digits : List ℕ) (b : Bool) → IsReading most all done digits → b ≡ (length digits == 0) → b ≡ true → all ≡ Some done
+unfolding hex_bytes
+all_read most all done digits b is test on =
+    is ∙ ap (λ d. option_map (λ more. done ++ more) (hex_bytes (most - length done) d)) (empty digits b test on) ∙ ap Some (append-nil done)
+
+-- digits of which the test doesn't say that there are none
+pub some_left : (digits : List ℕ) (b : Bool) → b ≡ (length digits == 0) → b ≡ false → digits ≢ []
+some_left [] b test off = absurd (grind (arith, nat_tests))
+some_left (digit ∷ digits) b test off = λ none. absurd (cc)
+
+-- ------ reading what was written
 
 -- bytes in hexadecimal digits are read again
 pub hex_bytes-hex_text : (most : ℕ) (bytes : List ℕ) → length bytes ≤ most → All (λ byte. byte < 256) bytes → hex_bytes most (hex_text bytes) ≡ Some bytes
