@@ -1,6 +1,7 @@
 // Requests of programs as commands, and the words that spell them.
 ghost use Rattle.std.specs.Prelude.{◌≡◌, ◌≤◌, Some, None, IfOk, IfSome, MatchOption};
 ghost use Rattle.dmx_abi.specs.Layout.{argument_len as argument_len_of};
+ghost use Rattle.text_forms.specs.Places.{IsSixteenBytes, IsFilter};
 ghost use Rattle.client_script.specs.Words.{Reads};
 ghost use Rattle.client_script.specs.Grammar.{IsWantInRange, IsVerbInRange};
 ghost use Rattle.client_script.specs.Requests.{input_of as input_by, output_of as output_by, pes_of as pes_by, want_of as want_by, verb_of as verb_by, request_number as number_of_word, argument_named as argument_of_word, request_number_in, request_in, ioctl_in};
@@ -61,13 +62,33 @@ fn pes_of(pid: u16, input: u32, output: u32, pes_type: u32, flags: u32) -> Optio
     }))
 }
 
+// Looks at each byte: the range of a number is known where it is read.
+fn look(bytes: &[u8; 16])
+    ensures { IsSixteenBytes bytes.now }
+{
+    'bytes: for byte in bytes {
+        let _byte = *byte;
+    }
+}
+
+// A filter by its bytes.
+fn filter_of(filter: [u8; 16], mask: [u8; 16], mode: [u8; 16]) -> SectionFilter
+    ensures value { result ≡ record { filter = filter; mask = mask; mode = mode } }
+    ensures range { IsFilter result }
+{
+    look(&filter);
+    look(&mask);
+    look(&mode);
+    SectionFilter { filter, mask, mode }
+}
+
 /// The call that a request asks of a node; None where its input or its output is none, and for a system time counter, which no
 /// node has.
-pub fn want_of(request: &Request) -> Option<Want>
-    ensures value { result ≡ want_by request.now }
+pub fn want_of(request: Request) -> Option<Want>
+    ensures value { result ≡ want_by request }
     ensures range { IfSome result IsWantInRange }
 {
-    match *request {
+    match request {
         Request::SetFilter {
             pid,
             filter,
@@ -77,7 +98,7 @@ pub fn want_of(request: &Request) -> Option<Want>
             flags,
         } => Some(Want::Section(SectionParams {
             pid,
-            filter: SectionFilter { filter, mask, mode },
+            filter: filter_of(filter, mask, mode),
             timeout,
             flags,
         })),
@@ -98,11 +119,11 @@ pub fn want_of(request: &Request) -> Option<Want>
 }
 
 /// What a command asks by a request; None where its input or its output is none.
-pub fn verb_of(request: &Request) -> Option<Verb>
-    ensures value { result ≡ verb_by request.now }
+pub fn verb_of(request: Request) -> Option<Verb>
+    ensures value { result ≡ verb_by request }
     ensures range { IfSome result IsVerbInRange }
 {
-    match *request {
+    match request {
         Request::GetStc { num } => Some(Verb::GetStc(num)),
         _ => {
             let want = want_of(request)?;
@@ -168,5 +189,5 @@ pub fn read_ioctl(words: &mut Words<'_>) -> Result<Verb, FaultKind>
 {
     let number = read_number(words)?;
     let request = read_request(number, words)?;
-    verb_of(&request).ok_or(FaultKind::Name)
+    verb_of(request).ok_or(FaultKind::Name)
 }

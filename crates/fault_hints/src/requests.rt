@@ -67,7 +67,7 @@ fn request_with(number: u32, word: &[u8]) -> Option<Request> {
 /// Whether a word is an argument of the request with this number.
 pub fn is_argument(number: u32, word: &[u8]) -> bool {
     match request_with(number, word) {
-        Some(request) => verb_of(&request).is_some(),
+        Some(request) => verb_of(request).is_some(),
         None => false,
     }
 }

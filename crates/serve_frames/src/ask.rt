@@ -37,7 +37,7 @@ fn ioctl_of(node: u32, number: u32, argument: &[u8]) -> Ask
     ensures range { node ≤ 32 → IsAskInRange result }
 {
     match decode(number, argument) {
-        Ok(request) => match want_of(&request) {
+        Ok(request) => match want_of(request) {
             Some(want) => Ask::Call { node, want },
             None => Ask::Refused(EINVAL),
         },
