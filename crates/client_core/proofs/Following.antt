@@ -1,5 +1,5 @@
 -- What the clocks of a client have followed, and the outcomes that are by them.
-use Rattle.std.proofs.Common.{◌≡◌, ◌<◌, ◌≤◌, ◌+◌, ◌⊎◌, inl, inr, refl, sym, ap, subst, ◌∙◌, ℕ, Bool, true, false, List, [], ◌∷◌, ◌++◌, Option, Some, None, length, map, take, replicate, get_or, arith}
+use Rattle.std.proofs.Common.{◌≡◌, ◌<◌, ◌≤◌, ◌⊎◌, inl, inr, refl, sym, ap, subst, ◌∙◌, ℕ, Bool, true, false, List, [], ◌∷◌, ◌++◌, Some, None, length, map, take, replicate, arith}
 use Rattle.std.specs.Prelude.{slice_get, slice_index_or, if◌then◌else◌}
 use Rattle.std.specs.List.{All}
 use Rattle.std.specs.Option.{option_and_then}
@@ -7,12 +7,10 @@ use Rattle.std.proofs.lemmas.List.{append_assoc, append-nil, take-append-le}
 use Rattle.std.proofs.lemmas.List.Elements.{All-nil, All-cons, All-head, All-tail, All-replicate, All-get_or}
 use Rattle.std.proofs.lemmas.Option.{slice_get-get_or}
 use Rattle.std.proofs.Math.Seq.{take-length}
-use Rattle.dmx_calls.specs.declared.limits.TheConstants.{DEMUX_NODES}
-use Rattle.dmx_calls.specs.declared.outcome.Outcome.{Outcome}
 use Rattle.dmx_calls.specs.Response.{Response}
 use Rattle.ts_packet.specs.Cut.{cut, cut_after}
 use Rattle.ts_packet.specs.Cutting.{bytes_taken}
-use Rattle.stc_clock.specs.Clock.{unset, last_pcr, clock_of, HasFollowed}
+use Rattle.stc_clock.specs.Clock.{unset, last_pcr, HasFollowed}
 use Rattle.client_script.specs.declared.line.Line.{Line}
 use Rattle.client_script.specs.declared.line.Verb.{Verb}
 use Rattle.client_script.specs.declared.line.Verb.TheVariants.{GetStc}
@@ -20,7 +18,7 @@ use Rattle.client_core.specs.declared.command.Command.{Command}
 use Rattle.client_core.specs.declared.task.Ending.{Ending}
 use Rattle.client_core.specs.declared.task.Ending.TheVariants.{Made, Bound, AllBusy, NoNode, Asked}
 use Rattle.client_core.specs.Events.{Ended, next_event}
-use Rattle.client_core.specs.Stc.{Exchange, with_reply, exchanges_after, exchanges, bytes_read, filter_type, is_counter, stc}
+use Rattle.client_core.specs.Stc.{Exchange, with_reply, exchanges_after, exchanges, filter_type, is_counter, stc}
 use Rattle.client_core.specs.Outcomes.{Counters, stc_kind, kind_by, outcome_by, counters_after, outcome_of}
 use Rattle.client_core.specs.Inside.Clocks.{NodeClock, uncalled, counter_of, counter_in, HasFollowedNode, HaveFollowed, AreFew}
 use Rattle.client_core.specs.Inside.Tasks.{IsCallEnding, CanAsk, HasClock}

@@ -71,13 +71,21 @@ fn commands(alloc: Global, lines: &[Line], client: u32) -> Result<Vec<Command>, 
     Ok(commands)
 }
 
+// Whether a command asks for a counter.
+fn asks(command: &Command) -> bool
+    ensures none { result ≡ false → CanBegin 0 command.now }
+    ensures some { result ≡ true → CanBegin 0 command.now → ⊥ }
+{
+    matches!(command.verb, Verb::GetStc(_))
+}
+
 // Whether one of these commands asks for a counter.
-fn asks(commands: &[Command]) -> bool
+fn one_asks(commands: &[Command]) -> bool
     ensures none { result ≡ false → All (CanBegin 0) commands.now }
     ensures some { result ≡ true → All (CanBegin 0) commands.now → ⊥ }
 {
     'commands: for command in commands {
-        if let Verb::GetStc(_) = command.verb {
+        if asks(command) {
             return true;
         }
     }
@@ -117,7 +125,7 @@ impl ClientCore {
     {
         let commands = commands(alloc, script.lines(), client)?;
         let mut outcomes = Vec::with_capacity(alloc, commands.len())?;
-        let clocks = Clocks::new(alloc, asks(&commands))?;
+        let clocks = Clocks::new(alloc, one_asks(&commands))?;
         let mut left = Commands::of(commands);
         let mut slots = [None; 32];
         let current = begin(&mut left, &mut slots, 0, &clocks, &mut outcomes);
@@ -206,7 +214,13 @@ impl ClientCore {
                         kind: kind_of(ending, &self.clocks),
                     },
                 );
-                self.current = begin(&mut self.left, &mut self.slots, step, &self.clocks, outcomes);
+                self.current = begin(
+                    &mut self.left,
+                    &mut self.slots,
+                    step,
+                    &self.clocks,
+                    outcomes,
+                );
             }
         }
     }
