@@ -204,9 +204,8 @@ impl ClientCore {
             }
             Next::Through(ending) => {
                 bind(&mut self.slots, ending);
-                let outcomes = &mut self.outcomes;
                 add(
-                    outcomes,
+                    &mut self.outcomes,
                     Outcome {
                         line: current.line,
                         from: current.from,
@@ -214,13 +213,14 @@ impl ClientCore {
                         kind: kind_of(ending, &self.clocks),
                     },
                 );
-                self.current = begin(
+                let next = begin(
                     &mut self.left,
                     &mut self.slots,
                     step,
                     &self.clocks,
-                    outcomes,
+                    &mut self.outcomes,
                 );
+                self.current = next;
             }
         }
     }
