@@ -6,7 +6,7 @@ ghost use Rattle.ts_packet.specs.Fields.{IsPacket};
 use client_script::{MOST_BYTES, Script};
 use report_check::{Fault, FaultKind, check, first_fault};
 use std::alloc::{AllocError as NoMemory, Global};
-use ts_packet::{Packet, PacketBuf, Tally};
+use ts_packet::{Packet, PacketBuf, PacketRoom, Tally};
 use ts_watch::{Head, PidRow};
 
 // Before each further look of the client at the node the next packet passes.
