@@ -1,4 +1,5 @@
 """What the scripts of this folder share: a stream, and the times that programs take over it."""
+import os
 import random
 import resource
 import subprocess
@@ -62,6 +63,22 @@ def write_stream(path, session, size):
         for _ in range(size // len(stream)):
             out.write(stream)
         out.write(stream[:size % len(stream) // 188 * 188])
+
+
+def silent_time(program, seconds):
+    """The seconds of processors that a run takes whose eight clients wait for a stream that is silent for so long."""
+    lines = (f"c{c} open n{c}\nc{c} pes n{c} 256 frontend tsdemux_tap 20 0\nc{c} start n{c}\nc{c} readw n{c} 188\n" for c in range(8))
+    read, write = os.pipe()
+    before = processor_time()
+    child = subprocess.Popen([program, "run"], stdin=read, stdout=subprocess.DEVNULL)
+    os.close(read)
+    os.write(write, ("".join(lines) + "stream\n").encode())
+    time.sleep(seconds)
+    os.write(write, bytes([0x47, 1, 0, 0x10]) + bytes(184))
+    os.close(write)
+    if child.wait():
+        raise SystemExit(f"run ended with status {child.returncode}")
+    return processor_time() - before
 
 
 def processor_time():
