@@ -41,11 +41,16 @@ def mixed_packets(count, seed):
         counters[pid] = (counters[pid] + 1) % 16
 
 
+def environment(words):
+    """The environment of a program: the wrapper `dvbemu` asks the C library for large pages, but for `run`."""
+    return dict(os.environ) if "run" in words else {"GLIBC_TUNABLES": "glibc.malloc.hugetlb=1", **os.environ}
+
+
 def run(words, path):
     """What a run writes with the file as its standard input, and how many seconds it takes."""
     with open(path, "rb") as source:
         begun = time.perf_counter()
-        written = subprocess.run(words, stdin=source, stdout=subprocess.PIPE, check=True).stdout
+        written = subprocess.run(words, stdin=source, stdout=subprocess.PIPE, env=environment(words), check=True).stdout
         return written, time.perf_counter() - begun
 
 
@@ -113,5 +118,6 @@ sys.exit(status != 0)
 def peak_memory(words, path):
     """The most bytes of memory that a run held; no less than what STARTER holds, which a run of `true` shows."""
     with open(path, "rb") as source:
-        told = subprocess.run([sys.executable, "-I", "-S", "-c", STARTER, *words], stdin=source, stdout=subprocess.PIPE, check=True)
+        starter = [sys.executable, "-I", "-S", "-c", STARTER, *words]
+        told = subprocess.run(starter, stdin=source, stdout=subprocess.PIPE, env=environment(words), check=True)
     return int(told.stdout) * 1024
