@@ -3,7 +3,7 @@ use Rattle.std.proofs.Common.{◌≡◌, ◌<◌, ◌≤◌, ◌+◌, ◌⊎◌,
 use Rattle.std.proofs.lemmas.Bool.Decides.{nat_tests}
 use Rattle.std.proofs.lemmas.List.{take_all, take-append-le, take-append-drop, drop-append-le, length-take}
 use Rattle.std.proofs.KnownBytes.{Consumes-trans}
-use Rattle.std.specs.Prelude.{Option, Some, None, Result, Ok, Err, IfSome, IfNone, nat_le}
+use Rattle.std.specs.Prelude.{Option, Some, None, Ok, Err, IfSome, IfNone, nat_le}
 use Rattle.std.specs.Io.KnownBytes.{Consumes, IsAtEnd}
 use Rattle.emu_io.specs.Causes.{raised}
 use Rattle.emu_io.specs.Ends.{SourceEnd}
@@ -13,7 +13,7 @@ use Rattle.client_script.specs.Script.{whole_lines}
 use Rattle.client_script.specs.Inside.Part.{HasNoFeed}
 use Rattle.client_script.proofs.Parting.{first}
 use Rattle.client_script.proofs.Searching.{whole_lines-line, whole_lines-none}
-use Rattle.emu_top.specs.Checking.{Asked, asked, asked_in, asked_behind, in_front, lines_asked, size_of, Declines, EndsInLine, EndsInReport, FailsToRead, HasFirstFault}
+use Rattle.emu_top.specs.Checking.{Asked, asked, asked_in, asked_behind, in_front, lines_asked, size_of, EndsInLine, FailsToRead, HasFirstFault}
 use Rattle.emu_top.specs.Inside.Asking.{AsksFor, Begins}
 
 -- ------ the first line

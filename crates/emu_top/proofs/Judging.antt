@@ -20,7 +20,7 @@ use Rattle.report_check.specs.declared.fault.Fault.{Fault}
 use Rattle.emu_top.specs.Session.{IsSession, Holds, Takes, Refuses, ReadsTo}
 use Rattle.emu_top.specs.Checking.{Asks, IsAnswer, Judges, Declines, SettlesAnswer, asked, answer_text, lines_asked}
 use Rattle.emu_top.specs.Inside.Asking.{Begins, IsCutOff, IsWholeOf, wrong_as}
-use Rattle.emu_top.specs.Serves.{Answers, Checks, Outside, Tells, WritesFront, WritesWhole, outside}
+use Rattle.emu_top.specs.Serves.{Answers, Checks, Tells, WritesFront, WritesWhole, outside}
 use Rattle.emu_top.specs.declared.stream.Stream.{Stream}
 use Rattle.emu_top.specs.declared.status.Status.{Status}
 use Rattle.emu_top.specs.declared.status.Status.TheVariants.{Usage, Script, TooLong, ReadFault, WriteFault, NoMemory, Ok as Done, Wrong}

@@ -1,4 +1,4 @@
-use Rattle.std.proofs.Common.{◌≡◌, sym, subst, ◌++◌, [], append-nil, length-append, rules, arith}
+use Rattle.std.proofs.Common.{◌≡◌, subst, ◌++◌, [], append-nil, length-append, rules, arith}
 use Rattle.feed_pull.specs.Pulling.{given_by}
 use Rattle.feed_pull.specs.Streams.{Draws}
 use Rattle.feed_pull.proofs.Drawing.{draws_none, draws_then}
