@@ -1,4 +1,5 @@
 """What the scripts of this folder share: a stream, and the times that programs take over it."""
+import os
 import random
 import resource
 import subprocess
@@ -40,11 +41,16 @@ def mixed_packets(count, seed):
         counters[pid] = (counters[pid] + 1) % 16
 
 
+def environment(words):
+    """The environment of a program: the wrapper `dvbemu` asks the C library for large pages, but for `run`."""
+    return dict(os.environ) if "run" in words else {"GLIBC_TUNABLES": "glibc.malloc.hugetlb=1", **os.environ}
+
+
 def run(words, path):
     """What a run writes with the file as its standard input, and how many seconds it takes."""
     with open(path, "rb") as source:
         begun = time.perf_counter()
-        written = subprocess.run(words, stdin=source, stdout=subprocess.PIPE, check=True).stdout
+        written = subprocess.run(words, stdin=source, stdout=subprocess.PIPE, env=environment(words), check=True).stdout
         return written, time.perf_counter() - begun
 
 
@@ -62,6 +68,22 @@ def write_stream(path, session, size):
         for _ in range(size // len(stream)):
             out.write(stream)
         out.write(stream[:size % len(stream) // 188 * 188])
+
+
+def silent_time(program, seconds):
+    """The seconds of processors that a run takes whose eight clients wait for a stream that is silent for so long."""
+    lines = (f"c{c} open n{c}\nc{c} pes n{c} 256 frontend tsdemux_tap 20 0\nc{c} start n{c}\nc{c} readw n{c} 188\n" for c in range(8))
+    read, write = os.pipe()
+    before = processor_time()
+    child = subprocess.Popen([program, "run"], stdin=read, stdout=subprocess.DEVNULL)
+    os.close(read)
+    os.write(write, ("".join(lines) + "stream\n").encode())
+    time.sleep(seconds)
+    os.write(write, bytes([0x47, 1, 0, 0x10]) + bytes(184))
+    os.close(write)
+    if child.wait():
+        raise SystemExit(f"run ended with status {child.returncode}")
+    return processor_time() - before
 
 
 def processor_time():
@@ -96,5 +118,6 @@ sys.exit(status != 0)
 def peak_memory(words, path):
     """The most bytes of memory that a run held; no less than what STARTER holds, which a run of `true` shows."""
     with open(path, "rb") as source:
-        told = subprocess.run([sys.executable, "-I", "-S", "-c", STARTER, *words], stdin=source, stdout=subprocess.PIPE, check=True)
+        starter = [sys.executable, "-I", "-S", "-c", STARTER, *words]
+        told = subprocess.run(starter, stdin=source, stdout=subprocess.PIPE, env=environment(words), check=True)
     return int(told.stdout) * 1024

@@ -31,6 +31,9 @@ NO_REPORT = [
 ]
 # Sessions with a fault, and its line and kind.
 FAULTY = [(b"", "1: nostream"), (b"#\n", "2: nostream"), (b"stream", "1: nostream"), (b"#\nc0 strat n0\nstream\n", "2: command")]
+# Texts that are no report: no line, odd bytes, lines of a megabyte.
+LONG = 1 << 20
+NO_TEXT = [b"", b"\n", bytes(1000), 1000 * b"\xff", LONG * b"1", LONG * b"1" + b"\n", b"dvbemu 1\n" + LONG * b"p" + b"\nend\n"]
 # Words that aren't accepted.
 WORDS = ["check", "7"], ["check", "--"], ["check", "--batch", "64"], ["check", "check"], ["check", "-h"], ["steps", "check"]
 RIGHT, WRONG = "rules/one-tap", "reports/polled-data"
@@ -59,6 +62,14 @@ def asks_nothing():
         for report in b"", b"stream\n", b"\n" * 100, example(RIGHT).report:
             told = ran(["check"], input=asked_of(report, session))
             expect(f"check of {len(report)} bytes, a fault in line {line}", told, 3, f"dvbemu: script line {line}", b"")
+
+
+def no_text_of_a_report():
+    """Texts that are no report of any session."""
+    session = example(RIGHT).session
+    for text in NO_TEXT:
+        told = ran(["check"], input=asked_of(text, session))
+        expect(f"check of {len(text)} bytes, {text[:12]}", told, 0, "dvbemu: report: text", b"no\n")
 
 
 def reader_is_gone(given):

@@ -171,12 +171,19 @@ fn is_answered<R: AllocGlobal + Threads + Wait + Sync>(
     Ok(is_same && status == wanted && written.as_slice() == output.as_bytes())
 }
 
+// The place of the first row that isn't answered so, if there is one.
+fn odd_row<R: AllocGlobal + Threads + Wait + Sync>(rt: &R) -> Option<usize> {
+    'rows: for (place, row) in ROWS.iter().enumerate() {
+        if is_answered(rt, row) != Ok(true) {
+            return Some(place);
+        }
+    }
+    None
+}
+
 #[test]
 fn a_report_is_one_of_its_session_or_isnt(rt: HostRuntime) {
-    let odd = ROWS
-        .iter()
-        .position(|row| is_answered(&rt, row) != Ok(true));
-    assert_eq!(rt; odd, None);
+    assert_eq!(rt; odd_row(&rt), None);
 }
 
 // The last byte of the report is the first of the session, and the other way round.
@@ -278,28 +285,64 @@ fn a_read_fault_is_no_answer(rt: HostRuntime) -> Result<(), NoMemory> {
     Ok(())
 }
 
-// The writes that are made of an answer of four bytes, one byte each: which one fails, and what was written.
-static WRITES: [(&[u64], &str, Status); 5] = [
-    (&[0], "", Status::WriteFault),
-    (&[1], "y", Status::WriteFault),
-    (&[2], "ye", Status::WriteFault),
-    (&[3], "yes", Status::WriteFault),
-    (&[4], "yes\n", Status::Ok),
+// What a sink that takes a byte a write has.
+const NARROW: Ends = Ends {
+    width: 1,
+    ..FAULTLESS
+};
+
+// Ends of which one write of the answer's four bytes fails, or one behind them: what was written, and how it ended.
+static WRITES: [(&Ends, &str, Status); 5] = [
+    (
+        &Ends {
+            writes: &[0],
+            ..NARROW
+        },
+        "",
+        Status::WriteFault,
+    ),
+    (
+        &Ends {
+            writes: &[1],
+            ..NARROW
+        },
+        "y",
+        Status::WriteFault,
+    ),
+    (
+        &Ends {
+            writes: &[2],
+            ..NARROW
+        },
+        "ye",
+        Status::WriteFault,
+    ),
+    (
+        &Ends {
+            writes: &[3],
+            ..NARROW
+        },
+        "yes",
+        Status::WriteFault,
+    ),
+    (
+        &Ends {
+            writes: &[4],
+            ..NARROW
+        },
+        "yes\n",
+        Status::Ok,
+    ),
 ];
 
 // Whether a failed write leaves this of the answer.
 fn is_left<R: AllocGlobal + Threads + Wait + Sync>(
     rt: &R,
-    (writes, output, status): &(&'static [u64], &'static str, Status),
+    (ends, output, status): &(&'static Ends, &'static str, Status),
 ) -> Result<bool, NoMemory> {
     let report = report_with(rt.alloc(), &[])?;
     let input = asked(rt.alloc(), report.as_str(), report.len())?;
-    let ends = Ends {
-        writes,
-        width: 1,
-        ..FAULTLESS
-    };
-    let (ended, written) = told(rt, "check", input, &ends)?;
+    let (ended, written) = told(rt, "check", input, ends)?;
     Ok(ended == *status && written.as_slice() == output.as_bytes())
 }
 
