@@ -1,6 +1,6 @@
 use Rattle.std.proofs.Common.{◌≡◌, [], List, map, subst}
 use Rattle.dmx_calls.specs.Log.{LogEntry}
-use Rattle.client_core.specs.Events.{outcomes}
+use Rattle.client_core.specs.Outcomes.{outcomes}
 use Rattle.script_run.specs.IsRun.{replies}
 use Rattle.walk_check.specs.Walk.{CanRest, HasWalked, queues_in}
 use Rattle.report_check.specs.Inside.Parts.{told_nodes, dealt}
