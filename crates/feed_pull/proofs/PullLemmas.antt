@@ -273,15 +273,19 @@ Follows-then a b c x y z f g =
 
 -- ---- what a puller stands for
 
-pub Pulls-new : (ahead : List ℕ) (p : Pulling) → p.waiting ≡ [] → p.unread ≡ ahead → p.given ≡ 0 → p.taken ≡ 0 → Cuts (fresh p.cutting.size) [] [] p.cutting → Watched [] p.watch → Pulls ahead [] [] p
-Pulls-new ahead p w u g t k watch = record {
+-- from the beginning on, what a packet takes up stays
+cuts_from : {size : PacketSize} {bytes : List ℕ} {found : List (List ℕ)} {c : Cutting} → Cuts (fresh size) bytes found c → Cuts (fresh c.size) bytes found c
+cuts_from {size} {bytes} {found} {c} h = subst (λ (s : PacketSize). Cuts (fresh s) bytes found c) (sym h.size) h
+
+pub Pulls-new : (ahead : List ℕ) (size : PacketSize) (p : Pulling) → p.waiting ≡ [] → p.unread ≡ ahead → p.given ≡ 0 → p.taken ≡ 0 → Cuts (fresh size) [] [] p.cutting → Watched [] p.watch → Pulls ahead [] [] p
+Pulls-new ahead size p w u g t k watch = record {
   passed = [];
   before = [];
   latest = [];
   count = g;
   watch = rw w watch;
   size = t;
-  cuts = rw w k;
+  cuts = rw w (cuts_from k);
   stream = u ∙ sym (append-nil ahead);
   last = refl;
   piece = omega arith;
@@ -294,7 +298,7 @@ Pulls-stream ahead taken more given a b p g = append_assoc p.passed g.passed b.u
 Pulls-cuts : (ahead taken more : List ℕ) (given : List (List ℕ)) (a b : Pulling) (p : Pulls ahead taken given a) (g : Goes a more b) → Cuts (fresh b.cutting.size) (p.passed ++ g.passed) (given ++ b.waiting) b.cutting
 Pulls-cuts ahead taken more given a b p g =
     let e : given ++ b.waiting ≡ (given ++ a.waiting) ++ g.found = ap (λ (l : List (List ℕ)). given ++ l) g.waiting ∙ sym (append_assoc given a.waiting g.found) in
-    rw (e, g.cuts.size) (Cuts-then (fresh a.cutting.size) a.cutting b.cutting p.passed g.passed (given ++ a.waiting) g.found p.cuts g.cuts)
+    rw e (cuts_from (Cuts-then (fresh a.cutting.size) a.cutting b.cutting p.passed g.passed (given ++ a.waiting) g.found p.cuts g.cuts))
 
 Pulls-watched : (ahead taken more : List ℕ) (given : List (List ℕ)) (a b : Pulling) (p : Pulls ahead taken given a) (g : Goes a more b) → Watched (given ++ b.waiting) b.watch
 Pulls-watched ahead taken more given a b p g =
