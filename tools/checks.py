@@ -1,4 +1,5 @@
-"""What the checks of this repository share: the count of what was tried, and the sessions of examples/ with their reports."""
+"""What the checks of this repository share: the count of what was tried, the sessions of examples/ with their reports, and how the
+command `check` is asked."""
 import glob
 import os
 from typing import NamedTuple
@@ -6,6 +7,11 @@ from typing import NamedTuple
 ROOT = os.path.dirname(os.path.dirname(os.path.realpath(__file__)))
 PROGRAM = os.path.join(ROOT, "dvbemu")
 EXAMPLES = os.path.join(ROOT, "examples")
+
+
+def asked_of(report, session):
+    """The input of `check`: a report, and the session of which it may be one."""
+    return b"report %d\n" % len(report) + report + session
 
 
 class Tally:
@@ -54,3 +60,11 @@ def files(ending):
     """The files of examples/ with this ending, without it: `rules/one-tap`, .."""
     paths = glob.glob(os.path.join(glob.escape(EXAMPLES), "*", "*" + ending))
     return sorted(os.path.relpath(path, EXAMPLES)[: -len(ending)] for path in paths)
+
+
+def changed_reports():
+    """The reports of examples/ that are changed: the name of each, as `reports/polled-data`, its bytes, and those of its session, whose
+    name is the part in front of the first `-`."""
+    for name in files(".changed"):
+        session = name.partition("-")[0] + ".session"
+        yield name, bytes_of(os.path.join(EXAMPLES, name + ".changed")), bytes_of(os.path.join(EXAMPLES, session))

@@ -14,11 +14,19 @@ HEX_DIGITS = b"0123456789abcdef"
 
 
 class NotAReport(Exception):
-    """A text that is no report: the number of the line, from 1, and what was expected there."""
+    """A text that is no report: the number of the line, from 1, what was expected there, what was found, and whether all that is wrong
+    is where it stands."""
 
-    def __init__(self, line, what):
-        super().__init__(f"line {line}: {what}")
-        self.line, self.what = line, what
+    def __init__(self, line, expected, found=None, misplaced=False):
+        super().__init__(f"line {line}: expected {expected}{'' if found is None else f', found {found}'}")
+        self.line, self.expected, self.found, self.misplaced = line, expected, found, misplaced
+
+
+class AnotherFormat(NotAReport):
+    """A report of a format that this tool doesn't know."""
+
+    def __str__(self):
+        return f"line {self.line}: a report of a format that this tool doesn't know; it knows {self.expected}, found {self.found}"
 
 
 class PidRow(NamedTuple):
@@ -67,6 +75,14 @@ class Report(NamedTuple):
 
 class Wrong(Exception):
     """A word or a group of words that isn't of its form; the text is what was expected."""
+
+    misplaced = False
+
+
+class Misplaced(Wrong):
+    """A line that is of its form and doesn't belong where it stands; the text is what was expected."""
+
+    misplaced = True
 
 
 def number(word, most=2**64 - 1):
@@ -330,28 +346,27 @@ class Lines:
         line = self.file.readline()
         self.line += 1
         if line and not line.endswith("\n"):
-            raise NotAReport(self.line, "expected a line feed at the end of the line")
+            raise NotAReport(self.line, "a line feed at the end of the line")
         self.text = line[:-1] if line else None
 
     def starts(self, beginning):
         """Whether the line in hand begins with this."""
         return self.text is not None and self.text.startswith(beginning)
 
-    def wrong(self, what):
+    def wrong(self, what, misplaced=False):
         """The exception for the line in hand."""
-        return NotAReport(self.line, f"expected {what}, found {shown(self.text)}")
+        return NotAReport(self.line, what, shown(self.text), misplaced)
 
-    def want(self, holds, what):
+    def want(self, holds, what, misplaced=False):
         """Raises where it doesn't hold."""
         if not holds:
-            raise self.wrong(what)
+            raise self.wrong(what, misplaced)
 
 
 def head_of(lines):
     """The numbers of the stream's cutting."""
     if lines.starts("dvbemu ") and lines.text != FORMAT:
-        what = f"a report of a format that this tool doesn't know; it knows `{FORMAT}`, found {shown(lines.text)}"
-        raise NotAReport(lines.line, what)
+        raise AnotherFormat(lines.line, f"`{FORMAT}`", shown(lines.text))
     lines.want(lines.text == FORMAT, f"`{FORMAT}`")
     lines.go_on()
     lines.want(lines.text is not None, "`packets=.. skipped=.. rest=..`")
@@ -399,7 +414,7 @@ def clients_of(lines):
 def entry_of(text, place):
     """The entry that a line is, at this place of its node."""
     words = text.split(" ", 3)
-    if len(words) < 4 or words[0] != str(place):
+    if len(words) < 4:
         raise Wrong(f"`{place} WHO STEP ACT = REPLY`")
     if words[1] != "feed":
         client_name(words[1])
@@ -414,7 +429,10 @@ def entry_of(text, place):
     answers = ANSWERS.get(asked, OTHER_ANSWERS)
     if answer not in answers:
         raise Wrong(f"a reply to `{asked}`: " + ", ".join(answers))
-    return Entry(place, words[1], number(words[2]), act, reply)
+    step = number(words[2])
+    if number(words[0]) != place:
+        raise Misplaced(f"`{place} WHO STEP ACT = REPLY`")
+    return Entry(place, words[1], step, act, reply)
 
 
 def entries_of(lines):
@@ -432,7 +450,7 @@ def nodes_of(lines):
     while lines.starts("node "):
         name = lines.text[5:]
         node = DVR if name == "dvr" else number(name, DVR - 1)
-        lines.want(not found or node > max(found), f"a node behind {node_name(max(found, default=0))}")
+        lines.want(not found or node > max(found), f"a node behind {node_name(max(found, default=0))}", misplaced=True)
         lines.go_on()
         found[node] = entries_of(lines)
     return found
@@ -447,7 +465,7 @@ def read(file):
         clients = clients_of(lines)
         nodes = nodes_of(lines)
     except Wrong as wrong:
-        raise lines.wrong(str(wrong)) from None
+        raise lines.wrong(str(wrong), wrong.misplaced) from None
     last = lines.text
     lines.want(last in ("end", "fault read"), what_follows(rows, clients, nodes))
     lines.go_on()

@@ -7,14 +7,15 @@ use Rattle.dmx_calls.specs.Legal.{IsLegalFor}
 use Rattle.dmx_calls.proofs.Numbered.{demux_rules, dvr_rules}
 use Rattle.node_core.specs.Stands.{CoreValue, StandsFor}
 use Rattle.dvr_core.specs.Stands.{CoreValue as DvrValue, StandsFor as DvrStandsFor}
+use Rattle.adapter.specs.declared.boxed.Boxed.{Boxed}
 use Rattle.adapter.specs.Nodes.{IsLegalAt}
 
--- some core stands for the history, which has the oldest entry first
+-- some core, in its box, stands for the history, which has the oldest entry first
 abbrev pub DemuxStood : List Entry → Type 0
-DemuxStood h = (m : CoreValue) × StandsFor m (reverse h)
+DemuxStood h = (m : Boxed CoreValue) × StandsFor m.machine.value (reverse h)
 
 abbrev pub DvrStood : List Entry → Type 0
-DvrStood h = (m : DvrValue) × DvrStandsFor m (reverse h)
+DvrStood h = (m : Boxed DvrValue) × DvrStandsFor m.machine.value (reverse h)
 
 pub demux_legal : (node : ℕ) → node < DEMUX_NODES → (h : List Entry) → DemuxStood h → IsLegalAt node h
 demux_legal node below h s = subst (λ (r : Rules). IsLegalFor r (reverse h)) (sym (demux_rules node below)) s.1.legal

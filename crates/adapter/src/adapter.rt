@@ -4,24 +4,26 @@ ghost use Rattle.dmx_calls.specs.declared.limits.TheConstants.{DEMUX_NODES as no
 ghost use Rattle.adapter.specs.Callers.{AreAllCallers, AreFreshCallers};
 ghost use Rattle.adapter.specs.Ends.{HaveHistories, HaveHistoriesOf};
 
+use crate::boxed::Boxed;
 use crate::client::Client;
 use crate::ending::measure;
 use crate::feeder::Feeder;
 use crate::making::{build, empty_rows, make_clients, with_dvr};
-use dmx_calls::limits::NODES;
+use dmx_calls::limits::{DEMUX_NODES, NODES};
 use dvr_core::DvrCore;
 use node_core::NodeCore;
 use node_lock::NodeLock;
 use std::alloc::{AllocError as NoMemory, Global};
 use std::marker::Model;
+use std::sync::Wait;
 
 /// The 33 nodes, each under a lock of its own: 0 to 31 are the demux nodes, and 32 is the dvr node.
 ///
 /// Contracts see a list of locks, that of the dvr node last.
 #[derive(Drop)]
 pub struct Adapter {
-    pub(crate) demux: Vec<NodeLock<NodeCore>>,
-    pub(crate) dvr: NodeLock<DvrCore>,
+    pub(crate) demux: Vec<NodeLock<Boxed<NodeCore>>>,
+    pub(crate) dvr: NodeLock<Boxed<DvrCore>>,
 }
 
 impl Model for Adapter {
@@ -59,7 +61,11 @@ impl Adapter {
         let callers = clients + 1;
         let mut rows = empty_rows(alloc, callers)?;
         let demux = build(alloc, callers, &mut rows)?;
-        let Ok((dvr, passes)) = NodeLock::new(alloc, DvrCore::new(alloc), callers) else {
+        let Ok((dvr, passes)) = NodeLock::new(
+            alloc,
+            Boxed::new(alloc, DvrCore::new(alloc))?,
+            callers,
+        ) else {
             return Err(NoMemory);
         };
         let mut all = with_dvr(alloc, &demux, &dvr, rows, passes)?;
@@ -70,6 +76,18 @@ impl Adapter {
             passes,
         };
         Ok((Adapter { demux, dvr }, feeder, clients))
+    }
+
+    /// Sleeps while a node's history has `len` entries, for at most a second. It may end for no reason, so whoever waits for an
+    /// entry looks again behind it.
+    pub fn rest<R: Wait>(&self, rt: &R, node: u32, len: u64)
+        requires { node ≤ nodes }
+    {
+        if node < DEMUX_NODES {
+            self.demux[node as usize].rest(rt, len)
+        } else {
+            self.dvr.rest(rt, len)
+        }
     }
 
     /// Joins the passes of the feeder and of all clients on each node, and looks once at each. It waits for nobody and

@@ -27,6 +27,7 @@
 #![tactic(auto)]
 
 mod adapter;
+mod boxed;
 mod client;
 mod ending;
 mod feeder;

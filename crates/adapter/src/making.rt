@@ -5,6 +5,7 @@ ghost use Rattle.dmx_calls.specs.declared.limits.TheConstants.{DEMUX_NODES as no
 ghost use Rattle.adapter.specs.Rows.{AllDealt, AreFreshRows};
 ghost use Rattle.adapter.specs.Inside.Making.{AreLastFirst, AreFreshClients};
 
+use crate::boxed::Boxed;
 use crate::client::Client;
 use crate::passes::NodePasses;
 use dmx_calls::limits::DEMUX_NODES;
@@ -18,7 +19,10 @@ use std::alloc::{AllocError as NoMemory, Global};
 const CALLS: u64 = 1 << 40;
 
 // An empty row for each caller.
-pub(crate) fn empty_rows(alloc: Global, callers: u32) -> Result<Vec<Vec<Pass<NodeCore>>>, NoMemory>
+pub(crate) fn empty_rows(
+    alloc: Global,
+    callers: u32,
+) -> Result<Vec<Vec<Pass<Boxed<NodeCore>>>>, NoMemory>
     ensures { IfOk result (λ rows. AreFreshRows (λ r. r.items) callers [] rows.items) }
 {
     let mut rows = Vec::with_capacity(alloc, callers as usize)?;
@@ -44,15 +48,16 @@ fn deal<M: Machine>(rows: &mut [Vec<Pass<M>>], mut passes: Vec<Pass<M>>) -> Resu
 pub(crate) fn build(
     alloc: Global,
     callers: u32,
-    rows: &mut [Vec<Pass<NodeCore>>],
-) -> Result<Vec<NodeLock<NodeCore>>, NoMemory>
+    rows: &mut [Vec<Pass<Boxed<NodeCore>>>],
+) -> Result<Vec<NodeLock<Boxed<NodeCore>>>, NoMemory>
     requires callers { (1 ≤ callers) × (callers ≤ 64) }
     requires rows { AreFreshRows (λ r. r.items) callers [] rows.old }
     ensures { IfOk result (λ locks. (vec_len locks ≡ nodes) × AreFreshRows (λ r. r.items) callers locks.items rows.new) }
 {
     let mut locks = Vec::with_capacity(alloc, DEMUX_NODES as usize)?;
     'nodes: for node in 0..DEMUX_NODES {
-        let Ok((lock, passes)) = NodeLock::new(alloc, NodeCore::new(alloc, node), callers) else {
+        let core = Boxed::new(alloc, NodeCore::new(alloc, node))?;
+        let Ok((lock, passes)) = NodeLock::new(alloc, core, callers) else {
             return Err(NoMemory);
         };
         deal(rows, passes)?;
@@ -64,10 +69,10 @@ pub(crate) fn build(
 // The passes of each caller, those of the last caller first.
 pub(crate) fn with_dvr(
     alloc: Global,
-    demux: &Vec<NodeLock<NodeCore>>,
-    dvr: &NodeLock<DvrCore>,
-    mut rows: Vec<Vec<Pass<NodeCore>>>,
-    mut passes: Vec<Pass<DvrCore>>,
+    demux: &Vec<NodeLock<Boxed<NodeCore>>>,
+    dvr: &NodeLock<Boxed<DvrCore>>,
+    mut rows: Vec<Vec<Pass<Boxed<NodeCore>>>>,
+    mut passes: Vec<Pass<Boxed<DvrCore>>>,
 ) -> Result<Vec<NodePasses>, NoMemory>
     requires locks { vec_len demux.now ≡ nodes }
     requires rows { AreFreshRows (λ r. r.items) (vec_len passes) demux.now.items rows.items }
@@ -88,8 +93,8 @@ pub(crate) fn with_dvr(
 // The clients, in the order of their numbers, from the passes of all callers but the first.
 pub(crate) fn make_clients(
     alloc: Global,
-    demux: &Vec<NodeLock<NodeCore>>,
-    dvr: &NodeLock<DvrCore>,
+    demux: &Vec<NodeLock<Boxed<NodeCore>>>,
+    dvr: &NodeLock<Boxed<DvrCore>>,
     mut rest: Vec<NodePasses>,
 ) -> Result<Vec<Client>, NoMemory>
     requires few { vec_len rest ≤ 8 }

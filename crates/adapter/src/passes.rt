@@ -11,6 +11,7 @@ ghost use Rattle.adapter.specs.Rows.{Fits, MayCallAt, MayCall, OneCalls, OneMiss
 ghost use Rattle.adapter.specs.Nodes.{IsLegalAt};
 
 use crate::adapter::Adapter;
+use crate::boxed::Boxed;
 use crate::rows::{call_in, join_row, len_in, try_in};
 use dmx_calls::limits::{DEMUX_NODES, NODES};
 use dmx_calls::{Answer, Call, Input};
@@ -26,8 +27,8 @@ use ts_batch::Batch;
 // A pass of each node. Contracts see a list of passes, that of the dvr node last.
 #[derive(Drop)]
 pub(crate) struct NodePasses {
-    pub(crate) demux: Vec<Pass<NodeCore>>,
-    pub(crate) dvr: Pass<DvrCore>,
+    pub(crate) demux: Vec<Pass<Boxed<NodeCore>>>,
+    pub(crate) dvr: Pass<Boxed<DvrCore>>,
 }
 
 impl Model for NodePasses {

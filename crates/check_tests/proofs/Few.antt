@@ -1,12 +1,9 @@
 -- How many entries are left on some nodes.
-use Rattle.std.proofs.Common.{◌≡◌, ◌≤◌, ◌+◌, ◌∷◌, [], ℕ, suc, List, Bor, length, map, refl, ap, arith}
+use Rattle.std.proofs.Common.{◌≤◌, ◌+◌, ◌∷◌, [], ℕ, List, Bor, length, map, arith}
+use Rattle.std.proofs.lemmas.List.{length-map}
 use Rattle.dmx_calls.specs.declared.log.Entry.{Entry as ToldEntry}
 use Rattle.dmx_calls.specs.Calls.{told_entry}
 use Rattle.walk_check.specs.Inside.Steps.{left_on}
-
-told_long : (es : List ToldEntry) → length (map told_entry es) ≡ length es
-told_long [] = refl
-told_long (e ∷ es) = ap suc (told_long es)
 
 -- on no node there is none
 pub none_left : (most : ℕ) → left_on [] ≤ most
@@ -18,4 +15,4 @@ pub some_left : (most : ℕ) (h : Bor (List ToldEntry)) (hs : List (Bor (List To
     → length h.now + left_on (map (λ q. map told_entry q.now) hs) ≤ most
     → left_on (map (λ q. map told_entry q.now) (h ∷ hs)) ≤ most
 unfolding left_on
-some_left most h hs few = omega (arith, few, told_long h.now)
+some_left most h hs few = omega (arith, few, length-map h.now told_entry)

@@ -1,5 +1,6 @@
 // What the rows share, and the rows.
 
+mod checked;
 mod played;
 mod told;
 mod walked;

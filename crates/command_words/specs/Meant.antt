@@ -6,7 +6,7 @@ use Rattle.text_forms.specs.Words.{is_word}
 use Rattle.ts_packet.specs.declared.size.PacketSize.{PacketSize}
 use Rattle.ts_packet.specs.declared.size.PacketSize.TheVariants.{Of188, Of204}
 use Rattle.command_words.specs.declared.Command.{Command}
-use Rattle.command_words.specs.declared.Command.TheVariants.{Steps, Run, Make, SelfTest}
+use Rattle.command_words.specs.declared.Command.TheVariants.{Steps, Run, Make, SelfTest, Check}
 use Rattle.command_words.specs.declared.options.Options.{Options}
 
 -- ------ the options
@@ -108,6 +108,10 @@ self_test_of (word ∷ words) =
     (self_test_by (session_number (slice_index_or (word ∷ words) (length words) word))
     (options_of (take (length words) (word ∷ words))))
 
+-- `check`: the options, of which `--batch` is refused
+unfoldable pub check_of : List (List ℕ) → Option Command
+check_of words = option_and_then (λ o. if is_some o.batch then None else Some (Check (packet_of o))) (options_of words)
+
 -- the command of a first word and the words behind it
 unfoldable pub command_of : List ℕ → List (List ℕ) → Option Command
 command_of first rest =
@@ -115,7 +119,8 @@ command_of first rest =
     else (if is_word first (codes "run") then run_of rest
     else (if is_word first (codes "make") then make_of rest
     else (if is_word first (codes "selftest") then self_test_of rest
-    else None)))
+    else (if is_word first (codes "check") then check_of rest
+    else None))))
 
 -- the command of the words behind the program's name; None where they are refused
 unfoldable pub meant : List (List ℕ) → Option Command
@@ -128,3 +133,4 @@ IsInRange (Steps batch packet) = (1 ≤ batch) × (batch ≤ 64)
 IsInRange (Run batch packet) = (1 ≤ batch) × (batch ≤ 64)
 IsInRange (Make number) = ⊤
 IsInRange (SelfTest number batch) = (1 ≤ batch) × (batch ≤ 64)
+IsInRange (Check packet) = ⊤

@@ -1,6 +1,6 @@
 // The words behind the first, command by command.
 ghost use Rattle.std.specs.Prelude.{◌≡◌, ◌≤◌, IfOk, IfSome, map, string_bytes};
-ghost use Rattle.command_words.specs.Meant.{IsInRange, make_of, options_of, run_of, self_test_by, self_test_of, session_number as number_of_word, steps_of};
+ghost use Rattle.command_words.specs.Meant.{IsInRange, check_of, make_of, options_of, run_of, self_test_by, self_test_of, session_number as number_of_word, steps_of};
 
 use crate::Command;
 use crate::options::options_in;
@@ -97,4 +97,18 @@ pub fn self_test(alloc: Global, rest: &[String]) -> Result<Option<Command>, NoMe
         return self_test_with(alloc, word, option);
     }
     Ok(None)
+}
+
+/// Behind `check`.
+#[tactic(auto, unfolding(crate::specs::Meant::check_of))]
+pub fn check(alloc: Global, rest: &[String]) -> Result<Option<Command>, NoMemory>
+    ensures value { IfOk result (λ command. command ≡ check_of (map string_bytes rest.now)) }
+    ensures range { IfOk result (λ command. IfSome command IsInRange) }
+{
+    match options_in(alloc, rest)? {
+        Some(options) if options.batch.is_none() => Ok(Some(Command::Check {
+            packet: options.packet(),
+        })),
+        _ => Ok(None),
+    }
 }

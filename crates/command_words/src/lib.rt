@@ -1,10 +1,11 @@
 //! The words of the command line: which command they name.
 //!
 //! `steps` or `run` stands alone, or before one or both of the options `--batch` with B and `--packet` with P, in either order.
-//! An option is two words, as `--batch` and B, or one, as `--batch=B`. `make` stands before a number N alone. `selftest` stands
-//! before N, alone or with the option `--batch` before or behind N. B is a number from 1 to 64, P is 188 or 204, and N is a
-//! number from 0 to 18446744073709551615, in decimal digits, without sign and without a leading zero; without `--batch` B is
-//! 64, and without `--packet` P is 188. A repeated option, the word `--`, `--help`, `-h` and all other words are refused.
+//! `check` stands alone or before the option `--packet`. An option is two words, as `--batch` and B, or one, as `--batch=B`.
+//! `make` stands before a number N alone. `selftest` stands before N, alone or with the option `--batch` before or behind N. B is
+//! a number from 1 to 64, P is 188 or 204, and N is a number from 0 to 18446744073709551615, in decimal digits, without sign and
+//! without a leading zero; without `--batch` B is 64, and without `--packet` P is 188. A repeated option, the word `--`,
+//! `--help`, `-h` and all other words are refused.
 //!
 //! What a contract sees: the words as lists of bytes. `meant` in specs/Meant.antt says which command they name, by plain
 //! cases, and knows nothing of a parser.
@@ -25,7 +26,7 @@ ghost use Rattle.command_words.specs.Meant.{IsInRange, command_of, meant};
 mod behind;
 mod options;
 
-use behind::{make, run, self_test, steps};
+use behind::{check, make, run, self_test, steps};
 use std::alloc::{AllocError as NoMemory, Global};
 use text_forms::is_word;
 use ts_packet::PacketSize;
@@ -42,6 +43,8 @@ pub enum Command {
     Make { number: u64 },
     /// The sums of the run of a number's session, step by step in one thread, in batches of so many packets, 1 to 64.
     SelfTest { number: u64, batch: u32 },
+    /// Whether a report is one of a session whose stream has packets that take up so many bytes each.
+    Check { packet: PacketSize },
 }
 
 // The command of a first word and the words behind it.
@@ -61,6 +64,9 @@ fn command_by(alloc: Global, first: &[u8], rest: &[String]) -> Result<Option<Com
     }
     if is_word(first, "selftest") {
         return self_test(alloc, rest);
+    }
+    if is_word(first, "check") {
+        return check(alloc, rest);
     }
     Ok(None)
 }

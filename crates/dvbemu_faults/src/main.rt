@@ -29,5 +29,5 @@ fn main(rt: HostRuntime) -> ExitCode {
         &clock,
         &NoGate::new(),
     );
-    tell(&rt, status, source.kept())
+    tell(&rt, &words, status, source.kept())
 }

@@ -1,9 +1,9 @@
 -- What a status says, and that the input determines it.
-use Rattle.std.proofs.Common.{◌≡◌, ◌<◌, ◌≤◌, ◌+◌, ◌-◌, ◌*◌, ◌^◌, ◌⊎◌, refl, sym, ap, subst, ◌∙◌, ℕ, Bool, List, [], ◌∷◌, ◌++◌, length, take, drop, append_assoc, arith, length-append, inl, inr}
+use Rattle.std.proofs.Common.{◌≡◌, ◌<◌, ◌≤◌, ◌+◌, ◌-◌, ◌*◌, ◌^◌, ◌⊎◌, refl, sym, ap, subst, ◌∙◌, ℕ, Bool, true, false, List, [], ◌∷◌, ◌++◌, length, map, take, drop, append_assoc, arith, length-append, inl, inr}
 use Rattle.std.proofs.lemmas.List.{take-append-drop, length-drop, length-take}
-use Rattle.std.specs.Prelude.{Option, Some, None, IfSome, Ok, Err}
-use Rattle.std.specs.Io.KnownBytes.{Consumes, Keeps}
-use Rattle.emu_io.specs.Causes.{Rose}
+use Rattle.std.specs.Prelude.{Option, Some, None, IfSome, Result, Ok, Err, IfOk, IfErr}
+use Rattle.std.specs.Io.KnownBytes.{Appends, Consumes, Keeps}
+use Rattle.emu_io.specs.Causes.{raised, Rose}
 use Rattle.emu_io.specs.Ends.{SourceEnd, SinkEnd}
 use Rattle.client_script.specs.declared.line.Line.{Line}
 use Rattle.client_script.specs.declared.line.Line.TheVariants.{Feed, Tick, Command as CommandLine}
@@ -11,13 +11,19 @@ use Rattle.client_script.specs.Script.{split, parted, grammar, most_bytes, scrip
 use Rattle.client_script.proofs.Splitting.{split-found}
 use Rattle.script_run.specs.Budget.{most_calls, all_commands}
 use Rattle.command_words.specs.declared.Command.{Command}
-use Rattle.command_words.specs.declared.Command.TheVariants.{Steps, Run, Make, SelfTest}
+use Rattle.command_words.specs.declared.Command.TheVariants.{Steps, Run, Make, SelfTest, Check}
 use Rattle.command_words.specs.Meant.{meant}
 use Rattle.ts_make.specs.Made.{made}
+use Rattle.dmx_calls.specs.declared.outcome.Outcome.{Outcome}
+use Rattle.ts_watch.specs.Head.{told_head}
+use Rattle.serial_core.specs.declared.run.Left.{Left}
+use Rattle.report_text.specs.Report.{report_of}
+use Rattle.report_text.specs.Inside.Pieces.{AddsPart}
 use Rattle.emu_top.specs.Session.{Output, IsSerialOutput, IsThreadOutput, IsSums, Makes, Refuses}
-use Rattle.emu_top.specs.Serves.{Outside, outside, NoWriteFails, HasWritten, Says, Determines, Does, Tells, Gives, Obeys, Serves}
+use Rattle.emu_top.specs.Inside.Reporting.{report_over, HasReported}
+use Rattle.emu_top.specs.Serves.{Answers, Outside, outside, NoWriteFails, HasWritten, Says, Determines, Does, Tells, Gives, Obeys, Serves}
 use Rattle.emu_top.specs.declared.status.Status.{Status}
-use Rattle.emu_top.specs.declared.status.Status.TheVariants.{Usage, Script, TooLong, ReadFault, WriteFault, NoMemory, Ok as Done}
+use Rattle.emu_top.specs.declared.status.Status.TheVariants.{Usage, Script, TooLong, ReadFault, WriteFault, NoMemory, Ok as Done, Wrong}
 
 pub keeps : (w : Option (List ℕ)) → Keeps w w
 keeps None = tt
@@ -33,6 +39,7 @@ says_refused out x y w ReadFault r = (refl, inr (r, keeps w.written))
 says_refused out x y w WriteFault r = absurd r
 says_refused out x y w NoMemory r = (keeps w.written, refl)
 says_refused out x y w Done r = absurd r
+says_refused out x y w (Wrong fault) r = absurd r
 
 -- ------ a status with output
 
@@ -47,6 +54,52 @@ says_written out x y w v failed text WriteFault m (count, part, written, rose) =
 says_written out x y w v failed text NoMemory m h = absurd h
 says_written out x y w v failed text Done m (is, written, steady) =
     record { text = text; made = subst (λ b. Makes out x y b text) is m; whole = record { written = written; writes = steady } }
+says_written out x y w v failed text (Wrong fault) m h = absurd h
+
+-- ------ what a report that is written says of the sink
+
+module _ (left : Left) (became : List (List Outcome)) (same : became ≡ map (λ those. those.items) left.outcomes.items) (w v : SinkEnd) where
+  over : report_of (told_head left.head) became left.histories ≡ report_over left
+  over = ap (λ b. report_of (told_head left.head) b left.histories) same
+
+  pub whole_done : left.head.read_fault ≡ false → Appends w.written v.written (report_of (told_head left.head) became left.histories) → v.faults ≡ w.faults
+      → HasReported left w v Done
+  whole_done sound whole steady = (sound, subst (Appends w.written v.written) over whole, steady)
+
+  pub whole_read_fault : left.head.read_fault ≡ true → Appends w.written v.written (report_of (told_head left.head) became left.histories) → v.faults ≡ w.faults
+      → HasReported left w v ReadFault
+  whole_read_fault failed whole steady = (failed, subst (Appends w.written v.written) over whole, steady)
+
+  pub part_failed : AddsPart w.written v.written [] (report_of (told_head left.head) became left.histories) → v.faults ≡ raised w.faults → HasReported left w v WriteFault
+  part_failed p rose =
+      let part : AddsPart w.written v.written [] (report_over left) = subst (AddsPart w.written v.written []) over p in
+      (part.count, part.part, part.written, subst (λ n. raised w.faults ≤ n) (sym rose) (omega arith))
+
+says_reported : (out : Output) (x y : SourceEnd) (w v : SinkEnd) (left : Left) (status : Status)
+    → Makes out x y left.head.read_fault (report_over left) → HasReported left w v status → Says out (outside x w) (outside y v) status
+says_reported out x y w v left Usage m h = absurd h
+says_reported out x y w v left (Script line kind) m h = absurd h
+says_reported out x y w v left (TooLong turns) m h = absurd h
+says_reported out x y w v left ReadFault m h = says_written out x y w v left.head.read_fault (report_over left) ReadFault m h
+says_reported out x y w v left WriteFault m h = says_written out x y w v left.head.read_fault (report_over left) WriteFault m h
+says_reported out x y w v left NoMemory m h = h
+says_reported out x y w v left Done m h = says_written out x y w v left.head.read_fault (report_over left) Done m h
+says_reported out x y w v left (Wrong fault) m h = absurd h
+
+-- ------ a status, with output or without
+
+pub says_ended : (out : Output) (x y : SourceEnd) (w v : SinkEnd) (left : Result Left Status) (status : Status)
+    → IfOk left (λ left. Makes out x y left.head.read_fault (report_over left)) → IfErr left (λ why. Refuses x y why)
+    → IfOk left (λ left. HasReported left w v status) → IfErr left (λ why. (status ≡ why) × (v ≡ w))
+    → Says out (outside x w) (outside y v) status
+says_ended out x y w v (Ok left) status made refused written kept = says_reported out x y w v left status made written
+says_ended out x y w v (Err why) status made refused written kept = rw (kept.0, kept.1) (says_refused out x y w why refused)
+
+-- a sink that is as it was tells what it told
+pub kept_end : {K T : Type 0} (end : K → SinkEnd) (old new : K) (status : Status) (left : Result T Status) → IfErr left (λ why. (status ≡ why) × (new ≡ old))
+    → IfErr left (λ why. (status ≡ why) × (end new ≡ end old))
+kept_end end old new status (Ok left) kept = tt
+kept_end end old new status (Err why) kept = (kept.0, ap end kept.1)
 
 -- ------ what the bytes taken say of the whole input
 
@@ -121,6 +174,7 @@ determined out input x y w v Done has fr fw nr nw says =
     let t = by_taken input y.left m.bytes (subst (λ c. Consumes c y.left m.bytes) has m.taken) in
     let ok = script_of_all input m.bytes t.0 m.stream m.lines t.1 m.session.script m.session.behind in
     inr (rw ok (λ short. refl))
+determined out input x y w v (Wrong fault) has fr fw nr nw says = absurd says
 
 settled_by : (out : Output) (content : Option (List ℕ)) (x y : SourceEnd) (w v : SinkEnd) (status : Status) → x.left ≡ content → x.faults < 2 ^ 64 - 1 → w.faults < 2 ^ 64 - 1
     → y.faults ≡ x.faults → v.faults ≡ w.faults → Says out (outside x w) (outside y v) status
@@ -152,6 +206,7 @@ settled_told IsText before after ReadFault fw says nw = absurd says
 settled_told IsText before after WriteFault fw (text, is, front) nw = absurd (steady before.sink.faults fw (subst (λ n. Rose before.sink.faults n) nw front.rose))
 settled_told IsText before after NoMemory fw says nw = inl refl
 settled_told IsText before after Done fw says nw = inr refl
+settled_told IsText before after (Wrong fault) fw says nw = absurd says
 
 pub gives : (IsText : List ℕ → Type 0) (x : SourceEnd) (w v : SinkEnd) (status : Status) → w.faults < 2 ^ 64 - 1
     → Tells IsText (outside x w) (outside x v) status → Gives IsText (outside x w) (outside x v) status
@@ -170,6 +225,7 @@ told_as IsText text before after ReadFault is says = absurd says
 told_as IsText text before after WriteFault is (whole, e, front) = (whole, subst IsText (sym e) is, front)
 told_as IsText text before after NoMemory is says = says
 told_as IsText text before after Done is (whole, e, all) = (whole, subst IsText (sym e) is, all)
+told_as IsText text before after (Wrong fault) is says = absurd says
 
 -- ------ the whole
 
@@ -178,6 +234,7 @@ not_usage (Steps batch) may before after status d is = never_usage (IsSerialOutp
 not_usage (Run batch) may before after status d is = never_usage (IsThreadOutput batch may) before after status d.says is
 not_usage (Make number) may before after status d is = never_usage_told (λ text. text ≡ made number) before after status d.says is
 not_usage (SelfTest number batch) may before after status d is = never_usage_told (IsSums number batch) before after status d.says is
+not_usage Check may before after status d is = let says : Answers before after Usage = subst (λ s. Answers before after s) is d.says in says.0
 
 same_command : (c other : Command) (m : Option Command) → m ≡ Some c → m ≡ Some other → c ≡ other
 same_command c other m a b = cc
@@ -219,6 +276,7 @@ unread (Steps batch) may at = undone (IsSerialOutput batch) at
 unread (Run batch) may at = undone (IsThreadOutput batch may) at
 unread (Make number) may at = unmade (λ text. text ≡ made number) at
 unread (SelfTest number batch) may at = unmade (IsSums number batch) at
+unread Check may at = record { says = (tt, (keeps at.sink.written, refl)); settled = λ nr nw. says_if at.source.left _ (λ input. inl refl) }
 
 pub serves_unread : (words : List (List ℕ)) (may : ℕ → Bool) (at : Outside) → Serves words may at at NoMemory
 serves_unread words may at = record {

@@ -1,5 +1,10 @@
 pub mod Fronts
 pub mod Outputs
 pub mod Answering
+pub mod Asks
+pub mod Judging
+pub mod Rows
 pub mod Numbers
 pub mod Threading
+pub mod Whole
+pub mod Written

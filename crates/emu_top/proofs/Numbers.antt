@@ -27,7 +27,7 @@ use Rattle.ts_make.specs.Made.{made, packets, packet_at, payload, carrying, sect
 use Rattle.ts_make.specs.Script.{script}
 use Rattle.emu_top.specs.Session.{Runs, Refuses, ReadsTo, IsSession, IsSums}
 use Rattle.emu_top.specs.declared.status.Status.{Status}
-use Rattle.emu_top.specs.declared.status.Status.TheVariants.{Usage, Script, TooLong, ReadFault, WriteFault, NoMemory, Ok as Done}
+use Rattle.emu_top.specs.declared.status.Status.TheVariants.{Usage, Script, TooLong, ReadFault, WriteFault, NoMemory, Ok as Done, Wrong}
 use Rattle.emu_top.proofs.Answering.{by_taken, not_too_long, split_more, steady}
 
 -- ------ its script
@@ -119,6 +119,7 @@ refused number left ReadFault r = absurd (steady 0 (omega arith) r.rose)
 refused number left WriteFault r = absurd r
 refused number left NoMemory r = refl
 refused number left Done r = absurd r
+refused number left (Wrong fault) r = absurd r
 
 read_whole : (input : List ℕ) (left : Option (List ℕ)) (bytes : List ℕ) → Consumes (Some input) left bytes → IsAtEnd left → input ≡ bytes
 read_whole input None bytes con end = absurd con

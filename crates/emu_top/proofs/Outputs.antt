@@ -7,8 +7,6 @@ use Rattle.std.specs.Io.KnownBytes.{Consumes, IsAtEnd}
 use Rattle.emu_io.specs.Causes.{raised, Rose}
 use Rattle.emu_io.specs.Ends.{SourceEnd}
 use Rattle.ts_packet.specs.Cut.{cut}
-use Rattle.dmx_calls.specs.declared.outcome.Outcome.{Outcome}
-use Rattle.ts_watch.specs.Head.{told_head}
 use Rattle.client_script.specs.declared.line.Line.{Line}
 use Rattle.client_script.specs.declared.fault.ScriptFault.{ScriptFault}
 use Rattle.client_script.specs.Script.{split, grammar, most_bytes, script_len, whole_lines}
@@ -22,11 +20,11 @@ use Rattle.feed_pull.specs.Streams.{OfStream}
 use Rattle.serial_core.specs.declared.run.Left.{Left}
 use Rattle.serial_core.specs.Left.{IsLeftBy}
 use Rattle.serial_core.proofs.Runs.{are_runs}
-use Rattle.report_text.specs.Report.{report_of}
 use Rattle.emu_top.specs.Inside.Part.{IsUnended}
+use Rattle.emu_top.specs.Inside.Reporting.{report_over}
 use Rattle.emu_top.specs.Session.{Output, IsSession, IsSerialOutput, Holds, IsFaultIn, Takes, Makes, Runs, FailsEarly, Refuses, ReadsTo, status_of_stop}
 use Rattle.emu_top.specs.declared.status.Status.{Status}
-use Rattle.emu_top.specs.declared.status.Status.TheVariants.{Usage, Script, TooLong, ReadFault, WriteFault, NoMemory, Ok as Done}
+use Rattle.emu_top.specs.declared.status.Status.TheVariants.{Usage, Script, TooLong, ReadFault, WriteFault, NoMemory, Ok as Done, Wrong}
 
 -- ------ the output
 
@@ -76,10 +74,8 @@ run_of batch lines puller x y z first ran one takes h of rose later end =
     }
 
 -- its report
-pub reported : (batch : ℕ) (x y : SourceEnd) (ran : Left) (became : List (List Outcome)) (failed : Bool) (text : List ℕ) → Runs batch x y ran
-    → failed ≡ ran.head.read_fault → became ≡ map (λ o. o.items) ran.outcomes.items → text ≡ report_of (told_head ran.head) became ran.histories
-    → Makes (IsSerialOutput batch) x y failed text
-reported batch x y ran became failed text r fault same e = rw fault record {
+pub reported : (batch : ℕ) (x y : SourceEnd) (ran : Left) → Runs batch x y ran → Makes (IsSerialOutput batch) x y ran.head.read_fault (report_over ran)
+reported batch x y ran r = record {
   bytes = r.bytes;
   lines = r.lines;
   stream = r.stream;
@@ -89,7 +85,7 @@ reported batch x y ran became failed text r fault same e = rw fault record {
   output = record {
     run = r.run;
     ran = r.ran;
-    report = rw (← r.head, ← r.outcomes, ← r.histories, ← same) e;
+    report = rw (← r.head, ← r.outcomes, ← r.histories) refl;
   };
 }
 
@@ -172,3 +168,4 @@ refused_by x y part (TooLong turns) few takes end e = absurd e
 refused_by x y part ReadFault few takes end e = absurd e
 refused_by x y part WriteFault few takes end e = absurd e
 refused_by x y part Done few takes end e = absurd e
+refused_by x y part (Wrong fault) few takes end e = absurd e

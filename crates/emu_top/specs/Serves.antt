@@ -7,12 +7,13 @@ use Rattle.client_script.specs.declared.line.Line.{Line}
 use Rattle.client_script.specs.declared.fault.ScriptFault.{ScriptFault}
 use Rattle.client_script.specs.Script.{split, grammar}
 use Rattle.command_words.specs.declared.Command.{Command}
-use Rattle.command_words.specs.declared.Command.TheVariants.{Steps, Run, Make, SelfTest}
+use Rattle.command_words.specs.declared.Command.TheVariants.{Steps, Run, Make, SelfTest, Check}
 use Rattle.command_words.specs.Meant.{meant}
 use Rattle.ts_make.specs.Made.{made}
 use Rattle.emu_top.specs.Session.{Output, IsSerialOutput, IsThreadOutput, IsSums, Makes, GivesUp, HasFault, FailsEarly}
+use Rattle.emu_top.specs.Checking.{Declines, Judges, SettlesAnswer, answer_text, asked, lines_asked}
 use Rattle.emu_top.specs.declared.status.Status.{Status}
-use Rattle.emu_top.specs.declared.status.Status.TheVariants.{Usage, Script, TooLong, ReadFault, WriteFault, NoMemory, Ok as Done}
+use Rattle.emu_top.specs.declared.status.Status.TheVariants.{Usage, Script, TooLong, ReadFault, WriteFault, NoMemory, Ok as Done, Wrong}
 
 -- What a source and a sink tell at one moment.
 pub record Outside : Type 0 where
@@ -99,6 +100,7 @@ Says output before after ReadFault = HasReadFault output before after
 Says output before after WriteFault = HasWriteFault output before after
 Says output before after NoMemory = WritesNothing before after
 Says output before after Done = IsDone output before after
+Says output before after (Wrong fault) = ⊥
 
 -- The answer that an input determines where no read and no write fails: its script's fault, or for less than
 -- 4,294,967,296 bytes that all is well.
@@ -129,16 +131,46 @@ pub record Gives (IsText : List ℕ → Type 0) (before after : Outside) (status
   pub says : Tells IsText before after status
   pub settled : NoWriteFails before after → (status ≡ NoMemory) ⊎ (status ≡ Done)
 
+-- ------ `check`: an answer
+
+-- the answer was written whole
+pub record IsAnswered (right : Bool) (before after : Outside) : Type 0 where
+  pub judged : Judges right before.source after.source
+  pub whole : WritesWhole before after (answer_text right)
+
+-- A write failed. A part of the answer was written, from its front on.
+pub record HasAnswerFault (before after : Outside) : Type 0 where
+  pub right : Bool
+  pub judged : Judges right before.source after.source
+  pub front : WritesFront before after (answer_text right)
+
+-- What a status says of a report and a session. The report is that of a run of the session at `Ok`, and isn't at `Wrong`, where
+-- nothing is said of the fault's line and kind.
+abbrev pub Answers : Outside → Outside → Status → Type 0
+Answers before after Done = IsAnswered true before after
+Answers before after (Wrong fault) = IsAnswered false before after
+Answers before after WriteFault = HasAnswerFault before after
+Answers before after status = Declines before.source after.source status × WritesNothing before after
+
+-- What the program does with a report and a session: the status says what was read and written. Where no read and no write
+-- fails, it is one that the input determines, or memory was refused.
+pub record Checks (before after : Outside) (status : Status) : Type 0 where
+  pub says : Answers before after status
+  pub settled : NoReadFails before after → NoWriteFails before after
+      → IfSome before.source.left (λ input. (status ≡ NoMemory) ⊎ SettlesAnswer (lines_asked (asked input)) input status)
+
 -- ------ the whole
 
 -- What the program does by a command, where the clock may give these numbers. `steps` and `run` read a session and
 -- write the report of its run, on one thread or by threads. `make` writes the session of its number, and `selftest` the
--- line of sums over the serial run of that session; both read nothing.
+-- line of sums over the serial run of that session; both read nothing. `check` reads a report and a session, and writes
+-- whether the report is that of a run of the session.
 abbrev pub Obeys : Command → (may : ℕ → Bool) → Outside → Outside → Status → Type 0
 Obeys (Steps batch) may before after status = Does (IsSerialOutput batch) before after status
 Obeys (Run batch) may before after status = Does (IsThreadOutput batch may) before after status
 Obeys (Make number) may before after status = Gives (λ text. text ≡ made number) before after status
 Obeys (SelfTest number batch) may before after status = Gives (IsSums number batch) before after status
+Obeys Check may before after status = Checks before after status
 
 -- what the program does by the words of its command line
 pub record Serves (words : List (List ℕ)) (may : ℕ → Bool) (before after : Outside) (status : Status) : Type 0 where

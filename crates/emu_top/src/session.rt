@@ -1,37 +1,24 @@
-// The output for a session.
-ghost use Rattle.std.specs.Prelude.{◌≡◌, ℕ, ◌+◌, ◌-◌, ◌^◌, ◌<◌, ◌≤◌, List, length, map, IfOk, IfErr, IfSome};
+// A session and its run on one thread.
+ghost use Rattle.std.specs.Prelude.{◌≡◌, ℕ, ◌+◌, ◌-◌, ◌^◌, ◌<◌, ◌≤◌, List, length, IfOk, IfErr, IfSome, IsErrOf};
 ghost use Rattle.client_script.specs.Script.{script_len, whole_lines, most_bytes};
-ghost use Rattle.ts_watch.specs.Head.{told_head};
-ghost use Rattle.report_text.specs.Report.{report_of};
 ghost use Rattle.emu_io.specs.Ends.{SourceEnd};
 ghost use Rattle.feed_pull.specs.declared.fault.Reading.TheVariants.{Going};
-ghost use Rattle.emu_top.specs.Session.{Holds, IsFaultIn, IsSerialOutput, Makes, Refuses, Runs, Takes, status_of_error, status_of_stop};
+ghost use Rattle.emu_top.specs.Session.{Holds, IsFaultIn, Refuses, Runs, Takes, status_of_error, status_of_stop};
 
 use crate::Status;
 use crate::part::{Front, PartError, read_front};
 use client_core::Stop;
 use client_script::{Script, ScriptError};
-use dmx_calls::{Histories, Outcome};
 use emu_io::Source;
 use feed_pull::Puller;
-use report_text::report;
 use serial_core::{Left, run_steps};
 use std::alloc::Global;
-use ts_watch::Head;
 
 /// A script, and the stream behind it.
 #[derive(Drop)]
 pub struct Session {
     pub script: Script,
     pub puller: Puller,
-}
-
-/// What is to be written for a session.
-#[derive(Drop)]
-pub struct Output {
-    pub text: Vec<u8>,
-    /// Reading failed in the stream.
-    pub read_fault: bool,
 }
 
 // The status of a script that isn't read.
@@ -87,6 +74,7 @@ pub fn read_session<S: Source>(alloc: Global, source: &mut S) -> Result<Session,
     ensures going { IfOk result (λ session. (session.puller.reading ≡ Going) × (session.puller.given ≡ 0)) }
     ensures steady { IfOk result (λ session. (S.end source.new).faults ≡ (S.end source.old).faults) }
     ensures refuses { IfErr result (λ status. Refuses (S.end source.old) (S.end source.new) status) }
+    ensures not_too_long { (turns : ℕ) → IsErrOf result (Status.TooLong turns) → ⊥ }
     ensures once { (S.end source.new).faults ≤ (S.end source.old).faults + 1 }
 {
     match read_front(alloc, source) {
@@ -132,41 +120,6 @@ pub fn ran_of<S: Source>(alloc: Global, source: &mut S, batch: u32) -> Result<Le
 {
     match read_session(alloc, source) {
         Ok(session) => run_session(alloc, source, session, batch),
-        Err(status) => Err(status),
-    }
-}
-
-/// The report of a run.
-pub fn reported(
-    alloc: Global,
-    head: &Head,
-    outcomes: &[Vec<Outcome>],
-    histories: &Histories,
-) -> Result<Output, Status>
-    ensures told { IfOk result (λ output. (output.read_fault ≡ head.now.read_fault)
-        × (output.text.items ≡ report_of (told_head head.now) (map (λ those. those.items) outcomes.now) histories.now)) }
-    ensures memory { IfErr result (λ status. status ≡ Status.NoMemory) }
-{
-    match report(alloc, head, outcomes, histories) {
-        Ok(text) => Ok(Output {
-            text,
-            read_fault: head.read_fault,
-        }),
-        Err(_) => Err(Status::NoMemory),
-    }
-}
-
-/// What is to be written for the session of a source on one thread, in batches of this size.
-pub fn output_of<S: Source>(alloc: Global, source: &mut S, batch: u32) -> Result<Output, Status>
-    requires some { 1 ≤ batch }
-    requires few { batch ≤ 64 }
-    requires faults { (S.end source.old).faults < 2 ^ 64 - 1 }
-    ensures makes { IfOk result (λ output. Makes (IsSerialOutput batch) (S.end source.old) (S.end source.new) output.read_fault output.text.items) }
-    ensures refuses { IfErr result (λ status. Refuses (S.end source.old) (S.end source.new) status) }
-    ensures once { (S.end source.new).faults ≤ (S.end source.old).faults + 1 }
-{
-    match ran_of(alloc, source, batch) {
-        Ok(ran) => reported(alloc, &ran.head, &ran.outcomes, &ran.histories),
         Err(status) => Err(status),
     }
 }

@@ -1,19 +1,21 @@
-// The output for a session that threads run.
+// The run of a session by threads.
 ghost use Rattle.std.specs.Prelude.{◌≡◌, ℕ, ◌+◌, ◌-◌, ◌^◌, ◌<◌, ◌≤◌, List, IfOk, IfErr};
 ghost use Rattle.emu_io.specs.Ends.{SourceEnd};
 ghost use Rattle.feed_pull.specs.declared.fault.Reading.TheVariants.{Going};
 ghost use Rattle.emu_top.specs.Session.{Holds, IsThreadOutput, Makes, Refuses, Takes};
+ghost use Rattle.emu_top.specs.Inside.Reporting.{report_over};
 
 use crate::Status;
-use crate::session::{Output, Session, read_session, reported, status_of_run};
+use crate::session::{Session, read_session, status_of_run};
 use adapter::Adapter;
 use emu_io::{Clock, Gate, Source};
+use serial_core::Left;
 use std::alloc::Global;
 use std::sync::Wait;
 use std::thread::Threads;
-use workers::{Left, histories_of_run, work};
+use workers::{histories_of_run, work};
 
-// What is to be written for a session that is begun: a thread passes its stream, and each client has a thread of its own.
+// Runs a session that is begun: a thread passes its stream, and each client has a thread of its own.
 fn run_threads<R: Threads + Wait + Sync, S: Source + Send, C: Clock + Sync, G: Gate + Sync>(
     rt: &R,
     alloc: Global,
@@ -22,14 +24,14 @@ fn run_threads<R: Threads + Wait + Sync, S: Source + Send, C: Clock + Sync, G: G
     batch: u32,
     clock: &C,
     gate: &G,
-) -> Result<Output, Status>
+) -> Result<Left, Status>
     requires some { 1 ≤ batch }
     requires few { batch ≤ 64 }
     requires going { session.puller.reading ≡ Going }
     requires fresh { session.puller.given ≡ 0 }
     requires faults { (S.end source.old).faults < 2 ^ 64 - 1 }
-    ensures makes { IfOk result (λ output. (begun : SourceEnd) (first : List ℕ) → Takes begun (S.end source.old) first → Holds first session.script session.puller
-        → Makes (IsThreadOutput batch (C.may_give clock.now)) begun (S.end source.new) output.read_fault output.text.items) }
+    ensures makes { IfOk result (λ left. (begun : SourceEnd) (first : List ℕ) → Takes begun (S.end source.old) first → Holds first session.script session.puller
+        → Makes (IsThreadOutput batch (C.may_give clock.now)) begun (S.end source.new) left.head.read_fault (report_over left)) }
     ensures refuses { IfErr result (λ status. (begun : SourceEnd) (first : List ℕ) → Takes begun (S.end source.old) first → Holds first session.script session.puller
         → Refuses begun (S.end source.new) status) }
     ensures once { (S.end source.new).faults ≤ (S.end source.old).faults + 1 }
@@ -44,7 +46,7 @@ fn run_threads<R: Threads + Wait + Sync, S: Source + Send, C: Clock + Sync, G: G
         Ok(left) => left,
         Err(stop) => return Err(status_of_run(stop)),
     };
-    let Left {
+    let workers::Left {
         feeding,
         logs,
         outcomes,
@@ -53,22 +55,28 @@ fn run_threads<R: Threads + Wait + Sync, S: Source + Send, C: Clock + Sync, G: G
         clients,
     } = left;
     match histories_of_run(alloc, adapter, feeder, clients, feeding, logs) {
-        Ok(histories) => reported(alloc, &head, &outcomes, &histories),
+        Ok(histories) => Ok(Left {
+            histories,
+            outcomes,
+            head,
+        }),
         Err(_) => Err(Status::NoMemory),
     }
 }
 
-/// What is to be written for the session of a source that threads run, in batches of this size.
-pub fn output_of_threads<
-    R: Threads + Wait + Sync,
-    S: Source + Send,
-    C: Clock + Sync,
-    G: Gate + Sync,
->(rt: &R, alloc: Global, source: &mut S, batch: u32, clock: &C, gate: &G) -> Result<Output, Status>
+/// Reads the session of a source and runs it by threads, in batches of this size.
+pub fn left_by_threads<R: Threads + Wait + Sync, S: Source + Send, C: Clock + Sync, G: Gate + Sync>(
+    rt: &R,
+    alloc: Global,
+    source: &mut S,
+    batch: u32,
+    clock: &C,
+    gate: &G,
+) -> Result<Left, Status>
     requires some { 1 ≤ batch }
     requires few { batch ≤ 64 }
     requires faults { (S.end source.old).faults < 2 ^ 64 - 1 }
-    ensures makes { IfOk result (λ output. Makes (IsThreadOutput batch (C.may_give clock.now)) (S.end source.old) (S.end source.new) output.read_fault output.text.items) }
+    ensures makes { IfOk result (λ left. Makes (IsThreadOutput batch (C.may_give clock.now)) (S.end source.old) (S.end source.new) left.head.read_fault (report_over left)) }
     ensures refuses { IfErr result (λ status. Refuses (S.end source.old) (S.end source.new) status) }
     ensures once { (S.end source.new).faults ≤ (S.end source.old).faults + 1 }
 {

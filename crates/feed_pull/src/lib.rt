@@ -10,20 +10,19 @@
 //! What a contract sees: how many bytes a packet takes up, where the cutting stands, the packets that wait and how many there is room for, the unread bytes of
 //! the last read, how many packets were given, how many bytes and reads were taken, and how reading goes. `Pulls` says what
 //! that stands for: the bytes ahead, the bytes that the pulls took, and the packets that they gave; its watch was shown these
-//! and those that wait. `new` begins it with no
-//! bytes and no packets.
+//! and those that wait. `new` begins it with no bytes and no packets.
 //!
 //! What is proved: each pull keeps `Pulls`, where the bytes taken grow by just those that the source gave, and the packets
-//! given by those of the batch. So the batches joined are the front of the packets of the stream's cutting, each batch's first
-//! number is the number of packets before it, and at None they are all of them, the tally is that of the cutting, the watch was
-//! shown just these packets, and `head` is the head of the stream. After want of memory nothing that was taken is lost. Else
-//! no packet waits after a pull, unless more waited before than were asked for. None
-//! without a fault comes only where the source had nothing left when reading stopped; `ReadFault` exactly from a pull on in
-//! which the source's count rose; `TooLong` only where 4,294,967,296 reads were made, as the bytes taken show. Once reading has
-//! stopped no source is read, so at most one read fails. The pulls take at most 2^48 bytes, and the packets given have no more
-//! bytes than the stream, also where the source doesn't tell its content. Behind the last packet of a batch that is as large as
-//! was asked for stand at most 65,535 of the bytes taken. This holds but for one case: a pull that was refused memory had asked
-//! for more packets, and so had read further.
+//! given by those of the batch. So the batches joined are the front of the packets of the stream's cutting, each batch's
+//! first number is the number of packets before it, and at None they are all of them, the tally is that of the cutting, the
+//! watch was shown just these packets, and `head` is the head of the stream. After want of memory nothing that was taken is
+//! lost. Else no packet waits after a pull, unless more waited before than were asked for. None without a fault comes only
+//! where the source had nothing left when reading stopped; `ReadFault` exactly from a pull on in which the source's count
+//! rose; `TooLong` only where 4,294,967,296 reads were made, as the bytes taken show. Once reading has stopped no source is
+//! read, so at most one read fails. The pulls take at most 2^48 bytes, and the packets given have no more bytes than the
+//! stream, also where the source doesn't tell its content. Behind the last packet of a batch that is as large as was asked
+//! for stand at most 65,535 of the bytes taken. This holds but for one case: a pull that was refused memory had asked for
+//! more packets, and so had read further.
 //!
 //! What is only tested, in `stream_tests`: that memory isn't refused where there is enough of it.
 //!

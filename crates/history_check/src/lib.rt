@@ -14,11 +14,11 @@
 //! machine's rules and no reply is want of memory; `agrees` answers true exactly where the told reply is one that the history
 //! before it allows, and isn't want of memory. Where the machine answers want of memory, so do both, and no clause says anything.
 //!
-//! What isn't proved here: that both kinds of node are such machines, which is for the crate to prove that plays on them; that
+//! What isn't proved here: that both kinds of node are such machines, which `report_check` shows where it plays on them; that
 //! memory isn't refused where there is enough; who made the calls, which the walks of the clients ask.
 //!
 //! What is only tested, in `check_tests`: that the histories meant are played, on both kinds of node, and that one isn't in which
-//! a thing is changed. The program doesn't use the crate yet.
+//! a thing is changed.
 //!
 //! The cost is that of the calls. Memory is asked for a read's buffer and for a pass's batch, and given back after the call.
 #![tactic(auto)]

@@ -107,6 +107,7 @@ impl<M: Machine> NodeLock<M> {
             Some(_) => unreachable!(),
         }
         self.end::<Brand>(seat, ticket, who, &told, &answer);
+        self.wake();
         answer
     }
 

@@ -1,4 +1,7 @@
+pub mod Pieces
+pub mod Short
 pub mod Texts
 pub mod Turning
 pub mod Wholes
+pub mod Writing
 pub mod Adding

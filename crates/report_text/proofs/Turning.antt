@@ -124,12 +124,12 @@ IsWeaving feeding calls told step before after =
     (node : ℕ) → after ++ flat_map entry_text (woven_from node (drop told (map told_entry calls)) (told + step) step (drop step (feeder_acts feeding)))
     ≡ before ++ flat_map entry_text (woven node (feeder_acts feeding) (map told_entry calls))
 
-calls-more : (calls : List ToldEntry) (told : ℕ) (call : ToldEntry) → told < length calls → call ≡ get_or calls told call → drop told (map told_entry calls) ≡ told_entry call ∷ drop (suc told) (map told_entry calls)
+pub calls-more : (calls : List ToldEntry) (told : ℕ) (call : ToldEntry) → told < length calls → call ≡ get_or calls told call → drop told (map told_entry calls) ≡ told_entry call ∷ drop (suc told) (map told_entry calls)
 calls-more [] told call there is = absurd (omega (arith, there))
 calls-more (c ∷ calls) zero call there is = ap (λ c. told_entry c ∷ map told_entry calls) (sym is)
 calls-more (c ∷ calls) (suc n) call there is = calls-more calls n call (omega (arith, there)) is
 
-calls-none : (calls : List ToldEntry) (told : ℕ) → length calls ≤ told → drop told (map told_entry calls) ≡ []
+pub calls-none : (calls : List ToldEntry) (told : ℕ) → length calls ≤ told → drop told (map told_entry calls) ≡ []
 calls-none [] told past = drop-nil told
 calls-none (c ∷ calls) zero past = absurd (omega (arith, past))
 calls-none (c ∷ calls) (suc n) past = calls-none calls n (omega (arith, past))

@@ -1,12 +1,12 @@
 // The lines that tell the calls of a node.
-ghost use Rattle.std.specs.Prelude.{◌≡◌, ◌+◌, ◌^◌, ◌<◌, ◌≤◌, ◌++◌, ℕ, length, map, drop, codes, IfOk, OnOk};
-ghost use Rattle.std.specs.List.{flat_map, list_any};
+ghost use Rattle.std.specs.Prelude.{◌≡◌, ◌+◌, ◌<◌, ◌≤◌, ◌++◌, map, codes, OnOk, OnErr, vec_len, vec_capacity};
+ghost use Rattle.std.specs.List.{list_any};
 ghost use Rattle.dmx_calls.specs.Calls.{told_entry};
-ghost use Rattle.dmx_calls.specs.Histories.{feeder_acts, feeder_entry, feeder_entries, woven};
+ghost use Rattle.dmx_calls.specs.Histories.{feeder_entry};
 ghost use Rattle.text_forms.specs.Names.{node_text};
 ghost use Rattle.dmx_calls.specs.declared.log.Act.TheVariants.{End as EndAct};
-ghost use Rattle.report_text.specs.Entries.{caller_text, entry_text, is_of_client, history_text};
-ghost use Rattle.report_text.specs.Inside.Turns.{tail_text, turn, Told};
+ghost use Rattle.report_text.specs.Entries.{caller_text, entry_text, is_of_client};
+ghost use Rattle.report_text.specs.Inside.Turns.{tail_text, turn};
 
 use crate::acts::{add_act, add_field};
 use crate::feeder_line::{FeederLine, add_pass_tail};
@@ -18,7 +18,10 @@ use text_forms::{write_decimal, write_node, write_who};
 // `PLACE WHO STEP` and a space.
 #[tactic(auto, unfolding(crate::specs::Entries::caller_text))]
 fn add_caller(out: &mut Vec<u8>, place: u64, who: u32, step: u64) -> Result<(), NoMemory>
-    ensures { OnOk result (out.new.items ≡ out.old.items ++ caller_text place who step) }
+    ensures items { OnOk result (out.new.items ≡ out.old.items ++ caller_text place who step) }
+    ensures full { OnErr result (vec_capacity out.old < vec_len out.old + 70) }
+    ensures few { vec_len out.new ≤ vec_len out.old + 70 }
+    ensures room { vec_capacity out.old ≤ vec_capacity out.new }
 {
     write_decimal(out, place)?;
     out.extend_from_slice(b" ")?;
@@ -30,7 +33,10 @@ fn add_caller(out: &mut Vec<u8>, place: u64, who: u32, step: u64) -> Result<(), 
 
 /// `PLACE WHO STEP ACT = REPLY` and a line feed.
 pub fn add_entry(out: &mut Vec<u8>, entry: &Entry) -> Result<(), NoMemory>
-    ensures { OnOk result (out.new.items ≡ out.old.items ++ entry_text (told_entry entry.now)) }
+    ensures items { OnOk result (out.new.items ≡ out.old.items ++ entry_text (told_entry entry.now)) }
+    ensures full { OnErr result (vec_capacity out.old < vec_len out.old + 132000) }
+    ensures few { vec_len out.new ≤ vec_len out.old + 132000 }
+    ensures room { vec_capacity out.old ≤ vec_capacity out.new }
 {
     add_caller(out, entry.place, entry.who, entry.step)?;
     add_act(out, &entry.act)?;
@@ -42,7 +48,10 @@ pub fn add_entry(out: &mut Vec<u8>, entry: &Entry) -> Result<(), NoMemory>
 // What stands behind the place in the line that tells the end of the stream.
 #[tactic(auto, unfolding(crate::specs::Acts::act_text, crate::specs::Replies::response_text))]
 fn add_end_tail(out: &mut Vec<u8>, step: usize) -> Result<(), NoMemory>
-    ensures { OnOk result (out.new.items ≡ out.old.items ++ tail_text step EndAct) }
+    ensures items { OnOk result (out.new.items ≡ out.old.items ++ tail_text step EndAct) }
+    ensures full { OnErr result (vec_capacity out.old < vec_len out.old + 60) }
+    ensures few { vec_len out.new ≤ vec_len out.old + 60 }
+    ensures room { vec_capacity out.old ≤ vec_capacity out.new }
 {
     add_field(out, b" feed ", step as u64)?;
     out.extend_from_slice(b" end = passed\n")
@@ -56,7 +65,10 @@ fn add_turn_tail(
     lines: &[FeederLine],
     step: usize,
 ) -> Result<(), NoMemory>
-    ensures { OnOk result (out.new.items ≡ out.old.items ++ tail_text step (turn feeding.now step)) }
+    ensures items { OnOk result (out.new.items ≡ out.old.items ++ tail_text step (turn feeding.now step)) }
+    ensures full { OnErr result (vec_capacity out.old < vec_len out.old + 160) }
+    ensures few { vec_len out.new ≤ vec_len out.old + 160 }
+    ensures room { vec_capacity out.old ≤ vec_capacity out.new }
 {
     match feeding.get(step) {
         Some(fed) => add_pass_tail(out, lines, step, *fed),
@@ -64,79 +76,21 @@ fn add_turn_tail(
     }
 }
 
-// The line of a call of the feeder.
-fn add_turn(
+/// The line of a call of the feeder.
+pub fn add_turn(
     out: &mut Vec<u8>,
     feeding: &[Fed],
     lines: &[FeederLine],
     place: u64,
     step: usize,
 ) -> Result<(), NoMemory>
-    ensures { OnOk result (out.new.items ≡ out.old.items ++ entry_text (feeder_entry 0 place step (turn feeding.now step))) }
+    ensures items { OnOk result (out.new.items ≡ out.old.items ++ entry_text (feeder_entry 0 place step (turn feeding.now step))) }
+    ensures full { OnErr result (vec_capacity out.old < vec_len out.old + 180) }
+    ensures few { vec_len out.new ≤ vec_len out.old + 180 }
+    ensures room { vec_capacity out.old ≤ vec_capacity out.new }
 {
     write_decimal(out, place)?;
     add_turn_tail(out, feeding, lines, step)
-}
-
-// The feeder's calls from this step on that stand before a client's entry at this place, where so many entries of
-// clients are told. It answers the step that comes next.
-fn add_turns_before(
-    out: &mut Vec<u8>,
-    feeding: &[Fed],
-    lines: &[FeederLine],
-    told: usize,
-    place: u64,
-    step: usize,
-) -> Result<usize, NoMemory>
-    requires told { told < 2 ^ 63 }
-    requires step { step ≤ length feeding.now + 1 }
-    ensures step { IfOk result (λ next. next ≤ length feeding.now + 1) }
-    ensures lines { IfOk result (λ next. Told feeding.now told place step next out.old.items out.new.items) }
-{
-    let mut next = step;
-    'turns: while next <= feeding.len() && told as u64 + (next as u64) < place {
-        add_turn(out, feeding, lines, told as u64 + next as u64, next)?;
-        next += 1;
-    }
-    Ok(next)
-}
-
-// The feeder's calls from this step on, where the entries of all clients are told.
-fn add_turns_behind(
-    out: &mut Vec<u8>,
-    feeding: &[Fed],
-    lines: &[FeederLine],
-    told: usize,
-    step: usize,
-) -> Result<(), NoMemory>
-    requires told { told < 2 ^ 63 }
-    requires step { step ≤ length feeding.now + 1 }
-    ensures { OnOk result ((node : ℕ) → out.new.items ≡ out.old.items ++ flat_map entry_text (feeder_entries node (told + step) step (drop step (feeder_acts feeding.now)))) }
-{
-    let mut next = step;
-    'turns: while next <= feeding.len() {
-        add_turn(out, feeding, lines, told as u64 + next as u64, next)?;
-        next += 1;
-    }
-    Ok(())
-}
-
-// The lines of a node.
-fn add_entries(
-    out: &mut Vec<u8>,
-    feeding: &[Fed],
-    lines: &[FeederLine],
-    calls: &[Entry],
-) -> Result<(), NoMemory>
-    ensures { OnOk result ((node : ℕ) → out.new.items ≡ out.old.items ++ flat_map entry_text (woven node (feeder_acts feeding.now) (map told_entry calls.now))) }
-{
-    let mut step = 0;
-    'calls: for told in 0..calls.len() {
-        let call = &calls[told];
-        step = add_turns_before(out, feeding, lines, told, call.place, step)?;
-        add_entry(out, call)?;
-    }
-    add_turns_behind(out, feeding, lines, calls.len(), step)
 }
 
 /// Whether a client made one of these calls.
@@ -148,38 +102,22 @@ pub fn is_called(calls: &[Entry]) -> bool
 
 /// `node ` and the name of the node.
 pub fn add_node(out: &mut Vec<u8>, node: u32) -> Result<(), NoMemory>
-    ensures { OnOk result (out.new.items ≡ out.old.items ++ (codes "node " ++ node_text node)) }
+    ensures items { OnOk result (out.new.items ≡ out.old.items ++ (codes "node " ++ node_text node)) }
+    ensures full { OnErr result (vec_capacity out.old < vec_len out.old + 30) }
+    ensures few { vec_len out.new ≤ vec_len out.old + 30 }
+    ensures room { vec_capacity out.old ≤ vec_capacity out.new }
 {
     out.extend_from_slice(b"node ")?;
     write_node(out, node)
 }
 
-// A line feed, and the lines of a node.
-fn add_lines(
-    out: &mut Vec<u8>,
-    feeding: &[Fed],
-    lines: &[FeederLine],
-    calls: &[Entry],
-) -> Result<(), NoMemory>
-    ensures { OnOk result ((node : ℕ) → out.new.items ≡ out.old.items ++ (codes "\n" ++ flat_map entry_text (woven node (feeder_acts feeding.now) (map told_entry calls.now)))) }
+/// The line of a node.
+pub fn add_node_line(out: &mut Vec<u8>, node: u32) -> Result<(), NoMemory>
+    ensures items { OnOk result (out.new.items ≡ out.old.items ++ (codes "node " ++ (node_text node ++ codes "\n"))) }
+    ensures full { OnErr result (vec_capacity out.old < vec_len out.old + 40) }
+    ensures few { vec_len out.new ≤ vec_len out.old + 40 }
+    ensures room { vec_capacity out.old ≤ vec_capacity out.new }
 {
-    out.extend_from_slice(b"\n")?;
-    add_entries(out, feeding, lines, calls)
-}
-
-/// A node with its entries in order of place; nothing where no client called it.
-pub fn add_history(
-    out: &mut Vec<u8>,
-    node: u32,
-    feeding: &[Fed],
-    lines: &[FeederLine],
-    calls: &[Entry],
-) -> Result<(), NoMemory>
-    ensures { OnOk result (out.new.items ≡ out.old.items ++ history_text node (woven node (feeder_acts feeding.now) (map told_entry calls.now))) }
-{
-    if !is_called(calls) {
-        return Ok(());
-    }
     add_node(out, node)?;
-    add_lines(out, feeding, lines, calls)
+    out.extend_from_slice(b"\n")
 }

@@ -1,14 +1,17 @@
 // Lines of the feeder without their places. They are the same on each node, so each is made once.
-ghost use Rattle.std.specs.Prelude.{◌≡◌, ◌++◌, IfSome, OnOk};
+ghost use Rattle.std.specs.Prelude.{◌≡◌, ◌+◌, ◌<◌, ◌≤◌, ◌++◌, length, IfSome, OnOk, OnErr, vec_len, vec_capacity};
 ghost use Rattle.dmx_calls.specs.Histories.{pass_act};
 ghost use Rattle.report_text.specs.Inside.Turns.{tail_text};
 
 use crate::acts::{add_field, add_pass};
 use crate::replies::add_word;
-use crate::room::{ROOM_BEHIND_PLACE, room_for_nodes};
+use dmx_calls::limits::DEMUX_NODES;
 use dmx_calls::{Fed, Histories, Input};
 use std::alloc::{AllocError as NoMemory, Global};
 use std::marker::Model;
+
+// The room for such a line, in bytes: most have 40 to 55.
+const ROOM_BEHIND_PLACE: usize = 64;
 
 /// The line of a batch that passes, without its place: its step, the batch, and the text. A contract sees the text.
 #[derive(Drop)]
@@ -19,7 +22,7 @@ pub struct FeederLine {
 }
 
 impl Model for FeederLine {
-    ghost use Rattle.std.specs.Prelude.{◌≡◌, ℕ, List};
+    ghost use Rattle.std.specs.Prelude.{◌≡◌, ◌≤◌, ℕ, List, length};
     ghost use Rattle.dmx_calls.specs.Histories.{pass_act};
     ghost use Rattle.report_text.specs.Inside.Turns.{tail_text};
 
@@ -27,13 +30,16 @@ impl Model for FeederLine {
 
     ghost view = { λ l. l.text.items };
 
-    ghost invariant = { λ l. l.text.items ≡ tail_text l.step (pass_act l.fed) };
+    ghost invariant = { λ l. (l.text.items ≡ tail_text l.step (pass_act l.fed)) × (length l.text.items ≤ 160) };
 }
 
 // What stands behind the place in the line of a batch that passes.
 #[tactic(auto, unfolding(crate::specs::Acts::act_text, crate::specs::Replies::response_text))]
 fn write_tail(out: &mut Vec<u8>, step: usize, fed: Fed) -> Result<(), NoMemory>
-    ensures { OnOk result (out.new.items ≡ out.old.items ++ tail_text step (pass_act fed)) }
+    ensures items { OnOk result (out.new.items ≡ out.old.items ++ tail_text step (pass_act fed)) }
+    ensures full { OnErr result (vec_capacity out.old < vec_len out.old + 160) }
+    ensures few { vec_len out.new ≤ vec_len out.old + 160 }
+    ensures room { vec_capacity out.old ≤ vec_capacity out.new }
 {
     add_field(out, b" feed ", step as u64)?;
     out.extend_from_slice(b" ")?;
@@ -51,7 +57,8 @@ impl FeederLine {
 
     // Its text, where it is the line of this step and of this batch.
     fn text_of(&self, step: usize, fed: Fed) -> Option<&[u8]>
-        ensures { IfSome result (λ text. text.now ≡ tail_text step (pass_act fed)) }
+        ensures text { IfSome result (λ text. text.now ≡ tail_text step (pass_act fed)) }
+        ensures short { IfSome result (λ text. length text.now ≤ 160) }
     {
         let own = &self.fed;
         if self.step == step
@@ -73,7 +80,10 @@ pub fn add_pass_tail(
     step: usize,
     fed: Fed,
 ) -> Result<(), NoMemory>
-    ensures { OnOk result (out.new.items ≡ out.old.items ++ tail_text step (pass_act fed)) }
+    ensures items { OnOk result (out.new.items ≡ out.old.items ++ tail_text step (pass_act fed)) }
+    ensures full { OnErr result (vec_capacity out.old < vec_len out.old + 160) }
+    ensures few { vec_len out.new ≤ vec_len out.old + 160 }
+    ensures room { vec_capacity out.old ≤ vec_capacity out.new }
 {
     if let Some(line) = lines.get(step) {
         if let Some(text) = line.text_of(step, fed) {
@@ -83,10 +93,21 @@ pub fn add_pass_tail(
     write_tail(out, step, fed)
 }
 
+// Whether a client made a call.
+fn is_any_called(histories: &Histories) -> bool {
+    'nodes: for node in 0..DEMUX_NODES + 1 {
+        let (_, calls) = histories.node(node);
+        if !calls.is_empty() {
+            return true;
+        }
+    }
+    false
+}
+
 /// The lines of all batches; none where no client made a call.
 pub fn feeder_lines(alloc: Global, histories: &Histories) -> Result<Vec<FeederLine>, NoMemory> {
     let mut lines = Vec::new(alloc);
-    if room_for_nodes(histories) == 0 {
+    if !is_any_called(histories) {
         return Ok(lines);
     }
     let (feeding, _) = histories.node(0);

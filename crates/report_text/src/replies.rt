@@ -1,5 +1,5 @@
 // The text of a reply.
-ghost use Rattle.std.specs.Prelude.{◌≡◌, ◌++◌, OnOk, codes};
+ghost use Rattle.std.specs.Prelude.{◌≡◌, ◌++◌, OnOk, codes, ◌+◌, ◌*◌, ◌<◌, ◌≤◌, length, vec_len, vec_capacity, OnErr};
 ghost use Rattle.std.specs.Fmt.{decimal};
 ghost use Rattle.dmx_calls.specs.Calls.{response_of};
 ghost use Rattle.dmx_calls.specs.Names.{pending_text};
@@ -13,14 +13,18 @@ use text_forms::{write_hex, write_who};
 
 #[tactic(auto, unfolding(crate::specs::Replies::flag_text))]
 fn flag_name(flag: bool) -> &'static str
-    ensures { result.now ≡ flag_text flag }
+    ensures value { result.now ≡ flag_text flag }
+    ensures short { length result.now ≤ 1 }
 {
     if flag { "1" } else { "0" }
 }
 
 /// A name and a word.
 pub fn add_word(out: &mut Vec<u8>, name: &[u8], word: &str) -> Result<(), NoMemory>
-    ensures { OnOk result (out.new.items ≡ out.old.items ++ (name.now ++ word.now)) }
+    ensures items { OnOk result (out.new.items ≡ out.old.items ++ (name.now ++ word.now)) }
+    ensures full { OnErr result (vec_capacity out.old < vec_len out.old + (length name.now + length word.now)) }
+    ensures few { vec_len out.new ≤ vec_len out.old + (length name.now + length word.now) }
+    ensures room { vec_capacity out.old ≤ vec_capacity out.new }
 {
     out.extend_from_slice(name)?;
     out.extend_from_slice(word.as_bytes())
@@ -28,7 +32,10 @@ pub fn add_word(out: &mut Vec<u8>, name: &[u8], word: &str) -> Result<(), NoMemo
 
 // A name and a caller.
 fn add_who(out: &mut Vec<u8>, name: &[u8], who: u32) -> Result<(), NoMemory>
-    ensures { OnOk result (out.new.items ≡ out.old.items ++ (name.now ++ who_text who)) }
+    ensures items { OnOk result (out.new.items ≡ out.old.items ++ (name.now ++ who_text who)) }
+    ensures full { OnErr result (vec_capacity out.old < vec_len out.old + (length name.now + 20)) }
+    ensures few { vec_len out.new ≤ vec_len out.old + (length name.now + 20) }
+    ensures room { vec_capacity out.old ≤ vec_capacity out.new }
 {
     out.extend_from_slice(name)?;
     write_who(out, who)
@@ -37,7 +44,10 @@ fn add_who(out: &mut Vec<u8>, name: &[u8], who: u32) -> Result<(), NoMemory>
 // The bytes of a read in hexadecimal digits, or `-` where there are none.
 #[tactic(auto, unfolding(crate::specs::Replies::data_text))]
 fn add_data(out: &mut Vec<u8>, bytes: &[u8]) -> Result<(), NoMemory>
-    ensures { OnOk result (out.new.items ≡ out.old.items ++ (codes "data " ++ data_text bytes.now)) }
+    ensures items { OnOk result (out.new.items ≡ out.old.items ++ (codes "data " ++ data_text bytes.now)) }
+    ensures full { OnErr result (vec_capacity out.old < vec_len out.old + (2 * length bytes.now + 6)) }
+    ensures few { vec_len out.new ≤ vec_len out.old + (2 * length bytes.now + 6) }
+    ensures room { vec_capacity out.old ≤ vec_capacity out.new }
 {
     out.extend_from_slice(b"data ")?;
     match bytes {
@@ -48,7 +58,10 @@ fn add_data(out: &mut Vec<u8>, bytes: &[u8]) -> Result<(), NoMemory>
 
 #[tactic(auto, unfolding(crate::specs::Replies::tap_text))]
 fn add_tap(out: &mut Vec<u8>, tap: &Tap) -> Result<(), NoMemory>
-    ensures { OnOk result (out.new.items ≡ out.old.items ++ tap_text tap.now) }
+    ensures items { OnOk result (out.new.items ≡ out.old.items ++ tap_text tap.now) }
+    ensures full { OnErr result (vec_capacity out.old < vec_len out.old + 710) }
+    ensures few { vec_len out.new ≤ vec_len out.old + 710 }
+    ensures room { vec_capacity out.old ≤ vec_capacity out.new }
 {
     match tap {
         Tap::Keep => out.extend_from_slice(b"keep"),
@@ -58,7 +71,10 @@ fn add_tap(out: &mut Vec<u8>, tap: &Tap) -> Result<(), NoMemory>
 }
 
 fn add_done(out: &mut Vec<u8>, dropped: &Span, tap: &Tap) -> Result<(), NoMemory>
-    ensures { OnOk result (out.new.items ≡ out.old.items ++ (codes "done drop=" ++ (decimal dropped.now.from ++ (codes ".." ++ (decimal dropped.now.to ++ (codes " tap=" ++ tap_text tap.now)))))) }
+    ensures items { OnOk result (out.new.items ≡ out.old.items ++ (codes "done drop=" ++ (decimal dropped.now.from ++ (codes ".." ++ (decimal dropped.now.to ++ (codes " tap=" ++ tap_text tap.now)))))) }
+    ensures full { OnErr result (vec_capacity out.old < vec_len out.old + 800) }
+    ensures few { vec_len out.new ≤ vec_len out.old + 800 }
+    ensures room { vec_capacity out.old ≤ vec_capacity out.new }
 {
     add_field(out, b"done drop=", dropped.from)?;
     add_field(out, b"..", dropped.to)?;
@@ -74,8 +90,11 @@ fn add_overflow(
     need: u64,
     room: u64,
 ) -> Result<(), NoMemory>
-    ensures { OnOk result (out.new.items ≡ out.old.items ++ (codes "overflow " ++ (decimal lost.from ++ (codes ".." ++ (decimal lost.to ++ (codes " item=" ++ (decimal item
+    ensures items { OnOk result (out.new.items ≡ out.old.items ++ (codes "overflow " ++ (decimal lost.from ++ (codes ".." ++ (decimal lost.to ++ (codes " item=" ++ (decimal item
         ++ (codes " need=" ++ (decimal need ++ (codes " room=" ++ decimal room)))))))))) }
+    ensures full { OnErr result (vec_capacity out.old < vec_len out.old + 140) }
+    ensures few { vec_len out.new ≤ vec_len out.old + 140 }
+    ensures room { vec_capacity out.old ≤ vec_capacity out.new }
 {
     add_field(out, b"overflow ", lost.from)?;
     add_field(out, b"..", lost.to)?;
@@ -85,13 +104,17 @@ fn add_overflow(
 }
 
 fn add_timed_out(out: &mut Vec<u8>, started: u64, now: u64, timeout: u32) -> Result<(), NoMemory>
-    ensures { OnOk result (out.new.items ≡ out.old.items ++ (codes "timedout started=" ++ (decimal started ++ (codes " now=" ++ (decimal now ++ (codes " timeout=" ++ decimal timeout)))))) }
+    ensures items { OnOk result (out.new.items ≡ out.old.items ++ (codes "timedout started=" ++ (decimal started ++ (codes " now=" ++ (decimal now ++ (codes " timeout=" ++ decimal timeout)))))) }
+    ensures full { OnErr result (vec_capacity out.old < vec_len out.old + 100) }
+    ensures few { vec_len out.new ≤ vec_len out.old + 100 }
+    ensures room { vec_capacity out.old ≤ vec_capacity out.new }
 {
     add_field(out, b"timedout started=", started)?;
     add_field(out, b" now=", now)?;
     add_field(out, b" timeout=", timeout as u64)
 }
 
+#[tactic(auto, using(crate::proofs::Short::short_pending))]
 fn add_ready(
     out: &mut Vec<u8>,
     readable: bool,
@@ -99,8 +122,11 @@ fn add_ready(
     at: u64,
     ended: bool,
 ) -> Result<(), NoMemory>
-    ensures { OnOk result (out.new.items ≡ out.old.items ++ (codes "ready readable=" ++ (flag_text readable ++ (codes " error=" ++ (pending_text error
+    ensures items { OnOk result (out.new.items ≡ out.old.items ++ (codes "ready readable=" ++ (flag_text readable ++ (codes " error=" ++ (pending_text error
         ++ (codes " at=" ++ (decimal at ++ (codes " ended=" ++ flag_text ended)))))))) }
+    ensures full { OnErr result (vec_capacity out.old < vec_len out.old + 100) }
+    ensures few { vec_len out.new ≤ vec_len out.old + 100 }
+    ensures room { vec_capacity out.old ≤ vec_capacity out.new }
 {
     add_word(out, b"ready readable=", flag_name(readable))?;
     add_word(out, b" error=", error.name())?;
@@ -109,16 +135,22 @@ fn add_ready(
 }
 
 /// A reply.
-#[tactic(auto, unfolding(crate::specs::Replies::response_text))]
+#[tactic(auto, using(crate::proofs::Short::short_errno), unfolding(crate::specs::Replies::response_text))]
 pub fn add_reply(out: &mut Vec<u8>, reply: &Reply) -> Result<(), NoMemory>
-    ensures { OnOk result (out.new.items ≡ out.old.items ++ response_text (response_of reply.now)) }
+    ensures items { OnOk result (out.new.items ≡ out.old.items ++ response_text (response_of reply.now)) }
+    ensures full { OnErr result (vec_capacity out.old < vec_len out.old + 131100) }
+    ensures few { vec_len out.new ≤ vec_len out.old + 131100 }
+    ensures room { vec_capacity out.old ≤ vec_capacity out.new }
 {
     match reply {
         Reply::Done { dropped, tap } => add_done(out, dropped, tap),
         Reply::Busy { owner } => add_who(out, b"busy owner=", *owner),
         Reply::Refused(errno) => out.extend_from_slice(errno.name().as_bytes()),
         Reply::NoMemory => out.extend_from_slice(b"ENOMEM"),
-        Reply::Data(buf) => add_data(out, buf.bytes()),
+        Reply::Data(buf) => {
+            let _ = buf.count();
+            add_data(out, buf.bytes())
+        }
         Reply::Again { ended } => add_word(out, b"again ended=", flag_name(*ended)),
         Reply::Overflow {
             from,

@@ -1,24 +1,22 @@
-// The whole report.
-ghost use Rattle.std.specs.Prelude.{◌≡◌, ◌+◌, ◌<◌, ◌≤◌, ◌++◌, ℕ, length, map, codes, IfOk, OnOk};
+// The lines of a report but for those of the nodes.
+ghost use Rattle.std.specs.Prelude.{◌≡◌, ◌+◌, ◌<◌, ◌≤◌, ◌++◌, map, codes, OnOk, OnErr, vec_len, vec_capacity};
 ghost use Rattle.std.specs.List.{flat_map};
-ghost use Rattle.ts_watch.specs.Head.{told_head};
-ghost use Rattle.report_text.specs.Entries.{histories_text};
-ghost use Rattle.report_text.specs.Report.{tally_text, row_text, outcome_text, client_text, clients_text, end_text, report_of};
+ghost use Rattle.std.specs.Fmt.{decimal};
+ghost use Rattle.report_text.specs.Report.{tally_text, row_text, outcome_text, client_text, clients_text, end_text};
 
 use crate::acts::add_field;
-use crate::entries::add_history;
-use crate::feeder_line::feeder_lines;
 use crate::replies::add_word;
-use crate::room::room_for_nodes;
-use dmx_calls::limits::DEMUX_NODES;
-use dmx_calls::{Histories, Outcome};
-use std::alloc::{AllocError as NoMemory, Global};
+use dmx_calls::Outcome;
+use std::alloc::AllocError as NoMemory;
 use ts_packet::Tally;
 use ts_watch::{Head, PidRow};
 
 // How many packets, skipped bytes and bytes of rest the stream has.
 fn add_tally(out: &mut Vec<u8>, tally: &Tally) -> Result<(), NoMemory>
-    ensures { OnOk result (out.new.items ≡ out.old.items ++ tally_text tally.now) }
+    ensures items { OnOk result (out.new.items ≡ out.old.items ++ tally_text tally.now) }
+    ensures full { OnErr result (vec_capacity out.old < vec_len out.old + 100) }
+    ensures few { vec_len out.new ≤ vec_len out.old + 100 }
+    ensures room { vec_capacity out.old ≤ vec_capacity out.new }
 {
     add_field(out, b"packets=", tally.packets)?;
     add_field(out, b" skipped=", tally.skipped)?;
@@ -26,9 +24,12 @@ fn add_tally(out: &mut Vec<u8>, tally: &Tally) -> Result<(), NoMemory>
     out.extend_from_slice(b"\n")
 }
 
-// The packets of a PID.
-fn add_row(out: &mut Vec<u8>, row: &(u16, PidRow)) -> Result<(), NoMemory>
-    ensures { OnOk result (out.new.items ≡ out.old.items ++ row_text row.now) }
+/// The packets of a PID.
+pub fn add_row(out: &mut Vec<u8>, row: &(u16, PidRow)) -> Result<(), NoMemory>
+    ensures items { OnOk result (out.new.items ≡ out.old.items ++ row_text row.now) }
+    ensures full { OnErr result (vec_capacity out.old < vec_len out.old + 160) }
+    ensures few { vec_len out.new ≤ vec_len out.old + 160 }
+    ensures room { vec_capacity out.old ≤ vec_capacity out.new }
 {
     let (pid, counts) = row;
     add_field(out, b"pid ", *pid as u64)?;
@@ -49,9 +50,13 @@ fn add_rows(out: &mut Vec<u8>, rows: &[(u16, PidRow)]) -> Result<(), NoMemory>
     Ok(())
 }
 
-// A command of a client.
-fn add_outcome(out: &mut Vec<u8>, outcome: &Outcome) -> Result<(), NoMemory>
-    ensures { OnOk result (out.new.items ≡ out.old.items ++ outcome_text outcome.now) }
+/// A command of a client.
+#[tactic(auto, using(crate::proofs::Short::short_kind))]
+pub fn add_outcome(out: &mut Vec<u8>, outcome: &Outcome) -> Result<(), NoMemory>
+    ensures items { OnOk result (out.new.items ≡ out.old.items ++ outcome_text outcome.now) }
+    ensures full { OnErr result (vec_capacity out.old < vec_len out.old + 120) }
+    ensures few { vec_len out.new ≤ vec_len out.old + 120 }
+    ensures room { vec_capacity out.old ≤ vec_capacity out.new }
 {
     add_field(out, b"line ", outcome.line as u64)?;
     add_field(out, b" steps ", outcome.from)?;
@@ -89,22 +94,13 @@ pub fn add_clients(out: &mut Vec<u8>, outcomes: &[Vec<Outcome>]) -> Result<(), N
     Ok(())
 }
 
-// The nodes that a client called, with their entries.
-fn add_histories(alloc: Global, out: &mut Vec<u8>, histories: &Histories) -> Result<(), NoMemory>
-    ensures { OnOk result (out.new.items ≡ out.old.items ++ histories_text 0 histories.now) }
-{
-    let lines = feeder_lines(alloc, histories)?;
-    'nodes: for node in 0..DEMUX_NODES + 1 {
-        let (feeding, calls) = histories.node(node);
-        add_history(out, node, feeding, &lines, calls)?;
-    }
-    Ok(())
-}
-
 /// The last line.
 #[tactic(auto, unfolding(crate::specs::Report::end_text))]
 pub fn add_end(out: &mut Vec<u8>, read_fault: bool) -> Result<(), NoMemory>
-    ensures { OnOk result (out.new.items ≡ out.old.items ++ end_text read_fault) }
+    ensures items { OnOk result (out.new.items ≡ out.old.items ++ end_text read_fault) }
+    ensures full { OnErr result (vec_capacity out.old < vec_len out.old + 20) }
+    ensures few { vec_len out.new ≤ vec_len out.old + 20 }
+    ensures room { vec_capacity out.old ≤ vec_capacity out.new }
 {
     if read_fault {
         out.extend_from_slice(b"fault read\n")
@@ -122,24 +118,24 @@ pub fn add_head(out: &mut Vec<u8>, head: &Head) -> Result<(), NoMemory>
     add_rows(out, &head.rows)
 }
 
-/// The report of a run: what was found in its stream, what became of each client's commands in the order of the clients,
-/// and the histories of the nodes that a client called.
-///
-/// # Errors
-///
-/// `NoMemory` where memory for the text was refused.
-pub fn report(
-    alloc: Global,
-    head: &Head,
-    outcomes: &[Vec<Outcome>],
-    histories: &Histories,
-) -> Result<Vec<u8>, NoMemory>
-    ensures { IfOk result (λ text. text.items ≡ report_of (told_head head.now) (map (λ o. o.items) outcomes.now) histories.now) }
+/// The first line, and the line of the whole stream.
+pub fn add_first(out: &mut Vec<u8>, head: &Head) -> Result<(), NoMemory>
+    ensures items { OnOk result (out.new.items ≡ out.old.items ++ (codes "dvbemu 1\n" ++ tally_text head.now.tally)) }
+    ensures full { OnErr result (vec_capacity out.old < vec_len out.old + 110) }
+    ensures few { vec_len out.new ≤ vec_len out.old + 110 }
+    ensures room { vec_capacity out.old ≤ vec_capacity out.new }
 {
-    let mut out = Vec::with_capacity(alloc, room_for_nodes(histories))?;
-    add_head(&mut out, head)?;
-    add_clients(&mut out, outcomes)?;
-    add_histories(alloc, &mut out, histories)?;
-    add_end(&mut out, head.read_fault)?;
-    Ok(out)
+    out.extend_from_slice(b"dvbemu 1\n")?;
+    add_tally(out, &head.tally)
+}
+
+/// The line of a client.
+pub fn add_client_line(out: &mut Vec<u8>, client: usize) -> Result<(), NoMemory>
+    ensures items { OnOk result (out.new.items ≡ out.old.items ++ (codes "client " ++ (decimal client ++ codes "\n"))) }
+    ensures full { OnErr result (vec_capacity out.old < vec_len out.old + 30) }
+    ensures few { vec_len out.new ≤ vec_len out.old + 30 }
+    ensures room { vec_capacity out.old ≤ vec_capacity out.new }
+{
+    add_field(out, b"client ", client as u64)?;
+    out.extend_from_slice(b"\n")
 }

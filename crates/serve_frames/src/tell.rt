@@ -53,23 +53,12 @@ fn ready_bits(readable: bool, error: PollError, ended: bool) -> u32
     first + pending + last
 }
 
-// Writes a number behind the others as four bytes, the lowest first.
-fn put_u32(head: &mut ReplyHead, number: u32)
-    requires { length head.old.items + 4 ≤ 24 }
-    ensures { head.new.items ≡ head.old.items ++ little_bytes 4 number }
+// Writes bytes behind the others, for which there is room.
+fn put(head: &mut ReplyHead, bytes: &[u8])
+    requires { length head.old.items + length bytes.now ≤ 24 }
+    ensures { head.new.items ≡ head.old.items ++ bytes.now }
 {
-    match head.try_extend_from_slice(&number.to_le_bytes()) {
-        Ok(()) => (),
-        Err(_) => unreachable!(),
-    }
-}
-
-// Writes a number behind the others as eight bytes, the lowest first.
-fn put_u64(head: &mut ReplyHead, number: u64)
-    requires { length head.old.items + 8 ≤ 24 }
-    ensures { head.new.items ≡ head.old.items ++ little_bytes 8 number }
-{
-    match head.try_extend_from_slice(&number.to_le_bytes()) {
+    match head.try_extend_from_slice(bytes) {
         Ok(()) => (),
         Err(_) => unreachable!(),
     }
@@ -115,11 +104,11 @@ impl Tell {
         ensures { result.items ≡ head_of self.now len }
     {
         let mut head = ReplyHead::new();
-        put_u32(&mut head, self.code);
-        put_u32(&mut head, len);
-        put_u32(&mut head, self.value);
-        put_u32(&mut head, 0);
-        put_u64(&mut head, self.place);
+        put(&mut head, &self.code.to_le_bytes());
+        put(&mut head, &len.to_le_bytes());
+        put(&mut head, &self.value.to_le_bytes());
+        put(&mut head, &0u32.to_le_bytes());
+        put(&mut head, &self.place.to_le_bytes());
         head
     }
 
@@ -144,6 +133,7 @@ pub fn data_of(reply: &Reply) -> &[u8]
 {
     match reply {
         Reply::Data(buf) => {
+            // the count tells the contract that a reply has at most 65,536 bytes
             let _ = buf.count();
             buf.bytes()
         }

@@ -6,10 +6,12 @@
 //! `made_reads` at what a client of a made session read, and `holding_gate` forces an order on the threads.
 //!
 //! What is proved: that the tests are safe, and, but for those by threads, that they end. What is only tested: what the program
-//! tells of small sessions, of faults and of damaged streams, against reports worked out by hand from the rules; that the
+//! tells of small sessions, of faults, of damaged streams and of reports to be checked, worked out by hand from the rules; that the
 //! sessions of some numbers have the sums that a second program worked out; and that the threads run beside each other.
 #![tactic(auto)]
 
+#[cfg(test)]
+mod check_tests;
 #[cfg(test)]
 mod fault_tests;
 #[cfg(test)]

@@ -3,6 +3,7 @@ use crate::in_memory::{Ends, told};
 use crate::whole::{PLAIN, Whole, odd_whole};
 use client_script::FaultKind;
 use emu_top::Status;
+use report_check::{Fault, FaultKind as WrongKind};
 
 const EMPTY: &str = "dvbemu 1\npackets=0 skipped=0 rest=0\nend\n";
 
@@ -175,7 +176,9 @@ static WORDS: [Whole; 2] = [
             run --batch 65\n\
             make\n\
             make 01\n\
-            selftest 7 --batch 0",
+            selftest 7 --batch 0\n\
+            check --batch 1\n\
+            check check",
         status: Status::Usage,
         ..PLAIN
     },
@@ -242,7 +245,7 @@ fn the_session_of_the_greatest_number_is_written(rt: HostRuntime) {
     );
 }
 
-static STATUSES: [(Status, u8, &str); 7] = [
+static STATUSES: [(Status, u8, &str); 8] = [
     (Status::Ok, 0, "ok"),
     (Status::Usage, 2, "usage"),
     (
@@ -257,6 +260,14 @@ static STATUSES: [(Status, u8, &str); 7] = [
     (Status::ReadFault, 5, "read failed"),
     (Status::WriteFault, 6, "write failed"),
     (Status::NoMemory, 7, "out of memory"),
+    (
+        Status::Wrong(Fault {
+            line: 3,
+            kind: WrongKind::Reply,
+        }),
+        0,
+        "report",
+    ),
 ];
 
 #[test]

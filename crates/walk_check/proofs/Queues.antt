@@ -1,6 +1,6 @@
 -- Queues of told entries.
 use Rattle.std.proofs.Common.{◌≡◌, ◌<◌, ◌+◌, ℕ, zero, suc, List, [], ◌∷◌, length, map, get_or, refl, sym, ap, ◌∙◌, Bor, arith, true, false, nat_eq}
-use Rattle.std.proofs.lemmas.List.{map-set}
+use Rattle.std.proofs.lemmas.List.{map-set, length-map}
 use Rattle.std.proofs.lemmas.Option.{slice_get-map, slice_get-get_or, slice_get_within, get_or_from_slice_get}
 use Rattle.std.specs.Prelude.{Option, Some, None, slice_get, slice_set, option_map}
 use Rattle.dmx_calls.specs.declared.log.Entry.{Entry as ToldEntry}
@@ -72,16 +72,12 @@ module _ (client : ℕ) where
 
 -- ------ how many entries are left
 
-told_long : (es : List ToldEntry) → length (map told_entry es) ≡ length es
-told_long [] = refl
-told_long (e ∷ es) = ap suc (told_long es)
-
 pub fewer : (xs : List (Bor (List ToldEntry))) (i : ℕ) (x y : Bor (List ToldEntry)) → i < length xs → x ≡ get_or xs i x → length y.now < length x.now → left_on (map told_of (slice_set xs i y)) < left_on (map told_of xs)
 unfolding left_on
 fewer [] i x y small e less = absurd (omega arith)
 fewer (z ∷ xs) zero x y small e less =
     let same : length x.now ≡ length z.now = ap (λ (w : Bor (List ToldEntry)). length w.now) e in
-    omega (arith, same, told_long y.now, told_long z.now)
+    omega (arith, same, length-map y.now told_entry, length-map z.now told_entry)
 fewer (z ∷ xs) (suc i) x y small e less =
     let later : left_on (map told_of (slice_set xs i y)) < left_on (map told_of xs) = fewer xs i x y (omega arith) e less in
     omega (arith, later)

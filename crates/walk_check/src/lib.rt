@@ -17,7 +17,7 @@
 //! What isn't proved here: whether the replies are those that the nodes give, which `history_check` asks by playing them again.
 //!
 //! What is only tested, in `check_tests`: that the entries meant are walked, and that they aren't where one is missing, left over
-//! or another. The program doesn't use the crate yet.
+//! or another.
 //!
 //! A walk passes over the entries of each node once. It takes no memory.
 #![tactic(auto)]

@@ -27,6 +27,21 @@ use std::sync::ledger::{Blank, Ledger};
 use std::thread;
 use steps::Steps;
 
+// How often a client that waits lets others go first, before it rests until the node is called: an entry mostly comes soon, and
+// sleeping and waking take longer than that.
+const TURNS: u32 = 32;
+
+// Lets others go first who may call the node, which has `len` entries: by a yield so many times, and then by a rest.
+fn give_way<R: Wait>(rt: &R, adapter: &Adapter, node: u32, len: u64, turns: u32)
+    requires { node ≤ nodes }
+{
+    if turns < TURNS {
+        thread::yield_now();
+    } else {
+        adapter.rest(rt, node, len);
+    }
+}
+
 /// A client with the machine that says what it calls next, its calls so far, and why it stopped, if it did.
 #[derive(Drop)]
 pub struct ClientWorker {
@@ -87,11 +102,14 @@ impl ClientWorker {
         ensures looked { HasLooked adapter.now self.old self.new }
         ensures past { (p : TableId × View HistoryEntry) → slice_get self.new.client.passes node ≡ Some p → place + 1 < length p.1.seen }
     {
+        let mut turns = 0u32;
         'looks: for _ in rt.forever() {
-            if self.client.len(adapter, node) > place.saturating_add(1) {
+            let len = self.client.len(adapter, node);
+            if len > place.saturating_add(1) {
                 return;
             }
-            thread::yield_now();
+            give_way(rt, adapter, node, len, turns);
+            turns = turns.saturating_add(1);
         }
         unreachable!()
     }

@@ -33,3 +33,10 @@ Told feeding told place step next before after =
     (node : ℕ) (e : LogEntry) (later : (place step : ℕ) → List Act → List LogEntry) → e.place ≡ place
     → after ++ flat_map entry_text (e ∷ later (suc (told + next)) next (drop next (feeder_acts feeding)))
     ≡ before ++ flat_map entry_text (before_entry node e later (told + step) step (drop step (feeder_acts feeding)))
+
+-- This is said of the text of the feeder's calls from `step` on with any client's entry at this place, and of all that
+-- follows.
+abbrev pub BreaksBefore : List Fed → (told place step : ℕ) → (List ℕ → Type 0) → Type 0
+BreaksBefore feeding told place step IsSo =
+    (node : ℕ) (e : LogEntry) (later : (place step : ℕ) → List Act → List LogEntry) → e.place ≡ place
+    → IsSo (flat_map entry_text (before_entry node e later (told + step) step (drop step (feeder_acts feeding))))

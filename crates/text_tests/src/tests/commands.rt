@@ -25,6 +25,15 @@ macro_rules! run {
     };
 }
 
+// Whether a report is one of a session whose packets take up so much.
+macro_rules! check {
+    ($packet:ident) => {
+        Some(Command::Check {
+            packet: PacketSize::$packet,
+        })
+    };
+}
+
 // The run of a number's session, in batches of so many packets.
 macro_rules! self_test {
     ($number:expr, $batch:expr) => {
@@ -36,7 +45,7 @@ macro_rules! self_test {
 }
 
 // Words, each with a bar behind it, and the command that they name, or None where they are refused.
-static WORDS: [(&str, Option<Command>); 107] = [
+static WORDS: [(&str, Option<Command>); 123] = [
     ("steps|", steps!(64, Of188)),
     ("steps|--batch|1|", steps!(1, Of188)),
     ("steps|--batch|64|", steps!(64, Of188)),
@@ -124,6 +133,22 @@ static WORDS: [(&str, Option<Command>); 107] = [
     ("selftest|7|--packet|204|", None),
     ("selftest|--packet=188|7|", None),
     ("selftest|7|--batch|1|--packet|188|", None),
+    ("check|", check!(Of188)),
+    ("check|--packet|204|", check!(Of204)),
+    ("check|--packet=204|", check!(Of204)),
+    ("check|--packet|188|", check!(Of188)),
+    ("check||", None),
+    ("check|7|", None),
+    ("check|check|", None),
+    ("check|--batch|1|", None),
+    ("check|--batch=64|", None),
+    ("check|--|", None),
+    ("check|--packet|192|", None),
+    ("check|--packet|204|--packet|204|", None),
+    ("check|--packet=204|--batch=1|", None),
+    ("check|--packet=204|7|", None),
+    ("check|--help|", None),
+    ("Check|", None),
     ("make|", None),
     ("make||", None),
     ("make|01|", None),

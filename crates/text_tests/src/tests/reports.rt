@@ -1,13 +1,15 @@
 //! Whole reports and lines of sums, worked out by hand from the rules of the script, the nodes and the report.
 
 mod lines;
+mod long;
 mod runs;
 mod told;
 
 ghost use Rattle.std.specs.Prelude.{◌≡◌, IfOk, length};
 
 use dmx_calls::{Entry, Fed, Histories, Outcome};
-use report_text::{report, summary};
+use emu_io::MemSink;
+use report_text::{ReportError, summary, write_report};
 use runs::{SUMMED, SUMS, reports};
 use std::alloc::{AllocError as NoMemory, Global};
 use told::{Row, entry_of};
@@ -89,11 +91,20 @@ fn histories_of(alloc: Global, run: &Run) -> Result<Histories, NoMemory> {
     Ok(Histories::new(feeding, nodes))
 }
 
-fn report_of(alloc: Global, run: &Run) -> Result<Vec<u8>, NoMemory> {
+/// What a sink has of the report of a run, and how the writing ended.
+pub type Written = (Vec<u8>, Result<(), ReportError>);
+
+// The most bytes of a report.
+const MOST_BYTES: usize = 400_000;
+
+/// The report of a run as a sink has it that takes at most `width` bytes a write, and in which the writes of these numbers fail.
+pub fn written(alloc: Global, run: &Run, width: u32, fails: &[u64]) -> Result<Written, NoMemory> {
     let head = head_of(alloc, run)?;
     let outcomes = outcomes_of(alloc, run)?;
     let histories = histories_of(alloc, run)?;
-    report(alloc, &head, &outcomes, &histories)
+    let mut sink = MemSink::new(alloc, MOST_BYTES, width.max(1), fails.to_vec(alloc)?)?;
+    let end = write_report(alloc, &mut sink, &head, &outcomes, &histories);
+    Ok((sink.bytes().to_vec(alloc)?, end))
 }
 
 // The number of the first line in which two texts differ, counted from 0; None where they are the same.
@@ -117,9 +128,12 @@ fn odd_line(text: &[u8], want: &[u8]) -> Option<usize> {
 // The numbers of the first run whose report isn't as it should be, and of the odd line.
 fn odd_report(alloc: Global) -> Result<Option<(usize, usize)>, NoMemory> {
     for (number, (run, want)) in reports().iter().enumerate() {
-        let text = report_of(alloc, run)?;
+        let (text, end) = written(alloc, run, 100, &[])?;
         if let Some(line) = odd_line(&text, want.as_bytes()) {
             return Ok(Some((number, line)));
+        }
+        if end != Ok(()) {
+            return Ok(Some((number, 0)));
         }
     }
     Ok(None)

@@ -1,5 +1,4 @@
-use Rattle.std.proofs.Common.{◌∙◌, ap, map, Err}
-use Rattle.std.proofs.lemmas.Result.{IfOk-weaker}
+use Rattle.std.proofs.Common.{◌∙◌, refl, ap, Err}
 use Rattle.emu_top.proofs.Outputs.{given_up}
 use Rattle.emu_top.proofs.Threading.{threads_made}
 use Rattle.emu_top.proofs.threads.run_threads.Goals as goal
@@ -10,12 +9,9 @@ returns-in-Err-clause-refuses g c begun first takes h =
     (λ turns is. c.work.ensures.too_long turns (c.in-Err.is ∙ ap Err is)) takes h)
 
 pub returns-in-Ok-histories_of_run-clause-makes : goal.returns-in-Ok-histories_of_run-clause-makes
-returns-in-Ok-histories_of_run-clause-makes g c =
+returns-in-Ok-histories_of_run-clause-makes g c begun first takes h =
     let left = c.in-Ok-work.left in
     let is = c.in-Ok-work.ensures in
-    IfOk-weaker c.reported.result _ _
-    (λ output told begun first takes h. threads_made c.args.batch _ c.args.session.script left
-    begun _ _ first c.args.session.puller c.in-Ok-histories_of_run.histories output.read_fault _ output.text.items
+    threads_made c.args.batch _ c.args.session.script left begun _ _ first c.args.session.puller c.in-Ok-histories_of_run.histories left.head.read_fault _ _
     takes h is.left (λ stream w. c.in-Ok-histories_of_run.ensures.run c.args.session.script c.args.batch _ stream _ w) is.rose is.later is.end
-    told.0 (ap (map (λ those. those.items)) c.deref.ensures.value) told.1)
-    c.reported.ensures.told
+    refl refl refl

@@ -2,6 +2,7 @@ use Rattle.std.proofs.Common.{◌≡◌}
 use Rattle.ts_make.specs.Made.{made}
 use Rattle.emu_top.specs.Session.{IsSerialOutput, IsSums}
 use Rattle.emu_top.proofs.Answering.{does, gives}
+use Rattle.emu_top.proofs.Judging.{checks}
 use Rattle.emu_top.proofs.top.on_one_thread.Goals as goal
 
 pub returns-in-Steps-clause-obeys : goal.returns-in-Steps-clause-obeys
@@ -12,3 +13,6 @@ returns-in-Make-clause-obeys g c may = rw c.in-Make.is (gives (λ text. text ≡
 
 pub returns-in-SelfTest-clause-obeys : goal.returns-in-SelfTest-clause-obeys
 returns-in-SelfTest-clause-obeys g c may = rw c.in-SelfTest.is (gives (IsSums c.in-SelfTest.number c.in-SelfTest.batch) _ _ _ c.self_test.result c.requires.sink_can_count (c.self_test.ensures.tells _))
+
+pub returns-in-Check-clause-obeys : goal.returns-in-Check-clause-obeys
+returns-in-Check-clause-obeys g c may = rw c.in-Check.is (checks _ _ _ _ c.check.result c.requires.source_can_count c.requires.sink_can_count c.check.ensures.answers)

@@ -1,5 +1,5 @@
 use Rattle.std.proofs.Common.{◌≡◌, ◌+◌, ◌++◌, ◌<◌, ◌∷◌, [], ◌∙◌, ℕ, List, refl, ap, sym, length, arith}
-use Rattle.std.specs.Prelude.{slice_index}
+use Rattle.std.specs.Prelude.{slice_index, vec_len, vec_capacity}
 use Rattle.std.specs.List.{flat_map}
 use Rattle.std.proofs.lemmas.List.{flat_map_more}
 use Rattle.report_text.specs.Acts.{next_pid_text}
@@ -17,8 +17,11 @@ one_more start before after pids place pid some there is so_far added =
 pub pids-preserved : goal.pids-preserved
 pids-preserved c =
     elim c.match-get-2.branch [
-      | in-Some-get+in_ok-add_field w ↦
-          one_more c.write_decimal.new.out.items c.pids.out.items c.match-get-2.out.items c.args.pids.now c.pids.place w.in-Some-get.pid
-          (omega (arith, c.pids.auto.place)) (omega (arith, c.pids-test.true, c.len-place-end.ensures.value)) w.in-Some-get.ensures.value c.pids.invariant (ap (λ v. v.items) w.out-is ∙ w.in_ok-add_field.ensures)
+      | in-Some-get+in_ok-add_field w ↦ record {
+        items = one_more c.write_decimal.new.out.items c.pids.out.items c.match-get-2.out.items c.args.pids.now c.pids.place w.in-Some-get.pid
+            (omega (arith, c.pids.auto.place)) (omega (arith, c.pids-test.true, c.len-place-end.ensures.value)) w.in-Some-get.ensures.value c.pids.invariant.items (ap (λ v. v.items) w.out-is ∙ w.in_ok-add_field.ensures.items);
+        few = omega (arith, ap (λ v. vec_len v) w.out-is, w.in_ok-add_field.ensures.few, c.pids.invariant.few);
+        room = omega (arith, ap (λ v. vec_capacity v) w.out-is, w.in_ok-add_field.ensures.room, c.pids.invariant.room);
+      }
       | in_default-get w ↦ absurd (omega (arith, w.in_default-get.ensures.none.0 refl, c.pids-test.true, c.len-place-end.ensures.value))
     ]

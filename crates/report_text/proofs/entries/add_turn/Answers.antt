@@ -6,9 +6,9 @@ use Rattle.report_text.proofs.Texts.{behind}
 use Rattle.report_text.proofs.Turning.{line-is}
 use Rattle.report_text.proofs.entries.add_turn.Goals as goal
 
-pub returns : goal.returns
-returns c =
+pub returns-clause-items : goal.returns-clause-items
+returns-clause-items c =
     on_ok_weaker c.add_turn_tail.result
     (λ last. behind c.args.out.now.items (decimal c.args.place) (tail_text c.args.step (turn c.args.feeding.now c.args.step)) c.in_ok-write_decimal.ensures.appended last
     ∙ ap (λ line. c.args.out.now.items ++ line) (line-is c.args.place c.args.step (turn c.args.feeding.now c.args.step)))
-    c.add_turn_tail.ensures
+    c.add_turn_tail.ensures.items

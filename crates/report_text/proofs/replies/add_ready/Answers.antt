@@ -3,12 +3,12 @@ use Rattle.std.proofs.lemmas.Result.{on_ok_weaker}
 use Rattle.report_text.proofs.Texts.{behind}
 use Rattle.report_text.proofs.replies.add_ready.Goals as goal
 
-pub returns : goal.returns
-returns c =
-    rw (← c.flag_name.ensures, ← c.name.ensures, ← c.flag_name-2.ensures)
+pub returns-clause-items : goal.returns-clause-items
+returns-clause-items c =
+    rw (← c.flag_name.ensures.value, ← c.name.ensures, ← c.flag_name-2.ensures.value)
     (on_ok_weaker c.add_word-3.result
     (λ last.
-    behind c.args.out.now.items (codes "ready readable=" ++ c.flag_name.result.now) _ c.in_ok-add_word.ensures (
-    behind c.add_word.new.out.items (codes " error=" ++ c.name.result.now) _ c.in_ok-add_word-2.ensures (
-    behind c.add_word-2.new.out.items (codes " at=" ++ decimal c.args.at) _ c.in_ok-add_field.ensures last)))
-    c.add_word-3.ensures)
+    behind c.args.out.now.items (codes "ready readable=" ++ c.flag_name.result.now) _ c.in_ok-add_word.ensures.items (
+    behind c.add_word.new.out.items (codes " error=" ++ c.name.result.now) _ c.in_ok-add_word-2.ensures.items (
+    behind c.add_word-2.new.out.items (codes " at=" ++ decimal c.args.at) _ c.in_ok-add_field.ensures.items last)))
+    c.add_word-3.ensures.items)

@@ -11,7 +11,7 @@ returns c =
     let demux = c.demux_sums-demux.ensures.sums in
     let dvr = c.node_sums-dvr.ensures.sums in
     let all = c.added-all.ensures in
-    behind c.new-out.result.items (codes "packets=" ++ decimal c.args.head.now.tally.packets) _ c.in_ok-add_field.ensures c.in_ok-add_line.ensures
+    behind c.new-out.result.items (codes "packets=" ++ decimal c.args.head.now.tally.packets) _ c.in_ok-add_field.ensures.items c.in_ok-add_line.ensures
     ∙ ap (λ l. l ++ sums_text c.args.head.now.tally.packets c.added-all.result.entries c.demux_sums-demux.result.bytes c.node_sums-dvr.result.bytes c.added-all.result.overflows) c.new-out.ensures.items
     ∙ same-sums c.args.head.now.tally.packets
     (all.entries ∙ ap₂ (λ x y. x + y) demux.0 dvr.0 ∙ sum-whole length hs many)

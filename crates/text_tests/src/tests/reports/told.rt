@@ -1,5 +1,6 @@
 // Calls and replies as tables can hold them, and the entries that tell them.
 
+use dmx_calls::limits::LARGEST_READ;
 use dmx_calls::{
     Act, ByteBuf, Entry, Errno, Input, PesParams, PollError, Reply, SectionParams, Span, Tap,
 };
@@ -47,6 +48,8 @@ pub enum Answered {
     NoMemory,
     /// Bytes.
     Data(&'static [u8]),
+    /// So many bytes that are 0.
+    Zeros(usize),
     /// Whether the stream has ended.
     Again(bool),
     /// From, to, item, need, room.
@@ -62,9 +65,6 @@ pub enum Answered {
 /// An entry of a table: its place, the step of its caller, its caller, the call, the reply.
 pub type Row = (u64, u64, u32, Asked, Answered);
 
-// How many bytes a read of a table answers at most.
-const MOST_BYTES: usize = 16;
-
 fn pids_of(pids: &[u16]) -> Pids {
     let mut set = Pids::new();
     for pid in pids {
@@ -78,13 +78,20 @@ fn done(from: u64, to: u64, tap: Tap) -> Reply {
     Reply::Done { dropped, tap }
 }
 
-// A reply with these bytes, or with none where they are too many for a table.
+// A reply with these bytes, or with none where they are more than a read can ask for.
 fn data(alloc: Global, bytes: &[u8]) -> Result<Reply, NoMemory> {
-    let mut buf = ByteBuf::new(alloc, MOST_BYTES as u32)?;
-    if bytes.len() <= MOST_BYTES {
+    let mut buf = ByteBuf::new(alloc, LARGEST_READ)?;
+    if bytes.len() <= LARGEST_READ as usize {
         buf.append(bytes);
     }
     Ok(Reply::Data(buf))
+}
+
+// A reply with so many bytes that are 0.
+fn zeros(alloc: Global, count: usize) -> Result<Reply, NoMemory> {
+    let mut bytes = Vec::new(alloc);
+    bytes.resize(count, 0)?;
+    data(alloc, &bytes)
 }
 
 fn act_of(asked: Asked) -> Act {
@@ -124,6 +131,7 @@ fn reply_of(alloc: Global, answered: Answered) -> Result<Reply, NoMemory> {
         Answered::Refused(errno) => Reply::Refused(errno),
         Answered::NoMemory => Reply::NoMemory,
         Answered::Data(bytes) => return data(alloc, bytes),
+        Answered::Zeros(count) => return zeros(alloc, count),
         Answered::Again(ended) => Reply::Again { ended },
         Answered::Overflow(from, to, item, need, room) => Reply::Overflow {
             from,

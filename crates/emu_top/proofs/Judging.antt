@@ -1,0 +1,242 @@
+-- The answer to what an input asks, and that the input determines it.
+use Rattle.std.proofs.Common.{◌≡◌, ◌<◌, ◌≤◌, ◌-◌, ◌^◌, ◌⊎◌, refl, sym, ap, subst, ◌∙◌, ℕ, Bool, true, false, List, ◌++◌, length, codes, inl, inr, arith, length-append}
+use Rattle.std.proofs.KnownBytes.{Consumes-trans}
+use Rattle.std.specs.Prelude.{All, Option, Some, None, IfSome, MatchOption, Result, Ok, Err, IfErr, IsErrAnd}
+use Rattle.std.specs.Io.KnownBytes.{Consumes}
+use Rattle.emu_io.specs.Causes.{Rose}
+use Rattle.emu_io.specs.Ends.{SourceEnd, SinkEnd}
+use Rattle.ts_packet.specs.Cut.{cut}
+use Rattle.ts_packet.specs.Fields.{IsPacket}
+use Rattle.ts_watch.specs.Head.{told_head, head_of}
+use Rattle.client_script.specs.declared.line.Line.{Line}
+use Rattle.client_script.specs.declared.fault.ScriptFault.{ScriptFault}
+use Rattle.client_script.specs.Script.{split, grammar}
+use Rattle.feed_pull.specs.Pulling.{Pulling}
+use Rattle.feed_pull.specs.Streams.{OfStream}
+use Rattle.feed_pull.proofs.CutPackets.{are_packets}
+use Rattle.report_runs.specs.Right.{IsRightReport}
+use Rattle.report_runs.proofs.Right.{right_are_of_runs}
+use Rattle.report_check.specs.declared.fault.Fault.{Fault}
+use Rattle.emu_top.specs.Session.{IsSession, Holds, Takes, Refuses, ReadsTo}
+use Rattle.emu_top.specs.Checking.{Asks, IsAnswer, Judges, Declines, SettlesAnswer, asked, answer_text, lines_asked}
+use Rattle.emu_top.specs.Inside.Asking.{Begins, IsCutOff, IsWholeOf, wrong_as}
+use Rattle.emu_top.specs.Serves.{Answers, Checks, Outside, Tells, WritesFront, WritesWhole, outside}
+use Rattle.emu_top.specs.declared.stream.Stream.{Stream}
+use Rattle.emu_top.specs.declared.status.Status.{Status}
+use Rattle.emu_top.specs.declared.status.Status.TheVariants.{Usage, Script, TooLong, ReadFault, WriteFault, NoMemory, Ok as Done, Wrong}
+use Rattle.emu_top.proofs.Answering.{by_taken, keeps, split_more, steady}
+use Rattle.emu_top.proofs.Asks.{asked_more, of_input}
+use Rattle.emu_top.proofs.Rows.{head_rows}
+
+-- ------ a report and a session
+
+session_of : (first taken : List ℕ) (lines : List Line) (puller : Pulling) (h : Holds first lines puller) → IsSession (first ++ taken) lines (h.ahead ++ taken)
+session_of first taken lines puller h = record {
+  script = ap (λ p. grammar p.script) (h.splits taken) ∙ h.script;
+  behind = ap (λ p. p.stream) (h.splits taken);
+}
+
+asks : (report first taken : List ℕ) (x y : SourceEnd) (lines : List Line) (puller : Pulling) (b : Begins report x y) (h : Holds first lines puller) → Asks (b.bytes ++ (first ++ taken)) report lines (h.ahead ++ taken)
+asks report first taken x y lines puller b h = record {
+  session = first ++ taken;
+  parts = b.parts (first ++ taken);
+  whole = session_of first taken lines puller h;
+}
+
+taken_all : (report first taken : List ℕ) (x y z w : SourceEnd) (b : Begins report x y) → Takes y z first → Consumes z.left w.left taken → Consumes x.left w.left (b.bytes ++ (first ++ taken))
+taken_all report first taken x y z w b t con = Consumes-trans _ _ _ _ _ b.taken (Consumes-trans _ _ _ _ _ t.taken con)
+
+-- ------ why there is no answer
+
+pub declined_by_session : (report : List ℕ) (x y z : SourceEnd) (status : Status) → Begins report x y → Refuses y z status → ((turns : ℕ) → status ≡ TooLong turns → ⊥) → Declines x z status
+declined_by_session report x y z Usage b r few = absurd r
+declined_by_session report x y z (Script line kind) b r few =
+    let fault : ScriptFault = record { line = line; kind = kind } in
+    (r.0 ∙ b.steady, of_input x.left y.left b.bytes fault b.taken (λ rest is. ap lines_asked (b.parts rest) ∙ subst (λ c. IfSome c (λ input. grammar (split input).script ≡ Err fault)) is r.1))
+declined_by_session report x y z (TooLong turns) b r few = absurd (few turns refl)
+declined_by_session report x y z ReadFault b f few = record {
+  bytes = b.bytes ++ f.bytes;
+  taken = Consumes-trans _ _ _ _ _ b.taken f.taken;
+  ends = inr (inr (record { report = report; session = f.bytes; parts = b.parts f.bytes; script = inl f.missing }));
+  rose = subst (λ n. Rose n z.faults) b.steady f.rose;
+}
+declined_by_session report x y z WriteFault b r few = absurd r
+declined_by_session report x y z NoMemory b r few = tt
+declined_by_session report x y z Done b r few = absurd r
+declined_by_session report x y z (Wrong fault) b r few = absurd r
+
+pub declined_by_stream : (report first : List ℕ) (x y z w : SourceEnd) (lines : List Line) (puller : Pulling) (status : Status)
+    → Begins report x y → Takes y z first → Holds first lines puller → IsCutOff z w puller status → Declines x w status
+declined_by_stream report first x y z w lines puller Usage b t h c = absurd c
+declined_by_stream report first x y z w lines puller (Script line kind) b t h c = absurd c
+declined_by_stream report first x y z w lines puller (TooLong turns) b t h (most, of) =
+    let taken = of.0 in
+    let few = of.2 h.ahead h.pulls in
+    record {
+      bytes = b.bytes ++ (first ++ taken);
+      report = report;
+      lines = lines;
+      stream = h.ahead ++ taken;
+      taken = taken_all report first taken x y z w b t of.1;
+      asks = asks report first taken x y lines puller b h;
+      most = most;
+      reads = omega (arith, few, h.reads, length-append b.bytes (first ++ taken), length-append first taken);
+    }
+declined_by_stream report first x y z w lines puller ReadFault b t h ((taken, con), rose) = record {
+  bytes = b.bytes ++ (first ++ taken);
+  taken = taken_all report first taken x y z w b t con;
+  ends = inr (inr (record {
+    report = report;
+    session = first ++ taken;
+    parts = b.parts (first ++ taken);
+    script = inr (lines, (h.ahead ++ taken, session_of first taken lines puller h));
+  }));
+  rose = subst (λ n. Rose n w.faults) (t.steady ∙ b.steady) rose;
+}
+declined_by_stream report first x y z w lines puller WriteFault b t h c = absurd c
+declined_by_stream report first x y z w lines puller NoMemory b t h c = tt
+declined_by_stream report first x y z w lines puller Done b t h c = absurd c
+declined_by_stream report first x y z w lines puller (Wrong fault) b t h c = absurd c
+
+-- a status that is handed on
+pub handed_on : {T : Type 0} (r : Result T Status) (status : Status) (P : Status → Type 0) → IsErrAnd r (λ e. e ≡ status) → P status → IfErr r P
+handed_on (Ok x) status P is p = tt
+handed_on (Err e) status P is p = subst P (sym is) p
+
+-- ------ the answer
+
+module _ (bytes : List ℕ) (stream : Stream) (whole : IsWholeOf bytes stream) where
+  count_of : (head_of bytes false).tally.packets ≡ length (cut bytes).packets
+  unfolding head_of
+  count_of = refl
+
+  pub counted : stream.head.tally.packets ≡ length stream.packets.items
+  counted = ap (λ h. h.tally.packets) whole.head ∙ (count_of ∙ sym (ap length whole.packets))
+
+  pub packets_are : All IsPacket stream.packets.items
+  packets_are = subst (All IsPacket) (sym whole.packets) (are_packets bytes)
+
+  told_right : (lines : List Line) (report : List ℕ) → IsRightReport lines stream.packets.items (told_head stream.head) report → IsRightReport lines (cut bytes).packets (head_of bytes false) report
+  told_right lines report r = subst (λ h. IsRightReport lines (cut bytes).packets h report) whole.head (subst (λ packets. IsRightReport lines packets (told_head stream.head) report) whole.packets r)
+
+  right_told : (lines : List Line) (report : List ℕ) → IsRightReport lines (cut bytes).packets (head_of bytes false) report → IsRightReport lines stream.packets.items (told_head stream.head) report
+  right_told lines report r = subst (λ h. IsRightReport lines stream.packets.items h report) (sym whole.head) (subst (λ packets. IsRightReport lines packets (head_of bytes false) report) (sym whole.packets) r)
+
+  right_or_not : (lines : List Line) (report : List ℕ) (right : Bool) → (right ≡ true → IsRightReport lines stream.packets.items (told_head stream.head) report)
+      → (right ≡ false → IsRightReport lines stream.packets.items (told_head stream.head) report → ⊥) → IsAnswer right report lines bytes
+  right_or_not lines report true right wrong =
+      (right_are_of_runs lines (cut bytes).packets (head_of bytes false) report (head_rows bytes false) count_of).1 (told_right lines report (right refl))
+  right_or_not lines report false right wrong =
+      λ of. wrong refl (right_told lines report ((right_are_of_runs lines (cut bytes).packets (head_of bytes false) report (head_rows bytes false) count_of).0 of))
+
+pub judged_by : (report first : List ℕ) (x y z w : SourceEnd) (lines : List Line) (puller : Pulling) (stream : Stream) (right : Bool)
+    → Begins report x y → Takes y z first → Holds first lines puller → OfStream z w puller (λ ahead taken. IsWholeOf (ahead ++ taken) stream) → ReadsTo false z w
+    → (right ≡ true → IsRightReport lines stream.packets.items (told_head stream.head) report)
+    → (right ≡ false → IsRightReport lines stream.packets.items (told_head stream.head) report → ⊥) → Judges right x w
+judged_by report first x y z w lines puller stream right b t h of reads told untold =
+    let taken = of.0 in
+    record {
+      bytes = b.bytes ++ (first ++ taken);
+      report = report;
+      lines = lines;
+      stream = h.ahead ++ taken;
+      taken = taken_all report first taken x y z w b t of.1;
+      reads = (reads.0 ∙ (t.steady ∙ b.steady), reads.1);
+      asks = asks report first taken x y lines puller b h;
+      answer = right_or_not (h.ahead ++ taken) stream (of.2 h.ahead h.pulls) lines report right told untold;
+    }
+
+pub judged : (report first : List ℕ) (x y z w : SourceEnd) (lines : List Line) (puller : Pulling) (stream : Stream) (fault : Option Fault)
+    → Begins report x y → Takes y z first → Holds first lines puller → OfStream z w puller (λ ahead taken. IsWholeOf (ahead ++ taken) stream) → ReadsTo false z w
+    → MatchOption fault (IsRightReport lines stream.packets.items (told_head stream.head) report) (λ _. IsRightReport lines stream.packets.items (told_head stream.head) report → ⊥)
+    → MatchOption fault (Judges true x w) (λ _. Judges false x w)
+judged report first x y z w lines puller stream None b t h of reads is = judged_by report first x y z w lines puller stream true b t h of reads (λ e. is) (λ e. absurd (cc))
+judged report first x y z w lines puller stream (Some fault) b t h of reads is = judged_by report first x y z w lines puller stream false b t h of reads (λ e. absurd (cc)) (λ e. is)
+
+-- ------ what is written
+
+pub answers_none : (x y : SourceEnd) (w : SinkEnd) (status : Status) → Declines x y status → Answers (outside x w) (outside y w) status
+answers_none x y w Usage d = absurd d
+answers_none x y w (Script line kind) d = (d, (keeps w.written, refl))
+answers_none x y w (TooLong turns) d = (d, (keeps w.written, refl))
+answers_none x y w ReadFault d = (d, (keeps w.written, refl))
+answers_none x y w WriteFault d = absurd d
+answers_none x y w NoMemory d = (d, (keeps w.written, refl))
+answers_none x y w Done d = absurd d
+answers_none x y w (Wrong fault) d = absurd d
+
+-- the same text written from another source
+whole_of : (s x y : SourceEnd) (w v : SinkEnd) (text : List ℕ) → WritesWhole (outside s w) (outside s v) text → WritesWhole (outside x w) (outside y v) text
+whole_of s x y w v text whole = record { written = whole.written; writes = whole.writes }
+
+part_of : (s x y : SourceEnd) (w v : SinkEnd) (text : List ℕ) → WritesFront (outside s w) (outside s v) text → WritesFront (outside x w) (outside y v) text
+part_of s x y w v text front = record { count = front.count; part = front.part; written = front.written; rose = front.rose }
+
+pub answers_yes : (s x y : SourceEnd) (w v : SinkEnd) (text : List ℕ) (status : Status) → text ≡ codes "yes\n" → Judges true x y → Tells (λ whole. whole ≡ text) (outside s w) (outside s v) status
+    → Answers (outside x w) (outside y v) status
+unfolding answer_text
+answers_yes s x y w v text Usage is judged says = absurd says
+answers_yes s x y w v text (Script line kind) is judged says = absurd says
+answers_yes s x y w v text (TooLong turns) is judged says = absurd says
+answers_yes s x y w v text ReadFault is judged says = absurd says
+answers_yes s x y w v text WriteFault is judged (whole, e, front) = record { right = true; judged = judged; front = part_of s x y w v _ (rw (← is, ← e) front) }
+answers_yes s x y w v text NoMemory is judged says = (tt, says)
+answers_yes s x y w v text Done is judged (whole, e, all) = record { judged = judged; whole = whole_of s x y w v _ (rw (← is, ← e) all) }
+answers_yes s x y w v text (Wrong fault) is judged says = absurd says
+
+pub answers_no : (s x y : SourceEnd) (w v : SinkEnd) (text : List ℕ) (fault : Fault) (status : Status) → text ≡ codes "no\n" → Judges false x y → Tells (λ whole. whole ≡ text) (outside s w) (outside s v) status
+    → Answers (outside x w) (outside y v) (wrong_as fault status)
+unfolding answer_text
+answers_no s x y w v text fault Usage is judged says = absurd says
+answers_no s x y w v text fault (Script line kind) is judged says = absurd says
+answers_no s x y w v text fault (TooLong turns) is judged says = absurd says
+answers_no s x y w v text fault ReadFault is judged says = absurd says
+answers_no s x y w v text fault WriteFault is judged (whole, e, front) = record { right = false; judged = judged; front = part_of s x y w v _ (rw (← is, ← e) front) }
+answers_no s x y w v text fault NoMemory is judged says = (tt, says)
+answers_no s x y w v text fault Done is judged (whole, e, all) = record { judged = judged; whole = whole_of s x y w v _ (rw (← is, ← e) all) }
+answers_no s x y w v text fault (Wrong other) is judged says = absurd says
+
+-- ------ what the input determines
+
+lines_of : (bytes rest report : List ℕ) (lines : List Line) (stream : List ℕ) → Asks bytes report lines stream → lines_asked (asked (bytes ++ rest)) ≡ Ok lines
+lines_of bytes rest report lines stream a =
+    ap lines_asked (asked_more bytes rest (record { report = report; session = a.session }) a.parts)
+    ∙ (ap grammar (split_more a.session rest stream a.whole.behind).0 ∙ a.whole.script)
+
+lines_in : (input : List ℕ) (x y : SourceEnd) (bytes report : List ℕ) (lines : List Line) (stream : List ℕ) → x.left ≡ Some input → Consumes x.left y.left bytes → Asks bytes report lines stream
+    → (lines_asked (asked input) ≡ Ok lines) × (length bytes ≤ length input)
+lines_in input x y bytes report lines stream has con a =
+    let t = by_taken input y.left bytes (subst (λ c. Consumes c y.left bytes) has con) in
+    (ap (λ xs. lines_asked (asked xs)) t.1 ∙ lines_of bytes t.0 report lines stream a, omega (arith, ap length t.1, length-append bytes t.0))
+
+determined : (input : List ℕ) (x y : SourceEnd) (w v : SinkEnd) (status : Status) → x.left ≡ Some input → x.faults < 2 ^ 64 - 1 → w.faults < 2 ^ 64 - 1
+    → y.faults ≡ x.faults → v.faults ≡ w.faults → Answers (outside x w) (outside y v) status → (status ≡ NoMemory) ⊎ SettlesAnswer (lines_asked (asked input)) input status
+determined input x y w v Usage has fr fw nr nw says = absurd says.0
+determined input x y w v (Script line kind) has fr fw nr nw says =
+    let fault : lines_asked (asked input) ≡ Err (record { line = line; kind = kind }) = subst (λ c. IfSome c (λ whole. lines_asked (asked whole) ≡ Err (record { line = line; kind = kind }))) has says.0.1 in
+    inr (rw fault refl)
+determined input x y w v (TooLong turns) has fr fw nr nw says =
+    let g = says.0 in
+    let ok = lines_in input x y g.bytes g.report g.lines g.stream has g.taken g.asks in
+    inr (rw ok.0 (λ short. absurd (omega (arith, g.most, g.reads, ok.1))))
+determined input x y w v ReadFault has fr fw nr nw says = absurd (steady x.faults fr (subst (λ n. Rose x.faults n) nr says.0.rose))
+determined input x y w v WriteFault has fr fw nr nw says = absurd (steady w.faults fw (subst (λ n. Rose w.faults n) nw says.front.rose))
+determined input x y w v NoMemory has fr fw nr nw says = inl refl
+determined input x y w v Done has fr fw nr nw says =
+    let m = says.judged in
+    inr (rw (lines_in input x y m.bytes m.report m.lines m.stream has m.taken m.asks).0 (λ short. tt))
+determined input x y w v (Wrong fault) has fr fw nr nw says =
+    let m = says.judged in
+    inr (rw (lines_in input x y m.bytes m.report m.lines m.stream has m.taken m.asks).0 (λ short. tt))
+
+settled_by : (content : Option (List ℕ)) (x y : SourceEnd) (w v : SinkEnd) (status : Status) → x.left ≡ content → x.faults < 2 ^ 64 - 1 → w.faults < 2 ^ 64 - 1
+    → y.faults ≡ x.faults → v.faults ≡ w.faults → Answers (outside x w) (outside y v) status
+    → IfSome content (λ input. (status ≡ NoMemory) ⊎ SettlesAnswer (lines_asked (asked input)) input status)
+settled_by None x y w v status has fr fw nr nw says = tt
+settled_by (Some input) x y w v status has fr fw nr nw says = determined input x y w v status has fr fw nr nw says
+
+pub checks : (x y : SourceEnd) (w v : SinkEnd) (status : Status) → x.faults < 2 ^ 64 - 1 → w.faults < 2 ^ 64 - 1 → Answers (outside x w) (outside y v) status → Checks (outside x w) (outside y v) status
+checks x y w v status fr fw says = record {
+  says = says;
+  settled = λ nr nw. settled_by x.left x y w v status refl fr fw nr nw says;
+}

@@ -1,0 +1,86 @@
+-- A stream that is read to its end, or isn't.
+use Rattle.std.proofs.Common.{◌≡◌, ◌≢◌, ◌<◌, ◌≤◌, ◌+◌, refl, sym, ap, subst, ◌∙◌, ℕ, zero, suc, true, false, List, [], ◌∷◌, ◌++◌, length, take, inl, inr, arith}
+use Rattle.std.proofs.lemmas.Bool.{cases_lt}
+use Rattle.std.specs.Prelude.{Option, Some, None, slice_get}
+use Rattle.emu_io.specs.Ends.{SourceEnd}
+use Rattle.ts_watch.specs.Head.{told_head, head_of}
+use Rattle.feed_pull.specs.declared.fault.Reading.{Reading}
+use Rattle.feed_pull.specs.declared.fault.Reading.TheVariants.{Going, Ended, Failed, TooMany}
+use Rattle.feed_pull.specs.declared.fault.PullFault.{PullFault}
+use Rattle.feed_pull.specs.declared.fault.PullFault.TheVariants as pull
+use Rattle.feed_pull.specs.Pulling.{Pulling, Pulls, HasGivenAll, fault_of, has_failed}
+use Rattle.feed_pull.specs.Steps.{Follows}
+use Rattle.feed_pull.specs.Streams.{Draws, OfStream}
+use Rattle.feed_pull.proofs.Stopping.{many_reads, of_stream}
+use Rattle.emu_top.specs.Session.{ReadsTo}
+use Rattle.emu_top.specs.Inside.Asking.{IsCutOff, IsWholeOf}
+use Rattle.emu_top.specs.declared.stream.Stream.{Stream}
+use Rattle.emu_top.specs.declared.status.Status.TheVariants.{TooLong, ReadFault}
+use Rattle.emu_top.proofs.Outputs.{rose_of}
+
+-- one more from the front
+pub take_next : {A : Type 0} (xs : List A) (i : ℕ) (x : A) → slice_get xs i ≡ Some x → take (i + 1) xs ≡ take i xs ++ x ∷ []
+take_next [] i x at = absurd (cc)
+take_next (y ∷ ys) zero x at = let same : y ≡ x = cc in ap (λ z. z ∷ []) same
+take_next (y ∷ ys) (suc i) x at =
+    let on : suc i + 1 ≡ suc (i + 1) = omega arith in
+    ap (λ n. take n (y ∷ ys)) on ∙ ap (λ zs. y ∷ zs) (take_next ys i x at)
+
+-- the packets and the head of all that was taken
+pub whole_of : (x y : SourceEnd) (old new : Pulling) (stream : Stream) → Draws x y old new stream.packets.items → HasGivenAll new → has_failed new.reading ≡ false
+    → ((ahead taken : List ℕ) (given : List (List ℕ)) → Pulls ahead taken given new → told_head stream.head ≡ head_of (ahead ++ taken) (has_failed new.reading))
+    → OfStream x y old (λ ahead taken. IsWholeOf (ahead ++ taken) stream)
+whole_of x y old new stream draws all well head = (
+  draws.carries.more,
+  draws.carries.consumes,
+  λ ahead pulls.
+      let p : Pulls ahead ([] ++ draws.carries.more) ([] ++ stream.packets.items) new = draws.carries.pulls ahead [] [] pulls in
+      record {
+        packets = sym (all ahead draws.carries.more stream.packets.items p);
+        head = head ahead draws.carries.more stream.packets.items p ∙ ap (head_of (ahead ++ draws.carries.more)) well;
+      },
+)
+
+-- how reading stands, by the fault that is told
+pub ended_of : (r : Reading) → fault_of r ≡ None → r ≢ Going → r ≡ Ended
+ended_of Going is stopped = absurd (stopped refl)
+ended_of Ended is stopped = refl
+ended_of Failed is stopped = absurd (cc)
+ended_of TooMany is stopped = absurd (cc)
+
+pub unfailed_of : (r : Reading) → fault_of r ≡ None → has_failed r ≡ false
+unfailed_of Going is = refl
+unfailed_of Ended is = refl
+unfailed_of Failed is = absurd (cc)
+unfailed_of TooMany is = refl
+
+failed_of : (r : Reading) → fault_of r ≡ Some pull.ReadFault → r ≡ Failed
+failed_of Going is = absurd (cc)
+failed_of Ended is = absurd (cc)
+failed_of Failed is = refl
+failed_of TooMany is = absurd (cc)
+
+turns_of : (r : Reading) (turns : ℕ) → fault_of r ≡ Some (pull.TooLong turns) → (r ≡ TooMany) × (turns ≡ 4294967296)
+turns_of Going turns is = absurd (cc)
+turns_of Ended turns is = absurd (cc)
+turns_of Failed turns is = absurd (cc)
+turns_of TooMany turns is = (refl, cc)
+
+-- nothing is left
+pub reads_to_end : (x y : SourceEnd) (old new : Reading) → Follows old new x y → old ≡ Going → new ≡ Ended → ReadsTo false x y
+reads_to_end x y old new f going ended = elim (cases_lt x.faults y.faults) [
+  | inl rose ↦ absurd (let failed : Ended ≡ Failed = sym ended ∙ f.rose rose in cc)
+  | inr same ↦ (omega (arith, same, f.later), f.ends going ended)
+]
+
+-- a read failed
+pub fault_cut_off : (x y : SourceEnd) (old new : Pulling) (packets : List (List ℕ)) → Draws x y old new packets → old.reading ≡ Going → fault_of new.reading ≡ Some pull.ReadFault → IsCutOff x y old ReadFault
+fault_cut_off x y old new packets draws going is =
+    ((draws.carries.more, draws.carries.consumes), rose_of x.faults y.faults (draws.follows.fails going (failed_of new.reading is)))
+
+-- too many reads were made
+pub reads_cut_off : (x y : SourceEnd) (old new : Pulling) (packets : List (List ℕ)) (turns : ℕ) → Draws x y old new packets → fault_of new.reading ≡ Some (pull.TooLong turns)
+    → (new.reading ≡ TooMany → 4294967296 ≤ new.start + new.taken) → IsCutOff x y old (TooLong turns)
+reads_cut_off x y old new packets turns draws is many =
+    let t = turns_of new.reading turns is in
+    (t.1, rw t.1 (many_reads x y old new packets draws (many t.0)))

@@ -1,0 +1,26 @@
+-- Laws of what is written.
+use Rattle.std.specs.Prelude.{ℕ, ◌≤◌, Bool, false, List}
+use Rattle.ts_packet.specs.Cut.{cut}
+use Rattle.ts_watch.specs.Head.{head_of}
+use Rattle.client_script.specs.declared.line.Line.{Line}
+use Rattle.serial_core.specs.Left.{histories_in, outcomes_in}
+use Rattle.report_read.specs.Ranges.{IsInRange}
+use Rattle.report_runs.specs.Completed.{told_by}
+use Rattle.report_runs.specs.Right.{IsReportOfRun}
+use Rattle.emu_top.specs.Session.{IsSerialOutput, IsThreadOutput}
+
+-- What is written for a session on one thread, all of which was read, is the report of a run of it, where the numbers that it
+-- tells fit their types: `check` answers `yes` to it.
+abbrev pub SerialOutputsAreOfRuns : Type 0
+SerialOutputsAreOfRuns =
+    (batch : ℕ) (lines : List Line) (stream text : List ℕ) → batch ≤ 64 → (o : IsSerialOutput batch lines stream false text)
+    → IsInRange (told_by (head_of stream false) (outcomes_in lines o.run) (histories_in o.run))
+    → IsReportOfRun lines (cut stream).packets (head_of stream false) text
+
+-- the same by threads
+abbrev pub ThreadOutputsAreOfRuns : Type 0
+ThreadOutputsAreOfRuns =
+    (batch : ℕ) (may : ℕ → Bool) (lines : List Line) (stream text : List ℕ) → batch ≤ 64
+    → (o : IsThreadOutput batch may lines stream false text)
+    → IsInRange (told_by (head_of stream false) o.outcomes o.histories)
+    → IsReportOfRun lines (cut stream).packets (head_of stream false) text

@@ -1,0 +1,170 @@
+-- Where each test is passed, the histories for which a report stands are those of a run.
+use Rattle.std.proofs.Common.{◌≡◌, ◌<◌, ◌≤◌, ◌+◌, refl, sym, ap, subst, ◌∙◌, ◌⊎◌, inl, inr, ℕ, zero, suc, List, [], ◌∷◌, ◌++◌, Bool, true, false, nat_eq, length, map, sum, arith, append-nil}
+use Rattle.std.proofs.lemmas.Bool.Decides.{nat_tests}
+use Rattle.std.proofs.lemmas.List.Elements.{All-head}
+use Rattle.lemmas.proofs.Lists.{at_place}
+use Rattle.std.specs.Prelude.{Option, Some, None, slice_get, nat_le, ◌&&◌, ◌≢◌}
+use Rattle.std.specs.List.{All}
+use Rattle.dmx_calls.specs.declared.limits.TheConstants.{DEMUX_NODES}
+use Rattle.dmx_calls.specs.declared.outcome.Outcome.{Outcome}
+use Rattle.dmx_calls.specs.History.{History}
+use Rattle.dmx_calls.specs.Legal.{IsLegalFor}
+use Rattle.dmx_calls.specs.Log.{LogEntry, filled}
+use Rattle.dmx_calls.specs.Response.{Response, NoMemory, Passed}
+use Rattle.dmx_calls.specs.Rules.{rules_at}
+use Rattle.client_script.specs.declared.line.Line.{Line}
+use Rattle.client_script.specs.Script.{clients_in}
+use Rattle.client_core.specs.Events.{outcomes}
+use Rattle.script_run.specs.IsRun.{Step, feeding, steps_of, IsFed, IsRun, HasDone, replies}
+use Rattle.report_text.specs.Told.{ToldNode, Told}
+use Rattle.report_read.specs.Ranges.{IsNodeInRange, IsEntryOf}
+use Rattle.report_read.specs.Report.{are_nodes}
+use Rattle.report_runs.specs.Completed.{renumbered, tiled, feeder_of, complete, completed}
+use Rattle.report_runs.specs.Right.{IsRunOf}
+use Rattle.report_runs.proofs.Empty.{legal_on, told_there, steps_there}
+use Rattle.report_runs.proofs.Right.{zero_fed}
+use Rattle.walk_check.specs.Laws.{AreInPlace}
+use Rattle.walk_check.specs.Walk.{IsRest, queues_in}
+use Rattle.walk_check.proofs.Doing.{walked_is_done}
+use Rattle.report_check.specs.Inside.Feeding.{step_of, feeds}
+use Rattle.report_check.specs.Inside.Parts.{is_callable, is_sound, are_sound, IsSoundNode, AreSoundNodes, IsPlayed, dealt, IsDoneAs, HasPassed}
+use Rattle.report_check.proofs.Lists.{both, all_at}
+use Rattle.report_check.proofs.Feeding.{IsFeedingFrom, feeds_is}
+use Rattle.report_check.proofs.Nodes.{IsTold, TellsOrNot, complete_at, complete_long, each_whole, in_place, same_queues}
+use Rattle.report_check.proofs.Fed.{IsFeeder, node_feeder, tiled_feeder}
+use Rattle.report_check.proofs.Passed.{done_at}
+
+-- ------ entries
+
+sound_at : (clients packets : ℕ) (es : List LogEntry) → are_sound clients packets es ≡ true → (i : ℕ) (e : LogEntry) → slice_get es i ≡ Some e → e.who ≤ clients
+sound_at clients packets [] all i e at = absurd (cc)
+sound_at clients packets (f ∷ es) all zero e at =
+    let same : f ≡ e = cc in
+    let front = both (is_sound clients packets f) (are_sound clients packets es) all in
+    let parts = both (nat_le f.who clients) (is_callable packets f.act) front.0 in
+    let low : f.who ≤ clients = grind (arith, nat_tests, parts.0) in
+    subst (λ (x : LogEntry). x.who ≤ clients) same low
+sound_at clients packets (f ∷ es) all (suc i) e at = sound_at clients packets es (both (is_sound clients packets f) (are_sound clients packets es) all).1 i e at
+
+-- ------ nodes
+
+feeder_by : (clients : ℕ) (packets : List (List ℕ)) (count : ℕ) → count ≡ length packets → (ns : List ToldNode) → AreSoundNodes clients (length packets) ns → All (IsPlayed packets) ns
+    → IsFeeder (length packets) (feeder_of count ns)
+feeder_by clients packets count is [] sound played = subst (λ (k : ℕ). IsFeeder k (tiled count 0 0 count)) is (tiled_feeder count)
+feeder_by clients packets count is (n ∷ ns) sound played =
+    node_feeder n.node packets n.entries (All-head (IsPlayed packets) n ns played).0 (feeds_is (length packets) 0 0 (steps_of 0 n.entries) sound.0)
+
+sound_nodes : (clients packets count : ℕ) (ns : List ToldNode) → AreSoundNodes clients packets ns → (i : ℕ) (n : ToldNode) → slice_get ns i ≡ Some n
+    → (are_sound clients packets n.entries ≡ true) × (steps_of 0 n.entries ≡ map step_of (feeder_of count ns))
+sound_nodes clients packets count [] sound i n at = absurd (cc)
+sound_nodes clients packets count (m ∷ ns) sound i n at =
+    let one = all_at (IsSoundNode clients packets m.entries) (m ∷ ns) sound.1 i n at in
+    (one.0, one.1)
+
+-- ------ the run
+
+module _ (lines : List Line) (packets : List (List ℕ)) (t : Told) (nodes : All IsNodeInRange t.nodes) (order : are_nodes 0 t.nodes ≡ true)
+    (count : t.head.tally.packets ≡ length packets) (p : HasPassed lines packets t) where
+  feeder : IsFeeder (length packets) (feeder_of t.head.tally.packets t.nodes)
+  feeder = feeder_by (clients_in lines) packets t.head.tally.packets count t.nodes p.nodes p.played
+
+  there : (node : ℕ) (h : List LogEntry) → slice_get (completed t) node ≡ Some h → TellsOrNot t.nodes (feeder_of t.head.tally.packets t.nodes) node h
+  unfolding completed
+  there node h at =
+      let sum : 0 + node ≡ node = omega arith in
+      subst (λ (k : ℕ). TellsOrNot t.nodes (feeder_of t.head.tally.packets t.nodes) k h) sum (complete_at (DEMUX_NODES + 1) 0 (feeder_of t.head.tally.packets t.nodes) t.nodes node h at)
+
+  places_by : (node place : ℕ) (h : List LogEntry) (e : LogEntry) → TellsOrNot t.nodes (feeder_of t.head.tally.packets t.nodes) node h → slice_get h place ≡ Some e
+      → (e.node ≡ node) × (e.place ≡ place) × (e.who ≤ clients_in lines) × (e.response ≢ NoMemory)
+  places_by node place h e (inl is) here =
+      let at : slice_get is.node.entries place ≡ Some e = subst (λ (es : List LogEntry). slice_get es place ≡ Some e) is.entries here in
+      let range = all_at IsNodeInRange t.nodes nodes is.index is.node is.at in
+      let one = all_at (IsEntryOf is.node.node) is.node.entries range.entries place e at in
+      let sound = sound_nodes (clients_in lines) (length packets) t.head.tally.packets t.nodes p.nodes is.index is.node is.at in
+      let played = all_at (IsPlayed packets) t.nodes p.played is.index is.node is.at in (
+        one.1 ∙ is.number,
+        in_place is.node (each_whole 0 t.nodes order is.index is.node is.at) place e at,
+        sound_at (clients_in lines) (length packets) is.node.entries sound.0 place e at,
+        all_at (λ x. x.response ≢ NoMemory) is.node.entries played.1 place e at,
+      )
+  places_by node place h e (inr same) here =
+      let at : slice_get (renumbered node 0 (feeder_of t.head.tally.packets t.nodes)) place ≡ Some e = subst (λ (es : List LogEntry). slice_get es place ≡ Some e) same here in
+      let one = told_there node 0 (feeder_of t.head.tally.packets t.nodes) feeder.plain place e at in
+      let passed : e.response ≡ Passed = one.3 in
+      (one.0, omega (arith, one.1), omega (arith, one.2), λ no. absurd (apart (sym passed ∙ no)))
+    where
+      apart : Passed ≡ NoMemory → ⊥
+      apart same = absurd (cc)
+
+  places : (node place : ℕ) (h : List LogEntry) (e : LogEntry) → slice_get (completed t) node ≡ Some h → slice_get h place ≡ Some e
+      → (e.node ≡ node) × (e.place ≡ place) × (e.who ≤ clients_in lines) × (e.response ≢ NoMemory)
+  places node place h e at here = places_by node place h e (there node h at) here
+
+  legal_by : (node : ℕ) (h : List LogEntry) → TellsOrNot t.nodes (feeder_of t.head.tally.packets t.nodes) node h → IsLegalFor (rules_at node) (filled packets h)
+  legal_by node h (inl is) =
+      let played = all_at (IsPlayed packets) t.nodes p.played is.index is.node is.at in
+      let mine : IsLegalFor (rules_at node) (filled packets is.node.entries) = subst (λ (k : ℕ). IsLegalFor (rules_at k) (filled packets is.node.entries)) is.number played.0 in
+      subst (λ (es : List LogEntry). IsLegalFor (rules_at node) (filled packets es)) (sym is.entries) mine
+  legal_by node h (inr same) =
+      let legal = legal_on (rules_at node) packets node 0 (feeder_of t.head.tally.packets t.nodes) [] tt feeder.plain in
+      let mine : IsLegalFor (rules_at node) (filled packets (renumbered node 0 (feeder_of t.head.tally.packets t.nodes))) =
+      subst (λ (g : History). IsLegalFor (rules_at node) g) (append-nil (filled packets (renumbered node 0 (feeder_of t.head.tally.packets t.nodes)))) legal in
+      subst (λ (es : List LogEntry). IsLegalFor (rules_at node) (filled packets es)) (sym same) mine
+
+  steps_by : (node : ℕ) (h : List LogEntry) → TellsOrNot t.nodes (feeder_of t.head.tally.packets t.nodes) node h → steps_of 0 h ≡ feeding 0 0 feeder.fed.batches
+  steps_by node h (inl is) =
+      let sound = sound_nodes (clients_in lines) (length packets) t.head.tally.packets t.nodes p.nodes is.index is.node is.at in
+      ap (steps_of 0) is.entries ∙ (sound.1 ∙ feeder.fed.same)
+  steps_by node h (inr same) = ap (steps_of 0) same ∙ (steps_there node 0 (feeder_of t.head.tally.packets t.nodes) feeder.plain ∙ feeder.fed.same)
+
+  -- ------ a client
+
+  record IsDone (c : ℕ) : Type 0 where
+    done : HasDone lines c (completed t)
+    outcomes : slice_get t.outcomes c ≡ Some (outcomes c lines (replies done.made))
+
+  in_places : AreInPlace (completed t)
+  in_places node place h e at here = let x = places node place h e at here in (x.0, x.1)
+
+  done_by : (c : ℕ) (o : List Outcome) → slice_get t.outcomes c ≡ Some o → IsDoneAs lines (dealt t.nodes) c o → IsDone c
+  unfolding completed
+  done_by c o at is =
+      let same : queues_in c (completed t) ≡ queues_in c (dealt t.nodes) = same_queues c (DEMUX_NODES + 1) 0 (feeder_of t.head.tally.packets t.nodes) t.nodes (zero_fed t.head.tally.packets t.nodes) in
+      let rest : IsRest c lines [] (queues_in c (completed t)) is.made = subst (λ (qs : List (List LogEntry)). IsRest c lines [] qs is.made) (sym same) is.rest in
+      let d = walked_is_done c lines (completed t) in_places is.made rest in
+      record {
+        done = d.0;
+        outcomes = at ∙ ap (λ (x : List Outcome). Some x) (is.outcomes ∙ ap (λ (made : List LogEntry). outcomes c lines (replies made)) (sym d.1));
+      }
+
+  some_at : (c : ℕ) → c < clients_in lines → (o : Option (List Outcome)) → slice_get t.outcomes c ≡ o → IsDone c
+  some_at c is (Some o) at =
+      let sum : 0 + c ≡ c = omega arith in
+      done_by c o at (subst (λ (k : ℕ). IsDoneAs lines (dealt t.nodes) k o) sum (done_at lines (dealt t.nodes) 0 t.outcomes p.done c o at))
+  some_at c is None at =
+      let low : c < length t.outcomes = omega (arith, is, p.clients) in
+      let s = at_place t.outcomes c low in
+      let none : None ≡ Some s.0 = sym at ∙ s.1 in
+      absurd (cc none)
+
+  client : (c : ℕ) → c < clients_in lines → IsDone c
+  client c is = some_at c is (slice_get t.outcomes c) refl
+
+  pub is_run : IsRunOf lines packets t.outcomes (completed t)
+  unfolding completed
+  is_run = record {
+    run = record {
+      nodes = complete_long (DEMUX_NODES + 1) 0 (feeder_of t.head.tally.packets t.nodes) t.nodes;
+      places = places;
+      legal = λ node h at. legal_by node h (there node h at);
+      fed = record {
+        batches = feeder.fed.batches;
+        each_size = feeder.fed.sizes;
+        whole = omega (arith, feeder.fed.whole);
+        on_each = λ node h at. steps_by node h (there node h at);
+      };
+      clients_done = λ c is. (client c is).done;
+    };
+    clients = p.clients;
+    outcomes = λ c is. (client c is).outcomes;
+  }

@@ -1,0 +1,13 @@
+pub mod Lists
+pub mod Ways
+pub mod Feeding
+pub mod Nodes
+pub mod Ranges
+pub mod Callable
+pub mod Fed
+pub mod Passed
+pub mod Deciding
+pub mod Few
+pub mod Checking
+pub mod Playing
+pub mod Dealt

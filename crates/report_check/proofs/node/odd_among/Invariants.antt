@@ -1,0 +1,15 @@
+use Rattle.std.proofs.Common.{length, map, All}
+use Rattle.dmx_calls.specs.Calls.{told_entry}
+use Rattle.report_check.specs.Inside.Parts.{told_nodes, IsSoundNode}
+use Rattle.report_check.proofs.node.odd_among.Given as goal
+
+abbrev pub invariant-nodes : goal.invariant-nodes
+invariant-nodes l = record {
+  on : All (IsSoundNode l.fn.clients l.fn.packets (map told_entry l.fn.others)) (told_nodes l.fn.nodes)
+      → All (IsSoundNode l.fn.clients l.fn.packets (map told_entry l.fn.others)) (told_nodes l.rest);
+  back : All (IsSoundNode l.fn.clients l.fn.packets (map told_entry l.fn.others)) (told_nodes l.rest)
+      → All (IsSoundNode l.fn.clients l.fn.packets (map told_entry l.fn.others)) (told_nodes l.fn.nodes);
+}
+
+abbrev pub decreases-nodes : goal.decreases-nodes
+decreases-nodes l = length l.rest

@@ -1,0 +1,10 @@
+use Rattle.std.proofs.Common.{◌≡◌, length, map}
+use Rattle.dmx_calls.specs.Calls.{told_entry}
+use Rattle.report_check.specs.Inside.Parts.{are_sound}
+use Rattle.report_check.proofs.node.unsound.Given as goal
+
+abbrev pub invariant-entries : goal.invariant-entries
+invariant-entries l = are_sound l.fn.clients l.fn.packets (map told_entry l.fn.entries) ≡ are_sound l.fn.clients l.fn.packets (map told_entry l.rest)
+
+abbrev pub decreases-entries : goal.decreases-entries
+decreases-entries l = length l.rest

@@ -1,0 +1,63 @@
+use Rattle.std.proofs.Common.{◌≡◌, ◌<◌, ◌^◌, List, map, length, sym, subst, arith}
+use Rattle.std.proofs.lemmas.List.{length-map}
+use Rattle.std.specs.Prelude.{IfOk, MatchOption, Vec}
+use Rattle.std.specs.declared.alloc.Global.{Global}
+use Rattle.dmx_calls.specs.declared.log.Entry.{Entry as ToldEntry}
+use Rattle.dmx_calls.specs.declared.outcome.Outcome.{Outcome}
+use Rattle.std.specs.List.{All}
+use Rattle.client_script.specs.Script.{clients_in}
+use Rattle.report_text.specs.Told.{ToldNode, Told}
+use Rattle.report_read.specs.Report.{told_of}
+use Rattle.report_check.specs.Inside.Parts.{told_nodes, AreSoundNodes, IsPlayed, dealt, AreDoneAs, HasPassed}
+use Rattle.walk_check.specs.Inside.Steps.{left_on}
+use Rattle.report_check.proofs.Dealt.{Node}
+use Rattle.report_check.proofs.Few.{few_left}
+use Rattle.report_check.proofs.Checking.{bounds, sound_all}
+use Rattle.report_check.proofs.Ways.{ok_by_other, at_none, at_some}
+use Rattle.report_check.proofs.report.odd_part.Goals as goal
+
+pub returns-then-len-clients : goal.returns-then-len-clients
+returns-then-len-clients c passed =
+    let all : length (map (λ o. o.items) c.args.told.now.outcomes.items) ≡ clients_in c.args.script.now = passed.clients in
+    let same : length c.args.told.now.outcomes.items ≡ clients_in c.args.script.now = rw length-map at all in
+    c.if-len-clients.true (omega (arith, same, c.args.told.now.outcomes.ok.0))
+
+pub returns-in-Some : goal.returns-in-Some
+returns-in-Some c passed =
+    let there : AreSoundNodes (clients_in c.args.script.now) (length c.args.packets.now) (told_nodes c.args.told.now.nodes.items) = passed.nodes in
+    c.in-Some.ensures (rw (c.clients-clients.ensures.count, c.deref.ensures.value) there)
+
+pub odd_client-requires-clause-few : goal.odd_client-requires-clause-few
+odd_client-requires-clause-few c =
+    subst (λ (ns : List Node). left_on (dealt (told_nodes ns)) < 2 ^ 46) (sym c.deref-2.ensures.value) (few_left (told_of c.args.told.now) c.requires.few)
+
+pub returns-in-Some-2 : goal.returns-in-Some-2
+returns-in-Some-2 c passed =
+    let Done : List Node → List (Vec Outcome Global) → Type 0 = λ ns os. AreDoneAs c.args.script.now (dealt (told_nodes ns)) 0 (map (λ o. o.items) os) in
+    let done : Done c.args.told.now.nodes.items c.args.told.now.outcomes.items = passed.done in
+    let there : Done c.deref-2.result.now c.deref-3.result.now =
+    subst (λ (ns : List Node). Done ns c.deref-3.result.now) (sym c.deref-2.ensures.value) (subst (λ (os : List (Vec Outcome Global)). Done c.args.told.now.nodes.items os) (sym c.deref-3.ensures.value) done) in
+    at_some c.in_ok-odd.field-0 c.in-Some-2.odd (Done c.deref-2.result.now c.deref-3.result.now) (Done c.deref-2.result.now c.deref-3.result.now → ⊥) c.in_ok-odd.ensures c.in-Some-2.is there
+
+pub odd_play-requires-clause-nodes : goal.odd_play-requires-clause-nodes
+odd_play-requires-clause-nodes c = rw c.deref-4.ensures.value (bounds (told_of c.args.told.now) c.requires.range c.requires.few)
+
+pub odd_play-requires-clause-sound : goal.odd_play-requires-clause-sound
+odd_play-requires-clause-sound c =
+    let sound : AreSoundNodes c.clients-clients.result (length c.args.packets.now) (told_nodes c.args.told.now.nodes.items) = rw c.deref.ensures.value at c.in_default.ensures in
+    (c.clients-clients.result, rw c.deref-4.ensures.value (sound_all c.clients-clients.result (length c.args.packets.now) (told_nodes c.args.told.now.nodes.items) sound))
+
+pub returns : goal.returns
+returns c =
+    let ns : List ToldNode = told_nodes c.args.told.now.nodes.items in
+    let sound : AreSoundNodes (clients_in c.args.script.now) (length c.args.packets.now) (told_nodes c.args.told.now.nodes.items) = rw (c.clients-clients.ensures.count, c.deref.ensures.value) at c.in_default.ensures in
+    let Done : List Node → List (Vec Outcome Global) → Type 0 = λ ns os. AreDoneAs c.args.script.now (dealt (told_nodes ns)) 0 (map (λ o. o.items) os) in
+    let there : Done c.deref-2.result.now c.deref-3.result.now =
+    at_none c.in_ok-odd.field-0 (Done c.deref-2.result.now c.deref-3.result.now) (Done c.deref-2.result.now c.deref-3.result.now → ⊥) c.in_ok-odd.ensures c.in_default-2.is in
+    let done : Done c.args.told.now.nodes.items c.args.told.now.outcomes.items =
+    subst (λ (ns : List Node). Done ns c.args.told.now.outcomes.items) c.deref-2.ensures.value (subst (λ (os : List (Vec Outcome Global)). Done c.deref-2.result.now os) c.deref-3.ensures.value there) in
+    let same : length c.args.told.now.outcomes.items ≡ clients_in c.args.script.now = omega (arith, c.if-len-clients.false, c.args.told.now.outcomes.ok.0) in
+    let clients : length (map (λ o. o.items) c.args.told.now.outcomes.items) ≡ clients_in c.args.script.now = rw length-map same in
+    let played : IfOk c.odd_play.result (λ odd. MatchOption odd (All (IsPlayed c.args.packets.now) (told_nodes c.args.told.now.nodes.items)) (λ _. All (IsPlayed c.args.packets.now) (told_nodes c.args.told.now.nodes.items) → ⊥)) = rw c.deref-4.ensures.value at c.odd_play.ensures in
+    ok_by_other c.odd_play.result (All (IsPlayed c.args.packets.now) (told_nodes c.args.told.now.nodes.items)) (HasPassed c.args.script.now c.args.packets.now (told_of c.args.told.now))
+    (λ all. record { clients = clients; nodes = sound; done = done; played = all }) (λ passed. passed.played) played

@@ -1,0 +1,88 @@
+-- The parts of a report, as they are asked.
+use Rattle.std.specs.Prelude.{◌≡◌, ◌≢◌, ◌<◌, ℕ, ◌+◌, ◌&&◌, Bool, true, List, [], ◌∷◌, length, map, nat_le, nat_lt, slice_get, Some, Vec}
+use Rattle.std.specs.List.{All}
+use Rattle.std.specs.declared.alloc.Global.{Global}
+use Rattle.dmx_calls.specs.declared.limits.TheConstants.{DEMUX_NODES, LARGEST_READ}
+use Rattle.dmx_calls.specs.declared.outcome.Outcome.{Outcome}
+use Rattle.dmx_calls.specs.declared.log.Act.{Act}
+use Rattle.dmx_calls.specs.declared.log.Entry.{Entry as ToldEntry}
+use Rattle.dmx_calls.specs.declared.log.Act.TheVariants.{Read as ReadAct, Pass as PassAct}
+use Rattle.dmx_calls.specs.Calls.{told_entry}
+use Rattle.dmx_calls.specs.Legal.{IsLegalFor}
+use Rattle.dmx_calls.specs.Log.{LogEntry, filled}
+use Rattle.dmx_calls.specs.Response.{NoMemory}
+use Rattle.dmx_calls.specs.Rules.{rules_at}
+use Rattle.client_script.specs.declared.line.Line.{Line}
+use Rattle.client_script.specs.Script.{clients_in}
+use Rattle.client_core.specs.Events.{outcomes}
+use Rattle.script_run.specs.IsRun.{replies, steps_of}
+use Rattle.report_text.specs.Told.{ToldNode, Told}
+use Rattle.report_runs.specs.Completed.{complete}
+use Rattle.walk_check.specs.Walk.{IsRest, queues_in}
+use Rattle.report_check.specs.Inside.Feeding.{feeds, IsFedAlike}
+
+-- ------ entries
+
+-- whether the call can be made again: a read is no longer than a read may be, and a pass has 1 to 64 of so many packets
+abbrev pub is_callable : (packets : ℕ) → Act → Bool
+is_callable packets (ReadAct now count) = nat_le count LARGEST_READ
+is_callable packets (PassAct input first count now) = nat_lt 0 count && (nat_le count 64 && nat_le (first + count) packets)
+is_callable packets _ = true
+
+-- whether the entry is one of the feeder or of so many clients, and can be made again
+abbrev pub is_sound : (clients packets : ℕ) → LogEntry → Bool
+is_sound clients packets e = nat_le e.who clients && is_callable packets e.act
+
+abbrev pub are_sound : (clients packets : ℕ) → List LogEntry → Bool
+are_sound clients packets [] = true
+are_sound clients packets (e ∷ es) = is_sound clients packets e && are_sound clients packets es
+
+-- ------ nodes
+
+-- nodes with their entries, as the code has them
+abbrev pub told_node : ℕ × Vec ToldEntry Global → ToldNode
+told_node n = record { node = n.0; entries = map told_entry n.1.items }
+
+abbrev pub told_nodes : List (ℕ × Vec ToldEntry Global) → List ToldNode
+told_nodes nodes = map told_node nodes
+
+-- a node with sound entries, on which the feeder's calls are the same as in these others
+abbrev pub IsSoundNode : (clients packets : ℕ) → (others : List LogEntry) → ToldNode → Type 0
+IsSoundNode clients packets others n = (are_sound clients packets n.entries ≡ true) × IsFedAlike others n.entries
+
+-- all nodes are, as the first is, on which the feeder passes so many packets
+abbrev pub AreSoundNodes : (clients packets : ℕ) → List ToldNode → Type 0
+AreSoundNodes clients packets [] = Unit {0}
+AreSoundNodes clients packets (n ∷ ns) =
+    (feeds packets 0 0 (steps_of 0 n.entries) ≡ true) × All (IsSoundNode clients packets n.entries) (n ∷ ns)
+
+-- each reply on the node is the one that the entries before it give, and memory was found
+abbrev pub IsPlayed : (packets : List (List ℕ)) → ToldNode → Type 0
+IsPlayed packets n =
+    IsLegalFor (rules_at n.node) (filled packets n.entries) × All (λ e. e.response ≢ NoMemory) n.entries
+
+-- ------ clients
+
+-- the entries of each node, none for a node that isn't told
+abbrev pub dealt : List ToldNode → List (List LogEntry)
+dealt nodes = complete (DEMUX_NODES + 1) 0 [] nodes
+
+-- the client's entries are just what its commands ask for, and this is what became of them
+pub record IsDoneAs (lines : List Line) (hs : List (List LogEntry)) (client : ℕ) (told : List Outcome) : Type 0 where
+  pub made : List LogEntry
+  pub rest : IsRest client lines [] (queues_in client hs) made
+  pub outcomes : told ≡ outcomes client lines (replies made)
+
+-- so are those of the clients from this one on
+abbrev pub AreDoneAs : (lines : List Line) → (hs : List (List LogEntry)) → (client : ℕ) → List (List Outcome) → Type 0
+AreDoneAs lines hs client [] = Unit {0}
+AreDoneAs lines hs client (told ∷ more) = IsDoneAs lines hs client told × AreDoneAs lines hs (client + 1) more
+
+-- ------ the whole
+
+-- all that is asked of what a report tells
+pub record HasPassed (lines : List Line) (packets : List (List ℕ)) (t : Told) : Type 0 where
+  pub clients : length t.outcomes ≡ clients_in lines
+  pub nodes : AreSoundNodes (clients_in lines) (length packets) t.nodes
+  pub done : AreDoneAs lines (dealt t.nodes) 0 t.outcomes
+  pub played : All (IsPlayed packets) t.nodes

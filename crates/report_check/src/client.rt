@@ -1,0 +1,100 @@
+// The clients' told entries.
+ghost use Rattle.std.specs.Prelude.{◌≡◌, ◌+◌, ◌≢◌, ◌<◌, ◌^◌, ◌∷◌, [], ℕ, length, map, true, false, IfOk, MatchOption};
+ghost use Rattle.dmx_calls.specs.declared.limits.TheConstants.{DEMUX_NODES as nodes_of_demux};
+ghost use Rattle.dmx_calls.specs.Calls.{told_entry};
+ghost use Rattle.report_runs.specs.Completed.{complete};
+ghost use Rattle.walk_check.specs.Inside.Steps.{left_on};
+ghost use Rattle.report_check.specs.Inside.Parts.{told_nodes, dealt as dealt_to, IsDoneAs, AreDoneAs};
+
+use crate::fault::{FaultKind, Odd};
+use crate::stop::odd_call;
+use client_core::ClientCore;
+use client_script::Script;
+use dmx_calls::limits::DEMUX_NODES;
+use dmx_calls::{Entry, Outcome};
+use std::alloc::{AllocError as NoMemory, Global};
+use walk_check::is_walked;
+
+// The entries of this node, and the nodes behind it; no entries where the first node isn't this one.
+fn entries_of(nodes: &[(u32, Vec<Entry>)], node: u32) -> (&[Entry], &[(u32, Vec<Entry>)])
+    ensures { (left : ℕ) → complete (left + 1) node [] (told_nodes nodes.now)
+        ≡ map told_entry result.0.now ∷ complete left (node + 1) [] (told_nodes result.1.now) }
+{
+    match nodes {
+        [first, later @ ..] if first.0 == node => (first.1.as_slice(), later),
+        _ => (&[], nodes),
+    }
+}
+
+// The entries of each node, none for a node that isn't told.
+fn dealt<'a>(alloc: Global, nodes: &'a [(u32, Vec<Entry>)]) -> Result<Vec<&'a [Entry]>, NoMemory>
+    ensures dealt { IfOk result (λ hs. map (λ h. map told_entry h.now) hs.items ≡ dealt_to (told_nodes nodes.now)) }
+    ensures long { IfOk result (λ hs. length hs.items ≡ nodes_of_demux + 1) }
+{
+    let mut dealt = Vec::with_capacity(alloc, DEMUX_NODES as usize + 1)?;
+    let mut rest = nodes;
+    'nodes: for node in 0..DEMUX_NODES + 1 {
+        let (entries, after) = entries_of(rest, node);
+        dealt.push(entries)?;
+        rest = after;
+    }
+    Ok(dealt)
+}
+
+fn are_same(this: &[Outcome], other: &[Outcome]) -> bool
+    ensures same { result ≡ true → this.now ≡ other.now }
+    ensures differs { result ≡ false → this.now ≢ other.now }
+{
+    this == other
+}
+
+// What is wrong where a client's entries aren't just what its commands ask for, or this isn't what became of them.
+fn odd_of(
+    alloc: Global,
+    script: &Script,
+    client: u32,
+    nodes: &[(u32, Vec<Entry>)],
+    told: &[Outcome],
+) -> Result<Option<Odd>, NoMemory>
+    requires client { client < 4294967295 }
+    requires few { left_on (dealt_to (told_nodes nodes.now)) < 2 ^ 46 }
+    ensures { IfOk result (λ odd. MatchOption odd
+        (IsDoneAs script.now (dealt_to (told_nodes nodes.now)) client told.now)
+        (λ _. IsDoneAs script.now (dealt_to (told_nodes nodes.now)) client told.now → ⊥)) }
+{
+    let mut core = ClientCore::new(alloc, script, client)?;
+    let mut queues = dealt(alloc, nodes)?;
+    if !is_walked(&mut core, client, &mut queues) {
+        return Ok(Some(odd_call(&core, client, nodes, &queues)));
+    }
+    if !are_same(told, core.outcomes()) {
+        let kind = FaultKind::Outcome;
+        return Ok(Some(Odd::Client { client, kind }));
+    }
+    Ok(None)
+}
+
+/// What is wrong with the first client that isn't told as it is done.
+pub fn odd_client(
+    alloc: Global,
+    script: &Script,
+    nodes: &[(u32, Vec<Entry>)],
+    outcomes: &[Vec<Outcome>],
+) -> Result<Option<Odd>, NoMemory>
+    requires clients { length outcomes.now < 4294967295 }
+    requires few { left_on (dealt_to (told_nodes nodes.now)) < 2 ^ 46 }
+    ensures { IfOk result (λ odd. MatchOption odd
+        (AreDoneAs script.now (dealt_to (told_nodes nodes.now)) 0 (map (λ o. o.items) outcomes.now))
+        (λ _. AreDoneAs script.now (dealt_to (told_nodes nodes.now)) 0 (map (λ o. o.items) outcomes.now) → ⊥)) }
+{
+    let mut client: u32 = 0;
+    let mut rest = outcomes;
+    'clients: while let [told, after @ ..] = rest {
+        if let Some(odd) = odd_of(alloc, script, client, nodes, told)? {
+            return Ok(Some(odd));
+        }
+        client += 1;
+        rest = after;
+    }
+    Ok(None)
+}

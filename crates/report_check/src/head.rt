@@ -1,0 +1,22 @@
+// The head of a report.
+ghost use Rattle.std.specs.Prelude.{◌≡◌, ◌≢◌, true, false};
+ghost use Rattle.ts_watch.specs.Head.{told_head};
+
+use ts_watch::{Head, PidRow};
+
+fn are_same_rows(this: &[(u16, PidRow)], other: &[(u16, PidRow)]) -> bool
+    ensures same { result ≡ true → this.now ≡ other.now }
+    ensures differs { result ≡ false → this.now ≢ other.now }
+{
+    this == other
+}
+
+/// Whether two heads are the same.
+pub fn is_same_head(this: &Head, other: &Head) -> bool
+    ensures same { result ≡ true → told_head this.now ≡ told_head other.now }
+    ensures differs { result ≡ false → told_head this.now ≢ told_head other.now }
+{
+    this.tally == other.tally
+        && are_same_rows(&this.rows, &other.rows)
+        && this.read_fault == other.read_fault
+}

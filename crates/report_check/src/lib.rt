@@ -1,0 +1,35 @@
+//! Reports checked: whether a report is the right one of a run of its session, and what is wrong with it.
+//!
+//! `first_fault` reads a report and compares its head with the stream's. Of the nodes that it shows it asks that the feeder passes
+//! the stream's packets on the first, and the same on each other; that each entry's caller is the feeder or a client of the script;
+//! that each client's entries are just what its commands ask for, and this became of them; and that each reply is the one that the
+//! node's entries before it give, by playing them again. `check` says whether it finds nothing. All of it is this project's own.
+//!
+//! What a contract sees: the report as the list of its bytes, the script as the list of its lines, the stream's packets as lists of
+//! bytes, and the head as a record of numbers and rows. `IsRightReport` of `report_runs` says what is right: it names the text, the
+//! rules of the nodes and of the clients, and nothing of how this crate asks. The definitions of `specs/Inside/` are for the
+//! contracts of the crate's own functions.
+//!
+//! What is proved: `check` answers true exactly where the report is the right one of this head and of some run of the script over
+//! these packets, in batches of at most 64 and at any moments; `first_fault` answers None exactly there. Where memory is refused,
+//! both answer that.
+//!
+//! What isn't proved: which line and which kind `first_fault` tells. The line is 0 where none is known. What is only tested, in
+//! `check_tests`: that a report worked out by hand is right, and that line and kind are those of what is changed in it.
+//!
+//! The cost is linear in the report and the packets that its nodes are passed: nothing is sorted, and the stream isn't walked for
+//! itself. All memory is what was read of the report, its text once more, and a batch or a buffer at a time.
+#![tactic(auto)]
+
+mod client;
+mod fault;
+mod feeder;
+mod head;
+mod line;
+mod node;
+mod play;
+mod report;
+mod stop;
+
+pub use fault::{Fault, FaultKind};
+pub use report::{check, first_fault};

@@ -1,0 +1,36 @@
+// Which line of a report tells what. Nothing is claimed of the numbers.
+use dmx_calls::Outcome;
+use report_read::Told;
+
+// How many lines tell these clients.
+fn lines_of(outcomes: &[Vec<Outcome>]) -> u64 {
+    let mut lines: u64 = 0;
+    'clients: for told in outcomes {
+        lines = lines.saturating_add(1).saturating_add(told.len() as u64);
+    }
+    lines
+}
+
+// The line behind the head.
+fn behind_head(told: &Told) -> u64 {
+    (told.head.rows.len() as u64).saturating_add(3)
+}
+
+/// The line of a client; the line behind the clients where it isn't told.
+pub fn line_of_client(told: &Told, client: u32) -> u64 {
+    let before = told.outcomes.len().min(client as usize);
+    behind_head(told).saturating_add(lines_of(&told.outcomes[..before]))
+}
+
+/// The line of the entry at this place of a node; the line behind the nodes where the node isn't told.
+pub fn line_of_entry(told: &Told, node: u32, place: u64) -> u64 {
+    let mut line = behind_head(told).saturating_add(lines_of(&told.outcomes));
+    'nodes: for (number, entries) in &told.nodes {
+        line = line.saturating_add(1);
+        if *number == node {
+            return line.saturating_add(place.min(entries.len() as u64));
+        }
+        line = line.saturating_add(entries.len() as u64);
+    }
+    line
+}

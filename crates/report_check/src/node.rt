@@ -1,0 +1,106 @@
+// The told entries of the nodes.
+ghost use Rattle.std.specs.Prelude.{◌≡◌, length, map, true, false, MatchOption, All};
+ghost use Rattle.dmx_calls.specs.Calls.{told_entry};
+ghost use Rattle.report_check.specs.Inside.Parts.{told_node, told_nodes, is_callable as can_be_called, is_sound as is_sound_entry, are_sound, IsSoundNode, AreSoundNodes};
+
+use crate::fault::{FaultKind, Odd};
+use crate::feeder::{fed_unlike, unfed};
+use dmx_calls::limits::LARGEST_READ;
+use dmx_calls::{Act, Entry};
+
+// Whether the call can be made again with so many packets.
+fn is_callable(act: &Act, packets: u64) -> bool
+    ensures { result ≡ can_be_called packets act.now }
+{
+    match act {
+        Act::Read { count, .. } => *count <= LARGEST_READ,
+        Act::Pass { first, count, .. } => {
+            *count > 0 && *count <= 64 && *first <= packets && u64::from(*count) <= packets - *first
+        }
+        _ => true,
+    }
+}
+
+fn is_sound(entry: &Entry, clients: u32, packets: u64) -> bool
+    ensures { result ≡ is_sound_entry clients packets (told_entry entry.now) }
+{
+    entry.who <= clients && is_callable(&entry.act, packets)
+}
+
+// The place of the first entry that isn't sound.
+fn unsound(entries: &[Entry], clients: u32, packets: u64) -> Option<u64>
+    ensures { MatchOption result (are_sound clients packets (map told_entry entries.now) ≡ true)
+        (λ _. are_sound clients packets (map told_entry entries.now) ≡ false) }
+{
+    let mut rest = entries;
+    'entries: while let [entry, after @ ..] = rest {
+        if !is_sound(entry, clients, packets) {
+            return Some(entry.place);
+        }
+        rest = after;
+    }
+    None
+}
+
+// What is wrong on a node whose entries aren't sound, or whose feeder's calls aren't the same as in these others.
+fn odd_on(node: &(u32, Vec<Entry>), others: &[Entry], clients: u32, packets: u64) -> Option<Odd>
+    ensures { MatchOption result
+        (IsSoundNode clients packets (map told_entry others.now) (told_node node.now))
+        (λ _. IsSoundNode clients packets (map told_entry others.now) (told_node node.now) → ⊥) }
+{
+    if let Some(place) = unsound(&node.1, clients, packets) {
+        return Some(Odd::Entry {
+            node: node.0,
+            place,
+            kind: FaultKind::Place,
+        });
+    }
+    if let Some(place) = fed_unlike(others, &node.1) {
+        return Some(Odd::Entry {
+            node: node.0,
+            place,
+            kind: FaultKind::Feeder,
+        });
+    }
+    None
+}
+
+// What is wrong on the first of these nodes that isn't sound.
+fn odd_among(
+    nodes: &[(u32, Vec<Entry>)],
+    others: &[Entry],
+    clients: u32,
+    packets: u64,
+) -> Option<Odd>
+    ensures { MatchOption result
+        (All (IsSoundNode clients packets (map told_entry others.now)) (told_nodes nodes.now))
+        (λ _. All (IsSoundNode clients packets (map told_entry others.now)) (told_nodes nodes.now) → ⊥) }
+{
+    let mut rest = nodes;
+    'nodes: while let [node, after @ ..] = rest {
+        if let Some(odd) = odd_on(node, others, clients, packets) {
+            return Some(odd);
+        }
+        rest = after;
+    }
+    None
+}
+
+/// What is wrong on the first node that isn't sound.
+pub fn odd_node(nodes: &[(u32, Vec<Entry>)], clients: u32, packets: u64) -> Option<Odd>
+    ensures { MatchOption result
+        (AreSoundNodes clients packets (told_nodes nodes.now))
+        (λ _. AreSoundNodes clients packets (told_nodes nodes.now) → ⊥) }
+{
+    let [first, ..] = nodes else {
+        return None;
+    };
+    if let Some(place) = unfed(&first.1, packets) {
+        return Some(Odd::Entry {
+            node: first.0,
+            place,
+            kind: FaultKind::Feeder,
+        });
+    }
+    odd_among(nodes, &first.1, clients, packets)
+}

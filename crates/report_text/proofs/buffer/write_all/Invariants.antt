@@ -1,0 +1,13 @@
+use Rattle.std.proofs.Common.{length, ◌-◌, ◌≡◌, ◌≤◌, take}
+use Rattle.std.specs.Io.KnownBytes.{Appends}
+use Rattle.report_text.proofs.buffer.write_all.Given as goal
+
+abbrev pub invariant-writing : goal.invariant-writing
+invariant-writing g l = record {
+  within : l.done ≤ length l.bytes;
+  bytes : Appends (g.K.Sink.end l.initial.sink).written (g.K.Sink.end l.sink).written (take l.done l.bytes);
+  steady : (g.K.Sink.end l.sink).faults ≡ (g.K.Sink.end l.initial.sink).faults;
+}
+
+abbrev pub decreases-writing : goal.decreases-writing
+decreases-writing g l = length l.bytes - l.done

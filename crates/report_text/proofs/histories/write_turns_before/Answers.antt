@@ -1,0 +1,21 @@
+use Rattle.std.proofs.Common.{inr, refl, arith}
+use Rattle.report_text.proofs.Pieces.{some_nothing, on_any_err}
+use Rattle.report_text.proofs.Writing.{before_more, before_breaks, before_done}
+use Rattle.report_text.proofs.histories.write_turns_before.Goals as goal
+
+pub turns-init : goal.turns-init
+turns-init g c = record { step = c.requires.step; adds = some_nothing _ (λ node e later at. refl); steady = refl }
+
+pub turns-preserved : goal.turns-preserved
+turns-preserved g c = record {
+  step = omega (arith, c.turns-test.true);
+  adds = before_more c.args.feeding.now c.args.told c.args.place c.args.step c.turns.next (omega (arith, c.turns-test.true)) (omega (arith, c.if-told-next.true)) c.turns.invariant.adds c.in_ok-write_turn.ensures.adds;
+  steady = let k = c.in_ok-write_turn.ensures.cause in omega arith;
+}
+
+pub returns-in_err-write_turn-clause-part : goal.returns-in_err-write_turn-clause-part
+returns-in_err-write_turn-clause-part g c =
+    on_any_err c.from_residual.result (before_breaks c.args.feeding.now c.args.told c.args.place c.args.step c.turns.next (omega (arith, c.turns-test.true)) (omega (arith, c.if-told-next.true)) c.turns.invariant.adds c.in_err-write_turn.ensures.part)
+
+pub returns-else-told-next-clause-adds : goal.returns-else-told-next-clause-adds
+returns-else-told-next-clause-adds g c = before_done c.args.feeding.now c.args.told c.args.place c.args.step c.turns.next (inr (omega (arith, c.if-told-next.false))) c.turns.invariant.adds

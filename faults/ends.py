@@ -1,0 +1,133 @@
+"""What the programs of this folder share: runs of the real program over ends that fail, that take less than is offered, and where
+memory is refused, and the cases that are counted."""
+import os
+import resource
+import subprocess
+import threading
+import tty
+
+from checks import PROGRAM, ROOT, Tally
+
+HERE = os.path.dirname(os.path.realpath(__file__))
+BUILT = os.path.join(ROOT, "crates", "dvbemu", "out", "dvbemu")
+# The seconds in which each run must end where an allocation is refused or a call fails: it takes some milliseconds.
+ENDS = 60
+tally = Tally()
+
+
+def expect(name, ran, status, line, output=None):
+    """Counts a case: the exit status, the first line on standard error, and the output where one is given."""
+    first = ran.stderr.decode().split("\n")[0]
+    same = (ran.returncode, first) == (status, line) and (output is None or ran.stdout == output)
+    tally.count(same, f"{name}: status {ran.returncode}, {first!r}")
+
+
+def ran(words, program=PROGRAM, **ends):
+    ends.setdefault("stdout", subprocess.PIPE)
+    return subprocess.run([program, *words], stderr=subprocess.PIPE, check=False, **ends)
+
+
+def ends_fail(words, session):
+    """Standard input and output that are closed, full, or no file of bytes."""
+    with open("/dev/full", "wb") as full:
+        expect(f"{words}: full output", ran(words, input=session, stdout=full), 6, "dvbemu: write failed")
+    closed = ran(words, input=session, stdout=None, preexec_fn=lambda: os.close(1))
+    expect(f"{words}: closed output", closed, 6, "dvbemu: write failed")
+    unread = ran(words, stdin=None, preexec_fn=lambda: os.close(0))
+    expect(f"{words}: closed input", unread, 5, "dvbemu: read failed", b"")
+    folder = os.open(HERE, os.O_RDONLY)
+    expect(f"{words}: a folder as input", ran(words, stdin=folder), 5, "dvbemu: read failed", b"")
+    os.close(folder)
+
+
+def reader_goes(words, session):
+    """A reader that takes ten bytes and goes."""
+    with subprocess.Popen([PROGRAM, *words], stdin=subprocess.PIPE, stdout=subprocess.PIPE, stderr=subprocess.PIPE) as child:
+        feeding = threading.Thread(target=lambda: (child.stdin.write(session), child.stdin.close()))
+        feeding.start()
+        os.read(child.stdout.fileno(), 10)
+        child.stdout.close()
+        line = child.stderr.read()
+        feeding.join()
+        status = child.wait()
+    expect(f"{words}: a reader that goes", subprocess.CompletedProcess(words, status, None, line), 6, "dvbemu: write failed")
+
+
+def little_at_a_time(words, session, report):
+    """Input that comes in pieces of few bytes, and output that is taken in pieces of few."""
+    with subprocess.Popen([PROGRAM, *words], stdin=subprocess.PIPE, stdout=subprocess.PIPE, stderr=subprocess.PIPE) as child:
+
+        def feed():
+            for place in range(0, len(session), 7):
+                os.write(child.stdin.fileno(), session[place : place + 7])
+            child.stdin.close()
+
+        feeding = threading.Thread(target=feed)
+        feeding.start()
+        taken = bytearray()
+        while piece := os.read(child.stdout.fileno(), 11):
+            taken += piece
+        feeding.join()
+        line, status = child.stderr.read(), child.wait()
+    expect(f"{words}: little at a time", subprocess.CompletedProcess(words, status, bytes(taken), line), 0, "", report)
+
+
+def small_memory(words, session):
+    """An address space of 4 MB."""
+    limit = 4 << 20
+    small = ran(words, BUILT, input=session, preexec_fn=lambda: resource.setrlimit(resource.RLIMIT_AS, (limit, limit)))
+    expect(f"{words}: 4 MB", small, 7, "dvbemu: out of memory", b"")
+
+
+def over_terminal(words, given):
+    """A run over a terminal that goes: its reads give the bytes that were written to it, and then fail."""
+    terminal, line = os.openpty()
+    tty.setraw(line)
+    os.write(line, given)
+    os.close(line)
+    child = ran(words, stdin=terminal)
+    os.close(terminal)
+    return child
+
+
+def run_told(words, session, **more):
+    """A run with these in its environment, and whether a library that is preloaded told on descriptor 9 that it did what it is for."""
+    told, tell = os.pipe()
+    try:
+        child = subprocess.run(
+            [BUILT, *words],
+            input=session,
+            capture_output=True,
+            check=False,
+            env={**os.environ, **more},
+            preexec_fn=lambda: os.dup2(tell, 9),
+            pass_fds=(9,),
+            timeout=ENDS,
+        )
+    except subprocess.TimeoutExpired:
+        child = subprocess.CompletedProcess(words, -1, b"", b"no end")
+    os.close(tell)
+    was = os.read(told, 1) == b"r"
+    os.close(told)
+    return child, was
+
+
+def run_each(words, session, name, **more):
+    """Runs with the numbers from 1 on in the environment variable of this name, up to the first in which nothing was told: each
+    number with its run."""
+    number, was = 0, True
+    while was:
+        number += 1
+        child, was = run_told(words, session, **more, **{name: str(number)})
+        yield number, child
+
+
+def library_in(folder, source):
+    """A library to be preloaded, built in this folder; None where there is no compiler for C."""
+    library = os.path.join(folder, source.replace(".c", ".so"))
+    words = ["cc", "-shared", "-fPIC", "-O1", "-o", library, os.path.join(HERE, source), "-ldl"]
+    try:
+        built = subprocess.run(words, check=False, capture_output=True)
+    except FileNotFoundError:
+        return None
+    return library if built.returncode == 0 else None
