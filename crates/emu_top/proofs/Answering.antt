@@ -276,7 +276,7 @@ unread (Steps batch packet) may at = undone (IsSerialOutput batch packet) at
 unread (Run batch packet) may at = undone (IsThreadOutput batch packet may) at
 unread (Make number) may at = unmade (λ text. text ≡ made number) at
 unread (SelfTest number batch) may at = unmade (IsSums number batch) at
-unread Check may at = record { says = (tt, (keeps at.sink.written, refl)); settled = λ nr nw. says_if at.source.left _ (λ input. inl refl) }
+unread (Check packet) may at = record { says = (tt, (keeps at.sink.written, refl)); settled = λ nr nw. says_if at.source.left _ (λ input. inl refl) }
 
 pub serves_unread : (words : List (List ℕ)) (may : ℕ → Bool) (at : Outside) → Serves words may at at NoMemory
 serves_unread words may at = record {
