@@ -11,7 +11,7 @@ use Rattle.command_words.specs.Meant.{Texts, no_texts, options_by, options_of, t
 use Rattle.command_words.specs.declared.options.Options.{Options}
 use Rattle.command_words.specs.Inside.Reader.{answer}
 use Rattle.command_words.proofs.Spelled.{long_letters, other_batch, other_packet, short_flags, short_hyphen}
-use Rattle.command_words.proofs.Texts.{IsOther, IsRefused, Kind, alone, bare_texts, dashes_fail, has_dashes, hyphen_refused, joined_texts, kind_of_word, neither, other_texts, refused_text, text_behind, with_its_text}
+use Rattle.command_words.proofs.Texts.{IsOther, IsRefused, alone, bare_texts, dashes_fail, has_dashes, hyphen_refused, joined_texts, kind_of_word, neither, other_texts, refused_text, text_behind, with_its_text}
 use Rattle.command_words.proofs.Walks.{Gives, Stands, State, Which, again_bare, again_end, again_joined, answer_from, apart_stands, bare, before, begun, empty_refused, empty_taken, ended, flag_refused, from_first, full, gives_again, gives_new, joined_gives, long_refused, batch, begun_bare, begun_end, begun_joined, name_of, none, one, opened, other, packet, plain_refused, plain_taken, row, rows_of, standing, stands_again, stands_new, texts_of, two, walk_of, with_text}
 
 -- what these texts ask for

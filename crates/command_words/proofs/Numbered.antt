@@ -1,5 +1,5 @@
 -- A number before the option of `selftest`, or behind it.
-use Rattle.std.proofs.Common.{◌≡◌, ◌≤◌, ◌<◌, ◌-◌, ◌∙◌, refl, sym, ap, ℕ, suc, List, [], ◌∷◌, map, length, take, drop, true, false, Option, Some, None, slice_index_or, arith}
+use Rattle.std.proofs.Common.{◌≡◌, ◌≤◌, ◌<◌, ◌-◌, ◌∙◌, refl, sym, ap, ℕ, List, [], ◌∷◌, map, length, take, drop, true, false, Option, Some, None, slice_index_or, arith}
 use Rattle.std.proofs.lemmas.List.{get_or-map, length-map, take-map, take_all}
 use Rattle.std.specs.Option.{is_some, option_or}
 use Rattle.command_words.specs.declared.Command.{Command}
@@ -38,7 +38,7 @@ module _ {X : Type 0} (f : X → List ℕ) where
   is_last x xs word o here is =
       let n : length (x ∷ xs) - 1 ≡ length (map f xs) = omega (arith, length-map xs f) in
       let there : slice_index_or (map f (x ∷ xs)) (length (x ∷ xs) - 1) (f x) ≡ f word =
-          get_or-map f (x ∷ xs) (length (x ∷ xs) - 1) word (f x) (omega arith) ∙ ap f (sym here) in
+      get_or-map f (x ∷ xs) (length (x ∷ xs) - 1) word (f x) (omega arith) ∙ ap f (sym here) in
       is ∙ ap (λ w. self_test_by (session_number w) (options_of (map f (take (length (x ∷ xs) - 1) (x ∷ xs))))) (sym there)
       ∙ ap (λ ws. self_test_by (session_number (slice_index_or (map f (x ∷ xs)) (length (x ∷ xs) - 1) (f x))) (options_of ws)) (sym (take-map f (length (x ∷ xs) - 1) (x ∷ xs)))
       ∙ ap (λ k. self_test_by (session_number (slice_index_or (map f (x ∷ xs)) k (f x))) (options_of (take k (map f (x ∷ xs))))) n

@@ -1,13 +1,12 @@
 -- What the words of the options give, word by word.
-use Rattle.std.proofs.Common.{◌≡◌, ◌∙◌, ◌||◌, refl, sym, ap, ℕ, cond, List, [], ◌∷◌, ◌++◌, Bool, true, false, true≢false, take, drop, Option, Some, None, codes, map, ◌⊎◌, ⊎_elim, inl, inr}
-use Rattle.std.specs.Prelude.{option_and_then, option_map, is_some}
+use Rattle.std.proofs.Common.{◌≡◌, ◌∙◌, ◌||◌, refl, sym, ap, ℕ, cond, List, [], ◌∷◌, ◌++◌, Bool, true, false, true≢false, take, drop, Option, Some, None, codes, ◌⊎◌, ⊎_elim, inl, inr}
+use Rattle.std.specs.Prelude.{option_and_then, is_some}
 use Rattle.std.specs.List.{list_any}
 use Rattle.std.specs.Str.{bytes_eq}
 use Rattle.std.proofs.lemmas.Slice.Eq.{bytes_eq-Decides}
 use Rattle.std.proofs.lemmas.Option.{none-some}
 use Rattle.lemmas.proofs.Options.{same_some}
 use Rattle.command_words.specs.Meant.{Texts, batch_size, joined, options_by, packet_size, read_by, texts_by, with_batch, with_packet}
-use Rattle.command_words.specs.declared.options.Options.{Options}
 use Rattle.command_words.proofs.Spelled.{hyphen_number, hyphen_size, joined_is, word_is}
 use Rattle.command_words.proofs.Walks.{Which, bare, batch, before, packet, with_text}
 use Rattle.text_forms.specs.Words.{is_word}
@@ -124,8 +123,7 @@ module _ (text : List ℕ) (refused : IsRefused text) where
   unfolding texts_by
   fails_behind n [] = (λ g has. options_fail n g has, λ m g has. refl)
   fails_behind n (word ∷ words) =
-      let more = fails_behind n words in
-      (
+      let more = fails_behind n words in (
         λ g has. elim (kind_of_word word) [
           | alone m e ↦ ap (λ w. option_and_then options_by (texts_by g (w ∷ words))) e ∙ (ap (option_and_then options_by) (bare_texts m g words) ∙ more.1 m g has)
           | with_its_text m v e ↦ ap (λ w. option_and_then options_by (texts_by g (w ∷ words))) e ∙ (ap (option_and_then options_by) (joined_texts m v g words)

@@ -2,11 +2,11 @@
 use Rattle.std.proofs.Common.{◌≡◌, ◌∙◌, ap, refl, ℕ, List, [], ◌∷◌, ◌++◌, Bool, Option, Some, None, true, false, codes}
 use Rattle.std.specs.Prelude.{fold, slice_get, is_some}
 use Rattle.std.specs.Str.{bytes_eq, chars}
-use Rattle.clap.specs.Faults.{check_fault, default_fault, defaults_fault, entered_fault, flags_fault, settle_fault, turn_fault, walk_fault}
+use Rattle.clap.specs.Faults.{check_fault, defaults_fault, entered_fault, flags_fault, settle_fault, turn_fault, walk_fault}
 use Rattle.clap.specs.Kinds.{Kinds, or_else}
 use Rattle.clap.specs.Lexer.{long_of, short_of}
-use Rattle.clap.specs.Simple.{App, Shape, built, entered, names_of}
-use Rattle.clap.specs.Walk.{Held, Names, Row, Rule, Text, Waiting, Walk, bundle_met, finished, first_of, has_row, idle, option, positional, reading_by, settled, walked}
+use Rattle.clap.specs.Simple.{App, built, entered, names_of}
+use Rattle.clap.specs.Walk.{Row, Rule, Text, Waiting, Walk, bundle_met, finished, first_of, has_row, idle, option, positional, reading_by, settled, walked}
 use Rattle.clap.specs.declared.parser.matches.ValueSource.TheVariants.{CommandLine}
 use Rattle.command_words.specs.Inside.Reader.{answer, reader, text_rule, unless}
 use Rattle.command_words.specs.Meant.{Texts, options_by, with_batch, with_packet}

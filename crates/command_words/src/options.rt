@@ -118,10 +118,7 @@ fn ask(alloc: Global, rest: &[String]) -> Result<Option<Options>, NoMemory>
 {
     let reader = option_reader(alloc)?;
     match reader.try_get_matches_from(rest) {
-        Ok(matches) => Ok(options_by_texts(
-            matches.get_str("batch"),
-            matches.get_str("packet"),
-        )),
+        Ok(matches) => Ok(options_by_texts(matches.get_str("batch"), matches.get_str("packet"))),
         Err(error) => {
             if error.kind() == ErrorKind::OutOfMemory {
                 return Err(NoMemory);
