@@ -4,7 +4,3 @@ use Rattle.std.proofs.Math.Nat.{suc-mul}
 
 pub one_node_more : (start now next node n : ℕ) → now ≤ start + node * n → next ≤ now + n → next ≤ start + (node + 1) * n
 one_node_more start now next node n a b = let e = suc-mul node n in omega (arith, e)
-
--- a node that is passed over takes none
-pub no_node_more : (start now node n : ℕ) → now ≤ start + node * n → now ≤ start + (node + 1) * n
-no_node_more start now node n a = let e = suc-mul node n in omega (arith, e)

@@ -67,22 +67,6 @@ module _ (locks : List TableId) (among : ℕ → Bool) (entry : ℕ → Entry) (
             (λ more. k.idle i p q (omega arith) a (sym (set_elsewhere now node i o.then more) ∙ ap (λ (l : List (TableId × View Entry)). slice_get l i) (sym o.is) ∙ b) no);
       }
 
-  -- a node that isn't among these is passed over
-  pub passed_over : (node : ℕ) (places : List ℕ) (now : List (TableId × View Entry)) → among node ≡ false → PassedTo node places now → PassedTo (node + 1) places now
-  passed_over node places now off k = record {
-    fits = k.fits;
-    first = k.first;
-    may = k.may;
-    long = k.long;
-    later = λ i p from at. k.later i p (omega arith) at;
-    done = λ i p q under a b yes. dite (ℕ_discrete i node)
-        (λ here. let both : true ≡ false = sym yes ∙ (ap among here ∙ off) in absurd (cc both))
-        (λ more. k.done i p q (omega arith) a b yes);
-    idle = λ i p q under a b no. dite (ℕ_discrete i node)
-        (λ here. one_value old i q p (k.later i q (omega arith) b) a)
-        (λ more. k.idle i p q (omega arith) a b no);
-  }
-
   pub all_passed : (node : ℕ) (places : List ℕ) (now : List (TableId × View Entry)) → length locks ≡ DEMUX_NODES + 1 → node ≡ DEMUX_NODES + 1 → PassedTo node places now → AllCall caller_of IsLegalAt among entry places old now
   all_passed node places now all end k = record {
     long = k.fits.0 ∙ sym k.first.0;

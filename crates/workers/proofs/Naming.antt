@@ -1,5 +1,5 @@
 -- Each call of a client is on a node that its script can name.
-use Rattle.std.proofs.Common.{◌≡◌, ◌⊎◌, inl, inr, ⊎_elim, ℕ, zero, suc, ◌+◌, Bool, true, false, ◌||◌, nat_eq, nat_lt, eq-eqb, List, [], ◌∷◌, ◌++◌, take, slice_get, Option, Some, None, refl, ap, sym, ◌∙◌, subst}
+use Rattle.std.proofs.Common.{◌≡◌, ◌⊎◌, inl, inr, ⊎_elim, ℕ, ◌+◌, Bool, true, false, ◌||◌, nat_eq, nat_lt, eq-eqb, List, [], ◌∷◌, Option, Some, None, refl, ap, sym, ◌∙◌, subst}
 use Rattle.std.specs.Prelude.{if◌then◌else◌, option_map}
 use Rattle.std.specs.List.{list_any}
 use Rattle.lemmas.specs.Lists.{Has}
@@ -24,7 +24,7 @@ use Rattle.client_core.specs.declared.task.Ending.TheVariants.{Made}
 use Rattle.client_core.specs.Commands.{commands_in, commands_of, Doing, stands, through, once, told, called, read_until, ends_wait, ends_drain, done_on, Slots, done}
 use Rattle.client_core.specs.Events.{Standing, slots_after, progress_from, progress, no_slots, next_event}
 use Rattle.client_core.proofs.GoesOn.{progress_of}
-use Rattle.script_run.specs.IsRun.{IsEvent, replies}
+use Rattle.script_run.specs.IsRun.{IsEvent}
 use Rattle.workers.specs.Named.{is_for, names, is_named}
 
 -- ------ what a command does
