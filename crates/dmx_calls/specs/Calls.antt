@@ -54,13 +54,13 @@ response_of (TimedOutReply started now timeout) = TimedOut started now timeout
 response_of (ReadyReply readable error at ended) = Ready readable error at ended
 response_of PassedReply = Passed
 
--- an entry of the code, as one of a log
+-- an entry of the code, which may share its call and its reply with others, as one of a log
 abbrev pub told_entry : ToldEntry → LogEntry
 told_entry e = record {
   node = e.node;
   place = e.place;
   step = e.step;
   who = e.who;
-  act = e.act;
-  response = response_of e.reply;
+  act = e.act.value;
+  response = response_of e.reply.value;
 }

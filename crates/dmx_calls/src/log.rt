@@ -1,13 +1,15 @@
 // The entries of a report.
 
-ghost use Rattle.std.specs.Prelude.{◌≡◌};
-ghost use Rattle.dmx_calls.specs.Calls.{invocation_of};
+ghost use Rattle.std.specs.Prelude.{◌≡◌, true, IfOk};
+ghost use Rattle.dmx_calls.specs.Calls.{invocation_of, response_of};
 ghost use Rattle.dmx_calls.specs.Log.{act_of};
 
 use crate::call::Call;
 use crate::params::{Input, PesParams, SectionParams};
 use crate::reply::Reply;
 use pid_set::Pids;
+use std::alloc::{AllocError as NoMemory, Global};
+use std::sync::Arc;
 
 /// A call as a report tells it: a Read by its count, and a Pass by the number of its first packet and how many there are.
 /// `now` is the moment at which the call was made, in milliseconds.
@@ -130,8 +132,49 @@ pub struct Entry {
     pub step: u64,
     /// The caller: 0 for the feeder, and `c + 1` for client c.
     pub who: u32,
-    /// The call.
-    pub act: Act,
-    /// Its reply.
-    pub reply: Reply,
+    /// The call. Entries with the same call may share it.
+    pub act: Arc<Act>,
+    /// Its reply. Entries with the same reply may share it.
+    pub reply: Arc<Reply>,
+}
+
+// Whether two replies are the same; also false where they have bytes, a span, or the PIDs of a tap.
+fn are_same(this: &Reply, other: &Reply) -> bool
+    ensures { result ≡ true → response_of this.now ≡ response_of other.now }
+{
+    match this {
+        Reply::Busy { owner } => matches!(other, Reply::Busy { owner: o } if owner == o),
+        Reply::Refused(errno) => matches!(other, Reply::Refused(e) if errno == e),
+        Reply::Again { ended } => matches!(other, Reply::Again { ended: e } if ended == e),
+        _ => false,
+    }
+}
+
+/// The call, shared with this entry where that has the same. It takes memory where it isn't shared.
+pub fn shared_act(alloc: Global, last: Option<&Entry>, act: Act) -> Result<Arc<Act>, NoMemory>
+    ensures { IfOk result (λ kept. kept.value ≡ act) }
+{
+    if let Some(entry) = last {
+        let theirs: &Act = &entry.act;
+        if *theirs == act {
+            return Arc::try_clone(&entry.act);
+        }
+    }
+    Ok(Arc::new(alloc, act)?)
+}
+
+/// The reply, shared with this entry where that has the same and no bytes. It takes memory where it isn't shared.
+pub fn shared_reply(
+    alloc: Global,
+    last: Option<&Entry>,
+    reply: Reply,
+) -> Result<Arc<Reply>, NoMemory>
+    ensures { IfOk result (λ kept. response_of kept.value ≡ response_of reply) }
+{
+    if let Some(entry) = last {
+        if are_same(&entry.reply, &reply) {
+            return Arc::try_clone(&entry.reply);
+        }
+    }
+    Ok(Arc::new(alloc, reply)?)
 }

@@ -62,7 +62,7 @@ parted es i e at =
 
 -- what a legal history allows at an index
 pub may_there : (node : Rules) (packets : List (List ℕ)) (es : List ToldEntry) (i : ℕ) (e : ToldEntry) → IsAt es i e → IsLegalFor node (filled packets (map told_entry es))
-    → May node (filled packets (map told_entry (take i es))) e.who (filled_act packets e.act) (response_of e.reply)
+    → May node (filled packets (map told_entry (take i es))) e.who (filled_act packets e.act) (response_of e.reply.value)
 may_there node packets es i e at legal =
     let here : IsLegalFor node (filled packets (map told_entry (take i es) ++ told_entry e ∷ map told_entry (drop (i + 1) es))) = subst (λ (xs : List LogEntry). IsLegalFor node (filled packets xs)) (parted es i e at) legal in
     may_at node packets (map told_entry (take i es)) (told_entry e) (map told_entry (drop (i + 1) es)) here

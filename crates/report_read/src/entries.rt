@@ -17,6 +17,7 @@ use crate::replies::read_reply;
 use dmx_calls::{Act, Entry};
 use report_text::add_entry;
 use std::alloc::{AllocError as NoMemory, Global};
+use std::sync::Arc;
 
 // What stands in front of a reply.
 #[derive(Drop)]
@@ -72,8 +73,8 @@ pub fn read_entry(
         place: front.place,
         step: front.step,
         who: front.who,
-        act: front.act,
-        reply,
+        act: Arc::new(alloc, front.act)?,
+        reply: Arc::new(alloc, reply)?,
     }))
 }
 

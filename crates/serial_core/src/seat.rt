@@ -14,7 +14,7 @@ ghost use Rattle.serial_core.specs.Inside.Standing.{IsSeat, StandsAt, entries_in
 
 use crate::node::AnyCore;
 use client_core::{ClientCore, fitted, unless_no_memory};
-use dmx_calls::{Act, Call, Entry, Reply};
+use dmx_calls::{Act, Call, Entry, Reply, shared_act, shared_reply};
 use std::alloc::{AllocError as NoMemory, Global};
 use std::sync::ledger::Ledger;
 use steps::Steps;
@@ -112,13 +112,16 @@ impl Seat {
         let act = Act::of(&call);
         let reply = self.hear(who, call, steps)?;
         client.take(&reply);
+        let fitting = fitted(alloc, reply)?;
+        let act = shared_act(alloc, self.entries.last(), act)?;
+        let reply = shared_reply(alloc, self.entries.last(), fitting)?;
         self.entries.push(Entry {
             node: self.node,
             place,
             step: nth,
             who,
             act,
-            reply: fitted(alloc, reply)?,
+            reply,
         })?;
         Ok(())
     }

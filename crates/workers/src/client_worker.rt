@@ -18,7 +18,7 @@ ghost use Rattle.workers.specs.Inside.Working.{IsFit, MayWork, IsWorking, MayCal
 use crate::moment::moment_of;
 use adapter::{Adapter, Client};
 use client_core::{ClientCore, Event, MOST_CALLS, Stop, call_of, fitted, unless_no_memory};
-use dmx_calls::{Act, Entry};
+use dmx_calls::{Act, Entry, shared_act, shared_reply};
 use emu_io::{Clock, Gate};
 use std::alloc::{AllocError as NoMemory, Global};
 use std::marker::Brand;
@@ -84,13 +84,16 @@ impl ClientWorker {
         let (place, answer) = self.client.call(rt, adapter, node, call, steps);
         let reply = unless_no_memory(answer.reply)?;
         self.core.take(&reply);
+        let fitting = fitted(alloc, reply)?;
+        let act = shared_act(alloc, self.log.last(), act)?;
+        let reply = shared_reply(alloc, self.log.last(), fitting)?;
         self.log.push_reserved(Entry {
             node,
             place,
             step,
             who: self.who,
             act,
-            reply: fitted(alloc, reply)?,
+            reply,
         });
         Ok(())
     }

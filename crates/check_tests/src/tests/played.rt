@@ -12,6 +12,7 @@ use machine::Machine;
 use node_core::NodeCore;
 use std::alloc::{AllocError as NoMemory, Global};
 use std::marker::Brand;
+use std::sync::Arc;
 use std::sync::ledger::{Blank, Ledger};
 use steps::Steps;
 use ts_packet::{Packet, PacketBuf, PacketRoom};
@@ -425,7 +426,7 @@ fn read_of(alloc: Global, pid: u8, counter: u8, spoilt: bool) -> Result<Entry, N
         bytes[187] = 0;
     }
     let mut entry = entry_of(alloc, 3, 0, (1, Made::Read(0, 188), Said::Passed))?;
-    entry.reply = data(alloc, &bytes)?;
+    entry.reply = Arc::new(alloc, data(alloc, &bytes)?)?;
     Ok(entry)
 }
 

@@ -7,6 +7,7 @@ use dmx_calls::{
 use filter_match::{Place, SectionFilter};
 use pid_set::Pids;
 use std::alloc::{AllocError as NoMemory, Global};
+use std::sync::Arc;
 
 /// A told call.
 #[derive(Clone, Copy, Drop)]
@@ -201,7 +202,7 @@ pub fn entry_of(alloc: Global, node: u32, step: u64, row: Row) -> Result<Entry, 
         place: 0,
         step,
         who,
-        act: act_of(made),
-        reply: reply_of(alloc, said)?,
+        act: Arc::new(alloc, act_of(made))?,
+        reply: Arc::new(alloc, reply_of(alloc, said)?)?,
     })
 }

@@ -1,7 +1,8 @@
 //! Buffers of reads, filled and emptied, and the histories of all nodes.
 
-use dmx_calls::{Act, ByteBuf, Entry, Fed, Histories, Reply};
+use dmx_calls::{Act, ByteBuf, Entry, Fed, Histories, Reply, shared_act, shared_reply};
 use std::alloc::{AllocError as NoMemory, Global};
+use std::sync::Arc;
 
 // Whether a buffer has room for so many bytes, and these in its front.
 fn is_filled(buf: &ByteBuf, count: u32, bytes: &[u8]) -> bool {
@@ -90,8 +91,8 @@ fn sizes_by_number(alloc: Global) -> Result<Option<Histories>, NoMemory> {
             place: 1,
             step: 0,
             who: 1,
-            act: Act::SetSize(node),
-            reply: Reply::Passed,
+            act: Arc::new(alloc, Act::SetSize(node))?,
+            reply: Arc::new(alloc, Reply::Passed)?,
         };
         nodes.push(vec![in alloc; entry]?)?;
     }
@@ -101,9 +102,17 @@ fn sizes_by_number(alloc: Global) -> Result<Option<Histories>, NoMemory> {
     Ok(Some(Histories::new(vec![in alloc; FED]?, nodes)))
 }
 
+// Whether the call asks for this size.
+fn is_size(act: &Act, size: u32) -> bool {
+    matches!(act, Act::SetSize(asked) if *asked == size)
+}
+
 // Whether these are the batches and the entries of this node there.
 fn are_of(node: u32, feeding: &[Fed], calls: &[Entry]) -> bool {
-    feeding == [FED].as_slice() && calls.len() == 1 && calls[0].act == Act::SetSize(node)
+    match calls {
+        [call] => feeding == [FED].as_slice() && is_size(&call.act, node),
+        _ => false,
+    }
 }
 
 // Whether each node has its own.
@@ -125,5 +134,30 @@ fn histories_give_the_batches_and_the_entries_of_each_node(
     rt: HostRuntime,
 ) -> Result<(), NoMemory> {
     assert!(rt; are_of_each_node(rt.alloc())?);
+    Ok(())
+}
+
+// Whether an equal call and an equal reply are shared with an entry's, and another call isn't.
+fn are_shared(alloc: Global) -> Result<bool, NoMemory> {
+    let entry = Entry {
+        node: 0,
+        place: 0,
+        step: 0,
+        who: 1,
+        act: Arc::new(alloc, Act::Open)?,
+        reply: Arc::new(alloc, Reply::Busy { owner: 2 })?,
+    };
+    let act = shared_act(alloc, Some(&entry), Act::Open)?;
+    let reply = shared_reply(alloc, Some(&entry), Reply::Busy { owner: 2 })?;
+    let other = shared_act(alloc, Some(&entry), Act::Close)?;
+    Ok(Arc::strong_count(&act) == 2
+        && Arc::strong_count(&reply) == 2
+        && Arc::strong_count(&other) == 1)
+}
+
+#[test]
+fn an_equal_call_and_an_equal_reply_are_shared(rt: HostRuntime) -> Result<(), NoMemory> {
+    let shared = are_shared(rt.alloc())?;
+    assert!(rt; shared);
     Ok(())
 }

@@ -27,7 +27,8 @@ fn replies(ran: &Left, node: u32, from: usize) -> &[Entry]
 
 // Whether the reply is the bytes of these packets, each of the PID 256 and its number, with its counter.
 fn is_data(entry: &Entry, packets: &[(u8, u8)]) -> bool {
-    let Reply::Data(buf) = &entry.reply else {
+    let reply: &Reply = &entry.reply;
+    let Reply::Data(buf) = reply else {
         return false;
     };
     let mut bytes = buf.bytes();
@@ -51,8 +52,9 @@ fn tells_the_overflow_first(ran: &Left) -> bool {
     let [lost, read] = replies(ran, 0, 4) else {
         return false;
     };
+    let reply: &Reply = &lost.reply;
     let is_told = matches!(
-        lost.reply,
+        reply,
         Reply::Overflow {
             from: 0,
             to: 564,
@@ -91,12 +93,17 @@ fn taps_record_for_the_dvr_node(rt: HostRuntime) {
 const DRAIN: &str =
     "c0 open n0\nc0 pes n0 256 frontend tsdemux_tap 20 0\nc0 start n0\nc0 drain n0 1\nstream\n";
 
+// Whether the reply is that nothing is left.
+fn has_ended(reply: &Reply) -> bool {
+    matches!(reply, Reply::Again { ended: true })
+}
+
 // Four commands and one packet allow 33 * (4 + 2 * 188 + 1) calls. The drain reads 188 times a byte, and before them, behind them
 // and behind the end of the stream there is nothing to read.
 fn has_read_each_byte(ran: &Left) -> bool {
     let calls = replies(ran, 0, 0);
     let is_last = match calls.last() {
-        Some(last) => matches!(last.reply, Reply::Again { ended: true }),
+        Some(last) => has_ended(&last.reply),
         None => false,
     };
     is_last && calls.len() == 3 + 1 + 188 + 1 + 1 && calls.len() <= 33 * (4 + 2 * 188 + 1)

@@ -114,12 +114,14 @@ fn log_of(left: &Left, client: usize) -> &[Entry] {
 
 // Whether a reply is that the call was done.
 fn is_done(entry: &Entry) -> bool {
-    matches!(entry.reply, Reply::Done { .. })
+    let reply: &Reply = &entry.reply;
+    matches!(reply, Reply::Done { .. })
 }
 
 // The owner that a reply names, as a caller number; 0 where it names none.
 fn owner_in(entry: &Entry) -> u32 {
-    match &entry.reply {
+    let reply: &Reply = &entry.reply;
+    match reply {
         Reply::Busy { owner } => *owner,
         _ => 0,
     }
@@ -127,7 +129,8 @@ fn owner_in(entry: &Entry) -> u32 {
 
 // The moment of a poll or a read.
 fn moment_in(entry: &Entry) -> Option<u64> {
-    match &entry.act {
+    let act: &Act = &entry.act;
+    match act {
         Act::Poll { now } => Some(*now),
         Act::Read { now, .. } => Some(*now),
         _ => None,
@@ -170,7 +173,8 @@ fn has_one_poll(left: &Left) -> bool {
     let [poll] = log_of(left, 0) else {
         return false;
     };
-    poll.act == Act::Poll { now: 7 } && matches!(poll.reply, Reply::Refused(Errno::Ebadf))
+    let (act, reply): (&Act, &Reply) = (&poll.act, &poll.reply);
+    matches!(act, Act::Poll { now: 7 }) && matches!(reply, Reply::Refused(Errno::Ebadf))
 }
 
 #[test]
@@ -186,12 +190,13 @@ fn has_timed_out(left: &Left) -> bool {
     let [_, _, _, read] = log_of(left, 0) else {
         return false;
     };
-    match read.reply {
+    let reply: &Reply = &read.reply;
+    match reply {
         Reply::TimedOut {
             started,
             now,
             timeout,
-        } => timeout == 1 && now > started,
+        } => *timeout == 1 && now > started,
         _ => false,
     }
 }
@@ -293,10 +298,11 @@ fn has_waited(left: &Left) -> bool {
     let [_, _, _, first, second] = log_of(left, 0) else {
         return false;
     };
-    let Reply::Data(buf) = &second.reply else {
+    let (found, reply): (&Reply, &Reply) = (&first.reply, &second.reply);
+    let Reply::Data(buf) = reply else {
         return false;
     };
-    matches!(first.reply, Reply::Again { ended: false })
+    matches!(found, Reply::Again { ended: false })
         && first.place == 3
         && second.place > 4
         && buf.bytes().len() == 188

@@ -22,7 +22,7 @@ returns-then-not-branch-clause-other g c f rules plays legal answered =
     let may = may_there rules c.args.packets.now c.args.entries.now c.entries.entry-index c.entry-item.result at legal in
     let some = at_told (λ e. e.response ≢ NoMemory) c.args.entries.now c.entries.entry-index c.entry-item.result at answered in
     c.in_ok-agrees.ensures.differs c.if-not-branch.true some rules plays (played c.args.packets.now (map told_entry (take c.entries.entry-index c.args.entries.now))) c.entries.invariant.stands
-    (subst (λ (i : Invocation). May rules (filled c.args.packets.now (map told_entry (take c.entries.entry-index c.args.entries.now))) c.entry-item.result.who i (response_of c.entry-item.result.reply)) (sym c.in_ok-call.ensures) may)
+    (subst (λ (i : Invocation). May rules (filled c.args.packets.now (map told_entry (take c.entries.entry-index c.args.entries.now))) c.entry-item.result.who i (response_of c.entry-item.result.reply.value)) (sym c.in_ok-call.ensures) may)
 
 pub entries-preserved : goal.entries-preserved
 entries-preserved g c =
@@ -30,7 +30,7 @@ entries-preserved g c =
     let next = taken_next c.args.entries.now c.entries.entry-index c.entry-item.result at in
     let more = c.in_ok-agrees.ensures.agrees c.if-not-branch.false in
     let made = more.1 (played c.args.packets.now (map told_entry (take c.entries.entry-index c.args.entries.now))) c.entries.invariant.stands in
-    let stands = subst (λ (i : Invocation). g.M.Machine.stands_for c.agrees.new.core (played c.args.packets.now (map told_entry (take c.entries.entry-index c.args.entries.now)) ++ entry_of c.entry-item.result.who i (response_of c.entry-item.result.reply) ∷ [])) c.in_ok-call.ensures made in
+    let stands = subst (λ (i : Invocation). g.M.Machine.stands_for c.agrees.new.core (played c.args.packets.now (map told_entry (take c.entries.entry-index c.args.entries.now)) ++ entry_of c.entry-item.result.who i (response_of c.entry-item.result.reply.value) ∷ [])) c.in_ok-call.ensures made in
     let all = All-push (λ e. e.response ≢ NoMemory) (map told_entry (take c.entries.entry-index c.args.entries.now)) (told_entry c.entry-item.result) c.entries.invariant.answered more.0 in
     record {
       stands = subst (λ (xs : List LogEntry). g.M.Machine.stands_for c.agrees.new.core (played c.args.packets.now xs)) (sym next)

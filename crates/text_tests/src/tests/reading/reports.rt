@@ -66,8 +66,12 @@ fn is_whole(told: &Told) -> bool {
         && read.place == 1
         && read.who == 1
         && read.step == 3
-        && matches!(read.act, Act::Read { now: 9, count: 4 })
+        && is_read(&read.act)
         && is_data(&read.reply)
+}
+
+fn is_read(act: &Act) -> bool {
+    matches!(act, Act::Read { now: 9, count: 4 })
 }
 
 fn is_data(reply: &Reply) -> bool {

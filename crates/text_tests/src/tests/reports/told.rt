@@ -5,6 +5,7 @@ use dmx_calls::{
 };
 use pid_set::Pids;
 use std::alloc::{AllocError as NoMemory, Global};
+use std::sync::Arc;
 
 /// A call, with its moment behind its other arguments.
 #[derive(Clone, Copy, Drop)]
@@ -156,7 +157,7 @@ pub fn entry_of(alloc: Global, node: u32, row: Row) -> Result<Entry, NoMemory> {
         place,
         step,
         who,
-        act: act_of(asked),
-        reply,
+        act: Arc::new(alloc, act_of(asked))?,
+        reply: Arc::new(alloc, reply)?,
     })
 }
