@@ -58,6 +58,13 @@ def payload_of(packet):
     return packet[first:] if packet[3] >> 4 & 1 and first < 188 else None
 
 
+def clock_reference(packet):
+    """The program clock reference, in units of 27 MHz, or None."""
+    if not packet[3] >> 5 & 1 or packet[4] < 7 or not packet[5] >> 4 & 1:
+        return None
+    return (int.from_bytes(packet[6:11], "big") >> 7) * 300 + ((packet[10] & 1) << 8 | packet[11])
+
+
 def clean(packets, pid):
     """The clean packets of a PID, and how many were left out as duplicates."""
     kept, duplicates = [], 0
@@ -485,13 +492,64 @@ PLACES = {
 }  # fmt: skip
 
 
+# The command of each request and how many bytes its argument has, by its number.
+REQUESTS = {
+    0x6F29: ("start", 0), 0x6F2A: ("stop", 0), 0x403C6F2B: ("section", 60), 0x40146F2C: ("pes", 20),
+    0x6F2D: ("size", 4), 0xC0106F32: ("stc", 16), 0x40026F33: ("add", 2), 0x40026F34: ("remove", 2),
+}  # fmt: skip
+
+
 def take(words):
     if not words:
         raise Wrong("count")
     return words.pop(0)
 
 
-# RULES: 4f1fcee1 The script
+# RULES: c5d69756 Requests by their numbers
+def read_request(words):
+    """The command that a request is, with its arguments."""
+    word = take(words)
+    if not re.fullmatch(rb"[0-9a-f]{8}", word):
+        raise Wrong("number")
+    if int(word, 16) not in REQUESTS:
+        raise Wrong("name")
+    command, length = REQUESTS[int(word, 16)]
+    word = take(words)
+    if not re.fullmatch(rb"-|([0-9a-f]{2}){1,60}", word):
+        raise Wrong("bytes")
+    argument = bytes.fromhex(word.decode()) if word != b"-" else b""
+    if len(argument) != length:
+        raise Wrong("bytes")
+
+    def field(place, size):
+        return int.from_bytes(argument[place : place + size], "little")
+
+    if command == "section":
+        return command, [field(0, 2), {i: (argument[2 + i], argument[18 + i], argument[34 + i]) for i in range(16)}, field(52, 4), field(56, 4)]
+    if command == "pes":
+        source, output = field(4, 4), field(8, 4)
+        if source > 1 or output > 3:
+            raise Wrong("name")
+        return command, [field(0, 2), ["frontend", "dvr"][source], OUTPUTS[output], field(12, 4), field(16, 4)]
+    return command, [field(0, min(length, 4))] if length else []
+
+
+def read_arguments(command, words):
+    """What a command has behind its target."""
+    args = []
+    for place in PLACES[command]:
+        word = take(words)
+        args.append(number(word, *place) if isinstance(place, tuple) else name(word, place))
+    if command != "section":
+        return args
+    places, above = {}, -1
+    while words and len(places) < 16:
+        above, values = filter_byte(words.pop(0), above)
+        places[above] = values
+    return [args[0], places, args[1], args[2]]
+
+
+# RULES: 069d5251 The script
 def read_line(line):
     words = line.split(b" ")
     first = words.pop(0)
@@ -499,19 +557,10 @@ def read_line(line):
         asked = (first.decode(), number(take(words), 1 if first == b"feed" else 0, U32))
     elif re.fullmatch(rb"c[0-7]", first):
         command = take(words).decode("latin-1")
-        if command not in PLACES:
+        if command not in PLACES and command != "ioctl":
             raise Wrong("command")
         on = target(take(words))
-        args = []
-        for place in PLACES[command]:
-            word = take(words)
-            args.append(number(word, *place) if isinstance(place, tuple) else name(word, place))
-        if command == "section":
-            places, above = {}, -1
-            while words and len(places) < 16:
-                above, values = filter_byte(words.pop(0), above)
-                places[above] = values
-            args = [args[0], places, args[1], args[2]]
+        command, args = read_request(words) if command == "ioctl" else (command, read_arguments(command, words))
         asked = (command, int(first[1:]), on, args)
     else:
         raise Wrong("client")
@@ -571,6 +620,7 @@ class Run:
         self.nodes = [Demux() for _ in range(NODES)] + [Dvr()]
         self.given, self.turns, self.moment, self.has_ended = 0, 0, 0, False
         self.steps, self.slots = [0] * CLIENTS, [{} for _ in range(CLIENTS)]
+        self.clocks = {}
         clients = [asked[1] for _, asked in lines if asked[0] not in ("feed", "tick")]
         self.outcomes = [[] for _ in range(max(clients, default=-1) + 1)]
 
@@ -605,18 +655,45 @@ class Run:
         self.steps[client] += 1
         return reply
 
+    def made(self, client, node, act):
+        """A call of a client, whose reply counts for the counters that it asks for."""
+        reply = self.event(client, node, act)
+        self.follow(client, node, act, reply)
+        return reply
+
+    # RULES: f7391141 System time counters
+    def follow(self, client, node, act, reply):
+        """What the client has read on the node, and the type of its filter there, once it has this reply."""
+        read, kind = self.clocks.get((client, node), (b"", None))
+        if reply.startswith("data ") and reply != "data -":
+            read += bytes.fromhex(reply[5:])
+        elif reply.startswith("overflow "):
+            read = b""
+        elif reply.startswith("done "):
+            if act[0] in ("open", "close", "section", "pes", "start", "size"):
+                read = b""
+            if act[0] in ("section", "pes"):
+                kind = act[4] if act[0] == "pes" and act[3] == "tsdemux_tap" else None
+        self.clocks[client, node] = read, kind
+
+    def counter(self, client, node, of):
+        read, kind = self.clocks.get((client, node), (b"", None))
+        clocks = [clock_reference(packet) for packet in cut(read)[0]] if of <= 3 and kind == 4 + 5 * of else []
+        clocks = [clock for clock in clocks if clock is not None]
+        return f"stc base=300 value={clocks[-1]}" if clocks else "nostc"
+
     def tap(self, client, node, reply):
         match = re.fullmatch(r"done drop=\d+\.\.\d+ tap=(attach:(.*)|detach)", reply)
         if node != DVR and match:
             if match[2] is None:
-                self.event(client, DVR, ("detach", node))
+                self.made(client, DVR, ("detach", node))
             else:
                 pids = [] if match[2] == "-" else list(map(int, match[2].split(",")))
-                self.event(client, DVR, ("attach", node, pids))
+                self.made(client, DVR, ("attach", node, pids))
 
     def open_slot(self, client, slot):
         for node in range(NODES):
-            reply = self.event(client, node, ("open",))
+            reply = self.made(client, node, ("open",))
             if not reply.startswith("busy"):
                 if reply.startswith("done"):
                     self.slots[client][slot] = node
@@ -626,13 +703,13 @@ class Run:
 
     def read_on(self, client, node, count, ends):
         while True:
-            reply = self.event(client, node, ("read", count))
+            reply = self.made(client, node, ("read", count))
             if ends(reply):
                 return
             if reply == "again ended=0":
                 self.run_pass(self.batch)
 
-    # RULES: 9be98716 What a client's commands do
+    # RULES: b792d560 What a client's commands do
     def command(self, asked):
         verb, client, on, args = asked
         if on == "dvr":
@@ -645,13 +722,15 @@ class Run:
             return "unbound"
         else:
             node = self.slots[client][on[1]]
+        if verb == "stc":
+            return self.counter(client, node, args[0])
         if verb == "readw":
             self.read_on(client, node, args[0], lambda reply: reply != "again ended=0")
         elif verb == "drain":
             ends = ("again ended=1", "data -")
             self.read_on(client, node, args[0], lambda r: r in ends or r.startswith("timedout") or r.startswith("E"))
         else:
-            self.tap(client, node, self.event(client, node, (verb, *args)))
+            self.tap(client, node, self.made(client, node, (verb, *args)))
         return "done"
 
     def run(self):
@@ -668,7 +747,7 @@ class Run:
             pass
 
 
-# RULES: 033f1c6f The report
+# RULES: 283d1101 The report
 def pid_rows(packets):
     rows = []
     for pid in sorted(set(map(pid_of, packets))):

@@ -251,6 +251,7 @@ BOXES = {
     "done": (CALL_LOOK, "command"),
     "EMFILE": (f'fill="{RED}" fill-opacity="0.5" stroke="{RED}"', "command with EMFILE"),
     "unbound": (f'fill="{YELLOW}" stroke="{GREY}"', "command on an unbound slot"),
+    "nostc": (f'fill="{YELLOW}" fill-opacity="0.5" stroke="{GREY}"', "system time counter that there is none of"),
 }
 NOTES = {
     "size line": "Black line: the buffer's size; where it is dotted, the size is above the scale.",

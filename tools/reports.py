@@ -40,7 +40,7 @@ class PidRow(NamedTuple):
 
 
 class Outcome(NamedTuple):
-    """What became of one command: its line, its first step, the step after its last, and `done`, `EMFILE` or `unbound`."""
+    """What became of one command: its line, its first step, the step after its last, and how it ended, as it is told."""
 
     line: int
     first: int
@@ -388,14 +388,23 @@ def pid_rows(lines):
     return rows
 
 
+def kind_of(words):
+    """How a command ended: by one word, or by a system time counter."""
+    if words[0] == "stc":
+        read_places("stc", ("base=", "value="), words[1:])
+    else:
+        one_of("done", "EMFILE", "unbound", "nostc", "stc base=.. value=..")(" ".join(words))
+    return " ".join(words)
+
+
 def outcomes_of(lines):
     """The outcomes of one client's commands."""
     found = []
     while lines.starts("line "):
         words = lines.text.split(" ")
-        lines.want(len(words) == 5 and words[2] == "steps", "`line L steps A..B OUTCOME`")
+        lines.want(len(words) > 4 and words[2] == "steps", "`line L steps A..B OUTCOME`")
         first, after = span(words[3])
-        found.append(Outcome(number(words[1]), first, after, one_of("done", "EMFILE", "unbound")(words[4])))
+        found.append(Outcome(number(words[1]), first, after, kind_of(words[4:])))
         lines.go_on()
     return found
 

@@ -226,10 +226,20 @@ def likeness(calls):
     return calls[0].entry.act.partition(" at=")[0], calls[0].node, calls[0].reply
 
 
+def counter_text(kind):
+    """A system time counter in words."""
+    base, value = (int(word.partition("=")[2]) for word in kind.split(" ")[1:])
+    return f"{value:,}, in units of {base * 90:,} kHz"
+
+
 def command_text(outcome, calls):
     """What one command did, in words."""
     if outcome.kind == "unbound":
         return "names a slot that is bound to no node, so it makes no call"
+    if outcome.kind == "nostc":
+        return "asks for a system time counter where it has read none"
+    if outcome.kind.startswith("stc "):
+        return f"asks for a system time counter and is told {counter_text(outcome.kind)}"
     text = calls_text(calls)
     return f"{text}; no node is free (EMFILE)" if outcome.kind == "EMFILE" else text
 

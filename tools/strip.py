@@ -143,7 +143,7 @@ class Strip:
         """The names of a command's first call and of its last reply, or its kind where it made none."""
         first, last = self.calls.get((client, command.first)), self.calls.get((client, command.after - 1))
         if command.first == command.after or not first or not last:
-            return command.kind, ""
+            return command.kind.partition(" ")[0], ""
         if command.kind == "EMFILE":
             return first[1].act.partition(" ")[0], "EMFILE"
         return first[1].act.partition(" ")[0], last[1].reply.partition(" ")[0]
@@ -161,7 +161,7 @@ class Strip:
     def look_of(self, commands):
         """The colours of commands by their outcomes."""
         kinds = {command.kind for command in commands}
-        kind = next((kind for kind in ("EMFILE", "unbound") if kind in kinds), "done")
+        kind = next((kind for kind in ("EMFILE", "unbound", "nostc") if kind in kinds), "done")
         self.used.add(kind)
         return BOXES[kind][0]
 

@@ -5,12 +5,12 @@ use Rattle.std.proofs.lemmas.Bool.Decides.{nat_tests}
 use Rattle.dmx_calls.specs.declared.limits.TheConstants.{DEMUX_NODES}
 use Rattle.dmx_calls.specs.declared.reply.Tap.{Tap as TapChange}
 use Rattle.dmx_calls.specs.declared.reply.Tap.TheVariants.{Keep as KeepTap, Attach as AttachTap, Detach as DetachTap}
-use Rattle.dmx_calls.specs.Response.{Response, Done, Busy, Refused, NoMemory, Data, Again, Overflow, TimedOut, Ready, Passed}
+use Rattle.dmx_calls.specs.Response.{Response, Done, Busy, Again}
 use Rattle.client_script.specs.declared.line.Line.{Line}
 use Rattle.client_script.specs.declared.line.Target.{Target}
 use Rattle.client_script.specs.declared.line.Target.TheVariants.{Node, Slot, Dvr}
 use Rattle.client_script.specs.declared.line.Verb.{Verb}
-use Rattle.client_script.specs.declared.line.Verb.TheVariants.{Once, ReadWait, Drain}
+use Rattle.client_script.specs.declared.line.Verb.TheVariants.{Once, ReadWait, Drain, GetStc}
 use Rattle.client_script.specs.declared.line.Want.{Want}
 use Rattle.client_script.specs.declared.line.Want.TheVariants.{Open, Read}
 use Rattle.client_core.specs.declared.command.Command.{Command}
@@ -118,6 +118,7 @@ on_tight : (node : ℕ) (v : Verb) (step : ℕ) (rs : List Response) → IsTight
 on_tight node (ReadWait count) step rs = reads_tight ends_wait node count step rs
 on_tight node (Drain count) step rs = reads_tight ends_drain node count step rs
 on_tight node (Once w) step rs = call_tight node w step rs
+on_tight node (GetStc num) step rs = omega arith
 
 at_tight : (o : Option ℕ) (v : Verb) (step : ℕ) (rs : List Response) → IsTight (33 + repeats_at o v rs) rs (done_at o v step rs) (done_at o v step (rs ++ again ∷ []))
 at_tight None v step rs = omega arith

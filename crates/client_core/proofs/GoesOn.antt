@@ -1,31 +1,34 @@
 -- What beginning and ending a command leave as it was.
-use Rattle.std.proofs.Common.{◌≡◌, refl, sym, ap, ◌∙◌, ℕ, ◌+◌, List, [], ◌∷◌, ◌++◌, Some, None, arith, ◌<◌, ◌≤◌, Bool, true, false, Option}
-use Rattle.std.specs.Prelude.{nat_lt, if◌then◌else◌}
-use Rattle.std.proofs.lemmas.List.{append_assoc, append-nil, length-append}
+use Rattle.std.proofs.Common.{◌≡◌, refl, sym, ap, subst, ◌∙◌, ℕ, ◌+◌, List, [], ◌∷◌, ◌++◌, map, length, Some, None, arith, ◌<◌, ◌≤◌, Bool, true, false, Option}
+use Rattle.std.specs.Prelude.{nat_lt, option_map, if◌then◌else◌}
+use Rattle.std.specs.List.{All}
+use Rattle.std.proofs.lemmas.List.{append_assoc, append-nil, length-append, map-append}
+use Rattle.std.proofs.lemmas.List.Elements.{All-append, All-weaker}
 use Rattle.std.proofs.lemmas.Bool.Decides.{nat_tests}
-use Rattle.dmx_calls.specs.Response.{Response, Done, Busy, Refused, NoMemory, Data, Again, Overflow, TimedOut, Ready, Passed}
+use Rattle.dmx_calls.specs.Response.{Response, Again}
 use Rattle.client_core.specs.declared.command.Command.{Command}
-use Rattle.dmx_calls.specs.declared.outcome.Outcome.{Outcome}
 use Rattle.client_core.specs.declared.task.Ending.{Ending}
 use Rattle.client_core.specs.declared.task.Task.{Task}
 use Rattle.client_core.specs.Commands.{Doing, stands, through, Slots, done}
-use Rattle.client_core.specs.Events.{Standing, Progress, with_outcome, kind_of, slots_after, progress_from, progress, waits_after, standing_at}
+use Rattle.client_core.specs.Events.{Standing, Ended, Progress, with_ended, slots_after, progress_from, progress, next_event, waits_after, standing_at}
+use Rattle.client_core.specs.Stc.{with_reply, exchanges}
+use Rattle.client_core.specs.Outcomes.{outcome_by, outcome_of}
+use Rattle.client_core.specs.Inside.Clocks.{counter_in, HaveFollowed}
 use Rattle.client_core.specs.Inside.Tasks.{resumed, node_in, IsTaskInRange}
 use Rattle.client_script.specs.declared.line.Line.{Line}
 use Rattle.std.specs.Option.{IfSome, IfNone}
 use Rattle.client_core.specs.declared.event.Event.{Event}
 use Rattle.client_core.specs.declared.machine.Current.{Current}
-use Rattle.client_core.specs.declared.task.Task.TheVariants.{On, OpenFrom, Attach, Detach}
-use Rattle.client_script.specs.declared.line.Verb.{Verb}
-use Rattle.client_script.specs.declared.line.Verb.TheVariants.{Once, ReadWait, Drain}
-use Rattle.client_core.specs.Inside.Core.{ahead, behind, coming_from, coming, Core, IsAfter, HasTaken, waits_with}
+use Rattle.client_core.specs.declared.task.Task.TheVariants.{Call, ReadWait, Drain, OpenFrom, Attach, Detach}
+use Rattle.client_core.specs.Inside.Core.{ahead, behind, coming_from, coming, Core, IsLate, IsAfter, HasTaken, next_of, waits_with}
+use Rattle.client_core.proofs.Following.{exchanges_more, early_same, told_now}
 use Rattle.std.proofs.lemmas.Option.{none-some}
 
 -- how far a client is whose next command does this
 abbrev pub progress_of : (slots : Slots) (step : ℕ) (c : Command) (cs : List Command) → Doing → Progress
 progress_of slots step c cs d = elim d [
-  | stands event ↦ record { outcomes = []; standing = Some (record { line = c.line; from = step; event = event }) }
-  | through ending next left ↦ with_outcome (record { line = c.line; from = step; to = next; kind = kind_of ending }) (progress_from (slots_after ending slots) next cs left)
+  | stands event ↦ record { ended = []; standing = Some (record { line = c.line; from = step; event = event }) }
+  | through ending next left ↦ with_ended (record { line = c.line; from = step; to = next; ending = ending }) (progress_from (slots_after ending slots) next cs left)
 ]
 
 pub first_ahead : (slots : Slots) (step : ℕ) (c : Command) (cs : List Command) (more : List Response)
@@ -35,27 +38,31 @@ first_ahead slots step c cs more = go (done slots c.target c.verb step more) whe
   go (stands event) = refl
   go (through ending next left) = refl
 
-pub behind_one : (os : List Outcome) (o : Outcome) (p : Progress) → behind (os ++ o ∷ []) p ≡ behind os (with_outcome o p)
-behind_one os o p = ap (λ xs. record { outcomes = xs; standing = p.standing }) (append_assoc os (o ∷ []) p.outcomes)
+pub behind_one : (es : List Ended) (e : Ended) (p : Progress) → behind (es ++ e ∷ []) p ≡ behind es (with_ended e p)
+behind_one es e p = ap (λ xs. record { ended = xs; standing = p.standing }) (append_assoc es (e ∷ []) p.ended)
+
+behind_two : (es fs : List Ended) (p : Progress) → behind (es ++ fs) p ≡ behind es (behind fs p)
+behind_two es fs p = ap (λ xs. record { ended = xs; standing = p.standing }) (append_assoc es fs p.ended)
 
 pub begun_goes_on : (slots : Slots) (step : ℕ) (left : List Command) (c : Command) (cs : List Command) (task : Task) → left ≡ c ∷ cs
     → ((s : ℕ) (more : List Response) → done slots c.target c.verb s more ≡ resumed task s more)
-    → (os : List Outcome) (more : List Response)
-    → behind os (coming_from (Some (record { line = c.line; from = step; task = task })) step slots cs more) ≡ behind os (coming_from None step slots left more)
-begun_goes_on slots step left c cs task is does os more =
-    ap (λ p. behind os p) (sym (ap (λ l. progress_from slots step l more) is ∙ first_ahead slots step c cs more ∙ ap (λ d. ahead c.line step slots cs d) (does step more)))
+    → (more : List Response)
+    → progress_from slots step left more ≡ coming_from (Some (record { line = c.line; from = step; task = task })) step slots cs more
+begun_goes_on slots step left c cs task is does more =
+    ap (λ l. progress_from slots step l more) is ∙ first_ahead slots step c cs more ∙ ap (λ d. ahead c.line step slots cs d) (does step more)
 
 pub passed_goes_on : (slots : Slots) (step : ℕ) (left : List Command) (c : Command) (cs : List Command) (ending : Ending) → left ≡ c ∷ cs
     → ((s : ℕ) (more : List Response) → done slots c.target c.verb s more ≡ through ending s more)
-    → (os : List Outcome) (more : List Response)
-    → behind (os ++ record { line = c.line; from = step; to = step; kind = kind_of ending } ∷ []) (coming_from None step (slots_after ending slots) cs more) ≡ behind os (coming_from None step slots left more)
-passed_goes_on slots step left c cs ending is does os more =
-    behind_one os _ (progress_from (slots_after ending slots) step cs more)
-    ∙ ap (λ p. behind os p) (sym (ap (λ l. progress_from slots step l more) is ∙ first_ahead slots step c cs more ∙ ap (λ d. ahead c.line step slots cs d) (does step more)))
+    → (es : List Ended) (more : List Response)
+    → behind es (progress_from slots step left more)
+    ≡ behind (es ++ record { line = c.line; from = step; to = step; ending = ending } ∷ []) (progress_from (slots_after ending slots) step cs more)
+passed_goes_on slots step left c cs ending is does es more =
+    ap (λ p. behind es p) (ap (λ l. progress_from slots step l more) is ∙ first_ahead slots step c cs more ∙ ap (λ d. ahead c.line step slots cs d) (does step more))
+    ∙ sym (behind_one es _ (progress_from (slots_after ending slots) step cs more))
 
 -- ------ a reply is taken
 
-pub now_is : (client : ℕ) (lines : List Line) (replies : List Response) (c : Core) → IsAfter client lines replies c → progress client lines replies ≡ coming c []
+pub now_is : (client : ℕ) (lines : List Line) (replies : List Response) (c : Core) → (after : IsAfter client lines replies c) → progress client lines replies ≡ behind after.ended (coming c [])
 now_is client lines replies c after = sym (ap (λ rs. progress client lines rs) (append-nil replies)) ∙ after.goes_on []
 
 last_alone : (s : Standing) (replies : List Response) (r : Response) → waits_after (Some s) (replies ++ r ∷ []) ≡ waits_after (Some s) (r ∷ [])
@@ -69,26 +76,51 @@ last_counts (Some s) replies r = last_alone s replies r
 
 pub taken : (client : ℕ) (lines : List Line) (replies : List Response) (r : Response) (c d : Core) → IsAfter client lines replies c → HasTaken r c d → d.step ≡ c.step + 1 → IsAfter client lines (replies ++ r ∷ []) d
 taken client lines replies r c d after takes step = record {
+  ended = after.ended ++ takes.passed;
   goes_on = on;
-  steps = step ∙ ap (λ n. n + 1) after.steps ∙ sym (length-append replies (r ∷ []));
+  outcomes = takes.told
+      ∙ ap (λ os. os ++ map (outcome_by (counter_in d.clocks)) takes.passed) (after.outcomes ∙ early_same client lines replies r after.ended after.early)
+      ∙ ap (λ os. map (outcome_of client lines (replies ++ r ∷ [])) after.ended ++ os) (told_now client lines (replies ++ r ∷ []) d.clocks takes.passed followed_now late_now)
+      ∙ sym (map-append (outcome_of client lines (replies ++ r ∷ [])) after.ended takes.passed);
+  early = All-append (λ (e : Ended). e.from ≤ length (replies ++ r ∷ [])) after.ended takes.passed
+      (All-weaker (λ (e : Ended). e.from ≤ length replies) (λ (e : Ended). e.from ≤ length (replies ++ r ∷ [])) (λ e le. omega (arith, le, longer)) after.ended after.early)
+      (All-weaker (IsLate (length d.clocks) (length (replies ++ r ∷ []))) (λ (e : Ended). e.from ≤ length (replies ++ r ∷ [])) (λ e l. l.from) takes.passed late_now);
+  followed = followed_now;
+  steps = steps_now;
   waits = takes.waits
       ∙ ap (λ p. waits_after p.standing (r ∷ [])) (sym (on []) ∙ ap (λ rs. progress client lines rs) (append-nil (replies ++ r ∷ [])))
       ∙ sym (last_counts (progress client lines (replies ++ r ∷ [])).standing replies r);
 } where
-  on : (more : List Response) → progress client lines ((replies ++ r ∷ []) ++ more) ≡ coming d more
-  on more = ap (λ rs. progress client lines rs) (append_assoc replies (r ∷ []) more) ∙ after.goes_on (r ∷ more) ∙ takes.goes_on more
+  longer : length (replies ++ r ∷ []) ≡ length replies + 1
+  longer = length-append replies (r ∷ [])
+
+  steps_now : d.step ≡ length (replies ++ r ∷ [])
+  steps_now = step ∙ ap (λ n. n + 1) after.steps ∙ sym longer
+
+  late_now : All (IsLate (length d.clocks) (length (replies ++ r ∷ []))) takes.passed
+  late_now = subst (λ n. All (IsLate (length d.clocks) n) takes.passed) steps_now takes.late
+
+  on : (more : List Response) → progress client lines ((replies ++ r ∷ []) ++ more) ≡ behind (after.ended ++ takes.passed) (coming d more)
+  on more = ap (λ rs. progress client lines rs) (append_assoc replies (r ∷ []) more) ∙ after.goes_on (r ∷ more)
+      ∙ ap (λ p. behind after.ended p) (takes.goes_on more) ∙ sym (behind_two after.ended takes.passed (coming d more))
+
+  next_is : next_event client lines replies ≡ next_of c
+  next_is = ap (λ p. option_map (λ s. s.event) p.standing) (now_is client lines replies c after)
+
+  followed_now : HaveFollowed (exchanges client lines (replies ++ r ∷ [])) d.clocks
+  followed_now =
+      let same : exchanges client lines (replies ++ r ∷ []) ≡ with_reply (next_of c) r (exchanges client lines replies) =
+      exchanges_more client lines [] [] replies r ∙ ap (λ e. with_reply e r (exchanges client lines replies)) next_is in
+      subst (λ xs. HaveFollowed xs d.clocks) (sym same) (takes.followed (exchanges client lines replies) after.followed)
 
 -- what stands there has this step
 abbrev pub StandsAt : (step : ℕ) → Doing → Type 0
 StandsAt step d = (e : Event) × (d ≡ stands e) × (e.step ≡ step)
 
-pub on_node_stands : (node step : ℕ) (v : Verb) → StandsAt step (resumed (On node v) step [])
-on_node_stands node step (ReadWait count) = (_, refl, refl)
-on_node_stands node step (Drain count) = (_, refl, refl)
-on_node_stands node step (Once w) = (_, refl, refl)
-
 pub task_stands : (step : ℕ) (t : Task) → StandsAt step (resumed t step [])
-task_stands step (On node v) = on_node_stands node step v
+task_stands step (Call node want) = (_, refl, refl)
+task_stands step (ReadWait node count) = (_, refl, refl)
+task_stands step (Drain node count) = (_, refl, refl)
 task_stands step (OpenFrom slot node) = (_, refl, refl)
 task_stands step (Attach ending node pids) = (_, refl, refl)
 task_stands step (Detach ending node) = (_, refl, refl)
@@ -118,21 +150,22 @@ waits_not s r le =
 -- ------ what stands there
 
 pub none_left : (cur : Option Current) (step : ℕ) (slots : Slots) (left : List Command) → cur ≡ None → IfNone cur (left ≡ [])
-    → coming_from cur step slots left [] ≡ record { outcomes = []; standing = None }
+    → coming_from cur step slots left [] ≡ record { ended = []; standing = None }
 none_left None step slots left is ended = ap (λ l. progress_from slots step l []) ended
 none_left (Some k) step slots left is ended = absurd (none-some k (sym is))
 
 pub some_stands : (cur : Option Current) (k : Current) (step : ℕ) (slots : Slots) (left : List Command) (e : Event) → cur ≡ Some k → stands e ≡ resumed k.task step []
-    → coming_from cur step slots left [] ≡ record { outcomes = []; standing = Some (record { line = k.line; from = k.from; event = e }) }
+    → coming_from cur step slots left [] ≡ record { ended = []; standing = Some (record { line = k.line; from = k.from; event = e }) }
 some_stands cur k step slots left e is there =
     ap (λ c. coming_from c step slots left []) is ∙ ap (λ d. ahead k.line k.from slots left d) (sym there)
 
-pub outcomes_now : (outs : List Outcome) (cur : Option Current) (step : ℕ) (slots : Slots) (left : List Command) → IfNone cur (left ≡ [])
-    → outs ≡ (behind outs (coming_from cur step slots left [])).outcomes
-outcomes_now outs None step slots left ended = sym (ap (λ l. (behind outs (progress_from slots step l [])).outcomes) ended ∙ append-nil outs)
-outcomes_now outs (Some k) step slots left ended =
+-- a command that is begun isn't through, and neither are those behind it
+pub none_ended : (es : List Ended) (cur : Option Current) (step : ℕ) (slots : Slots) (left : List Command) → IfNone cur (left ≡ [])
+    → es ≡ (behind es (coming_from cur step slots left [])).ended
+none_ended es None step slots left ended = sym (ap (λ l. (behind es (progress_from slots step l [])).ended) ended ∙ append-nil es)
+none_ended es (Some k) step slots left ended =
     let there : StandsAt step (resumed k.task step []) = task_stands step k.task in
-    sym (ap (λ d. (behind outs (ahead k.line k.from slots left d)).outcomes) there.1 ∙ append-nil outs)
+    sym (ap (λ d. (behind es (ahead k.line k.from slots left d)).ended) there.1 ∙ append-nil es)
 
 pub begun_waits_not : (cur : Option Current) (step : ℕ) (slots : Slots) (left : List Command) (r : Response) → IfNone cur (left ≡ []) → IfSome cur (λ k. IsTaskInRange k.task × (k.from ≡ step))
     → None ≡ waits_after (coming_from cur step slots left []).standing (r ∷ [])

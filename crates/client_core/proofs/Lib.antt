@@ -1,5 +1,6 @@
 pub mod GoesOn
 pub mod FirstCalls
+pub mod Following
 pub mod More
 pub mod Numbering
 pub mod Ended

@@ -4,11 +4,11 @@ use Rattle.std.specs.Prelude.{nat_lt, if◌then◌else◌, slice_index_or, optio
 use Rattle.dmx_calls.specs.declared.limits.TheConstants.{DEMUX_NODES}
 use Rattle.dmx_calls.specs.declared.reply.Tap.{Tap as TapChange}
 use Rattle.dmx_calls.specs.declared.reply.Tap.TheVariants.{Keep as KeepTap, Attach as AttachTap, Detach as DetachTap}
-use Rattle.dmx_calls.specs.Response.{Response, Done, Busy, Refused, NoMemory, Data, Again, Overflow, TimedOut, Ready, Passed}
+use Rattle.dmx_calls.specs.Response.{Response, Done, Busy, Again}
 use Rattle.client_script.specs.declared.line.Target.{Target}
 use Rattle.client_script.specs.declared.line.Target.TheVariants.{Node, Slot, Dvr}
 use Rattle.client_script.specs.declared.line.Verb.{Verb}
-use Rattle.client_script.specs.declared.line.Verb.TheVariants.{Once, ReadWait, Drain}
+use Rattle.client_script.specs.declared.line.Verb.TheVariants.{Once, ReadWait, Drain, GetStc}
 use Rattle.client_script.specs.declared.line.Want.{Want}
 use Rattle.client_script.specs.declared.line.Want.TheVariants.{Open}
 use Rattle.client_core.specs.declared.command.Command.{Command}
@@ -119,6 +119,7 @@ on_on : (node : ℕ) (v : Verb) (step : ℕ) (rs : List Response) (r : Response)
 on_on node (ReadWait count) step rs r = read_on ends_wait wait_sooner node count step rs r
 on_on node (Drain count) step rs r = read_on ends_drain (λ q is. is) node count step rs r
 on_on node (Once w) step rs r = called_on node w step rs r
+on_on node (GetStc num) step rs r = (refl, refl)
 
 at_on : (o : Option ℕ) (v : Verb) (step : ℕ) (rs : List Response) (r : Response) → Onward step r (repeats_at o v rs) (repeats_at o v (rs ++ r ∷ [])) (done_at o v step rs) (done_at o v step (rs ++ r ∷ []))
 at_on None v step rs r = (refl, refl)
@@ -150,6 +151,7 @@ on_none : (node : ℕ) (v : Verb) (step : ℕ) → IsFirst step (done_on node v 
 on_none node (ReadWait count) step = (refl, refl)
 on_none node (Drain count) step = (refl, refl)
 on_none node (Once w) step = (refl, refl)
+on_none node (GetStc num) step = (refl, refl)
 
 at_none : (o : Option ℕ) (v : Verb) (step : ℕ) → IsFirst step (done_at o v step []) × (repeats_at o v [] ≡ 0)
 at_none None v step = (refl, refl)

@@ -8,21 +8,21 @@ use Rattle.std.proofs.lemmas.Bool.Decides.{nat_tests}
 use Rattle.dmx_calls.specs.declared.limits.TheConstants.{DEMUX_NODES}
 use Rattle.dmx_calls.specs.declared.reply.Tap.{Tap as TapChange}
 use Rattle.dmx_calls.specs.declared.reply.Tap.TheVariants.{Keep as KeepTap, Attach as AttachTap, Detach as DetachTap}
-use Rattle.dmx_calls.specs.Response.{Response, Done, Busy, Refused, NoMemory, Data, Again, Overflow, TimedOut, Ready, Passed}
+use Rattle.dmx_calls.specs.Response.{Response, Done, Busy}
 use Rattle.client_script.specs.Grammar.{IsTargetInRange, IsInRange}
 use Rattle.client_script.specs.declared.line.Line.{Line}
 use Rattle.client_script.specs.declared.line.Line.TheVariants.{Feed, Tick, Command as CommandLine}
 use Rattle.client_script.specs.declared.line.Target.{Target}
 use Rattle.client_script.specs.declared.line.Target.TheVariants.{Node, Slot, Dvr}
 use Rattle.client_script.specs.declared.line.Verb.{Verb}
-use Rattle.client_script.specs.declared.line.Verb.TheVariants.{Once, ReadWait, Drain}
+use Rattle.client_script.specs.declared.line.Verb.TheVariants.{Once, ReadWait, Drain, GetStc}
 use Rattle.client_script.specs.declared.line.Want.{Want}
 use Rattle.client_script.specs.declared.line.Want.TheVariants.{Open}
 use Rattle.client_core.specs.declared.command.Command.{Command}
 use Rattle.client_core.specs.declared.event.Event.{Event}
 use Rattle.client_core.specs.declared.event.Request.{Request}
 use Rattle.client_core.specs.declared.task.Ending.{Ending}
-use Rattle.client_core.specs.declared.task.Ending.TheVariants.{Made, Bound, AllBusy, NoNode}
+use Rattle.client_core.specs.declared.task.Ending.TheVariants.{Made, Bound, AllBusy, NoNode, Asked}
 use Rattle.client_core.specs.Commands.{Slots, Doing, stands, through, once, told, called, opened, read_until, done_on, done_at, done_by_slot, done, ends_wait, ends_drain, commands_in, commands_of}
 use Rattle.client_core.specs.Events.{Standing, slots_after, progress_from, progress, no_slots, next_event, standing_at}
 use Rattle.client_core.specs.Inside.Tasks.{IsEndingInRange, AreSlots}
@@ -85,6 +85,7 @@ on_fits : (node : ℕ) (v : Verb) (step : ℕ) (rs : List Response) → node ≤
 on_fits node (ReadWait count) step rs le = read_fits ends_wait node count step rs le
 on_fits node (Drain count) step rs le = read_fits ends_drain node count step rs le
 on_fits node (Once w) step rs le = called_fits node w step rs le
+on_fits node (GetStc num) step rs le = (refl, tt)
 
 at_fits : (o : Option ℕ) (v : Verb) (step : ℕ) (rs : List Response) → IfSome o (λ node. node < DEMUX_NODES) → Fits (step + length rs) (done_at o v step rs)
 at_fits None v step rs lt = (refl, tt)
@@ -108,6 +109,7 @@ bound_after : (ending : Ending) (slots : Slots) → IsEndingInRange ending → A
 bound_after Made slots is bound = bound
 bound_after AllBusy slots is bound = bound
 bound_after NoNode slots is bound = bound
+bound_after (Asked node num) slots is bound = bound
 bound_after (Bound slot node) slots is bound = All-set (λ slot. IfSome slot (λ node. node < DEMUX_NODES)) slots slot (Some node) is.1 bound
 
 abbrev pub AreTargets : List Command → Type 0

@@ -5,17 +5,9 @@ use Rattle.dmx_calls.specs.Response.{Response, Again}
 use Rattle.client_script.specs.declared.line.Line.{Line}
 use Rattle.client_core.specs.declared.command.Command.{Command}
 use Rattle.client_core.specs.declared.event.Event.{Event}
-use Rattle.dmx_calls.specs.declared.outcome.OutcomeKind.{OutcomeKind}
-use Rattle.dmx_calls.specs.declared.outcome.OutcomeKind.TheVariants.{Done, Emfile, Unbound}
-use Rattle.dmx_calls.specs.declared.outcome.Outcome.{Outcome}
 use Rattle.client_core.specs.declared.task.Ending.{Ending}
-use Rattle.client_core.specs.declared.task.Ending.TheVariants.{Bound, AllBusy, NoNode}
+use Rattle.client_core.specs.declared.task.Ending.TheVariants.{Bound}
 use Rattle.client_core.specs.Commands.{commands_of, stands, through, Slots, done}
-
-abbrev pub kind_of : Ending → OutcomeKind
-kind_of AllBusy = Emfile
-kind_of NoNode = Unbound
-kind_of _ = Done
 
 -- an open of a slot that succeeds binds it
 abbrev pub slots_after : Ending → Slots → Slots
@@ -28,23 +20,30 @@ pub record Standing : Type 0 where
   pub from : ℕ
   pub event : Event
 
--- how far a client is: the outcomes of the commands that are through, in the order of their lines, and
--- the command that isn't, if there is one
+-- a command that is through: its line, the step of its first call, the step after its last, and how it ended
+pub record Ended : Type 0 where
+  pub line : ℕ
+  pub from : ℕ
+  pub to : ℕ
+  pub ending : Ending
+
+-- how far a client is: the commands that are through, in the order of their lines, and the command that isn't, if
+-- there is one
 pub record Progress : Type 0 where
-  pub outcomes : List Outcome
+  pub ended : List Ended
   pub standing : Option Standing
 
-abbrev pub with_outcome : Outcome → Progress → Progress
-with_outcome outcome p = record { outcomes = outcome ∷ p.outcomes; standing = p.standing }
+abbrev pub with_ended : Ended → Progress → Progress
+with_ended command p = record { ended = command ∷ p.ended; standing = p.standing }
 
 -- These commands are done one after another from this step on. Each uses up its own of the
 -- replies and leaves the rest to the next.
 abbrev pub progress_from : Slots → (step : ℕ) → List Command → List Response → Progress
-progress_from slots step [] replies = record { outcomes = []; standing = None }
+progress_from slots step [] replies = record { ended = []; standing = None }
 progress_from slots step (c ∷ cs) replies = elim (done slots c.target c.verb step replies) [
-  | stands event ↦ record { outcomes = []; standing = Some (record { line = c.line; from = step; event = event }) }
+  | stands event ↦ record { ended = []; standing = Some (record { line = c.line; from = step; event = event }) }
   | through ending next left ↦
-      with_outcome (record { line = c.line; from = step; to = next; kind = kind_of ending })
+      with_ended (record { line = c.line; from = step; to = next; ending = ending })
       (progress_from (slots_after ending slots) next cs left)
 ]
 
@@ -59,10 +58,6 @@ progress client lines replies = progress_from no_slots 0 (commands_of client lin
 -- the call that it makes next
 abbrev pub next_event : (client : ℕ) → List Line → List Response → Option Event
 next_event client lines replies = option_map (λ s. s.event) (progress client lines replies).standing
-
--- what became of the commands that are through
-abbrev pub outcomes : (client : ℕ) → List Line → List Response → List Outcome
-outcomes client lines replies = (progress client lines replies).outcomes
 
 -- the node on which it waits: the last reply was Again, and what stands there repeats the read
 abbrev pub waits_after : Option Standing → List Response → Option ℕ

@@ -1,5 +1,5 @@
 -- Worked examples: what clients ask for by replies that were worked out by hand.
-use Rattle.std.specs.Prelude.{◌≡◌, ℕ, ◌+◌, List, [], ◌∷◌, ◌++◌, map, replicate, Option, Some, None, true, false}
+use Rattle.std.specs.Prelude.{◌≡◌, ℕ, ◌+◌, List, [], ◌∷◌, ◌++◌, map, replicate, take, drop, Option, Some, None, true, false}
 use Rattle.std.specs.List.{range_with_len, flat_map}
 use Rattle.dmx_calls.specs.declared.params.PesParams.{PesParams}
 use Rattle.dmx_calls.specs.declared.params.Input.TheVariants.{Frontend}
@@ -11,12 +11,13 @@ use Rattle.dmx_calls.specs.Response.{Response, Done, Busy, Refused, Data, Again,
 use Rattle.client_script.specs.declared.line.Line.{Line}
 use Rattle.client_script.specs.declared.line.Line.TheVariants.{Feed, Command}
 use Rattle.client_script.specs.declared.line.Target.TheVariants.{Node, Slot, Dvr}
-use Rattle.client_script.specs.declared.line.Verb.TheVariants.{Once, ReadWait, Drain}
-use Rattle.client_script.specs.declared.line.Want.TheVariants.{Open, Close, Pes, Start, Stop, Read, Poll}
+use Rattle.client_script.specs.declared.line.Verb.TheVariants.{Once, ReadWait, Drain, GetStc}
+use Rattle.client_script.specs.declared.line.Want.TheVariants.{Open, Close, Pes, Start, Stop, Size, Read, Poll}
 use Rattle.client_core.specs.declared.event.Request.TheVariants.{Own, Attach as AskAttach, Detach as AskDetach}
 use Rattle.dmx_calls.specs.declared.outcome.Outcome.{Outcome}
-use Rattle.dmx_calls.specs.declared.outcome.OutcomeKind.TheVariants.{Done as WasDone, Emfile, Unbound}
-use Rattle.client_core.specs.Events.{next_event, outcomes, waits_on}
+use Rattle.dmx_calls.specs.declared.outcome.OutcomeKind.TheVariants.{Done as WasDone, Emfile, Unbound, Stc, NoStc}
+use Rattle.client_core.specs.Events.{next_event, waits_on}
+use Rattle.client_core.specs.Outcomes.{outcomes}
 
 abbrev pub recording : PesParams
 recording = record { pid = 256; input = Frontend; output = TsdemuxTap; pes_type = 20; flags = 0 }
@@ -149,3 +150,89 @@ SlotStaysBound =
 abbrev pub SlotIsBoundAnew : Type 0
 SlotIsBoundAnew =
     next_event 0 reopened (keep ∷ Busy 1 ∷ Busy 1 ∷ keep ∷ []) ≡ Some (record { step = 4; node = 2; want = Own Start })
+
+-- ------ system time counters
+
+-- a filter of this type whose whole packets are read
+abbrev pub counter_filter : (pes_type : ℕ) → PesParams
+counter_filter pes_type = record { pid = 256; input = Frontend; output = TsdemuxTap; pes_type = pes_type; flags = 0 }
+
+-- a packet of PID 256 that is an adaptation field alone, whose program clock reference has the base 2 * n + 1 and the
+-- extension 5
+abbrev pub clock_packet : (n : ℕ) → List ℕ
+clock_packet n =
+    0x47 ∷ 0x01 ∷ 0x00 ∷ 0x20 ∷ 0xb7 ∷ 0x10 ∷ 0x00 ∷ 0x00 ∷ 0x00 ∷ n ∷ 0xfe ∷ 0x05 ∷ replicate 176 0xff
+
+-- a node is opened, set and started; its counter is asked for, bytes are read, and it is asked for again
+abbrev pub asked_twice : (num pes_type : ℕ) → List Line
+asked_twice num pes_type =
+    Command 1 0 (Node 0) (Once Open) ∷ Command 2 0 (Node 0) (Once (Pes (counter_filter pes_type)))
+    ∷ Command 3 0 (Node 0) (Once Start) ∷ Feed 1 ∷ Command 5 0 (Node 0) (GetStc num)
+    ∷ Command 6 0 (Node 0) (Once (Read 188)) ∷ Command 7 0 (Node 0) (GetStc num) ∷ []
+
+abbrev pub one_clock : List Response
+one_clock = keep ∷ keep ∷ keep ∷ Data (clock_packet 0) ∷ []
+
+abbrev pub with_stc : (line at value : ℕ) → Outcome
+with_stc line at value = record { line = line; from = at; to = at; kind = Stc 300 value }
+
+abbrev pub without_stc : (line at : ℕ) → Outcome
+without_stc line at = record { line = line; from = at; to = at; kind = NoStc }
+
+-- a question makes no call, and is answered by what was read before it: 1 * 300 + 5
+abbrev pub StcIsRead : Type 0
+StcIsRead = outcomes 0 (asked_twice 0 4) one_clock
+    ≡ done_line 1 0 1 ∷ done_line 2 1 2 ∷ done_line 3 2 3 ∷ without_stc 5 3 ∷ done_line 6 3 4 ∷ with_stc 7 4 305 ∷ []
+
+-- while the reply to the read is missing, neither the read nor the question behind it is through
+abbrev pub StcWaitsForTheRead : Type 0
+StcWaitsForTheRead = outcomes 0 (asked_twice 0 4) (keep ∷ keep ∷ keep ∷ [])
+    ≡ done_line 1 0 1 ∷ done_line 2 1 2 ∷ done_line 3 2 3 ∷ without_stc 5 3 ∷ []
+
+-- the type of the filter is that of the counter: 9 is DMX_PES_PCR1; there is no counter 4
+abbrev pub OtherStcIsNone : Type 0
+OtherStcIsNone =
+    (last_of (outcomes 0 (asked_twice 1 4) one_clock) ≡ Some (without_stc 7 4))
+    × (last_of (outcomes 0 (asked_twice 1 9) one_clock) ≡ Some (with_stc 7 4 305))
+    × (last_of (outcomes 0 (asked_twice 4 24) one_clock) ≡ Some (without_stc 7 4))
+
+-- what was read before an overflow is lost, as it is with half of a packet
+abbrev pub LostStcIsNone : Type 0
+LostStcIsNone =
+    (last_of (outcomes 0 (asked_twice 0 4) (keep ∷ keep ∷ keep ∷ Overflow 0 188 0 188 0 ∷ [])) ≡ Some (without_stc 7 4))
+    × (last_of (outcomes 0 (asked_twice 0 4) (keep ∷ keep ∷ keep ∷ Data (take 94 (clock_packet 0)) ∷ []))
+    ≡ Some (without_stc 7 4))
+
+-- a filter is set, its packets are read until there are none, and the counter is asked for behind this other line
+abbrev pub read_all : (between : List Line) → List Line
+read_all between =
+    Command 1 0 (Node 0) (Once (Pes (counter_filter 4))) ∷ Command 2 0 (Node 0) (Drain 188) ∷ (between
+    ++ Command 5 0 (Node 0) (GetStc 0) ∷ [])
+
+abbrev pub two_clocks : List Response
+two_clocks =
+    keep ∷ Data (take 94 (clock_packet 0)) ∷ Data (drop 94 (clock_packet 0) ++ take 10 (clock_packet 1))
+    ∷ Data (drop 10 (clock_packet 1)) ∷ Data [] ∷ []
+
+-- The clock is the last one, of packets that were read in pieces: 3 * 300 + 5. A call on another node, a stop, and a
+-- start that is refused change nothing; an accepted start begins anew, and so does a size.
+abbrev pub LastStcCounts : Type 0
+LastStcCounts =
+    (last_of (outcomes 0 (read_all []) two_clocks) ≡ Some (with_stc 5 5 905))
+    × (last_of (outcomes 0 (read_all (Command 4 0 (Node 1) (Once Start) ∷ [])) (two_clocks ++ keep ∷ []))
+    ≡ Some (with_stc 5 6 905))
+    × (last_of (outcomes 0 (read_all (Command 4 0 (Node 0) (Once Stop) ∷ [])) (two_clocks ++ keep ∷ []))
+    ≡ Some (with_stc 5 6 905))
+    × (last_of (outcomes 0 (read_all (Command 4 0 (Node 0) (Once Start) ∷ [])) (two_clocks ++ Refused Ebadf ∷ []))
+    ≡ Some (with_stc 5 6 905))
+    × (last_of (outcomes 0 (read_all (Command 4 0 (Node 0) (Once Start) ∷ [])) (two_clocks ++ keep ∷ []))
+    ≡ Some (without_stc 5 6))
+    × (last_of (outcomes 0 (read_all (Command 4 0 (Node 0) (Once (Size 8192)) ∷ [])) (two_clocks ++ keep ∷ []))
+    ≡ Some (without_stc 5 6))
+
+-- a question of an unbound slot, and one of the dvr node, on which no filter is set
+abbrev pub StcOfNoFilter : Type 0
+StcOfNoFilter =
+    (outcomes 0 (Command 1 0 (Slot 3) (GetStc 0) ∷ []) []
+    ≡ record { line = 1; from = 0; to = 0; kind = Unbound } ∷ [])
+    × (outcomes 0 (Command 1 0 Dvr (GetStc 0) ∷ []) [] ≡ without_stc 1 0 ∷ [])

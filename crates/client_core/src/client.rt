@@ -1,20 +1,25 @@
 // The client machine.
-ghost use Rattle.std.specs.Prelude.{◌≡◌, ℕ, ◌+◌, ◌<◌, ◌≤◌, ◌^◌, List, [], ◌∷◌, ◌++◌, length, Some, None, IsSome, IsNone, IfSome, IfOk, All, ◌↔◌, MatchOption, vec_capacity};
+ghost use Rattle.std.specs.Prelude.{◌≡◌, ℕ, ◌+◌, ◌*◌, ◌<◌, ◌≤◌, ◌^◌, List, [], ◌∷◌, ◌++◌, length, true, false, Some, None, IsSome, IsNone, IfSome, IfOk, All, ◌↔◌, MatchOption, vec_capacity};
 ghost use Rattle.dmx_calls.specs.declared.limits.TheConstants.{DEMUX_NODES as nodes};
 ghost use Rattle.dmx_calls.specs.Calls.{response_of};
 ghost use Rattle.dmx_calls.specs.Response.{Response};
 ghost use Rattle.client_script.specs.declared.line.Line.{Line as ScriptLine};
 ghost use Rattle.client_script.specs.Script.{IsScript};
-ghost use Rattle.client_core.specs.Commands.{commands_of, IsRequestInRange};
-ghost use Rattle.client_core.specs.Events.{next_event, outcomes as outcomes_of, waits_on, next_of_line};
-ghost use Rattle.client_core.specs.Inside.Tasks.{resumed, node_in};
-ghost use Rattle.client_core.specs.Inside.Core.{coming, one_if_some, IsCommandInRange, IsSound, IsAfter, HasTaken, next_of, waits_with};
+ghost use Rattle.client_core.specs.declared.event.Event.{Event as EventValue};
+ghost use Rattle.client_core.specs.Commands.{commands_of, stands, IsRequestInRange};
+ghost use Rattle.client_core.specs.Events.{next_event, waits_on, next_of_line};
+ghost use Rattle.client_core.specs.Stc.{Exchange, with_reply};
+ghost use Rattle.client_core.specs.Outcomes.{outcomes as outcomes_of};
+ghost use Rattle.client_core.specs.Inside.Clocks.{HaveFollowed, AreFew};
+ghost use Rattle.client_core.specs.Inside.Tasks.{resumed, node_in, IsTaskInRange};
+ghost use Rattle.client_core.specs.Inside.Core.{coming, one_if_some, IsCommandInRange, CanBegin, IsSound, IsAfter, HasTaken, next_of, waits_with};
 
+use crate::clocks::Clocks;
 use crate::command::{Command, Commands};
 use crate::event::Event;
 use crate::machine::{Current, add, begin, bind, kind_of};
 use crate::task::{Next, Task, after, event_of, node_of};
-use client_script::{Line, Script};
+use client_script::{Line, Script, Verb};
 use dmx_calls::{Outcome, Reply};
 use std::alloc::{AllocError as NoMemory, Global};
 use std::marker::Model;
@@ -27,6 +32,7 @@ pub struct ClientCore {
     slots: [Option<u32>; 32],
     step: u64,
     waits: Option<u32>,
+    clocks: Clocks,
     outcomes: Vec<Outcome>,
 }
 
@@ -36,9 +42,9 @@ impl Model for ClientCore {
 
     ghost Value = { Core };
 
-    ghost view = { λ c. record { left = c.left; current = c.current; slots = c.slots; step = c.step; waits = c.waits; outcomes = c.outcomes.items } };
+    ghost view = { λ c. record { left = c.left; current = c.current; slots = c.slots; step = c.step; waits = c.waits; clocks = c.clocks; outcomes = c.outcomes.items } };
 
-    ghost invariant = { λ c. IsSound (record { left = c.left; current = c.current; slots = c.slots; step = c.step; waits = c.waits; outcomes = c.outcomes.items })
+    ghost invariant = { λ c. IsSound (record { left = c.left; current = c.current; slots = c.slots; step = c.step; waits = c.waits; clocks = c.clocks; outcomes = c.outcomes.items })
         × (length c.outcomes.items + one_if_some c.current + length c.left ≤ vec_capacity c.outcomes) };
 }
 
@@ -65,6 +71,41 @@ fn commands(alloc: Global, lines: &[Line], client: u32) -> Result<Vec<Command>, 
     Ok(commands)
 }
 
+// Whether a command asks for a counter.
+fn asks(command: &Command) -> bool
+    ensures none { result ≡ false → CanBegin 0 command.now }
+    ensures some { result ≡ true → CanBegin 0 command.now → ⊥ }
+{
+    matches!(command.verb, Verb::GetStc(_))
+}
+
+// Whether one of these commands asks for a counter.
+fn one_asks(commands: &[Command]) -> bool
+    ensures none { result ≡ false → All (CanBegin 0) commands.now }
+    ensures some { result ≡ true → All (CanBegin 0) commands.now → ⊥ }
+{
+    'commands: for command in commands {
+        if asks(command) {
+            return true;
+        }
+    }
+    false
+}
+
+// The clocks follow the call of a task, and its reply.
+fn follow(clocks: &mut Clocks, task: &Task, step: u64, reply: &Reply)
+    requires task { IsTaskInRange task.now }
+    requires few { AreFew (65536 * step) clocks.old }
+    requires step { step < 2 ^ 46 }
+    ensures followed { (e : EventValue) (xs : List Exchange) → stands e ≡ resumed task.now step [] → HaveFollowed xs clocks.old → HaveFollowed (with_reply (Some e) (response_of reply.now) xs) clocks.new }
+    ensures few { AreFew (65536 * (step + 1)) clocks.new }
+    ensures count { length clocks.new ≡ length clocks.old }
+{
+    if !clocks.is_empty() {
+        clocks.follow(&event_of(task, step), reply);
+    }
+}
+
 // The node on which a client waits that goes on with this task after this reply.
 fn waits_after(task: &Task, reply: &Reply) -> Option<u32>
     ensures { (step : ℕ) → result ≡ waits_with (response_of reply.now) (node_in (resumed task.now step [])) }
@@ -78,19 +119,23 @@ fn waits_after(task: &Task, reply: &Reply) -> Option<u32>
 impl ClientCore {
     /// The client before its first call. All memory is taken here.
     pub fn new(alloc: Global, script: &Script, client: u32) -> Result<ClientCore, NoMemory>
-        ensures { IfOk result (λ core. IsAfter client script.now [] core) }
+        ensures after { IfOk result (λ core. IsAfter client script.now [] core) }
+        // Where no command asks for a counter, no clock is kept.
+        ensures kept { IfOk result (λ core. All (CanBegin 0) (commands_of client script.now) → core.clocks ≡ []) }
     {
         let commands = commands(alloc, script.lines(), client)?;
         let mut outcomes = Vec::with_capacity(alloc, commands.len())?;
+        let clocks = Clocks::new(alloc, one_asks(&commands))?;
         let mut left = Commands::of(commands);
         let mut slots = [None; 32];
-        let current = begin(&mut left, &mut slots, 0, &mut outcomes);
+        let current = begin(&mut left, &mut slots, 0, &clocks, &mut outcomes);
         Ok(ClientCore {
             left,
             current,
             slots,
             step: 0,
             waits: None,
+            clocks,
             outcomes,
         })
     }
@@ -143,10 +188,11 @@ impl ClientCore {
         ensures taken { HasTaken (response_of reply.now) self.old self.new }
         ensures step { self.new.step ≡ self.old.step + 1 }
     {
+        let current = self.current.take().unwrap();
+        follow(&mut self.clocks, &current.task, self.step, reply);
         let step = self.step + 1;
         self.step = step;
         self.waits = None;
-        let current = self.current.take().unwrap();
         match after(current.task, reply) {
             Next::Still(task) => {
                 self.waits = waits_after(&task, reply);
@@ -164,10 +210,17 @@ impl ClientCore {
                         line: current.line,
                         from: current.from,
                         to: step,
-                        kind: kind_of(ending),
+                        kind: kind_of(ending, &self.clocks),
                     },
                 );
-                self.current = begin(&mut self.left, &mut self.slots, step, &mut self.outcomes);
+                let next = begin(
+                    &mut self.left,
+                    &mut self.slots,
+                    step,
+                    &self.clocks,
+                    &mut self.outcomes,
+                );
+                self.current = next;
             }
         }
     }

@@ -4,13 +4,15 @@
 //! nodes 0, 1, 2 and so on until one isn't busy; `readw` repeats its read while nothing is there and the stream goes on;
 //! `drain` repeats it until the stream has ended, a read is refused or times out, or no bytes come. A command other than
 //! `open` on a slot that is bound to no node makes no call. Where a demux node's reply changes its tap, the client's next
-//! call tells the dvr node of it. All of this is this project's own.
+//! call tells the dvr node of it. A question for a system time counter (DMX_GET_STC) makes no call: its answer is the clock of
+//! what the client has itself read on that node, by its filter on the PID of the clock. All of this is this project's own.
 //!
 //! What a contract sees: a `ClientCore` as the record `Core` of `specs/Inside/Core.antt`, which holds no history;
 //! `IsAfter client lines replies core` says that it stands after these replies to this client of the script. The
 //! definitions are functions of the script and of the replies alone: `done` says what a command does
-//! (`specs/Commands.antt`), and `progress`, `next_event`, `waits_on` and `outcomes` how far a client is
-//! (`specs/Events.antt`); `repeats` how often a client repeats a read (`specs/Repeats.antt`).
+//! (`specs/Commands.antt`), and `progress`, `next_event` and `waits_on` how far a client is (`specs/Events.antt`); `stc` is
+//! the counter that it finds (`specs/Stc.antt`), `outcomes` what became of its commands (`specs/Outcomes.antt`), and
+//! `repeats` how often it repeats a read (`specs/Repeats.antt`).
 //!
 //! What is proved: `new` stands after no replies; `take` carries a core that stands after some replies to one that stands after
 //! one more, and leaves nothing else open (`HasTaken`); `next`, `next_at`, `line`, `waits` and `outcomes` are what the
@@ -22,14 +24,15 @@
 //!
 //! What is only tested, in `script_tests`: that memory isn't refused where there is enough.
 //!
-//! Limits: `ClientCore::new` takes all memory of a client, two lists as long as its commands, `call_of` that of a Read's
-//! buffer, and `fitted` and `copied_outcomes` that of their copies. `take` passes over a row of commands on unbound slots in
-//! one call; every other call that copies nothing takes constant time. The runs of the crates above stop a client after
-//! `MOST_CALLS` calls.
+//! Limits: `ClientCore::new` takes all memory of a client, two lists as long as its commands and, only where one of them asks for
+//! a counter, 33 clocks; `call_of` that of a Read's buffer, and `fitted` and `copied_outcomes` that of their copies. `take`
+//! passes over a row of commands that make no call in one call, and where clocks are kept it cuts what was read into packets;
+//! every other call that copies nothing takes constant time. The runs of the crates above stop a client after `MOST_CALLS` calls.
 #![tactic(auto)]
 
 mod call;
 mod client;
+mod clocks;
 mod command;
 mod event;
 pub mod examples;

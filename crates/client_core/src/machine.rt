@@ -2,10 +2,13 @@
 ghost use Rattle.std.specs.Prelude.{◌≡◌, ◌≢◌, ℕ, ◌+◌, ◌<◌, ◌≤◌, ◌^◌, List, [], ◌∷◌, ◌++◌, drop, length, Some, None, IsSome, IfSome, IfNone, All, vec_capacity};
 ghost use Rattle.dmx_calls.specs.Calls.{response_of};
 ghost use Rattle.dmx_calls.specs.Response.{Response};
-ghost use Rattle.client_core.specs.Events.{kind_of as kind_by, slots_after, progress_from};
+ghost use Rattle.client_core.specs.Events.{slots_after};
+ghost use Rattle.client_core.specs.Outcomes.{stc_kind as stc_kind_of, kind_by};
+ghost use Rattle.client_core.specs.Inside.Clocks.{counter_in};
 ghost use Rattle.client_core.specs.Inside.Tasks.{IsEndingInRange, IsTaskInRange, AreSlots};
-ghost use Rattle.client_core.specs.Inside.Core.{coming_from, behind, one_if_some, IsCommandInRange};
+ghost use Rattle.client_core.specs.Inside.Core.{HasBegun, one_if_some, IsCommandInRange, CanBegin};
 
+use crate::clocks::Clocks;
 use crate::command::Commands;
 use crate::task::{Ending, Next, Task, after, event_of, first};
 use dmx_calls::{Outcome, OutcomeKind, Reply};
@@ -18,12 +21,30 @@ pub struct Current {
     pub task: Task,
 }
 
-pub fn kind_of(ending: Ending) -> OutcomeKind
-    ensures { result ≡ kind_by ending }
+/// How many units of 27 MHz make one of 90 kHz (ISO/IEC 13818-1, 2.4.2.2).
+const STC_BASE: u32 = 300;
+
+// What is told of a counter.
+fn stc_kind(counter: Option<u64>) -> OutcomeKind
+    ensures { result ≡ stc_kind_of counter }
+{
+    match counter {
+        None => OutcomeKind::NoStc,
+        Some(value) => OutcomeKind::Stc {
+            base: STC_BASE,
+            value,
+        },
+    }
+}
+
+/// How a command ended, by the clocks that its client has followed.
+pub fn kind_of(ending: Ending, clocks: &Clocks) -> OutcomeKind
+    ensures { result ≡ kind_by (counter_in clocks.now) ending }
 {
     match ending {
         Ending::AllBusy => OutcomeKind::Emfile,
         Ending::NoNode => OutcomeKind::Unbound,
+        Ending::Asked { node, num } => stc_kind(clocks.counter(node, num)),
         _ => OutcomeKind::Done,
     }
 }
@@ -54,13 +75,16 @@ pub fn begin(
     left: &mut Commands,
     slots: &mut [Option<u32>; 32],
     step: u64,
+    clocks: &Clocks,
     outcomes: &mut Vec<Outcome>,
 ) -> Option<Current>
     requires ranges { All IsCommandInRange left.old }
+    requires asked { All (CanBegin (length clocks.now)) left.old }
     requires bound { AreSlots slots.old }
     requires room { length outcomes.old.items + length left.old ≤ vec_capacity outcomes.old }
-    ensures same { (more : List Response) → behind outcomes.new.items (coming_from result step slots.new left.new more) ≡ behind outcomes.old.items (progress_from slots.old step left.old more) }
+    ensures begun { HasBegun clocks.now step slots.old slots.new left.old left.new outcomes.old.items outcomes.new.items result }
     ensures ranges { All IsCommandInRange left.new }
+    ensures asked { All (CanBegin (length clocks.now)) left.new }
     ensures bound { AreSlots slots.new }
     ensures current { IfSome result (λ c. IsTaskInRange c.task × (c.from ≡ step)) }
     ensures room { length outcomes.new.items + one_if_some result + length left.new ≤ vec_capacity outcomes.new }
@@ -83,7 +107,7 @@ pub fn begin(
                         line: command.line,
                         from: step,
                         to: step,
-                        kind: kind_of(ending),
+                        kind: kind_of(ending, clocks),
                     },
                 );
             }

@@ -4,6 +4,7 @@ pub mod Lengthening
 pub mod LineWords
 pub mod Parting
 pub mod ReadAgain
+pub mod RequestsAgain
 pub mod Scripts
 pub mod Searching
 pub mod Splitting

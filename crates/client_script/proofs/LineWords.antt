@@ -6,17 +6,21 @@ use Rattle.std.proofs.lemmas.List.Splits.{slice_split_none, slice_split_at}
 use Rattle.std.specs.Prelude.{◌==◌}
 use Rattle.std.specs.List.{All, flat_map}
 use Rattle.std.specs.Fmt.{decimal}
+use Rattle.byteorder.specs.Endian.{big_bytes}
+use Rattle.dmx_abi.specs.Written.{number_of, argument_of}
+use Rattle.dmx_abi.specs.declared.request.Request.TheVariants.{GetStc as StcRequest}
 use Rattle.dmx_calls.specs.Names.{input_text, output_text}
+use Rattle.text_forms.specs.Hex.{hex_text}
 use Rattle.text_forms.specs.Names.{client_text}
 use Rattle.filter_match.specs.Places.{place_at}
 use Rattle.text_forms.specs.Places.{filter_words}
 use Rattle.text_forms.proofs.FiltersRead.{filter_text-words, filter_words-each}
-use Rattle.text_forms.proofs.Visible.{IsVisible, AreVisible, decimal-visible, behind-visible, place_text-visible, visible_by_test, input_text-visible, output_text-visible}
+use Rattle.text_forms.proofs.Visible.{IsVisible, AreVisible, decimal-visible, behind-visible, place_text-visible, hex_text-visible, visible_by_test, input_text-visible, output_text-visible}
 use Rattle.client_script.specs.Words.{words_of}
 use Rattle.client_script.specs.Grammar.{IsTargetInRange, IsVerbInRange, IsInRange}
-use Rattle.client_script.specs.Spelling.{want_text, name_text, target_text, number_text, section_text, pes_text, want_arguments_text, arguments_text, command_text, line_text}
+use Rattle.client_script.specs.Spelling.{want_text, name_text, target_text, number_text, section_text, pes_text, want_arguments_text, request_text, arguments_text, command_text, line_text}
 use Rattle.client_script.specs.declared.line.Verb.{Verb}
-use Rattle.client_script.specs.declared.line.Verb.TheVariants.{Once, ReadWait, Drain}
+use Rattle.client_script.specs.declared.line.Verb.TheVariants.{Once, ReadWait, Drain, GetStc}
 use Rattle.client_script.specs.declared.line.Want.TheVariants.{Open, Close, Section, Pes, Add, Remove, Start, Stop, Size, Read, Poll}
 use Rattle.client_script.specs.declared.line.Target.{Target}
 use Rattle.client_script.specs.declared.line.Target.TheVariants.{Node, Slot, Dvr}
@@ -71,13 +75,14 @@ argument_words (Once (Size n)) = decimal n ∷ []
 argument_words (Once (Read n)) = decimal n ∷ []
 argument_words (ReadWait n) = decimal n ∷ []
 argument_words (Drain n) = decimal n ∷ []
+argument_words (GetStc num) = hex_text (big_bytes 4 (number_of (StcRequest num))) ∷ hex_text (argument_of (StcRequest num)) ∷ []
 argument_words _ = []
 
 one_number : (n : ℕ) → number_text n ≡ behind (decimal n ∷ [])
 one_number n = rw (append-nil (decimal n)) refl
 
 arguments_text-behind : (verb : Verb) → arguments_text verb ≡ behind (argument_words verb)
-unfolding arguments_text want_arguments_text section_text pes_text
+unfolding arguments_text want_arguments_text section_text pes_text request_text
 arguments_text-behind (Once (Section p)) = rw (filter_text-words p.filter) refl
 arguments_text-behind (Once (Pes p)) = rw (append-nil (decimal p.flags)) refl
 arguments_text-behind (Once (Add pid)) = one_number pid
@@ -86,6 +91,7 @@ arguments_text-behind (Once (Size n)) = one_number n
 arguments_text-behind (Once (Read n)) = one_number n
 arguments_text-behind (ReadWait n) = one_number n
 arguments_text-behind (Drain n) = one_number n
+arguments_text-behind (GetStc num) = rw (append-nil (hex_text (argument_of (StcRequest num)))) refl
 arguments_text-behind _ = refl
 
 abbrev pub first_word : Line → List ℕ
@@ -120,6 +126,7 @@ name-visible (Once (Size n)) = visible_by_test (codes "size") refl
 name-visible (Once (Read n)) = visible_by_test (codes "read") refl
 name-visible (ReadWait n) = visible_by_test (codes "readw") refl
 name-visible (Drain n) = visible_by_test (codes "drain") refl
+name-visible (GetStc num) = visible_by_test (codes "ioctl") refl
 name-visible (Once Poll) = visible_by_test (codes "poll") refl
 
 target-visible : (target : Target) → IsTargetInRange target → AreVisible (target_text target)
@@ -149,6 +156,11 @@ arguments-visible (Once (Size n)) few = number-visible n few
 arguments-visible (Once (Read n)) few = number-visible n (omega arith)
 arguments-visible (ReadWait n) few = number-visible n (omega arith)
 arguments-visible (Drain n) few = number-visible n (omega arith)
+arguments-visible (GetStc num) few =
+    let number = hex_text (big_bytes 4 (number_of (StcRequest num))) in
+    let argument = hex_text (argument_of (StcRequest num)) in
+    All-cons AreVisible number (argument ∷ []) (hex_text-visible (big_bytes 4 (number_of (StcRequest num))))
+    (All-cons AreVisible argument [] (hex_text-visible (argument_of (StcRequest num))) (All-nil AreVisible))
 arguments-visible _ few = All-nil AreVisible
 
 pub first-visible : (line : Line) → IsInRange line → AreVisible (first_word line)

@@ -21,15 +21,16 @@ use Rattle.client_script.specs.Spelling.{want_text, name_text, target_text, line
 use Rattle.client_script.specs.Script.{whole_lines, is_stream, lines_from, grammar}
 use Rattle.client_script.specs.declared.fault.ScriptFault.{ScriptFault}
 use Rattle.client_script.specs.declared.names.CommandName.{CommandName}
-use Rattle.client_script.specs.declared.names.CommandName.TheVariants.{Open as OpenName, Close as CloseName, Section as SectionName, Pes as PesName, Add as AddName, Remove as RemoveName, Start as StartName, Stop as StopName, Size as SizeName, Read as ReadName, ReadWait as ReadWaitName, Drain as DrainName, Poll as PollName}
+use Rattle.client_script.specs.declared.names.CommandName.TheVariants.{Open as OpenName, Close as CloseName, Section as SectionName, Pes as PesName, Add as AddName, Remove as RemoveName, Start as StartName, Stop as StopName, Size as SizeName, Read as ReadName, ReadWait as ReadWaitName, Drain as DrainName, Poll as PollName, Ioctl as IoctlName}
 use Rattle.client_script.specs.declared.line.Verb.{Verb}
-use Rattle.client_script.specs.declared.line.Verb.TheVariants.{Once, ReadWait, Drain}
+use Rattle.client_script.specs.declared.line.Verb.TheVariants.{Once, ReadWait, Drain, GetStc}
 use Rattle.client_script.specs.declared.line.Want.TheVariants.{Open, Close, Section, Pes, Add, Remove, Start, Stop, Size, Read, Poll}
 use Rattle.client_script.specs.declared.line.Target.{Target}
 use Rattle.client_script.specs.declared.line.Target.TheVariants.{Node, Slot, Dvr}
 use Rattle.client_script.specs.declared.line.Line.{Line}
 use Rattle.client_script.specs.declared.line.Line.TheVariants.{Feed, Tick, Command}
 use Rattle.client_script.proofs.Cuts.{first-line}
+use Rattle.client_script.proofs.RequestsAgain.{ioctl_in-words}
 use Rattle.client_script.proofs.LineWords.{behind, argument_words, first_word, more_words, line_text-words, words_of-behind, line_feed_nowhere, first-visible, more-visible}
 
 number_in-decimal : (least most n : ℕ) (words : List (List ℕ)) → n < 2 ^ 64 → least ≤ n → n ≤ most → number_in least most (decimal n ∷ words) ≡ Ok (n, words)
@@ -85,6 +86,7 @@ command_name (Once (Read n)) = ReadName
 command_name (ReadWait n) = ReadWaitName
 command_name (Drain n) = DrainName
 command_name (Once Poll) = PollName
+command_name (GetStc num) = IoctlName
 
 name_of-name_text : (verb : Verb) → name_of (name_text verb) ≡ Some (command_name verb)
 unfolding name_of name_text want_text
@@ -115,6 +117,7 @@ verb_in-argument_words (Once (Size n)) few = rw (number_in-decimal 0 4294967295 
 verb_in-argument_words (Once (Read n)) few = rw (number_in-decimal 0 65536 n [] (omega arith) (omega arith) few) refl
 verb_in-argument_words (ReadWait n) few = rw (number_in-decimal 0 65536 n [] (omega arith) (omega arith) few) refl
 verb_in-argument_words (Drain n) few = rw (number_in-decimal 0 65536 n [] (omega arith) (omega arith) few) refl
+verb_in-argument_words (GetStc num) few = ioctl_in-words num few
 verb_in-argument_words _ few = refl
 
 command_in-words : (number client : ℕ) (target : Target) (verb : Verb) → IsTargetInRange target → IsVerbInRange verb

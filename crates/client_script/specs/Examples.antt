@@ -2,7 +2,7 @@
 use Rattle.std.specs.Prelude.{◌≡◌, ℕ, List, [], ◌∷◌, ◌++◌, map, replicate, Option, Some, None, Result, Ok, Err, codes}
 use Rattle.std.specs.List.{flat_map}
 use Rattle.dmx_calls.specs.declared.params.Input.TheVariants.{Frontend}
-use Rattle.dmx_calls.specs.declared.params.Output.TheVariants.{TsTap}
+use Rattle.dmx_calls.specs.declared.params.Output.TheVariants.{TsTap, TsdemuxTap}
 use Rattle.text_forms.specs.Numbers.{number_between}
 use Rattle.client_script.specs.Words.{next_as}
 use Rattle.client_script.specs.Grammar.{meaning}
@@ -13,8 +13,8 @@ use Rattle.client_script.specs.declared.fault.FaultKind.TheVariants.{Client, Com
 use Rattle.client_script.specs.declared.line.Line.{Line}
 use Rattle.client_script.specs.declared.line.Line.TheVariants.{Feed, Tick, Command}
 use Rattle.client_script.specs.declared.line.Target.TheVariants.{Node, Slot, Dvr}
-use Rattle.client_script.specs.declared.line.Verb.TheVariants.{Once, Drain, ReadWait}
-use Rattle.client_script.specs.declared.line.Want.TheVariants.{Open, Close, Section, Pes}
+use Rattle.client_script.specs.declared.line.Verb.TheVariants.{Once, Drain, ReadWait, GetStc}
+use Rattle.client_script.specs.declared.line.Want.TheVariants.{Open, Close, Section, Pes, Add, Start, Size}
 
 -- the meanings of these lines, each as the fifth of its script
 abbrev pub meanings : List (List ℕ) → List (Result (Option Line) FaultKind)
@@ -71,6 +71,18 @@ SectionFilter =
       flags = 1;
     })))))
 
+-- the requests DMX_SET_PES_FILTER, DMX_START, DMX_SET_BUFFER_SIZE, DMX_ADD_PID, of PID 8191, and DMX_GET_STC, of counter 1,
+-- whose bytes behind the counter's number are passed over
+abbrev pub Requests : Type 0
+Requests =
+    meanings (codes "c0 ioctl n0 40146f2c 0001000000000000030000001400000000000000" ∷ codes "c0 ioctl n0 00006f29 -"
+    ∷ codes "c0 ioctl h3 00006f2d 00200000" ∷ codes "c0 ioctl dvr 40026f33 ff1f"
+    ∷ codes "c0 ioctl n0 c0106f32 01000000ffffffff0000000000000001" ∷ [])
+    ≡ Ok (Some (Command 5 0 (Node 0) (Once (Pes
+    (record { pid = 256; input = Frontend; output = TsdemuxTap; pes_type = 20; flags = 0 })))))
+    ∷ Ok (Some (Command 5 0 (Node 0) (Once Start))) ∷ Ok (Some (Command 5 0 (Slot 3) (Once (Size 8192))))
+    ∷ Ok (Some (Command 5 0 Dvr (Once (Add 8191)))) ∷ Ok (Some (Command 5 0 (Node 0) (GetStc 1))) ∷ []
+
 -- ------ kinds of faults
 
 abbrev pub ClientFaults : Type 0
@@ -101,6 +113,25 @@ abbrev pub CountFaults : Type 0
 CountFaults =
     HaveFault Count (codes "feed" ∷ codes "feed 1 1" ∷ codes "c0 start" ∷ codes "c0 start n0 "
     ∷ codes "c0 section n0 1 0" ∷ [])
+
+-- Of a request the number is looked at before its argument, and whether it is one of the table before the argument's
+-- form: a number of four digits, with an upper-case digit, with one too many, with `0x`; numbers that no request has,
+-- DMX_GET_PES_PIDS and DMX_SET_FILTER for another length; arguments that are too long, too short, `-` where bytes are
+-- wanted, odd, upper-case and 61 bytes long; input 2 and output 4, also where a word is too many; and a word too many, or
+-- missing.
+abbrev pub RequestFaults : Type 0
+RequestFaults =
+    HaveFault Number (codes "c0 ioctl n0 6f29 -" ∷ codes "c0 ioctl n0 00006F29 -" ∷ codes "c0 ioctl n0 000006f29 -"
+    ∷ codes "c0 ioctl n0 0x006f29 -" ∷ codes "c0 ioctl n0 " ∷ [])
+    × HaveFault Name (codes "c0 ioctl n0 00006f30 -" ∷ codes "c0 ioctl n0 00006f30" ∷ codes "c0 ioctl n0 800a6f2f x"
+    ∷ codes "c0 ioctl n0 403b6f2b 0" ∷ [])
+    × HaveFault Bytes (codes "c0 ioctl n0 00006f29 00" ∷ codes "c0 ioctl n0 40026f33 0001ff"
+    ∷ codes "c0 ioctl n0 40026f33 -" ∷ codes "c0 ioctl n0 40026f33 000" ∷ codes "c0 ioctl n0 40026f33 00FF"
+    ∷ codes "c0 ioctl n0 00006f29 " ∷ (codes "c0 ioctl n0 403c6f2b " ++ replicate 122 48) ∷ [])
+    × HaveFault Name (codes "c0 ioctl n0 40146f2c 0001000002000000030000001400000000000000"
+    ∷ codes "c0 ioctl n0 40146f2c 0001000000000000040000001400000000000000 x" ∷ [])
+    × HaveFault Count (codes "c0 ioctl n0 00006f29 - x" ∷ codes "c0 ioctl n0 00006f29" ∷ codes "c0 ioctl n0" ∷ [])
+    × HaveFault NoTarget (codes "c0 ioctl n32 6f29" ∷ [])
 
 -- ------ scripts
 
@@ -170,3 +201,9 @@ PesSpelling =
       flags = 0;
     }))))
     ≡ codes "c4 pes n4 256 frontend ts_tap 20 0" ++ 10 ∷ []
+
+-- a request that asks for a call is spelled as its command; the counter's has no other, and all bytes behind its number
+-- are 0
+abbrev pub StcSpelling : Type 0
+StcSpelling =
+    spelling (Command 5 0 (Slot 3) (GetStc 1)) ≡ codes "c0 ioctl h3 c0106f32 01000000000000000000000000000000" ++ 10 ∷ []

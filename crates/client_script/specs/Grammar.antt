@@ -8,12 +8,13 @@ use Rattle.text_forms.specs.Names.{client_named, demux_named, slot_named}
 use Rattle.text_forms.specs.Places.{IsFilter}
 use Rattle.client_script.specs.Words.{Reading, and_then, mapped, or_fault, next_as, word_in, words_of}
 use Rattle.client_script.specs.Places.{filter_in}
+use Rattle.client_script.specs.Requests.{ioctl_in}
 use Rattle.client_script.specs.declared.fault.FaultKind.{FaultKind}
 use Rattle.client_script.specs.declared.fault.FaultKind.TheVariants.{Client, Command as NoCommand, Target as NoTarget, Number, Name, Count}
 use Rattle.client_script.specs.declared.names.CommandName.{CommandName}
-use Rattle.client_script.specs.declared.names.CommandName.TheVariants.{Open as OpenName, Close as CloseName, Section as SectionName, Pes as PesName, Add as AddName, Remove as RemoveName, Start as StartName, Stop as StopName, Size as SizeName, Read as ReadName, ReadWait as ReadWaitName, Drain as DrainName, Poll as PollName}
+use Rattle.client_script.specs.declared.names.CommandName.TheVariants.{Open as OpenName, Close as CloseName, Section as SectionName, Pes as PesName, Add as AddName, Remove as RemoveName, Start as StartName, Stop as StopName, Size as SizeName, Read as ReadName, ReadWait as ReadWaitName, Drain as DrainName, Poll as PollName, Ioctl as IoctlName}
 use Rattle.client_script.specs.declared.line.Verb.{Verb}
-use Rattle.client_script.specs.declared.line.Verb.TheVariants.{Once, ReadWait, Drain}
+use Rattle.client_script.specs.declared.line.Verb.TheVariants.{Once, ReadWait, Drain, GetStc}
 use Rattle.client_script.specs.declared.line.Want.{Want}
 use Rattle.client_script.specs.declared.line.Want.TheVariants.{Open, Close, Section, Pes, Add, Remove, Start, Stop, Size, Read, Poll}
 use Rattle.client_script.specs.declared.line.Target.{Target}
@@ -58,7 +59,8 @@ name_of word =
     else (if is_word word (codes "read") then Some ReadName
     else (if is_word word (codes "readw") then Some ReadWaitName
     else (if is_word word (codes "drain") then Some DrainName
-    else (if is_word word (codes "poll") then Some PollName else None))))))))))))
+    else (if is_word word (codes "poll") then Some PollName
+    else (if is_word word (codes "ioctl") then Some IoctlName else None)))))))))))))
 
 -- ------ what stands behind a command's target
 
@@ -96,6 +98,7 @@ verb_in ReadName words = mapped (λ n. Once (Read n)) (number_in 0 LARGEST_READ 
 verb_in ReadWaitName words = mapped ReadWait (number_in 0 LARGEST_READ words)
 verb_in DrainName words = mapped Drain (number_in 0 LARGEST_READ words)
 verb_in PollName words = Ok (Once Poll, words)
+verb_in IoctlName words = ioctl_in words
 
 -- ------ lines
 
@@ -163,6 +166,7 @@ abbrev pub IsVerbInRange : Verb → Type 0
 IsVerbInRange (Once want) = IsWantInRange want
 IsVerbInRange (ReadWait n) = n ≤ LARGEST_READ
 IsVerbInRange (Drain n) = n ≤ LARGEST_READ
+IsVerbInRange (GetStc num) = num ≤ 4294967295
 
 -- there are 32 nodes and 32 slots
 abbrev pub IsTargetInRange : Target → Type 0

@@ -1,6 +1,7 @@
 pub mod Examples
 pub mod Grammar
 pub mod Places
+pub mod Requests
 pub mod Script
 pub mod Spelling
 pub mod FaultNames

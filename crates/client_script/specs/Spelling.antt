@@ -1,13 +1,19 @@
--- The one spelling of a line (this project's own). Numbers are decimal.
+-- The one spelling of a line (this project's own). Numbers are decimal, but for those of requests. What a request asks by
+-- a call is spelled as the command that makes the call.
 use Rattle.std.specs.Prelude.{ℕ, ◌+◌, List, [], ◌∷◌, ◌++◌, codes}
 use Rattle.std.specs.Fmt.{decimal}
+use Rattle.byteorder.specs.Endian.{big_bytes}
+use Rattle.dmx_abi.specs.Written.{number_of, argument_of}
+use Rattle.dmx_abi.specs.declared.request.Request.{Request}
+use Rattle.dmx_abi.specs.declared.request.Request.TheVariants.{GetStc as StcRequest}
 use Rattle.dmx_calls.specs.Names.{input_text, output_text}
+use Rattle.text_forms.specs.Hex.{hex_text}
 use Rattle.text_forms.specs.Names.{client_text, demux_text, slot_text}
 use Rattle.text_forms.specs.Places.{filter_text}
 use Rattle.dmx_calls.specs.declared.params.SectionParams.{SectionParams}
 use Rattle.dmx_calls.specs.declared.params.PesParams.{PesParams}
 use Rattle.client_script.specs.declared.line.Verb.{Verb}
-use Rattle.client_script.specs.declared.line.Verb.TheVariants.{Once, ReadWait, Drain}
+use Rattle.client_script.specs.declared.line.Verb.TheVariants.{Once, ReadWait, Drain, GetStc}
 use Rattle.client_script.specs.declared.line.Want.{Want}
 use Rattle.client_script.specs.declared.line.Want.TheVariants.{Open, Close, Section, Pes, Add, Remove, Start, Stop, Size, Read, Poll}
 use Rattle.client_script.specs.declared.line.Target.{Target}
@@ -36,6 +42,7 @@ unfoldable pub name_text : Verb → List ℕ
 name_text (Once want) = want_text want
 name_text (ReadWait n) = codes "readw"
 name_text (Drain n) = codes "drain"
+name_text (GetStc num) = codes "ioctl"
 
 -- a target
 unfoldable pub target_text : Target → List ℕ
@@ -73,11 +80,17 @@ want_arguments_text (Size n) = number_text n
 want_arguments_text (Read n) = number_text n
 want_arguments_text Poll = []
 
+-- ` REQ ARG`: the number of a request and its argument, in hexadecimal digits
+unfoldable pub request_text : Request → List ℕ
+request_text r =
+    codes " " ++ (hex_text (big_bytes 4 (number_of r)) ++ (codes " " ++ hex_text (argument_of r)))
+
 -- what a command wants behind its target
 unfoldable pub arguments_text : Verb → List ℕ
 arguments_text (Once want) = want_arguments_text want
 arguments_text (ReadWait n) = number_text n
 arguments_text (Drain n) = number_text n
+arguments_text (GetStc num) = request_text (StcRequest num)
 
 -- ------ lines
 

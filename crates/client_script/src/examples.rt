@@ -1,7 +1,7 @@
 // Worked examples: what the grammar gives for lines and scripts that were worked out by hand from the rules. Each is a
 // clause of a function that does nothing, so the check computes it.
 
-ghost use Rattle.client_script.specs.Examples.{OneWord, PassedOver, FeedsAndTicks, Commands, PesFilter, SectionFilter, ClientFaults, CommandFaults, TargetFaults, NumberFaults, NameFaults, BytesFaults, CountFaults, ThirdLine, LinesBehindTheStream, NoBytes, LineWithoutItsEnd, FaultBeforeTheEnd, InputWithAStream, InputWithoutAStream, Spellings, SectionSpelling, PesSpelling};
+ghost use Rattle.client_script.specs.Examples.{OneWord, PassedOver, FeedsAndTicks, Commands, PesFilter, SectionFilter, Requests, ClientFaults, CommandFaults, TargetFaults, NumberFaults, NameFaults, BytesFaults, CountFaults, RequestFaults, ThirdLine, LinesBehindTheStream, NoBytes, LineWithoutItsEnd, FaultBeforeTheEnd, InputWithAStream, InputWithoutAStream, Spellings, SectionSpelling, PesSpelling, StcSpelling};
 
 /// What words spell, and what lines ask for.
 pub fn lines()
@@ -11,6 +11,7 @@ pub fn lines()
     ensures commands { Commands }
     ensures pes_filter { PesFilter }
     ensures section_filter { SectionFilter }
+    ensures requests { Requests }
 {}
 
 /// The kinds of faults.
@@ -22,6 +23,7 @@ pub fn kinds()
     ensures name { NameFaults }
     ensures bytes { BytesFaults }
     ensures count { CountFaults }
+    ensures requests { RequestFaults }
 {}
 
 /// Whole scripts.
@@ -44,4 +46,5 @@ pub fn spellings()
     ensures lines { Spellings }
     ensures section { SectionSpelling }
     ensures pes { PesSpelling }
+    ensures stc { StcSpelling }
 {}

@@ -2,20 +2,24 @@
 //!
 //! A script is lines of words, up to the line `stream`; behind that line the stream of the session begins. Lines say how
 //! many packets pass (`feed`), how much time goes by (`tick`), and what the clients `c0` to `c7` ask of the demux nodes
-//! `n0` to `n31`, of their slots `h0` to `h31` and of the dvr node. Empty lines and comments (`#`) are passed over.
+//! `n0` to `n31`, of their slots `h0` to `h31` and of the dvr node. A request can also be given as a program makes it, by its
+//! number and the bytes of its structure (`ioctl`). Empty lines and comments (`#`) are passed over.
 //!
 //! What a contract sees: a `Script` as the list of its lines, each a `Line` of the code, and a fault as its line and kind.
 //! The grammar is `grammar` of `specs/Script.antt`: from bytes to the lines or to the first fault. It stands on `meaning`
-//! of one line (`specs/Grammar.antt`), where each word is asked for by its place (`specs/Words.antt`, `specs/Places.antt`).
+//! of one line (`specs/Grammar.antt`), where each word is asked for by its place (`specs/Words.antt`, `specs/Places.antt`,
+//! `specs/Requests.antt`).
 //! The first word that isn't what its place asks names the kind of the fault; a missing word and a word too many are
-//! `Count`. A line has one `spelling` (`specs/Spelling.antt`). `split` says how a session's input falls into its script
+//! `Count`. A line has one `spelling` (`specs/Spelling.antt`): a request that asks for a call is spelled as the command of that
+//! call. `split` says how a session's input falls into its script
 //! part and its stream. The spellings of numbers, names and filter bytes are those of `text_forms`.
 //!
 //! What is proved: `Script::read` answers just the lines or the fault that `grammar` gives, unless memory is refused. A script
 //! has at most 1,048,576 lines, each with its client, its target, its numbers and its filter's bytes in the ranges of the
 //! grammar (`IsScript`, which `Script::lines` tells). `Script::clients` is 1 plus the highest client that a line names, or 0.
 //! `print` appends the spelling of a line, and where memory is refused the bytes are as they were. A `ScriptPart` is the bytes
-//! that were added to it, and its `end` tells where the first whole line `stream` ends. A want's, a verb's and a fault's `name`
+//! that were added to it, and its `end` tells where the first whole line `stream` ends. `want_of` and `verb_of` are what a
+//! request asks, and `request_number` and `argument_named` what its words spell. A want's, a verb's and a fault's `name`
 //! is its text in `specs/Spelling.antt` and `specs/FaultNames.antt`. What the grammar gives for lines and scripts worked out by
 //! hand are the clauses of `examples`, computed by the check.
 //!
@@ -30,7 +34,8 @@
 //! Limits: at most 1,048,576 bytes are read, each a few times; `ScriptPart` looks at each byte once. Memory is taken for the
 //! lines and for the bytes of a script part; words are read where they stand. `print` takes memory for its text.
 //!
-//! The language is this project's own. What the commands ask of a node are the calls of `dmx_calls`.
+//! The language is this project's own. What the commands ask of a node are the calls of `dmx_calls`; the numbers and structures of
+//! requests are those of `dmx_abi`.
 #![tactic(auto)]
 
 pub mod examples;
@@ -41,6 +46,7 @@ mod names;
 mod part;
 mod pieces;
 mod places;
+mod requests;
 mod script;
 mod spelling;
 mod verbs;
@@ -53,5 +59,6 @@ pub use laws::{
 };
 pub use line::{Line, Target, Verb, Want};
 pub use part::ScriptPart;
+pub use requests::{Argument, argument_named, request_number, verb_of, want_of};
 pub use script::{MOST_BYTES, Script};
 pub use spelling::print;

@@ -65,7 +65,7 @@ impl Want {
     }
 }
 
-/// What a command asks of its node: one call, or the same read again and again.
+/// What a command asks of its node: one call, the same read again and again, or a counter without a call.
 #[derive(Clone, Copy, Debug, PartialEq, Eq, Drop)]
 pub enum Verb {
     /// One call.
@@ -74,6 +74,8 @@ pub enum Verb {
     ReadWait(u32),
     /// Reads at most so many bytes at a time, until there are no more.
     Drain(u32),
+    /// Asks for the system time counter of this number (DMX_GET_STC), and makes no call.
+    GetStc(u32),
 }
 
 impl Verb {
@@ -86,6 +88,7 @@ impl Verb {
             Verb::Once(want) => want.name(),
             Verb::ReadWait(_) => "readw",
             Verb::Drain(_) => "drain",
+            Verb::GetStc(_) => "ioctl",
         }
     }
 }

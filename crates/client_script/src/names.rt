@@ -5,7 +5,7 @@ ghost use Rattle.client_script.specs.Grammar.{numbered_target as target_of_lette
 use crate::line::Target;
 use text_forms::{demux_named, is_word, slot_named};
 
-/// What a client asks of a node, by its name alone.
+/// A command, by its name alone.
 #[derive(Clone, Copy, Debug, PartialEq, Eq, Drop)]
 pub enum CommandName {
     Open,
@@ -21,6 +21,7 @@ pub enum CommandName {
     ReadWait,
     Drain,
     Poll,
+    Ioctl,
 }
 
 /// The command of this name.
@@ -66,6 +67,9 @@ pub fn command_named(word: &[u8]) -> Option<CommandName>
     }
     if is_word(word, "poll") {
         return Some(CommandName::Poll);
+    }
+    if is_word(word, "ioctl") {
+        return Some(CommandName::Ioctl);
     }
     None
 }

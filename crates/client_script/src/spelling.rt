@@ -1,12 +1,14 @@
 // The one spelling of a line.
 ghost use Rattle.std.specs.Prelude.{◌≡◌, ◌++◌, OnOk, OnErr, IfOk};
-ghost use Rattle.client_script.specs.Spelling.{target_text, number_text, section_text, pes_text, want_arguments_text, arguments_text, command_text, line_text, spelling as spelling_of};
+ghost use Rattle.client_script.specs.Spelling.{target_text, number_text, section_text, pes_text, want_arguments_text, request_text, arguments_text, command_text, line_text, spelling as spelling_of};
 
 use crate::line::{Line, Target, Verb, Want};
+use dmx_abi::{Request, encode};
 use dmx_calls::{PesParams, SectionParams};
 use std::alloc::{AllocError as NoMemory, Global};
 use text_forms::{
-    write_client, write_decimal, write_demux, write_filter, write_input, write_output, write_slot,
+    write_client, write_decimal, write_demux, write_filter, write_hex, write_input, write_output,
+    write_slot,
 };
 
 #[tactic(auto, unfolding(crate::specs::Spelling::target_text))]
@@ -67,6 +69,19 @@ fn add_want_arguments(text: &mut Vec<u8>, want: &Want) -> Result<(), NoMemory>
     }
 }
 
+// The number of a request and its argument, each behind a space.
+#[tactic(auto, unfolding(crate::specs::Spelling::request_text))]
+fn add_request(text: &mut Vec<u8>, request: &Request) -> Result<(), NoMemory>
+    ensures { OnOk result (text.new.items ≡ text.old.items ++ request_text request.now) }
+{
+    let mut argument = [0; 60];
+    let (number, len) = encode(request, &mut argument);
+    text.push(b' ')?;
+    write_hex(text, &number.to_be_bytes())?;
+    text.push(b' ')?;
+    write_hex(text, &argument[..len as usize])
+}
+
 // What a command wants behind its target.
 #[tactic(auto, unfolding(crate::specs::Spelling::arguments_text))]
 fn add_arguments(text: &mut Vec<u8>, verb: &Verb) -> Result<(), NoMemory>
@@ -76,6 +91,7 @@ fn add_arguments(text: &mut Vec<u8>, verb: &Verb) -> Result<(), NoMemory>
         Verb::Once(want) => add_want_arguments(text, want),
         Verb::ReadWait(n) => add_number(text, *n as u64),
         Verb::Drain(n) => add_number(text, *n as u64),
+        Verb::GetStc(num) => add_request(text, &Request::GetStc { num: *num }),
     }
 }
 

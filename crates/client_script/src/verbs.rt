@@ -9,6 +9,7 @@ use crate::fault::FaultKind;
 use crate::line::{Line, Target, Verb, Want};
 use crate::names::{CommandName, command_named, target_named};
 use crate::places::read_filter;
+use crate::requests::read_ioctl;
 use crate::words::Words;
 use dmx_calls::limits::LARGEST_READ;
 use dmx_calls::{Input, Output, PesParams, SectionParams};
@@ -133,6 +134,7 @@ fn read_verb(name: CommandName, words: &mut Words<'_>) -> Result<Verb, FaultKind
         CommandName::ReadWait => Ok(Verb::ReadWait(read_number(0, LARGEST_READ, words)?)),
         CommandName::Drain => Ok(Verb::Drain(read_number(0, LARGEST_READ, words)?)),
         CommandName::Poll => Ok(Verb::Once(Want::Poll)),
+        CommandName::Ioctl => read_ioctl(words),
     }
 }
 

@@ -11,8 +11,8 @@ use crate::numbers::{
 use crate::request::{AbiFault, Request};
 use byteorder::{ByteOrder, LittleEndian};
 
-// How many bytes the argument of this number's request has; None where no request has the number.
-fn argument_len(number: u32) -> Option<u32>
+/// How many bytes the argument of this number's request has; None where no request has the number.
+pub fn argument_len(number: u32) -> Option<u32>
     ensures { result ≡ argument_len_of number }
 {
     match number {

@@ -8,8 +8,6 @@ use Rattle.dmx_calls.specs.declared.reply.Errno.{Errno}
 use Rattle.dmx_calls.specs.declared.reply.Errno.TheVariants as errno
 use Rattle.dmx_calls.specs.declared.reply.PollError.{PollError}
 use Rattle.dmx_calls.specs.declared.reply.PollError.TheVariants as pending
-use Rattle.dmx_calls.specs.declared.outcome.OutcomeKind.{OutcomeKind}
-use Rattle.dmx_calls.specs.declared.outcome.OutcomeKind.TheVariants as outcome
 
 -- where packets come from
 unfoldable pub input_text : Input → List ℕ
@@ -35,9 +33,3 @@ unfoldable pub pending_text : PollError → List ℕ
 pending_text pending.Quiet = codes "none"
 pending_text pending.Overflow = codes "overflow"
 pending_text pending.TimedOut = codes "timedout"
-
--- how a command ended
-unfoldable pub kind_text : OutcomeKind → List ℕ
-kind_text outcome.Done = codes "done"
-kind_text outcome.Emfile = codes "EMFILE"
-kind_text outcome.Unbound = codes "unbound"

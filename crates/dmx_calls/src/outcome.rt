@@ -1,8 +1,5 @@
 // What became of a script's command.
 
-ghost use Rattle.std.specs.Prelude.{◌≡◌};
-ghost use Rattle.dmx_calls.specs.Names.{kind_text};
-
 /// How a command ended.
 #[derive(Clone, Copy, Debug, PartialEq, Eq, Drop)]
 pub enum OutcomeKind {
@@ -12,20 +9,15 @@ pub enum OutcomeKind {
     Emfile,
     /// Its slot is bound to no node.
     Unbound,
-}
-
-impl OutcomeKind {
-    /// Its word in reports.
-    #[tactic(auto, unfolding(crate::specs::Names::kind_text))]
-    pub fn name(self) -> &'static str
-        ensures { result.now ≡ kind_text self }
-    {
-        match self {
-            OutcomeKind::Done => "done",
-            OutcomeKind::Emfile => "EMFILE",
-            OutcomeKind::Unbound => "unbound",
-        }
-    }
+    /// It asked for a system time counter, and its client has read one (DMX_GET_STC, `struct dmx_stc`).
+    Stc {
+        /// By what the value is divided for a clock of 90 kHz.
+        base: u32,
+        /// The counter, in units of `base` * 90 kHz.
+        value: u64,
+    },
+    /// It asked for a system time counter, and its client has read none.
+    NoStc,
 }
 
 /// A command that is through: its line, its calls among those of its client, and how it ended.

@@ -25,7 +25,7 @@ impl Found<'_> {
     /// The kind of this fault.
     pub fn kind(&self) -> FaultKind {
         match self.word {
-            Some(_) => self.place.kind(),
+            Some(word) => self.place.kind(word),
             None => FaultKind::Count,
         }
     }
@@ -45,6 +45,7 @@ fn form_behind(form: Form, number: u32, word: &[u8]) -> Form {
         1 if is_word(word, "feed") => Form::Feed,
         1 if is_word(word, "tick") => Form::Tick,
         2 => form_of(word).unwrap_or(form),
+        4 => form.behind_request(word),
         _ => form,
     }
 }

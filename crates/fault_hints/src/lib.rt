@@ -1,7 +1,8 @@
 //! What stands at a script's fault: a second line on standard error, for the one who wrote the script.
 //!
 //! A script's fault is a line and a kind (`client_script`). `hint` looks at that line once more, word by word, and says which
-//! word isn't what its place asks, what was expected there, and for a number in hexadecimal digits its value. An input that begins
+//! word isn't what its place asks, what was expected there, and for a number in hexadecimal digits its value. A request is told by
+//! its name in linux/dvb/dmx.h, also one that no node has. An input that begins
 //! with a packet in place of a script, and a script without its line `stream`, have words of their own. `Keeping` is a source
 //! that keeps the first bytes that are read through it, so that a script's bytes are still there when its fault is told.
 //!
@@ -23,6 +24,7 @@
 mod finding;
 mod keeping;
 mod places;
+mod requests;
 mod shown;
 mod telling;
 

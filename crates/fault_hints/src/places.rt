@@ -1,5 +1,6 @@
 // The places of a line, and what each of them asks for.
-use client_script::FaultKind;
+use crate::requests::{argument_kind, is_argument, is_known, number_kind};
+use client_script::{FaultKind, request_number};
 use text_forms::{
     client_named, demux_named, input_named, is_word, number_between, output_named, place_named,
     slot_named,
@@ -26,6 +27,8 @@ pub enum Form {
     Size,
     /// A read of at most so many bytes.
     Read,
+    /// A request, and its number behind the word that spells it.
+    Ioctl(Option<u32>),
 }
 
 /// What stands in a place of a line.
@@ -52,6 +55,10 @@ pub enum Place {
     Output,
     /// A place of a section filter, whose number is at least this one.
     Byte(u32),
+    /// The number of a request.
+    Request,
+    /// The argument of the request with this number.
+    Argument(u32),
     /// No word: the line ends here.
     End,
 }
@@ -72,6 +79,9 @@ pub fn form_of(command: &[u8]) -> Option<Form> {
     }
     if is_word(command, "read") || is_word(command, "readw") || is_word(command, "drain") {
         return Some(Form::Read);
+    }
+    if is_word(command, "ioctl") {
+        return Some(Form::Ioctl(None));
     }
     is_bare(command).then_some(Form::Bare)
 }
@@ -126,7 +136,17 @@ impl Form {
             (Form::Pes, 8) => count("FLAGS"),
             (Form::Size, 4) => count("N"),
             (Form::Read, 4) => range("N", 0, 65536),
+            (Form::Ioctl(_), 4) => Place::Request,
+            (Form::Ioctl(Some(request)), 5) => Place::Argument(request),
             _ => Place::End,
+        }
+    }
+
+    /// The form behind a word in the place of a request's number.
+    pub fn behind_request(self, word: &[u8]) -> Form {
+        match self {
+            Form::Ioctl(_) => Form::Ioctl(request_number(word)),
+            form => form,
         }
     }
 
@@ -139,6 +159,7 @@ impl Form {
             Form::Pes => Some("T PID INPUT OUTPUT TYPE FLAGS"),
             Form::OnePid => Some("T PID"),
             Form::Size | Form::Read => Some("T N"),
+            Form::Ioctl(_) => Some("T REQ ARG"),
         }
     }
 }
@@ -156,6 +177,8 @@ impl Place {
             Place::Input => input_named(word).is_some(),
             Place::Output => output_named(word).is_some(),
             Place::Byte(least) => place_named(least, word).is_some(),
+            Place::Request => is_known(word),
+            Place::Argument(request) => is_argument(request, word),
             Place::End => false,
         }
     }
@@ -165,8 +188,8 @@ impl Place {
         matches!(self, Place::Byte(_) | Place::End)
     }
 
-    /// The kind of fault of a word that isn't what this place asks for.
-    pub fn kind(self) -> FaultKind {
+    /// The kind of fault of this word, which isn't what this place asks for.
+    pub fn kind(self, word: &[u8]) -> FaultKind {
         match self {
             Place::First => FaultKind::Client,
             Place::Command => FaultKind::Command,
@@ -174,6 +197,8 @@ impl Place {
             Place::Number { .. } => FaultKind::Number,
             Place::Input | Place::Output => FaultKind::Name,
             Place::Byte(_) => FaultKind::Bytes,
+            Place::Request => number_kind(word),
+            Place::Argument(request) => argument_kind(request, word),
             Place::End => FaultKind::Count,
         }
     }

@@ -59,3 +59,11 @@ pub fn add_word(text: &mut String, word: &[u8]) -> Result<(), NoMemory> {
 pub fn add_number(text: &mut String, n: u64) -> Result<(), NoMemory> {
     write!(text, "{n}")
 }
+
+/// Appends a number in eight hexadecimal digits.
+pub fn add_eight_digits(text: &mut String, n: u32) -> Result<(), NoMemory> {
+    'digits: for place in 0..8u32 {
+        text.push(digit((n >> (28 - 4 * place) & 15) as u8))?;
+    }
+    Ok(())
+}

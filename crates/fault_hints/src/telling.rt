@@ -1,7 +1,8 @@
 // The second line, for each kind of fault.
 use crate::finding::{Found, cut_at, first_fault};
 use crate::places::Place;
-use crate::shown::{add_characters, add_number, add_word};
+use crate::requests::{add_argument, add_request_name};
+use crate::shown::{add_characters, add_eight_digits, add_number, add_word};
 use client_script::{FaultKind, MOST_BYTES, ScriptFault};
 use std::alloc::{AllocError as NoMemory, Global};
 use text_forms::{is_word, place_named};
@@ -21,13 +22,15 @@ fn asked(place: Place) -> &'static str {
     match place {
         Place::First => "feed, tick, a client c0 to c7, or the line stream",
         Place::Command => {
-            "a command: open, close, section, pes, add, remove, start, stop, size, read, readw, drain or poll"
+            "a command: open, close, section, pes, add, remove, start, stop, size, read, readw, drain, poll or ioctl"
         }
         Place::Target => "a target: n0 to n31, h0 to h31, or dvr",
         Place::Number { name, .. } => name,
         Place::Input => "INPUT: frontend or dvr",
         Place::Output => "OUTPUT: decoder, tap, ts_tap or tsdemux_tap",
         Place::Byte(_) => "I=FF/MM/DD, two hexadecimal digits each, places rising",
+        Place::Request => "REQ: the number of a request in eight hexadecimal digits, in lower case",
+        Place::Argument(_) => "ARG",
         Place::End => "the end of the line",
     }
 }
@@ -81,13 +84,33 @@ fn add_spelling(text: &mut String, least: u32, word: &[u8]) -> Result<(), NoMemo
     add_number(text, least as u64)
 }
 
-// Appends what a place asks for, and what is said of the word that stands there.
-fn add_asked(text: &mut String, place: Place, word: &[u8]) -> Result<(), NoMemory> {
+// Appends what is said of a word in the place of a request's number: the request's name, and its digits where they stand behind
+// `0x`.
+fn add_request(text: &mut String, word: &[u8]) -> Result<(), NoMemory> {
+    add_request_name(text, word)?;
+    let Some(n) = hexadecimal(word) else {
+        return Ok(());
+    };
+    let Ok(number) = u32::try_from(n) else {
+        return Ok(());
+    };
+    text.push_str(" (")?;
+    add_characters(text, word)?;
+    text.push_str(" is ")?;
+    add_eight_digits(text, number)?;
+    text.push(')')
+}
+
+// Appends what a place asks for, and what is said of the word that stands there, if one does.
+fn add_asked(text: &mut String, place: Place, word: Option<&[u8]>) -> Result<(), NoMemory> {
     text.push_str("; expected ")?;
     text.push_str(asked(place))?;
+    let shown = word.unwrap_or(&[]);
     match place {
-        Place::Number { least, most, .. } => add_range(text, least, most, word),
-        Place::Byte(least) => add_spelling(text, least, word),
+        Place::Number { least, most, .. } => add_range(text, least, most, shown),
+        Place::Byte(least) => add_spelling(text, least, shown),
+        Place::Request => add_request(text, shown),
+        Place::Argument(request) => add_argument(text, request, word),
         _ => Ok(()),
     }
 }
@@ -118,14 +141,14 @@ fn add_found(text: &mut String, found: &Found<'_>) -> Result<(), NoMemory> {
     let Some(word) = found.word else {
         text.push_str("the line ends in front of word ")?;
         add_number(text, number)?;
-        add_asked(text, found.place, &[])?;
+        add_asked(text, found.place, None)?;
         return add_form(text, found);
     };
     text.push_str("word ")?;
     add_number(text, number)?;
     text.push_str(" is ")?;
     add_word(text, word)?;
-    add_asked(text, found.place, word)?;
+    add_asked(text, found.place, Some(word))?;
     if found.place == Place::End {
         add_form(text, found)?;
     }

@@ -9,7 +9,7 @@ use Rattle.dmx_calls.specs.declared.outcome.Outcome.{Outcome}
 use Rattle.dmx_calls.specs.Calls.{told_entry}
 use Rattle.dmx_calls.specs.Log.{LogEntry}
 use Rattle.client_script.specs.declared.line.Line.{Line}
-use Rattle.client_core.specs.Events.{outcomes}
+use Rattle.client_core.specs.Outcomes.{outcomes}
 use Rattle.client_core.specs.Inside.Core.{Core}
 use Rattle.script_run.specs.IsRun.{replies}
 use Rattle.report_runs.specs.Completed.{complete}

@@ -14,7 +14,7 @@ use Rattle.dmx_calls.specs.Response.{Response, NoMemory, Passed}
 use Rattle.dmx_calls.specs.Rules.{rules_at}
 use Rattle.client_script.specs.declared.line.Line.{Line}
 use Rattle.client_script.specs.Script.{clients_in}
-use Rattle.client_core.specs.Events.{outcomes}
+use Rattle.client_core.specs.Outcomes.{outcomes}
 use Rattle.script_run.specs.IsRun.{Step, feeding, steps_of, IsFed, IsRun, HasDone, replies}
 use Rattle.report_text.specs.Told.{ToldNode, Told}
 use Rattle.report_read.specs.Ranges.{IsNodeInRange, IsEntryOf}

@@ -12,7 +12,7 @@ use Rattle.client_script.specs.declared.line.Line.TheVariants.{Command as Comman
 use Rattle.client_script.specs.declared.line.Target.{Target}
 use Rattle.client_script.specs.declared.line.Target.TheVariants.{Node, Slot, Dvr}
 use Rattle.client_script.specs.declared.line.Verb.{Verb}
-use Rattle.client_script.specs.declared.line.Verb.TheVariants.{Once, ReadWait, Drain}
+use Rattle.client_script.specs.declared.line.Verb.TheVariants.{Once, ReadWait, Drain, GetStc}
 use Rattle.client_script.specs.declared.line.Want.{Want}
 use Rattle.client_script.specs.declared.line.Want.TheVariants.{Open, Read}
 use Rattle.client_script.specs.Grammar.{IsWantInRange, IsVerbInRange, IsInRange}
@@ -67,6 +67,7 @@ on_in : (node : ℕ) (v : Verb) (step : ℕ) (rs : List Response) → IsVerbInRa
 on_in node (ReadWait count) step rs is = read_in ends_wait node count step rs is
 on_in node (Drain count) step rs is = read_in ends_drain node count step rs is
 on_in node (Once w) step rs is = called_in node w step rs is
+on_in node (GetStc num) step rs is = tt
 
 at_in : (o : Option ℕ) (v : Verb) (step : ℕ) (rs : List Response) → IsVerbInRange v → AsksInRange (done_at o v step rs)
 at_in None v step rs is = tt

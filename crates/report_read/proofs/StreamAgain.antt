@@ -7,11 +7,10 @@ use Rattle.ts_watch.specs.declared.seen.PidRow.{PidRow}
 use Rattle.dmx_calls.specs.declared.outcome.Outcome.{Outcome}
 use Rattle.dmx_calls.specs.declared.outcome.OutcomeKind.{OutcomeKind}
 use Rattle.dmx_calls.specs.declared.outcome.OutcomeKind.TheVariants as outcome
-use Rattle.dmx_calls.specs.Names.{kind_text}
-use Rattle.report_text.specs.Report.{tally_text, row_text, outcome_text}
+use Rattle.report_text.specs.Report.{tally_text, row_text, kind_text, outcome_text}
 use Rattle.report_read.specs.Inside.Reading.{begins_with}
-use Rattle.report_read.specs.Inside.Whole.{tally_in, counts_in, row_in, rows_in, kind_in, outcome_in, outcomes_in}
-use Rattle.report_read.specs.Ranges.{IsTallyInRange, IsRowInRange, IsOutcomeInRange}
+use Rattle.report_read.specs.Inside.Whole.{tally_in, counts_in, row_in, rows_in, stc_in, kind_in, outcome_in, outcomes_in}
+use Rattle.report_read.specs.Ranges.{IsTallyInRange, IsRowInRange, IsKindInRange, IsOutcomeInRange}
 use Rattle.report_read.proofs.Many.{IsSpelled, Whatever, all_again}
 use Rattle.report_read.proofs.WordsAgain.{number16_again, number32_again, number64_again}
 
@@ -48,11 +47,16 @@ rows_again rows rest all stops = all_again (begins_with (codes "pid ")) row_in r
 
 -- ------ commands
 
-kind_again : (k : OutcomeKind) (rest : List ℕ) → kind_in (kind_text k ++ rest) ≡ Some (k, rest)
-unfolding kind_in kind_text
-kind_again outcome.Done rest = refl
-kind_again outcome.Emfile rest = refl
-kind_again outcome.Unbound rest = refl
+kind_again : (k : OutcomeKind) (rest : List ℕ) → IsKindInRange k → kind_in (kind_text k ++ (codes "\n" ++ rest)) ≡ Some (k, codes "\n" ++ rest)
+unfolding kind_in kind_text stc_in
+kind_again outcome.Done rest is = refl
+kind_again outcome.Emfile rest is = refl
+kind_again outcome.Unbound rest is = refl
+kind_again outcome.NoStc rest is = refl
+kind_again (outcome.Stc base value) rest is =
+    let a = number32_again base (codes " value=" ++ (decimal value ++ (codes "\n" ++ rest))) is.0 refl in
+    let b = number64_again value (codes "\n" ++ rest) is.1 refl in
+    simp append_assoc (rw (a, b) refl)
 
 outcome_again : (o : Outcome) (rest : List ℕ) → IsOutcomeInRange o → outcome_in (outcome_text o ++ rest) ≡ Some (o, rest)
 unfolding outcome_in
@@ -60,7 +64,7 @@ outcome_again o rest is =
     let a = number32_again o.line (codes " steps " ++ (decimal o.from ++ (codes ".." ++ (decimal o.to ++ (codes " " ++ (kind_text o.kind ++ (codes "\n" ++ rest))))))) is.line refl in
     let b = number64_again o.from (codes ".." ++ (decimal o.to ++ (codes " " ++ (kind_text o.kind ++ (codes "\n" ++ rest))))) is.from refl in
     let c = number64_again o.to (codes " " ++ (kind_text o.kind ++ (codes "\n" ++ rest))) is.to refl in
-    let d = kind_again o.kind (codes "\n" ++ rest) in
+    let d = kind_again o.kind rest is.kind in
     simp append_assoc (rw (a, b, c, d) refl)
 
 spelled_outcomes : IsSpelled (begins_with (codes "line ")) outcome_in outcome_text IsOutcomeInRange Whatever

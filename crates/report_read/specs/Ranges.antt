@@ -7,6 +7,8 @@ use Rattle.ts_packet.specs.declared.cutter.Tally.{Tally}
 use Rattle.dmx_calls.specs.declared.limits.TheConstants.{DEMUX_NODES, LARGEST_READ}
 use Rattle.ts_watch.specs.declared.seen.PidRow.{PidRow}
 use Rattle.dmx_calls.specs.declared.outcome.Outcome.{Outcome}
+use Rattle.dmx_calls.specs.declared.outcome.OutcomeKind.{OutcomeKind}
+use Rattle.dmx_calls.specs.declared.outcome.OutcomeKind.TheVariants.{Stc}
 use Rattle.dmx_calls.specs.declared.log.Act.{Act}
 use Rattle.dmx_calls.specs.declared.log.Act.TheVariants.{Open as OpenAct, Close as CloseAct, SetFilter as SetFilterAct, SetPes as SetPesAct, AddPid as AddPidAct, RemovePid as RemovePidAct, Start as StartAct, Stop as StopAct, SetSize as SetSizeAct, Read as ReadAct, Poll as PollAct, Pass as PassAct, End as EndAct, Attach as AttachAct, Detach as DetachAct}
 use Rattle.dmx_calls.specs.declared.reply.Tap.{Tap as TapChange}
@@ -98,11 +100,17 @@ pub record IsTallyInRange (tally : Tally) : Type 0 where
   pub skipped : tally.skipped < 2 ^ 64
   pub rest : tally.rest < 2 ^ 32
 
+-- how a command ended
+abbrev pub IsKindInRange : OutcomeKind → Type 0
+IsKindInRange (Stc base value) = (base < 2 ^ 32) × (value < 2 ^ 64)
+IsKindInRange _ = Unit {0}
+
 -- a command of a client
 pub record IsOutcomeInRange (o : Outcome) : Type 0 where
   pub line : o.line < 2 ^ 32
   pub from : o.from < 2 ^ 64
   pub to : o.to < 2 ^ 64
+  pub kind : IsKindInRange o.kind
 
 -- the parts of a report
 pub record ArePartsInRange (t : Told) : Type 0 where

@@ -3,17 +3,31 @@ ghost use Rattle.std.specs.Prelude.{◌≡◌, map, IfOk, IfSome};
 ghost use Rattle.std.specs.List.{All};
 ghost use Rattle.std.specs.Option.{option_map};
 ghost use Rattle.report_read.specs.Inside.Reading.{Reads};
-ghost use Rattle.report_read.specs.Ranges.{IsOutcomeInRange};
-ghost use Rattle.report_read.specs.Inside.Whole.{kind_in, outcome_in, outcomes_in, client_number_in, client_in, clients_in};
+ghost use Rattle.report_read.specs.Ranges.{IsKindInRange, IsOutcomeInRange};
+ghost use Rattle.report_read.specs.Inside.Whole.{stc_in, kind_in, outcome_in, outcomes_in, client_number_in, client_in, clients_in};
 
 use crate::bytes::Bytes;
 use dmx_calls::{Outcome, OutcomeKind};
 use std::alloc::{AllocError as NoMemory, Global};
 
+// A system time counter.
+#[tactic(auto, unfolding(crate::specs::Inside::Whole::stc_in))]
+fn read_stc(bytes: &mut Bytes<'_>) -> Option<OutcomeKind>
+    ensures value { Reads result bytes.new (stc_in bytes.old) }
+    ensures range { IfSome result IsKindInRange }
+{
+    bytes.past(b"stc base=")?;
+    let base = bytes.number32()?;
+    bytes.past(b" value=")?;
+    let value = bytes.number64()?;
+    Some(OutcomeKind::Stc { base, value })
+}
+
 // How a command ended.
 #[tactic(auto, unfolding(crate::specs::Inside::Whole::kind_in))]
 fn read_kind(bytes: &mut Bytes<'_>) -> Option<OutcomeKind>
-    ensures { Reads result bytes.new (kind_in bytes.old) }
+    ensures value { Reads result bytes.new (kind_in bytes.old) }
+    ensures range { IfSome result IsKindInRange }
 {
     if bytes.passes(b"done") {
         return Some(OutcomeKind::Done);
@@ -21,8 +35,13 @@ fn read_kind(bytes: &mut Bytes<'_>) -> Option<OutcomeKind>
     if bytes.passes(b"EMFILE") {
         return Some(OutcomeKind::Emfile);
     }
-    bytes.past(b"unbound")?;
-    Some(OutcomeKind::Unbound)
+    if bytes.passes(b"unbound") {
+        return Some(OutcomeKind::Unbound);
+    }
+    if bytes.passes(b"nostc") {
+        return Some(OutcomeKind::NoStc);
+    }
+    read_stc(bytes)
 }
 
 // A command.

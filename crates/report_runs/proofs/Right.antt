@@ -9,7 +9,7 @@ use Rattle.dmx_calls.specs.declared.outcome.Outcome.{Outcome}
 use Rattle.dmx_calls.specs.Log.{LogEntry}
 use Rattle.ts_watch.specs.Head.{StreamHead}
 use Rattle.client_script.specs.declared.line.Line.{Line}
-use Rattle.client_core.specs.Events.{outcomes}
+use Rattle.client_core.specs.Outcomes.{outcomes}
 use Rattle.script_run.specs.IsRun.{replies}
 use Rattle.report_text.specs.Entries.{is_of_client}
 use Rattle.report_text.specs.Told.{ToldNode, Told, text_of}

@@ -5,7 +5,7 @@ use Rattle.dmx_calls.specs.Log.{LogEntry}
 use Rattle.ts_watch.specs.Head.{StreamHead}
 use Rattle.client_script.specs.declared.line.Line.{Line}
 use Rattle.client_script.specs.Script.{clients_in}
-use Rattle.client_core.specs.Events.{outcomes}
+use Rattle.client_core.specs.Outcomes.{outcomes}
 use Rattle.script_run.specs.IsRun.{IsRun, replies}
 use Rattle.report_text.specs.Report.{report_of}
 use Rattle.report_text.specs.Told.{Told}

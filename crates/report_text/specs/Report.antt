@@ -5,9 +5,10 @@ use Rattle.std.specs.Fmt.{decimal}
 use Rattle.ts_packet.specs.declared.cutter.Tally.{Tally}
 use Rattle.ts_watch.specs.declared.seen.PidRow.{PidRow}
 use Rattle.dmx_calls.specs.declared.outcome.Outcome.{Outcome}
+use Rattle.dmx_calls.specs.declared.outcome.OutcomeKind.{OutcomeKind}
+use Rattle.dmx_calls.specs.declared.outcome.OutcomeKind.TheVariants.{Done, Emfile, Unbound, Stc, NoStc}
 use Rattle.ts_watch.specs.Head.{StreamHead}
 use Rattle.dmx_calls.specs.Log.{LogEntry}
-use Rattle.dmx_calls.specs.Names.{kind_text}
 use Rattle.report_text.specs.Entries.{histories_text}
 
 -- ------ the stream
@@ -27,6 +28,14 @@ row_text row =
     ++ (codes " errors=" ++ (decimal row.1.errors ++ codes "\n")))))))))
 
 -- ------ the clients
+
+-- how a command ended
+unfoldable pub kind_text : OutcomeKind → List ℕ
+kind_text Done = codes "done"
+kind_text Emfile = codes "EMFILE"
+kind_text Unbound = codes "unbound"
+kind_text (Stc base value) = codes "stc base=" ++ (decimal base ++ (codes " value=" ++ decimal value))
+kind_text NoStc = codes "nostc"
 
 -- a command: its line, the step of its first call and the step behind its last, and how it ended
 abbrev pub outcome_text : Outcome → List ℕ

@@ -2,11 +2,10 @@
 ghost use Rattle.std.specs.Prelude.{◌≡◌, ◌+◌, ◌<◌, ◌≤◌, ◌++◌, map, codes, OnOk, OnErr, vec_len, vec_capacity};
 ghost use Rattle.std.specs.List.{flat_map};
 ghost use Rattle.std.specs.Fmt.{decimal};
-ghost use Rattle.report_text.specs.Report.{tally_text, row_text, outcome_text, client_text, clients_text, end_text};
+ghost use Rattle.report_text.specs.Report.{tally_text, row_text, kind_text, outcome_text, client_text, clients_text, end_text};
 
 use crate::acts::add_field;
-use crate::replies::add_word;
-use dmx_calls::Outcome;
+use dmx_calls::{Outcome, OutcomeKind};
 use std::alloc::AllocError as NoMemory;
 use ts_packet::Tally;
 use ts_watch::{Head, PidRow};
@@ -50,18 +49,38 @@ fn add_rows(out: &mut Vec<u8>, rows: &[(u16, PidRow)]) -> Result<(), NoMemory>
     Ok(())
 }
 
+// How a command ended.
+#[tactic(auto, unfolding(crate::specs::Report::kind_text))]
+fn add_kind(out: &mut Vec<u8>, kind: OutcomeKind) -> Result<(), NoMemory>
+    ensures items { OnOk result (out.new.items ≡ out.old.items ++ kind_text kind) }
+    ensures full { OnErr result (vec_capacity out.old < vec_len out.old + 60) }
+    ensures few { vec_len out.new ≤ vec_len out.old + 60 }
+    ensures room { vec_capacity out.old ≤ vec_capacity out.new }
+{
+    match kind {
+        OutcomeKind::Done => out.extend_from_slice(b"done"),
+        OutcomeKind::Emfile => out.extend_from_slice(b"EMFILE"),
+        OutcomeKind::Unbound => out.extend_from_slice(b"unbound"),
+        OutcomeKind::Stc { base, value } => {
+            add_field(out, b"stc base=", base as u64)?;
+            add_field(out, b" value=", value)
+        }
+        OutcomeKind::NoStc => out.extend_from_slice(b"nostc"),
+    }
+}
+
 /// A command of a client.
-#[tactic(auto, using(crate::proofs::Short::short_kind))]
 pub fn add_outcome(out: &mut Vec<u8>, outcome: &Outcome) -> Result<(), NoMemory>
     ensures items { OnOk result (out.new.items ≡ out.old.items ++ outcome_text outcome.now) }
-    ensures full { OnErr result (vec_capacity out.old < vec_len out.old + 120) }
-    ensures few { vec_len out.new ≤ vec_len out.old + 120 }
+    ensures full { OnErr result (vec_capacity out.old < vec_len out.old + 140) }
+    ensures few { vec_len out.new ≤ vec_len out.old + 140 }
     ensures room { vec_capacity out.old ≤ vec_capacity out.new }
 {
     add_field(out, b"line ", outcome.line as u64)?;
     add_field(out, b" steps ", outcome.from)?;
     add_field(out, b"..", outcome.to)?;
-    add_word(out, b" ", outcome.kind.name())?;
+    out.extend_from_slice(b" ")?;
+    add_kind(out, outcome.kind)?;
     out.extend_from_slice(b"\n")
 }
 

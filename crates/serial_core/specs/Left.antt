@@ -7,7 +7,7 @@ use Rattle.ts_watch.specs.Head.{told_head, head_of}
 use Rattle.dmx_calls.specs.Log.{LogEntry}
 use Rattle.client_script.specs.declared.line.Line.{Line}
 use Rattle.client_script.specs.Script.{clients_in}
-use Rattle.client_core.specs.Events.{outcomes}
+use Rattle.client_core.specs.Outcomes.{outcomes}
 use Rattle.client_core.specs.Inside.Core.{Core, IsAfter}
 use Rattle.serial_core.specs.declared.run.Left.{Left}
 use Rattle.serial_core.specs.declared.runner.Runner.{Runner}

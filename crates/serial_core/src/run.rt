@@ -6,7 +6,7 @@ ghost use Rattle.client_core.specs.Inside.Core.{Core as CoreValue, IsAfter};
 ghost use Rattle.ts_watch.specs.Head.{head_of, told_head};
 ghost use Rattle.feed_pull.specs.Pulling.{Pulling, Pulls, has_failed};
 ghost use Rattle.feed_pull.specs.declared.fault.Reading.TheVariants.{Going, TooMany};
-ghost use Rattle.client_core.specs.Events.{outcomes};
+ghost use Rattle.client_core.specs.Outcomes.{outcomes};
 ghost use Rattle.client_script.specs.declared.line.Line.{Line as ScriptLine};
 ghost use Rattle.std.specs.List.{range_with_len};
 ghost use Rattle.serial_core.specs.Inside.Lines.{AreAfter};

@@ -3,14 +3,10 @@ use Rattle.std.specs.Prelude.{ℕ, ◌≤◌, ◌==◌, nat_lt, min, List, take,
 use Rattle.dmx_abi.specs.Layout.{field}
 use Rattle.dmx_abi.specs.Decoded.{decoded}
 use Rattle.dmx_abi.specs.declared.request.Request.{Request}
-use Rattle.dmx_abi.specs.declared.request.Request.TheVariants as request
 use Rattle.dmx_abi.specs.declared.request.AbiFault.{AbiFault}
 use Rattle.dmx_abi.specs.declared.request.AbiFault.TheVariants.{Unknown, Length}
 use Rattle.dmx_calls.specs.declared.limits.TheConstants.{DEMUX_NODES, LARGEST_READ}
-use Rattle.dmx_calls.specs.declared.params.Input.{Input}
-use Rattle.dmx_calls.specs.declared.params.Input.TheVariants.{Frontend, Dvr}
-use Rattle.dmx_calls.specs.declared.params.Output.{Output}
-use Rattle.dmx_calls.specs.declared.params.Output.TheVariants.{Decoder, Tap, TsTap, TsdemuxTap}
+use Rattle.client_script.specs.Requests.{want_of}
 use Rattle.client_script.specs.declared.line.Want.{Want}
 use Rattle.client_script.specs.declared.line.Want.TheVariants as want
 use Rattle.serve_frames.specs.declared.ask.Ask.{Ask}
@@ -18,36 +14,6 @@ use Rattle.serve_frames.specs.declared.ask.Ask.TheVariants.{OpenDemux, Call, Lea
 use Rattle.serve_frames.specs.declared.numbers.TheConstants.{OPEN_DEMUX, OPEN_DVR, CLOSE, IOCTL, READ, POLL, LEAVE, ARGUMENT_LEN, ARGUMENT_AT, EBADF, EINVAL, ENOTTY}
 
 -- ------ ioctls
-
--- enum dmx_input
-abbrev pub input_of : ℕ → Option Input
-input_of number = if number == 0 then Some Frontend else (if number == 1 then Some Dvr else None)
-
--- enum dmx_output
-abbrev pub output_of : ℕ → Option Output
-output_of number =
-    if number == 0 then Some Decoder
-    else (if number == 1 then Some Tap
-    else (if number == 2 then Some TsTap
-    else (if number == 3 then Some TsdemuxTap else None)))
-
--- a PES filter, where its input and its output are any
-abbrev pub pes_of : (pid : ℕ) → Option Input → Option Output → (pes_type flags : ℕ) → Option Want
-pes_of pid (Some input) (Some output) pes_type flags =
-    Some (want.Pes (record { pid = pid; input = input; output = output; pes_type = pes_type; flags = flags }))
-pes_of pid _ _ pes_type flags = None
-
--- What an ioctl asks of a node. A system time counter is none of a node's answers.
-abbrev pub want_of : Request → Option Want
-want_of (request.SetFilter pid filter mask mode timeout flags) =
-    Some (want.Section (record { pid = pid; filter = record { filter = filter; mask = mask; mode = mode }; timeout = timeout; flags = flags }))
-want_of (request.SetPes pid input output pes_type flags) = pes_of pid (input_of input) (output_of output) pes_type flags
-want_of (request.SetSize size) = Some (want.Size size)
-want_of request.Start = Some want.Start
-want_of request.Stop = Some want.Stop
-want_of (request.AddPid pid) = Some (want.Add pid)
-want_of (request.RemovePid pid) = Some (want.Remove pid)
-want_of (request.GetStc num) = None
 
 -- a call, where there is something that a node is asked
 abbrev pub called : (node : ℕ) → Option Want → Ask

@@ -1,19 +1,17 @@
 // Reads what a request asks.
-ghost use Rattle.std.specs.Prelude.{◌≡◌, ◌≤◌, ◌+◌, length, take, drop, Some, IfSome};
+ghost use Rattle.std.specs.Prelude.{◌≡◌, ◌≤◌, ◌+◌, length, take, drop, Some};
 ghost use Rattle.dmx_abi.specs.Layout.{field};
 ghost use Rattle.dmx_abi.specs.Decoded.{decoded};
-ghost use Rattle.serve_frames.specs.Asks.{input_of as input_by, output_of as output_by, pes_of as pes_by, want_of as want_by, ioctl_of as ioctl_by, call_of as call_by, asked as asked_by, ask_of as ask_by, IsAskInRange, IsWantInRange};
+ghost use Rattle.serve_frames.specs.Asks.{ioctl_of as ioctl_by, call_of as call_by, asked as asked_by, ask_of as ask_by, IsAskInRange};
 
 use crate::numbers::{
     ARGUMENT_AT, ARGUMENT_LEN, CLOSE, EBADF, EINVAL, ENOTTY, IOCTL, LEAVE, OPEN_DEMUX, OPEN_DVR,
     POLL, READ, REQUEST_LEN,
 };
 use byteorder::{ByteOrder, LittleEndian};
-use client_script::Want;
-use dmx_abi::{AbiFault, Request, decode};
+use client_script::{Want, want_of};
+use dmx_abi::{AbiFault, decode};
 use dmx_calls::limits::{DEMUX_NODES, LARGEST_READ};
-use dmx_calls::{Input, Output, PesParams, SectionParams};
-use filter_match::SectionFilter;
 
 /// What a program asks.
 #[derive(Clone, Copy, PartialEq, Eq, Drop)]
@@ -33,88 +31,13 @@ pub enum Ask {
     Refused(u32),
 }
 
-// Where packets come from, by its number in `enum dmx_input`.
-fn input_of(number: u32) -> Option<Input>
-    ensures { result ≡ input_by number }
-{
-    match number {
-        0 => Some(Input::Frontend),
-        1 => Some(Input::Dvr),
-        _ => None,
-    }
-}
-
-// Where items go, by its number in `enum dmx_output`.
-fn output_of(number: u32) -> Option<Output>
-    ensures { result ≡ output_by number }
-{
-    match number {
-        0 => Some(Output::Decoder),
-        1 => Some(Output::Tap),
-        2 => Some(Output::TsTap),
-        3 => Some(Output::TsdemuxTap),
-        _ => None,
-    }
-}
-
-// A PES filter, where its input and its output are any.
-fn pes_of(pid: u16, input: u32, output: u32, pes_type: u32, flags: u32) -> Option<Want>
-    ensures value { result ≡ pes_by pid (input_by input) (output_by output) pes_type flags }
-    ensures range { IfSome result IsWantInRange }
-{
-    let input = input_of(input)?;
-    let output = output_of(output)?;
-    Some(Want::Pes(PesParams {
-        pid,
-        input,
-        output,
-        pes_type,
-        flags,
-    }))
-}
-
-// What an ioctl asks of a node, where a node can be asked it.
-fn want_of(request: &Request) -> Option<Want>
-    ensures value { result ≡ want_by request.now }
-    ensures range { IfSome result IsWantInRange }
-{
-    match *request {
-        Request::SetFilter {
-            pid,
-            filter,
-            mask,
-            mode,
-            timeout,
-            flags,
-        } => Some(Want::Section(SectionParams {
-            pid,
-            filter: SectionFilter { filter, mask, mode },
-            timeout,
-            flags,
-        })),
-        Request::SetPes {
-            pid,
-            input,
-            output,
-            pes_type,
-            flags,
-        } => pes_of(pid, input, output, pes_type, flags),
-        Request::SetSize(size) => Some(Want::Size(size)),
-        Request::Start => Some(Want::Start),
-        Request::Stop => Some(Want::Stop),
-        Request::AddPid(pid) => Some(Want::Add(pid)),
-        Request::RemovePid(pid) => Some(Want::Remove(pid)),
-        Request::GetStc { .. } => None,
-    }
-}
-
 // What an ioctl on a node asks.
 fn ioctl_of(node: u32, number: u32, argument: &[u8]) -> Ask
     ensures value { result ≡ ioctl_by node (decoded number argument.now) }
     ensures range { node ≤ 32 → IsAskInRange result }
 {
     match decode(number, argument) {
-        Ok(request) => match want_of(&request) {
+        Ok(request) => match want_of(request) {
             Some(want) => Ask::Call { node, want },
             None => Ask::Refused(EINVAL),
         },

@@ -4,7 +4,7 @@
 //! in units of 27 MHz. `pcr` reads it from a packet as one number, base * 300 + extension. An `StcClock` follows a stream that
 //! comes in pieces of any size, and its value is the reference of the last whole packet that has one, whatever that packet's PID;
 //! that this is the clock of a stream is this project's rule. It is what DMX_GET_STC asks for (Linux media API, Digital TV
-//! demux). The program doesn't use the crate yet.
+//! demux).
 //!
 //! What a contract sees: a packet as the list of its bytes; an `StcClock` as the cutting so far (`ts_packet`) and the last
 //! reference. `HasFollowed` ties it to the bytes that were pushed since it was made or cleared.

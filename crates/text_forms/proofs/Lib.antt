@@ -3,6 +3,7 @@ pub mod Decimals
 pub mod Filters
 pub mod FiltersRead
 pub mod HexPairs
+pub mod HexWords
 pub mod NamesRead
 pub mod PlacesRead
 pub mod Values

@@ -13,7 +13,7 @@ use Rattle.dmx_calls.specs.declared.params.Output.{Output}
 use Rattle.dmx_calls.specs.declared.params.Output.TheVariants as output
 use Rattle.filter_match.specs.declared.filter.Place.{Place}
 use Rattle.dmx_calls.specs.Names.{input_text, output_text}
-use Rattle.text_forms.specs.Hex.{digit_text, byte_text}
+use Rattle.text_forms.specs.Hex.{digit_text, byte_text, hex_text}
 use Rattle.text_forms.specs.Places.{place_text}
 use Rattle.text_forms.proofs.Decimals.{decimal-digits}
 
@@ -47,6 +47,10 @@ byte_text-visible : (byte : ℕ) → AreVisible (byte_text byte)
 byte_text-visible byte =
     behind-visible (digit_text (byte / 16)) (digit_text (byte % 16) ∷ []) (digit_text-visible (byte / 16))
     (behind-visible (digit_text (byte % 16)) [] (digit_text-visible (byte % 16)) (All-nil IsVisible))
+
+pub hex_text-visible : (bytes : List ℕ) → AreVisible (hex_text bytes)
+hex_text-visible [] = All-nil IsVisible
+hex_text-visible (byte ∷ bytes) = All-append IsVisible (byte_text byte) (hex_text bytes) (byte_text-visible byte) (hex_text-visible bytes)
 
 -- a byte behind a mark
 byte_behind : (mark byte : ℕ) (more : List ℕ) → IsVisible mark → AreVisible more → AreVisible (mark ∷ (byte_text byte ++ more))

@@ -1,5 +1,5 @@
 -- Bytes in lower-case hexadecimal digits, two for each (this project's own).
-use Rattle.std.specs.Prelude.{ℕ, ◌+◌, ◌*◌, ◌-◌, ◌/◌, ◌%◌, ◌&&◌, List, [], ◌∷◌, Option, Some, None, nat_le, nat_lt, if◌then◌else◌}
+use Rattle.std.specs.Prelude.{ℕ, suc, ◌+◌, ◌*◌, ◌-◌, ◌/◌, ◌%◌, ◌&&◌, List, [], ◌∷◌, Option, Some, None, nat_le, nat_lt, if◌then◌else◌}
 use Rattle.std.specs.List.{flat_map}
 use Rattle.std.specs.Option.{option_map, option_and_then}
 
@@ -12,6 +12,13 @@ hex_digit byte =
 -- the byte that two of these digits spell
 unfoldable pub hex_byte : (high low : ℕ) → Option ℕ
 hex_byte high low = option_and_then (λ h. option_map (λ l. h * 16 + l) (hex_digit low)) (hex_digit high)
+
+-- the bytes that a word spells, two digits for each; None where they are more than `most`, or where a digit is none
+unfoldable pub hex_bytes : (most : ℕ) → List ℕ → Option (List ℕ)
+hex_bytes most [] = Some []
+hex_bytes (suc left) (high ∷ low ∷ digits) =
+    option_and_then (λ byte. option_map (λ bytes. byte ∷ bytes) (hex_bytes left digits)) (hex_byte high low)
+hex_bytes _ _ = None
 
 -- the digit of a value below 16: `0` to `9`, which begin at byte 48, or `a` to `f`, which begin at byte 97
 abbrev pub digit_text : ℕ → ℕ

@@ -1,7 +1,9 @@
 // Bytes in lower-case hexadecimal digits.
-ghost use Rattle.std.specs.Prelude.{◌≡◌, ◌*◌, ◌<◌, ◌++◌, length, IfSome, OnOk, OnErr, ◌+◌, ◌≤◌, vec_len, vec_capacity};
-ghost use Rattle.text_forms.specs.Hex.{hex_digit as digit_of_byte, hex_byte as byte_of_digits, digit_text, byte_text, hex_text};
+ghost use Rattle.std.specs.Prelude.{◌≡◌, ◌≢◌, ℕ, suc, ◌*◌, ◌<◌, [], ◌∷◌, ◌++◌, length, Some, None, IfSome, MatchOption, OnOk, OnErr, ◌+◌, ◌≤◌, vec_len, vec_capacity};
+ghost use Rattle.std.specs.Option.{option_map};
+ghost use Rattle.text_forms.specs.Hex.{hex_digit as digit_of_byte, hex_byte as byte_of_digits, hex_bytes as bytes_of_digits, digit_text, byte_text, hex_text};
 
+use arrayvec::ArrayVec;
 use std::alloc::AllocError as NoMemory;
 
 // What a lower-case hexadecimal digit stands for.
@@ -25,6 +27,38 @@ pub fn hex_byte(high: u8, low: u8) -> Option<u8>
     let high = hex_digit(high)?;
     let low = hex_digit(low)?;
     Some(high * 16 + low)
+}
+
+// The byte of the two digits at the front, and the digits behind them.
+#[tactic(auto, using(crate::proofs::HexWords::pair_steps))]
+fn first_pair(digits: &[u8]) -> Option<(u8, &[u8])>
+    ensures none { result ≡ None → digits.now ≢ [] → (most : ℕ) → bytes_of_digits most digits.now ≡ None }
+    ensures some { IfSome result (λ r. (left : ℕ) → bytes_of_digits (suc left) digits.now ≡ option_map (λ bytes. r.0 ∷ bytes) (bytes_of_digits left r.1.now)) }
+    ensures two { IfSome result (λ r. length r.1.now + 2 ≡ length digits.now) }
+{
+    let [high, low, rest @ ..] = digits else {
+        return None;
+    };
+    let byte = hex_byte(*high, *low)?;
+    Some((byte, rest))
+}
+
+/// The bytes that a word spells in two lower-case hexadecimal digits each, where they are at most `MOST`.
+pub fn hex_bytes<const MOST: usize>(word: &[u8]) -> Option<ArrayVec<u8, MOST>>
+    ensures value { MatchOption result (bytes_of_digits MOST word.now ≡ None) (λ bytes. bytes_of_digits MOST word.now ≡ Some bytes.items) }
+    ensures half { IfSome result (λ bytes. 2 * length bytes.items ≡ length word.now) }
+{
+    let mut bytes = ArrayVec::new();
+    let mut rest = word;
+    'pairs: while !rest.is_empty() {
+        let (byte, behind) = first_pair(rest)?;
+        if bytes.is_full() {
+            return None;
+        }
+        bytes.push(byte);
+        rest = behind;
+    }
+    Some(bytes)
 }
 
 // The digit of a value.

@@ -1,10 +1,10 @@
 // Laws: reading a spelling gives its value again.
-ghost use Rattle.std.specs.Prelude.{◌≡◌, ◌/◌, ◌%◌, ◌<◌, ◌≤◌, ◌^◌, ◌++◌, ℕ, Some, codes};
+ghost use Rattle.std.specs.Prelude.{◌≡◌, ◌/◌, ◌%◌, ◌<◌, ◌≤◌, ◌^◌, ◌++◌, ℕ, List, length, Some, codes};
 ghost use Rattle.std.specs.Fmt.{decimal};
 ghost use Rattle.text_forms.specs.Numbers.{number_between};
-ghost use Rattle.text_forms.specs.Hex.{hex_byte, digit_text};
+ghost use Rattle.text_forms.specs.Hex.{hex_byte, hex_bytes, digit_text, hex_text};
 ghost use Rattle.text_forms.specs.Names.{client_named, client_text, demux_named, demux_text, slot_named, slot_text, who_named, who_text, node_named, node_text};
-ghost use Rattle.std.specs.List.{flat_map};
+ghost use Rattle.std.specs.List.{All, flat_map};
 ghost use Rattle.std.specs.Option.{option_map};
 ghost use Rattle.filter_match.specs.declared.filter.SectionFilter.{SectionFilter};
 ghost use Rattle.filter_match.specs.declared.filter.Place.{Place};
@@ -20,9 +20,10 @@ pub fn numbers_are_read_again()
     ensures { (least most n : ℕ) → n < 2 ^ 64 → least ≤ n → n ≤ most → number_between least most (decimal n) ≡ Some n }
 {}
 
-/// Reading a byte from its two digits gives it again.
+/// Reading a byte from its two digits gives it again, and so does reading several from a word.
 pub fn bytes_are_read_again()
-    ensures { (byte : ℕ) → byte < 256 → hex_byte (digit_text (byte / 16)) (digit_text (byte % 16)) ≡ Some byte }
+    ensures one { (byte : ℕ) → byte < 256 → hex_byte (digit_text (byte / 16)) (digit_text (byte % 16)) ≡ Some byte }
+    ensures word { (most : ℕ) (bytes : List ℕ) → length bytes ≤ most → All (λ byte. byte < 256) bytes → hex_bytes most (hex_text bytes) ≡ Some bytes }
 {}
 
 /// Reading the name of a client, a demux node or a slot gives it again.

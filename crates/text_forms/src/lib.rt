@@ -1,12 +1,12 @@
 //! Spellings: the words that the script, the report and the command line have in common, each with its reading and its
 //! writing side.
 //!
-//! The forms are numbers in decimal digits, bytes in two lower-case hexadecimal digits, the words of inputs and outputs,
-//! the names of clients, slots and nodes, and the words `I=FF/MM/DD` for the places of a section filter.
+//! The forms are numbers in decimal digits, bytes in two lower-case hexadecimal digits and words of them, the words of inputs and
+//! outputs, the names of clients, slots and nodes, and the words `I=FF/MM/DD` for the places of a section filter.
 //!
 //! What a contract sees: a word as the list of its bytes. Each form has a definition of what is written
 //! (`number`: std's `decimal`; `hex_text`; `input_text` of `dmx_calls`; `client_text`; `filter_text`; ..) and one of what is read
-//! (`number_between`, `hex_byte`, `input_named`, `client_named`, `place_named`; ..). A reading side answers None where a
+//! (`number_between`, `hex_byte`, `hex_bytes`, `input_named`, `client_named`, `place_named`; ..). A reading side answers None where a
 //! word isn't that spelling: a number has no sign and no zero before other digits, and hexadecimal digits are in lower
 //! case.
 //!
@@ -34,7 +34,7 @@ mod places;
 mod room;
 mod words;
 
-pub use hex::{hex_byte, write_hex, write_hex_byte};
+pub use hex::{hex_byte, hex_bytes, write_hex, write_hex_byte};
 pub use laws::{
     bytes_are_read_again, filters_are_read_again, numbers_are_read_again, places_are_read_again,
     report_names_are_read_again, script_names_are_read_again, words_are_read_again,

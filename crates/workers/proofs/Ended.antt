@@ -10,7 +10,8 @@ use Rattle.dmx_calls.specs.History.{Entry}
 use Rattle.dmx_calls.specs.Log.{LogEntry}
 use Rattle.client_script.specs.declared.line.Line.{Line}
 use Rattle.client_script.specs.Script.{clients_in}
-use Rattle.client_core.specs.Events.{next_event, outcomes}
+use Rattle.client_core.specs.Events.{next_event}
+use Rattle.client_core.specs.Outcomes.{outcomes}
 use Rattle.script_run.specs.IsRun.{Batch, replies}
 use Rattle.script_run.specs.WholeRun.{AreFull, IsWholeRun}
 use Rattle.script_run.specs.SoFar.{others as Others, IsSoFar, IsOver}

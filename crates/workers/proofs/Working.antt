@@ -21,13 +21,13 @@ use Rattle.dmx_calls.specs.Log.{LogEntry}
 use Rattle.dmx_calls.specs.Response.{Response}
 use Rattle.client_script.specs.declared.line.Line.{Line}
 use Rattle.client_core.specs.declared.event.Event.{Event}
-use Rattle.client_core.specs.Inside.Core.{Core, IsAfter, next_of, coming}
+use Rattle.client_core.specs.Inside.Core.{Core, IsAfter, next_of, coming, behind}
 use Rattle.client_core.specs.Events.{next_event, progress, Progress}
 
 -- the next call of a core that stands after these replies is the one that the script asks for
 pub next_is : (lines : List Line) (client : ℕ) (rs : List Response) (c : Core) → IsAfter client lines rs c → next_event client lines rs ≡ next_of c
 next_is lines client rs c after =
-    let same : progress client lines rs ≡ coming c [] = ap (progress client lines) (sym (append-nil rs)) ∙ after.goes_on [] in
+    let same : progress client lines rs ≡ behind after.ended (coming c []) = ap (progress client lines) (sym (append-nil rs)) ∙ after.goes_on [] in
     ap (λ (p : Progress). option_map (λ s. s.event) p.standing) same
 
 pub event_now : (lines : List Line) (client : ℕ) (rs : List Response) (c : Core) (e : Event) → IsAfter client lines rs c → next_of c ≡ Some e → next_event client lines rs ≡ Some e

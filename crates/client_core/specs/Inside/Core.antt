@@ -1,5 +1,5 @@
 -- What a client core keeps, and the replies after which it stands.
-use Rattle.std.specs.Prelude.{ℕ, false, ◌≡◌, ◌≤◌, List, [], ◌∷◌, ◌++◌, length, Option, Some, None, option_map, All, IfSome, IfNone}
+use Rattle.std.specs.Prelude.{ℕ, false, ◌≡◌, ◌≤◌, ◌*◌, ◌⊎◌, List, [], ◌∷◌, ◌++◌, length, map, Option, Some, None, option_map, All, IfSome, IfNone}
 use Rattle.dmx_calls.specs.Response.{Response, Again}
 use Rattle.client_script.specs.Grammar.{IsVerbInRange, IsTargetInRange}
 use Rattle.client_script.specs.declared.line.Line.{Line}
@@ -8,42 +8,50 @@ use Rattle.dmx_calls.specs.declared.outcome.Outcome.{Outcome}
 use Rattle.client_core.specs.declared.event.Event.{Event}
 use Rattle.client_core.specs.declared.machine.Current.{Current}
 use Rattle.client_core.specs.Commands.{Doing, stands, through, Slots}
-use Rattle.client_core.specs.Events.{Progress, with_outcome, kind_of, slots_after, progress_from, waits_after, waits_on, progress}
-use Rattle.client_core.specs.Inside.Tasks.{resumed, IsTaskInRange, AreSlots}
+use Rattle.client_core.specs.Events.{Ended, Progress, with_ended, slots_after, progress_from, waits_after, waits_on, progress}
+use Rattle.client_core.specs.Stc.{Exchange, with_reply, exchanges}
+use Rattle.client_core.specs.Outcomes.{outcome_by, outcome_of}
+use Rattle.client_core.specs.Inside.Clocks.{NodeClock, counter_in, HaveFollowed, AreFew}
+use Rattle.client_core.specs.Inside.Tasks.{resumed, IsTaskInRange, IsCallEnding, CanAsk, HasClock, AreSlots}
 
 -- a command that is begun, and the commands behind it
 abbrev pub ahead : (line from : ℕ) → Slots → List Command → Doing → Progress
 ahead line from slots cs (stands event) = record {
-  outcomes = [];
+  ended = [];
   standing = Some (record { line = line; from = from; event = event });
 }
 ahead line from slots cs (through ending next left) =
-    with_outcome (record { line = line; from = from; to = next; kind = kind_of ending })
+    with_ended (record { line = line; from = from; to = next; ending = ending })
     (progress_from (slots_after ending slots) next cs left)
 
 abbrev pub coming_from : Option Current → (step : ℕ) → Slots → List Command → List Response → Progress
 coming_from None step slots cs replies = progress_from slots step cs replies
 coming_from (Some c) step slots cs replies = ahead c.line c.from slots cs (resumed c.task step replies)
 
-abbrev pub behind : List Outcome → Progress → Progress
-behind outcomes p = record { outcomes = outcomes ++ p.outcomes; standing = p.standing }
+abbrev pub behind : List Ended → Progress → Progress
+behind ended p = record { ended = ended ++ p.ended; standing = p.standing }
 
 -- What a contract sees of a core: the commands that aren't begun, the one that is, the slots, how many replies were
--- taken, the node on which it waits, and the outcomes of the commands that are through.
+-- taken, the node on which it waits, the clocks that it keeps, and the outcomes of the commands that are through.
 pub record Core : Type 0 where
   pub left : List Command
   pub current : Option Current
   pub slots : Slots
   pub step : ℕ
   pub waits : Option ℕ
+  pub clocks : List NodeClock
   pub outcomes : List Outcome
 
--- how far the client is once these replies have come
+-- how far the client comes from here on by these replies
 abbrev pub coming : Core → List Response → Progress
-coming c replies = behind c.outcomes (coming_from c.current c.step c.slots c.left replies)
+coming c replies = coming_from c.current c.step c.slots c.left replies
 
 abbrev pub IsCommandInRange : Command → Type 0
 IsCommandInRange c = IsTargetInRange c.target × IsVerbInRange c.verb
+
+-- where it asks for a counter, so many kept clocks are enough
+abbrev pub CanBegin : (kept : ℕ) → Command → Type 0
+CanBegin kept c = CanAsk kept c.verb
 
 abbrev pub one_if_some : {A : Type 0} → Option A → ℕ
 one_if_some None = 0
@@ -56,10 +64,20 @@ pub record IsSound (c : Core) : Type 0 where
   pub task : IfSome c.current (λ cur. IsTaskInRange cur.task × (cur.from ≤ c.step))
   -- where no command is begun, none is left
   pub ended : IfNone c.current (c.left ≡ [])
+  -- where a command asks for a counter, the clocks are kept
+  pub asked : All (CanBegin (length c.clocks)) c.left
+  -- a reply has at most 65,536 bytes
+  pub few : AreFew (65536 * c.step) c.clocks
 
--- The core stands after these replies to a client of a script: whatever replies come, it goes on as the script says.
+-- The core stands after these replies to a client of a script: whatever replies come, it goes on as the script says; its
+-- outcomes are those of the commands that are through, and its clocks have followed the calls.
 pub record IsAfter (client : ℕ) (lines : List Line) (replies : List Response) (c : Core) : Type 0 where
-  pub goes_on : (more : List Response) → progress client lines (replies ++ more) ≡ coming c more
+  pub ended : List Ended
+  pub goes_on : (more : List Response) → progress client lines (replies ++ more) ≡ behind ended (coming c more)
+  pub outcomes : c.outcomes ≡ map (outcome_of client lines replies) ended
+  -- none began later
+  pub early : All (λ e. e.from ≤ length replies) ended
+  pub followed : HaveFollowed (exchanges client lines replies) c.clocks
   pub steps : c.step ≡ length replies
   pub waits : c.waits ≡ waits_on client lines replies
 
@@ -67,12 +85,33 @@ pub record IsAfter (client : ℕ) (lines : List Line) (replies : List Response) 
 abbrev pub next_of : Core → Option Event
 next_of c = option_map (λ s. s.event) (coming c []).standing
 
+-- a command that is through at this step: it began here, or has made a call
+pub record IsLate (kept step : ℕ) (e : Ended) : Type 0 where
+  pub from : e.from ≤ step
+  pub clock : HasClock kept e.ending
+  pub now : (e.from ≡ step) ⊎ IsCallEnding e.ending
+
+-- Commands at the front are through at this step, by no further reply; their outcomes are by these clocks.
+pub record HasBegun (clocks : List NodeClock) (step : ℕ) (slots_before slots : Slots) (left_before left : List Command)
+    (outcomes_before outcomes : List Outcome) (current : Option Current) : Type 0 where
+  pub passed : List Ended
+  pub same : (more : List Response)
+      → progress_from slots_before step left_before more ≡ behind passed (coming_from current step slots left more)
+  pub told : outcomes ≡ outcomes_before ++ map (outcome_by (counter_in clocks)) passed
+  pub late : All (IsLate (length clocks) step) passed
+
 -- the node on which a client waits after this reply, where the read on this node is repeated
 abbrev pub waits_with : Response → (node : ℕ) → Option ℕ
 waits_with (Again false) node = Some node
 waits_with _ node = None
 
--- One reply is taken: whatever replies come, the new core goes on as the old one does where this reply comes first.
+-- One reply is taken: whatever replies come, the new core goes on as the old one does where this reply comes first. The
+-- clocks have followed it, and the outcomes of the commands that are through by it are by these clocks.
 pub record HasTaken (reply : Response) (old new : Core) : Type 0 where
-  pub goes_on : (more : List Response) → coming old (reply ∷ more) ≡ coming new more
+  pub passed : List Ended
+  pub goes_on : (more : List Response) → coming old (reply ∷ more) ≡ behind passed (coming new more)
+  pub told : new.outcomes ≡ old.outcomes ++ map (outcome_by (counter_in new.clocks)) passed
+  pub late : All (IsLate (length new.clocks) new.step) passed
+  pub followed : (xs : List Exchange) → HaveFollowed xs old.clocks
+      → HaveFollowed (with_reply (next_of old) reply xs) new.clocks
   pub waits : new.waits ≡ waits_after (coming new []).standing (reply ∷ [])

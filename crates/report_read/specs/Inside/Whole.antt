@@ -39,11 +39,19 @@ rows_in bytes = all_in (begins_with (codes "pid ")) row_in bytes
 
 -- ------ the clients
 
+-- a system time counter
+unfoldable pub stc_in : List ℕ → Reading OutcomeKind
+stc_in bytes =
+    past (codes "stc base=") bytes (λ bytes. and_then (number32 bytes) (λ base bytes.
+    past (codes " value=") bytes (λ bytes. and_then (number64 bytes) (λ value bytes.
+    Some (outcome.Stc base value, bytes)))))
+
 unfoldable pub kind_in : List ℕ → Reading OutcomeKind
 kind_in bytes =
     choose (codes "done") bytes (λ bytes. Some (outcome.Done, bytes))
     (choose (codes "EMFILE") bytes (λ bytes. Some (outcome.Emfile, bytes))
-    (past (codes "unbound") bytes (λ bytes. Some (outcome.Unbound, bytes))))
+    (choose (codes "unbound") bytes (λ bytes. Some (outcome.Unbound, bytes))
+    (choose (codes "nostc") bytes (λ bytes. Some (outcome.NoStc, bytes)) (stc_in bytes))))
 
 unfoldable pub outcome_in : List ℕ → Reading Outcome
 outcome_in bytes =

@@ -72,8 +72,8 @@ const fn telling(step: u64, want: Request) -> Option<Event> {
 
 // A buffer with these bytes.
 fn bytes(rt: &impl Abort, alloc: Global, bytes: &[u8]) -> ByteBuf {
-    assert!(rt; bytes.len() <= 100);
-    let Ok(mut buf) = ByteBuf::new(alloc, 100) else {
+    assert!(rt; bytes.len() <= 200);
+    let Ok(mut buf) = ByteBuf::new(alloc, 200) else {
         panic!(rt; "no memory");
     };
     buf.append(bytes);
@@ -255,6 +255,51 @@ fn a_slot_stays_bound_after_close(rt: HostRuntime) {
     assert!(rt; are_copied(rt.alloc(), &core, &outcomes) == Ok(true));
 }
 
+// A packet of PID 256 that is an adaptation field alone, with a program clock reference of base 1 and extension 5.
+fn clock_packet() -> [u8; 188] {
+    let mut packet = [0xff; 188];
+    let field = [
+        0x47, 0x01, 0x00, 0x20, 0xb7, 0x10, 0x00, 0x00, 0x00, 0x00, 0xfe, 0x05,
+    ];
+    packet[..12].copy_from_slice(&field);
+    packet
+}
+
+// A filter on the PID of clock 0 whose packets are read once, and the counter before and behind that read.
+const COUNTER: &[u8] = b"c0 open n0
+c0 pes n0 256 frontend tsdemux_tap 4 0
+c0 start n0
+feed 1
+c0 ioctl n0 c0106f32 00000000000000000000000000000000
+c0 read n0 188
+c0 ioctl n0 c0106f32 00000000000000000000000000000000
+stream
+";
+
+#[test]
+fn a_counter_is_the_clock_of_what_was_read(rt: HostRuntime) {
+    let mut core = client_of(&rt, rt.alloc(), COUNTER, 0);
+    for _call in 0..3u32 {
+        take(&rt, &mut core, done(Tap::Keep));
+    }
+    assert!(rt; core.next() == event(3, 0, Want::Read(188)));
+    let read = Reply::Data(bytes(&rt, rt.alloc(), &clock_packet()));
+    answer(&rt, &mut core, read, &None);
+    let counter = OutcomeKind::Stc {
+        base: 300,
+        value: 305,
+    };
+    let outcomes = [
+        through(1, 0, 1, OutcomeKind::Done),
+        through(2, 1, 2, OutcomeKind::Done),
+        through(3, 2, 3, OutcomeKind::Done),
+        through(5, 3, 3, OutcomeKind::NoStc),
+        through(6, 3, 4, OutcomeKind::Done),
+        through(7, 4, 4, counter),
+    ];
+    assert!(rt; core.outcomes() == outcomes.as_slice());
+}
+
 // Whether the call is a Read at this moment, with an empty buffer for so many bytes.
 fn is_empty_read(call: &Call, moment: u64, count: u32) -> bool {
     match call {
@@ -300,7 +345,7 @@ fn is_fitted(reply: &Result<Reply, NoMemory>, bytes: &[u8]) -> bool {
 #[test]
 fn a_fitted_reply_has_its_bytes_and_room_for_no_more(rt: HostRuntime) {
     let buf = bytes(&rt, rt.alloc(), b"three");
-    assert!(rt; buf.count() == 100);
+    assert!(rt; buf.count() == 200);
     assert!(rt; is_fitted(&fitted(rt.alloc(), Reply::Data(buf)), b"three"));
     assert!(rt; matches!(fitted(rt.alloc(), Reply::Passed), Ok(Reply::Passed)));
 }

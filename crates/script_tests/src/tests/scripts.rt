@@ -6,7 +6,7 @@ use client_script::{
     FaultKind, Line, MOST_BYTES, Script, ScriptError, ScriptFault, ScriptPart, Target, Verb, Want,
     print,
 };
-use rows::{SIXTEEN, filters, line_faults, short};
+use rows::{SIXTEEN, filters, line_faults, requests, short};
 use std::alloc::Global;
 use std::test::Fail;
 
@@ -247,6 +247,40 @@ fn a_line_is_printed_as_it_was_spelled(rt: HostRuntime) -> Result<(), Fail> {
         assert!(rt; is_its_spelling(rt.alloc(), line)?, "{line:?}");
     }
     assert!(rt; is_its_spelling(rt.alloc(), b"c0 section n0 1 0 0 3=0a/ff/00")?);
+    Ok(())
+}
+
+// Whether a line asks for the same as its spelling, and is printed so.
+fn is_spelled(alloc: Global, line: &[u8], spelling: &[u8]) -> Result<bool, Fail> {
+    let bytes = joined(alloc, &[line, b"\nstream\n"])?;
+    let spelled = joined(alloc, &[spelling, b"\nstream\n"])?;
+    let want = joined(alloc, &[spelling, b"\n"])?;
+    match (read(alloc, &bytes)?, read(alloc, &spelled)?) {
+        (Ok(script), Ok(same)) => {
+            Ok(script.lines() == same.lines() && printed(alloc, &bytes)? == want)
+        }
+        _ => Ok(false),
+    }
+}
+
+#[test]
+fn a_request_is_read_as_the_command_of_its_call(rt: HostRuntime) -> Result<(), Fail> {
+    for (line, spelling) in requests() {
+        assert!(rt; is_spelled(rt.alloc(), line, spelling)?, "{line:?}");
+    }
+    Ok(())
+}
+
+#[test]
+fn a_question_for_a_counter_has_its_number(rt: HostRuntime) -> Result<(), Fail> {
+    let want = Line::Command {
+        line: 1,
+        client: 7,
+        target: Target::Slot(31),
+        verb: Verb::GetStc(3),
+    };
+    let line = b"c7 ioctl h31 c0106f32 030000000102030405060708090a0b0c";
+    assert!(rt; asks(rt.alloc(), line, &want)?);
     Ok(())
 }
 

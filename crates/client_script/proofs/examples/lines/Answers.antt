@@ -1,12 +1,13 @@
 use Rattle.std.proofs.Common.{refl}
 use Rattle.text_forms.specs.Numbers.{value_after}
-use Rattle.text_forms.specs.Hex.{hex_digit, hex_byte}
+use Rattle.text_forms.specs.Hex.{hex_digit, hex_byte, hex_bytes}
 use Rattle.text_forms.specs.Words.{input_named, output_named}
 use Rattle.text_forms.specs.Names.{numbered}
 use Rattle.filter_match.specs.Places.{with_place}
 use Rattle.text_forms.specs.Places.{place_with, place_named}
 use Rattle.client_script.specs.Words.{word_in}
 use Rattle.client_script.specs.Places.{places_in, filter_in}
+use Rattle.client_script.specs.Requests.{request_number, argument_named, request_number_in, request_in, ioctl_in}
 use Rattle.client_script.specs.Grammar.{number_in, numbered_target, target_of, name_of, section_in, pes_in, verb_in, command_in, line_in, line_of, meaning}
 use Rattle.client_script.specs.Script.{lines_from, grammar, split}
 use Rattle.client_script.proofs.examples.lines.Goals as goal
@@ -34,3 +35,7 @@ returns-clause-pes_filter c = refl
 pub returns-clause-section_filter : goal.returns-clause-section_filter
 unfolding value_after hex_digit hex_byte word_in place_with place_named places_in with_place filter_in number_in input_named output_named numbered numbered_target target_of name_of section_in pes_in verb_in command_in line_in line_of meaning lines_from grammar split
 returns-clause-section_filter c = refl
+
+pub returns-clause-requests : goal.returns-clause-requests
+unfolding value_after hex_digit hex_byte hex_bytes word_in request_number argument_named request_number_in request_in ioctl_in numbered numbered_target target_of name_of verb_in command_in line_in line_of meaning
+returns-clause-requests c = refl

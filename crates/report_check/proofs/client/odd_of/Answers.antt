@@ -1,6 +1,6 @@
 use Rattle.std.proofs.Common.{◌≡◌, [], List, map, subst}
 use Rattle.dmx_calls.specs.Log.{LogEntry}
-use Rattle.client_core.specs.Events.{outcomes}
+use Rattle.client_core.specs.Outcomes.{outcomes}
 use Rattle.script_run.specs.IsRun.{replies}
 use Rattle.walk_check.specs.Walk.{CanRest, HasWalked, queues_in}
 use Rattle.report_check.specs.Inside.Parts.{told_nodes, dealt}
@@ -13,7 +13,7 @@ returns-then-not-is_walked c =
     let same : map told_of c.in_ok-queues.queues.items ≡ hs = c.in_ok-queues.ensures.dealt in
     no_walk c.args.client c.args.script.now hs c.args.told.now
     (subst (λ (qs : List (List LogEntry)). CanRest c.args.client c.args.script.now [] (queues_in c.args.client qs) → ⊥) same
-    (c.is_walked.ensures.other c.if-not-is_walked.true c.args.script.now c.in_ok-core.ensures))
+    (c.is_walked.ensures.other c.if-not-is_walked.true c.args.script.now c.in_ok-core.ensures.after))
 
 pub returns-then-not-are_same : goal.returns-then-not-are_same
 returns-then-not-are_same c =
@@ -21,7 +21,7 @@ returns-then-not-are_same c =
     let same : map told_of c.in_ok-queues.queues.items ≡ hs = c.in_ok-queues.ensures.dealt in
     let walked : HasWalked c.args.client c.args.script.now (queues_in c.args.client hs) c.is_walked.new.core =
     subst (λ (qs : List (List LogEntry)). HasWalked c.args.client c.args.script.now (queues_in c.args.client qs) c.is_walked.new.core) same
-    (c.is_walked.ensures.walked c.if-not-is_walked.false c.args.script.now c.in_ok-core.ensures) in
+    (c.is_walked.ensures.walked c.if-not-is_walked.false c.args.script.now c.in_ok-core.ensures.after) in
     let are : c.outcomes.result.now ≡ outcomes c.args.client c.args.script.now (replies walked.made) = c.outcomes.ensures.tied c.args.client c.args.script.now (replies walked.made) walked.after in
     other_outcomes c.args.client c.args.script.now hs c.args.told.now c.is_walked.new.core c.outcomes.result.now walked are (c.are_same.ensures.differs c.if-not-are_same.true)
 
@@ -31,6 +31,6 @@ returns c =
     let same : map told_of c.in_ok-queues.queues.items ≡ hs = c.in_ok-queues.ensures.dealt in
     let walked : HasWalked c.args.client c.args.script.now (queues_in c.args.client hs) c.is_walked.new.core =
     subst (λ (qs : List (List LogEntry)). HasWalked c.args.client c.args.script.now (queues_in c.args.client qs) c.is_walked.new.core) same
-    (c.is_walked.ensures.walked c.if-not-is_walked.false c.args.script.now c.in_ok-core.ensures) in
+    (c.is_walked.ensures.walked c.if-not-is_walked.false c.args.script.now c.in_ok-core.ensures.after) in
     let are : c.outcomes.result.now ≡ outcomes c.args.client c.args.script.now (replies walked.made) = c.outcomes.ensures.tied c.args.client c.args.script.now (replies walked.made) walked.after in
     is_done c.args.client c.args.script.now hs c.args.told.now c.is_walked.new.core c.outcomes.result.now walked are (c.are_same.ensures.same c.if-not-are_same.false)

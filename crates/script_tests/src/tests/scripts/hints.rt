@@ -1,6 +1,6 @@
 // The lines behind those of faults, by the rules, and the source that keeps a script.
 use super::read;
-use super::rows::{line_faults, short};
+use super::rows::{line_faults, requests, short};
 use client_script::FaultKind;
 use emu_io::{Failed, MemSource, Source};
 use fault_hints::{Keeping, hint, kind_in};
@@ -8,7 +8,7 @@ use std::alloc::Global;
 use std::test::Fail;
 
 const COMMANDS: &str =
-    "a command: open, close, section, pes, add, remove, start, stop, size, read, readw, drain or poll";
+    "a command: open, close, section, pes, add, remove, start, stop, size, read, readw, drain, poll or ioctl";
 
 const FIRST: &str = "feed, tick, a client c0 to c7, or the line stream";
 
@@ -16,12 +16,14 @@ const TARGET: &str = "a target: n0 to n31, h0 to h31, or dvr";
 
 const DIGITS: &str = " in decimal digits without leading zeros";
 
+const REQUEST: &str = "REQ: the number of a request in eight hexadecimal digits, in lower case";
+
 const PLACES: &str = "I=FF/MM/DD, two hexadecimal digits each, places rising";
 
 const NO_STREAM: &str = "expected that line at the end of the script, and the packets behind it";
 
 // Lines with a fault, what the line behind it says of the word, what was expected, and what stands behind that.
-static LINES: [(&[u8], &str, &str, &str); 22] = [
+static LINES: [(&[u8], &str, &str, &str); 32] = [
     (b"client0 open n0", "word 1 is 'client0'", FIRST, ""),
     (b"c0 strat n0", "word 2 is 'strat'", COMMANDS, ""),
     (b"c0 open n32", "word 3 is 'n32'", TARGET, ""),
@@ -74,6 +76,66 @@ static LINES: [(&[u8], &str, &str, &str); 22] = [
         "word 8 is '3=01/ff/00'",
         PLACES,
         ": this one at least 4",
+    ),
+    (
+        b"c0 ioctl n0 0x6f29 -",
+        "word 4 is '0x6f29'",
+        REQUEST,
+        ", as 00006f29 for DMX_START (0x6f29 is 00006f29)",
+    ),
+    (
+        b"c0 ioctl n0 403C6F2B -",
+        "word 4 is '403C6F2B'",
+        REQUEST,
+        ", as 00006f29 for DMX_START",
+    ),
+    (
+        b"c0 ioctl n0 800a6f2f 00000000000000000000",
+        "word 4 is '800a6f2f'",
+        REQUEST,
+        "; this is DMX_GET_PES_PIDS, which no node has",
+    ),
+    (
+        b"c0 ioctl n0 00006f30",
+        "word 4 is '00006f30'",
+        REQUEST,
+        "; no request has this one",
+    ),
+    (
+        b"c0 ioctl n0",
+        "the line ends in front of word 4",
+        REQUEST,
+        ", as 00006f29 for DMX_START; the line is cK ioctl T REQ ARG",
+    ),
+    (
+        b"c0 ioctl n0 40146f2c 000100",
+        "word 5 is '000100'",
+        "ARG of DMX_SET_PES_FILTER, 20 bytes in two hexadecimal digits each",
+        ", and not 3",
+    ),
+    (
+        b"c0 ioctl n0 40146f2c 0001000002000000030000001400000000000000",
+        "word 5 is '0001000002000000030000001400000000000000'",
+        "ARG of DMX_SET_PES_FILTER, 20 bytes in two hexadecimal digits each",
+        " with input 0 or 1 and output 0 to 3, and not 2 and 3",
+    ),
+    (
+        b"c0 ioctl n0 00006f29 00",
+        "word 5 is '00'",
+        "ARG of DMX_START, '-' for no bytes",
+        ", and not 1",
+    ),
+    (
+        b"c0 ioctl n0 40026f33 FF1F",
+        "word 5 is 'FF1F'",
+        "ARG of DMX_ADD_PID, 2 bytes in two hexadecimal digits each",
+        " (in lower case)",
+    ),
+    (
+        b"c0 ioctl n0 c0106f32",
+        "the line ends in front of word 5",
+        "ARG of DMX_GET_STC, 16 bytes in two hexadecimal digits each",
+        "; the line is cK ioctl T REQ ARG",
     ),
     (
         b"c0 add n0",
@@ -219,6 +281,9 @@ fn the_word_that_is_found_is_one_of_the_faults_kind(rt: HostRuntime) -> Result<(
         }
     }
     for (line, _) in short() {
+        assert!(rt; kind_in(line).is_none(), "{line:?}");
+    }
+    for (line, _) in requests() {
         assert!(rt; kind_in(line).is_none(), "{line:?}");
     }
     Ok(())

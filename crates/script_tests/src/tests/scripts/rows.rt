@@ -89,7 +89,7 @@ const COMMAND_FAULTS: [&[u8]; 7] = [
     b"c0 strat n32 x",
 ];
 
-const TARGET_FAULTS: [&[u8]; 9] = [
+const TARGET_FAULTS: [&[u8]; 10] = [
     b"c0 open n32",
     b"c0 open h32",
     b"c0 open n",
@@ -99,9 +99,10 @@ const TARGET_FAULTS: [&[u8]; 9] = [
     b"c0 open  n0",
     b"c0 read m0 65537",
     b"c0 open n32 x",
+    b"c0 ioctl n32 6f29",
 ];
 
-const NUMBER_FAULTS: [&[u8]; 21] = [
+const NUMBER_FAULTS: [&[u8]; 26] = [
     b"feed 0",
     b"feed 4294967296",
     b"feed 01",
@@ -123,17 +124,28 @@ const NUMBER_FAULTS: [&[u8]; 21] = [
     b"c0 pes n0 0 dvr tap 4294967296 0",
     b"c0 pes n0 0 dvr tap 0 -1",
     b"c0 read n0 18446744073709551616",
+    b"c0 ioctl n0 6f29 -",
+    b"c0 ioctl n0 0x006f29 -",
+    b"c0 ioctl n0 403C6f2b -",
+    b"c0 ioctl n0 000006f29 -",
+    b"c0 ioctl n0  -",
 ];
 
-const NAME_FAULTS: [&[u8]; 5] = [
+const NAME_FAULTS: [&[u8]; 11] = [
     b"c0 pes n0 1 front tap 0 0",
     b"c0 pes n0 1 dvr taps 0 0",
     b"c0 pes n0 1 tap dvr 0 0",
     b"c0 pes n0 1 frontend  0 0",
     b"c0 pes n0 1 Dvr tap x",
+    b"c0 ioctl n0 00006f30 -",
+    b"c0 ioctl n0 00006f30",
+    b"c0 ioctl n0 800a6f2f x",
+    b"c0 ioctl n0 40146f2d 0",
+    b"c0 ioctl n0 40146f2c 0001000002000000030000001400000000000000",
+    b"c0 ioctl n0 40146f2c 0001000000000000040000001400000000000000 x",
 ];
 
-const BYTES_FAULTS: [&[u8]; 13] = [
+const BYTES_FAULTS: [&[u8]; 21] = [
     b"c0 section n0 1 0 0 3=00/ff/00 3=00/ff/00",
     b"c0 section n0 1 0 0 4=00/ff/00 3=00/ff/00",
     b"c0 section n0 1 0 0 16=00/ff/00",
@@ -147,9 +159,17 @@ const BYTES_FAULTS: [&[u8]; 13] = [
     b"c0 section n0 1 0 0 ",
     b"c0 section n0 1 0 0 3=00/ff/00 ",
     b"c0 section n0 1 0 0 15=00/ff/00 x",
+    b"c0 ioctl n0 00006f29 00",
+    b"c0 ioctl n0 00006f29 ",
+    b"c0 ioctl n0 00006f29 -- x",
+    b"c0 ioctl n0 40026f33 -",
+    b"c0 ioctl n0 40026f33 ff1",
+    b"c0 ioctl n0 40026f33 FF1f",
+    b"c0 ioctl n0 40026f33 ff1f00",
+    b"c0 ioctl n0 403c6f2b 00000000000000000000000000000000000000000000000000000000000000000000000000000000000000000000000000000000000000000000000000",
 ];
 
-const COUNT_FAULTS: [&[u8]; 23] = [
+const COUNT_FAULTS: [&[u8]; 28] = [
     b"feed",
     b"tick",
     b"feed 1 1",
@@ -173,6 +193,41 @@ const COUNT_FAULTS: [&[u8]; 23] = [
     b"c0 pes n0 1 frontend tap",
     b"c0 pes n0 1 frontend tap 1",
     b"c0 pes n0 1 frontend tap 1 0 0",
+    b"c0 ioctl",
+    b"c0 ioctl n0",
+    b"c0 ioctl n0 00006f29",
+    b"c0 ioctl n0 00006f29 - x",
+    b"c0 ioctl n0 c0106f32 00000000000000000000000000000000 ",
+];
+
+// Lines of requests, each with its one spelling: DMX_START, DMX_STOP, DMX_SET_BUFFER_SIZE, DMX_ADD_PID, DMX_REMOVE_PID,
+// DMX_SET_PES_FILTER twice and DMX_SET_FILTER, with other bytes in place of those that pad, and DMX_GET_STC twice.
+static REQUESTS: [(&[u8], &[u8]); 10] = [
+    (b"c0 ioctl n0 00006f29 -", b"c0 start n0"),
+    (b"c1 ioctl h2 00006f2a -", b"c1 stop h2"),
+    (b"c0 ioctl n0 00006f2d 00200000", b"c0 size n0 8192"),
+    (b"c0 ioctl dvr 40026f33 ff1f", b"c0 add dvr 8191"),
+    (b"c0 ioctl n0 40026f34 0001", b"c0 remove n0 256"),
+    (
+        b"c0 ioctl n0 40146f2c 0001000000000000030000001400000000000000",
+        b"c0 pes n0 256 frontend tsdemux_tap 20 0",
+    ),
+    (
+        b"c0 ioctl n0 40146f2c ffffffff01000000000000000400000004000000",
+        b"c0 pes n0 65535 dvr decoder 4 4",
+    ),
+    (
+        b"c0 ioctl n0 403c6f2b 00104200000000000000000000000000000aff0000000000000000000000000000f00000000000000000000000000000009effffe803000005000000",
+        b"c0 section n0 4096 1000 5 0=42/ff/00 15=0a/f0/9e",
+    ),
+    (
+        b"c0 ioctl n0 c0106f32 00000000000000000000000000000000",
+        b"c0 ioctl n0 c0106f32 00000000000000000000000000000000",
+    ),
+    (
+        b"c7 ioctl dvr c0106f32 ffffffff2c01000001020304050607ff",
+        b"c7 ioctl dvr c0106f32 ffffffff000000000000000000000000",
+    ),
 ];
 
 // Filters: the line, and what it asks for.
@@ -295,6 +350,10 @@ pub fn short() -> &'static [(&'static [u8], Line)] {
 
 pub fn filters() -> &'static [(&'static [u8], Line)] {
     &FILTERS
+}
+
+pub fn requests() -> &'static [(&'static [u8], &'static [u8])] {
+    &REQUESTS
 }
 
 // Lines with a fault, kind by kind.

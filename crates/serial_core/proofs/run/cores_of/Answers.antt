@@ -24,7 +24,7 @@ clients-init c = rw c.new-cores.ensures.items record { count = refl; after = λ 
 pub clients-preserved : goal.clients-preserved
 clients-preserved c =
     let i = c.clients.invariant in
-    let k = c.in_ok-new.ensures in
+    let k = c.in_ok-new.ensures.after in
     rw c.in_ok-push.ensures.items record {
       count = length-append c.clients.cores.items _ ∙ omega (arith, i.count);
       after = after_push _ c.clients.cores.items _ c.clients.client i.count i.after k;

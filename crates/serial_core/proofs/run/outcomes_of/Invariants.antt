@@ -1,7 +1,7 @@
 use Rattle.std.proofs.Common.{◌≡◌, List, map}
 use Rattle.std.specs.List.{range_with_len}
 use Rattle.client_script.specs.declared.line.Line.{Line}
-use Rattle.client_core.specs.Events.{outcomes}
+use Rattle.client_core.specs.Outcomes.{outcomes}
 use Rattle.serial_core.specs.Inside.Lines.{AreAfter}
 use Rattle.serial_core.specs.SerialRun.{Run, replies_of}
 use Rattle.serial_core.proofs.run.outcomes_of.Given as goal

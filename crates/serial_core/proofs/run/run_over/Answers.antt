@@ -1,7 +1,7 @@
 use Rattle.std.proofs.Common.{◌^◌, ◌≡◌, ◌≢◌, sym, ap, ◌∙◌, ℕ, ◌+◌, ◌≤◌, List, ◌++◌, length, map, Err, inl, inr, true, false, arith}
 use Rattle.std.specs.List.{range_with_len}
 use Rattle.client_script.specs.declared.line.Line.{Line}
-use Rattle.client_core.specs.Events.{outcomes}
+use Rattle.client_core.specs.Outcomes.{outcomes}
 use Rattle.feed_pull.specs.Pulling.{Pulls, has_failed}
 use Rattle.ts_watch.specs.Head.{told_head, head_of}
 use Rattle.feed_pull.specs.declared.fault.Reading.TheVariants.{TooMany}

@@ -90,7 +90,7 @@ fn a_report_is_read_as_what_it_tells(rt: HostRuntime) {
 }
 
 // Reports, each without one or more of the parts.
-static REPORTS: [&str; 8] = [
+static REPORTS: [&str; 9] = [
     lines! { "dvbemu 1", "packets=0 skipped=0 rest=0", "end", },
     lines! { "dvbemu 1", "packets=0 skipped=0 rest=0", "fault read", },
     lines! {
@@ -116,6 +116,15 @@ static REPORTS: [&str; 8] = [
     lines! {
         "dvbemu 1",
         "packets=0 skipped=0 rest=0",
+        "client 0",
+        "line 1 steps 0..0 nostc",
+        "line 2 steps 0..0 stc base=300 value=305",
+        "line 3 steps 0..0 stc base=4294967295 value=18446744073709551615",
+        "end",
+    },
+    lines! {
+        "dvbemu 1",
+        "packets=0 skipped=0 rest=0",
         "node 31",
         "0 c4294967294 0 stop = EBADF",
         "node dvr",
@@ -127,7 +136,7 @@ static REPORTS: [&str; 8] = [
 ];
 
 // Texts that are no report.
-static NO_REPORTS: [&str; 37] = [
+static NO_REPORTS: [&str; 40] = [
     "",
     "\n",
     lines! { "dvbemu 1", },
@@ -155,6 +164,9 @@ static NO_REPORTS: [&str; 37] = [
     lines! { "dvbemu 1", "packets=0 skipped=0 rest=0", "0 c0 0 stop = EBADF", "end", },
     lines! { "dvbemu 1", "packets=0 skipped=0 rest=0", "node 0", "0 c0 0 stop = EBADF", "client 0", "end", },
     lines! { "dvbemu 1", "packets=0 skipped=0 rest=0", "client 0", "line 1 steps 0..1 Done", "end", },
+    lines! { "dvbemu 1", "packets=0 skipped=0 rest=0", "client 0", "line 1 steps 0..0 stc", "end", },
+    lines! { "dvbemu 1", "packets=0 skipped=0 rest=0", "client 0", "line 1 steps 0..0 stc base=4294967296 value=0", "end", },
+    lines! { "dvbemu 1", "packets=0 skipped=0 rest=0", "client 0", "line 1 steps 0..0 stc base=300 value=00", "end", },
     // rows that don't ascend, of no PID, or without a packet
     lines! {
         "dvbemu 1",

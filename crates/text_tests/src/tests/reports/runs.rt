@@ -249,13 +249,49 @@ const CALLED_AFTER_THE_END_REPORT: &str = "dvbemu 1\n\
     2 c1 561 read 1 at=0 = again ended=1\n\
     end\n";
 
+// Questions for system time counters, of which only the last two are answered: by the clock of base 1 and extension 5, and by the
+// greatest number.
+const COUNTERS: Run = Run {
+    outcomes: &[&[
+        command!(1, 0, 0, OutcomeKind::NoStc),
+        command!(
+            2,
+            0,
+            0,
+            OutcomeKind::Stc {
+                base: 300,
+                value: 305,
+            }
+        ),
+        command!(
+            3,
+            0,
+            0,
+            OutcomeKind::Stc {
+                base: u32::MAX,
+                value: u64::MAX,
+            }
+        ),
+    ]],
+    ..EMPTY
+};
+
+const COUNTERS_REPORT: &str = "dvbemu 1\n\
+    packets=0 skipped=0 rest=0\n\
+    client 0\n\
+    line 1 steps 0..0 nostc\n\
+    line 2 steps 0..0 stc base=300 value=305\n\
+    line 3 steps 0..0 stc base=4294967295 value=18446744073709551615\n\
+    end\n";
+
 // Runs, each with its report.
-static REPORTS: [(Run, &str); 6] = [
+static REPORTS: [(Run, &str); 7] = [
     (EMPTY, EMPTY_REPORT),
     (READ_AND_POLLED, READ_AND_POLLED_REPORT),
     (WAITED, WAITED_REPORT),
     (FAILED, FAILED_REPORT),
     (CALLED_AFTER_THE_END, CALLED_AFTER_THE_END_REPORT),
+    (COUNTERS, COUNTERS_REPORT),
     LINES,
 ];
 

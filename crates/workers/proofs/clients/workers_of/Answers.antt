@@ -27,5 +27,5 @@ callers-preserved c =
       are = ap (map (λ (v : ClientWorker). v.client)) now ∙ (map-append (λ (v : ClientWorker). v.client) c.callers.workers.items (w ∷ []) ∙ ap (λ (l : List Caller). l ++ w.client ∷ []) i.are);
       number = ap (λ (n : ℕ). n + 1) i.number ∙ (sym (length-append c.callers.workers.items (w ∷ [])) ∙ sym (ap length now));
       each = each_more (IsFreshWorker c.args.script.now) c.callers.workers.items c.push.new.self.items w c.callers.number now i.number i.each
-          (record { who = refl; core = c.in_ok-core.ensures; log = c.new-in-callers.ensures.items });
+          (record { who = refl; core = c.in_ok-core.ensures.after; log = c.new-in-callers.ensures.items });
     }

@@ -1,0 +1,6 @@
+use Rattle.std.proofs.Common.{◌<◌, take}
+use Rattle.std.specs.List.{All}
+use Rattle.client_script.proofs.requests.look.Given as goal
+
+abbrev pub invariant-bytes : goal.invariant-bytes
+invariant-bytes l = All (λ byte. byte < 256) (take l.byte-index l.bytes)
