@@ -330,12 +330,13 @@ def wrong_parts(lines, packets, report, batch, where):
     return first_of([*found, *wrong_outcomes(report, outcomes, where)])
 
 
-# RULES: 99756206 A report that is checked
-def first_wrong(session, written, batch=None):
+# RULES: 34cc20c6 A report that is checked
+def first_wrong(session, written, batch=None, packet=188):
     """What is wrong first with a report of a run of a session; None where it is right. Its batches have 1 to 64 packets each, or,
-    where a batch is given, all but the last have as many as that. Raises second.Fault where the session's script has one."""
+    where a batch is given, all but the last have as many as that. Each packet takes up so many bytes of the stream. Raises
+    second.Fault where the session's script has one."""
     lines, stream = second.read_script(session)
-    packets, skipped, rest = second.cut(stream)
+    packets, skipped, rest = second.cut(stream, packet)
     text = written.decode("latin-1")
     try:
         report = read(text)
@@ -345,17 +346,17 @@ def first_wrong(session, written, batch=None):
     return wrong_head(report, head(packets, skipped, rest), where) or wrong_parts(lines, packets, report, batch, where)
 
 
-def judge(session, batch, written):
+def judge(session, batch, written, packet=188):
     """None, or what is wrong with a report of a session's `run`."""
-    bad = first_wrong(session, written, batch)
+    bad = first_wrong(session, written, batch, packet)
     return None if bad is None else str(bad)
 
 
 # ------ the command
 
 
-# RULES: 99756206 A report that is checked
-def answer(given):
+# RULES: 34cc20c6 A report that is checked
+def answer(given, packet=188):
     """What `check` gives over this input: its status, its output, and its line on standard error."""
     first = re.match(rb"report (0|[1-9][0-9]*)\n", given[:40])
     if not first or int(first[1]) > MOST_BYTES:
@@ -364,7 +365,7 @@ def answer(given):
     if len(rest) < size:
         return 3, b"", b"dvbemu: script line 0: nostream\n"
     try:
-        bad = first_wrong(rest[size:], rest[:size])
+        bad = first_wrong(rest[size:], rest[:size], packet=packet)
     except second.Fault as fault:
         return 3, b"", f"dvbemu: script line {fault.line}: {fault.kind}\n".encode()
     if bad is None:

@@ -16,17 +16,17 @@ OUTPUTS = ["decoder", "tap", "ts_tap", "tsdemux_tap"]
 # ------ the stream
 
 
-# RULES: 65c34dff The stream
-def cut(stream):
-    """Packets, skipped bytes, rest."""
+# RULES: e9290b7b The stream
+def cut(stream, size=188):
+    """Packets, each of which takes up so many bytes; skipped bytes; rest."""
     packets, skipped, place = [], 0, 0
     while place < len(stream):
         if stream[place] != 0x47:
             skipped += 1
             place += 1
-        elif len(stream) - place >= 188:
+        elif len(stream) - place >= size:
             packets.append(stream[place : place + 188])
-            place += 188
+            place += size
         else:
             return packets, skipped, len(stream) - place
     return packets, skipped, 0
@@ -761,18 +761,18 @@ def pid_rows(packets):
     return rows
 
 
-def run_of(session, batch):
+def run_of(session, batch, packet=188):
     """The run of a session's `steps`, and what was cut of its stream. Raises Fault where its script has one."""
     lines, stream = read_script(session)
-    packets, skipped, rest = cut(stream)
+    packets, skipped, rest = cut(stream, packet)
     run = Run(lines, packets, batch)
     run.run()
     return run, packets, skipped, rest
 
 
-def report(session, batch):
+def report(session, batch, packet=188):
     """The report of a session's `steps`, as text."""
-    run, packets, skipped, rest = run_of(session, batch)
+    run, packets, skipped, rest = run_of(session, batch, packet)
     text = ["dvbemu 1", f"packets={len(packets)} skipped={skipped} rest={rest}", *pid_rows(packets)]
     for client, outcomes in enumerate(run.outcomes):
         text += [f"client {client}", *outcomes]

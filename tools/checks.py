@@ -56,6 +56,12 @@ def example(name):
     return Example(name, words, bytes_of(path + ".session"), bytes_of(path + ".report"))
 
 
+def options_of(words):
+    """The batch that an example's words name, and what a packet takes up: they are `steps --batch B`, or `steps --batch B --packet P`."""
+    named = dict(zip(words[1::2], words[2::2]))
+    return int(named["--batch"]), int(named.get("--packet", "188"))
+
+
 def files(ending):
     """The files of examples/ with this ending, without it: `rules/one-tap`, .."""
     paths = glob.glob(os.path.join(glob.escape(EXAMPLES), "*", "*" + ending))

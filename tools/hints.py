@@ -32,6 +32,7 @@ RULES = {
     "late in run": ("The threads of `run`", "In which order the calls of two callers come is open."),
     "late on dvr": ("The dvr node", "Its items are the packets of the frontend that pass while it goes on"),
     "skipped": ("Cutting", "At any other byte, this one byte is skipped."),
+    "other size": ("Cutting", "The word `--packet` names P, and without it P is 188."),
     "unbound": ("What a client's commands do", "A command other than `open` on a slot that is bound to no node makes no call"),
 }
 
@@ -103,7 +104,11 @@ def words(stumble):
         return late_words(stumble)
     if stumble.kind == "skipped":
         of = f"{facts['skipped']:,} of the {many(facts['whole'], 'byte')} were skipped"
-        return f"{of}: what stands behind the line `stream` isn't a stream of packets of 188 bytes that begin with 0x47"
+        what = "isn't a stream of packets that begin with 0x47 and take up 188 bytes each, or 204 with `--packet 204`"
+        return f"{of}: what stands behind the line `stream` {what}"
+    if stumble.kind == "other size":
+        of = f"{many(facts['skipped'], 'byte')} were skipped at {many(facts['packets'], 'packet')}"
+        return f"{of}, as where packets take up {facts['size']} bytes of the stream: try `--packet {facts['size']}`"
     if stumble.kind == "unbound":
         return "the command names a slot that no open has bound, so it makes no call"
     return pid_words(stumble)

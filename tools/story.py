@@ -68,6 +68,16 @@ class Stumble:
 # ------ the nodes gone through
 
 
+def other_size(packets, skipped):
+    """What the packets of a stream seem to take up, where it was read by the other number; None where they don't. Of packets of 204 bytes
+    16 are skipped each, where none of these is a sync byte; of packets of 188 bytes that are read as 204, 172 behind each that is found."""
+    if packets < 4:
+        return None
+    if 14 * packets <= skipped <= 20 * packets:
+        return 204
+    return 188 if 160 * packets <= skipped <= 184 * packets else None
+
+
 class Story:
     """A report gone through: its clients by number, and the stumbles."""
 
@@ -95,10 +105,14 @@ class Story:
         return self.clients[int(entry.who[1])].line_of(entry.step)
 
     def look_at_skipped(self):
-        """Notes that most of the stream's bytes were skipped."""
+        """Notes that so many bytes were skipped for each packet as where packets take up another number of bytes, or else that most of the
+        stream's bytes were skipped."""
         report = self.report
         whole = PACKET * report.packets + report.skipped + report.rest
-        if 2 * report.skipped > whole:
+        size = other_size(report.packets, report.skipped)
+        if size:
+            self.stumble("other size", None, None, None, skipped=report.skipped, packets=report.packets, size=size)
+        elif 2 * report.skipped > whole:
             self.stumble("skipped", None, None, None, skipped=report.skipped, whole=whole)
 
     def look_at_slots(self, client):

@@ -19,8 +19,8 @@
 //! by its run and by these scripts.
 #![tactic(auto)]
 
-ghost use Rattle.std.specs.Prelude.{◌≡◌, ◌<◌, ◌+◌, ◌^◌, length, slice_index, sum_by, IfOk, OnOk};
-ghost use Rattle.ts_packet.specs.Cutting.{bytes_taken};
+ghost use Rattle.std.specs.Prelude.{◌≡◌, ◌<◌, ◌≤◌, ◌+◌, ◌^◌, length, slice_index, sum_by, IfOk, OnOk};
+ghost use Rattle.ts_packet.specs.Cutting.{bytes_counted};
 
 mod sections;
 mod station;
@@ -32,7 +32,7 @@ use std::io::Read;
 use std::marker::Brand;
 use std::sync::ledger::{Blank, Ledger};
 use std::{env, io};
-use ts_packet::{Cutter, PacketBuf};
+use ts_packet::{Cutter, PacketBuf, PacketSize};
 
 // The bytes asked of one read.
 const READ: usize = 65536;
@@ -80,7 +80,7 @@ impl<L: Ledger> Path<L> {
         blank: Blank,
     ) -> Result<Path<L>, NoMemory>
         requires ledger { (blank.name ≡ L.name) × (blank.parts ≡ L.parts) × (0 < L.parts) }
-        ensures taken { IfOk result (λ path. bytes_taken path.cutter ≡ 0) }
+        ensures counted { IfOk result (λ path. bytes_counted path.cutter ≡ 0) }
     {
         let sections = if way == Way::Sections || way == Way::All {
             Some(Sections::new(alloc)?)
@@ -93,7 +93,7 @@ impl<L: Ledger> Path<L> {
             None
         };
         Ok(Path {
-            cutter: Cutter::new(),
+            cutter: Cutter::new(PacketSize::Of188),
             packets: PacketBuf::new(),
             sum: 0,
             sections,
@@ -117,8 +117,8 @@ impl<L: Ledger> Path<L> {
 
     // Gives the whole piece to the cutter, and its packets go on.
     fn cut_all(&mut self, piece: &[u8]) -> Result<(), NoMemory>
-        requires few { bytes_taken self.old.cutter + length piece.now < 2 ^ 63 }
-        ensures taken { OnOk result (bytes_taken self.new.cutter ≡ bytes_taken self.old.cutter + length piece.now) }
+        requires few { bytes_counted self.old.cutter + length piece.now < 2 ^ 63 }
+        ensures counted { OnOk result (bytes_counted self.new.cutter ≤ bytes_counted self.old.cutter + length piece.now) }
     {
         let mut rest = piece;
         'pieces: while !rest.is_empty() {
@@ -143,7 +143,7 @@ impl<L: Ledger> Path<L> {
 
 // The whole stream goes its way.
 fn read_all<L: Ledger>(rt: &HostRuntime, path: &mut Path<L>, way: Way) -> anyhow::Result<()>
-    requires new { bytes_taken path.old.cutter ≡ 0 }
+    requires new { bytes_counted path.old.cutter ≡ 0 }
 {
     let mut input = rt.stdin();
     let mut chunk = [0; READ];

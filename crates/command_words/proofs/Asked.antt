@@ -8,30 +8,35 @@ use Rattle.clap.specs.declared.error.kind.ErrorKind.{ErrorKind}
 use Rattle.clap.specs.declared.error.kind.ErrorKind.TheVariants.{OutOfMemory}
 use Rattle.clap.specs.declared.parser.matches.ArgMatches.{ArgMatches}
 use Rattle.clap.proofs.WalkLemmas.{first_value-rows}
-use Rattle.command_words.specs.Inside.Reader.{answer, batch_by, options, unless}
+use Rattle.command_words.specs.Meant.{Texts, options_by}
+use Rattle.command_words.specs.declared.options.Options.{Options}
+use Rattle.command_words.specs.Inside.Reader.{answer, reader, texts_in, unless}
 
-simple : is_simple options ≡ true
+simple : is_simple reader ≡ true
 simple = refl
 
-free : is_simple_and_free options ≡ true
+free : is_simple_and_free reader ≡ true
 free = refl
 
-pub by_matches : (reader : Command) (m : ArgMatches) (words : List (List ℕ)) (value : Option (List ℕ)) → app_of reader ≡ options → HasMatchesOf (app_of reader) words m
-    → (is_simple_and_free (app_of reader) ≡ true → fault_of (app_of reader) words ≡ []) → value ≡ first_value (found_of m) (codes "batch") → batch_by value ≡ answer words
-by_matches reader m words value is has kinds got =
-    let rows : rows_of (found_of m) ≡ matches_of options words = (has (ap is_simple is ∙ simple)).0 ∙ ap (λ a. matches_of a words) is in
-    let fault : fault_of options words ≡ [] = sym (ap (λ a. fault_of a words) is) ∙ kinds (ap is_simple_and_free is ∙ free) in
-    let first : value ≡ first_of (codes "batch") (matches_of options words) = got ∙ (first_value-rows (found_of m) (codes "batch") ∙ ap (first_of (codes "batch")) rows) in
-    ap batch_by first ∙ sym (ap (λ k. unless k (batch_by (first_of (codes "batch") (matches_of options words)))) fault)
+module _ (command : Command) (words : List (List ℕ)) (is : app_of command ≡ reader) where
+  pub by_matches : (m : ArgMatches) (batch packet : Option (List ℕ)) → HasMatchesOf (app_of command) words m
+      → (is_simple_and_free (app_of command) ≡ true → fault_of (app_of command) words ≡ []) → batch ≡ first_value (found_of m) (codes "batch")
+      → packet ≡ first_value (found_of m) (codes "packet") → options_by (record { batch = batch; packet = packet }) ≡ answer words
+  by_matches m batch packet has kinds got_batch got_packet =
+      let rows : rows_of (found_of m) ≡ matches_of reader words = (has (ap is_simple is ∙ simple)).0 ∙ ap (λ a. matches_of a words) is in
+      let fault : fault_of reader words ≡ [] = sym (ap (λ a. fault_of a words) is) ∙ kinds (ap is_simple_and_free is ∙ free) in
+      let b : batch ≡ first_of (codes "batch") (matches_of reader words) = got_batch ∙ (first_value-rows (found_of m) (codes "batch") ∙ ap (first_of (codes "batch")) rows) in
+      let p : packet ≡ first_of (codes "packet") (matches_of reader words) = got_packet ∙ (first_value-rows (found_of m) (codes "packet") ∙ ap (first_of (codes "packet")) rows) in
+      let texts : (let t : Texts = record { batch = batch; packet = packet } in t) ≡ texts_in words = rw (b, p) refl in
+      ap options_by texts ∙ sym (ap (λ k. unless k (options_by (texts_in words))) fault)
 
-among : (kinds : Kinds) (k : ErrorKind) (batch : Option ℕ) → IsAmong k kinds → None ≡ unless kinds batch
-among [] k batch is = absurd is
-among (x ∷ xs) k batch is = refl
+  among : (kinds : Kinds) (k : ErrorKind) (options : Option Options) → IsAmong k kinds → None ≡ unless kinds options
+  among [] k options is = absurd is
+  among (x ∷ xs) k options is = refl
 
-pub by_fault : (reader : Command) (e : Error) (words : List (List ℕ)) → app_of reader ≡ options → (is_simple_and_free (app_of reader) ≡ true → HasKind (fault_of (app_of reader) words) e)
-    → kind_of e ≢ OutOfMemory → None ≡ answer words
-by_fault reader e words is kinds other =
-    ⊎_elim (λ m. absurd (other m))
-    (λ a. among (fault_of (app_of reader) words) (kind_of e) (batch_by (first_of (codes "batch") (matches_of options words))) a
-    ∙ ap (λ x. unless (fault_of x words) (batch_by (first_of (codes "batch") (matches_of options words)))) is)
-    (kinds (ap is_simple_and_free is ∙ free))
+  pub by_fault : (e : Error) → (is_simple_and_free (app_of command) ≡ true → HasKind (fault_of (app_of command) words) e) → kind_of e ≢ OutOfMemory → None ≡ answer words
+  by_fault e kinds other =
+      ⊎_elim (λ m. absurd (other m))
+      (λ a. among (fault_of (app_of command) words) (kind_of e) (options_by (texts_in words)) a
+      ∙ ap (λ x. unless (fault_of x words) (options_by (texts_in words))) is)
+      (kinds (ap is_simple_and_free is ∙ free))

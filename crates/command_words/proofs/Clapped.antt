@@ -1,25 +1,26 @@
--- What clap makes of at most two words is what they mean.
-use Rattle.std.proofs.Common.{◌≡◌, ◌≤◌, ◌<◌, ◌∙◌, ◌||◌, refl, sym, ap, ℕ, cond, List, [], ◌∷◌, ◌++◌, Bool, true, false, true≢false, length, take, drop, Option, Some, None, codes, map, ◌⊎◌, ⊎_elim, inl, inr, arith}
-use Rattle.std.specs.Prelude.{slice_get}
+-- What clap makes of the options is what they mean.
+use Rattle.std.proofs.Common.{◌≡◌, ◌∙◌, refl, sym, ap, ℕ, List, [], ◌∷◌, ◌++◌, true, false, Option, Some, None, codes, map}
+use Rattle.std.specs.Prelude.{slice_get, option_and_then}
 use Rattle.std.specs.List.{list_any}
 use Rattle.std.specs.Str.{bytes_eq, chars}
-use Rattle.std.proofs.lemmas.Slice.Eq.{bytes_eq-Decides}
-use Rattle.std.proofs.lemmas.List.{length-map}
 use Rattle.std.proofs.lemmas.Bool.{or_parts}
 use Rattle.clap.proofs.WalkLemmas.{list_any-map}
 use Rattle.clap.specs.Lexer.{long_of, short_of}
-use Rattle.command_words.specs.Meant.{batch_apart, batch_joined, batch_of}
+use Rattle.clap.specs.Walk.{Row, Text, has_row, idle, option}
+use Rattle.command_words.specs.Meant.{Texts, no_texts, options_by, options_of, texts_by}
+use Rattle.command_words.specs.declared.options.Options.{Options}
 use Rattle.command_words.specs.Inside.Reader.{answer}
-use Rattle.command_words.proofs.Spelled.{bare_is, hyphen_number, joined_is, long_letters, other_name, short_flags, short_hyphen}
-use Rattle.command_words.proofs.Walks.{bare_alone, bare_joined, bare_twice, empty_first, empty_late, empty_second, flag_first, flag_late, flag_second, joined_alone, joined_bare, joined_twice, long_first, long_late, long_second, no_words, plain_first, plain_late, plain_second}
-use Rattle.text_forms.specs.Numbers.{number_between}
-use Rattle.text_forms.specs.Words.{is_word}
+use Rattle.command_words.proofs.Spelled.{long_letters, other_batch, other_packet, short_flags, short_hyphen}
+use Rattle.command_words.proofs.Texts.{IsOther, IsRefused, alone, bare_texts, dashes_fail, has_dashes, hyphen_refused, joined_texts, kind_of_word, neither, other_texts, refused_text, text_behind, with_its_text}
+use Rattle.command_words.proofs.Walks.{Gives, Stands, State, Which, again_bare, again_end, again_joined, answer_from, apart_stands, bare, before, begun, empty_refused, empty_taken, ended, flag_refused, from_first, full, gives_again, gives_new, joined_gives, long_refused, batch, begun_bare, begun_end, begun_joined, name_of, none, one, opened, other, packet, plain_refused, plain_taken, row, rows_of, standing, stands_again, stands_new, texts_of, two, walk_of, with_text}
 
--- a word is `--batch`, begins with `--batch=`, or is another long word, a flag or a plain word
-module _ (word : List ℕ) (G : Type 0)
-    (bare : is_word word (codes "--batch") ≡ true → G)
-    (joined : is_word (take 8 word) (codes "--batch=") ≡ true → G)
-    (long : (name : List ℕ) (value : Option (List ℕ)) → long_of word ≡ Some (name, value) → bytes_eq (codes "batch") name ≡ false → G)
+-- what these texts ask for
+abbrev asked : Option Texts → Option Options
+asked o = option_and_then options_by o
+
+-- a word that is no option is another long word, a flag, or a plain word
+module _ (word : Text) (is : IsOther word) (G : Type 0)
+    (long : (name : Text) (value : Option Text) → long_of word ≡ Some (name, value) → bytes_eq (codes "batch") name ≡ false → bytes_eq (codes "packet") name ≡ false → G)
     (flag : (f x : ℕ) (fs : List ℕ) → long_of word ≡ None → short_of word ≡ Some (f ∷ fs) → slice_get (chars (f ∷ fs)) 0 ≡ Some x → G)
     (empty : (f : ℕ) (fs : List ℕ) → long_of word ≡ None → short_of word ≡ Some (f ∷ fs) → slice_get (chars (f ∷ fs)) 0 ≡ None → G)
     (plain : long_of word ≡ None → short_of word ≡ None → G) where
@@ -27,132 +28,105 @@ module _ (word : List ℕ) (G : Type 0)
   at_letters f fs None l s e = empty f fs l s e
   at_letters f fs (Some x) l s e = flag f x fs l s e
 
-  at_short : (o : Option (List ℕ)) → long_of word ≡ None → short_of word ≡ o → G
+  at_short : (o : Option Text) → long_of word ≡ None → short_of word ≡ o → G
   at_short None l s = plain l s
   at_short (Some flags) l s =
       let some = short_flags word flags s in
       at_letters some.0 some.1 (slice_get (chars (some.0 ∷ some.1)) 0) l (s ∙ ap (λ t. Some t) some.2) refl
 
-  at_long : (o : Option (List ℕ × Option (List ℕ))) → is_word word (codes "--batch") ≡ false → is_word (take 8 word) (codes "--batch=") ≡ false → long_of word ≡ o → G
-  at_long None b j l = at_short (short_of word) l refl
-  at_long (Some p) b j l = long p.0 p.1 l (other_name word p.0 p.1 l b j)
+  at_long : (o : Option (Text × Option Text)) → long_of word ≡ o → G
+  at_long None l = at_short (short_of word) l refl
+  at_long (Some r) l = long r.0 r.1 l (other_batch word r.0 r.1 l is.batch is.batch_joined) (other_packet word r.0 r.1 l is.packet is.packet_joined)
 
-  at_joined : (b : Bool) → is_word word (codes "--batch") ≡ false → is_word (take 8 word) (codes "--batch=") ≡ b → G
-  at_joined true b j = joined j
-  at_joined false b j = at_long (long_of word) b j refl
+  by_letters : G
+  by_letters = at_long (long_of word) refl
 
-  at_bare : (b : Bool) → is_word word (codes "--batch") ≡ b → G
-  at_bare true b = bare b
-  at_bare false b = at_joined (is_word (take 8 word) (codes "--batch=")) b refl
+-- where nothing waits for a text, such a word is refused
+other_refused : (word : Text) (ws : List Text) → bytes_eq word (45 ∷ 45 ∷ []) ≡ false → IsOther word → (rows : List Row) (pending : Option (Text × List Text))
+    → answer_from (standing rows pending idle) (word ∷ ws) ≡ None
+other_refused word ws dashes is rows pending = by_letters word is (answer_from (standing rows pending idle) (word ∷ ws) ≡ None)
+    (λ name value l b p. long_refused word ws dashes rows pending idle name value l b p)
+    (λ f x fs l s e. flag_refused word ws dashes rows pending idle f x fs l s e)
+    (λ f fs l s e. empty_refused word ws dashes rows pending f fs l s e)
+    (λ l s. plain_refused word ws dashes rows pending l s)
 
-  pub by_letters : G
-  by_letters = at_bare (is_word word (codes "--batch")) refl
+-- an option that was given before is refused whatever stands behind it
+given_again : (rows : List Row) (n : Which) (v : Text) → has_row (name_of n) rows ≡ true → (ws : List Text) → has_dashes ws ≡ false → answer_from (full rows n v) ws ≡ None
+given_again rows n v has [] dashes = again_end rows v n has
+given_again rows n v has (word ∷ ws) dashes = elim (kind_of_word word) [
+  | alone m e ↦ ap (λ w. answer_from (full rows n v) (w ∷ ws)) e ∙ again_bare rows v n m ws has
+  | with_its_text m u e ↦ ap (λ w. answer_from (full rows n v) (w ∷ ws)) e ∙ again_joined rows v n m u ws has
+  | neither is ↦ other_refused word ws (or_parts _ _ dashes).0 is rows (Some (name_of n, v ∷ []))
+]
 
--- a word with a hyphen before it is no number
-hyphen_word : (word t : List ℕ) → word ≡ 45 ∷ t → None ≡ number_between 1 64 word
-hyphen_word word t is = sym (ap (λ w. number_between 1 64 w) is ∙ hyphen_number t)
+-- what the rest of the words comes to, where nothing waits and where an option waits for its text
+AnswersAll : List Text → Type 0
+AnswersAll words = ((s : State) → answer_from (walk_of s) words ≡ asked (texts_by (texts_of s) words))
+    × ((s : State) (n : Which) → answer_from (begun (rows_of s) n) words ≡ asked (text_behind n (texts_of s) words))
 
--- behind `--batch`
-pub behind_bare : (number : List ℕ) → bytes_eq number (45 ∷ 45 ∷ []) ≡ false → answer (codes "--batch" ∷ number ∷ []) ≡ number_between 1 64 number
-behind_bare number dashes = by_letters number (answer (codes "--batch" ∷ number ∷ []) ≡ number_between 1 64 number)
-    (λ b. ap (λ w. answer (codes "--batch" ∷ w ∷ [])) (bare_is number b) ∙ (bare_twice ∙ hyphen_word number _ (bare_is number b)))
-    (λ j. ap (λ w. answer (codes "--batch" ∷ w ∷ [])) (joined_is number j) ∙ (bare_joined (drop 8 number) ∙ hyphen_word number _ (joined_is number j)))
-    (λ name value l o. long_second number dashes name value l o ∙ hyphen_word number _ (long_letters number name value l))
-    (λ f x fs l s e. flag_second number dashes f x fs l s e ∙ hyphen_word number (short_hyphen number (f ∷ fs) s).0 (short_hyphen number (f ∷ fs) s).1)
-    (λ f fs l s e. empty_second number dashes f fs l s e)
-    (λ l s. plain_second number dashes l s)
+module _ (ws : List Text) (fine : has_dashes ws ≡ false) (more : AnswersAll ws) where
+  gives : (s : State) (n : Which) (v : Text) (a : Option Options) → Gives s n v ws a → a ≡ asked (option_and_then (λ g. texts_by g ws) (with_text n v (texts_of s)))
+  unfolding AnswersAll
+  gives s n v a (gives_new t e given) = e ∙ (more.0 t ∙ ap (λ o. asked (option_and_then (λ g. texts_by g ws) o)) (sym given))
+  gives s n v a (gives_again given e) = e ∙ ap (λ o. asked (option_and_then (λ g. texts_by g ws) o)) (sym given)
 
--- behind `--batch=B`
-pub behind_joined : (v number : List ℕ) → bytes_eq number (45 ∷ 45 ∷ []) ≡ false → answer ((codes "--batch=" ++ v) ∷ number ∷ []) ≡ None
-behind_joined v number dashes = by_letters number (answer ((codes "--batch=" ++ v) ∷ number ∷ []) ≡ None)
-    (λ b. ap (λ w. answer ((codes "--batch=" ++ v) ∷ w ∷ [])) (bare_is number b) ∙ joined_bare v)
-    (λ j. ap (λ w. answer ((codes "--batch=" ++ v) ∷ w ∷ [])) (joined_is number j) ∙ joined_twice v (drop 8 number))
-    (λ name value l o. long_late number dashes v name value l o)
-    (λ f x fs l s e. flag_late number dashes v f x fs l s e)
-    (λ f fs l s e. empty_late number dashes v f fs l s e)
-    (λ l s. plain_late number dashes v l s)
+  stands : (s : State) (n : Which) (v : Text) → Stands s n v → answer_from (full (rows_of s) n v) ws ≡ asked (text_behind n (texts_of s) (v ∷ ws))
+  unfolding AnswersAll
+  stands s n v (stands_new t e given) = ap (λ w. answer_from w ws) (sym e) ∙ (more.0 t ∙ ap (λ o. asked (option_and_then (λ g. texts_by g ws) o)) (sym given))
+  stands s n v (stands_again given has) = given_again (rows_of s) n v has ws fine ∙ ap (λ o. asked (option_and_then (λ g. texts_by g ws) o)) (sym given)
 
--- behind another word
-pub other_refused : (word : List ℕ) (words : List (List ℕ)) → bytes_eq word (45 ∷ 45 ∷ []) ≡ false → is_word word (codes "--batch") ≡ false
-    → is_word (take 8 word) (codes "--batch=") ≡ false → answer (word ∷ words) ≡ None
-other_refused word words dashes bare joined = by_letters word (answer (word ∷ words) ≡ None)
-    (λ b. absurd (true≢false (sym b ∙ bare)))
-    (λ j. absurd (true≢false (sym j ∙ joined)))
-    (λ name value l o. long_first word words dashes name value l o)
-    (λ f x fs l s e. flag_first word words dashes f x fs l s e)
-    (λ f fs l s e. empty_first word words dashes f fs l s e)
-    (λ l s. plain_first word words dashes l s)
+  module _ (word : Text) (dashes : bytes_eq word (45 ∷ 45 ∷ []) ≡ false) where
+    idle_refused : (s : State) → IsOther word → answer_from (walk_of s) (word ∷ ws) ≡ None
+    idle_refused none is = other_refused word ws dashes is [] None
+    idle_refused (one n true t) is = other_refused word ws dashes is [] (Some (name_of n, t ∷ []))
+    idle_refused (one n false t) is = other_refused word ws dashes is (row n t ∷ []) None
+    idle_refused (two n true t u) is = other_refused word ws dashes is (row n t ∷ []) (Some (name_of (other n), u ∷ []))
+    idle_refused (two n false t u) is = other_refused word ws dashes is (row n t ∷ row (other n) u ∷ []) None
 
--- one word
-one_word : (word : List ℕ) (b j : Bool) → bytes_eq word (45 ∷ 45 ∷ []) ≡ false → is_word word (codes "--batch") ≡ b → is_word (take 8 word) (codes "--batch=") ≡ j
-    → answer (word ∷ []) ≡ batch_of (word ∷ [])
-unfolding batch_of batch_joined
-one_word word b true dashes e e' = rw e' (ap (λ w. answer (w ∷ [])) (joined_is word e') ∙ joined_alone (drop 8 word))
-one_word word true false dashes e e' = rw e' (ap (λ w. answer (w ∷ [])) (bare_is word e) ∙ bare_alone)
-one_word word false false dashes e e' = rw e' (other_refused word [] dashes e e')
+    bare_refused : (m : Which) → word ≡ bare m → IsRefused word
+    bare_refused batch e = hyphen_refused word _ e
+    bare_refused packet e = hyphen_refused word _ e
 
--- two words
-two_words : (word number : List ℕ) (b j : Bool) → bytes_eq word (45 ∷ 45 ∷ []) ≡ false → bytes_eq number (45 ∷ 45 ∷ []) ≡ false
-    → is_word word (codes "--batch") ≡ b → is_word (take 8 word) (codes "--batch=") ≡ j → answer (word ∷ number ∷ []) ≡ batch_of (word ∷ number ∷ [])
-unfolding batch_of batch_apart
-two_words word number true j d d' e e' = rw e (ap (λ w. answer (w ∷ number ∷ [])) (bare_is word e) ∙ behind_bare number d')
-two_words word number false true d d' e e' = rw e (ap (λ w. answer (w ∷ number ∷ [])) (joined_is word e') ∙ behind_joined (drop 8 word) number d')
-two_words word number false false d d' e e' = rw e (other_refused word (number ∷ []) d e e')
+    before_refused : (m : Which) (v : Text) → word ≡ before m ++ v → IsRefused word
+    before_refused batch v e = hyphen_refused word _ e
+    before_refused packet v e = hyphen_refused word _ e
 
-pub answers : (words : List (List ℕ)) → length words ≤ 2 → list_any (λ word. bytes_eq word (45 ∷ 45 ∷ [])) words ≡ false → answer words ≡ batch_of words
-unfolding batch_of
-answers [] few none = no_words
-answers (word ∷ []) few none = one_word word (is_word word (codes "--batch")) (is_word (take 8 word) (codes "--batch=")) (or_parts _ _ none).0 refl refl
-answers (word ∷ number ∷ []) few none =
-    two_words word number (is_word word (codes "--batch")) (is_word (take 8 word) (codes "--batch=")) (or_parts _ _ none).0 (or_parts _ _ (or_parts _ _ none).1).0 refl refl
-answers (word ∷ number ∷ more ∷ words) few none = absurd (omega arith)
+    -- an option, or a word that is refused
+    word_next : (s : State) → answer_from (walk_of s) (word ∷ ws) ≡ asked (texts_by (texts_of s) (word ∷ ws))
+    unfolding AnswersAll
+    word_next s = elim (kind_of_word word) [
+      | alone n e ↦ ap (λ w. answer_from (walk_of s) (w ∷ ws)) e ∙ (opened s n ws ∙ (more.1 s n ∙ (ap asked (sym (bare_texts n (texts_of s) ws)) ∙ ap (λ w. asked (texts_by (texts_of s) (w ∷ ws))) (sym e))))
+      | with_its_text n v e ↦ ap (λ w. answer_from (walk_of s) (w ∷ ws)) e ∙ (gives s n v _ (joined_gives s n v ws) ∙ (ap asked (sym (joined_texts n v (texts_of s) ws)) ∙ ap (λ w. asked (texts_by (texts_of s) (w ∷ ws))) (sym e)))
+      | neither is ↦ idle_refused s is ∙ ap asked (sym (other_texts word is (texts_of s) ws))
+    ]
 
--- more words than two
-pub many : {X : Type 0} (f : X → List ℕ) (words : List X) → 2 < length words → None ≡ batch_of (map f words)
-unfolding batch_of
-many f [] more = absurd (omega arith)
-many f (a ∷ []) more = absurd (omega arith)
-many f (a ∷ b ∷ []) more = absurd (omega arith)
-many f (a ∷ b ∷ c ∷ words) more = refl
+    -- a text, or a word that is refused
+    text_next : (s : State) (n : Which) → answer_from (begun (rows_of s) n) (word ∷ ws) ≡ asked (text_behind n (texts_of s) (word ∷ ws))
+    text_next s n = elim (kind_of_word word) [
+      | alone m e ↦ ap (λ w. answer_from (begun (rows_of s) n) (w ∷ ws)) e ∙ (begun_bare (rows_of s) n m ws ∙ sym (refused_text n word (bare_refused m e) (texts_of s) ws))
+      | with_its_text m v e ↦ ap (λ w. answer_from (begun (rows_of s) n) (w ∷ ws)) e ∙ (begun_joined (rows_of s) n m v ws ∙ sym (refused_text n word (before_refused m v e) (texts_of s) ws))
+      | neither is ↦ by_letters word is (answer_from (begun (rows_of s) n) (word ∷ ws) ≡ asked (text_behind n (texts_of s) (word ∷ ws)))
+          (λ name value l b p. long_refused word ws dashes (rows_of s) _ (option (name_of n)) name value l b p ∙ sym (refused_text n word (hyphen_refused word _ (long_letters word name value l)) (texts_of s) ws))
+          (λ f x fs l c e. flag_refused word ws dashes (rows_of s) _ (option (name_of n)) f x fs l c e ∙ sym (refused_text n word (hyphen_refused word _ (short_hyphen word (f ∷ fs) c).1) (texts_of s) ws))
+          (λ f fs l c e. empty_taken word ws dashes (rows_of s) f fs l c e n ∙ stands s n word (apart_stands s n word))
+          (λ l c. plain_taken word ws dashes (rows_of s) n l c ∙ stands s n word (apart_stands s n word))
+    ]
 
-or_true : (a b : Bool) → (a || b) ≡ true → (a ≡ true) ⊎ (b ≡ true)
-or_true true b e = inl refl
-or_true false b e = inr e
+answers_all : (ws : List Text) → has_dashes ws ≡ false → AnswersAll ws
+unfolding AnswersAll texts_by
+answers_all [] e = (λ s. ended s, λ s n. begun_end (rows_of s) n)
+answers_all (word ∷ ws) e =
+    let p = or_parts _ _ e in
+    let more = answers_all ws p.1 in
+    (λ s. word_next ws p.1 more word p.0 s, λ s n. text_next ws p.1 more word p.0 s n)
 
-joined_dashes : batch_joined (codes "--") ≡ None
-unfolding batch_joined
-joined_dashes = refl
+-- the word `--` isn't among them
+pub clapped : {X : Type 0} (f : X → List ℕ) (words : List X) → list_any (λ word. bytes_eq (f word) (codes "--")) words ≡ false
+    → answer (map f words) ≡ options_of (map f words)
+unfolding AnswersAll options_of
+clapped f words e = from_first (map f words) ∙ (answers_all (map f words) (sym (list_any-map (λ word. bytes_eq word (codes "--")) f words) ∙ e)).0 none
 
-none_either_way : (b : Bool) (n : Option ℕ) → n ≡ None → None ≡ cond b n None
-none_either_way true n e = sym e
-none_either_way false n e = refl
-
-apart_dashes : (word number : List ℕ) → bytes_eq number (45 ∷ 45 ∷ []) ≡ true → None ≡ batch_apart word number
-unfolding batch_apart
-apart_dashes word number e = none_either_way (is_word word (codes "--batch")) (number_between 1 64 number)
-    (ap (λ n. number_between 1 64 n) ((bytes_eq-Decides number (45 ∷ 45 ∷ [])).0 e) ∙ hyphen_number (45 ∷ []))
-
-dashes_apart : (word number : List ℕ) → bytes_eq word (45 ∷ 45 ∷ []) ≡ true → None ≡ batch_apart word number
-unfolding batch_apart
-dashes_apart word number e =
-    let none : batch_apart (codes "--") number ≡ None = refl in
-    sym (ap (λ w. batch_apart w number) ((bytes_eq-Decides word (45 ∷ 45 ∷ [])).0 e) ∙ none)
-
-dashed_words : (words : List (List ℕ)) → list_any (λ word. bytes_eq word (45 ∷ 45 ∷ [])) words ≡ true → None ≡ batch_of words
-unfolding batch_of
-dashed_words [] e = absurd (true≢false (sym e))
-dashed_words (word ∷ []) e = ⊎_elim
-    (λ h. sym (ap (λ w. batch_joined w) ((bytes_eq-Decides word (45 ∷ 45 ∷ [])).0 h) ∙ joined_dashes))
-    (λ h. absurd (true≢false (sym h))) (or_true _ _ e)
-dashed_words (word ∷ number ∷ []) e = ⊎_elim (λ h. dashes_apart word number h)
-    (λ h. ⊎_elim (λ h'. apart_dashes word number h') (λ h'. absurd (true≢false (sym h'))) (or_true _ _ h)) (or_true _ _ e)
-dashed_words (word ∷ number ∷ more ∷ words) e = refl
-
--- the word `--` among them
-pub dashed : {X : Type 0} (f : X → List ℕ) (words : List X) → list_any (λ word. bytes_eq (f word) (codes "--")) words ≡ true → None ≡ batch_of (map f words)
-dashed f words e = dashed_words (map f words) (sym (list_any-map (λ word. bytes_eq word (codes "--")) f words) ∙ e)
-
--- no more than two, and not that word
-pub clapped : {X : Type 0} (f : X → List ℕ) (words : List X) → length words ≤ 2 → list_any (λ word. bytes_eq (f word) (codes "--")) words ≡ false
-    → answer (map f words) ≡ batch_of (map f words)
-clapped f words few e = answers (map f words) (omega (arith, length-map words f)) (sym (list_any-map (λ word. bytes_eq word (codes "--")) f words) ∙ e)
+-- it is
+pub dashed : {X : Type 0} (f : X → List ℕ) (words : List X) → list_any (λ word. bytes_eq (f word) (codes "--")) words ≡ true → None ≡ options_of (map f words)
+unfolding options_of
+dashed f words e = sym ((dashes_fail (map f words) (sym (list_any-map (λ word. bytes_eq word (codes "--")) f words) ∙ e)).0 no_texts)

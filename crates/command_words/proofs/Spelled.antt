@@ -1,4 +1,4 @@
--- What clap makes of a word's letters: `--batch`, `--batch=` before a value, and all other words.
+-- What clap makes of a word's letters: an option, an option and `=` before a text, and all other words.
 use Rattle.std.proofs.Common.{◌≡◌, ◌+◌, ◌==◌, ◌&&◌, refl, ap, sym, ◌∙◌, ℕ, suc, cond, List, [], ◌∷◌, ◌++◌, Bool, true, false, not, true≢false, length, take, drop, Option, Some, None, codes, arith}
 use Rattle.std.proofs.lemmas.List.{take-append-drop}
 use Rattle.std.proofs.lemmas.Slice.Eq.{bytes_eq-Decides}
@@ -11,6 +11,7 @@ use Rattle.std.specs.Str.{bytes_eq}
 use Rattle.clap.specs.Lexer.{has_byte, long_of, long_of_rest, name_and_value, short_of, short_of_rest, strip_byte}
 use Rattle.text_forms.specs.Numbers.{has_leading_zero, number_between, value_of}
 use Rattle.text_forms.specs.Words.{is_word}
+use Rattle.command_words.specs.Meant.{packet_size}
 
 -- the letters of a long word behind its two hyphens
 abbrev pub letters : List ℕ → Option (List ℕ) → List ℕ
@@ -97,24 +98,39 @@ no_number false b c n = refl
 pub hyphen_number : (t : List ℕ) → number_between 1 64 (45 ∷ t) ≡ None
 hyphen_number t = no_number (nat_lt 0 (length (45 ∷ t))) (has_leading_zero (45 ∷ t)) (nat_le 1 (value_of (45 ∷ t)) && nat_le (value_of (45 ∷ t)) 64) (Some (value_of (45 ∷ t)))
 
--- another word isn't the option
-other_at : (word : List ℕ) (value : Option (List ℕ)) → word ≡ 45 ∷ 45 ∷ letters (codes "batch") value → is_word word (codes "--batch") ≡ false
-    → is_word (take 8 word) (codes "--batch=") ≡ false → ⊥
-other_at word None is bare joined = true≢false (sym (ap (λ t. is_word t (codes "--batch")) is) ∙ bare)
-other_at word (Some v) is bare joined = true≢false (sym (ap (λ t. is_word (take 8 t) (codes "--batch=")) is) ∙ joined)
+-- .. and no packet's size
+pub hyphen_size : (t : List ℕ) → packet_size (45 ∷ t) ≡ None
+unfolding packet_size
+hyphen_size t = refl
 
-pub other_name : (word name : List ℕ) (value : Option (List ℕ)) → long_of word ≡ Some (name, value) → is_word word (codes "--batch") ≡ false
-    → is_word (take 8 word) (codes "--batch=") ≡ false → bytes_eq (codes "batch") name ≡ false
-other_name word name value is bare joined = go (bytes_eq (codes "batch") name) refl
-  where
-    go : (b : Bool) → bytes_eq (codes "batch") name ≡ b → b ≡ false
-    go false e = refl
-    go true e =
-        let named : codes "batch" ≡ name = (bytes_eq-Decides (codes "batch") name).0 e in
-        absurd (other_at word value (long_letters word name value is ∙ ap (λ n. 45 ∷ 45 ∷ letters n value) (sym named)) bare joined)
+-- another word isn't the option of this name: these words are it, alone and before a text
+module _ (name bare joined : List ℕ) (n : ℕ) (is_bare : is_word (45 ∷ 45 ∷ name) bare ≡ true)
+    (is_joined : (v : List ℕ) → is_word (take n (45 ∷ 45 ∷ (name ++ 61 ∷ v))) joined ≡ true) where
+  other_at : (word : List ℕ) (value : Option (List ℕ)) → word ≡ 45 ∷ 45 ∷ letters name value → is_word word bare ≡ false
+      → is_word (take n word) joined ≡ false → ⊥
+  other_at word None is alone before = true≢false (sym (ap (λ t. is_word t bare) is ∙ is_bare) ∙ alone)
+  other_at word (Some v) is alone before = true≢false (sym (ap (λ t. is_word (take n t) joined) is ∙ is_joined v) ∙ before)
 
-pub joined_is : (word : List ℕ) → is_word (take 8 word) (codes "--batch=") ≡ true → word ≡ codes "--batch=" ++ drop 8 word
-joined_is word e = sym (take-append-drop 8 word) ∙ ap (λ t. t ++ drop 8 word) ((bytes_eq-Decides (take 8 word) (codes "--batch=")).0 e)
+  pub other_name : (word other : List ℕ) (value : Option (List ℕ)) → long_of word ≡ Some (other, value) → is_word word bare ≡ false
+      → is_word (take n word) joined ≡ false → bytes_eq name other ≡ false
+  other_name word other value is alone before = go (bytes_eq name other) refl
+    where
+      go : (b : Bool) → bytes_eq name other ≡ b → b ≡ false
+      go false e = refl
+      go true e =
+          let named : name ≡ other = (bytes_eq-Decides name other).0 e in
+          absurd (other_at word value (long_letters word other value is ∙ ap (λ n. 45 ∷ 45 ∷ letters n value) (sym named)) alone before)
 
-pub bare_is : (word : List ℕ) → is_word word (codes "--batch") ≡ true → word ≡ codes "--batch"
-bare_is word e = (bytes_eq-Decides word (codes "--batch")).0 e
+pub other_batch : (word other : List ℕ) (value : Option (List ℕ)) → long_of word ≡ Some (other, value) → is_word word (codes "--batch") ≡ false
+    → is_word (take 8 word) (codes "--batch=") ≡ false → bytes_eq (codes "batch") other ≡ false
+other_batch = other_name (codes "batch") (codes "--batch") (codes "--batch=") 8 refl (λ v. refl)
+
+pub other_packet : (word other : List ℕ) (value : Option (List ℕ)) → long_of word ≡ Some (other, value) → is_word word (codes "--packet") ≡ false
+    → is_word (take 9 word) (codes "--packet=") ≡ false → bytes_eq (codes "packet") other ≡ false
+other_packet = other_name (codes "packet") (codes "--packet") (codes "--packet=") 9 refl (λ v. refl)
+
+pub joined_is : (n : ℕ) (word joined : List ℕ) → is_word (take n word) joined ≡ true → word ≡ joined ++ drop n word
+joined_is n word joined e = sym (take-append-drop n word) ∙ ap (λ t. t ++ drop n word) ((bytes_eq-Decides (take n word) joined).0 e)
+
+pub word_is : (word text : List ℕ) → is_word word text ≡ true → word ≡ text
+word_is word text e = (bytes_eq-Decides word text).0 e

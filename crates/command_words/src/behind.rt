@@ -1,9 +1,9 @@
 // The words behind the first, command by command.
 ghost use Rattle.std.specs.Prelude.{◌≡◌, ◌≤◌, IfOk, IfSome, map, string_bytes};
-ghost use Rattle.command_words.specs.Meant.{IsInRange, batch_of, check_of, make_of, run_of, self_test_by, self_test_of, session_number as number_of_word, steps_of};
+ghost use Rattle.command_words.specs.Meant.{IsInRange, check_of, make_of, options_of, run_of, self_test_by, self_test_of, session_number as number_of_word, steps_of};
 
 use crate::Command;
-use crate::options::batch_in;
+use crate::options::options_in;
 use std::alloc::{AllocError as NoMemory, Global};
 use text_forms::number_between;
 
@@ -13,8 +13,11 @@ pub fn steps(alloc: Global, rest: &[String]) -> Result<Option<Command>, NoMemory
     ensures value { IfOk result (λ command. command ≡ steps_of (map string_bytes rest.now)) }
     ensures range { IfOk result (λ command. IfSome command IsInRange) }
 {
-    match batch_in(alloc, rest)? {
-        Some(batch) => Ok(Some(Command::Steps { batch })),
+    match options_in(alloc, rest)? {
+        Some(options) => Ok(Some(Command::Steps {
+            batch: options.batch(),
+            packet: options.packet(),
+        })),
         None => Ok(None),
     }
 }
@@ -25,8 +28,11 @@ pub fn run(alloc: Global, rest: &[String]) -> Result<Option<Command>, NoMemory>
     ensures value { IfOk result (λ command. command ≡ run_of (map string_bytes rest.now)) }
     ensures range { IfOk result (λ command. IfSome command IsInRange) }
 {
-    match batch_in(alloc, rest)? {
-        Some(batch) => Ok(Some(Command::Run { batch })),
+    match options_in(alloc, rest)? {
+        Some(options) => Ok(Some(Command::Run {
+            batch: options.batch(),
+            packet: options.packet(),
+        })),
         None => Ok(None),
     }
 }
@@ -54,22 +60,25 @@ pub fn make(rest: &[String]) -> Option<Command>
     }
 }
 
-// A number and the words of the option, of which `selftest` has both.
+// A number and the words of the options, of which `selftest` has both.
 #[tactic(auto, unfolding(crate::specs::Meant::self_test_by))]
 fn self_test_with(
     alloc: Global,
     word: &String,
     option: &[String],
 ) -> Result<Option<Command>, NoMemory>
-    ensures value { IfOk result (λ command. command ≡ self_test_by (number_of_word (string_bytes word.now)) (batch_of (map string_bytes option.now))) }
+    ensures value { IfOk result (λ command. command ≡ self_test_by (number_of_word (string_bytes word.now)) (options_of (map string_bytes option.now))) }
     ensures range { IfOk result (λ command. IfSome command IsInRange) }
 {
     let Some(number) = session_number(word) else {
         return Ok(None);
     };
-    match batch_in(alloc, option)? {
-        Some(batch) => Ok(Some(Command::SelfTest { number, batch })),
-        None => Ok(None),
+    match options_in(alloc, option)? {
+        Some(options) if options.packet.is_none() => Ok(Some(Command::SelfTest {
+            number,
+            batch: options.batch(),
+        })),
+        _ => Ok(None),
     }
 }
 
@@ -92,12 +101,14 @@ pub fn self_test(alloc: Global, rest: &[String]) -> Result<Option<Command>, NoMe
 
 /// Behind `check`.
 #[tactic(auto, unfolding(crate::specs::Meant::check_of))]
-pub fn check(rest: &[String]) -> Option<Command>
-    ensures value { result ≡ check_of (map string_bytes rest.now) }
-    ensures range { IfSome result IsInRange }
+pub fn check(alloc: Global, rest: &[String]) -> Result<Option<Command>, NoMemory>
+    ensures value { IfOk result (λ command. command ≡ check_of (map string_bytes rest.now)) }
+    ensures range { IfOk result (λ command. IfSome command IsInRange) }
 {
-    match rest {
-        [] => Some(Command::Check),
-        _ => None,
+    match options_in(alloc, rest)? {
+        Some(options) if options.batch.is_none() => Ok(Some(Command::Check {
+            packet: options.packet(),
+        })),
+        _ => Ok(None),
     }
 }

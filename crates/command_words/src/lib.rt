@@ -1,18 +1,19 @@
 //! The words of the command line: which command they name.
 //!
-//! `steps` or `run` stands alone, or before the two words `--batch` and B, or before the one word `--batch=B`. `make` stands before
-//! a number N alone, and `check` stands alone. `selftest` stands before N, alone or with `--batch` and B or `--batch=B` before or
-//! behind N. B is a number from 1 to 64 and N one from 0 to 18446744073709551615, in decimal digits, without sign and without a
-//! leading zero; without `--batch` B is 64. A repeated option, the word `--`, `--help`, `-h` and all other words are refused.
+//! `steps` or `run` stands alone, or before one or both of the options `--batch` with B and `--packet` with P, in either order.
+//! `check` stands alone or before the option `--packet`. An option is two words, as `--batch` and B, or one, as `--batch=B`.
+//! `make` stands before a number N alone. `selftest` stands before N, alone or with the option `--batch` before or behind N. B is
+//! a number from 1 to 64, P is 188 or 204, and N is a number from 0 to 18446744073709551615, in decimal digits, without sign and
+//! without a leading zero; without `--batch` B is 64, and without `--packet` P is 188. A repeated option, the word `--`,
+//! `--help`, `-h` and all other words are refused.
 //!
 //! What a contract sees: the words as lists of bytes. `meant` in specs/Meant.antt says which command they name, by plain
 //! cases, and knows nothing of a parser.
 //!
 //! What is proved: `read_words` answers what `meant` says, and a batch has 1 to 64 packets. Where memory is refused it says
-//! so, and takes no words for others. The first word and N are read here, and the one or two words of the option by the crate
-//! `clap`: the proof walks over them by clap's own definitions of what it finds (`matches_of`) and of what it refuses
-//! (`fault_of`). Before clap sees them, the code refuses more than two words, and the word `--`, behind which clap takes no
-//! word for an option.
+//! so, and takes no words for others. The first word and N are read here, and the words of the options by the crate `clap`:
+//! the proof walks over them by clap's own definitions of what it finds (`matches_of`) and of what it refuses (`fault_of`).
+//! Before clap sees them, the code refuses the word `--`, behind which clap takes no word for an option.
 //!
 //! What is only tested, in `text_tests`: that memory isn't refused where there is enough.
 //!
@@ -28,20 +29,22 @@ mod options;
 use behind::{check, make, run, self_test, steps};
 use std::alloc::{AllocError as NoMemory, Global};
 use text_forms::is_word;
+use ts_packet::PacketSize;
 
 /// What the words of the command line ask for.
 #[derive(Clone, Copy, Debug, PartialEq, Eq, Drop)]
 pub enum Command {
-    /// A session step by step in one thread, in batches of so many packets, 1 to 64.
-    Steps { batch: u32 },
-    /// A session by threads, in batches of so many packets, 1 to 64.
-    Run { batch: u32 },
+    /// A session step by step in one thread, in batches of so many packets, 1 to 64, over a stream whose packets take up
+    /// so many bytes each.
+    Steps { batch: u32, packet: PacketSize },
+    /// A session by threads, in batches of so many packets, 1 to 64, over a stream whose packets take up so many bytes each.
+    Run { batch: u32, packet: PacketSize },
     /// The session of a number.
     Make { number: u64 },
     /// The sums of the run of a number's session, step by step in one thread, in batches of so many packets, 1 to 64.
     SelfTest { number: u64, batch: u32 },
-    /// Whether a report is one of a session.
-    Check,
+    /// Whether a report is one of a session whose stream has packets that take up so many bytes each.
+    Check { packet: PacketSize },
 }
 
 // The command of a first word and the words behind it.
@@ -63,7 +66,7 @@ fn command_by(alloc: Global, first: &[u8], rest: &[String]) -> Result<Option<Com
         return self_test(alloc, rest);
     }
     if is_word(first, "check") {
-        return Ok(check(rest));
+        return check(alloc, rest);
     }
     Ok(None)
 }

@@ -29,12 +29,13 @@ use std::process::ExitCode;
 use text_forms::number_between;
 
 // What words are accepted.
-const USAGE: &str = "  dvbemu steps [--batch B] < SESSION > REPORT
-  dvbemu run [--batch B] < SESSION > REPORT
+const USAGE: &str = "  dvbemu steps [--batch B] [--packet P] < SESSION > REPORT
+  dvbemu run [--batch B] [--packet P] < SESSION > REPORT
   dvbemu make N > SESSION
   dvbemu selftest N [--batch B] > SUMS
-  dvbemu check < REPORT-AND-SESSION > ANSWER
+  dvbemu check [--packet P] < REPORT-AND-SESSION > ANSWER
   B is the greatest number of packets of a batch, 1 to 64; without it, 64
+  P is how many bytes a packet takes up in the stream, 188 or 204; without it, 188
   N is the number of a session, 0 to 18446744073709551615
   REPORT-AND-SESSION is the line 'report N', a report of N bytes, and its session; ANSWER is yes or no";
 
@@ -58,7 +59,7 @@ fn behind_report(kept: &[u8]) -> Option<&[u8]> {
 // The session of these words, where it was kept.
 fn session_in<'a>(words: &[String], kept: Option<&'a [u8]>) -> Option<&'a [u8]> {
     match words {
-        [word] if word.as_str() == "check" => behind_report(kept?),
+        [word, ..] if word.as_str() == "check" => behind_report(kept?),
         _ => kept,
     }
 }

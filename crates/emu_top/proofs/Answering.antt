@@ -230,11 +230,11 @@ told_as IsText text before after (Wrong fault) is says = absurd says
 -- ------ the whole
 
 not_usage : (c : Command) (may : ℕ → Bool) (before after : Outside) (status : Status) → Obeys c may before after status → status ≡ Usage → ⊥
-not_usage (Steps batch) may before after status d is = never_usage (IsSerialOutput batch) before after status d.says is
-not_usage (Run batch) may before after status d is = never_usage (IsThreadOutput batch may) before after status d.says is
+not_usage (Steps batch packet) may before after status d is = never_usage (IsSerialOutput batch packet) before after status d.says is
+not_usage (Run batch packet) may before after status d is = never_usage (IsThreadOutput batch packet may) before after status d.says is
 not_usage (Make number) may before after status d is = never_usage_told (λ text. text ≡ made number) before after status d.says is
 not_usage (SelfTest number batch) may before after status d is = never_usage_told (IsSums number batch) before after status d.says is
-not_usage Check may before after status d is = let says : Answers before after Usage = subst (λ s. Answers before after s) is d.says in says.0
+not_usage (Check packet) may before after status d is = let says : Answers packet before after Usage = subst (λ s. Answers packet before after s) is d.says in says.0
 
 same_command : (c other : Command) (m : Option Command) → m ≡ Some c → m ≡ Some other → c ≡ other
 same_command c other m a b = cc
@@ -272,11 +272,11 @@ undone : (out : Output) (at : Outside) → Does out at at NoMemory
 undone out at = record { says = (keeps at.sink.written, refl); settled = λ nr nw. says_if at.source.left _ (λ input. inl refl) }
 
 unread : (c : Command) (may : ℕ → Bool) (at : Outside) → Obeys c may at at NoMemory
-unread (Steps batch) may at = undone (IsSerialOutput batch) at
-unread (Run batch) may at = undone (IsThreadOutput batch may) at
+unread (Steps batch packet) may at = undone (IsSerialOutput batch packet) at
+unread (Run batch packet) may at = undone (IsThreadOutput batch packet may) at
 unread (Make number) may at = unmade (λ text. text ≡ made number) at
 unread (SelfTest number batch) may at = unmade (IsSums number batch) at
-unread Check may at = record { says = (tt, (keeps at.sink.written, refl)); settled = λ nr nw. says_if at.source.left _ (λ input. inl refl) }
+unread (Check packet) may at = record { says = (tt, (keeps at.sink.written, refl)); settled = λ nr nw. says_if at.source.left _ (λ input. inl refl) }
 
 pub serves_unread : (words : List (List ℕ)) (may : ℕ → Bool) (at : Outside) → Serves words may at at NoMemory
 serves_unread words may at = record {

@@ -11,6 +11,7 @@ use Rattle.client_script.specs.declared.fault.ScriptFault.{ScriptFault}
 use Rattle.client_script.proofs.Lengthening.{stream_ends_later}
 use Rattle.client_script.proofs.Parting.{front_of}
 use Rattle.client_script.proofs.Splitting.{split-found}
+use Rattle.ts_packet.specs.declared.size.PacketSize.{PacketSize}
 use Rattle.feed_pull.specs.Pulling.{Pulling, Pulls}
 use Rattle.client_script.specs.declared.fault.ScriptError.{ScriptError}
 use Rattle.client_script.specs.declared.fault.ScriptError.TheVariants.{Fault, NoMemory}
@@ -64,10 +65,10 @@ pub grammar_of_part : (bytes : List ℕ) (r : Option ℕ) → script_len (whole_
 grammar_of_part bytes None e = ap grammar (take_all (length bytes) bytes (omega arith))
 grammar_of_part bytes (Some n) e = (front_of bytes n e).1
 
-pub holds : (first : List ℕ) (r : Option ℕ) (lines : List Line) (puller : Pulling) → length first ≤ most_bytes → script_len (whole_lines first) ≡ r
-    → grammar (part_of r first) ≡ Ok lines → IsScript lines → Pulls (drop (unwrap_or r (length first)) first) [] [] puller → puller.start ≤ length first → Holds first lines puller
-holds first None lines puller few e script known pulls reads = absurd (no_script first lines e (sym (grammar_of_part first None e) ∙ script))
-holds first (Some n) lines puller few e script known pulls reads = record {
+pub holds : (first : List ℕ) (r : Option ℕ) (size : PacketSize) (lines : List Line) (puller : Pulling) → length first ≤ most_bytes → script_len (whole_lines first) ≡ r
+    → grammar (part_of r first) ≡ Ok lines → IsScript lines → Pulls (drop (unwrap_or r (length first)) first) [] [] puller → puller.start ≤ length first → puller.cutting.size ≡ size → Holds first size lines puller
+holds first None size lines puller few e script known pulls reads takes_up = absurd (no_script first lines e (sym (grammar_of_part first None e) ∙ script))
+holds first (Some n) size lines puller few e script known pulls reads takes_up = record {
   part = take n first;
   ahead = drop n first;
   splits = λ more. split-found first more n few e;
@@ -75,6 +76,7 @@ holds first (Some n) lines puller few e script known pulls reads = record {
   known = known;
   pulls = pulls;
   reads = reads;
+  takes_up = takes_up;
 }
 
 -- a script part that isn't read has a fault of the grammar, or memory was refused

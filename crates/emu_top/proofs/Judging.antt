@@ -6,6 +6,7 @@ use Rattle.std.specs.Io.KnownBytes.{Consumes}
 use Rattle.emu_io.specs.Causes.{Rose}
 use Rattle.emu_io.specs.Ends.{SourceEnd, SinkEnd}
 use Rattle.ts_packet.specs.Cut.{cut}
+use Rattle.ts_packet.specs.declared.size.PacketSize.{PacketSize}
 use Rattle.ts_packet.specs.Fields.{IsPacket}
 use Rattle.ts_watch.specs.Head.{told_head, head_of}
 use Rattle.client_script.specs.declared.line.Line.{Line}
@@ -30,17 +31,17 @@ use Rattle.emu_top.proofs.Rows.{head_rows}
 
 -- ------ a report and a session
 
-session_of : (first taken : List ℕ) (lines : List Line) (puller : Pulling) (h : Holds first lines puller) → IsSession (first ++ taken) lines (h.ahead ++ taken)
-session_of first taken lines puller h = record {
+session_of : (first taken : List ℕ) (size : PacketSize) (lines : List Line) (puller : Pulling) (h : Holds first size lines puller) → IsSession (first ++ taken) lines (h.ahead ++ taken)
+session_of first taken size lines puller h = record {
   script = ap (λ p. grammar p.script) (h.splits taken) ∙ h.script;
   behind = ap (λ p. p.stream) (h.splits taken);
 }
 
-asks : (report first taken : List ℕ) (x y : SourceEnd) (lines : List Line) (puller : Pulling) (b : Begins report x y) (h : Holds first lines puller) → Asks (b.bytes ++ (first ++ taken)) report lines (h.ahead ++ taken)
-asks report first taken x y lines puller b h = record {
+asks : (report first taken : List ℕ) (x y : SourceEnd) (size : PacketSize) (lines : List Line) (puller : Pulling) (b : Begins report x y) (h : Holds first size lines puller) → Asks (b.bytes ++ (first ++ taken)) report lines (h.ahead ++ taken)
+asks report first taken x y size lines puller b h = record {
   session = first ++ taken;
   parts = b.parts (first ++ taken);
-  whole = session_of first taken lines puller h;
+  whole = session_of first taken size lines puller h;
 }
 
 taken_all : (report first taken : List ℕ) (x y z w : SourceEnd) (b : Begins report x y) → Takes y z first → Consumes z.left w.left taken → Consumes x.left w.left (b.bytes ++ (first ++ taken))
@@ -65,11 +66,11 @@ declined_by_session report x y z NoMemory b r few = tt
 declined_by_session report x y z Done b r few = absurd r
 declined_by_session report x y z (Wrong fault) b r few = absurd r
 
-pub declined_by_stream : (report first : List ℕ) (x y z w : SourceEnd) (lines : List Line) (puller : Pulling) (status : Status)
-    → Begins report x y → Takes y z first → Holds first lines puller → IsCutOff z w puller status → Declines x w status
-declined_by_stream report first x y z w lines puller Usage b t h c = absurd c
-declined_by_stream report first x y z w lines puller (Script line kind) b t h c = absurd c
-declined_by_stream report first x y z w lines puller (TooLong turns) b t h (most, of) =
+pub declined_by_stream : (report first : List ℕ) (x y z w : SourceEnd) (size : PacketSize) (lines : List Line) (puller : Pulling) (status : Status)
+    → Begins report x y → Takes y z first → Holds first size lines puller → IsCutOff z w puller status → Declines x w status
+declined_by_stream report first x y z w size lines puller Usage b t h c = absurd c
+declined_by_stream report first x y z w size lines puller (Script line kind) b t h c = absurd c
+declined_by_stream report first x y z w size lines puller (TooLong turns) b t h (most, of) =
     let taken = of.0 in
     let few = of.2 h.ahead h.pulls in
     record {
@@ -78,25 +79,25 @@ declined_by_stream report first x y z w lines puller (TooLong turns) b t h (most
       lines = lines;
       stream = h.ahead ++ taken;
       taken = taken_all report first taken x y z w b t of.1;
-      asks = asks report first taken x y lines puller b h;
+      asks = asks report first taken x y size lines puller b h;
       most = most;
       reads = omega (arith, few, h.reads, length-append b.bytes (first ++ taken), length-append first taken);
     }
-declined_by_stream report first x y z w lines puller ReadFault b t h ((taken, con), rose) = record {
+declined_by_stream report first x y z w size lines puller ReadFault b t h ((taken, con), rose) = record {
   bytes = b.bytes ++ (first ++ taken);
   taken = taken_all report first taken x y z w b t con;
   ends = inr (inr (record {
     report = report;
     session = first ++ taken;
     parts = b.parts (first ++ taken);
-    script = inr (lines, (h.ahead ++ taken, session_of first taken lines puller h));
+    script = inr (lines, (h.ahead ++ taken, session_of first taken size lines puller h));
   }));
   rose = subst (λ n. Rose n w.faults) (t.steady ∙ b.steady) rose;
 }
-declined_by_stream report first x y z w lines puller WriteFault b t h c = absurd c
-declined_by_stream report first x y z w lines puller NoMemory b t h c = tt
-declined_by_stream report first x y z w lines puller Done b t h c = absurd c
-declined_by_stream report first x y z w lines puller (Wrong fault) b t h c = absurd c
+declined_by_stream report first x y z w size lines puller WriteFault b t h c = absurd c
+declined_by_stream report first x y z w size lines puller NoMemory b t h c = tt
+declined_by_stream report first x y z w size lines puller Done b t h c = absurd c
+declined_by_stream report first x y z w size lines puller (Wrong fault) b t h c = absurd c
 
 -- a status that is handed on
 pub handed_on : {T : Type 0} (r : Result T Status) (status : Status) (P : Status → Type 0) → IsErrAnd r (λ e. e ≡ status) → P status → IfErr r P
@@ -105,8 +106,8 @@ handed_on (Err e) status P is p = subst P (sym is) p
 
 -- ------ the answer
 
-module _ (bytes : List ℕ) (stream : Stream) (whole : IsWholeOf bytes stream) where
-  count_of : (head_of bytes false).tally.packets ≡ length (cut bytes).packets
+module _ (size : PacketSize) (bytes : List ℕ) (stream : Stream) (whole : IsWholeOf size bytes stream) where
+  count_of : (head_of size bytes false).tally.packets ≡ length (cut size bytes).packets
   unfolding head_of
   count_of = refl
 
@@ -114,27 +115,28 @@ module _ (bytes : List ℕ) (stream : Stream) (whole : IsWholeOf bytes stream) w
   counted = ap (λ h. h.tally.packets) whole.head ∙ (count_of ∙ sym (ap length whole.packets))
 
   pub packets_are : All IsPacket stream.packets.items
-  packets_are = subst (All IsPacket) (sym whole.packets) (are_packets bytes)
+  packets_are = subst (All IsPacket) (sym whole.packets) (are_packets size bytes)
 
-  told_right : (lines : List Line) (report : List ℕ) → IsRightReport lines stream.packets.items (told_head stream.head) report → IsRightReport lines (cut bytes).packets (head_of bytes false) report
-  told_right lines report r = subst (λ h. IsRightReport lines (cut bytes).packets h report) whole.head (subst (λ packets. IsRightReport lines packets (told_head stream.head) report) whole.packets r)
+  told_right : (lines : List Line) (report : List ℕ) → IsRightReport lines stream.packets.items (told_head stream.head) report → IsRightReport lines (cut size bytes).packets (head_of size bytes false) report
+  told_right lines report r = subst (λ h. IsRightReport lines (cut size bytes).packets h report) whole.head (subst (λ packets. IsRightReport lines packets (told_head stream.head) report) whole.packets r)
 
-  right_told : (lines : List Line) (report : List ℕ) → IsRightReport lines (cut bytes).packets (head_of bytes false) report → IsRightReport lines stream.packets.items (told_head stream.head) report
-  right_told lines report r = subst (λ h. IsRightReport lines stream.packets.items h report) (sym whole.head) (subst (λ packets. IsRightReport lines packets (head_of bytes false) report) (sym whole.packets) r)
+  right_told : (lines : List Line) (report : List ℕ) → IsRightReport lines (cut size bytes).packets (head_of size bytes false) report → IsRightReport lines stream.packets.items (told_head stream.head) report
+  right_told lines report r = subst (λ h. IsRightReport lines stream.packets.items h report) (sym whole.head) (subst (λ packets. IsRightReport lines packets (head_of size bytes false) report) (sym whole.packets) r)
 
   right_or_not : (lines : List Line) (report : List ℕ) (right : Bool) → (right ≡ true → IsRightReport lines stream.packets.items (told_head stream.head) report)
-      → (right ≡ false → IsRightReport lines stream.packets.items (told_head stream.head) report → ⊥) → IsAnswer right report lines bytes
+      → (right ≡ false → IsRightReport lines stream.packets.items (told_head stream.head) report → ⊥) → IsAnswer right size report lines bytes
   right_or_not lines report true right wrong =
-      (right_are_of_runs lines (cut bytes).packets (head_of bytes false) report (head_rows bytes false) count_of).1 (told_right lines report (right refl))
+      (right_are_of_runs lines (cut size bytes).packets (head_of size bytes false) report (head_rows size bytes false) count_of).1 (told_right lines report (right refl))
   right_or_not lines report false right wrong =
-      λ of. wrong refl (right_told lines report ((right_are_of_runs lines (cut bytes).packets (head_of bytes false) report (head_rows bytes false) count_of).0 of))
+      λ of. wrong refl (right_told lines report ((right_are_of_runs lines (cut size bytes).packets (head_of size bytes false) report (head_rows size bytes false) count_of).0 of))
 
-pub judged_by : (report first : List ℕ) (x y z w : SourceEnd) (lines : List Line) (puller : Pulling) (stream : Stream) (right : Bool)
-    → Begins report x y → Takes y z first → Holds first lines puller → OfStream z w puller (λ ahead taken. IsWholeOf (ahead ++ taken) stream) → ReadsTo false z w
+pub judged_by : (report first : List ℕ) (x y z w : SourceEnd) (size : PacketSize) (lines : List Line) (puller : Pulling) (stream : Stream) (right : Bool)
+    → Begins report x y → Takes y z first → Holds first size lines puller → OfStream z w puller (λ ahead taken. IsWholeOf puller.cutting.size (ahead ++ taken) stream) → ReadsTo false z w
     → (right ≡ true → IsRightReport lines stream.packets.items (told_head stream.head) report)
-    → (right ≡ false → IsRightReport lines stream.packets.items (told_head stream.head) report → ⊥) → Judges right x w
-judged_by report first x y z w lines puller stream right b t h of reads told untold =
+    → (right ≡ false → IsRightReport lines stream.packets.items (told_head stream.head) report → ⊥) → Judges right size x w
+judged_by report first x y z w size lines puller stream right b t h of reads told untold =
     let taken = of.0 in
+    let whole : IsWholeOf size (h.ahead ++ taken) stream = subst (λ s. IsWholeOf s (h.ahead ++ taken) stream) h.takes_up (of.2 h.ahead h.pulls) in
     record {
       bytes = b.bytes ++ (first ++ taken);
       report = report;
@@ -142,28 +144,28 @@ judged_by report first x y z w lines puller stream right b t h of reads told unt
       stream = h.ahead ++ taken;
       taken = taken_all report first taken x y z w b t of.1;
       reads = (reads.0 ∙ (t.steady ∙ b.steady), reads.1);
-      asks = asks report first taken x y lines puller b h;
-      answer = right_or_not (h.ahead ++ taken) stream (of.2 h.ahead h.pulls) lines report right told untold;
+      asks = asks report first taken x y size lines puller b h;
+      answer = right_or_not size (h.ahead ++ taken) stream whole lines report right told untold;
     }
 
-pub judged : (report first : List ℕ) (x y z w : SourceEnd) (lines : List Line) (puller : Pulling) (stream : Stream) (fault : Option Fault)
-    → Begins report x y → Takes y z first → Holds first lines puller → OfStream z w puller (λ ahead taken. IsWholeOf (ahead ++ taken) stream) → ReadsTo false z w
+pub judged : (report first : List ℕ) (x y z w : SourceEnd) (size : PacketSize) (lines : List Line) (puller : Pulling) (stream : Stream) (fault : Option Fault)
+    → Begins report x y → Takes y z first → Holds first size lines puller → OfStream z w puller (λ ahead taken. IsWholeOf puller.cutting.size (ahead ++ taken) stream) → ReadsTo false z w
     → MatchOption fault (IsRightReport lines stream.packets.items (told_head stream.head) report) (λ _. IsRightReport lines stream.packets.items (told_head stream.head) report → ⊥)
-    → MatchOption fault (Judges true x w) (λ _. Judges false x w)
-judged report first x y z w lines puller stream None b t h of reads is = judged_by report first x y z w lines puller stream true b t h of reads (λ e. is) (λ e. absurd (cc))
-judged report first x y z w lines puller stream (Some fault) b t h of reads is = judged_by report first x y z w lines puller stream false b t h of reads (λ e. absurd (cc)) (λ e. is)
+    → MatchOption fault (Judges true size x w) (λ _. Judges false size x w)
+judged report first x y z w size lines puller stream None b t h of reads is = judged_by report first x y z w size lines puller stream true b t h of reads (λ e. is) (λ e. absurd (cc))
+judged report first x y z w size lines puller stream (Some fault) b t h of reads is = judged_by report first x y z w size lines puller stream false b t h of reads (λ e. absurd (cc)) (λ e. is)
 
 -- ------ what is written
 
-pub answers_none : (x y : SourceEnd) (w : SinkEnd) (status : Status) → Declines x y status → Answers (outside x w) (outside y w) status
-answers_none x y w Usage d = absurd d
-answers_none x y w (Script line kind) d = (d, (keeps w.written, refl))
-answers_none x y w (TooLong turns) d = (d, (keeps w.written, refl))
-answers_none x y w ReadFault d = (d, (keeps w.written, refl))
-answers_none x y w WriteFault d = absurd d
-answers_none x y w NoMemory d = (d, (keeps w.written, refl))
-answers_none x y w Done d = absurd d
-answers_none x y w (Wrong fault) d = absurd d
+pub answers_none : (size : PacketSize) (x y : SourceEnd) (w : SinkEnd) (status : Status) → Declines x y status → Answers size (outside x w) (outside y w) status
+answers_none size x y w Usage d = absurd d
+answers_none size x y w (Script line kind) d = (d, (keeps w.written, refl))
+answers_none size x y w (TooLong turns) d = (d, (keeps w.written, refl))
+answers_none size x y w ReadFault d = (d, (keeps w.written, refl))
+answers_none size x y w WriteFault d = absurd d
+answers_none size x y w NoMemory d = (d, (keeps w.written, refl))
+answers_none size x y w Done d = absurd d
+answers_none size x y w (Wrong fault) d = absurd d
 
 -- the same text written from another source
 whole_of : (s x y : SourceEnd) (w v : SinkEnd) (text : List ℕ) → WritesWhole (outside s w) (outside s v) text → WritesWhole (outside x w) (outside y v) text
@@ -172,29 +174,29 @@ whole_of s x y w v text whole = record { written = whole.written; writes = whole
 part_of : (s x y : SourceEnd) (w v : SinkEnd) (text : List ℕ) → WritesFront (outside s w) (outside s v) text → WritesFront (outside x w) (outside y v) text
 part_of s x y w v text front = record { count = front.count; part = front.part; written = front.written; rose = front.rose }
 
-pub answers_yes : (s x y : SourceEnd) (w v : SinkEnd) (text : List ℕ) (status : Status) → text ≡ codes "yes\n" → Judges true x y → Tells (λ whole. whole ≡ text) (outside s w) (outside s v) status
-    → Answers (outside x w) (outside y v) status
+pub answers_yes : (size : PacketSize) (s x y : SourceEnd) (w v : SinkEnd) (text : List ℕ) (status : Status) → text ≡ codes "yes\n" → Judges true size x y → Tells (λ whole. whole ≡ text) (outside s w) (outside s v) status
+    → Answers size (outside x w) (outside y v) status
 unfolding answer_text
-answers_yes s x y w v text Usage is judged says = absurd says
-answers_yes s x y w v text (Script line kind) is judged says = absurd says
-answers_yes s x y w v text (TooLong turns) is judged says = absurd says
-answers_yes s x y w v text ReadFault is judged says = absurd says
-answers_yes s x y w v text WriteFault is judged (whole, e, front) = record { right = true; judged = judged; front = part_of s x y w v _ (rw (← is, ← e) front) }
-answers_yes s x y w v text NoMemory is judged says = (tt, says)
-answers_yes s x y w v text Done is judged (whole, e, all) = record { judged = judged; whole = whole_of s x y w v _ (rw (← is, ← e) all) }
-answers_yes s x y w v text (Wrong fault) is judged says = absurd says
+answers_yes size s x y w v text Usage is judged says = absurd says
+answers_yes size s x y w v text (Script line kind) is judged says = absurd says
+answers_yes size s x y w v text (TooLong turns) is judged says = absurd says
+answers_yes size s x y w v text ReadFault is judged says = absurd says
+answers_yes size s x y w v text WriteFault is judged (whole, e, front) = record { right = true; judged = judged; front = part_of s x y w v _ (rw (← is, ← e) front) }
+answers_yes size s x y w v text NoMemory is judged says = (tt, says)
+answers_yes size s x y w v text Done is judged (whole, e, all) = record { judged = judged; whole = whole_of s x y w v _ (rw (← is, ← e) all) }
+answers_yes size s x y w v text (Wrong fault) is judged says = absurd says
 
-pub answers_no : (s x y : SourceEnd) (w v : SinkEnd) (text : List ℕ) (fault : Fault) (status : Status) → text ≡ codes "no\n" → Judges false x y → Tells (λ whole. whole ≡ text) (outside s w) (outside s v) status
-    → Answers (outside x w) (outside y v) (wrong_as fault status)
+pub answers_no : (size : PacketSize) (s x y : SourceEnd) (w v : SinkEnd) (text : List ℕ) (fault : Fault) (status : Status) → text ≡ codes "no\n" → Judges false size x y → Tells (λ whole. whole ≡ text) (outside s w) (outside s v) status
+    → Answers size (outside x w) (outside y v) (wrong_as fault status)
 unfolding answer_text
-answers_no s x y w v text fault Usage is judged says = absurd says
-answers_no s x y w v text fault (Script line kind) is judged says = absurd says
-answers_no s x y w v text fault (TooLong turns) is judged says = absurd says
-answers_no s x y w v text fault ReadFault is judged says = absurd says
-answers_no s x y w v text fault WriteFault is judged (whole, e, front) = record { right = false; judged = judged; front = part_of s x y w v _ (rw (← is, ← e) front) }
-answers_no s x y w v text fault NoMemory is judged says = (tt, says)
-answers_no s x y w v text fault Done is judged (whole, e, all) = record { judged = judged; whole = whole_of s x y w v _ (rw (← is, ← e) all) }
-answers_no s x y w v text fault (Wrong other) is judged says = absurd says
+answers_no size s x y w v text fault Usage is judged says = absurd says
+answers_no size s x y w v text fault (Script line kind) is judged says = absurd says
+answers_no size s x y w v text fault (TooLong turns) is judged says = absurd says
+answers_no size s x y w v text fault ReadFault is judged says = absurd says
+answers_no size s x y w v text fault WriteFault is judged (whole, e, front) = record { right = false; judged = judged; front = part_of s x y w v _ (rw (← is, ← e) front) }
+answers_no size s x y w v text fault NoMemory is judged says = (tt, says)
+answers_no size s x y w v text fault Done is judged (whole, e, all) = record { judged = judged; whole = whole_of s x y w v _ (rw (← is, ← e) all) }
+answers_no size s x y w v text fault (Wrong other) is judged says = absurd says
 
 -- ------ what the input determines
 
@@ -209,34 +211,34 @@ lines_in input x y bytes report lines stream has con a =
     let t = by_taken input y.left bytes (subst (λ c. Consumes c y.left bytes) has con) in
     (ap (λ xs. lines_asked (asked xs)) t.1 ∙ lines_of bytes t.0 report lines stream a, omega (arith, ap length t.1, length-append bytes t.0))
 
-determined : (input : List ℕ) (x y : SourceEnd) (w v : SinkEnd) (status : Status) → x.left ≡ Some input → x.faults < 2 ^ 64 - 1 → w.faults < 2 ^ 64 - 1
-    → y.faults ≡ x.faults → v.faults ≡ w.faults → Answers (outside x w) (outside y v) status → (status ≡ NoMemory) ⊎ SettlesAnswer (lines_asked (asked input)) input status
-determined input x y w v Usage has fr fw nr nw says = absurd says.0
-determined input x y w v (Script line kind) has fr fw nr nw says =
+determined : (size : PacketSize) (input : List ℕ) (x y : SourceEnd) (w v : SinkEnd) (status : Status) → x.left ≡ Some input → x.faults < 2 ^ 64 - 1 → w.faults < 2 ^ 64 - 1
+    → y.faults ≡ x.faults → v.faults ≡ w.faults → Answers size (outside x w) (outside y v) status → (status ≡ NoMemory) ⊎ SettlesAnswer (lines_asked (asked input)) input status
+determined size input x y w v Usage has fr fw nr nw says = absurd says.0
+determined size input x y w v (Script line kind) has fr fw nr nw says =
     let fault : lines_asked (asked input) ≡ Err (record { line = line; kind = kind }) = subst (λ c. IfSome c (λ whole. lines_asked (asked whole) ≡ Err (record { line = line; kind = kind }))) has says.0.1 in
     inr (rw fault refl)
-determined input x y w v (TooLong turns) has fr fw nr nw says =
+determined size input x y w v (TooLong turns) has fr fw nr nw says =
     let g = says.0 in
     let ok = lines_in input x y g.bytes g.report g.lines g.stream has g.taken g.asks in
     inr (rw ok.0 (λ short. absurd (omega (arith, g.most, g.reads, ok.1))))
-determined input x y w v ReadFault has fr fw nr nw says = absurd (steady x.faults fr (subst (λ n. Rose x.faults n) nr says.0.rose))
-determined input x y w v WriteFault has fr fw nr nw says = absurd (steady w.faults fw (subst (λ n. Rose w.faults n) nw says.front.rose))
-determined input x y w v NoMemory has fr fw nr nw says = inl refl
-determined input x y w v Done has fr fw nr nw says =
+determined size input x y w v ReadFault has fr fw nr nw says = absurd (steady x.faults fr (subst (λ n. Rose x.faults n) nr says.0.rose))
+determined size input x y w v WriteFault has fr fw nr nw says = absurd (steady w.faults fw (subst (λ n. Rose w.faults n) nw says.front.rose))
+determined size input x y w v NoMemory has fr fw nr nw says = inl refl
+determined size input x y w v Done has fr fw nr nw says =
     let m = says.judged in
     inr (rw (lines_in input x y m.bytes m.report m.lines m.stream has m.taken m.asks).0 (λ short. tt))
-determined input x y w v (Wrong fault) has fr fw nr nw says =
+determined size input x y w v (Wrong fault) has fr fw nr nw says =
     let m = says.judged in
     inr (rw (lines_in input x y m.bytes m.report m.lines m.stream has m.taken m.asks).0 (λ short. tt))
 
-settled_by : (content : Option (List ℕ)) (x y : SourceEnd) (w v : SinkEnd) (status : Status) → x.left ≡ content → x.faults < 2 ^ 64 - 1 → w.faults < 2 ^ 64 - 1
-    → y.faults ≡ x.faults → v.faults ≡ w.faults → Answers (outside x w) (outside y v) status
+settled_by : (size : PacketSize) (content : Option (List ℕ)) (x y : SourceEnd) (w v : SinkEnd) (status : Status) → x.left ≡ content → x.faults < 2 ^ 64 - 1 → w.faults < 2 ^ 64 - 1
+    → y.faults ≡ x.faults → v.faults ≡ w.faults → Answers size (outside x w) (outside y v) status
     → IfSome content (λ input. (status ≡ NoMemory) ⊎ SettlesAnswer (lines_asked (asked input)) input status)
-settled_by None x y w v status has fr fw nr nw says = tt
-settled_by (Some input) x y w v status has fr fw nr nw says = determined input x y w v status has fr fw nr nw says
+settled_by size None x y w v status has fr fw nr nw says = tt
+settled_by size (Some input) x y w v status has fr fw nr nw says = determined size input x y w v status has fr fw nr nw says
 
-pub checks : (x y : SourceEnd) (w v : SinkEnd) (status : Status) → x.faults < 2 ^ 64 - 1 → w.faults < 2 ^ 64 - 1 → Answers (outside x w) (outside y v) status → Checks (outside x w) (outside y v) status
-checks x y w v status fr fw says = record {
+pub checks : (size : PacketSize) (x y : SourceEnd) (w v : SinkEnd) (status : Status) → x.faults < 2 ^ 64 - 1 → w.faults < 2 ^ 64 - 1 → Answers size (outside x w) (outside y v) status → Checks size (outside x w) (outside y v) status
+checks size x y w v status fr fw says = record {
   says = says;
-  settled = λ nr nw. settled_by x.left x y w v status refl fr fw nr nw says;
+  settled = λ nr nw. settled_by size x.left x y w v status refl fr fw nr nw says;
 }

@@ -6,6 +6,7 @@ use Rattle.std.specs.Io.KnownBytes.{Consumes, IsAtEnd}
 use Rattle.std.specs.Int.{w16, w32, w64, to_be_bytes}
 use Rattle.emu_io.specs.Ends.{SourceEnd}
 use Rattle.section_crc.specs.Crc.{crc}
+use Rattle.ts_packet.specs.declared.size.PacketSize.TheVariants.{Of188}
 use Rattle.ts_watch.specs.Head.{told_head, head_of}
 use Rattle.text_forms.specs.Numbers.{value_after}
 use Rattle.text_forms.specs.Hex.{hex_digit, hex_byte}
@@ -125,7 +126,7 @@ read_whole : (input : List ℕ) (left : Option (List ℕ)) (bytes : List ℕ) �
 read_whole input None bytes con end = absurd con
 read_whole input (Some rest) bytes con end = con ∙ (ap (λ r. bytes ++ r) end ∙ append-nil bytes)
 
-summed_by : (number batch : ℕ) (left : Option (List ℕ)) (ran : Left) (text : List ℕ) (failed : Bool) → ran.head.read_fault ≡ failed → Runs batch (unfailed (Some (made number))) (unfailed left) ran
+summed_by : (number batch : ℕ) (left : Option (List ℕ)) (ran : Left) (text : List ℕ) (failed : Bool) → ran.head.read_fault ≡ failed → Runs batch Of188 (unfailed (Some (made number))) (unfailed left) ran
     → text ≡ summary_of (told_head ran.head) ran.histories → IsSums number batch text
 summed_by number batch left ran text true is r e = absurd (steady 0 (omega arith) (subst (λ b. ReadsTo b (unfailed (Some (made number))) (unfailed left)) is r.reads))
 summed_by number batch left ran text false is r e =
@@ -137,10 +138,10 @@ summed_by number batch left ran text false is r e =
       run = r.run;
       session = subst (λ bytes. IsSession bytes r.lines r.stream) (sym whole) r.session;
       ran = r.ran;
-      sums = e ∙ (ap (λ h. summary_of h ran.histories) (r.head ∙ ap (head_of r.stream) is) ∙ ap (summary_of (head_of r.stream false)) r.histories);
+      sums = e ∙ (ap (λ h. summary_of h ran.histories) (r.head ∙ ap (head_of Of188 r.stream) is) ∙ ap (summary_of (head_of Of188 r.stream false)) r.histories);
     }
 
 -- the sums of its run
-pub summed : (number batch : ℕ) (left : Option (List ℕ)) (ran : Left) (text : List ℕ) → Runs batch (unfailed (Some (made number))) (unfailed left) ran
+pub summed : (number batch : ℕ) (left : Option (List ℕ)) (ran : Left) (text : List ℕ) → Runs batch Of188 (unfailed (Some (made number))) (unfailed left) ran
     → text ≡ summary_of (told_head ran.head) ran.histories → IsSums number batch text
 summed number batch left ran text r e = summed_by number batch left ran text ran.head.read_fault refl r e

@@ -7,6 +7,7 @@ use Rattle.std.specs.Io.KnownBytes.{Consumes, IsAtEnd}
 use Rattle.emu_io.specs.Causes.{raised, Rose}
 use Rattle.emu_io.specs.Ends.{SourceEnd}
 use Rattle.ts_packet.specs.Cut.{cut}
+use Rattle.ts_packet.specs.declared.size.PacketSize.{PacketSize}
 use Rattle.client_script.specs.declared.line.Line.{Line}
 use Rattle.client_script.specs.declared.fault.ScriptFault.{ScriptFault}
 use Rattle.client_script.specs.Script.{split, grammar, most_bytes, script_len, whole_lines}
@@ -47,14 +48,14 @@ session_of : (bytes part stream : List ℕ) (lines : List Line) → split bytes 
 session_of bytes part stream lines s script = record { script = ap (λ p. grammar p.script) s ∙ script; behind = ap (λ p. p.stream) s }
 
 -- what the run of a session left
-pub run_of : (batch : ℕ) (lines : List Line) (puller : Pulling) (x y z : SourceEnd) (first : List ℕ) (ran : Left)
-    → 1 ≤ batch → Takes x y first → Holds first lines puller
-    → OfStream y z puller (λ ahead taken. IsLeftBy lines batch (ahead ++ taken) ran)
+pub run_of : (batch : ℕ) (size : PacketSize) (lines : List Line) (puller : Pulling) (x y z : SourceEnd) (first : List ℕ) (ran : Left)
+    → 1 ≤ batch → Takes x y first → Holds first size lines puller
+    → OfStream y z puller (λ ahead taken. IsLeftBy lines batch puller.cutting.size (ahead ++ taken) ran)
     → (IsTrue ran.head.read_fault ↔ (y.faults < z.faults)) → y.faults ≤ z.faults → (ran.head.read_fault ≡ false → IsAtEnd z.left)
-    → Runs batch x z ran
-run_of batch lines puller x y z first ran one takes h of rose later end =
+    → Runs batch size x z ran
+run_of batch size lines puller x y z first ran one takes h of rose later end =
     let taken = of.0 in
-    let r : IsLeftBy lines batch (h.ahead ++ taken) ran = of.2 h.ahead h.pulls in
+    let r : IsLeftBy lines batch size (h.ahead ++ taken) ran = subst (λ s. IsLeftBy lines batch s (h.ahead ++ taken) ran) h.takes_up (of.2 h.ahead h.pulls) in
     let s = h.splits taken in
     record {
       bytes = first ++ taken;
@@ -66,7 +67,7 @@ run_of batch lines puller x y z first ran one takes h of rose later end =
       session = session_of (first ++ taken) h.part (h.ahead ++ taken) lines s h.script;
       ran = record {
         serial = r.serial;
-        whole = are_runs lines batch (cut (h.ahead ++ taken)).packets r.run h.known.ranges one r.serial;
+        whole = are_runs lines batch (cut size (h.ahead ++ taken)).packets r.run h.known.ranges one r.serial;
       };
       histories = r.histories;
       outcomes = r.outcomes;
@@ -74,8 +75,8 @@ run_of batch lines puller x y z first ran one takes h of rose later end =
     }
 
 -- its report
-pub reported : (batch : ℕ) (x y : SourceEnd) (ran : Left) → Runs batch x y ran → Makes (IsSerialOutput batch) x y ran.head.read_fault (report_over ran)
-reported batch x y ran r = record {
+pub reported : (batch : ℕ) (size : PacketSize) (x y : SourceEnd) (ran : Left) → Runs batch size x y ran → Makes (IsSerialOutput batch size) x y ran.head.read_fault (report_over ran)
+reported batch size x y ran r = record {
   bytes = r.bytes;
   lines = r.lines;
   stream = r.stream;
@@ -90,10 +91,10 @@ reported batch x y ran r = record {
 }
 
 -- of whatever kind it is, the output for the bytes of a script and of the stream behind it
-pub made_of : (out : Output) (lines : List Line) (puller : Pulling) (x y z : SourceEnd) (first : List ℕ) (failed : Bool) (text : List ℕ)
-    → Takes x y first → Holds first lines puller → OfStream y z puller (λ ahead taken. out lines (ahead ++ taken) failed text)
+pub made_of : (out : Output) (size : PacketSize) (lines : List Line) (puller : Pulling) (x y z : SourceEnd) (first : List ℕ) (failed : Bool) (text : List ℕ)
+    → Takes x y first → Holds first size lines puller → OfStream y z puller (λ ahead taken. out lines (ahead ++ taken) failed text)
     → (IsTrue failed ↔ (y.faults < z.faults)) → y.faults ≤ z.faults → (failed ≡ false → IsAtEnd z.left) → Makes out x z failed text
-made_of out lines puller x y z first failed text takes h of rose later end =
+made_of out size lines puller x y z first failed text takes h of rose later end =
     let taken = of.0 in
     record {
       bytes = first ++ taken;
@@ -112,11 +113,11 @@ cause_of : (lines : List Line) (start turns : ℕ) (ahead taken first : List ℕ
 cause_of lines start turns ahead taken first reads (inl (is, le)) = inl (is, omega (arith, length-append first taken))
 cause_of lines start turns ahead taken first reads (inr (is, le)) = inr (is, rw (length-append ahead taken, is) le)
 
-pub given_up : (lines : List Line) (puller : Pulling) (x y z : SourceEnd) (first : List ℕ) (stop : Stop)
+pub given_up : (size : PacketSize) (lines : List Line) (puller : Pulling) (x y z : SourceEnd) (first : List ℕ) (stop : Stop)
     → ((turns : ℕ) → stop ≡ RunTooLong turns → OfStream y z puller (IsTooLong lines puller.start turns))
-    → Takes x y first → Holds first lines puller → Refuses x z (status_of_stop stop)
-given_up lines puller x y z first NoMemoryToRun each takes h = tt
-given_up lines puller x y z first (RunTooLong turns) each takes h =
+    → Takes x y first → Holds first size lines puller → Refuses x z (status_of_stop stop)
+given_up size lines puller x y z first NoMemoryToRun each takes h = tt
+given_up size lines puller x y z first (RunTooLong turns) each takes h =
     let of = each turns refl in
     let taken = of.0 in
     record {

@@ -5,6 +5,7 @@ use Rattle.std.proofs.lemmas.Bool.Decides.{nat_tests}
 use Rattle.std.specs.Prelude.{⊤, nat_le, nat_lt, ◌&&◌}
 use Rattle.ts_packet.specs.Counts.{counts}
 use Rattle.ts_packet.specs.Cut.{cut}
+use Rattle.ts_packet.specs.declared.size.PacketSize.{PacketSize}
 use Rattle.ts_watch.specs.declared.seen.PidRow.{PidRow}
 use Rattle.ts_watch.specs.Watching.{row_of}
 use Rattle.ts_watch.specs.Head.{head_of, rows_below}
@@ -63,6 +64,6 @@ rows_ordered (suc pid) packets few =
       | inr none ↦ subst (AreOrdered (suc pid)) (sym (next ∙ rows-same pid packets none)) (before.0, wider pid (rows_below pid packets) before.1)
     ]
 
-pub head_rows : (bytes : List ℕ) (failed : Bool) → are_rows 0 (head_of bytes failed).rows ≡ true
+pub head_rows : (size : PacketSize) (bytes : List ℕ) (failed : Bool) → are_rows 0 (head_of size bytes failed).rows ≡ true
 unfolding head_of
-head_rows bytes failed = (rows_ordered 8192 (cut bytes).packets (omega arith)).0
+head_rows size bytes failed = (rows_ordered 8192 (cut size bytes).packets (omega arith)).0

@@ -27,17 +27,17 @@ take_next (y ∷ ys) (suc i) x at =
 
 -- the packets and the head of all that was taken
 pub whole_of : (x y : SourceEnd) (old new : Pulling) (stream : Stream) → Draws x y old new stream.packets.items → HasGivenAll new → has_failed new.reading ≡ false
-    → ((ahead taken : List ℕ) (given : List (List ℕ)) → Pulls ahead taken given new → told_head stream.head ≡ head_of (ahead ++ taken) (has_failed new.reading))
-    → OfStream x y old (λ ahead taken. IsWholeOf (ahead ++ taken) stream)
+    → ((ahead taken : List ℕ) (given : List (List ℕ)) → Pulls ahead taken given new → told_head stream.head ≡ head_of new.cutting.size (ahead ++ taken) (has_failed new.reading))
+    → OfStream x y old (λ ahead taken. IsWholeOf old.cutting.size (ahead ++ taken) stream)
 whole_of x y old new stream draws all well head = (
   draws.carries.more,
   draws.carries.consumes,
   λ ahead pulls.
       let p : Pulls ahead ([] ++ draws.carries.more) ([] ++ stream.packets.items) new = draws.carries.pulls ahead [] [] pulls in
-      record {
+      subst (λ size. IsWholeOf size (ahead ++ draws.carries.more) stream) draws.carries.size (record {
         packets = sym (all ahead draws.carries.more stream.packets.items p);
-        head = head ahead draws.carries.more stream.packets.items p ∙ ap (head_of (ahead ++ draws.carries.more)) well;
-      },
+        head = head ahead draws.carries.more stream.packets.items p ∙ ap (head_of new.cutting.size (ahead ++ draws.carries.more)) well;
+      }),
 )
 
 -- how reading stands, by the fault that is told

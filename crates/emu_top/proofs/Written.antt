@@ -50,7 +50,7 @@ serial_run lines batch packets r few a = record {
 }
 
 pub serial_outputs : SerialOutputsAreOfRuns
-serial_outputs batch lines stream text few o range = record {
+serial_outputs batch size lines stream text few o range = record {
   histories = histories_in o.run;
   outcomes = outcomes_in lines o.run;
   run = serial_run lines batch _ o.run few o.ran.whole;
@@ -60,7 +60,7 @@ serial_outputs batch lines stream text few o range = record {
 
 pub thread_outputs : ThreadOutputsAreOfRuns
 unfolding wider
-thread_outputs batch may lines stream text few o range = record {
+thread_outputs batch size may lines stream text few o range = record {
   histories = o.histories;
   outcomes = o.outcomes;
   run = record { run = wider lines batch _ o.histories few o.whole.run; clients = o.whole.clients; outcomes = o.whole.outcomes };

@@ -4,6 +4,7 @@ use Rattle.std.specs.Io.KnownBytes.{Consumes}
 use Rattle.emu_io.specs.Causes.{Rose}
 use Rattle.emu_io.specs.Ends.{SourceEnd}
 use Rattle.ts_packet.specs.Cut.{cut}
+use Rattle.ts_packet.specs.declared.size.PacketSize.{PacketSize}
 use Rattle.ts_watch.specs.Head.{head_of}
 use Rattle.text_forms.specs.Words.{is_word}
 use Rattle.text_forms.specs.Numbers.{number_between}
@@ -64,9 +65,9 @@ pub record Asks (bytes report : List ℕ) (lines : List Line) (stream : List ℕ
 -- ------ what is answered
 
 -- whether the report is that of a run of the lines over the packets of the stream, all of which was read
-abbrev pub IsAnswer : (right : Bool) → (report : List ℕ) → (lines : List Line) → (stream : List ℕ) → Type 0
-IsAnswer true report lines stream = IsReportOfRun lines (cut stream).packets (head_of stream false) report
-IsAnswer false report lines stream = IsReportOfRun lines (cut stream).packets (head_of stream false) report → ⊥
+abbrev pub IsAnswer : (right : Bool) → PacketSize → (report : List ℕ) → (lines : List Line) → (stream : List ℕ) → Type 0
+IsAnswer true size report lines stream = IsReportOfRun lines (cut size stream).packets (head_of size stream false) report
+IsAnswer false size report lines stream = IsReportOfRun lines (cut size stream).packets (head_of size stream false) report → ⊥
 
 -- the answer, as it is written
 unfoldable pub answer_text : (right : Bool) → List ℕ
@@ -78,7 +79,7 @@ answer_text false = codes "no\n"
 -- In what follows `before` and `after` are what a source tells before and after.
 
 -- all that was left was taken, and this is the answer to what it asks
-pub record Judges (right : Bool) (before after : SourceEnd) : Type 0 where
+pub record Judges (right : Bool) (size : PacketSize) (before after : SourceEnd) : Type 0 where
   pub bytes : List ℕ
   pub report : List ℕ
   pub lines : List Line
@@ -86,7 +87,7 @@ pub record Judges (right : Bool) (before after : SourceEnd) : Type 0 where
   pub taken : Consumes before.left after.left bytes
   pub reads : ReadsTo false before after
   pub asks : Asks bytes report lines stream
-  pub answer : IsAnswer right report lines stream
+  pub answer : IsAnswer right size report lines stream
 
 -- the input has this first fault
 abbrev pub HasFirstFault : ScriptFault → (before after : SourceEnd) → Type 0

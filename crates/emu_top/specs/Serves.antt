@@ -3,6 +3,7 @@ use Rattle.std.specs.Prelude.{◌≡◌, ◌⊎◌, ℕ, ◌+◌, ◌<◌, ◌�
 use Rattle.std.specs.Io.KnownBytes.{Appends, Keeps}
 use Rattle.emu_io.specs.Causes.{Rose}
 use Rattle.emu_io.specs.Ends.{SourceEnd, SinkEnd}
+use Rattle.ts_packet.specs.declared.size.PacketSize.{PacketSize}
 use Rattle.client_script.specs.declared.line.Line.{Line}
 use Rattle.client_script.specs.declared.fault.ScriptFault.{ScriptFault}
 use Rattle.client_script.specs.Script.{split, grammar}
@@ -133,29 +134,31 @@ pub record Gives (IsText : List ℕ → Type 0) (before after : Outside) (status
 
 -- ------ `check`: an answer
 
+-- In what follows a packet of the stream takes up `size`.
+
 -- the answer was written whole
-pub record IsAnswered (right : Bool) (before after : Outside) : Type 0 where
-  pub judged : Judges right before.source after.source
+pub record IsAnswered (right : Bool) (size : PacketSize) (before after : Outside) : Type 0 where
+  pub judged : Judges right size before.source after.source
   pub whole : WritesWhole before after (answer_text right)
 
 -- A write failed. A part of the answer was written, from its front on.
-pub record HasAnswerFault (before after : Outside) : Type 0 where
+pub record HasAnswerFault (size : PacketSize) (before after : Outside) : Type 0 where
   pub right : Bool
-  pub judged : Judges right before.source after.source
+  pub judged : Judges right size before.source after.source
   pub front : WritesFront before after (answer_text right)
 
 -- What a status says of a report and a session. The report is that of a run of the session at `Ok`, and isn't at `Wrong`, where
 -- nothing is said of the fault's line and kind.
-abbrev pub Answers : Outside → Outside → Status → Type 0
-Answers before after Done = IsAnswered true before after
-Answers before after (Wrong fault) = IsAnswered false before after
-Answers before after WriteFault = HasAnswerFault before after
-Answers before after status = Declines before.source after.source status × WritesNothing before after
+abbrev pub Answers : PacketSize → Outside → Outside → Status → Type 0
+Answers size before after Done = IsAnswered true size before after
+Answers size before after (Wrong fault) = IsAnswered false size before after
+Answers size before after WriteFault = HasAnswerFault size before after
+Answers size before after status = Declines before.source after.source status × WritesNothing before after
 
 -- What the program does with a report and a session: the status says what was read and written. Where no read and no write
 -- fails, it is one that the input determines, or memory was refused.
-pub record Checks (before after : Outside) (status : Status) : Type 0 where
-  pub says : Answers before after status
+pub record Checks (size : PacketSize) (before after : Outside) (status : Status) : Type 0 where
+  pub says : Answers size before after status
   pub settled : NoReadFails before after → NoWriteFails before after
       → IfSome before.source.left (λ input. (status ≡ NoMemory) ⊎ SettlesAnswer (lines_asked (asked input)) input status)
 
@@ -166,11 +169,11 @@ pub record Checks (before after : Outside) (status : Status) : Type 0 where
 -- line of sums over the serial run of that session; both read nothing. `check` reads a report and a session, and writes
 -- whether the report is that of a run of the session.
 abbrev pub Obeys : Command → (may : ℕ → Bool) → Outside → Outside → Status → Type 0
-Obeys (Steps batch) may before after status = Does (IsSerialOutput batch) before after status
-Obeys (Run batch) may before after status = Does (IsThreadOutput batch may) before after status
+Obeys (Steps batch packet) may before after status = Does (IsSerialOutput batch packet) before after status
+Obeys (Run batch packet) may before after status = Does (IsThreadOutput batch packet may) before after status
 Obeys (Make number) may before after status = Gives (λ text. text ≡ made number) before after status
 Obeys (SelfTest number batch) may before after status = Gives (IsSums number batch) before after status
-Obeys Check may before after status = Checks before after status
+Obeys (Check packet) may before after status = Checks packet before after status
 
 -- what the program does by the words of its command line
 pub record Serves (words : List (List ℕ)) (may : ℕ → Bool) (before after : Outside) (status : Status) : Type 0 where

@@ -4,6 +4,8 @@ use Rattle.std.specs.Io.KnownBytes.{Consumes, IsAtEnd}
 use Rattle.emu_io.specs.Causes.{Rose}
 use Rattle.emu_io.specs.Ends.{SourceEnd}
 use Rattle.ts_packet.specs.Cut.{cut}
+use Rattle.ts_packet.specs.declared.size.PacketSize.{PacketSize}
+use Rattle.ts_packet.specs.declared.size.PacketSize.TheVariants.{Of188}
 use Rattle.ts_watch.specs.Head.{told_head, head_of}
 use Rattle.dmx_calls.specs.Log.{LogEntry}
 use Rattle.dmx_calls.specs.declared.outcome.Outcome.{Outcome}
@@ -32,11 +34,12 @@ pub record IsSession (bytes : List ℕ) (lines : List Line) (stream : List ℕ) 
   pub script : grammar (split bytes).script ≡ Ok lines
   pub behind : (split bytes).stream ≡ Some stream
 
--- The serial run of the lines over the packets of the stream, in batches of this size. It is a run: 33 legal histories,
--- which every packet passes once, in which each client did just what its commands ask; and each history is accounted.
-pub record IsRunOf (batch : ℕ) (lines : List Line) (stream : List ℕ) (run : Run) : Type 0 where
-  pub serial : IsSerialRun lines batch (cut stream).packets run
-  pub whole : IsAccountedRun lines batch (cut stream).packets run
+-- The serial run of the lines over the packets of the stream, each of which takes up so many bytes, in batches of this size.
+-- It is a run: 33 legal histories, which every packet passes once, in which each client did just what its commands ask; and
+-- each history is accounted.
+pub record IsRunOf (batch : ℕ) (size : PacketSize) (lines : List Line) (stream : List ℕ) (run : Run) : Type 0 where
+  pub serial : IsSerialRun lines batch (cut size stream).packets run
+  pub whole : IsAccountedRun lines batch (cut size stream).packets run
 
 -- ------ what is written
 
@@ -45,30 +48,30 @@ abbrev pub Output : Type 1
 Output = (lines : List Line) → (stream : List ℕ) → (failed : Bool) → (text : List ℕ) → Type 0
 
 -- on one thread: the report of the serial run
-pub record IsSerialOutput (batch : ℕ) (lines : List Line) (stream : List ℕ) (failed : Bool)
+pub record IsSerialOutput (batch : ℕ) (size : PacketSize) (lines : List Line) (stream : List ℕ) (failed : Bool)
     (text : List ℕ) : Type 0 where
   pub run : Run
-  pub ran : IsRunOf batch lines stream run
-  pub report : text ≡ report_of (head_of stream failed) (outcomes_in lines run) (histories_in run)
+  pub ran : IsRunOf batch size lines stream run
+  pub report : text ≡ report_of (head_of size stream failed) (outcomes_in lines run) (histories_in run)
 
 -- By threads: the report of 33 histories that are those of a run of the lines over the packets of the stream, in full
 -- batches of this size but for the last, at moments that the clock may give. Each history is accounted, and the
 -- outcomes are those of the clients' commands by the replies in the histories.
-pub record IsThreadOutput (batch : ℕ) (may : ℕ → Bool) (lines : List Line) (stream : List ℕ) (failed : Bool)
-    (text : List ℕ) : Type 0 where
+pub record IsThreadOutput (batch : ℕ) (size : PacketSize) (may : ℕ → Bool) (lines : List Line) (stream : List ℕ)
+    (failed : Bool) (text : List ℕ) : Type 0 where
   pub histories : List (List LogEntry)
   pub outcomes : List (List Outcome)
-  pub whole : IsWholeRun lines batch may (cut stream).packets outcomes histories
-  pub report : text ≡ report_of (head_of stream failed) outcomes histories
+  pub whole : IsWholeRun lines batch may (cut size stream).packets outcomes histories
+  pub report : text ≡ report_of (head_of size stream failed) outcomes histories
 
--- the text is the line of sums over the run of the session of a number
+-- the text is the line of sums over the run of the session of a number, whose packets take up their own 188 bytes
 pub record IsSums (number batch : ℕ) (text : List ℕ) : Type 0 where
   pub lines : List Line
   pub stream : List ℕ
   pub run : Run
   pub session : IsSession (made number) lines stream
-  pub ran : IsRunOf batch lines stream run
-  pub sums : text ≡ summary_of (head_of stream false) (histories_in run)
+  pub ran : IsRunOf batch Of188 lines stream run
+  pub sums : text ≡ summary_of (head_of Of188 stream false) (histories_in run)
 
 -- ------ sources
 
@@ -85,7 +88,7 @@ ReadsTo true before after = Rose before.faults after.faults
 ReadsTo false before after = (after.faults ≡ before.faults) × IsAtEnd after.left
 
 -- the bytes that were taken are those of a session, and this is what its run left
-pub record Runs (batch : ℕ) (before after : SourceEnd) (answer : Left) : Type 0 where
+pub record Runs (batch : ℕ) (size : PacketSize) (before after : SourceEnd) (answer : Left) : Type 0 where
   pub bytes : List ℕ
   pub lines : List Line
   pub stream : List ℕ
@@ -93,10 +96,10 @@ pub record Runs (batch : ℕ) (before after : SourceEnd) (answer : Left) : Type 
   pub taken : Consumes before.left after.left bytes
   pub reads : ReadsTo answer.head.read_fault before after
   pub session : IsSession bytes lines stream
-  pub ran : IsRunOf batch lines stream run
+  pub ran : IsRunOf batch size lines stream run
   pub histories : answer.histories ≡ histories_in run
   pub outcomes : map (λ those. those.items) answer.outcomes.items ≡ outcomes_in lines run
-  pub head : told_head answer.head ≡ head_of stream answer.head.read_fault
+  pub head : told_head answer.head ≡ head_of size stream answer.head.read_fault
 
 -- the bytes that were taken are those of a session, and have this output
 pub record Makes (is_output : Output) (before after : SourceEnd) (failed : Bool) (text : List ℕ) : Type 0 where
@@ -150,8 +153,9 @@ abbrev pub status_of_stop : Stop → Status
 status_of_stop NoMemoryToRun = NoMemory
 status_of_stop (RunTooLong turns) = TooLong turns
 
--- these first bytes of an input hold a script without a fault, and the puller begins with those behind its part
-pub record Holds (first : List ℕ) (lines : List Line) (puller : Pulling) : Type 0 where
+-- These first bytes of an input hold a script without a fault, and the puller begins with those behind its part. A packet of
+-- its stream takes up so many.
+pub record Holds (first : List ℕ) (size : PacketSize) (lines : List Line) (puller : Pulling) : Type 0 where
   pub part : List ℕ
   pub ahead : List ℕ
   pub splits : (more : List ℕ) → split (first ++ more) ≡ record { script = part; stream = Some (ahead ++ more) }
@@ -159,6 +163,7 @@ pub record Holds (first : List ℕ) (lines : List Line) (puller : Pulling) : Typ
   pub known : IsScript lines
   pub pulls : Pulls ahead [] [] puller
   pub reads : puller.start ≤ length first
+  pub takes_up : puller.cutting.size ≡ size
 
 -- these first bytes of an input have no script without a fault, or memory was refused
 abbrev pub IsFaultIn : (first : List ℕ) → Status → Type 0

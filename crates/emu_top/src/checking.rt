@@ -9,17 +9,22 @@ use crate::stream::{Stream, read_stream};
 use emu_io::Source;
 use report_check::{Fault, first_fault};
 use std::alloc::Global;
+use ts_packet::PacketSize;
 
-/// Reads a report and a session, and answers what is wrong with the report; None where it is that of a run of the session. The
-/// report is held in memory, and all packets of the stream are.
-pub fn wrong_in<S: Source>(alloc: Global, source: &mut S) -> Result<Option<Fault>, Status>
+/// Reads a report and a session, whose packets take up `size` each, and answers what is wrong with the report; None where it is
+/// that of a run of the session. The report is held in memory, and all packets of the stream are.
+pub fn wrong_in<S: Source>(
+    alloc: Global,
+    source: &mut S,
+    size: PacketSize,
+) -> Result<Option<Fault>, Status>
     requires faults { (S.end source.old).faults < 2 ^ 64 - 1 }
-    ensures answer { IfOk result (λ fault. MatchOption fault (Judges true (S.end source.old) (S.end source.new)) (λ _. Judges false (S.end source.old) (S.end source.new))) }
+    ensures answer { IfOk result (λ fault. MatchOption fault (Judges true size (S.end source.old) (S.end source.new)) (λ _. Judges false size (S.end source.old) (S.end source.new))) }
     ensures declines { IfErr result (λ status. Declines (S.end source.old) (S.end source.new) status) }
     ensures once { (S.end source.new).faults ≤ (S.end source.old).faults + 1 }
 {
     let report = read_report(alloc, source)?;
-    let Session { script, puller } = read_session(alloc, source)?;
+    let Session { script, puller } = read_session(alloc, source, size)?;
     let Stream { packets, head } = read_stream(alloc, source, puller)?;
     match first_fault(alloc, &report, &script, &packets, &head) {
         Ok(fault) => Ok(fault),

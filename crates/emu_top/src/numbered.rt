@@ -12,6 +12,7 @@ use emu_io::{Failed, Source};
 use report_text::summary;
 use std::alloc::Global;
 use ts_make::session;
+use ts_packet::PacketSize;
 
 // Bytes that are read to their end. No read fails.
 #[derive(Drop)]
@@ -55,7 +56,7 @@ pub fn sums_of(alloc: Global, number: u64, batch: u32) -> Result<Vec<u8>, Status
         return Err(Status::NoMemory);
     };
     let mut source = Whole { rest: &bytes };
-    let ran = match ran_of(alloc, &mut source, batch) {
+    let ran = match ran_of(alloc, &mut source, batch, PacketSize::Of188) {
         Ok(ran) => ran,
         Err(status) => return Err(status),
     };

@@ -13,6 +13,7 @@ use emu_io::Source;
 use feed_pull::Puller;
 use serial_core::{Left, run_steps};
 use std::alloc::Global;
+use ts_packet::PacketSize;
 
 /// A script, and the stream behind it.
 #[derive(Drop)]
@@ -45,11 +46,11 @@ pub fn status_of_run(stop: Stop) -> Status
 }
 
 // The script of these bytes, and the stream that begins with those behind it, if they hold the whole script part.
-fn session_of(alloc: Global, front: Front) -> Result<Session, Status>
+fn session_of(alloc: Global, front: Front, size: PacketSize) -> Result<Session, Status>
     requires few { length front.part ≤ most_bytes }
     requires reads { front.reads ≤ length front.part }
     requires ahead { IfSome (script_len (whole_lines front.part)) (λ n. length front.part ≤ n + 65535) }
-    ensures begins { IfOk result (λ session. Holds front.part session.script session.puller) }
+    ensures begins { IfOk result (λ session. Holds front.part size session.script session.puller) }
     ensures going { IfOk result (λ session. (session.puller.reading ≡ Going) × (session.puller.given ≡ 0)) }
     ensures fault { IfErr result (λ status. IsFaultIn front.part status) }
 {
@@ -62,15 +63,19 @@ fn session_of(alloc: Global, front: Front) -> Result<Session, Status>
     let Ok(ahead) = bytes[end..].to_vec(alloc) else {
         return Err(Status::NoMemory);
     };
-    match Puller::new(alloc, ahead, front.reads) {
+    match Puller::new(alloc, ahead, front.reads, size) {
         Ok(puller) => Ok(Session { script, puller }),
         Err(_) => Err(Status::NoMemory),
     }
 }
 
-/// Reads the script part of a source: its script, and the stream behind it.
-pub fn read_session<S: Source>(alloc: Global, source: &mut S) -> Result<Session, Status>
-    ensures begins { IfOk result (λ session. (first : List ℕ) × Takes (S.end source.old) (S.end source.new) first × Holds first session.script session.puller) }
+/// Reads the script part of a source: its script, and the stream behind it, whose packets take up `size` each.
+pub fn read_session<S: Source>(
+    alloc: Global,
+    source: &mut S,
+    size: PacketSize,
+) -> Result<Session, Status>
+    ensures begins { IfOk result (λ session. (first : List ℕ) × Takes (S.end source.old) (S.end source.new) first × Holds first size session.script session.puller) }
     ensures going { IfOk result (λ session. (session.puller.reading ≡ Going) × (session.puller.given ≡ 0)) }
     ensures steady { IfOk result (λ session. (S.end source.new).faults ≡ (S.end source.old).faults) }
     ensures refuses { IfErr result (λ status. Refuses (S.end source.old) (S.end source.new) status) }
@@ -78,7 +83,7 @@ pub fn read_session<S: Source>(alloc: Global, source: &mut S) -> Result<Session,
     ensures once { (S.end source.new).faults ≤ (S.end source.old).faults + 1 }
 {
     match read_front(alloc, source) {
-        Ok(front) => session_of(alloc, front),
+        Ok(front) => session_of(alloc, front, size),
         Err(PartError::Failed) => Err(Status::ReadFault),
         Err(PartError::NoMemory) => Err(Status::NoMemory),
     }
@@ -96,9 +101,9 @@ fn run_session<S: Source>(
     requires going { session.puller.reading ≡ Going }
     requires fresh { session.puller.given ≡ 0 }
     requires faults { (S.end source.old).faults < 2 ^ 64 - 1 }
-    ensures runs { IfOk result (λ ran. (begun : SourceEnd) (first : List ℕ) → Takes begun (S.end source.old) first → Holds first session.script session.puller
-        → Runs batch begun (S.end source.new) ran) }
-    ensures refuses { IfErr result (λ status. (begun : SourceEnd) (first : List ℕ) → Takes begun (S.end source.old) first → Holds first session.script session.puller
+    ensures runs { IfOk result (λ ran. (begun : SourceEnd) (size : PacketSize) (first : List ℕ) → Takes begun (S.end source.old) first → Holds first size session.script session.puller
+        → Runs batch size begun (S.end source.new) ran) }
+    ensures refuses { IfErr result (λ status. (begun : SourceEnd) (size : PacketSize) (first : List ℕ) → Takes begun (S.end source.old) first → Holds first size session.script session.puller
         → Refuses begun (S.end source.new) status) }
     ensures once { (S.end source.new).faults ≤ (S.end source.old).faults + 1 }
 {
@@ -109,16 +114,21 @@ fn run_session<S: Source>(
     }
 }
 
-/// Reads the session of a source and runs it, in batches of this size.
-pub fn ran_of<S: Source>(alloc: Global, source: &mut S, batch: u32) -> Result<Left, Status>
+/// Reads the session of a source, whose packets take up `size` each, and runs it, in batches of `batch`.
+pub fn ran_of<S: Source>(
+    alloc: Global,
+    source: &mut S,
+    batch: u32,
+    size: PacketSize,
+) -> Result<Left, Status>
     requires some { 1 ≤ batch }
     requires few { batch ≤ 64 }
     requires faults { (S.end source.old).faults < 2 ^ 64 - 1 }
-    ensures runs { IfOk result (λ ran. Runs batch (S.end source.old) (S.end source.new) ran) }
+    ensures runs { IfOk result (λ ran. Runs batch size (S.end source.old) (S.end source.new) ran) }
     ensures refuses { IfErr result (λ status. Refuses (S.end source.old) (S.end source.new) status) }
     ensures once { (S.end source.new).faults ≤ (S.end source.old).faults + 1 }
 {
-    match read_session(alloc, source) {
+    match read_session(alloc, source, size) {
         Ok(session) => run_session(alloc, source, session, batch),
         Err(status) => Err(status),
     }

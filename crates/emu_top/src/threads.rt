@@ -13,6 +13,7 @@ use serial_core::Left;
 use std::alloc::Global;
 use std::sync::Wait;
 use std::thread::Threads;
+use ts_packet::PacketSize;
 use workers::{histories_of_run, work};
 
 // Runs a session that is begun: a thread passes its stream, and each client has a thread of its own.
@@ -30,9 +31,9 @@ fn run_threads<R: Threads + Wait + Sync, S: Source + Send, C: Clock + Sync, G: G
     requires going { session.puller.reading ≡ Going }
     requires fresh { session.puller.given ≡ 0 }
     requires faults { (S.end source.old).faults < 2 ^ 64 - 1 }
-    ensures makes { IfOk result (λ left. (begun : SourceEnd) (first : List ℕ) → Takes begun (S.end source.old) first → Holds first session.script session.puller
-        → Makes (IsThreadOutput batch (C.may_give clock.now)) begun (S.end source.new) left.head.read_fault (report_over left)) }
-    ensures refuses { IfErr result (λ status. (begun : SourceEnd) (first : List ℕ) → Takes begun (S.end source.old) first → Holds first session.script session.puller
+    ensures makes { IfOk result (λ left. (begun : SourceEnd) (size : PacketSize) (first : List ℕ) → Takes begun (S.end source.old) first → Holds first size session.script session.puller
+        → Makes (IsThreadOutput batch size (C.may_give clock.now)) begun (S.end source.new) left.head.read_fault (report_over left)) }
+    ensures refuses { IfErr result (λ status. (begun : SourceEnd) (size : PacketSize) (first : List ℕ) → Takes begun (S.end source.old) first → Holds first size session.script session.puller
         → Refuses begun (S.end source.new) status) }
     ensures once { (S.end source.new).faults ≤ (S.end source.old).faults + 1 }
 {
@@ -64,22 +65,23 @@ fn run_threads<R: Threads + Wait + Sync, S: Source + Send, C: Clock + Sync, G: G
     }
 }
 
-/// Reads the session of a source and runs it by threads, in batches of this size.
+/// Reads the session of a source, whose packets take up `size` each, and runs it by threads, in batches of `batch`.
 pub fn left_by_threads<R: Threads + Wait + Sync, S: Source + Send, C: Clock + Sync, G: Gate + Sync>(
     rt: &R,
     alloc: Global,
     source: &mut S,
     batch: u32,
+    size: PacketSize,
     clock: &C,
     gate: &G,
 ) -> Result<Left, Status>
     requires some { 1 ≤ batch }
     requires few { batch ≤ 64 }
     requires faults { (S.end source.old).faults < 2 ^ 64 - 1 }
-    ensures makes { IfOk result (λ left. Makes (IsThreadOutput batch (C.may_give clock.now)) (S.end source.old) (S.end source.new) left.head.read_fault (report_over left)) }
+    ensures makes { IfOk result (λ left. Makes (IsThreadOutput batch size (C.may_give clock.now)) (S.end source.old) (S.end source.new) left.head.read_fault (report_over left)) }
     ensures refuses { IfErr result (λ status. Refuses (S.end source.old) (S.end source.new) status) }
     ensures once { (S.end source.new).faults ≤ (S.end source.old).faults + 1 }
 {
-    let session = read_session(alloc, source)?;
+    let session = read_session(alloc, source, size)?;
     run_threads(rt, alloc, source, session, batch, clock, gate)
 }

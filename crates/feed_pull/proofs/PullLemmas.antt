@@ -8,7 +8,8 @@ use Rattle.std.specs.declared.option.Option.{Option}
 use Rattle.std.specs.Io.KnownBytes.{IsAtEnd}
 use Rattle.emu_io.specs.Ends.{SourceEnd}
 use Rattle.ts_packet.specs.Cut.{cut}
-use Rattle.ts_packet.specs.Cutting.{Cutting, fresh, bytes_taken, IsRest, Cuts, IsTally}
+use Rattle.ts_packet.specs.Cutting.{Cutting, fresh, bytes_counted, IsRest, Cuts, IsTally}
+use Rattle.ts_packet.specs.declared.size.PacketSize.{PacketSize}
 use Rattle.ts_packet.specs.declared.cutter.Tally.{Tally}
 use Rattle.ts_packet.proofs.CutLemmas.{cut-append, cut-rest, cut_after-is_rest, cut_after-size, Cuts-none, Cuts-then, length-grown, packets-then}
 use Rattle.ts_watch.specs.Watching.{Watching, Watched}
@@ -17,27 +18,27 @@ use Rattle.feed_pull.specs.declared.fault.Reading.TheVariants.{Going, Ended, Fai
 use Rattle.feed_pull.specs.Pulling.{Pulling, IsPulling, Pulls, IsDone, IsNear}
 use Rattle.feed_pull.specs.Steps.{found_with, Reads, Goes, Gathers, Follows, HasGiven, ReadsNothing, Carries, with_room}
 
-pub cut-is_rest : (xs : List ℕ) → IsRest (cut xs).rest
+pub cut-is_rest : (size : PacketSize) (xs : List ℕ) → IsRest size (cut size xs).rest
 unfolding cut
-cut-is_rest xs = cut_after-is_rest 0 xs
+cut-is_rest size xs = cut_after-is_rest size 0 xs
 
-pub cut-size : (xs : List ℕ) → 188 * length (cut xs).packets + (cut xs).skipped + length (cut xs).rest ≡ length xs
+pub cut-size : (size : PacketSize) (xs : List ℕ) → 188 * length (cut size xs).packets + (cut size xs).skipped + length (cut size xs).rest ≤ length xs
 unfolding cut
-cut-size xs = omega (arith, cut_after-size 0 xs (omega arith))
+cut-size size xs = omega (arith, cut_after-size size 0 xs (omega arith))
 
-pub Cuts-is_rest : (a b : Cutting) (xs : List ℕ) (f : List (List ℕ)) → Cuts a xs f b → IsRest b.rest
-Cuts-is_rest a b xs f h = rw h.rest (cut-is_rest (a.rest ++ xs))
+pub Cuts-is_rest : (a b : Cutting) (xs : List ℕ) (f : List (List ℕ)) → Cuts a xs f b → IsRest b.size b.rest
+Cuts-is_rest a b xs f h = rw (h.size, h.rest) (cut-is_rest a.size (a.rest ++ xs))
 
 -- a longer stream has the packets of its front first
-pub packets-front : (xs ys : List ℕ) → (cut (xs ++ ys)).packets ≡ (cut xs).packets ++ (cut ((cut xs).rest ++ ys)).packets
-packets-front xs ys = rw (cut-append xs ys) refl
+pub packets-front : (size : PacketSize) (xs ys : List ℕ) → (cut size (xs ++ ys)).packets ≡ (cut size xs).packets ++ (cut size ((cut size xs).rest ++ ys)).packets
+packets-front size xs ys = rw (cut-append size xs ys) refl
 
-pub packets-fewer : (xs ys : List ℕ) → length (cut xs).packets ≤ length (cut (xs ++ ys)).packets
-packets-fewer xs ys = rw (packets-front xs ys) (omega (arith, length-append (cut xs).packets (cut ((cut xs).rest ++ ys)).packets))
+pub packets-fewer : (size : PacketSize) (xs ys : List ℕ) → length (cut size xs).packets ≤ length (cut size (xs ++ ys)).packets
+packets-fewer size xs ys = rw (packets-front size xs ys) (omega (arith, length-append (cut size xs).packets (cut size ((cut size xs).rest ++ ys)).packets))
 
 -- ---- the steps
 
-pub Goes-none : (p : Pulling) → IsRest p.cutting.rest → Goes p [] p
+pub Goes-none : (p : Pulling) → IsRest p.cutting.size p.cutting.rest → Goes p [] p
 Goes-none p h = record {
   passed = [];
   found = [];
@@ -52,7 +53,7 @@ Goes-none p h = record {
 }
 
 -- where nothing is cut and nothing read
-pub Goes-same : (a b : Pulling) → IsRest a.cutting.rest → b.cutting ≡ a.cutting → b.waiting ≡ a.waiting → b.unread ≡ a.unread → b.given ≡ a.given → b.start ≡ a.start → b.taken ≡ a.taken → b.found_before_last_read ≡ a.found_before_last_read → b.watch ≡ a.watch → Goes a [] b
+pub Goes-same : (a b : Pulling) → IsRest a.cutting.size a.cutting.rest → b.cutting ≡ a.cutting → b.waiting ≡ a.waiting → b.unread ≡ a.unread → b.given ≡ a.given → b.start ≡ a.start → b.taken ≡ a.taken → b.found_before_last_read ≡ a.found_before_last_read → b.watch ≡ a.watch → Goes a [] b
 Goes-same a b rest cutting waiting unread given start taken earlier watch = record {
   passed = [];
   found = [];
@@ -67,10 +68,10 @@ Goes-same a b rest cutting waiting unread given start taken earlier watch = reco
 }
 
 -- where a piece is read and nothing cut
-pub Goes-read : (a b : Pulling) → IsRest a.cutting.rest → a.unread ≡ [] → a.cutting.packets ≡ a.given + length a.waiting → b.cutting ≡ a.cutting → b.waiting ≡ a.waiting → length b.unread ≤ 65536 → b.given ≡ a.given → b.start ≡ a.start → b.taken ≡ a.taken + length b.unread → b.found_before_last_read ≡ a.given + length a.waiting → b.watch ≡ a.watch → Goes a b.unread b
+pub Goes-read : (a b : Pulling) → IsRest a.cutting.size a.cutting.rest → a.unread ≡ [] → a.cutting.packets ≡ a.given + length a.waiting → b.cutting ≡ a.cutting → b.waiting ≡ a.waiting → length b.unread ≤ 65536 → b.given ≡ a.given → b.start ≡ a.start → b.taken ≡ a.taken + length b.unread → b.found_before_last_read ≡ a.given + length a.waiting → b.watch ≡ a.watch → Goes a b.unread b
 Goes-read a b rest none found cutting waiting fits given start taken earlier watch =
     let e : a.cutting.rest ++ (a.unread ++ []) ≡ a.cutting.rest = rw none (append-nil a.cutting.rest) in
-    let k : length (cut (a.cutting.rest ++ (a.unread ++ []))).packets ≡ 0 = rw (e, cut-rest a.cutting.rest rest) refl in
+    let k : length (cut a.cutting.size (a.cutting.rest ++ (a.unread ++ []))).packets ≡ 0 = rw (e, cut-rest a.cutting.size a.cutting.rest rest) refl in
     record {
       passed = [];
       found = [];
@@ -102,7 +103,7 @@ Goes-cut a k w m u bytes n t same cuts grown rest watch = record {
   last = inl (refl, refl);
 }
 
-pub IsPulling-cut : (a : Pulling) (k : Cutting) (w : List (List ℕ)) (m : ℕ) (u bytes : List ℕ) (n : ℕ) (t : Watching) → IsPulling a → bytes ≡ a.unread → Cuts a.cutting (take n bytes) (drop (length a.waiting) w) k → w ≡ a.waiting ++ drop (length a.waiting) w → u ≡ drop n a.unread → n ≤ length a.unread → bytes_taken k ≡ bytes_taken a.cutting + n → length w ≤ 64 → t.watched ≡ a.watch.watched + length (drop (length a.waiting) w) → IsPulling (cut_to a k w m u t)
+pub IsPulling-cut : (a : Pulling) (k : Cutting) (w : List (List ℕ)) (m : ℕ) (u bytes : List ℕ) (n : ℕ) (t : Watching) → IsPulling a → bytes ≡ a.unread → Cuts a.cutting (take n bytes) (drop (length a.waiting) w) k → w ≡ a.waiting ++ drop (length a.waiting) w → u ≡ drop n a.unread → n ≤ length a.unread → bytes_counted k ≤ bytes_counted a.cutting + n → length w ≤ 64 → t.watched ≡ a.watch.watched + length (drop (length a.waiting) w) → IsPulling (cut_to a k w m u t)
 IsPulling-cut a k w m u bytes n t i same cuts grown rest within taken fits watched =
     let size : length u + n ≡ length a.unread = rw rest (omega (arith, length-drop n a.unread)) in
     record {
@@ -155,7 +156,7 @@ Gathers-room a c b n x y is h =
 pub found-then : (a b : Pulling) (m n : List ℕ) → Goes a m b → found_with b n ≡ found_with a (m ++ n)
 found-then a b m n g =
     let e : a.unread ++ (m ++ n) ≡ g.passed ++ (b.unread ++ n) = sym (append_assoc a.unread m n) ∙ ap (λ (l : List ℕ). l ++ n) (sym g.bytes) ∙ append_assoc g.passed b.unread n in
-    rw (e, packets-then a.cutting b.cutting g.passed (b.unread ++ n) g.found g.cuts, g.cuts.counted) (omega (arith, length-append g.found (cut (b.cutting.rest ++ (b.unread ++ n))).packets))
+    rw (e, packets-then a.cutting b.cutting g.passed (b.unread ++ n) g.found g.cuts, g.cuts.counted) (omega (arith, length-append g.found (cut b.cutting.size (b.cutting.rest ++ (b.unread ++ n))).packets))
 
 Last-then : (a b c : Pulling) (m n : List ℕ) → Goes a m b → ((n ≡ []) × (c.found_before_last_read ≡ b.found_before_last_read)) ⊎ Reads b n c.found_before_last_read → ((m ≡ []) × (b.found_before_last_read ≡ a.found_before_last_read)) ⊎ Reads a m b.found_before_last_read → ((m ++ n ≡ []) × (c.found_before_last_read ≡ a.found_before_last_read)) ⊎ Reads a (m ++ n) c.found_before_last_read
 Last-then a b c m n g (inr r) first = inr (record {
@@ -188,7 +189,7 @@ Goes-then a b c m n g h = record {
   last = Last-then a b c m n g h.last g.last;
 }
 
-pub Gathers-none : (p : Pulling) (x : SourceEnd) → IsRest p.cutting.rest → Gathers x x p p
+pub Gathers-none : (p : Pulling) (x : SourceEnd) → IsRest p.cutting.size p.cutting.rest → Gathers x x p p
 Gathers-none p x h = record { more = []; consumes = Consumes-nil x.left; goes = Goes-none p h }
 
 pub Gathers-then : (a b c : Pulling) (x y z : SourceEnd) → Gathers x y a b → Gathers y z b c → Gathers x z a c
@@ -272,15 +273,19 @@ Follows-then a b c x y z f g =
 
 -- ---- what a puller stands for
 
-pub Pulls-new : (ahead : List ℕ) (p : Pulling) → p.waiting ≡ [] → p.unread ≡ ahead → p.given ≡ 0 → p.taken ≡ 0 → Cuts fresh [] [] p.cutting → Watched [] p.watch → Pulls ahead [] [] p
-Pulls-new ahead p w u g t k watch = record {
+-- from the beginning on, what a packet takes up stays
+cuts_from : {size : PacketSize} {bytes : List ℕ} {found : List (List ℕ)} {c : Cutting} → Cuts (fresh size) bytes found c → Cuts (fresh c.size) bytes found c
+cuts_from {size} {bytes} {found} {c} h = subst (λ (s : PacketSize). Cuts (fresh s) bytes found c) (sym h.size) h
+
+pub Pulls-new : (ahead : List ℕ) (size : PacketSize) (p : Pulling) → p.waiting ≡ [] → p.unread ≡ ahead → p.given ≡ 0 → p.taken ≡ 0 → Cuts (fresh size) [] [] p.cutting → Watched [] p.watch → Pulls ahead [] [] p
+Pulls-new ahead size p w u g t k watch = record {
   passed = [];
   before = [];
   latest = [];
   count = g;
   watch = rw w watch;
   size = t;
-  cuts = rw w k;
+  cuts = rw w (cuts_from k);
   stream = u ∙ sym (append-nil ahead);
   last = refl;
   piece = omega arith;
@@ -290,10 +295,10 @@ Pulls-new ahead p w u g t k watch = record {
 Pulls-stream : (ahead taken more : List ℕ) (given : List (List ℕ)) (a b : Pulling) (p : Pulls ahead taken given a) (g : Goes a more b) → (p.passed ++ g.passed) ++ b.unread ≡ ahead ++ (taken ++ more)
 Pulls-stream ahead taken more given a b p g = append_assoc p.passed g.passed b.unread ∙ ap (λ (l : List ℕ). p.passed ++ l) g.bytes ∙ sym (append_assoc p.passed a.unread more) ∙ ap (λ (l : List ℕ). l ++ more) p.stream ∙ append_assoc ahead taken more
 
-Pulls-cuts : (ahead taken more : List ℕ) (given : List (List ℕ)) (a b : Pulling) (p : Pulls ahead taken given a) (g : Goes a more b) → Cuts fresh (p.passed ++ g.passed) (given ++ b.waiting) b.cutting
+Pulls-cuts : (ahead taken more : List ℕ) (given : List (List ℕ)) (a b : Pulling) (p : Pulls ahead taken given a) (g : Goes a more b) → Cuts (fresh b.cutting.size) (p.passed ++ g.passed) (given ++ b.waiting) b.cutting
 Pulls-cuts ahead taken more given a b p g =
     let e : given ++ b.waiting ≡ (given ++ a.waiting) ++ g.found = ap (λ (l : List (List ℕ)). given ++ l) g.waiting ∙ sym (append_assoc given a.waiting g.found) in
-    rw e (Cuts-then fresh a.cutting b.cutting p.passed g.passed (given ++ a.waiting) g.found p.cuts g.cuts)
+    rw e (cuts_from (Cuts-then (fresh a.cutting.size) a.cutting b.cutting p.passed g.passed (given ++ a.waiting) g.found p.cuts g.cuts))
 
 Pulls-watched : (ahead taken more : List ℕ) (given : List (List ℕ)) (a b : Pulling) (p : Pulls ahead taken given a) (g : Goes a more b) → Watched (given ++ b.waiting) b.watch
 Pulls-watched ahead taken more given a b p g =
@@ -301,11 +306,11 @@ Pulls-watched ahead taken more given a b p g =
     rw e (g.watch (given ++ a.waiting) p.watch)
 
 -- how many packets are found once these bytes are cut is how many the stream with them has
-Pulls-found : (ahead taken more : List ℕ) (given : List (List ℕ)) (a : Pulling) → Pulls ahead taken given a → found_with a more ≡ length (cut (ahead ++ (taken ++ more))).packets
+Pulls-found : (ahead taken more : List ℕ) (given : List (List ℕ)) (a : Pulling) → Pulls ahead taken given a → found_with a more ≡ length (cut a.cutting.size (ahead ++ (taken ++ more))).packets
 Pulls-found ahead taken more given a p =
     let e : ahead ++ (taken ++ more) ≡ p.passed ++ (a.unread ++ more) = sym (append_assoc ahead taken more) ∙ ap (λ (l : List ℕ). l ++ more) (sym p.stream) ∙ append_assoc p.passed a.unread more in
-    let f : (cut (p.passed ++ (a.unread ++ more))).packets ≡ (given ++ a.waiting) ++ (cut (a.cutting.rest ++ (a.unread ++ more))).packets = packets-then fresh a.cutting p.passed (a.unread ++ more) (given ++ a.waiting) p.cuts in
-    rw (e, f) (omega (arith, p.cuts.counted, length-append (given ++ a.waiting) (cut (a.cutting.rest ++ (a.unread ++ more))).packets))
+    let f : (cut a.cutting.size (p.passed ++ (a.unread ++ more))).packets ≡ (given ++ a.waiting) ++ (cut a.cutting.size (a.cutting.rest ++ (a.unread ++ more))).packets = packets-then (fresh a.cutting.size) a.cutting p.passed (a.unread ++ more) (given ++ a.waiting) p.cuts in
+    rw (e, f) (omega (arith, p.cuts.counted, length-append (given ++ a.waiting) (cut a.cutting.size (a.cutting.rest ++ (a.unread ++ more))).packets))
 
 Pulls-goes-by : (ahead taken more : List ℕ) (given : List (List ℕ)) (a b : Pulling) → Pulls ahead taken given a → Goes a more b → ((more ≡ []) × (b.found_before_last_read ≡ a.found_before_last_read)) ⊎ Reads a more b.found_before_last_read → Pulls ahead (taken ++ more) given b
 Pulls-goes-by ahead taken more given a b p g (inl h) = record {
@@ -319,7 +324,7 @@ Pulls-goes-by ahead taken more given a b p g (inl h) = record {
   stream = Pulls-stream ahead taken more given a b p g;
   last = ap (λ (l : List ℕ). taken ++ l) h.0 ∙ append-nil taken ∙ p.last;
   piece = p.piece;
-  found_before_last_read = λ long. h.1 ∙ p.found_before_last_read (rw (h.0, append-nil taken) at long);
+  found_before_last_read = λ long. rw g.cuts.size (h.1 ∙ p.found_before_last_read (rw (h.0, append-nil taken) at long));
 }
 Pulls-goes-by ahead taken more given a b p g (inr r) = record {
   passed = p.passed ++ g.passed;
@@ -332,7 +337,7 @@ Pulls-goes-by ahead taken more given a b p g (inr r) = record {
   stream = Pulls-stream ahead taken more given a b p g;
   last = ap (λ (l : List ℕ). taken ++ l) r.whole ∙ sym (append_assoc taken r.front r.latest);
   piece = r.piece;
-  found_before_last_read = λ _. r.count ∙ Pulls-found ahead taken r.front given a p;
+  found_before_last_read = λ _. rw g.cuts.size (r.count ∙ Pulls-found ahead taken r.front given a p);
 }
 
 pub Pulls-goes : (ahead taken more : List ℕ) (given : List (List ℕ)) (a b : Pulling) → Pulls ahead taken given a → Goes a more b → Pulls ahead (taken ++ more) given b
@@ -352,7 +357,7 @@ Pulls-given ahead taken given packets a b p h =
       stream = ap (λ (l : List ℕ). p.passed ++ l) h.unread ∙ p.stream;
       last = p.last;
       piece = p.piece;
-      found_before_last_read = λ long. h.found_before_last_read ∙ p.found_before_last_read long;
+      found_before_last_read = λ long. rw h.cutting (h.found_before_last_read ∙ p.found_before_last_read long);
     }
 
 pub HasGiven-none : (p : Pulling) → HasGiven [] p p
@@ -361,25 +366,26 @@ HasGiven-none p = record { waiting = refl; given = omega arith; watch = refl; cu
 pub Carries-by : (a b c : Pulling) (x y : SourceEnd) (packets : List (List ℕ)) → Gathers x y a b → HasGiven packets b c → Carries x y a packets c
 Carries-by a b c x y packets g h = record {
   more = g.more;
+  size = ap (λ (k : Cutting). k.size) h.cutting ∙ g.goes.cuts.size;
   consumes = g.consumes;
   pulls = λ ahead taken given p. Pulls-given ahead (taken ++ g.more) given packets b c (Pulls-goes ahead taken g.more given a b p g.goes) h;
 }
 
 -- what was given is the front of the stream's packets
-pub Pulls-front : (ahead taken : List ℕ) (given : List (List ℕ)) (p : Pulling) → Pulls ahead taken given p → (later : List (List ℕ)) × ((cut (ahead ++ taken)).packets ≡ given ++ later)
+pub Pulls-front : (ahead taken : List ℕ) (given : List (List ℕ)) (p : Pulling) → Pulls ahead taken given p → (later : List (List ℕ)) × ((cut p.cutting.size (ahead ++ taken)).packets ≡ given ++ later)
 Pulls-front ahead taken given p h =
-    let f : (cut (h.passed ++ p.unread)).packets ≡ (given ++ p.waiting) ++ (cut (p.cutting.rest ++ p.unread)).packets = packets-then fresh p.cutting h.passed p.unread (given ++ p.waiting) h.cuts in
-    (p.waiting ++ (cut (p.cutting.rest ++ p.unread)).packets, ap (λ (l : List ℕ). (cut l).packets) (sym h.stream) ∙ f ∙ append_assoc given p.waiting (cut (p.cutting.rest ++ p.unread)).packets)
+    let f : (cut p.cutting.size (h.passed ++ p.unread)).packets ≡ (given ++ p.waiting) ++ (cut p.cutting.size (p.cutting.rest ++ p.unread)).packets = packets-then (fresh p.cutting.size) p.cutting h.passed p.unread (given ++ p.waiting) h.cuts in
+    (p.waiting ++ (cut p.cutting.size (p.cutting.rest ++ p.unread)).packets, ap (λ (l : List ℕ). (cut p.cutting.size l).packets) (sym h.stream) ∙ f ∙ append_assoc given p.waiting (cut p.cutting.size (p.cutting.rest ++ p.unread)).packets)
 
 -- where nothing is left, the whole stream was cut
-pub Pulls-done : (ahead taken : List ℕ) (given : List (List ℕ)) (p : Pulling) → Pulls ahead taken given p → IsDone p → Cuts fresh (ahead ++ taken) given p.cutting
+pub Pulls-done : (ahead taken : List ℕ) (given : List (List ℕ)) (p : Pulling) → Pulls ahead taken given p → IsDone p → Cuts (fresh p.cutting.size) (ahead ++ taken) given p.cutting
 Pulls-done ahead taken given p h d =
     let e : h.passed ≡ ahead ++ taken = sym (append-nil h.passed) ∙ ap (λ (l : List ℕ). h.passed ++ l) (sym d.unread) ∙ h.stream in
     let f : given ++ p.waiting ≡ given = ap (λ (l : List (List ℕ)). given ++ l) d.waiting ∙ append-nil given in
     rw (← e) (rw f at h.cuts)
 
 -- where nothing is left, all packets of the stream were watched
-pub Pulls-watch : (ahead taken : List ℕ) (given : List (List ℕ)) (p : Pulling) → Pulls ahead taken given p → IsDone p → Watched (cut (ahead ++ taken)).packets p.watch
+pub Pulls-watch : (ahead taken : List ℕ) (given : List (List ℕ)) (p : Pulling) → Pulls ahead taken given p → IsDone p → Watched (cut p.cutting.size (ahead ++ taken)).packets p.watch
 Pulls-watch ahead taken given p h d =
     let f : given ++ p.waiting ≡ given = ap (λ (l : List (List ℕ)). given ++ l) d.waiting ∙ append-nil given in
     rw (Pulls-done ahead taken given p h d).packets (rw f at h.watch)
@@ -388,8 +394,8 @@ Pulls-watch ahead taken given p h d =
 pub Pulls-size : (ahead taken : List ℕ) (given : List (List ℕ)) (p : Pulling) → Pulls ahead taken given p → 188 * length given ≤ length ahead + length taken
 Pulls-size ahead taken given p h =
     let f = Pulls-front ahead taken given p h in
-    let n : length (cut (ahead ++ taken)).packets ≡ length given + length f.0 = ap length f.1 ∙ length-append given f.0 in
-    omega (arith, cut-size (ahead ++ taken), length-append ahead taken)
+    let n : length (cut p.cutting.size (ahead ++ taken)).packets ≡ length given + length f.0 = ap length f.1 ∙ length-append given f.0 in
+    omega (arith, cut-size p.cutting.size (ahead ++ taken), length-append ahead taken)
 
 -- a front of the stream without more bytes than the last read has no more packets than there were before it
 front-of : (xs ys earlier later : List ℕ) → xs ++ ys ≡ earlier ++ later → length earlier ≤ length xs → xs ≡ earlier ++ drop (length earlier) xs
@@ -397,20 +403,20 @@ front-of xs ys earlier later e h =
     let t : take (length earlier) xs ≡ earlier = sym (take-append-le (length earlier) xs ys h) ∙ ap (take (length earlier)) e ∙ take-append_seam earlier later in
     sym (take-append-drop (length earlier) xs) ∙ ap (λ (l : List ℕ). l ++ drop (length earlier) xs) t
 
-pub Pulls-near : (ahead taken : List ℕ) (given : List (List ℕ)) (p : Pulling) → Pulls ahead taken given p → p.found_before_last_read < p.given → IsNear ahead taken given
+pub Pulls-near : (ahead taken : List ℕ) (given : List (List ℕ)) (p : Pulling) → Pulls ahead taken given p → p.found_before_last_read < p.given → IsNear p.cutting.size ahead taken given
 Pulls-near ahead taken given p h lt earlier later e long =
     let s : h.before ++ h.latest ≡ earlier ++ later = sym h.last ∙ e in
     let n : length h.before + length h.latest ≡ length earlier + length later = sym (length-append h.before h.latest) ∙ ap length s ∙ length-append earlier later in
     let f : h.before ≡ earlier ++ drop (length earlier) h.before = front-of h.before h.latest earlier later s (omega (arith, h.piece)) in
     let w : ahead ++ h.before ≡ (ahead ++ earlier) ++ drop (length earlier) h.before = ap (λ (l : List ℕ). ahead ++ l) f ∙ sym (append_assoc ahead earlier (drop (length earlier) h.before)) in
-    let k : length (cut (ahead ++ h.before)).packets ≡ length (cut ((ahead ++ earlier) ++ drop (length earlier) h.before)).packets = ap (λ (l : List ℕ). length (cut l).packets) w in
+    let k : length (cut p.cutting.size (ahead ++ h.before)).packets ≡ length (cut p.cutting.size ((ahead ++ earlier) ++ drop (length earlier) h.before)).packets = ap (λ (l : List ℕ). length (cut p.cutting.size l).packets) w in
     let t : 65535 < length taken = omega (arith, ap length e, length-append earlier later) in
-    omega (arith, k, packets-fewer (ahead ++ earlier) (drop (length earlier) h.before), h.found_before_last_read t, h.count)
+    omega (arith, k, packets-fewer p.cutting.size (ahead ++ earlier) (drop (length earlier) h.before), h.found_before_last_read t, h.count)
 
-pub Pulls-tally : (p : Pulling) (tally : Tally) → ((bytes : List ℕ) (found : List (List ℕ)) → Cuts fresh bytes found p.cutting → IsTally (cut bytes) tally) → IsDone p → (ahead taken : List ℕ) (given : List (List ℕ)) → Pulls ahead taken given p → IsTally (cut (ahead ++ taken)) tally
-Pulls-tally p tally h d ahead taken given k = h (ahead ++ taken) given (Pulls-done ahead taken given p k d)
+pub Pulls-tally : (p : Pulling) (tally : Tally) → ((size : PacketSize) (bytes : List ℕ) (found : List (List ℕ)) → Cuts (fresh size) bytes found p.cutting → IsTally (cut size bytes) tally) → IsDone p → (ahead taken : List ℕ) (given : List (List ℕ)) → Pulls ahead taken given p → IsTally (cut p.cutting.size (ahead ++ taken)) tally
+Pulls-tally p tally h d ahead taken given k = h p.cutting.size (ahead ++ taken) given (Pulls-done ahead taken given p k d)
 
-pub near-from : {T E : Type 0} (r : Result (Option T) E) (size : T → ℕ) (most : ℕ) (p : Pulling) → IfOk r (λ answer. IfSome answer (λ batch. size batch ≡ most → p.found_before_last_read < p.given)) → IfOk r (λ answer. IfSome answer (λ batch. size batch ≡ most → (ahead taken : List ℕ) (given : List (List ℕ)) → Pulls ahead taken given p → IsNear ahead taken given))
+pub near-from : {T E : Type 0} (r : Result (Option T) E) (size : T → ℕ) (most : ℕ) (p : Pulling) → IfOk r (λ answer. IfSome answer (λ batch. size batch ≡ most → p.found_before_last_read < p.given)) → IfOk r (λ answer. IfSome answer (λ batch. size batch ≡ most → (ahead taken : List ℕ) (given : List (List ℕ)) → Pulls ahead taken given p → IsNear p.cutting.size ahead taken given))
 near-from (Ok None) size most p h = tt
 near-from (Ok (Some batch)) size most p h = λ e ahead taken given k. Pulls-near ahead taken given p k (h e)
 near-from (Err e) size most p h = tt

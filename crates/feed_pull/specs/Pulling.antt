@@ -2,7 +2,8 @@
 use Rattle.std.specs.Prelude.{◌≡◌, ◌≢◌, ℕ, ◌+◌, ◌*◌, ◌<◌, ◌≤◌, Bool, true, false, List, [], ◌++◌, length, Result, None, Some, Ok, Err}
 use Rattle.std.specs.declared.option.Option.{Option}
 use Rattle.ts_packet.specs.Cut.{cut}
-use Rattle.ts_packet.specs.Cutting.{Cutting, fresh, bytes_taken, IsRest, Cuts}
+use Rattle.ts_packet.specs.Cutting.{Cutting, fresh, bytes_counted, IsRest, Cuts}
+use Rattle.ts_packet.specs.declared.size.PacketSize.{PacketSize}
 use Rattle.ts_watch.specs.Watching.{Watching, Watched}
 use Rattle.feed_pull.specs.declared.fault.Reading.{Reading}
 use Rattle.feed_pull.specs.declared.fault.Reading.TheVariants.{Going, Ended, Failed, TooMany}
@@ -11,7 +12,7 @@ use Rattle.feed_pull.specs.declared.fault.PullFault.TheVariants.{ReadFault, TooL
 
 -- what a puller has
 pub record Pulling : Type 0 where
-  -- where the cutting stands
+  -- how many bytes a packet takes up, and where the cutting stands
   pub cutting : Cutting
   -- the packets that wait to be given
   pub waiting : List (List ℕ)
@@ -38,11 +39,11 @@ pub record Pulling : Type 0 where
 -- each read but the last took at least one.
 pub record IsPulling (p : Pulling) : Type 0 where
   pub few : length p.waiting ≤ 64
-  pub rest : IsRest p.cutting.rest
+  pub rest : IsRest p.cutting.size p.cutting.rest
   pub found : p.cutting.packets ≡ p.given + length p.waiting
   pub found_before_last_read : p.found_before_last_read ≤ p.given + length p.waiting
   pub watched : p.watch.watched ≡ p.given + length p.waiting
-  pub bytes : bytes_taken p.cutting + length p.unread ≤ 65536 + p.taken
+  pub bytes : bytes_counted p.cutting + length p.unread ≤ 65536 + p.taken
   pub piece : length p.unread ≤ 65536
   pub taken : p.taken ≤ 65536 * p.reads
   pub reads : p.reads ≤ 4294967296
@@ -60,13 +61,13 @@ pub record Pulls (ahead taken : List ℕ) (given : List (List ℕ)) (p : Pulling
   pub count : p.given ≡ length given
   pub watch : Watched (given ++ p.waiting) p.watch
   pub size : p.taken ≡ length taken
-  pub cuts : Cuts fresh passed (given ++ p.waiting) p.cutting
+  pub cuts : Cuts (fresh p.cutting.size) passed (given ++ p.waiting) p.cutting
   pub stream : passed ++ p.unread ≡ ahead ++ taken
   pub last : taken ≡ before ++ latest
   pub piece : length latest ≤ 65536
   -- once more bytes were taken than one read may leave behind a packet, it knows how many packets there are in front of
   -- the last read
-  pub found_before_last_read : 65535 < length taken → p.found_before_last_read ≡ length (cut (ahead ++ before)).packets
+  pub found_before_last_read : 65535 < length taken → p.found_before_last_read ≡ length (cut p.cutting.size (ahead ++ before)).packets
 
 -- reading has stopped, and nothing is left to be given
 pub record IsDone (p : Pulling) : Type 0 where
@@ -77,12 +78,12 @@ pub record IsDone (p : Pulling) : Type 0 where
 -- whatever stream the puller stands behind, all its packets were given
 abbrev pub HasGivenAll : Pulling → Type 0
 HasGivenAll p = (ahead taken : List ℕ) (given : List (List ℕ)) → Pulls ahead taken given p
-    → (cut (ahead ++ taken)).packets ≡ given
+    → (cut p.cutting.size (ahead ++ taken)).packets ≡ given
 
 -- .. and they were watched
 abbrev pub HasWatchedAll : Pulling → Type 0
 HasWatchedAll p = (ahead taken : List ℕ) (given : List (List ℕ)) → Pulls ahead taken given p
-    → Watched (cut (ahead ++ taken)).packets p.watch
+    → Watched (cut p.cutting.size (ahead ++ taken)).packets p.watch
 
 -- a read failed
 abbrev pub has_failed : Reading → Bool
@@ -108,12 +109,12 @@ given_by (Err e) packets = []
 abbrev pub HadFewer : (most : ℕ) → Pulling → Type 0
 HadFewer most p = p.found_before_last_read < p.given + most
 
--- At most 65,535 of the bytes taken stand behind the last of these packets: a stream that lacks more of them at its end
--- has fewer packets.
-abbrev pub IsNear : List ℕ → List ℕ → List (List ℕ) → Type 0
-IsNear ahead taken given = (earlier later : List ℕ) → taken ≡ earlier ++ later → 65535 < length later
-    → length (cut (ahead ++ earlier)).packets < length given
+-- At most 65,535 of the bytes taken stand behind what the last of these packets takes up: a stream that lacks more of
+-- them at its end has fewer packets.
+abbrev pub IsNear : PacketSize → List ℕ → List ℕ → List (List ℕ) → Type 0
+IsNear size ahead taken given = (earlier later : List ℕ) → taken ≡ earlier ++ later → 65535 < length later
+    → length (cut size (ahead ++ earlier)).packets < length given
 
 -- whatever stream the puller stands behind, at most 65,535 of the bytes taken stand behind the packets given
 abbrev pub IsNearEnd : Pulling → Type 0
-IsNearEnd p = (ahead taken : List ℕ) (given : List (List ℕ)) → Pulls ahead taken given p → IsNear ahead taken given
+IsNearEnd p = (ahead taken : List ℕ) (given : List (List ℕ)) → Pulls ahead taken given p → IsNear p.cutting.size ahead taken given

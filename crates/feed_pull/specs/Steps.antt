@@ -11,7 +11,7 @@ use Rattle.feed_pull.specs.Pulling.{Pulling, Pulls}
 
 -- how many packets are found in all once the unread bytes and these behind them are cut
 abbrev pub found_with : Pulling → List ℕ → ℕ
-found_with p bytes = p.cutting.packets + length (cut (p.cutting.rest ++ (p.unread ++ bytes))).packets
+found_with p bytes = p.cutting.packets + length (cut p.cutting.size (p.cutting.rest ++ (p.unread ++ bytes))).packets
 
 -- `more` ends with the bytes of the last read, and this many packets had been found before it
 pub record Reads (old : Pulling) (more : List ℕ) (earlier : ℕ) : Type 0 where
@@ -88,10 +88,11 @@ pub record HasGiven (packets : List (List ℕ)) (old new : Pulling) : Type 0 whe
   pub reading : new.reading ≡ old.reading
 
 -- Whatever stream the puller stood behind and whatever it had given, it now stands behind that stream with more bytes
--- taken, which are those that the source gave, and has given these packets too.
+-- taken, which are those that the source gave, and has given these packets too. What a packet takes up stays.
 pub record Carries (before after : SourceEnd) (old : Pulling) (packets : List (List ℕ))
     (new : Pulling) : Type 0 where
   pub more : List ℕ
+  pub size : new.cutting.size ≡ old.cutting.size
   pub consumes : Consumes before.left after.left more
   pub pulls : (ahead taken : List ℕ) (given : List (List ℕ)) → Pulls ahead taken given old
       → Pulls ahead (taken ++ more) (given ++ packets) new

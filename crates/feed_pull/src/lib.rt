@@ -7,7 +7,7 @@
 //! which the batch keeps, so that each is copied once. More can wait than a pull asks for only after one that was refused
 //! memory; those that are given are then copied once more.
 //!
-//! What a contract sees: where the cutting stands, the packets that wait and how many there is room for, the unread bytes of
+//! What a contract sees: how many bytes a packet takes up, where the cutting stands, the packets that wait and how many there is room for, the unread bytes of
 //! the last read, how many packets were given, how many bytes and reads were taken, and how reading goes. `Pulls` says what
 //! that stands for: the bytes ahead, the bytes that the pulls took, and the packets that they gave; its watch was shown these
 //! and those that wait. `new` begins it with no bytes and no packets.

@@ -15,7 +15,7 @@ use std::alloc::{AllocError as NoMemory, Global};
 use std::marker::Model;
 use std::sync::Arc;
 use ts_batch::{Batch, BatchRoom};
-use ts_packet::{Cutter, Packet, Tally};
+use ts_packet::{Cutter, Packet, PacketSize, Tally};
 use ts_watch::{Head, Watch};
 
 // The most reads of one stream.
@@ -93,11 +93,18 @@ fn watch_all(watch: &mut Watch, packets: &[Packet])
 
 impl Puller {
     /// A puller of the stream that begins with the bytes `ahead`, at most 65,536, and goes on with what its pulls read.
-    /// So many reads were made of the source before, each of which took a byte; at most 4,294,967,296 are made in all.
-    pub fn new(alloc: Global, ahead: Vec<u8>, turns: u64) -> Result<Puller, NoMemory>
+    /// Each of its packets takes up `size`. So many reads were made of the source before, each of which took a byte; at most
+    /// 4,294,967,296 are made in all.
+    pub fn new(
+        alloc: Global,
+        ahead: Vec<u8>,
+        turns: u64,
+        size: PacketSize,
+    ) -> Result<Puller, NoMemory>
         requires turns { turns ≤ 4294967296 }
         requires short { vec_len ahead ≤ 65536 }
         ensures stream { IfOk result (λ puller. Pulls ahead.items [] [] puller) }
+        ensures size { IfOk result (λ puller. puller.cutting.size ≡ size) }
         ensures numbers { IfOk result (λ puller. (puller.start ≡ turns) × (puller.reads ≡ turns) × (puller.taken ≡ 0) × (puller.given ≡ 0)) }
         ensures going { IfOk result (λ puller. puller.reading ≡ Reading.Going) }
         ensures late { IfOk result (λ puller. puller.found_before_last_read ≤ puller.given) }
@@ -105,7 +112,7 @@ impl Puller {
         let piece = Piece::of(alloc, &ahead)?;
         Ok(Puller {
             alloc,
-            cutter: Cutter::new(),
+            cutter: Cutter::new(size),
             room: BatchRoom::new(alloc),
             piece,
             given: 0,
@@ -295,7 +302,7 @@ impl Puller {
         // want of memory too nothing that was taken is lost.
         ensures stream { Carries (S.end source.old) (S.end source.new) self.old (given_by result (λ batch. batch.value.packets)) self.new }
         // What was given so far is the front of the stream's packets.
-        ensures front { (ahead taken : List ℕ) (given : List (List ℕ)) → Pulls ahead taken given self.new → (later : List (List ℕ)) × ((cut (ahead ++ taken)).packets ≡ given ++ later) }
+        ensures front { (ahead taken : List ℕ) (given : List (List ℕ)) → Pulls ahead taken given self.new → (later : List (List ℕ)) × ((cut self.new.cutting.size (ahead ++ taken)).packets ≡ given ++ later) }
         // Nothing that was found is left over, unless more packets waited than are asked for.
         ensures left { length self.old.waiting ≤ most → IfOk result (λ _. self.new.waiting ≡ []) }
         // A batch's first number is the number of packets given before.
@@ -353,7 +360,7 @@ impl Puller {
     /// The tally of the whole stream. A pull has answered None.
     pub fn tally(&self) -> Tally
         requires { IsDone self.now }
-        ensures { (ahead taken : List ℕ) (given : List (List ℕ)) → Pulls ahead taken given self.now → IsTally (cut (ahead ++ taken)) result }
+        ensures { (ahead taken : List ℕ) (given : List (List ℕ)) → Pulls ahead taken given self.now → IsTally (cut self.now.cutting.size (ahead ++ taken)) result }
     {
         self.cutter.finish()
     }
@@ -361,7 +368,7 @@ impl Puller {
     /// The counts of the whole stream's packets. A pull has answered None.
     pub fn watch(&self) -> &Watch
         requires { IsDone self.now }
-        ensures { (ahead taken : List ℕ) (given : List (List ℕ)) → Pulls ahead taken given self.now → Watched (cut (ahead ++ taken)).packets result.now }
+        ensures { (ahead taken : List ℕ) (given : List (List ℕ)) → Pulls ahead taken given self.now → Watched (cut self.now.cutting.size (ahead ++ taken)).packets result.now }
     {
         &self.watch
     }
@@ -370,7 +377,7 @@ impl Puller {
     pub fn head(&self, alloc: Global) -> Result<Head, NoMemory>
         requires { IsDone self.now }
         ensures head { (ahead taken : List ℕ) (given : List (List ℕ)) → Pulls ahead taken given self.now
-            → IfOk result (λ head. told_head head ≡ head_of (ahead ++ taken) (has_failed self.now.reading)) }
+            → IfOk result (λ head. told_head head ≡ head_of self.now.cutting.size (ahead ++ taken) (has_failed self.now.reading)) }
         ensures fault { IfOk result (λ head. head.read_fault ≡ has_failed self.now.reading) }
     {
         Ok(Head {

@@ -86,11 +86,12 @@ module _ (lines : List Line) (batch : ℕ) (x y : SourceEnd) (old new : Runner) 
   pub left_is : (next : List Core) (left : Left) → length next ≡ length cores → Moves x y old new (IsWholeBy batch lines cores next) → IsDone new.puller → new.nodes.has_ended ≡ true
       → ((r : Run) → IsNodes new.nodes r → AreLegal r → left.histories ≡ histories_in r)
       → ((ls : List Line) (r : Run) → AreAfter ls r next → map (λ those. those.items) left.outcomes.items ≡ map (λ client. outcomes client ls (replies_of client r)) (range_with_len 0 (length next)))
-      → ((ahead taken : List ℕ) (given : List (List ℕ)) → Pulls ahead taken given new.puller → told_head left.head ≡ head_of (ahead ++ taken) left.head.read_fault)
-      → OfStream x y old.puller (λ ahead taken. IsLeftBy lines batch (ahead ++ taken) left)
-  left_is next left count moves done over histories outs head = of_run (IsWholeBy batch lines cores next) (λ ahead taken. IsLeftBy lines batch (ahead ++ taken) left) moves
+      → ((ahead taken : List ℕ) (given : List (List ℕ)) → Pulls ahead taken given new.puller → told_head left.head ≡ head_of new.puller.cutting.size (ahead ++ taken) left.head.read_fault)
+      → OfStream x y old.puller (λ ahead taken. IsLeftBy lines batch old.puller.cutting.size (ahead ++ taken) left)
+  left_is next left count moves done over histories outs head = of_run (IsWholeBy batch lines cores next) (λ ahead taken. IsLeftBy lines batch old.puller.cutting.size (ahead ++ taken) left) moves
       (λ ahead taken ps r p goes at.
-      let all : (cut (ahead ++ taken)).packets ≡ ps = (Pulls-done ahead taken ps new.puller p done).packets in
+      let kept : new.puller.cutting.size ≡ old.puller.cutting.size = moves.draws.carries.size in
+      let all : (cut old.puller.cutting.size (ahead ++ taken)).packets ≡ ps = ap (λ size. (cut size (ahead ++ taken)).packets) (sym kept) ∙ (Pulls-done ahead taken ps new.puller p done).packets in
       let w = goes refl (fresh_after lines ps cores fresh) in
       let serial : IsSerialRun lines batch ps r = (w.before, w.done, w.ends) in
       record {
@@ -98,7 +99,7 @@ module _ (lines : List Line) (batch : ℕ) (x y : SourceEnd) (old new : Runner) 
         serial = subst (λ qs. IsSerialRun lines batch qs r) (sym all) serial;
         histories = histories r at.nodes (serial_legal lines batch ps r serial);
         outcomes = outs lines r w.after ∙ ap (λ m. map (λ client. outcomes client lines (replies_of client r)) (range_with_len 0 m)) (count ∙ fresh.count);
-        head = head ahead taken ps p;
+        head = head ahead taken ps p ∙ ap (λ size. head_of size (ahead ++ taken) left.head.read_fault) kept;
       })
 
   pub overrun_is : All IsInRange lines → 1 ≤ batch → Moves x y old new (λ r s. length r.replies ≡ 8 → AreAfter lines r cores → Overruns lines batch lines r s)
@@ -107,7 +108,7 @@ module _ (lines : List Line) (batch : ℕ) (x y : SourceEnd) (old new : Runner) 
       of_run (λ r s. length r.replies ≡ 8 → AreAfter lines r cores → Overruns lines batch lines r s) (λ ahead taken. 2 ^ 39 ≤ most_calls (all_commands lines) (length ahead + length taken)) moves
       (λ ahead taken ps r p goes at.
       let front = Pulls-front ahead taken ps new.puller p in
-      let packets : All IsPacket ps = All-take_front ps front.0 (subst (λ qs. All IsPacket qs) front.1 (are_packets (ahead ++ taken))) in
+      let packets : All IsPacket ps = All-take_front ps front.0 (subst (λ qs. All IsPacket qs) front.1 (are_packets new.puller.cutting.size (ahead ++ taken))) in
       let o = goes refl (fresh_after lines ps cores fresh) in
       let few = within_budget.moments lines batch ps r ranges one packets o.way o.client in
       omega (arith, few, o.calls, commands_shared lines (suc o.client), Pulls-size ahead taken ps new.puller p))

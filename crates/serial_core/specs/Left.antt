@@ -2,6 +2,7 @@
 use Rattle.std.specs.Prelude.{◌≡◌, ℕ, ◌≤◌, ◌<◌, false, slice_index_or, All, List, [], length, map}
 use Rattle.std.specs.List.{range_with_len}
 use Rattle.ts_packet.specs.Cut.{cut}
+use Rattle.ts_packet.specs.declared.size.PacketSize.{PacketSize}
 use Rattle.dmx_calls.specs.declared.outcome.Outcome.{Outcome}
 use Rattle.ts_watch.specs.Head.{told_head, head_of}
 use Rattle.dmx_calls.specs.Log.{LogEntry}
@@ -24,13 +25,13 @@ abbrev pub outcomes_in : List Line → Run → List (List Outcome)
 outcomes_in lines r = map (λ client. outcomes client lines (replies_of client r)) (range_with_len 0 (clients_in lines))
 
 -- These are the histories, the outcomes and the head of the serial run of a script over a stream of these
--- bytes, in which the source failed or not.
-pub record IsLeftBy (lines : List Line) (batch : ℕ) (stream : List ℕ) (left : Left) : Type 0 where
+-- bytes, whose packets take up so many each, and in which the source failed or not.
+pub record IsLeftBy (lines : List Line) (batch : ℕ) (size : PacketSize) (stream : List ℕ) (left : Left) : Type 0 where
   pub run : Run
-  pub serial : IsSerialRun lines batch (cut stream).packets run
+  pub serial : IsSerialRun lines batch (cut size stream).packets run
   pub histories : left.histories ≡ histories_in run
   pub outcomes : map (λ those. those.items) left.outcomes.items ≡ outcomes_in lines run
-  pub head : told_head left.head ≡ head_of stream left.head.read_fault
+  pub head : told_head left.head ≡ head_of size stream left.head.read_fault
 
 -- ------ before the first line
 

@@ -72,7 +72,7 @@ fn left_by(alloc: Global, runner: Runner, cores: &[ClientCore]) -> Result<Left, 
     ensures histories { IfOk result (λ left. (r : Run) → IsNodes runner.nodes r → AreLegal r → left.histories ≡ histories_in r) }
     ensures outcomes { IfOk result (λ left. (lines : List ScriptLine) (r : Run) → AreAfter lines r cores.now
         → map (λ those. those.items) left.outcomes.items ≡ map (λ client. outcomes client lines (replies_of client r)) (range_with_len 0 (length cores.now))) }
-    ensures head { IfOk result (λ left. (ahead taken : List ℕ) (given : List (List ℕ)) → Pulls ahead taken given runner.puller → told_head left.head ≡ head_of (ahead ++ taken) left.head.read_fault) }
+    ensures head { IfOk result (λ left. (ahead taken : List ℕ) (given : List (List ℕ)) → Pulls ahead taken given runner.puller → told_head left.head ≡ head_of runner.puller.cutting.size (ahead ++ taken) left.head.read_fault) }
     ensures fault { IfOk result (λ left. left.head.read_fault ≡ has_failed runner.puller.reading) }
     ensures well { IfOk result (λ left. runner.puller.reading ≢ TooMany) }
     ensures too_long { (turns : ℕ) → IsErrOf result (Stop.TooLong turns) → (turns ≡ 2 ^ 32) × (2 ^ 32 ≤ runner.puller.start + runner.puller.taken) }
@@ -110,7 +110,7 @@ fn run_over<S: Source, L: Ledger>(
     requires fresh { AreFreshCores script.now cores.old }
     requires going { runner.puller.reading ≡ Going }
     requires faults { (S.end source.old).faults < 2 ^ 64 - 1 }
-    ensures left { IfOk result (λ left. OfStream (S.end source.old) (S.end source.new) runner.puller (λ ahead taken. IsLeftBy script.now batch (ahead ++ taken) left)) }
+    ensures left { IfOk result (λ left. OfStream (S.end source.old) (S.end source.new) runner.puller (λ ahead taken. IsLeftBy script.now batch runner.puller.cutting.size (ahead ++ taken) left)) }
     ensures rose { IfOk result (λ left. IsTrue left.head.read_fault ↔ ((S.end source.old).faults < (S.end source.new).faults)) }
     ensures later { IfOk result (λ _. (S.end source.old).faults ≤ (S.end source.new).faults) }
     ensures once { (S.end source.new).faults ≤ (S.end source.old).faults + 1 }
@@ -148,7 +148,7 @@ pub fn run_steps<S: Source>(
     requires fresh { puller.given ≡ 0 }
     requires faults { (S.end source.old).faults < 2 ^ 64 - 1 }
     // The histories, the outcomes and the head are those of the serial run, which is the only one.
-    ensures left { IfOk result (λ left. OfStream (S.end source.old) (S.end source.new) puller (λ ahead taken. IsLeftBy script.now batch (ahead ++ taken) left)) }
+    ensures left { IfOk result (λ left. OfStream (S.end source.old) (S.end source.new) puller (λ ahead taken. IsLeftBy script.now batch puller.cutting.size (ahead ++ taken) left)) }
     // The source failed exactly where its count rose; else it has nothing left.
     ensures rose { IfOk result (λ left. IsTrue left.head.read_fault ↔ ((S.end source.old).faults < (S.end source.new).faults)) }
     ensures later { IfOk result (λ _. (S.end source.old).faults ≤ (S.end source.new).faults) }

@@ -4,6 +4,8 @@ use Rattle.std.proofs.lemmas.List.{append_assoc}
 use Rattle.std.proofs.Math.Seq.{take-add}
 use Rattle.std.specs.Option.{option_or}
 use Rattle.ts_packet.specs.Cutting.{Cutting, fresh, Cuts}
+use Rattle.ts_packet.specs.declared.size.PacketSize.{PacketSize}
+use Rattle.ts_packet.specs.declared.size.PacketSize.TheVariants.{Of188}
 use Rattle.stc_clock.specs.Clock.{Clock, HasFollowed, last_pcr, pcr_of}
 
 -- of three the first that there is
@@ -24,8 +26,8 @@ pub one_stretch : (piece rest before : List ℕ) (taken result : ℕ) (found out
     (last : Option ℕ)
     → HasFollowed (before ++ take taken piece) mid → found ≡ []
     → rest ≡ drop taken piece
-    → ((b : List ℕ) (f : List (List ℕ)) → Cuts fresh b f mid.cutting
-    → Cuts fresh (b ++ take result rest) (f ++ drop (length found) out) cutting)
+    → ((size : PacketSize) (b : List ℕ) (f : List (List ℕ)) → Cuts (fresh size) b f mid.cutting
+    → Cuts (fresh size) (b ++ take result rest) (f ++ drop (length found) out) cutting)
     → last ≡ option_or (last_pcr out) mid.last
     → HasFollowed (before ++ take (taken + result) piece) (record { cutting = cutting; last = last })
 one_stretch piece rest before taken result found out mid cutting last followed empty behind stream seen =
@@ -33,10 +35,10 @@ one_stretch piece rest before taken result found out mid cutting last followed e
     let joined : bytes ++ take result rest ≡ before ++ take (taken + result) piece =
     ap (λ r. bytes ++ take result r) behind ∙ append_assoc before (take taken piece) (take result (drop taken piece))
     ∙ ap (λ xs. before ++ xs) (sym (take-add taken result piece)) in
-    let P : List ℕ → Type 0 = λ bs. Cuts fresh bs (followed.found ++ out) cutting in
-    let Q : List (List ℕ) → Type 0 = λ fs. Cuts fresh (bytes ++ take result rest) (followed.found ++ drop (length fs) out) cutting in
+    let P : List ℕ → Type 0 = λ bs. Cuts (fresh Of188) bs (followed.found ++ out) cutting in
+    let Q : List (List ℕ) → Type 0 = λ fs. Cuts (fresh Of188) (bytes ++ take result rest) (followed.found ++ drop (length fs) out) cutting in
     record {
       found = followed.found ++ out;
-      cuts = subst P joined (subst Q empty (stream bytes followed.found followed.cuts));
+      cuts = subst P joined (subst Q empty (stream Of188 bytes followed.found followed.cuts));
       last = seen ∙ ap (λ l. option_or (last_pcr out) l) followed.last ∙ sym (last_in_two followed.found out);
     }

@@ -7,6 +7,7 @@ use Rattle.byteorder.specs.Endian.{big_number}
 use Rattle.ts_packet.specs.Cut.{cut}
 use Rattle.ts_packet.specs.Cutting.{Cutting, fresh, Cuts}
 use Rattle.ts_packet.specs.Fields.{bit, has_adaptation}
+use Rattle.ts_packet.specs.declared.size.PacketSize.TheVariants.{Of188}
 
 -- PCR_flag: the bit of weight 16 in byte 5, where there is an adaptation field whose length, in byte 4, has room for
 -- the byte of flags and the six bytes of the clock
@@ -32,9 +33,9 @@ abbrev pub last_pcr : List (List ℕ) → Option ℕ
 last_pcr [] = None
 last_pcr (p ∷ ps) = option_or (last_pcr ps) (pcr_of p)
 
--- the clock of these bytes: the last that the packets of their cutting have
+-- the clock of these bytes: the last that the packets of their cutting have, where each packet takes up its own 188
 abbrev pub clock_of : List ℕ → Option ℕ
-clock_of bytes = last_pcr (cut bytes).packets
+clock_of bytes = last_pcr (cut Of188 bytes).packets
 
 -- ------ what a clock keeps
 
@@ -45,11 +46,11 @@ pub record Clock : Type 0 where
 
 -- no byte was pushed
 abbrev pub unset : Clock
-unset = record { cutting = fresh; last = None }
+unset = record { cutting = fresh Of188; last = None }
 
 -- The clock has followed these bytes: its cutting has taken them, and `last` is the last of the packets that were
 -- found.
 pub record HasFollowed (bytes : List ℕ) (c : Clock) : Type 0 where
   pub found : List (List ℕ)
-  pub cuts : Cuts fresh bytes found c.cutting
+  pub cuts : Cuts (fresh Of188) bytes found c.cutting
   pub last : c.last ≡ last_pcr found

@@ -1,12 +1,12 @@
 // The clock of a stream that comes in pieces.
-ghost use Rattle.std.specs.Prelude.{◌≡◌, ◌+◌, ◌^◌, ◌<◌, ℕ, List, [], ◌++◌, length};
+ghost use Rattle.std.specs.Prelude.{◌≡◌, ◌+◌, ◌^◌, ◌<◌, ◌≤◌, ℕ, List, [], ◌++◌, length};
 ghost use Rattle.std.specs.Option.{option_or};
-ghost use Rattle.ts_packet.specs.Cutting.{bytes_taken};
+ghost use Rattle.ts_packet.specs.Cutting.{bytes_counted};
 ghost use Rattle.stc_clock.specs.Clock.{last_pcr, clock_of, unset, HasFollowed};
 
 use crate::reference::pcr;
 use std::marker::Model;
-use ts_packet::{Cutter, PacketBuf};
+use ts_packet::{Cutter, PacketBuf, PacketSize};
 
 /// The clock of a stream that comes in pieces. A contract sees the cutting so far and the last program clock reference.
 #[derive(Drop)]
@@ -43,7 +43,7 @@ impl StcClock {
         ensures followed { HasFollowed [] result }
     {
         StcClock {
-            cutter: Cutter::new(),
+            cutter: Cutter::new(PacketSize::Of188),
             last: None,
         }
     }
@@ -58,10 +58,10 @@ impl StcClock {
 
     /// Follows the next bytes, in a piece of any length. Fewer than 2^63 bytes are followed in one stream.
     pub fn push(&mut self, piece: &[u8])
-        requires few { bytes_taken self.old.cutting + length piece.now < 2 ^ 63 }
+        requires few { bytes_counted self.old.cutting + length piece.now < 2 ^ 63 }
         // Whatever bytes it has followed before, it has followed these behind them.
         ensures followed { (before : List ℕ) → HasFollowed before self.old → HasFollowed (before ++ piece.now) self.new }
-        ensures taken { bytes_taken self.new.cutting ≡ bytes_taken self.old.cutting + length piece.now }
+        ensures counted { bytes_counted self.new.cutting ≤ bytes_counted self.old.cutting + length piece.now }
     {
         let mut found = PacketBuf::new();
         let mut taken = 0;

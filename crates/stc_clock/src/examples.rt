@@ -2,7 +2,7 @@
 ghost use Rattle.stc_clock.specs.Examples.{ClockIsRead, LargestIsRead, NoneIsRead, LastClockCounts, HalfAPacketHasNone};
 
 /// Clocks of packets and of bytes. It has nothing to do.
-#[tactic(auto, unfolding(ts_packet::specs::Cut::cut, ts_packet::specs::Cut::cut_after))]
+#[tactic(auto, unfolding(ts_packet::specs::Cut::cut, ts_packet::specs::Cut::cut_after, ts_packet::specs::Cut::in_bytes))]
 pub fn clocks()
     ensures clock_is_read { ClockIsRead }
     ensures largest_is_read { LargestIsRead }

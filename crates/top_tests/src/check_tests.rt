@@ -352,6 +352,56 @@ fn a_write_fault_leaves_the_front_of_the_answer(rt: HostRuntime) {
     assert_eq!(rt; odd, None);
 }
 
+// Three packets of PID 256, the first two with 16 bytes behind them.
+static SPACED: [Part; 5] = [
+    (b"\x47\x01\x00\x10", 184, 0),
+    (b"", 16, 0x47),
+    (b"\x47\x01\x00\x11", 184, 0),
+    (b"", 16, 0),
+    (b"\x47\x01\x00\x12", 184, 0),
+];
+
+// The report of a session without a command over these as packets of 204 bytes, and over these as packets of 188.
+static OF_204: &str = "dvbemu 1
+packets=2 skipped=0 rest=188
+pid 256 packets=2 breaks=0 duplicates=0 errors=0
+end
+";
+
+static OF_188: &str = "dvbemu 1
+packets=3 skipped=32 rest=0
+pid 256 packets=2 breaks=1 duplicates=0 errors=0
+pid 1863 packets=1 breaks=0 duplicates=0 errors=0
+end
+";
+
+// What is answered by these words to a report of a session without a command.
+fn answered_by<R: AllocGlobal + Threads + Wait + Sync>(
+    rt: &R,
+    words: &str,
+    report: &str,
+) -> Result<Status, NoMemory> {
+    let alloc = rt.alloc();
+    let mut front = format!(in alloc; "report {}\n", report.len())?;
+    front.push_str(report)?;
+    front.push_str("stream\n")?;
+    let input = input_of(alloc, front.as_str(), &SPACED)?;
+    Ok(told(rt, words, input, &FAULTLESS)?.0)
+}
+
+#[test]
+fn a_report_is_checked_over_packets_of_its_size(rt: HostRuntime) -> Result<(), NoMemory> {
+    let wrong = Status::Wrong(Fault {
+        line: 0,
+        kind: FaultKind::Head,
+    });
+    assert_eq!(rt; answered_by(&rt, "check --packet 204", OF_204)?, Status::Ok);
+    assert_eq!(rt; answered_by(&rt, "check --packet=204", OF_188)?, wrong);
+    assert_eq!(rt; answered_by(&rt, "check", OF_188)?, Status::Ok);
+    assert_eq!(rt; answered_by(&rt, "check --packet 188", OF_204)?, wrong);
+    Ok(())
+}
+
 // What `steps` and `run` write of a session is a report of it.
 #[test]
 fn what_is_written_is_a_report_of_its_session(rt: HostRuntime) -> Result<(), NoMemory> {

@@ -1,5 +1,5 @@
 // Sessions and their reports, scripts with a fault, words, and the session of a number.
-use crate::in_memory::{Ends, told};
+use crate::in_memory::{Ends, Part, told};
 use crate::whole::{PLAIN, Whole, odd_whole};
 use client_script::FaultKind;
 use emu_top::Status;
@@ -7,7 +7,16 @@ use report_check::{Fault, FaultKind as WrongKind};
 
 const EMPTY: &str = "dvbemu 1\npackets=0 skipped=0 rest=0\nend\n";
 
-static SESSIONS: [Whole; 7] = [
+// Three packets of PID 256, the first with 16 bytes 47 behind it, the second with 16 bytes 00.
+const SPACED: &[Part] = &[
+    (b"\x47\x01\x00\x10", 184, 0),
+    (b"", 16, 0x47),
+    (b"\x47\x01\x00\x11", 184, 0),
+    (b"", 16, 0),
+    (b"\x47\x01\x00\x12", 184, 0),
+];
+
+static SESSIONS: [Whole; 9] = [
     Whole {
         output: EMPTY,
         ..PLAIN
@@ -47,6 +56,30 @@ static SESSIONS: [Whole; 7] = [
         output: "dvbemu 1\n\
             packets=400 skipped=0 rest=0\n\
             pid 1863 packets=400 breaks=0 duplicates=0 errors=0\n\
+            end\n",
+        ..PLAIN
+    },
+    // What stands behind a packet is passed over, and the last of three has too few bytes.
+    Whole {
+        words: "steps --packet 204\n\
+            steps --batch 1 --packet=204\n\
+            run --packet=204 --batch 1\n\
+            run --packet 204",
+        stream: SPACED,
+        output: "dvbemu 1\n\
+            packets=2 skipped=0 rest=188\n\
+            pid 256 packets=2 breaks=0 duplicates=0 errors=0\n\
+            end\n",
+        ..PLAIN
+    },
+    // Without the option the bytes 47 begin a packet of their own, and the 32 bytes behind it are skipped.
+    Whole {
+        words: "steps\nsteps --packet 188\nrun",
+        stream: SPACED,
+        output: "dvbemu 1\n\
+            packets=3 skipped=32 rest=0\n\
+            pid 256 packets=2 breaks=1 duplicates=0 errors=0\n\
+            pid 1863 packets=1 breaks=0 duplicates=0 errors=0\n\
             end\n",
         ..PLAIN
     },
@@ -162,8 +195,10 @@ static WORDS: [Whole; 2] = [
         words: "steps\n\
             steps --batch 64\n\
             steps --batch=1\n\
+            steps --packet=204 --batch 7\n\
             run\n\
-            run --batch=1",
+            run --batch=1\n\
+            run --packet 188",
         output: EMPTY,
         ..PLAIN
     },
@@ -172,8 +207,11 @@ static WORDS: [Whole; 2] = [
             steps --\n\
             steps --batch 05\n\
             steps --batch 1 --batch 1\n\
+            steps --packet 192\n\
+            steps --packet 204 --packet 204\n\
             steps --help\n\
             run --batch 65\n\
+            make 7 --packet 204\n\
             make\n\
             make 01\n\
             selftest 7 --batch 0\n\

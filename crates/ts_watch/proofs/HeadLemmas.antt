@@ -6,6 +6,7 @@ use Rattle.ts_packet.specs.Cut.{Cut, cut}
 use Rattle.ts_packet.specs.Cutting.{IsTally}
 use Rattle.ts_packet.specs.Counts.{counts}
 use Rattle.ts_packet.specs.declared.cutter.Tally.{Tally}
+use Rattle.ts_packet.specs.declared.size.PacketSize.{PacketSize}
 use Rattle.ts_watch.specs.declared.head.Head.{Head}
 use Rattle.ts_watch.specs.Head.{told_head, tally_of, rows_below, head_of}
 use Rattle.ts_watch.specs.Watching.{row_of}
@@ -29,6 +30,6 @@ tally-is : (c : Cut) (tally : Tally) → IsTally c tally → tally ≡ tally_of 
 tally-is c tally h = rw (← h.packets, ← h.skipped, ← h.rest) refl
 
 -- the parts of a head
-pub head-is : (bytes : List ℕ) (failed : Bool) (head : Head) → IsTally (cut bytes) head.tally → head.rows.items ≡ rows_below 8192 (cut bytes).packets → head.read_fault ≡ failed → told_head head ≡ head_of bytes failed
+pub head-is : (size : PacketSize) (bytes : List ℕ) (failed : Bool) (head : Head) → IsTally (cut size bytes) head.tally → head.rows.items ≡ rows_below 8192 (cut size bytes).packets → head.read_fault ≡ failed → told_head head ≡ head_of size bytes failed
 unfolding head_of
-head-is bytes failed head t r f = rw (tally-is (cut bytes) head.tally t, r, f) refl
+head-is size bytes failed head t r f = rw (tally-is (cut size bytes) head.tally t, r, f) refl

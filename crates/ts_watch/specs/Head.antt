@@ -4,6 +4,7 @@ use Rattle.std.proofs.Common.{zero, suc}
 use Rattle.ts_packet.specs.Cut.{Cut, cut}
 use Rattle.ts_packet.specs.Counts.{counts}
 use Rattle.ts_packet.specs.declared.cutter.Tally.{Tally}
+use Rattle.ts_packet.specs.declared.size.PacketSize.{PacketSize}
 use Rattle.ts_watch.specs.declared.head.Head.{Head}
 use Rattle.ts_watch.specs.declared.seen.PidRow.{PidRow}
 use Rattle.ts_watch.specs.Watching.{row_of}
@@ -32,11 +33,11 @@ rows_below (suc pid) packets =
     if nat_lt 0 (counts packets pid).packets then rows_below pid packets ++ (pid, row_of packets pid) ∷ []
     else rows_below pid packets
 
--- the head of a stream of these bytes: the numbers of its cutting, the rows of the PIDs of its
--- packets, and whether the source failed in it
-unfoldable pub head_of : List ℕ → Bool → StreamHead
-head_of bytes failed = record {
-  tally = tally_of (cut bytes);
-  rows = rows_below 8192 (cut bytes).packets;
+-- the head of a stream of these bytes, whose packets take up so many each: the numbers of its cutting, the rows of the
+-- PIDs of its packets, and whether the source failed in it
+unfoldable pub head_of : PacketSize → List ℕ → Bool → StreamHead
+head_of size bytes failed = record {
+  tally = tally_of (cut size bytes);
+  rows = rows_below 8192 (cut size bytes).packets;
   read_fault = failed;
 }

@@ -73,12 +73,13 @@ module _ (may : ℕ → Bool) (locks : List TableId) where
 
 -- all packets of the stream that was taken have passed
 pub worked_feeder : (most : ℕ) (may : ℕ → Bool) (x y : SourceEnd) (first : Pulling) (f : FeederWorker) (k : HasPassedAll most may x y first f) (ahead : List ℕ) → Pulls ahead [] [] first
-    → HasFedAll most may (cut (ahead ++ k.draws.carries.more)).packets f.feeder f.feeding.items
+    → HasFedAll most may (cut first.cutting.size (ahead ++ k.draws.carries.more)).packets f.feeder f.feeding.items
 worked_feeder most may x y first f k ahead pulls =
     let more = k.draws.carries.more in
     let now : Pulls ahead more k.packets f.puller = k.draws.carries.pulls ahead [] [] pulls in
+    let all : (cut first.cutting.size (ahead ++ more)).packets ≡ k.packets = ap (λ size. (cut size (ahead ++ more)).packets) (sym k.draws.carries.size) ∙ (Pulls-done ahead more k.packets f.puller now k.done).packets in
     record {
-      fed = subst (λ (ps : List (List ℕ)). HasFed most may ps (ended ∷ []) f.feeder f.feeding.items) (sym (Pulls-done ahead more k.packets f.puller now k.done).packets) k.fed;
+      fed = subst (λ (ps : List (List ℕ)). HasFed most may ps (ended ∷ []) f.feeder f.feeding.items) (sym all) k.fed;
       full = k.full ahead [] [] pulls;
     }
 

@@ -1,6 +1,7 @@
 -- What `work` answers.
 use Rattle.std.specs.Prelude.{◌≡◌, ℕ, Bool, List, length, map, slice_get, Some, None}
 use Rattle.ts_packet.specs.Cut.{cut}
+use Rattle.ts_packet.specs.declared.size.PacketSize.{PacketSize}
 use Rattle.ts_watch.specs.Head.{told_head, head_of}
 use Rattle.dmx_calls.specs.declared.histories.Fed.{Fed}
 use Rattle.dmx_calls.specs.declared.outcome.Outcome.{Outcome}
@@ -35,8 +36,10 @@ pub record AreWorked (lines : List Line) (most : ℕ) (may : ℕ → Bool) (stre
       → slice_get books c ≡ Some log → slice_get told c ≡ Some became
       → HasWorked lines c may client log became
 
--- This is what the threads of a run of a script leave over a stream of these bytes, in which the source failed or not.
-pub record IsLeftBy (lines : List Line) (most : ℕ) (may : ℕ → Bool) (stream : List ℕ) (left : Left) : Type 0 where
-  pub worked : AreWorked lines most may (cut stream).packets left.feeder left.feeding.items left.clients.items
+-- This is what the threads of a run of a script leave over a stream of these bytes, whose packets take up so many each,
+-- and in which the source failed or not.
+pub record IsLeftBy (lines : List Line) (most : ℕ) (may : ℕ → Bool) (size : PacketSize) (stream : List ℕ)
+    (left : Left) : Type 0 where
+  pub worked : AreWorked lines most may (cut size stream).packets left.feeder left.feeding.items left.clients.items
       (map (λ log. map told_entry log.items) left.logs.items) (map (λ those. those.items) left.outcomes.items)
-  pub head : told_head left.head ≡ head_of stream left.head.read_fault
+  pub head : told_head left.head ≡ head_of size stream left.head.read_fault

@@ -131,7 +131,7 @@ pub fn work<R: Threads + Wait + Sync, S: Source + Send, C: Clock + Sync, G: Gate
     requires given { puller.given ≡ 0 }
     requires faults { (S.end source.old).faults < 2 ^ 64 - 1 }
     // The whole stream has passed, and each client has done just its commands; the head is that of the stream.
-    ensures left { IfOk result (λ left. OfStream (S.end source.old) (S.end source.new) puller (λ ahead taken. IsLeftBy script.now batch (C.may_give clock.now) (ahead ++ taken) left)) }
+    ensures left { IfOk result (λ left. OfStream (S.end source.old) (S.end source.new) puller (λ ahead taken. IsLeftBy script.now batch (C.may_give clock.now) puller.cutting.size (ahead ++ taken) left)) }
     // They are still the adapter's callers.
     ensures all { IfOk result (λ left. AreAllCallers adapter.now (left.clients.items ++ left.feeder ∷ [])) }
     ensures nodes { IfOk result (λ left. All (λ log. AreOnNodes log.items) left.logs.items) }

@@ -4,6 +4,7 @@ use Rattle.std.specs.Io.KnownBytes.{Consumes}
 use Rattle.emu_io.specs.Causes.{Rose}
 use Rattle.emu_io.specs.Ends.{SourceEnd}
 use Rattle.ts_packet.specs.Cut.{cut}
+use Rattle.ts_packet.specs.declared.size.PacketSize.{PacketSize}
 use Rattle.ts_watch.specs.Head.{told_head, head_of}
 use Rattle.feed_pull.specs.Pulling.{Pulling}
 use Rattle.feed_pull.specs.Streams.{OfStream}
@@ -28,9 +29,9 @@ pub record Begins (report : List ℕ) (before after : SourceEnd) : Type 0 where
   pub parts : (more : List ℕ) → asked (bytes ++ more) ≡ Ok (record { report = report; session = more })
 
 -- these are the packets and the head of a stream of these bytes, all of which was read
-pub record IsWholeOf (bytes : List ℕ) (stream : Stream) : Type 0 where
-  pub packets : stream.packets.items ≡ (cut bytes).packets
-  pub head : told_head stream.head ≡ head_of bytes false
+pub record IsWholeOf (size : PacketSize) (bytes : List ℕ) (stream : Stream) : Type 0 where
+  pub packets : stream.packets.items ≡ (cut size bytes).packets
+  pub head : told_head stream.head ≡ head_of size bytes false
 
 -- why the stream of a puller isn't read to its end
 abbrev pub IsCutOff : (before after : SourceEnd) → Pulling → Status → Type 0

@@ -3,7 +3,7 @@
 use std::alloc::{AllocError as NoMemory, Global};
 use std::sync::Arc;
 use ts_batch::Batch;
-use ts_packet::{Cutter, PacketBuf};
+use ts_packet::{Cutter, PacketBuf, PacketSize};
 
 /// A packet of the tests' streams.
 #[derive(Clone, Copy, Drop)]
@@ -107,7 +107,7 @@ pub fn batch_at(alloc: Global, first: u32, cells: &[Cell]) -> Result<Option<Arc<
     }
     let mut packets = PacketBuf::new();
     if bytes.len() <= 64 * 188 {
-        Cutter::new().push(&bytes, &mut packets);
+        Cutter::new(PacketSize::Of188).push(&bytes, &mut packets);
     }
     if packets.len() == 0 {
         return Ok(None);

@@ -7,13 +7,14 @@ use emu_io::MemSource;
 use feed_pull::Puller;
 use serial_core::{Left, run_steps};
 use std::alloc::Global;
+use ts_packet::PacketSize;
 
 // What the script leaves over a stream of these packets, where there is memory; the reads of these numbers fail.
 fn left_by(alloc: Global, script: &str, packets: &[(u8, u8)], fails: &[u64]) -> Option<Left> {
     let stream = stream_of(alloc, packets).ok()?;
     let mut source = MemSource::new(stream, 376, fails.to_vec(alloc).ok()?);
     let script = script_of(alloc, script)?;
-    let puller = Puller::new(alloc, Vec::new(alloc), 0).ok()?;
+    let puller = Puller::new(alloc, Vec::new(alloc), 0, PacketSize::Of188).ok()?;
     run_steps(alloc, &script, &mut source, puller, 1).ok()
 }
 

@@ -13,7 +13,7 @@ use adapter::{Adapter, Client, Feeder};
 use std::alloc::Global;
 use std::sync::Arc;
 use ts_batch::Batch;
-use ts_packet::{Cutter, PacketBuf};
+use ts_packet::{Cutter, PacketBuf, PacketSize};
 
 // A packet of a PID, with this number at the front of its payload.
 fn packet(pid: u16, number: u8) -> [u8; 188] {
@@ -33,7 +33,7 @@ fn batch_of(alloc: Global, first: u64, bytes: &[u8]) -> Option<Arc<Batch>>
 {
     let mut packets = PacketBuf::new();
     if bytes.len() <= 64 * 188 {
-        Cutter::new().push(bytes, &mut packets);
+        Cutter::new(PacketSize::Of188).push(bytes, &mut packets);
     }
     if packets.len() == 0 {
         return None;

@@ -11,6 +11,7 @@ use std::sync::Wait;
 use std::sync::atomic::AtomicU64;
 use std::sync::atomic::Ordering::SeqCst;
 use std::thread::Threads;
+use ts_packet::PacketSize;
 use workers::{Left, work};
 
 // A clock that counts its calls, and gives that number.
@@ -84,7 +85,7 @@ fn left_by<R: Threads + Wait + Sync, C: Clock + Sync, G: Gate + Sync>(
     let stream = stream_of(alloc, packets).ok()?;
     let mut source = MemSource::new(stream, 100, Vec::new(alloc));
     let script = script_of(alloc, script)?;
-    let puller = Puller::new(alloc, Vec::new(alloc), 0).ok()?;
+    let puller = Puller::new(alloc, Vec::new(alloc), 0, PacketSize::Of188).ok()?;
     let Ok((adapter, feeder, clients)) = Adapter::new(alloc, script.clients()) else {
         return None;
     };

@@ -9,7 +9,7 @@ use std::sync::Arc;
 use std::sync::ledger::{Blank, Ledger};
 use steps::Steps;
 use ts_batch::{Batch, PlaceSet};
-use ts_packet::{Cutter, PacketBuf, PacketRoom};
+use ts_packet::{Cutter, PacketBuf, PacketRoom, PacketSize};
 
 // Three packets of PID 256.
 static THREE: [Part; 3] = [
@@ -37,7 +37,7 @@ fn has_packets<L: Ledger>(batch: &Batch, packets: &PacketBuf, blank: Blank) -> b
 // Puts the packets of a stream into the buffer, and says whether it has three packets' bytes and all were taken.
 fn takes_three(stream: &[u8], packets: &mut PacketBuf) -> bool {
     packets.clear();
-    stream.len() == 3 * 188 && Cutter::new().push(stream, packets) == 3 * 188
+    stream.len() == 3 * 188 && Cutter::new(PacketSize::Of188).push(stream, packets) == 3 * 188
 }
 
 // Whether a batch of three packets has those of its buffer, which is filled anew once the batch is made.

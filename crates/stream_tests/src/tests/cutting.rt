@@ -2,7 +2,9 @@
 
 use super::{NoMemory, Part, bytes_of, long_stream};
 use std::alloc::Global;
-use ts_packet::{Cutter, PACKET_LEN, Packet, PacketBuf, PacketRoom, Tally, cutting_law};
+use ts_packet::{
+    Cutter, PACKET_LEN, Packet, PacketBuf, PacketRoom, PacketSize, Tally, cutting_law,
+};
 
 // A header, and the fields that ISO/IEC 13818-1, 2.4.3, gives a packet with it.
 struct Row {
@@ -180,8 +182,16 @@ fn fields_are_those_of_the_standard(rt: HostRuntime) {
     assert_eq!(rt; odd_row(), None);
 }
 
+// A stream, what its packets take up, and its packets and its tally as the rule gives them.
+struct Sample {
+    size: PacketSize,
+    stream: &'static [Part],
+    wanted: &'static [Part],
+    tally: Tally,
+}
+
 // Garbage, two packets, garbage that ends with 0x47, a packet that is cut one byte early for it, a packet, and a rest.
-static STREAM: [Part; 7] = [
+const STREAM: &[Part] = &[
     (&[0x11, 0x12, 0x13], 0, 0),
     (&[0x47, 0x01, 0x00, 0x10], 184, 0x47),
     (&[0x47, 0x01, 0x00, 0x11], 184, 0x01),
@@ -191,19 +201,73 @@ static STREAM: [Part; 7] = [
     (&[], 100, 0x47),
 ];
 
-// The packets of that stream, as the rule gives them, and its tally.
-static WANTED: [Part; 4] = [
+// Garbage, a packet with 16 bytes 47 behind it, garbage, a packet with 16 bytes 01 behind it, and a packet with 15 bytes 47
+// behind it.
+const SPACED: &[Part] = &[
+    (&[0x11], 0, 0),
     (&[0x47, 0x01, 0x00, 0x10], 184, 0x47),
+    (&[], 16, 0x47),
+    (&[0x22, 0x23], 0, 0),
     (&[0x47, 0x01, 0x00, 0x11], 184, 0x01),
-    (&[0x47, 0x47, 0x01, 0x00, 0x12], 183, 0x02),
-    (&[0x47, 0x01, 0x00, 0x13], 184, 0x03),
+    (&[], 16, 0x01),
+    (&[0x47, 0x01, 0x00, 0x12], 184, 0x02),
+    (&[], 15, 0x47),
 ];
 
-static TALLY: Tally = Tally {
-    packets: 4,
-    skipped: 5,
-    rest: 100,
-};
+static SAMPLES: [Sample; 3] = [
+    Sample {
+        size: PacketSize::Of188,
+        stream: STREAM,
+        wanted: &[
+            (&[0x47, 0x01, 0x00, 0x10], 184, 0x47),
+            (&[0x47, 0x01, 0x00, 0x11], 184, 0x01),
+            (&[0x47, 0x47, 0x01, 0x00, 0x12], 183, 0x02),
+            (&[0x47, 0x01, 0x00, 0x13], 184, 0x03),
+        ],
+        tally: Tally {
+            packets: 4,
+            skipped: 5,
+            rest: 100,
+        },
+    },
+    // What stands behind a packet is in none of the numbers; where a byte of it is missing there is no packet.
+    Sample {
+        size: PacketSize::Of204,
+        stream: SPACED,
+        wanted: &[
+            (&[0x47, 0x01, 0x00, 0x10], 184, 0x47),
+            (&[0x47, 0x01, 0x00, 0x11], 184, 0x01),
+        ],
+        tally: Tally {
+            packets: 2,
+            skipped: 3,
+            rest: 203,
+        },
+    },
+    // Read as packets of 188 the 16 bytes 47 begin one, which ends 18 bytes before the next packet's end. These and the 16
+    // behind them are skipped, and of the last packet's 15 the first begins the rest.
+    Sample {
+        size: PacketSize::Of188,
+        stream: SPACED,
+        wanted: &[
+            (&[0x47, 0x01, 0x00, 0x10], 184, 0x47),
+            (
+                &[
+                    0x47, 0x47, 0x47, 0x47, 0x47, 0x47, 0x47, 0x47, 0x47, 0x47, 0x47, 0x47, 0x47,
+                    0x47, 0x47, 0x47, 0x22, 0x23, 0x47, 0x01, 0x00, 0x11,
+                ],
+                166,
+                0x01,
+            ),
+            (&[0x47, 0x01, 0x00, 0x12], 184, 0x02),
+        ],
+        tally: Tally {
+            packets: 3,
+            skipped: 35,
+            rest: 15,
+        },
+    },
+];
 
 // What stands behind the bytes of these packets; None where they aren't the front.
 fn behind<'a>(bytes: &'a [u8], packets: &[Packet]) -> Option<&'a [u8]> {
@@ -214,36 +278,46 @@ fn behind<'a>(bytes: &'a [u8], packets: &[Packet]) -> Option<&'a [u8]> {
     Some(left)
 }
 
-// Whether the stream, in pieces of at most `size` bytes, is cut into packets of the wanted bytes, with that tally.
-fn is_cut_alike(stream: &[u8], wanted: &[u8], size: usize) -> bool {
-    if size == 0 || stream.len() > 1_000_000 {
+// Whether a stream, in pieces of at most so many bytes, is cut into packets of the wanted bytes, with that tally.
+fn is_cut_alike(stream: &[u8], wanted: &[u8], sample: &Sample, piece: usize) -> bool {
+    if piece == 0 || stream.len() > 1_000_000 {
         return false;
     }
-    let mut cutter = Cutter::new();
+    let mut cutter = Cutter::new(sample.size);
     let mut packets = PacketBuf::new();
     let mut left = stream;
     let mut missing = wanted;
     'pieces: while !left.is_empty() {
         packets.clear();
-        let taken = cutter.push(&left[..size.min(left.len())], &mut packets);
+        let taken = cutter.push(&left[..piece.min(left.len())], &mut packets);
         left = &left[taken..];
         match behind(missing, packets.as_slice()) {
             Some(rest) => missing = rest,
             None => return false,
         }
     }
-    missing.is_empty() && cutter.finish() == TALLY
+    missing.is_empty() && cutter.finish() == sample.tally
 }
 
-static SIZES: [usize; 6] = [1, 7, 187, 188, 189, 1000];
+static PIECES: [usize; 9] = [1, 7, 187, 188, 189, 203, 204, 205, 1000];
 
-// The first of the sizes by which the stream isn't cut as wanted.
-fn odd_size(alloc: Global) -> Result<Option<usize>, NoMemory> {
-    let stream = bytes_of(alloc, &STREAM, 1)?;
-    let wanted = bytes_of(alloc, &WANTED, 1)?;
-    for size in SIZES.iter() {
-        if !is_cut_alike(&stream, &wanted, *size) {
-            return Ok(Some(*size));
+// The first of the lengths of pieces by which the stream isn't cut as wanted.
+fn odd_piece(alloc: Global, sample: &Sample) -> Result<Option<usize>, NoMemory> {
+    let stream = bytes_of(alloc, sample.stream, 1)?;
+    let wanted = bytes_of(alloc, sample.wanted, 1)?;
+    for piece in PIECES.iter() {
+        if !is_cut_alike(&stream, &wanted, sample, *piece) {
+            return Ok(Some(*piece));
+        }
+    }
+    Ok(None)
+}
+
+// The first of the samples that isn't cut as wanted, by its place and the length of the pieces.
+fn odd_sample(alloc: Global) -> Result<Option<(usize, usize)>, NoMemory> {
+    for (place, sample) in SAMPLES.iter().enumerate() {
+        if let Some(piece) = odd_piece(alloc, sample)? {
+            return Ok(Some((place, piece)));
         }
     }
     Ok(None)
@@ -251,7 +325,7 @@ fn odd_size(alloc: Global) -> Result<Option<usize>, NoMemory> {
 
 #[test]
 fn pieces_of_any_size_are_cut_alike(rt: HostRuntime) {
-    assert_eq!(rt; odd_size(rt.alloc()), Ok(None));
+    assert_eq!(rt; odd_sample(rt.alloc()), Ok(None));
 }
 
 // Whether a buffer has 64 packets, the last of them with this last byte.
@@ -269,7 +343,7 @@ fn stops_when_full(stream: &[u8]) -> bool {
     if stream.len() != 70 * PACKET_LEN + 1 {
         return false;
     }
-    let mut cutter = Cutter::new();
+    let mut cutter = Cutter::new(PacketSize::Of188);
     let mut packets = PacketBuf::new();
     let taken = cutter.push(stream, &mut packets);
     let left = &stream[taken..];

@@ -15,6 +15,7 @@ use std::marker::Brand;
 use std::sync::ledger::{Blank, Ledger};
 use steps::Steps;
 use ts_batch::Batch;
+use ts_packet::PacketSize;
 use ts_watch::Head;
 
 // A puller, and the source that it pulls from.
@@ -26,9 +27,14 @@ struct Stream {
 }
 
 // A puller behind these bytes and so many reads, or None where either are too many.
-fn puller_of(alloc: Global, ahead: Vec<u8>, turns: u64) -> Result<Option<Puller>, NoMemory> {
+fn puller_of(
+    alloc: Global,
+    ahead: Vec<u8>,
+    turns: u64,
+    size: PacketSize,
+) -> Result<Option<Puller>, NoMemory> {
     if ahead.len() <= 65_536 && turns <= 4_294_967_296 {
-        Ok(Some(Puller::new(alloc, ahead, turns)?))
+        Ok(Some(Puller::new(alloc, ahead, turns, size)?))
     } else {
         Ok(None)
     }
@@ -51,7 +57,7 @@ fn stream_of(alloc: Global, row: &Row) -> Result<Option<Stream>, NoMemory> {
     let Some(own) = bytes.get(row.source.0..row.source.1) else {
         return Ok(None);
     };
-    let Some(puller) = puller_of(alloc, ahead.to_vec(alloc)?, row.turns)? else {
+    let Some(puller) = puller_of(alloc, ahead.to_vec(alloc)?, row.turns, row.packet)? else {
         return Ok(None);
     };
     let source = source_of(alloc, own, row.piece, row.fails)?;
@@ -181,7 +187,7 @@ impl Stream {
 fn comes_in_batches(alloc: Global) -> Result<bool, NoMemory> {
     let bytes = long_stream(alloc)?;
     let source = source_of(alloc, &bytes, 1_000, &[])?;
-    let puller = Puller::new(alloc, Vec::new(alloc), 0)?;
+    let puller = Puller::new(alloc, Vec::new(alloc), 0, PacketSize::Of188)?;
     let mut stream = Stream { puller, source };
     match stream.behind_batches(&bytes, &[3, 64, 1, 2])? {
         Some(left) => Ok(left == [0u8].as_slice()),
@@ -200,7 +206,7 @@ fn count_all<S: Source>(puller: &mut Puller, source: &mut S) -> Result<u64, NoMe
     requires begins { Pulls [] [] [] puller.old }
     requires going { puller.old.reading ≡ Going }
     requires faults { (S.end source.old).faults < 2 ^ 64 - 1 }
-    ensures { IfOk result (λ count. fault_of puller.new.reading ≡ None → IfSome (S.end source.old).left (λ input. count ≡ length (cut input).packets)) }
+    ensures { IfOk result (λ count. fault_of puller.new.reading ≡ None → IfSome (S.end source.old).left (λ input. count ≡ length (cut puller.old.cutting.size input).packets)) }
 {
     let mut count = 0u64;
     'all: while let Some(batch) = puller.pull(source, 64)? {
@@ -215,7 +221,8 @@ static FIVE: [Part; 6] = [PACKET, PACKET, PACKET, PACKET, PACKET, (&[0x47], 59, 
 // How many packets these bytes have by the count.
 fn counted(alloc: Global) -> Result<u64, NoMemory> {
     let mut source = MemSource::new(bytes_of(alloc, &FIVE, 1)?, 300, Vec::new(alloc));
-    count_all(&mut Puller::new(alloc, Vec::new(alloc), 0)?, &mut source)
+    let mut puller = Puller::new(alloc, Vec::new(alloc), 0, PacketSize::Of188)?;
+    count_all(&mut puller, &mut source)
 }
 
 #[test]

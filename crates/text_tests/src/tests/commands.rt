@@ -2,8 +2,37 @@
 
 use command_words::{Command, read_words};
 use std::alloc::{AllocError as NoMemory, Global};
+use ts_packet::PacketSize;
 
 const MOST: u64 = 18446744073709551615;
+
+// A session's run, in batches of so many packets, each of which takes up so much: step by step, and by threads.
+macro_rules! steps {
+    ($batch:expr, $packet:ident) => {
+        Some(Command::Steps {
+            batch: $batch,
+            packet: PacketSize::$packet,
+        })
+    };
+}
+
+macro_rules! run {
+    ($batch:expr, $packet:ident) => {
+        Some(Command::Run {
+            batch: $batch,
+            packet: PacketSize::$packet,
+        })
+    };
+}
+
+// Whether a report is one of a session whose packets take up so much.
+macro_rules! check {
+    ($packet:ident) => {
+        Some(Command::Check {
+            packet: PacketSize::$packet,
+        })
+    };
+}
 
 // The run of a number's session, in batches of so many packets.
 macro_rules! self_test {
@@ -16,15 +45,25 @@ macro_rules! self_test {
 }
 
 // Words, each with a bar behind it, and the command that they name, or None where they are refused.
-static WORDS: [(&str, Option<Command>); 80] = [
-    ("steps|", Some(Command::Steps { batch: 64 })),
-    ("steps|--batch|1|", Some(Command::Steps { batch: 1 })),
-    ("steps|--batch|64|", Some(Command::Steps { batch: 64 })),
-    ("steps|--batch=64|", Some(Command::Steps { batch: 64 })),
-    ("steps|--batch=7|", Some(Command::Steps { batch: 7 })),
-    ("run|", Some(Command::Run { batch: 64 })),
-    ("run|--batch|1|", Some(Command::Run { batch: 1 })),
-    ("run|--batch=64|", Some(Command::Run { batch: 64 })),
+static WORDS: [(&str, Option<Command>); 123] = [
+    ("steps|", steps!(64, Of188)),
+    ("steps|--batch|1|", steps!(1, Of188)),
+    ("steps|--batch|64|", steps!(64, Of188)),
+    ("steps|--batch=64|", steps!(64, Of188)),
+    ("steps|--batch=7|", steps!(7, Of188)),
+    ("run|", run!(64, Of188)),
+    ("run|--batch|1|", run!(1, Of188)),
+    ("run|--batch=64|", run!(64, Of188)),
+    ("steps|--packet|188|", steps!(64, Of188)),
+    ("steps|--packet|204|", steps!(64, Of204)),
+    ("steps|--packet=204|", steps!(64, Of204)),
+    ("steps|--packet=204|--batch|1|", steps!(1, Of204)),
+    ("steps|--batch|1|--packet=204|", steps!(1, Of204)),
+    ("steps|--batch=1|--packet|204|", steps!(1, Of204)),
+    ("steps|--packet|204|--batch|64|", steps!(64, Of204)),
+    ("steps|--packet=188|--batch=2|", steps!(2, Of188)),
+    ("run|--packet=204|--batch|1|", run!(1, Of204)),
+    ("run|--batch|7|--packet|204|", run!(7, Of204)),
     ("make|0|", Some(Command::Make { number: 0 })),
     ("make|7|", Some(Command::Make { number: 7 })),
     (
@@ -67,14 +106,47 @@ static WORDS: [(&str, Option<Command>); 80] = [
     ("steps|--batch=|", None),
     ("steps|--batch==1|", None),
     ("steps|7|", None),
-    ("check|", Some(Command::Check)),
+    ("steps|--packet|192|", None),
+    ("steps|--packet|204|--packet|204|", None),
+    ("steps|--packet=204|--packet=204|", None),
+    ("steps|--packet|204|--batch|1|--packet|204|", None),
+    ("steps|--packet=204|--batch=1|--batch=1|", None),
+    ("steps|--batch|1|--packet|204|7|", None),
+    ("steps|--batch=1|--packet=204|--|", None),
+    ("steps|--packet|", None),
+    ("steps|--packet||", None),
+    ("steps|--packet=|", None),
+    ("steps|--packet|0204|", None),
+    ("steps|--packet|+204|", None),
+    ("steps|--packet|204 |", None),
+    ("steps|--packet|--batch|1|", None),
+    ("steps|--packet|--batch=1|", None),
+    ("steps|--batch|--packet=204|", None),
+    ("steps|--batch|--packet|204|", None),
+    ("steps|--packet=204|--batch|", None),
+    ("steps|-packet|204|", None),
+    ("steps|--pack|204|", None),
+    ("steps|204|--packet|", None),
+    ("run|--packet|189|", None),
+    ("make|7|--packet|204|", None),
+    ("make|--packet=204|7|", None),
+    ("selftest|7|--packet|204|", None),
+    ("selftest|--packet=188|7|", None),
+    ("selftest|7|--batch|1|--packet|188|", None),
+    ("check|", check!(Of188)),
+    ("check|--packet|204|", check!(Of204)),
+    ("check|--packet=204|", check!(Of204)),
+    ("check|--packet|188|", check!(Of188)),
     ("check||", None),
     ("check|7|", None),
     ("check|check|", None),
     ("check|--batch|1|", None),
     ("check|--batch=64|", None),
     ("check|--|", None),
-    ("check|--packet|188|", None),
+    ("check|--packet|192|", None),
+    ("check|--packet|204|--packet|204|", None),
+    ("check|--packet=204|--batch=1|", None),
+    ("check|--packet=204|7|", None),
     ("check|--help|", None),
     ("Check|", None),
     ("make|", None),

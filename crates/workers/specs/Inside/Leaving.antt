@@ -29,7 +29,7 @@ pub record IsLeftByWorkers (f : FeederWorker) (workers : List ClientWorker) (lef
   pub feeder : left.feeder ≡ f.feeder
   pub feeding : left.feeding ≡ f.feeding
   pub head : (ahead taken : List ℕ) (given : List (List ℕ)) → Pulls ahead taken given f.puller
-      → told_head left.head ≡ head_of (ahead ++ taken) left.head.read_fault
+      → told_head left.head ≡ head_of f.puller.cutting.size (ahead ++ taken) left.head.read_fault
   pub fault : left.head.read_fault ≡ has_failed f.puller.reading
   pub clients : left.clients.items ≡ map (λ v. v.client) workers
   pub logs : map (λ log. log.items) left.logs.items ≡ map (λ v. v.log.items) workers

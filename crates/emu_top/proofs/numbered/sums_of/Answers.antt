@@ -1,5 +1,6 @@
 use Rattle.std.proofs.Common.{◌≡◌, ◌∙◌, List, ℕ, Some, subst}
 use Rattle.ts_make.specs.Made.{made}
+use Rattle.ts_packet.specs.declared.size.PacketSize.TheVariants.{Of188}
 use Rattle.emu_top.specs.Session.{Refuses, Runs}
 use Rattle.emu_top.proofs.Numbers.{refused, summed, unfailed}
 use Rattle.emu_top.proofs.numbered.sums_of.Goals as goal
@@ -13,4 +14,4 @@ pub returns-in-Ok-summary-clause-sums : goal.returns-in-Ok-summary-clause-sums
 returns-in-Ok-summary-clause-sums c =
     let content : c.deref.result.now ≡ made c.args.number = c.deref.ensures.value ∙ c.in-Ok.ensures in
     summed c.args.number c.args.batch _ c.in-Ok-ran_of.ran c.in-Ok-summary.text.items
-    (subst (λ (bytes : List ℕ). Runs c.args.batch (unfailed (Some bytes)) (unfailed (Some c.ran_of.new.source.rest.now)) c.in-Ok-ran_of.ran) content c.in-Ok-ran_of.ensures.runs) c.in-Ok-summary.ensures
+    (subst (λ (bytes : List ℕ). Runs c.args.batch Of188 (unfailed (Some bytes)) (unfailed (Some c.ran_of.new.source.rest.now)) c.in-Ok-ran_of.ran) content c.in-Ok-ran_of.ensures.runs) c.in-Ok-summary.ensures

@@ -7,4 +7,4 @@ pub returns-clause-histories : goal.returns-clause-histories
 returns-clause-histories c r at legal = c.in_ok-histories.ensures ∙ all_woven c.args.runner.nodes r at c.requires.ended legal
 
 pub returns-clause-head : goal.returns-clause-head
-returns-clause-head c ahead taken given p = c.in_ok-head.ensures.head ahead taken given p ∙ ap (head_of (ahead ++ taken)) (sym c.in_ok-head.ensures.fault)
+returns-clause-head c ahead taken given p = c.in_ok-head.ensures.head ahead taken given p ∙ ap (head_of c.args.runner.puller.cutting.size (ahead ++ taken)) (sym c.in_ok-head.ensures.fault)

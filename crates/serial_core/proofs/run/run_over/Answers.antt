@@ -25,7 +25,7 @@ returns-in-Ok-clause-left g c =
     ok_by c.left_by.result _ _ _ _
     (λ (left : Left) (a : (r : Run) → IsNodes c.whole.new.self.nodes r → AreLegal r → left.histories ≡ histories_in r)
     (b : (ls : List Line) (r : Run) → AreAfter ls r c.whole.new.cores → map (λ those. those.items) left.outcomes.items ≡ map (λ client. outcomes client ls (replies_of client r)) (range_with_len 0 (length c.whole.new.cores)))
-    (h : (ahead taken : List ℕ) (given : List (List ℕ)) → Pulls ahead taken given c.whole.new.self.puller → told_head left.head ≡ head_of (ahead ++ taken) left.head.read_fault).
+    (h : (ahead taken : List ℕ) (given : List (List ℕ)) → Pulls ahead taken given c.whole.new.self.puller → told_head left.head ≡ head_of c.whole.new.self.puller.cutting.size (ahead ++ taken) left.head.read_fault).
     left_is c.args.script.now c.args.batch _ _ c.args.runner c.whole.new.self c.args.cores.now c.requires.begun c.requires.fresh c.whole.new.cores left c.whole.auto.cores (rw c.lines.ensures.lines at w.moves) done w.ended a b h)
     c.left_by.ensures.histories c.left_by.ensures.outcomes c.left_by.ensures.head
 

@@ -2,7 +2,7 @@
 
 use crate::tests::Part;
 use feed_pull::PullFault;
-use ts_packet::Tally;
+use ts_packet::{PacketSize, Tally};
 use ts_watch::PidRow;
 
 /// Parts, and how often they stand one behind another.
@@ -13,6 +13,8 @@ pub type Told = (Tally, &'static [(u16, PidRow)], bool);
 
 /// A stream, how it is pulled, and what is wanted.
 pub struct Row {
+    /// What a packet takes up.
+    pub packet: PacketSize,
     /// Bytes, how many of them stand ahead, and from which to which place they come from the source.
     pub bytes: Bytes,
     pub ahead: usize,
@@ -137,10 +139,73 @@ const MIXED_PIDS: &[(u16, PidRow)] = &[
     ),
 ];
 
+// Three packets of PID 256 in their order, and 16 bytes behind each of the first two; those behind the first are bytes 47.
+const SPACED: Bytes = (
+    &[
+        (&[0x47, 0x01, 0x00, 0x10], 184, 0),
+        (&[], 16, 0x47),
+        (&[0x47, 0x01, 0x00, 0x11], 184, 0),
+        (&[], 16, 0),
+        (&[0x47, 0x01, 0x00, 0x12], 184, 0),
+    ],
+    1,
+);
+
+// What its head says where a packet takes up 204 bytes: the last of the three has no bytes behind it.
+const SPACED_BY_204: Told = (
+    Tally {
+        packets: 2,
+        skipped: 0,
+        rest: 188,
+    },
+    &[(
+        256,
+        PidRow {
+            packets: 2,
+            breaks: 0,
+            duplicates: 0,
+            errors: 0,
+        },
+    )],
+    false,
+);
+
+// .. and where a packet takes up 188: the bytes 47 begin a packet of PID 0x747 without a payload, up to 16 bytes before
+// the second packet's end, which are skipped with the 16 bytes 00.
+const SPACED_BY_188: Told = (
+    Tally {
+        packets: 3,
+        skipped: 32,
+        rest: 0,
+    },
+    &[
+        (
+            256,
+            PidRow {
+                packets: 2,
+                breaks: 1,
+                duplicates: 0,
+                errors: 0,
+            },
+        ),
+        (
+            1863,
+            PidRow {
+                packets: 1,
+                breaks: 0,
+                duplicates: 0,
+                errors: 0,
+            },
+        ),
+    ],
+    false,
+);
+
 /// The rows.
-pub static ROWS: [Row; 10] = [
+pub static ROWS: [Row; 13] = [
     // Of a long stream no more is read than is asked for.
     Row {
+        packet: PacketSize::Of188,
         bytes: LONG,
         ahead: 0,
         source: (0, 200_000),
@@ -155,6 +220,7 @@ pub static ROWS: [Row; 10] = [
         left: 134_464,
     },
     Row {
+        packet: PacketSize::Of188,
         bytes: LONG,
         ahead: 0,
         source: (0, 200_000),
@@ -169,6 +235,7 @@ pub static ROWS: [Row; 10] = [
         left: 134_464,
     },
     Row {
+        packet: PacketSize::Of188,
         bytes: LONG,
         ahead: 0,
         source: (0, 200_000),
@@ -184,6 +251,7 @@ pub static ROWS: [Row; 10] = [
     },
     // Batches of any size make it up, also where some of the bytes stand ahead, and where a read gives few.
     Row {
+        packet: PacketSize::Of188,
         bytes: LONG,
         ahead: 0,
         source: (0, 200_000),
@@ -198,6 +266,7 @@ pub static ROWS: [Row; 10] = [
         left: 0,
     },
     Row {
+        packet: PacketSize::Of188,
         bytes: LONG,
         ahead: 100,
         source: (100, 200_000),
@@ -212,6 +281,7 @@ pub static ROWS: [Row; 10] = [
         left: 0,
     },
     Row {
+        packet: PacketSize::Of188,
         bytes: LONG,
         ahead: 65_536,
         source: (65_536, 200_000),
@@ -227,6 +297,7 @@ pub static ROWS: [Row; 10] = [
     },
     // The second read fails, and the source isn't read any more.
     Row {
+        packet: PacketSize::Of188,
         bytes: LONG,
         ahead: 0,
         source: (0, 200_000),
@@ -242,6 +313,7 @@ pub static ROWS: [Row; 10] = [
     },
     // All reads were made before.
     Row {
+        packet: PacketSize::Of188,
         bytes: LONG,
         ahead: 400,
         source: (0, 1000),
@@ -259,6 +331,7 @@ pub static ROWS: [Row; 10] = [
     },
     // Four reads give the 755 bytes; the read behind them may fail.
     Row {
+        packet: PacketSize::Of188,
         bytes: MIXED,
         ahead: 0,
         source: (0, 755),
@@ -273,6 +346,7 @@ pub static ROWS: [Row; 10] = [
         left: 0,
     },
     Row {
+        packet: PacketSize::Of188,
         bytes: MIXED,
         ahead: 0,
         source: (0, 755),
@@ -284,6 +358,52 @@ pub static ROWS: [Row; 10] = [
         packets: 4,
         head: Some((MIXED_TALLY, MIXED_PIDS, true)),
         fault: Some(PullFault::ReadFault),
+        left: 0,
+    },
+    // Bytes behind the packets are passed over, wherever a piece ends.
+    Row {
+        packet: PacketSize::Of204,
+        bytes: SPACED,
+        ahead: 0,
+        source: (0, 596),
+        piece: 1000,
+        fails: &[],
+        turns: 0,
+        sizes: [64; 3],
+        pulls: 100,
+        packets: 2,
+        head: Some(SPACED_BY_204),
+        fault: None,
+        left: 0,
+    },
+    Row {
+        packet: PacketSize::Of204,
+        bytes: SPACED,
+        ahead: 190,
+        source: (190, 596),
+        piece: 3,
+        fails: &[],
+        turns: 0,
+        sizes: [1, 64, 7],
+        pulls: 100,
+        packets: 2,
+        head: Some(SPACED_BY_204),
+        fault: None,
+        left: 0,
+    },
+    Row {
+        packet: PacketSize::Of188,
+        bytes: SPACED,
+        ahead: 190,
+        source: (190, 596),
+        piece: 3,
+        fails: &[],
+        turns: 0,
+        sizes: [1, 64, 7],
+        pulls: 100,
+        packets: 3,
+        head: Some(SPACED_BY_188),
+        fault: None,
         left: 0,
     },
 ];

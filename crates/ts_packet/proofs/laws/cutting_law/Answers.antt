@@ -6,7 +6,7 @@ use Rattle.ts_packet.proofs.laws.cutting_law.Goals as goal
 
 pub returns-clause-made : goal.returns-clause-made
 unfolding cut
-returns-clause-made c = λ stream. let i = has-pieces 0 stream (omega arith) in (i.pieces, (cut stream).rest, i.made, i.cuts)
+returns-clause-made c = λ size stream. let i = has-pieces size 0 stream (omega arith) in (i.pieces, (cut size stream).rest, i.made, i.cuts)
 
 pub returns-clause-unique : goal.returns-clause-unique
 returns-clause-unique c = same-pieces

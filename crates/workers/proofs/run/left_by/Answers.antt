@@ -9,7 +9,7 @@ returns c =
     record {
       feeder = refl;
       feeding = refl;
-      head = λ ahead taken given p. h.head ahead taken given p ∙ ap (head_of (ahead ++ taken)) (sym h.fault);
+      head = λ ahead taken given p. h.head ahead taken given p ∙ ap (head_of c.args.feeder.puller.cutting.size (ahead ++ taken)) (sym h.fault);
       fault = h.fault;
       clients = d.clients;
       logs = d.logs;

@@ -1,7 +1,8 @@
-use Rattle.std.proofs.Common.{rules, ◌≡◌, ◌≢◌, ◌≤◌, ◌+◌, ◌^◌, length, inl, ⊎_elim, [], None, Some, refl, ap, ◌∙◌}
+use Rattle.std.proofs.Common.{rules, ◌≡◌, ◌≢◌, ◌≤◌, ◌+◌, ◌^◌, length, ◌++◌, inl, ⊎_elim, [], None, Some, refl, ap, ◌∙◌}
 use Rattle.std.specs.Prelude.{slice_index_or}
 use Rattle.std.proofs.lemmas.Option.{slice_get-get_or}
 use Rattle.script_run.specs.Budget.{IsTooLong}
+use Rattle.ts_watch.specs.Head.{head_of}
 use Rattle.client_core.specs.declared.stop.Stop.TheVariants.{NoMemory, TooLong}
 use Rattle.workers.specs.Inside.Leaving.{IsLeftByWorkers, StopsBy}
 use Rattle.feed_pull.proofs.Drawing.{draws_none}
@@ -63,7 +64,7 @@ returns-in_ok-left_by-in-None-clause-left g c =
       λ ahead pulls. record {
         worked = all_worked c.args.script.now c.args.adapter.now _ c.args.feeder c.args.clients.items r.fresh r.all may ws vs b c.work_all.ensures.clients f c.in_ok-left_by-in-None.field-0 left none.1
             c.args.batch _ refl (worked_feeder c.args.batch may _ _ c.args.puller f all ahead pulls);
-        head = left.head ahead more all.packets (all.draws.carries.pulls ahead [] [] pulls);
+        head = left.head ahead more all.packets (all.draws.carries.pulls ahead [] [] pulls) ∙ ap (λ size. head_of size (ahead ++ more) c.in_ok-left_by-in-None.field-0.head.read_fault) all.draws.carries.size;
       },
     )
 

@@ -11,7 +11,7 @@ invariant_of-self c =
     let within : c.push-count.result ≤ length c.self.inside.piece = rw c.rest.ensures.bytes at f.within in
     let shown : c.behind.result.now ≡ drop (length c.self.inside.room.packets) w = c.behind.ensures.value ∙ ap (λ (n : ℕ). drop n w) c.len-before.ensures.value in
     let watched : t.watched ≡ c.self.inside.watch.watched + length (drop (length c.self.inside.room.packets) w) = c.watch_all.ensures.watched ∙ ap (λ (l : List (List ℕ)). c.self.inside.watch.watched + length l) shown in
-    IsPulling-cut _ c.push-count.new.self w c.push-count.new.out.most c.pass.new.self c.rest.result.now c.push-count.result t c.self.invariant c.rest.ensures.bytes f.cuts f.appended c.pass.ensures within f.taken c.behind.ensures.fits watched
+    IsPulling-cut _ c.push-count.new.self w c.push-count.new.out.most c.pass.new.self c.rest.result.now c.push-count.result t c.self.invariant c.rest.ensures.bytes f.cuts f.appended c.pass.ensures within f.counted c.behind.ensures.fits watched
 
 pub returns-clause-goes : goal.returns-clause-goes
 returns-clause-goes c =

@@ -18,7 +18,7 @@ stretches-preserved c =
     record {
       within = grind (arith, common_steps, c.push-taken.ensures.within, i.within, c.stretches-test.true);
       empty = c.clear.ensures;
-      bytes = grind (arith, c.push-taken.ensures.taken, i.bytes);
+      bytes = grind (arith, c.push-taken.ensures.counted, i.bytes);
       follows = λ before has. one_stretch c.args.piece.now _ before c.stretches.taken c.push-taken.result c.stretches.found
           out mid c.push-taken.new.self c.last_of-self-inside.result (i.follows before has) i.empty
           (whole c.stretches.taken c.args.piece.now) c.push-taken.ensures.stream c.last_of-self-inside.ensures;

@@ -21,6 +21,7 @@ all-preserved g c =
     let packets = c.in-Some.batch.value.packets in
     let n : c.count.result ≡ length packets = search rules in
     record {
+      size = st.size ∙ i.size;
       stands = (s.0 ++ st.more, s.1 ++ packets, Consumes-trans _ _ _ _ _ s.2 st.consumes, omega (arith, s.3, n, length-append s.1 packets), st.pulls [] s.0 s.1 s.4);
       follows = Follows-then _ _ _ _ _ _ i.follows c.in_ok-batch.ensures.follows;
     }
@@ -35,4 +36,5 @@ returns g c = λ well.
     let s = i.stands in
     let f = Follows-then _ _ _ _ _ _ i.follows c.in_ok-batch.ensures.follows in
     let whole = all [] (s.0 ++ st.more) (s.1 ++ []) (st.pulls [] s.0 s.1 s.4) in
-    Consumes-whole _ _ (s.0 ++ st.more) (λ (input : List ℕ). c.all.count ≡ length (cut input).packets) (Consumes-trans _ _ _ _ _ s.2 st.consumes) (f.ends c.requires.going (ended-without_fault c.pull.new.self.reading done.stopped well)) (s.3 ∙ ap length (sym (append-nil s.1) ∙ sym whole))
+    let kept : c.pull.new.self.cutting.size ≡ c.args.puller.now.cutting.size = st.size ∙ i.size in
+    Consumes-whole _ _ (s.0 ++ st.more) (λ (input : List ℕ). c.all.count ≡ length (cut c.args.puller.now.cutting.size input).packets) (Consumes-trans _ _ _ _ _ s.2 st.consumes) (f.ends c.requires.going (ended-without_fault c.pull.new.self.reading done.stopped well)) (s.3 ∙ ap length (sym (append-nil s.1) ∙ (sym whole ∙ ap (λ size. (cut size (s.0 ++ st.more)).packets) kept)))

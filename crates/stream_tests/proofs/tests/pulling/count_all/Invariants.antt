@@ -6,6 +6,7 @@ use Rattle.stream_tests.proofs.tests.pulling.count_all.Given as goal
 
 abbrev pub invariant-all : goal.invariant-all
 invariant-all g l = record {
+  size : l.puller.cutting.size ≡ l.initial.puller.cutting.size;
   stands : (taken : List ℕ) × (given : List (List ℕ)) × Consumes (g.S.Source.end l.initial.source).left (g.S.Source.end l.source).left taken × (l.count ≡ length given) × Pulls [] taken given l.puller;
   follows : Follows l.initial.puller.reading l.puller.reading (g.S.Source.end l.initial.source) (g.S.Source.end l.source);
 }

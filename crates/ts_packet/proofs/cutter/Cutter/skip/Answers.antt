@@ -11,6 +11,6 @@ returns-clause-cuts c =
     let n = c.bytes_before_sync-count.result in
     let empty : take i.len i.held ≡ [] = ap (λ (z : Cutting). z.rest) c.self.view_is ∙ c.requires.empty in
     rw (← c.self.view_is)
-    (Cuts-skips (record { packets = i.packets; skipped = i.skipped; rest = take i.len i.held }) (take n piece) n empty
+    (Cuts-skips (record { size = i.size; packets = i.packets; skipped = i.skipped; rest = take i.len i.held }) (take n piece) n empty
     (length-take-le n piece c.bytes_before_sync-count.ensures.within)
     (λ k lt. rw (get_or-take n piece k 0 lt) (c.bytes_before_sync-count.ensures.before k lt)))
