@@ -7,7 +7,7 @@ use ts_packet::PacketSize;
 const MOST: u64 = 18446744073709551615;
 
 // A session's run, in batches of so many packets, each of which takes up so much: step by step, and by threads.
-macro_rules! steps {
+macro_rules! steps_of {
     ($batch:expr, $packet:ident) => {
         Some(Command::Steps {
             batch: $batch,
@@ -16,7 +16,7 @@ macro_rules! steps {
     };
 }
 
-macro_rules! run {
+macro_rules! run_of {
     ($batch:expr, $packet:ident) => {
         Some(Command::Run {
             batch: $batch,
@@ -26,7 +26,7 @@ macro_rules! run {
 }
 
 // Whether a report is one of a session whose packets take up so much.
-macro_rules! check {
+macro_rules! check_of {
     ($packet:ident) => {
         Some(Command::Check {
             packet: PacketSize::$packet,
@@ -46,24 +46,24 @@ macro_rules! self_test {
 
 // Words, each with a bar behind it, and the command that they name, or None where they are refused.
 static WORDS: [(&str, Option<Command>); 123] = [
-    ("steps|", steps!(64, Of188)),
-    ("steps|--batch|1|", steps!(1, Of188)),
-    ("steps|--batch|64|", steps!(64, Of188)),
-    ("steps|--batch=64|", steps!(64, Of188)),
-    ("steps|--batch=7|", steps!(7, Of188)),
-    ("run|", run!(64, Of188)),
-    ("run|--batch|1|", run!(1, Of188)),
-    ("run|--batch=64|", run!(64, Of188)),
-    ("steps|--packet|188|", steps!(64, Of188)),
-    ("steps|--packet|204|", steps!(64, Of204)),
-    ("steps|--packet=204|", steps!(64, Of204)),
-    ("steps|--packet=204|--batch|1|", steps!(1, Of204)),
-    ("steps|--batch|1|--packet=204|", steps!(1, Of204)),
-    ("steps|--batch=1|--packet|204|", steps!(1, Of204)),
-    ("steps|--packet|204|--batch|64|", steps!(64, Of204)),
-    ("steps|--packet=188|--batch=2|", steps!(2, Of188)),
-    ("run|--packet=204|--batch|1|", run!(1, Of204)),
-    ("run|--batch|7|--packet|204|", run!(7, Of204)),
+    ("steps|", steps_of!(64, Of188)),
+    ("steps|--batch|1|", steps_of!(1, Of188)),
+    ("steps|--batch|64|", steps_of!(64, Of188)),
+    ("steps|--batch=64|", steps_of!(64, Of188)),
+    ("steps|--batch=7|", steps_of!(7, Of188)),
+    ("run|", run_of!(64, Of188)),
+    ("run|--batch|1|", run_of!(1, Of188)),
+    ("run|--batch=64|", run_of!(64, Of188)),
+    ("steps|--packet|188|", steps_of!(64, Of188)),
+    ("steps|--packet|204|", steps_of!(64, Of204)),
+    ("steps|--packet=204|", steps_of!(64, Of204)),
+    ("steps|--packet=204|--batch|1|", steps_of!(1, Of204)),
+    ("steps|--batch|1|--packet=204|", steps_of!(1, Of204)),
+    ("steps|--batch=1|--packet|204|", steps_of!(1, Of204)),
+    ("steps|--packet|204|--batch|64|", steps_of!(64, Of204)),
+    ("steps|--packet=188|--batch=2|", steps_of!(2, Of188)),
+    ("run|--packet=204|--batch|1|", run_of!(1, Of204)),
+    ("run|--batch|7|--packet|204|", run_of!(7, Of204)),
     ("make|0|", Some(Command::Make { number: 0 })),
     ("make|7|", Some(Command::Make { number: 7 })),
     (
@@ -133,10 +133,10 @@ static WORDS: [(&str, Option<Command>); 123] = [
     ("selftest|7|--packet|204|", None),
     ("selftest|--packet=188|7|", None),
     ("selftest|7|--batch|1|--packet|188|", None),
-    ("check|", check!(Of188)),
-    ("check|--packet|204|", check!(Of204)),
-    ("check|--packet=204|", check!(Of204)),
-    ("check|--packet|188|", check!(Of188)),
+    ("check|", check_of!(Of188)),
+    ("check|--packet|204|", check_of!(Of204)),
+    ("check|--packet=204|", check_of!(Of204)),
+    ("check|--packet|188|", check_of!(Of188)),
     ("check||", None),
     ("check|7|", None),
     ("check|check|", None),
