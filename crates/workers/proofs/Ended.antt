@@ -1,5 +1,5 @@
 -- What the threads of a run leave are the histories of a run of the script.
-use Rattle.std.proofs.Common.{◌≡◌, ℕ, Bool, true, ◌<◌, ◌≤◌, List, [], ◌∷◌, ◌++◌, length, map, sum, slice_get, Some, None, ap, sym, ◌∙◌, subst, refl, arith}
+use Rattle.std.proofs.Common.{◌≡◌, ℕ, Bool, true, ◌<◌, ◌≤◌, List, [], ◌∷◌, ◌++◌, length, map, sum, take, slice_get, Some, None, ap, sym, ◌∙◌, subst, refl, arith}
 use Rattle.std.proofs.lemmas.Option.{slice_get_within}
 use Rattle.atomic_table.specs.Seated.{TableId}
 use Rattle.node_lock.specs.declared.view.View.{View}
@@ -19,13 +19,16 @@ use Rattle.script_run.proofs.Ending.{runs_end, are_accounted}
 use Rattle.adapter.specs.Callers.{Caller}
 use Rattle.adapter.specs.Ends.{HaveHistories}
 use Rattle.adapter.proofs.Lists.{at_place}
+use Rattle.workers.specs.Named.{is_named}
 use Rattle.workers.specs.Feeding.{batch_of}
 use Rattle.workers.specs.Left.{HasWorked, AreWorked}
 use Rattle.workers.specs.Telling.{IsLoggedIn, WorkersHaveCalled, steps_from}
 use Rattle.workers.proofs.Members.{steps_tile}
 use Rattle.workers.proofs.Batches.{total_is}
-use Rattle.workers.proofs.Owning.{Moment, at_end, acts_by}
-use Rattle.workers.proofs.Merged.{AreWoven, there, node_low}
+use Rattle.workers.proofs.Owning.{Moment, at_end, acts_by, made_by}
+use Rattle.workers.proofs.Completing.{whole, whole_full}
+use Rattle.workers.proofs.Naming.{named_call}
+use Rattle.workers.proofs.Merged.{AreWoven, have_whole, there, node_low}
 use Rattle.workers.proofs.SoFar.{has_logged, IsOfScript, log_at, moment_at, done, fed, so_far}
 
 -- what became of a client
@@ -42,13 +45,24 @@ have_called lines most may stream feeder fs others books told w = record {
   fed = w.fed.fed.made;
   logs = w.logs ∙ sym w.clients;
   each = λ c client log at book. has_logged lines c may client log (became lines most may stream feeder fs others books told w c client log at book).2.called;
-}
+  named = named_in;
+} where
+  named_in : (e : LogEntry) → IsLoggedIn books e → is_named lines e.node ≡ true
+  named_in e (c, log, i, book, at) =
+      let client = at_place others c (omega (arith, slice_get_within books c log book, w.logs, w.clients)) in
+      named_call lines c (replies (take i log)) e ((became lines most may stream feeder fs others books told w c client.0 log client.1 book).2.called.events i e at)
 
 module _ (lines : List Line) (most : ℕ) (may : ℕ → Bool) (stream : List (List ℕ)) (feeder : Caller) (fs : List Fed) (others : List Caller) (books : List (List LogEntry)) (told : List (List Outcome))
-    (w : AreWorked lines most may stream feeder fs others books told) (full : (node : ℕ) → node ≤ DEMUX_NODES → (p : TableId × View Entry) × (slice_get feeder.passes node ≡ Some p))
-    (have : HaveHistories (others ++ feeder ∷ [])) (low : (e : LogEntry) → IsLoggedIn books e → e.node ≤ DEMUX_NODES) where
+    (w : AreWorked lines most may stream feeder fs others books told) (full_row : (node : ℕ) → node ≤ DEMUX_NODES → (p : TableId × View Entry) × (slice_get feeder.passes node ≡ Some p))
+    (had : HaveHistories (others ++ feeder ∷ [])) (low : (e : LogEntry) → IsLoggedIn books e → e.node ≤ DEMUX_NODES) where
   abbrev pub m : Moment
-  m = at_end stream feeder fs others books (have_called lines most may stream feeder fs others books told w)
+  m = at_end (is_named lines) stream feeder fs others books (have_called lines most may stream feeder fs others books told w)
+
+  have : HaveHistories (others ++ whole (is_named lines) (made_by true stream fs) feeder ∷ [])
+  have = have_whole (is_named lines) stream feeder fs others books (have_called lines most may stream feeder fs others books told w) had
+
+  full : (node : ℕ) → node ≤ DEMUX_NODES → (p : TableId × View Entry) × (slice_get (whole (is_named lines) (made_by true stream fs) feeder).passes node ≡ Some p)
+  full = whole_full (is_named lines) (made_by true stream fs) feeder full_row
 
   of_script : IsOfScript lines most may true fs m
   of_script = record {

@@ -3,6 +3,9 @@ pub mod Members
 pub mod Calls
 pub mod Feeders
 pub mod Columns
+pub mod Completing
+pub mod Naming
+mod Targets
 pub mod Owning
 pub mod Batches
 pub mod Merged

@@ -29,6 +29,7 @@ use Rattle.workers.specs.declared.client_worker.ClientWorker.{ClientWorker}
 use Rattle.workers.specs.declared.feeder_worker.FeederWorker.{FeederWorker}
 use Rattle.workers.specs.Inside.Working.{log_of}
 use Rattle.workers.specs.Inside.Begun.{AreFreshWorkers, HaveCome}
+use Rattle.workers.specs.Named.{is_named}
 use Rattle.workers.specs.Budget.{IsRunning, ManyCallsAreTooLong}
 use Rattle.workers.specs.Logged.{HasCalled}
 use Rattle.workers.specs.Inside.FeederWork.{HasPassedAll}
@@ -40,7 +41,7 @@ use Rattle.workers.proofs.Leaving.{come_at, many}
 
 module _ (lines : List Line) (locks : List TableId) (n : ℕ) (feeder : Caller) (clients : List Caller) (fresh : AreFreshCallers locks n feeder clients) (all : AreAllCallers locks (clients ++ feeder ∷ []))
     (may : ℕ → Bool) (old new : List ClientWorker) (b : AreFreshWorkers lines clients old) (h : HaveCome may locks old new)
-    (most : ℕ) (x y : SourceEnd) (first : Pulling) (f : FeederWorker) (k : HasPassedAll most may x y first f)
+    (most : ℕ) (x y : SourceEnd) (first : Pulling) (f : FeederWorker) (k : HasPassedAll (is_named lines) most may x y first f)
     (found : (i : ℕ) (w : ClientWorker) → slice_get new i ≡ Some w → w.stop ≢ Some NoMemory) (is : n ≡ clients_in lines) (histories : HaveHistories (map (λ (w : ClientWorker). w.client) new ++ f.feeder ∷ [])) where
   now_pulls : (ahead : List ℕ) → Pulls ahead [] [] first → Pulls ahead k.draws.carries.more k.packets f.puller
   now_pulls ahead pulls = k.draws.carries.pulls ahead [] [] pulls

@@ -12,16 +12,18 @@ use Rattle.script_run.specs.Budget.{most_calls, all_commands, IsTooLong}
 use Rattle.adapter.specs.Callers.{Caller}
 use Rattle.adapter.specs.Ends.{HaveHistories}
 use Rattle.adapter.specs.Nodes.{ended}
+use Rattle.workers.specs.Named.{is_named}
 use Rattle.workers.specs.Logged.{HasCalled}
 use Rattle.workers.specs.Feeding.{HasFed}
 
--- A moment of a run by threads, or its end: the feeder has passed these packets, and the end of the stream or not yet;
+-- A moment of a run by threads, or its end: the feeder has passed these packets through the nodes that the script can name,
+-- and the end of the stream or not yet;
 -- each client has made the calls of its log; and each node has a legal history of just the calls of all of them.
 pub record IsRunning (lines : List Line) (most : ℕ) (may : ℕ → Bool) (packets : List (List ℕ)) (behind : List Entry)
     (feeder : Caller) (feeding : List Fed) (others : List Caller) (books : List (List LogEntry)) : Type 0 where
   pub are_packets : All IsPacket packets
   pub end : (behind ≡ []) ⊎ (behind ≡ ended ∷ [])
-  pub fed : HasFed most may packets behind feeder feeding
+  pub fed : HasFed (is_named lines) most may packets behind feeder feeding
   pub clients : length others ≡ clients_in lines
   pub logs : length books ≡ clients_in lines
   pub called : (c : ℕ) (client : Caller) (log : List LogEntry) → slice_get others c ≡ Some client

@@ -14,6 +14,7 @@ use Rattle.client_core.specs.Outcomes.{outcomes}
 use Rattle.script_run.specs.IsRun.{replies}
 use Rattle.adapter.specs.Callers.{Caller}
 use Rattle.workers.specs.declared.left.Left.{Left}
+use Rattle.workers.specs.Named.{is_named}
 use Rattle.workers.specs.Logged.{HasCalled}
 use Rattle.workers.specs.Feeding.{HasFedAll}
 
@@ -24,11 +25,12 @@ pub record HasWorked (lines : List Line) (client : ℕ) (may : ℕ → Bool) (c 
   pub ends : next_event client lines (replies log) ≡ None
   pub outcomes : told ≡ outcomes client lines (replies log)
 
--- The feeder has passed the whole stream, and each client of the script has done its commands to their end.
+-- The feeder has passed the whole stream through the nodes that the script can name, and called no other; and each client
+-- of the script has done its commands to their end.
 pub record AreWorked (lines : List Line) (most : ℕ) (may : ℕ → Bool) (stream : List (List ℕ)) (feeder : Caller)
     (feeding : List Fed) (others : List Caller) (books : List (List LogEntry))
     (told : List (List Outcome)) : Type 0 where
-  pub fed : HasFedAll most may stream feeder feeding
+  pub fed : HasFedAll (is_named lines) most may stream feeder feeding
   pub clients : length others ≡ clients_in lines
   pub logs : length books ≡ clients_in lines
   pub outcomes : length told ≡ clients_in lines

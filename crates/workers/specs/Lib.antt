@@ -1,3 +1,4 @@
+pub mod Named
 pub mod Logged
 pub mod Feeding
 pub mod Left

@@ -16,6 +16,7 @@ use crate::client_worker::ClientWorker;
 use crate::clients::{ClientsLeft, left_by_clients, workers_of};
 use crate::feeder_worker::FeederWorker;
 use crate::left::Left;
+use crate::named::named;
 use crate::threads::work_all;
 use adapter::{Adapter, Client, Feeder};
 use client_core::Stop;
@@ -94,7 +95,7 @@ fn left_by(
 }
 
 /// Does the commands of a script by a thread for each client, while one for the feeder passes the stream of the puller
-/// through all nodes, in batches of `batch` packets, 1 to 64, the last with what is left, and then its end. No pull of the
+/// through the nodes that the script can name, in batches of `batch` packets, 1 to 64, the last with what is left, and then its end. No pull of the
 /// puller was made before, and it reads from this source. The feeder and the clients are the adapter's, and none of them
 /// has made a call.
 ///
@@ -161,6 +162,7 @@ pub fn work<R: Threads + Wait + Sync, S: Source + Send, C: Clock + Sync, G: Gate
         &mut workers,
         source,
         batch,
+        &named(script),
         clock,
         gate,
     );
