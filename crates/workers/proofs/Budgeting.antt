@@ -21,7 +21,7 @@ use Rattle.node_lock.specs.declared.view.View.{View}
 use Rattle.script_run.specs.IsRun.{replies}
 use Rattle.workers.specs.Budget.{IsRunning, CallsAreWithinBudget, FewBytesAreFewCalls, ManyCallsAreTooLong}
 use Rattle.workers.specs.Feeding.{HasMade, fed_entries}
-use Rattle.workers.specs.Named.{is_named}
+use Rattle.script_nodes.specs.Named.{is_named}
 use Rattle.workers.specs.Telling.{HasLogged, IsLoggedIn}
 use Rattle.workers.proofs.Calls.{has_all}
 use Rattle.workers.proofs.Feeders.{behind_of, acts_of, fed_is}

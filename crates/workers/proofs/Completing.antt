@@ -140,6 +140,13 @@ begins_none : (xs : List Entry) → IsPrefix xs [] → xs ≡ []
 begins_none [] b = refl
 begins_none (x ∷ xs) b = absurd (cc (b.1))
 
+-- a pass that has made no entry has made no call
+pub made_nothing : (p : TableId × View Entry) → HasMade [] p → p.1.own ≡ []
+made_nothing p m = m.own ∙ no_places m.places m.stand where
+  no_places : (ps : List ℕ) → StandAt p.1.seen [] ps → at_zero ps ≡ []
+  no_places [] s = refl
+  no_places (q ∷ ps) s = absurd s
+
 -- ------ the feeder
 
 module _ (among : ℕ → Bool) (entries : List Entry) (feeder : Caller) where
@@ -212,12 +219,7 @@ module _ (among : ℕ → Bool) (entries : List Entry) (feeder : Caller) (others
 
   module _ (node : ℕ) (off : among node ≡ false) where
     feeder_idle : (p : TableId × View Entry) → slice_get feeder.passes node ≡ Some p → p.1.own ≡ []
-    feeder_idle p at = none (subst (λ b. HasMade (if b then entries else []) p) off (made node p at)) where
-      none : HasMade [] p → p.1.own ≡ []
-      none m = m.own ∙ no_places m.places m.stand where
-        no_places : (ps : List ℕ) → StandAt p.1.seen [] ps → at_zero ps ≡ []
-        no_places [] s = refl
-        no_places (q ∷ ps) s = absurd s
+    feeder_idle p at = made_nothing p (subst (λ b. HasMade (if b then entries else []) p) off (made node p at))
 
     nobody : all_calls (column node (rows_of (others ++ feeder ∷ []))) ≡ []
     nobody = no_calls node (others ++ feeder ∷ []) (λ k c p at is. ⊎_elim (λ old. idle node off k c p old is) (λ same. feeder_idle p (subst (λ (z : Caller). slice_get z.passes node ≡ Some p) (sym same) is)) (at_either others feeder c k at))

@@ -19,7 +19,7 @@ use Rattle.script_run.proofs.Ending.{runs_end, are_accounted}
 use Rattle.adapter.specs.Callers.{Caller}
 use Rattle.adapter.specs.Ends.{HaveHistories}
 use Rattle.adapter.proofs.Lists.{at_place}
-use Rattle.workers.specs.Named.{is_named}
+use Rattle.script_nodes.specs.Named.{is_named}
 use Rattle.workers.specs.Feeding.{batch_of}
 use Rattle.workers.specs.Left.{HasWorked, AreWorked}
 use Rattle.workers.specs.Telling.{IsLoggedIn, WorkersHaveCalled, steps_from}

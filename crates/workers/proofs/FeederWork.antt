@@ -1,12 +1,14 @@
 -- The turns of the feeder.
 use Rattle.std.proofs.Common.{◌≡◌, ◌≢◌, inl, inr, ⊎_elim, refl, sym, ap, subst, ◌∙◌, ℕ, Bool, ◌+◌, ◌<◌, ◌≤◌, List, [], ◌∷◌, ◌++◌, length, length-append, append-nil, arith, Vec, Global, Result, Ok, Err, OnOk}
-use Rattle.std.specs.Prelude.{IsTrue, IsOk, All, slice_index, if◌then◌else◌}
+use Rattle.std.specs.Prelude.{IsTrue, IsOk, All, slice_get, slice_index, Option, Some, None, true, false, if◌then◌else◌}
 use Rattle.std.proofs.lemmas.Option.{slice_get_within}
 use Rattle.std.proofs.lemmas.List.Elements.{All-push}
 use Rattle.std.proofs.lemmas.Bool.{cases_lt}
 use Rattle.emu_io.specs.Ends.{SourceEnd}
 use lib.ListN.{get_elem?}
 use Rattle.atomic_table.proofs.Lists.{at_last}
+use Rattle.atomic_table.specs.Seated.{TableId}
+use Rattle.node_lock.specs.declared.view.View.{View}
 use Rattle.ts_batch.specs.Batch.{Packets}
 use Rattle.dmx_calls.specs.declared.histories.Fed.{Fed}
 use Rattle.dmx_calls.specs.declared.limits.TheConstants.{DEMUX_NODES}
@@ -18,10 +20,11 @@ use Rattle.feed_pull.specs.Streams.{Draws}
 use Rattle.adapter.specs.Callers.{Caller}
 use Rattle.adapter.specs.Nodes.{MakesEachEntry, fed, ended}
 use Rattle.workers.specs.declared.feeder_worker.FeederWorker.{FeederWorker}
-use Rattle.workers.specs.Feeding.{AreFullBatches, HasEnded, HasFed, HasMade, fed_entries}
-use Rattle.workers.specs.Inside.FeederWork.{AreFullSoFar, HasPassed, HasPassedAll}
+use Rattle.workers.specs.Feeding.{AreFullBatches, HasEnded, HasEndedBy, HasFed, HasMade, fed_entries}
+use Rattle.workers.specs.Inside.FeederWork.{AreFullSoFar, LeavesOthers, HasPassed, HasPassedAll}
 use Rattle.adapter.proofs.Lists.{at_place}
 use Rattle.feed_pull.proofs.Drawing.{draws_then, none_given}
+use Rattle.workers.proofs.Completing.{made_nothing}
 use Rattle.workers.proofs.Feeding.{fed_more, fed_end, full_push}
 
 pub on_ok : {T E : Type 0} (r : Result T E) (P : Type 0) → IsOk r → OnOk r P → P
@@ -84,9 +87,19 @@ passed_all among most may before x first f g places h done puller feeding who en
   full = λ ahead taken given pulls. subst (λ (es : Vec Fed Global). AreFullBatches most es.items) (sym feeding) (h.full ahead taken given pulls).0;
 }
 
+-- the passes of other nodes are as they were
+pub leaves_others : (among : ℕ → Bool) (e : Entry) (places : List ℕ) (old new : List (TableId × View Entry)) → MakesEachEntry among e places old new → LeavesOthers among old new
+leaves_others among e places old new entries node off = by_pass (slice_get old node) (slice_get new node) refl refl where
+  by_pass : (o n : Option (TableId × View Entry)) → slice_get old node ≡ o → slice_get new node ≡ n → slice_get new node ≡ slice_get old node
+  by_pass None None was is = is ∙ sym was
+  by_pass (Some p) (Some q) was is = is ∙ (ap Some (entries.others node p q was is off) ∙ sym was)
+  by_pass None (Some q) was is = let low = slice_get_within new node q is in let long = entries.long in let p = at_place old node (omega (arith, low, long)) in absurd (cc (sym was ∙ p.1))
+  by_pass (Some p) None was is = let low = slice_get_within old node p was in let long = entries.long in let q = at_place new node (omega (arith, low, long)) in absurd (cc (sym is ∙ q.1))
+
 -- its last call on each of these nodes is End
-pub has_ended : (among : ℕ → Bool) (c d : Caller) (places : List ℕ) → MakesEachEntry among ended places c.passes d.passes → length d.passes ≡ DEMUX_NODES + 1 → HasEnded among d
-has_ended among c d places entries nodes node low called =
+ended_on : (among : ℕ → Bool) (c d : Caller) (places : List ℕ) → MakesEachEntry among ended places c.passes d.passes → length d.passes ≡ DEMUX_NODES + 1
+    → (node : ℕ) → node ≤ DEMUX_NODES → among node ≡ true → (p : TableId × View Entry) × (slice_get d.passes node ≡ Some p) × HasEndedBy p
+ended_on among c d places entries nodes node low called =
     let p = at_place d.passes node (omega (arith, nodes, low)) in let long = entries.long in
     let q = at_place c.passes node (omega (arith, nodes, long, low)) in
     let o = entries.each node q.0 p.0 q.1 p.1 called in (
@@ -99,6 +112,16 @@ has_ended among c d places entries nodes node low called =
         at = ap (get_elem? p.0.1.seen) o.at ∙ (ap (λ (h : List Entry). get_elem? h (length o.before)) o.now ∙ at_last o.before ended (length o.before) refl);
       },
     )
+
+-- and it has called no other, where it had called none before
+pub has_ended : (among : ℕ → Bool) (b c d : Caller) (places : List ℕ) → LeavesOthers among b.passes c.passes → MakesEachEntry among ended places c.passes d.passes → length d.passes ≡ DEMUX_NODES + 1
+    → {entries : List Entry} → ((node : ℕ) (p : TableId × View Entry) → slice_get b.passes node ≡ Some p → HasMade (if among node then entries else []) p) → HasEnded among d
+has_ended among b c d places same entries nodes {made} begun = record {
+  ended = ended_on among c d places entries nodes;
+  idle = λ node p at off.
+      let was : slice_get b.passes node ≡ Some p = sym (same node off) ∙ (sym (leaves_others among ended places c.passes d.passes entries node off) ∙ at) in
+      made_nothing p (subst (λ t. HasMade (if t then made else []) p) off (begun node p was));
+}
 
 -- the same nodes, told otherwise
 pub as_named : (a b : ℕ → Bool) (most : ℕ) (may : ℕ → Bool) (before x : SourceEnd) (first : Pulling) (f : FeederWorker) → ((node : ℕ) → node ≤ DEMUX_NODES → a node ≡ b node) → length f.feeder.passes ≡ DEMUX_NODES + 1

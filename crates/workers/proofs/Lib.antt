@@ -5,7 +5,6 @@ pub mod Feeders
 pub mod Columns
 pub mod Completing
 pub mod Naming
-mod Targets
 pub mod Owning
 pub mod Batches
 pub mod Merged

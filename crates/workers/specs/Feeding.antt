@@ -1,5 +1,5 @@
 -- What the feeder has done, and how it is tied to what its passes know.
-use Rattle.std.specs.Prelude.{◌≡◌, ◌<◌, ◌≤◌, ◌+◌, ℕ, Bool, true, IsTrue, if◌then◌else◌, List, [], ◌∷◌, ◌++◌, length, map, take, drop, slice_get, Some, All}
+use Rattle.std.specs.Prelude.{◌≡◌, ◌<◌, ◌≤◌, ◌+◌, ℕ, Bool, true, false, IsTrue, if◌then◌else◌, List, [], ◌∷◌, ◌++◌, length, map, take, drop, slice_get, Some, All}
 use mathlib.Core.Option.{some}
 use lib.ListN.{get_elem?}
 use Rattle.atomic_table.specs.Seated.{TableId}
@@ -69,10 +69,12 @@ pub record HasEndedBy (p : TableId × View Entry) : Type 0 where
   pub own : p.1.own ≡ before ++ (p.1.number, place) ∷ []
   pub at : get_elem? p.1.seen place ≡ some ended
 
--- Whatever the feeder has passed, its last call on each of the 33 nodes that is among these is End.
-abbrev pub HasEnded : (among : ℕ → Bool) → Caller → Type 0
-HasEnded among c = (node : ℕ) → node ≤ DEMUX_NODES → among node ≡ true
-    → (p : TableId × View Entry) × (slice_get c.passes node ≡ Some p) × HasEndedBy p
+-- Whatever the feeder has passed, its last call on each of the 33 nodes that is among these is End, and it has made no call on
+-- any other.
+pub record HasEnded (among : ℕ → Bool) (c : Caller) : Type 0 where
+  pub ended : (node : ℕ) → node ≤ DEMUX_NODES → among node ≡ true
+      → (p : TableId × View Entry) × (slice_get c.passes node ≡ Some p) × HasEndedBy p
+  pub idle : (node : ℕ) (p : TableId × View Entry) → slice_get c.passes node ≡ Some p → among node ≡ false → p.1.own ≡ []
 
 -- The whole stream has passed the nodes that are among these, in full batches but for the last, and then its end.
 pub record HasFedAll (among : ℕ → Bool) (most : ℕ) (may : ℕ → Bool) (stream : List (List ℕ)) (c : Caller)

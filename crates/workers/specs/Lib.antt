@@ -1,4 +1,3 @@
-pub mod Named
 pub mod Logged
 pub mod Feeding
 pub mod Left

@@ -16,7 +16,7 @@ use Rattle.adapter.specs.Rows.{column}
 use Rattle.adapter.specs.Callers.{Caller}
 use Rattle.adapter.specs.Ends.{IsHistory, rows_of}
 use Rattle.adapter.specs.Nodes.{IsLegalAt, ended}
-use Rattle.workers.specs.Named.{is_named}
+use Rattle.script_nodes.specs.Named.{is_named}
 use Rattle.workers.specs.Logged.{IsLogged}
 use Rattle.workers.specs.Feeding.{HasMade, fed_entries}
 use Rattle.workers.specs.Left.{AreWorked}

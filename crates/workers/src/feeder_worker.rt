@@ -7,7 +7,7 @@ ghost use Rattle.adapter.specs.Nodes.{is_in};
 ghost use Rattle.feed_pull.specs.declared.fault.Reading.TheVariants.{TooMany};
 ghost use Rattle.feed_pull.specs.Pulling.{Pulling, IsDone};
 ghost use Rattle.feed_pull.specs.Streams.{Draws};
-ghost use Rattle.workers.specs.Inside.FeederWork.{IsFitFeeder, MayPass, HasPassed, HasFedToEnd};
+ghost use Rattle.workers.specs.Inside.FeederWork.{IsFitFeeder, LeavesOthers, MayPass, HasPassed, HasFedToEnd};
 
 use adapter::{Adapter, Feeder};
 use client_core::Stop;
@@ -50,6 +50,7 @@ impl FeederWorker {
         requires may { MayPass most (S.end source.old).faults adapter.now self.old }
         ensures fit { IsFitFeeder adapter.now self.new }
         ensures same { IsSameCaller self.old.feeder self.new.feeder }
+        ensures others { LeavesOthers (is_in nodes.now) self.old.feeder.passes self.new.feeder.passes }
         ensures draws { (packets : List (List ℕ)) × Draws (S.end source.old) (S.end source.new) self.old.puller self.new.puller packets }
         ensures passed { OnOk result ((before : SourceEnd) (first : Pulling) → HasPassed (is_in nodes.now) most (C.may_give clock.now) before (S.end source.old) first self.old
             → HasPassed (is_in nodes.now) most (C.may_give clock.now) before (S.end source.new) first self.new) }
@@ -87,6 +88,7 @@ impl FeederWorker {
         requires may { MayPass most (S.end source.old).faults adapter.now self.old }
         ensures fit { IsFitFeeder adapter.now self.new }
         ensures same { IsSameCaller self.old.feeder self.new.feeder }
+        ensures others { LeavesOthers (is_in nodes.now) self.old.feeder.passes self.new.feeder.passes }
         ensures draws { (packets : List (List ℕ)) × Draws (S.end source.old) (S.end source.new) self.old.puller self.new.puller packets }
         ensures passed { OnOk result ((before : SourceEnd) (first : Pulling) → HasPassed (is_in nodes.now) most (C.may_give clock.now) before (S.end source.old) first self.old
             → HasPassed (is_in nodes.now) most (C.may_give clock.now) before (S.end source.new) first self.new) }

@@ -42,7 +42,6 @@ mod feeder_worker;
 mod laws;
 mod left;
 mod moment;
-mod named;
 mod run;
 mod threads;
 

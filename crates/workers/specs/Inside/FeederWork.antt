@@ -1,11 +1,13 @@
 -- The feeder at work.
-use Rattle.std.specs.Prelude.{◌≡◌, ◌≢◌, ◌⊎◌, ◌<◌, ◌≤◌, ◌+◌, ◌-◌, ◌^◌, ℕ, Bool, List, [], ◌∷◌, length, None, Some, All}
+use Rattle.std.specs.Prelude.{◌≡◌, ◌≢◌, ◌⊎◌, ◌<◌, ◌≤◌, ◌+◌, ◌-◌, ◌^◌, ℕ, Bool, false, List, [], ◌∷◌, length, slice_get, None, Some, All}
 use Rattle.emu_io.specs.Ends.{SourceEnd}
 use Rattle.atomic_table.specs.Seated.{TableId}
 use Rattle.client_core.specs.declared.stop.Stop.TheVariants.{NoMemory, TooLong}
 use Rattle.feed_pull.specs.declared.fault.Reading.TheVariants.{Going, TooMany}
 use Rattle.feed_pull.specs.Pulling.{Pulling, Pulls, IsDone}
 use Rattle.feed_pull.specs.Streams.{Draws}
+use Rattle.node_lock.specs.declared.view.View.{View}
+use Rattle.dmx_calls.specs.History.{Entry}
 use Rattle.dmx_calls.specs.declared.limits.TheConstants.{DEMUX_NODES}
 use Rattle.adapter.specs.Callers.{IsSameCaller}
 use Rattle.adapter.specs.Rows.{Fits}
@@ -28,6 +30,10 @@ pub record MayPass (most failed : ℕ) (locks : List TableId) (f : FeederWorker)
   pub few : most ≤ 64
   pub faults : f.puller.reading ≡ Going → failed < 2 ^ 64 - 1
   pub fit : IsFitFeeder locks f
+
+-- the passes of the nodes that are not among these are as they were
+abbrev pub LeavesOthers : (among : ℕ → Bool) → (old new : List (TableId × View Entry)) → Type 0
+LeavesOthers among old new = (node : ℕ) → among node ≡ false → slice_get new node ≡ slice_get old node
 
 -- all batches were full, or the puller has nothing more
 abbrev pub AreFullSoFar : (most : ℕ) → FeederWorker → Type 0
@@ -54,8 +60,8 @@ pub record HasPassedAll (among : ℕ → Bool) (most : ℕ) (may : ℕ → Bool)
   pub full : (ahead taken : List ℕ) (given : List (List ℕ)) → Pulls ahead taken given first
       → AreFullBatches most f.feeding.items
 
--- The feeder has worked to its end: whatever stopped it, its last call on each of these nodes is End. Where memory wasn't refused
--- the whole stream has passed before; it answers TooLong only where so many reads were made.
+-- The feeder has worked to its end: whatever stopped it, its last call on each of these nodes is End, and it has called no other.
+-- Where memory wasn't refused the whole stream has passed before; it answers TooLong only where so many reads were made.
 pub record HasFedToEnd (among : ℕ → Bool) (most : ℕ) (may : ℕ → Bool) (before after : SourceEnd)
     (old new : FeederWorker) : Type 0 where
   pub same : IsSameCaller old.feeder new.feeder

@@ -3,7 +3,7 @@ use Rattle.dmx_calls.specs.declared.histories.Fed.{Fed}
 use Rattle.feed_pull.specs.Pulling.{IsDone, given_by}
 use Rattle.feed_pull.proofs.Drawing.{draws_none}
 use Rattle.adapter.specs.Nodes.{is_in}
-use Rattle.workers.proofs.FeederWork.{passed_none, passed_batch}
+use Rattle.workers.proofs.FeederWork.{leaves_others, passed_none, passed_batch}
 use Rattle.workers.proofs.feeder_worker.FeederWorker.turn.Goals as goal
 
 pub returns-in_err-reserve-clause-draws : goal.returns-in_err-reserve-clause-draws
@@ -18,6 +18,9 @@ returns-in_default-clause-passed g c before first h =
     let done : IsDone c.pull.new.self = search rules in
     passed_none (is_in c.args.nodes.now) c.args.most (g.C.Clock.may_give c.args.clock.now) before _ _ first c.args.self.now c.pull.new.self qs
     (record { carries = e.stream; follows = e.follows; start = e.start }) e.given c.reserve.new.self none items done h
+
+pub returns-clause-others : goal.returns-clause-others
+returns-clause-others g c = leaves_others (is_in c.args.nodes.now) _ _ _ _ c.feed.ensures.entries
 
 pub returns-clause-passed : goal.returns-clause-passed
 returns-clause-passed g c before first h =

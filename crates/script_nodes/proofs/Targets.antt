@@ -1,13 +1,17 @@
 -- The nodes that a script can name, line by line.
 use Rattle.std.proofs.Common.{◌≡◌, ℕ, ◌+◌, ◌≤◌, Bool, true, false, ◌||◌, nat_eq, eq-eqb, ne_eqb, List, [], length, set, replicate, refl, ap, sym, ◌∙◌, arith}
+use Rattle.std.specs.Prelude.{slice_index_or}
 use Rattle.std.proofs.lemmas.List.{get_or-set_same, get_or-set_other, get_or-replicate}
 use mathlib.Core.Logic.{dite}
 use native.Mathlib.Decide.{ℕ_discrete}
 use Rattle.dmx_calls.specs.declared.limits.TheConstants.{DEMUX_NODES}
 use Rattle.client_script.specs.declared.line.Target.{Target}
 use Rattle.client_script.specs.declared.line.Target.TheVariants.{Slot}
-use Rattle.adapter.specs.Nodes.{is_in}
-use Rattle.workers.specs.Named.{is_for, is_named}
+use Rattle.script_nodes.specs.Named.{is_for, is_named}
+
+-- whether a node is among these
+abbrev is_in : List Bool → (node : ℕ) → Bool
+is_in nodes node = slice_index_or nodes node false
 
 or_false : (b : Bool) → (b || false) ≡ b
 or_false true = refl
