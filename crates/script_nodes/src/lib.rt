@@ -9,7 +9,7 @@
 //! What is proved: `named` answers just that for each of the 33 nodes, and, as a law of the definitions, each call of a client is
 //! on one of them, whatever replies it has got (`calls_are_on_named_nodes`).
 //!
-//! What is only tested: nothing. The tests of `run_tests` call it.
+//! What is only tested, in `run_tests`: the nodes of five scripts, worked out by hand.
 #![tactic(auto)]
 
 mod laws;
