@@ -21,7 +21,6 @@ use Rattle.node_lock.specs.declared.view.View.{View}
 use Rattle.script_run.specs.IsRun.{replies}
 use Rattle.workers.specs.Budget.{IsRunning, CallsAreWithinBudget, FewBytesAreFewCalls, ManyCallsAreTooLong}
 use Rattle.workers.specs.Feeding.{HasMade, fed_entries}
-use Rattle.script_nodes.specs.Named.{is_named}
 use Rattle.workers.specs.Telling.{HasLogged, IsLoggedIn}
 use Rattle.workers.proofs.Calls.{has_all}
 use Rattle.workers.proofs.Feeders.{behind_of, acts_of, fed_is}
@@ -36,33 +35,33 @@ over_or_not : (behind : List Entry) → (behind ≡ []) ⊎ (behind ≡ ended �
 over_or_not behind (inl is) = (false, is)
 over_or_not behind (inr is) = (true, is)
 
-module _ (lines : List Line) (most : ℕ) (may : ℕ → Bool) (packets : List (List ℕ)) (behind : List Entry) (feeder : Caller) (fs : List Fed) (others : List Caller) (books : List (List LogEntry))
-    (r : IsRunning lines most may packets behind feeder fs others books) where
+module _ (lines : List Line) (among : ℕ → Bool) (most : ℕ) (may : ℕ → Bool) (packets : List (List ℕ)) (behind : List Entry) (feeder : Caller) (fs : List Fed) (others : List Caller) (books : List (List LogEntry))
+    (r : IsRunning lines among most may packets behind feeder fs others books) where
   abbrev over : Bool
   over = (over_or_not behind r.end).0
 
-  made : (node : ℕ) (p : TableId × View Entry) → slice_get feeder.passes node ≡ Some p → HasMade (if is_named lines node then made_by over packets fs else []) p
-  made node p at = subst (λ l. HasMade (if is_named lines node then fed_entries packets fs ++ l else []) p) (over_or_not behind r.end).1 (r.fed.made node p at)
+  made : (node : ℕ) (p : TableId × View Entry) → slice_get feeder.passes node ≡ Some p → HasMade (if among node then made_by over packets fs else []) p
+  made node p at = subst (λ l. HasMade (if among node then fed_entries packets fs ++ l else []) p) (over_or_not behind r.end).1 (r.fed.made node p at)
 
-  named_in : (e : LogEntry) → IsLoggedIn books e → is_named lines e.node ≡ true
+  named_in : (e : LogEntry) → IsLoggedIn books e → among e.node ≡ true
   named_in e (c, log, i, book, at) =
       let client = at_place others c (omega (arith, slice_get_within books c log book, r.logs, r.clients)) in
-      named_call lines c (replies (take i log)) e ((r.called c client.0 log client.1 book).events i e at)
+      r.named e.node (named_call lines c (replies (take i log)) e ((r.called c client.0 log client.1 book).events i e at))
 
   logged_each : (c : ℕ) (client : Caller) (log : List LogEntry) → slice_get others c ≡ Some client → slice_get books c ≡ Some log → HasLogged c client log
   logged_each c client log at book = has_logged lines c may client log (r.called c client log at book)
 
-  histories : HaveHistories (others ++ whole (is_named lines) (made_by over packets fs) feeder ∷ [])
-  histories = whole_have (is_named lines) (made_by over packets fs) feeder others (feeders_calls over packets fs) made (idle_there (is_named lines) others books (r.logs ∙ sym r.clients) logged_each named_in) r.histories
+  histories : HaveHistories (others ++ whole among (made_by over packets fs) feeder ∷ [])
+  histories = whole_have among (made_by over packets fs) feeder others (feeders_calls over packets fs) made (idle_there among others books (r.logs ∙ sym r.clients) logged_each named_in) r.histories
 
   abbrev m : Moment
   m = record {
     stream = packets;
     acts = acts_of over fs;
-    feeder = whole (is_named lines) (made_by over packets fs) feeder;
+    feeder = whole among (made_by over packets fs) feeder;
     others = others;
     books = books;
-    fed = λ node p at. subst (λ es. HasMade es p) (fed_is over packets fs) (whole_made (is_named lines) (made_by over packets fs) feeder made node p at);
+    fed = λ node p at. subst (λ es. HasMade es p) (fed_is over packets fs) (whole_made among (made_by over packets fs) feeder made node p at);
     logs = r.logs ∙ sym r.clients;
     each = logged_each;
   }
@@ -83,12 +82,12 @@ module _ (lines : List Line) (most : ℕ) (may : ℕ → Bool) (packets : List (
       subst (λ l. length l ≤ most_calls (all_commands lines) (188 * length packets)) (one_value books c here.0 log here.1 book) bound
 
 pub calls_within : CallsAreWithinBudget
-calls_within lines most may packets behind feeder fs others books r c log book = within lines most may packets behind feeder fs others books r c log book
+calls_within lines among most may packets behind feeder fs others books r c log book = within lines among most may packets behind feeder fs others books r c log book
 
 pub few_calls : FewBytesAreFewCalls
-few_calls lines most may packets behind feeder feeding others books r few c log book =
-    omega (arith, few, calls_within lines most may packets behind feeder feeding others books r c log book)
+few_calls lines among most may packets behind feeder feeding others books r few c log book =
+    omega (arith, few, calls_within lines among most may packets behind feeder feeding others books r c log book)
 
 pub many_calls : ManyCallsAreTooLong
-many_calls lines most may packets behind feeder feeding others books r start ahead taken fits c log book is =
-    inr (is, omega (arith, is, fits, calls_within lines most may packets behind feeder feeding others books r c log book))
+many_calls lines among most may packets behind feeder feeding others books r start ahead taken fits c log book is =
+    inr (is, omega (arith, is, fits, calls_within lines among most may packets behind feeder feeding others books r c log book))

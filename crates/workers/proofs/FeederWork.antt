@@ -115,8 +115,8 @@ ended_on among c d places entries nodes node low called =
 
 -- and it has called no other, where it had called none before
 pub has_ended : (among : ℕ → Bool) (b c d : Caller) (places : List ℕ) → LeavesOthers among b.passes c.passes → MakesEachEntry among ended places c.passes d.passes → length d.passes ≡ DEMUX_NODES + 1
-    → {entries : List Entry} → ((node : ℕ) (p : TableId × View Entry) → slice_get b.passes node ≡ Some p → HasMade (if among node then entries else []) p) → HasEnded among d
-has_ended among b c d places same entries nodes {made} begun = record {
+    → (made : List Entry) → ((node : ℕ) (p : TableId × View Entry) → slice_get b.passes node ≡ Some p → HasMade (if among node then made else []) p) → HasEnded among d
+has_ended among b c d places same entries nodes made begun = record {
   ended = ended_on among c d places entries nodes;
   idle = λ node p at off.
       let was : slice_get b.passes node ≡ Some p = sym (same node off) ∙ (sym (leaves_others among ended places c.passes d.passes entries node off) ∙ at) in

@@ -139,9 +139,10 @@ module _ (lines : List Line) (locks : List TableId) (n : ℕ) (feeder : Caller) 
         (worked_one may locks lines c u.0 v.0 told (begun_works lines locks n feeder clients fresh all old b c u.0 u.1 may) u.2 (none c v.0 v.1) (left.each c v.0 told v.1 at_told)))
 
     pub all_worked : (most : ℕ) (stream : List (List ℕ)) → n ≡ clients_in lines → HasFedAll (is_named lines) most may stream f.feeder f.feeding.items
-        → AreWorked lines most may stream w.feeder w.feeding.items w.clients.items (map (λ (log : Vec ToldEntry Global). map told_entry log.items) w.logs.items) (map (λ (those : Vec Outcome Global). those.items) w.outcomes.items)
+        → AreWorked lines (is_named lines) most may stream w.feeder w.feeding.items w.clients.items (map (λ (log : Vec ToldEntry Global). map told_entry log.items) w.logs.items) (map (λ (those : Vec Outcome Global). those.items) w.outcomes.items)
     all_worked most stream is fed = record {
       fed = subst (λ (es : Vec Fed Global). HasFedAll (is_named lines) most may stream w.feeder es.items) (sym left.feeding) (subst (λ (x : Caller). HasFedAll (is_named lines) most may stream x f.feeding.items) (sym left.feeder) fed);
+      named = λ node is. is;
       clients = ap length left.clients ∙ (length-map new (λ (v : ClientWorker). v.client) ∙ (many ∙ is));
       logs = ap length (books_are w.logs.items new left.logs) ∙ (length-map new log_of ∙ (many ∙ is));
       outcomes = length-map w.outcomes.items (λ (those : Vec Outcome Global). those.items) ∙ (left.outcomes ∙ (many ∙ is));

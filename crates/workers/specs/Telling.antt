@@ -16,7 +16,6 @@ use Rattle.adapter.specs.Rows.{column}
 use Rattle.adapter.specs.Callers.{Caller}
 use Rattle.adapter.specs.Ends.{IsHistory, rows_of}
 use Rattle.adapter.specs.Nodes.{IsLegalAt, ended}
-use Rattle.script_nodes.specs.Named.{is_named}
 use Rattle.workers.specs.Logged.{IsLogged}
 use Rattle.workers.specs.Feeding.{HasMade, fed_entries}
 use Rattle.workers.specs.Left.{AreWorked}
@@ -46,13 +45,13 @@ pub record HaveCalled (among : ℕ → Bool) (stream : List (List ℕ)) (feeder 
       → slice_get books c ≡ Some log → HasLogged c client log
   pub named : (e : LogEntry) → IsLoggedIn books e → among e.node ≡ true
 
--- What the threads of a run of a script leave was called so: the feeder has called the nodes that the script can name.
+-- What the threads of a run of a script leave was called so.
 abbrev pub WorkersHaveCalled : Type 0
 WorkersHaveCalled =
-    (lines : List Line) (most : ℕ) (may : ℕ → Bool) (stream : List (List ℕ)) (feeder : Caller) (feeding : List Fed)
-    (clients : List Caller) (books : List (List LogEntry)) (told : List (List Outcome))
-    → AreWorked lines most may stream feeder feeding clients books told
-    → HaveCalled (is_named lines) stream feeder feeding clients books
+    (lines : List Line) (among : ℕ → Bool) (most : ℕ) (may : ℕ → Bool) (stream : List (List ℕ)) (feeder : Caller)
+    (feeding : List Fed) (clients : List Caller) (books : List (List LogEntry)) (told : List (List Outcome))
+    → AreWorked lines among most may stream feeder feeding clients books told
+    → HaveCalled among stream feeder feeding clients books
 
 -- ------ what is told
 

@@ -12,7 +12,7 @@ returns g c =
       draws = p.ensures.draws;
       nodes = c.end.ensures.nodes;
       ended = has_ended (is_in c.args.nodes.now) c.args.self.now.feeder p.new.self.feeder c.end.new.self c.end.result p.ensures.others c.end.ensures.entries c.end.ensures.nodes
-          c.requires.begun.fed.made;
+          _ c.requires.begun.fed.made;
       all = λ found. let ok = c.stop_of-self.ensures.memory found in
           passed_all (is_in c.args.nodes.now) c.args.most (g.C.Clock.may_give c.args.clock.now) _ _ c.args.self.now.puller p.new.self _ c.end.result
           (on_ok p.result _ ok p.ensures.passed _ c.args.self.now.puller c.requires.begun) (on_ok p.result _ ok p.ensures.done) refl refl c.end.ensures.same.0 c.end.ensures.entries;
