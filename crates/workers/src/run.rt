@@ -95,9 +95,9 @@ fn left_by(
 }
 
 /// Does the commands of a script by a thread for each client, while one for the feeder passes the stream of the puller
-/// through the nodes that the script can name, in batches of `batch` packets, 1 to 64, the last with what is left, and then its end. No pull of the
-/// puller was made before, and it reads from this source. The feeder and the clients are the adapter's, and none of them
-/// has made a call.
+/// through the nodes that the script can name, in batches of `batch` packets, 1 to 64, the last with what is left, and then its
+/// end. No pull of the puller was made before, and it reads from this source. The feeder and the clients are the adapter's, and
+/// none of them has made a call.
 ///
 /// Lines `feed` and `tick` are passed over. A client whose read is repeated looks at the node until another caller's entry
 /// stands behind its own last one; it may wait for ever, and so may each call. Before each of its calls a worker calls
