@@ -13,7 +13,7 @@
 #![tactic(auto)]
 
 mod laws;
-mod named;
+mod nodes;
 
 pub use laws::calls_are_on_named_nodes;
-pub use named::named;
+pub use nodes::named;

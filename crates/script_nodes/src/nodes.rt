@@ -1,6 +1,6 @@
 // The nodes, by the commands.
 ghost use Rattle.std.specs.Prelude.{◌≡◌, ◌≤◌, ◌||◌, ℕ, false, slice_index_or};
-ghost use Rattle.dmx_calls.specs.declared.limits.TheConstants.{DEMUX_NODES as nodes};
+ghost use Rattle.dmx_calls.specs.declared.limits.TheConstants.{DEMUX_NODES as last};
 ghost use Rattle.client_script.specs.Grammar.{IsTargetInRange};
 ghost use Rattle.script_nodes.specs.Named.{is_for, is_named};
 
@@ -10,7 +10,7 @@ use dmx_calls::limits::{DEMUX_NODES, NODES};
 // With the nodes that a command for this target may call.
 fn with_target(named: &[bool; NODES as usize], target: Target) -> [bool; NODES as usize]
     requires { IsTargetInRange target }
-    ensures { (node : ℕ) → node ≤ nodes → slice_index_or result node false ≡ (slice_index_or named.now node false || is_for target node) }
+    ensures { (node : ℕ) → node ≤ last → slice_index_or result node false ≡ (slice_index_or named.now node false || is_for target node) }
 {
     match target {
         Target::Node(node) => {
@@ -26,7 +26,7 @@ fn with_target(named: &[bool; NODES as usize], target: Target) -> [bool; NODES a
 /// For each of the 33 nodes whether a command of the script may call it. It may call any node where it has a slot, and the dvr
 /// node is told of the demux nodes' taps.
 pub fn named(script: &Script) -> [bool; NODES as usize]
-    ensures { (node : ℕ) → node ≤ nodes → slice_index_or result node false ≡ is_named script.now node }
+    ensures { (node : ℕ) → node ≤ last → slice_index_or result node false ≡ is_named script.now node }
 {
     let mut named = [false; NODES as usize];
     named[DEMUX_NODES as usize] = true;
