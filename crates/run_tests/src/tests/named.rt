@@ -7,8 +7,14 @@ use script_nodes::named;
 static SCRIPTS: [(&str, &[usize]); 4] = [
     ("stream\n", &[32]),
     ("c0 poll dvr\nfeed 1\nstream\n", &[32]),
-    ("c0 open n3\nc1 poll n3\nc7 close n31\nstream\n", &[3, 31, 32]),
-    ("tick 5\nc0 ioctl n0 c0106f32 00000000000000000000000000000000\nstream\n", &[0, 32]),
+    (
+        "c0 open n3\nc1 poll n3\nc7 close n31\nstream\n",
+        &[3, 31, 32],
+    ),
+    (
+        "tick 5\nc0 ioctl n0 c0106f32 00000000000000000000000000000000\nstream\n",
+        &[0, 32],
+    ),
 ];
 
 // Whether just these nodes are named.
