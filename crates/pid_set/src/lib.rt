@@ -1,7 +1,7 @@
 //! Sets of PIDs of a bounded size.
 //!
 //! A filter of packets names its PIDs one by one (Linux media API, Digital TV demux, DMX_ADD_PID and DMX_REMOVE_PID).
-//! That a filter holds at most 32 of them, and that they are kept in their order, is this project's rule.
+//! That a filter holds at most 128 of them, and that they are kept in their order, is this project's rule.
 //!
 //! What a contract sees: a set as the list of its members, ascending and without repeats, each a number of 16 bits
 //! (`ArePids` of `specs/Pids.antt`, which `len` tells).
@@ -19,6 +19,8 @@
 //! adding or removing moves the members above it.
 #![tactic(auto)]
 
+mod kept;
 mod set;
 
+pub use kept::KeptPids;
 pub use set::{ALL_PACKETS, PidSet, Pids, PidsFull, adding_and_removing};

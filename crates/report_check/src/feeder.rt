@@ -51,7 +51,7 @@ fn unended(entry: &Entry, after: &[Entry], all: bool) -> Option<u64>
     ensures { MatchOption result ((is_end_act entry.now.act && (all && are_none (steps_of 0 (map told_entry after.now)))) ≡ true)
         (λ _. (is_end_act entry.now.act && (all && are_none (steps_of 0 (map told_entry after.now)))) ≡ false) }
 {
-    if !is_end(&entry.act) || !all {
+    if !is_end(&entry.act.act()) || !all {
         return Some(entry.place);
     }
     match next_of(after) {
@@ -65,7 +65,7 @@ fn is_same_call(this: &Entry, other: &Entry) -> bool
     ensures same { result ≡ true → step_of (told_entry this.now) ≡ step_of (told_entry other.now) }
     ensures differs { result ≡ false → step_of (told_entry this.now) ≢ step_of (told_entry other.now) }
 {
-    this.step == other.step && this.act == other.act
+    this.step == other.step && this.act.act() == other.act.act()
 }
 
 /// The place of the first call of the feeder that doesn't pass the next packets, or isn't the end where they have all passed; the
@@ -81,7 +81,7 @@ pub fn unfed(entries: &[Entry], packets: u64) -> Option<u64>
         if entry.step != step {
             return Some(entry.place);
         }
-        match passed_behind(&entry.act, first, packets) {
+        match passed_behind(&entry.act.act(), first, packets) {
             Some(next) => first = next,
             None => return unended(entry, after, first == packets),
         }

@@ -24,7 +24,7 @@ fn is_callable(act: &Act, packets: u64) -> bool
 fn is_sound(entry: &Entry, clients: u32, packets: u64) -> bool
     ensures { result ≡ is_sound_entry clients packets (told_entry entry.now) }
 {
-    entry.who <= clients && is_callable(&entry.act, packets)
+    entry.who <= clients && is_callable(&entry.act.act(), packets)
 }
 
 // The place of the first entry that isn't sound.

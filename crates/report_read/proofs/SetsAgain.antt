@@ -120,8 +120,8 @@ pids_again (pid ∷ pids) rest is ends =
     let fits : pid < 65536 = All-head (λ p. p < 65536) pid pids all in
     let one : number16 (decimal pid ++ (flat_map next_pid_text pids ++ rest)) ≡ Some (pid, flat_map next_pid_text pids ++ rest) = number16_again pid (flat_map next_pid_text pids ++ rest) fits (comma pids rest ends.0) in
     let dash : behind (45 ∷ []) (decimal pid ++ (flat_map next_pid_text pids ++ rest)) ≡ None = number_apart 45 pid (flat_map next_pid_text pids ++ rest) (omega arith) refl in
-    let later : more_pids 31 (pid ∷ []) (flat_map next_pid_text pids ++ rest) ≡ Some (pid ∷ pids, rest) =
-    more_again 31 (pid ∷ []) pids rest (omega (arith, is.1)) (omega (arith, is.1)) (rising-from (pid ∷ pids) is.0.ascending) (All-tail (λ p. p < 65536) pid pids all) ends in
+    let later : more_pids 127 (pid ∷ []) (flat_map next_pid_text pids ++ rest) ≡ Some (pid ∷ pids, rest) =
+    more_again 127 (pid ∷ []) pids rest (omega (arith, is.1)) (omega (arith, is.1)) (rising-from (pid ∷ pids) is.0.ascending) (All-tail (λ p. p < 65536) pid pids all) ends in
     let whole : pids_in (decimal pid ++ (flat_map next_pid_text pids ++ rest)) ≡ Some (pid ∷ pids, rest) = rw (dash, choose, one, later) refl in
     rw (append_assoc (decimal pid) (flat_map next_pid_text pids) rest) whole
 

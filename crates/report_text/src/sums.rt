@@ -9,7 +9,7 @@ ghost use Rattle.report_text.specs.Summary.{data_bytes as bytes_of_response, is_
 
 use crate::acts::add_field;
 use dmx_calls::limits::DEMUX_NODES;
-use dmx_calls::{Entry, Histories, Reply};
+use dmx_calls::{Entry, Histories, LogReply, Reply};
 use itoa::Buffer;
 use std::alloc::{AllocError as NoMemory, Global};
 use ts_watch::Head;
@@ -23,7 +23,7 @@ struct Sums {
 }
 
 /// How many bytes a reply answers.
-pub fn data_bytes(reply: &Reply) -> usize
+pub fn data_bytes(reply: &LogReply) -> usize
     ensures value { result ≡ bytes_of_response (response_of reply.now) }
     ensures bound { result < 2 ^ 63 }
 {
@@ -33,7 +33,7 @@ pub fn data_bytes(reply: &Reply) -> usize
     }
 }
 
-fn is_overflow(reply: &Reply) -> bool
+fn is_overflow(reply: &LogReply) -> bool
     ensures { result ≡ tells_overflow (response_of reply.now) }
 {
     matches!(reply, Reply::Overflow { .. })
@@ -47,7 +47,7 @@ fn bytes_read(calls: &[Entry]) -> u128
 {
     let mut sum: u128 = 0;
     'calls: for call in calls {
-        sum += data_bytes(&call.reply) as u128;
+        sum += data_bytes(call.reply.told()) as u128;
     }
     sum
 }
@@ -59,7 +59,7 @@ fn overflows(calls: &[Entry]) -> usize
 {
     let mut count: usize = 0;
     'calls: for call in calls {
-        if is_overflow(&call.reply) {
+        if is_overflow(call.reply.told()) {
             count += 1;
         }
     }

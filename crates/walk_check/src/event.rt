@@ -66,6 +66,14 @@ fn is_same(this: &Act, other: &Act) -> bool
     this == other
 }
 
+// Whether a told call is this one, at some moment.
+fn is_asked(request: &Request, act: &Act) -> bool
+    ensures same { result ≡ true → act.now ≡ act_of (call_of request.now (moment_in act.now)) }
+    ensures differs { result ≡ false → act.now ≢ act_of (call_of request.now (moment_in act.now)) }
+{
+    is_same(act, &asked(request, moment_of(act)))
+}
+
 /// Whether a told entry is this event of its client: on its node, with its step, and the call that is asked for, at some moment.
 #[tactic(auto, using(crate::proofs::Asked::asked_rules))]
 pub fn is_event(event: &Event, entry: &Entry) -> bool
@@ -74,5 +82,5 @@ pub fn is_event(event: &Event, entry: &Entry) -> bool
 {
     entry.node == event.node
         && entry.step == event.step
-        && is_same(&entry.act, &asked(&event.want, moment_of(&entry.act)))
+        && is_asked(&event.want, &entry.act.act())
 }
