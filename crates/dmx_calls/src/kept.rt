@@ -231,9 +231,7 @@ fn are_same(this: &LogReply, other: &LogReply) -> bool
         Reply::Done {
             dropped,
             tap: Tap::Keep,
-        } => {
-            matches!(other, Reply::Done { dropped: d, tap: Tap::Keep } if dropped == d)
-        }
+        } => { matches!(other, Reply::Done { dropped: d, tap: Tap::Keep } if dropped == d) }
         Reply::Busy { owner } => matches!(other, Reply::Busy { owner: o } if owner == o),
         Reply::Refused(errno) => matches!(other, Reply::Refused(e) if errno == e),
         Reply::Again { ended } => matches!(other, Reply::Again { ended: e } if ended == e),

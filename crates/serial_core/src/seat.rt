@@ -110,15 +110,17 @@ impl Seat {
     {
         let place = self.core.entries();
         let act = Act::of(&call);
-        let reply = fitted(alloc, self.hear(who, call, steps)?)?;
-        let kept = SharedReply::of(alloc, self.entries.last(), reply)?;
+        let reply = self.hear(who, call, steps)?;
+        let act = KeptAct::of(alloc, act)?;
+        let fitting = fitted(alloc, reply)?;
+        let kept = SharedReply::of(alloc, self.entries.last(), fitting)?;
         client.take(kept.told());
         self.entries.push(Entry {
             place,
             step: nth,
             node: self.node,
             who,
-            act: KeptAct::of(alloc, act)?,
+            act,
             reply: kept,
         })?;
         Ok(())

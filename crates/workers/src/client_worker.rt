@@ -80,10 +80,12 @@ impl ClientWorker {
         self.log.reserve(1)?;
         let Event { step, node, want } = event;
         let call = call_of(alloc, &want, now)?;
-        let act = KeptAct::of(alloc, Act::of(&call))?;
+        let asked = Act::of(&call);
+        let act = KeptAct::of(alloc, asked)?;
         let (place, answer) = self.client.call(rt, adapter, node, call, steps);
-        let reply = fitted(alloc, unless_no_memory(answer.reply)?)?;
-        let kept = SharedReply::of(alloc, self.log.last(), reply)?;
+        let reply = unless_no_memory(answer.reply)?;
+        let fitting = fitted(alloc, reply)?;
+        let kept = SharedReply::of(alloc, self.log.last(), fitting)?;
         self.core.take(kept.told());
         self.log.push_reserved(Entry {
             place,

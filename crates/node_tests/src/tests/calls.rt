@@ -1,6 +1,6 @@
 //! Buffers of reads, filled and emptied, and the histories of all nodes.
 
-use dmx_calls::{Act, ByteBuf, Entry, Fed, Histories, Reply};
+use dmx_calls::{Act, ByteBuf, Entry, Fed, Histories, KeptAct, Reply, SharedReply};
 use std::alloc::{AllocError as NoMemory, Global};
 
 // Whether a buffer has room for so many bytes, and these in its front.
@@ -86,12 +86,12 @@ fn sizes_by_number(alloc: Global) -> Result<Option<Histories>, NoMemory> {
     let mut nodes: Vec<Vec<Entry>> = Vec::with_capacity(alloc, 33)?;
     for node in 0..33u32 {
         let entry = Entry {
-            node,
             place: 1,
             step: 0,
+            node,
             who: 1,
-            act: Act::SetSize(node),
-            reply: Reply::Passed,
+            act: KeptAct::of(alloc, Act::SetSize(node))?,
+            reply: SharedReply::of(alloc, None, Reply::Passed)?,
         };
         nodes.push(vec![in alloc; entry]?)?;
     }
@@ -103,7 +103,7 @@ fn sizes_by_number(alloc: Global) -> Result<Option<Histories>, NoMemory> {
 
 // Whether these are the batches and the entries of this node there.
 fn are_of(node: u32, feeding: &[Fed], calls: &[Entry]) -> bool {
-    feeding == [FED].as_slice() && calls.len() == 1 && calls[0].act == Act::SetSize(node)
+    feeding == [FED].as_slice() && calls.len() == 1 && calls[0].act.act() == Act::SetSize(node)
 }
 
 // Whether each node has its own.
