@@ -39,9 +39,9 @@ pub fn add_entry(out: &mut Vec<u8>, entry: &Entry) -> Result<(), NoMemory>
     ensures room { vec_capacity out.old ≤ vec_capacity out.new }
 {
     add_caller(out, entry.place, entry.who, entry.step)?;
-    add_act(out, &entry.act.act())?;
+    add_act(out, &entry.act)?;
     out.extend_from_slice(b" = ")?;
-    add_reply(out, entry.reply.told())?;
+    add_reply(out, &entry.reply)?;
     out.extend_from_slice(b"\n")
 }
 

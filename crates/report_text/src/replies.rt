@@ -7,7 +7,7 @@ ghost use Rattle.text_forms.specs.Names.{who_text};
 ghost use Rattle.report_text.specs.Replies.{data_text, flag_text, response_text, tap_text};
 
 use crate::acts::{add_field, add_pids};
-use dmx_calls::{LogReply, LogTap, PollError, Reply, Span, Tap};
+use dmx_calls::{LogTap, PollError, Reply, SharedReply, Span, Tap};
 use std::alloc::AllocError as NoMemory;
 use text_forms::{write_hex, write_who};
 
@@ -136,13 +136,13 @@ fn add_ready(
 
 /// A reply.
 #[tactic(auto, using(crate::proofs::Short::short_errno), unfolding(crate::specs::Replies::response_text))]
-pub fn add_reply(out: &mut Vec<u8>, reply: &LogReply) -> Result<(), NoMemory>
+pub fn add_reply(out: &mut Vec<u8>, reply: &SharedReply) -> Result<(), NoMemory>
     ensures items { OnOk result (out.new.items ≡ out.old.items ++ response_text (response_of reply.now)) }
     ensures full { OnErr result (vec_capacity out.old < vec_len out.old + 131100) }
     ensures few { vec_len out.new ≤ vec_len out.old + 131100 }
     ensures room { vec_capacity out.old ≤ vec_capacity out.new }
 {
-    match reply {
+    match reply.told() {
         Reply::Done { dropped, tap } => add_done(out, dropped, tap),
         Reply::Busy { owner } => add_who(out, b"busy owner=", *owner),
         Reply::Refused(errno) => out.extend_from_slice(errno.name().as_bytes()),

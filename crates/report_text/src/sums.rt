@@ -9,7 +9,7 @@ ghost use Rattle.report_text.specs.Summary.{data_bytes as bytes_of_response, is_
 
 use crate::acts::add_field;
 use dmx_calls::limits::DEMUX_NODES;
-use dmx_calls::{Entry, Histories, LogReply, Reply};
+use dmx_calls::{Entry, Histories, Reply, SharedReply};
 use itoa::Buffer;
 use std::alloc::{AllocError as NoMemory, Global};
 use ts_watch::Head;
@@ -23,20 +23,20 @@ struct Sums {
 }
 
 /// How many bytes a reply answers.
-pub fn data_bytes(reply: &LogReply) -> usize
+pub fn data_bytes(reply: &SharedReply) -> usize
     ensures value { result ≡ bytes_of_response (response_of reply.now) }
     ensures bound { result < 2 ^ 63 }
 {
-    match reply {
+    match reply.told() {
         Reply::Data(buf) => buf.bytes().len(),
         _ => 0,
     }
 }
 
-fn is_overflow(reply: &LogReply) -> bool
+fn is_overflow(reply: &SharedReply) -> bool
     ensures { result ≡ tells_overflow (response_of reply.now) }
 {
-    matches!(reply, Reply::Overflow { .. })
+    matches!(reply.told(), Reply::Overflow { .. })
 }
 
 // The bytes that are read in these calls.
@@ -47,7 +47,7 @@ fn bytes_read(calls: &[Entry]) -> u128
 {
     let mut sum: u128 = 0;
     'calls: for call in calls {
-        sum += data_bytes(call.reply.told()) as u128;
+        sum += data_bytes(&call.reply) as u128;
     }
     sum
 }
@@ -59,7 +59,7 @@ fn overflows(calls: &[Entry]) -> usize
 {
     let mut count: usize = 0;
     'calls: for call in calls {
-        if is_overflow(call.reply.told()) {
+        if is_overflow(&call.reply) {
             count += 1;
         }
     }

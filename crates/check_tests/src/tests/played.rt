@@ -62,7 +62,8 @@ fn are_callable(packets: &[Packet], entries: &[Entry]) -> bool
 {
     match entries.split_first() {
         None => true,
-        Some((first, later)) => is_callable(packets, &first.act.act()) && are_callable(packets, later),
+        Some((first, later)) => is_callable(packets, &first.act.act())
+            && are_callable(packets, later),
     }
 }
 

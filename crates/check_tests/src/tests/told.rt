@@ -1,8 +1,8 @@
 // Told entries, as rows.
 
 use dmx_calls::{
-    Act, ByteBuf, Entry, Errno, Input, KeptAct, Output, PesParams, PollError, Reply,
-    SectionParams, SharedReply, Span, Tap,
+    Act, ByteBuf, Entry, Errno, Input, KeptAct, Output, PesParams, PollError, Reply, SectionParams,
+    SharedReply, Span, Tap,
 };
 use filter_match::{Place, SectionFilter};
 use pid_set::Pids;
