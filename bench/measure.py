@@ -86,6 +86,15 @@ def silent_time(program, seconds):
     return processor_time() - before
 
 
+def write_opens(path, size):
+    """Writes a session of so many bytes, whose script opens one slot over and over, and answers how many calls that makes: each
+    `open` asks the demux nodes one after another until one is free, and all 32 where none is."""
+    lines = (size - len(b"stream\n")) // len(b"c0 open h0\n")
+    with open(path, "wb") as out:
+        out.write(b"c0 open h0\n" * lines + b"stream\n")
+    return sum(min(line, 31) + 1 for line in range(lines))
+
+
 def processor_time():
     """The seconds of processors that the programs run so far have taken."""
     used = resource.getrusage(resource.RUSAGE_CHILDREN)

@@ -338,7 +338,7 @@ class Demux(Node):
             if name == "add" and args[0] not in self.pids:
                 if self.filter[3] != "tsdemux_tap" and self.pids:
                     return "EINVAL"
-                if len(self.pids) >= 32:
+                if len(self.pids) >= 128:
                     return "ENOSPC"
         elif name == "start" and self.filter is None:
             return "EINVAL"

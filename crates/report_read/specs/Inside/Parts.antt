@@ -67,7 +67,7 @@ more_pids (suc left) set bytes =
     choose (codes ",") bytes (λ bytes. and_then (pid_step set bytes) (λ set bytes. more_pids left set bytes))
     (Some (set, bytes))
 
--- the PIDs of a set, at most 32
+-- the PIDs of a set, at most 128
 unfoldable pub pids_in : List ℕ → Reading (List ℕ)
 pids_in bytes =
     choose (codes "-") bytes (λ bytes. Some ([], bytes))
