@@ -87,12 +87,12 @@ comma (pid ∷ pids) rest stops = refl
 fits_first : (set : List ℕ) (pid : ℕ) (pids : List ℕ) → All (λ p. p < 65536) (pid ∷ pids) → pid < 65536
 fits_first set pid pids all = All-head (λ p. p < 65536) pid pids all
 
-not_full : (set : List ℕ) (pid n : ℕ) → length set + (1 + n) ≤ 32 → is_full_for pid set ≡ false
+not_full : (set : List ℕ) (pid n : ℕ) → length set + (1 + n) ≤ 128 → is_full_for pid set ≡ false
 not_full set pid n room =
-    let few : nat_eq (length set) 32 ≡ false = grind (arith, nat_tests) in
+    let few : nat_eq (length set) 128 ≡ false = grind (arith, nat_tests) in
     rw few (and-false (not (has_pid pid set)))
 
-more_again : (left : ℕ) (set pids rest : List ℕ) → length pids ≤ left → length set + length pids ≤ 32 → Rising (set ++ pids) → All (λ p. p < 65536) pids → EndsSet rest
+more_again : (left : ℕ) (set pids rest : List ℕ) → length pids ≤ left → length set + length pids ≤ 128 → Rising (set ++ pids) → All (λ p. p < 65536) pids → EndsSet rest
     → more_pids left set (flat_map next_pid_text pids ++ rest) ≡ Some (set ++ pids, rest)
 unfolding more_pids pid_step
 more_again zero set [] rest few room up all ends = rw (append-nil set) refl

@@ -53,7 +53,7 @@ who_in bytes =
 
 -- a set of 128 PIDs takes no other
 abbrev pub is_full_for : (pid : ℕ) → (set : List ℕ) → Bool
-is_full_for pid set = not (has_pid pid set) && nat_eq (length set) 32
+is_full_for pid set = not (has_pid pid set) && nat_eq (length set) 128
 
 -- one more PID
 unfoldable pub pid_step : (set bytes : List ℕ) → Reading (List ℕ)
