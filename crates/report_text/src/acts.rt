@@ -46,8 +46,8 @@ fn add_output(out: &mut Vec<u8>, name: &[u8], output: Output) -> Result<(), NoMe
 #[tactic(auto, unfolding(crate::specs::Acts::pids_text))]
 fn add_set(out: &mut Vec<u8>, pids: &Pids) -> Result<(), NoMemory>
     ensures items { OnOk result (out.new.items ≡ out.old.items ++ pids_text pids.now) }
-    ensures full { OnErr result (vec_capacity out.old < vec_len out.old + 2700) }
-    ensures few { vec_len out.new ≤ vec_len out.old + 2700 }
+    ensures full { OnErr result (vec_capacity out.old < vec_len out.old + 2720) }
+    ensures few { vec_len out.new ≤ vec_len out.old + 2720 }
     ensures room { vec_capacity out.old ≤ vec_capacity out.new }
 {
     let Some(first) = pids.get(0) else {
@@ -65,8 +65,8 @@ fn add_set(out: &mut Vec<u8>, pids: &Pids) -> Result<(), NoMemory>
 /// A name and the PIDs of a set.
 pub fn add_pids(out: &mut Vec<u8>, name: &[u8], pids: &Pids) -> Result<(), NoMemory>
     ensures items { OnOk result (out.new.items ≡ out.old.items ++ (name.now ++ pids_text pids.now)) }
-    ensures full { OnErr result (vec_capacity out.old < vec_len out.old + (length name.now + 2700)) }
-    ensures few { vec_len out.new ≤ vec_len out.old + (length name.now + 2700) }
+    ensures full { OnErr result (vec_capacity out.old < vec_len out.old + (length name.now + 2720)) }
+    ensures few { vec_len out.new ≤ vec_len out.old + (length name.now + 2720) }
     ensures room { vec_capacity out.old ≤ vec_capacity out.new }
 {
     out.extend_from_slice(name)?;
@@ -135,8 +135,8 @@ fn add_read(out: &mut Vec<u8>, count: u32, now: u64) -> Result<(), NoMemory>
 // A tap of this demux node for these PIDs.
 fn add_attach(out: &mut Vec<u8>, node: u32, pids: &Pids) -> Result<(), NoMemory>
     ensures items { OnOk result (out.new.items ≡ out.old.items ++ (codes "attach node=" ++ (decimal node ++ (codes " pids=" ++ pids_text pids.now)))) }
-    ensures full { OnErr result (vec_capacity out.old < vec_len out.old + 2760) }
-    ensures few { vec_len out.new ≤ vec_len out.old + 2760 }
+    ensures full { OnErr result (vec_capacity out.old < vec_len out.old + 2780) }
+    ensures few { vec_len out.new ≤ vec_len out.old + 2780 }
     ensures room { vec_capacity out.old ≤ vec_capacity out.new }
 {
     add_field(out, b"attach node=", node as u64)?;
@@ -147,8 +147,8 @@ fn add_attach(out: &mut Vec<u8>, node: u32, pids: &Pids) -> Result<(), NoMemory>
 #[tactic(auto, unfolding(crate::specs::Acts::act_text))]
 pub fn add_act(out: &mut Vec<u8>, act: &KeptAct) -> Result<(), NoMemory>
     ensures items { OnOk result (out.new.items ≡ out.old.items ++ act_text act.now) }
-    ensures full { OnErr result (vec_capacity out.old < vec_len out.old + 2760) }
-    ensures few { vec_len out.new ≤ vec_len out.old + 2760 }
+    ensures full { OnErr result (vec_capacity out.old < vec_len out.old + 2780) }
+    ensures few { vec_len out.new ≤ vec_len out.old + 2780 }
     ensures room { vec_capacity out.old ≤ vec_capacity out.new }
 {
     match act.act() {

@@ -59,8 +59,8 @@ fn add_data(out: &mut Vec<u8>, bytes: &[u8]) -> Result<(), NoMemory>
 #[tactic(auto, unfolding(crate::specs::Replies::tap_text))]
 fn add_tap(out: &mut Vec<u8>, tap: &LogTap) -> Result<(), NoMemory>
     ensures items { OnOk result (out.new.items ≡ out.old.items ++ tap_text tap.now) }
-    ensures full { OnErr result (vec_capacity out.old < vec_len out.old + 2710) }
-    ensures few { vec_len out.new ≤ vec_len out.old + 2710 }
+    ensures full { OnErr result (vec_capacity out.old < vec_len out.old + 2730) }
+    ensures few { vec_len out.new ≤ vec_len out.old + 2730 }
     ensures room { vec_capacity out.old ≤ vec_capacity out.new }
 {
     match tap {
@@ -72,8 +72,8 @@ fn add_tap(out: &mut Vec<u8>, tap: &LogTap) -> Result<(), NoMemory>
 
 fn add_done(out: &mut Vec<u8>, dropped: &Span, tap: &LogTap) -> Result<(), NoMemory>
     ensures items { OnOk result (out.new.items ≡ out.old.items ++ (codes "done drop=" ++ (decimal dropped.now.from ++ (codes ".." ++ (decimal dropped.now.to ++ (codes " tap=" ++ tap_text tap.now)))))) }
-    ensures full { OnErr result (vec_capacity out.old < vec_len out.old + 2800) }
-    ensures few { vec_len out.new ≤ vec_len out.old + 2800 }
+    ensures full { OnErr result (vec_capacity out.old < vec_len out.old + 2820) }
+    ensures few { vec_len out.new ≤ vec_len out.old + 2820 }
     ensures room { vec_capacity out.old ≤ vec_capacity out.new }
 {
     add_field(out, b"done drop=", dropped.from)?;

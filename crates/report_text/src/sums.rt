@@ -41,9 +41,9 @@ fn is_overflow(reply: &SharedReply) -> bool
 
 // The bytes that are read in these calls.
 fn bytes_read(calls: &[Entry]) -> u128
-    requires { length calls.now < 2 ^ 56 }
+    requires { length calls.now < 2 ^ 57 }
     ensures value { result ≡ bytes_of_entries (map told_entry calls.now) }
-    ensures bound { result ≤ 2 ^ 119 }
+    ensures bound { result ≤ 2 ^ 120 }
 {
     let mut sum: u128 = 0;
     'calls: for call in calls {
@@ -70,7 +70,7 @@ fn overflows(calls: &[Entry]) -> usize
 fn node_sums(histories: &Histories, node: u32) -> Sums
     requires { node ≤ DEMUX_NODES }
     ensures sums { AreSums (take 1 (drop node histories.now)) result }
-    ensures bound { AreAtMost (2 ^ 120) result }
+    ensures bound { AreAtMost (2 ^ 121) result }
     ensures nodes { length histories.now ≡ DEMUX_NODES + 1 }
 {
     let (feeding, calls) = histories.node(node);
