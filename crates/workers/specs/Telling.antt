@@ -11,7 +11,7 @@ use Rattle.dmx_calls.specs.History.{Entry}
 use Rattle.dmx_calls.specs.Log.{LogEntry, filled_entry}
 use Rattle.script_run.specs.IsRun.{Step, StandsIn, steps_of}
 use Rattle.script_run.specs.SoFar.{PassesNone}
-use Rattle.client_script.specs.declared.line.Line.{Line}
+use Rattle.client_script.specs.Script.{Scripted}
 use Rattle.adapter.specs.Rows.{column}
 use Rattle.adapter.specs.Callers.{Caller}
 use Rattle.adapter.specs.Ends.{IsHistory, rows_of}
@@ -42,9 +42,9 @@ pub record HaveCalled (stream : List (List ℕ)) (feeder : Caller) (feeding : Li
 -- What the threads of a run of a script leave was called so.
 abbrev pub WorkersHaveCalled : Type 0
 WorkersHaveCalled =
-    (lines : List Line) (most : ℕ) (may : ℕ → Bool) (stream : List (List ℕ)) (feeder : Caller) (feeding : List Fed)
+    (script : Scripted) (most : ℕ) (may : ℕ → Bool) (stream : List (List ℕ)) (feeder : Caller) (feeding : List Fed)
     (clients : List Caller) (books : List (List LogEntry)) (told : List (List Outcome))
-    → AreWorked lines most may stream feeder feeding clients books told
+    → AreWorked script most may stream feeder feeding clients books told
     → HaveCalled stream feeder feeding clients books
 
 -- ------ what is told
