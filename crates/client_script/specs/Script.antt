@@ -103,10 +103,10 @@ pub record AreWritten (writes : List (List ℕ)) : Type 0 where
   pub few : length writes ≤ most_bytes
   pub each : All IsWritten writes
 
--- the write that a verb of a client names, if it names one, is among the client's
-abbrev pub HasVerb : (writes : List (List ℕ)) → Verb → Type 0
-HasVerb writes (Write write) = write < length writes
-HasVerb writes _ = Unit {0}
+-- the write that a verb names, if it names one, is among so many
+abbrev pub HasVerb : (count : ℕ) → Verb → Type 0
+HasVerb count (Write write) = write < count
+HasVerb count _ = Unit {0}
 
 -- a write is on the dvr node
 abbrev pub IsOnDvr : Line → Type 0
@@ -114,7 +114,7 @@ IsOnDvr (Command line client target (Write write)) = target ≡ Dvr
 IsOnDvr _ = Unit {0}
 
 abbrev pub HasWrite : (writes : List (List (List ℕ))) → Line → Type 0
-HasWrite writes (Command line client target verb) = HasVerb (writes_of client writes) verb
+HasWrite writes (Command line client target verb) = HasVerb (length (writes_of client writes)) verb
 HasWrite writes _ = Unit {0}
 
 -- no more lines and writes than bytes are searched, each in the ranges of the grammar

@@ -1,5 +1,5 @@
 // The one spelling of a line.
-ghost use Rattle.std.specs.Prelude.{◌≡◌, ◌++◌, OnOk, OnErr, IfOk};
+ghost use Rattle.std.specs.Prelude.{◌≡◌, ◌++◌, length, OnOk, OnErr, IfOk};
 ghost use Rattle.client_script.specs.Spelling.{target_text, number_text, section_text, pes_text, want_arguments_text, request_text, bytes_text, arguments_text, command_text, line_text, spelling as spelling_of};
 ghost use Rattle.client_script.specs.Script.{writes_of, written_by, HasVerb, HasWrite};
 
@@ -101,7 +101,7 @@ fn add_arguments(
     client: u32,
     verb: &Verb,
 ) -> Result<(), NoMemory>
-    requires { HasVerb (writes_of client script.now.writes) verb.now }
+    requires { HasVerb (length (writes_of client script.now.writes)) verb.now }
     ensures { OnOk result (text.new.items ≡ text.old.items ++ arguments_text (written_by client script.now.writes) verb.now) }
 {
     match verb {
@@ -121,7 +121,7 @@ fn add_command(
     target: Target,
     verb: &Verb,
 ) -> Result<(), NoMemory>
-    requires { HasVerb (writes_of client script.now.writes) verb.now }
+    requires { HasVerb (length (writes_of client script.now.writes)) verb.now }
     ensures { OnOk result (text.new.items ≡ text.old.items ++ command_text (written_by client script.now.writes) client target verb.now) }
 {
     write_client(text, client)?;

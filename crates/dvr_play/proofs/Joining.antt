@@ -15,7 +15,7 @@ use Rattle.ts_packet.proofs.CutLemmas.{cut-append, cut-rest, cut_after-is_rest, 
 use Rattle.ts_packet.proofs.PieceLemmas.{has-pieces}
 use Rattle.ts_batch.specs.Batch.{Packets}
 use Rattle.dvr_play.specs.Plays.{batch_of, plays_from, plays, joined, cut_of, Playing, with_write, HasPlayed, most_bytes}
-use Rattle.dvr_play.specs.Laws.{AreJoined, AreCompleted, AreFew, IsPlayed, packets_in, whole_by, completed}
+use Rattle.dvr_play.specs.Laws.{AreJoined, AreCounted, AreCompleted, AreFew, IsPlayed, packets_in, whole_by, completed}
 
 -- ------ the cutting
 
@@ -57,6 +57,13 @@ joined_from first rest (bytes ∷ writes) is =
 
 pub are_joined : AreJoined
 are_joined writes = joined_from 0 [] writes no_rest
+
+counted_from : (first : ℕ) (rest : List ℕ) (writes : List (List ℕ)) → length (plays_from first rest writes) ≡ length writes
+counted_from first rest [] = refl
+counted_from first rest (bytes ∷ writes) = let c : Cut = cut Of188 (rest ++ bytes) in let more = counted_from (first + length c.packets) c.rest writes in omega (arith, more)
+
+pub are_counted : AreCounted
+are_counted writes = counted_from 0 [] writes
 
 -- ------ one write more
 

@@ -24,6 +24,10 @@ completed place writes =
 abbrev pub AreJoined : Type 0
 AreJoined = (writes : List (List ℕ)) → flat_map packets_in (plays writes) ≡ (cut_of writes).packets
 
+-- There are as many batches, empty ones too, as writes.
+abbrev pub AreCounted : Type 0
+AreCounted = (writes : List (List ℕ)) → length (plays writes) ≡ length writes
+
 -- Each write has its batch, of just the packets whose last byte it brings.
 abbrev pub AreCompleted : Type 0
 AreCompleted =

@@ -1,10 +1,12 @@
 // Laws of the definitions: the function does nothing, and its contract is the laws.
-ghost use Rattle.dvr_play.specs.Laws.{AreJoined, AreCompleted, AreFew};
+ghost use Rattle.dvr_play.specs.Laws.{AreJoined, AreCounted, AreCompleted, AreFew};
 
 /// What the batches of writes are.
 pub fn plays_law()
     // Joined, they are the packets of the bytes of all writes.
     ensures joined { AreJoined }
+    // There is one for each write.
+    ensures counted { AreCounted }
     // Each has just the packets whose last byte its write brings.
     ensures completed { AreCompleted }
     // Each has 1 to 64 packets, where no write is too long.

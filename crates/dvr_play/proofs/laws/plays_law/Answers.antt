@@ -1,8 +1,11 @@
-use Rattle.dvr_play.proofs.Joining.{are_joined, are_completed, are_few}
+use Rattle.dvr_play.proofs.Joining.{are_joined, are_counted, are_completed, are_few}
 use Rattle.dvr_play.proofs.laws.plays_law.Goals as goal
 
 pub returns-clause-joined : goal.returns-clause-joined
 returns-clause-joined c = are_joined
+
+pub returns-clause-counted : goal.returns-clause-counted
+returns-clause-counted c = are_counted
 
 pub returns-clause-completed : goal.returns-clause-completed
 returns-clause-completed c = are_completed
