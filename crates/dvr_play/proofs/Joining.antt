@@ -1,20 +1,22 @@
 -- How the batches of writes come from the bytes of all.
-use Rattle.std.proofs.Common.{◌≡◌, refl, sym, ap, subst, ◌∙◌, ℕ, zero, suc, ◌+◌, ◌-◌, ◌*◌, ◌<◌, ◌≤◌, List, [], ◌∷◌, ◌++◌, Option, Some, None, length, take, drop, arith, length-append, append_assoc, append-nil}
+use Rattle.std.proofs.Common.{◌≡◌, refl, sym, ap, subst, ◌∙◌, ℕ, zero, suc, ◌+◌, ◌-◌, ◌*◌, ◌<◌, ◌≤◌, List, [], ◌∷◌, ◌++◌, Option, Some, None, length, take, drop, absurd, inl, inr, arith, length-append, append_assoc, append-nil}
 use Rattle.std.specs.Prelude.{slice_get, All}
 use Rattle.std.specs.List.{flat_map}
 use Rattle.std.specs.Option.{IfSome}
 use Rattle.std.proofs.lemmas.List.Elements.{All-nil, All-cons, All-head, All-tail}
+use Rattle.std.proofs.lemmas.Bool.{cases_lt}
 use Rattle.std.proofs.lemmas.Grind.{flat_map-append}
-use Rattle.std.proofs.Math.Seq.{drop-append_seam, drop-append-add}
-use Rattle.ts_packet.specs.Cut.{Cut, cut, cut_after, only_rest, join}
-use Rattle.ts_packet.specs.Cutting.{IsRest}
+use Rattle.std.proofs.lemmas.List.{length-drop, length-take-le, take-append-drop}
+use Rattle.std.proofs.Math.Seq.{drop-append_seam, drop-append-add, take-length}
+use Rattle.ts_packet.specs.Cut.{Cut, cut, cut_after, in_bytes, only_rest, join}
+use Rattle.ts_packet.specs.Cutting.{Cutting, Cuts, IsRest, fresh}
 use Rattle.ts_packet.specs.Fields.{IsPacket}
 use Rattle.ts_packet.specs.Pieces.{Piece, packet, skipped, IsPiece, bytes_of, packets_of}
 use Rattle.ts_packet.specs.declared.size.PacketSize.TheVariants.{Of188}
 use Rattle.ts_packet.proofs.CutLemmas.{cut-append, cut-rest, cut_after-is_rest, cut_after-size}
 use Rattle.ts_packet.proofs.PieceLemmas.{has-pieces}
 use Rattle.ts_batch.specs.Batch.{Packets}
-use Rattle.dvr_play.specs.Plays.{batch_of, plays_from, plays, joined, cut_of, Playing, with_write, HasPlayed, most_bytes}
+use Rattle.dvr_play.specs.Plays.{batch_of, plays_from, plays, joined, cut_of, Playing, unplayed, with_write, HasPlayed, most_bytes}
 use Rattle.dvr_play.specs.Laws.{AreJoined, AreCounted, AreCompleted, AreFew, IsPlayed, packets_in, whole_by, completed}
 
 -- ------ the cutting
@@ -25,7 +27,13 @@ unfolding cut
 is_rest xs = cut_after-is_rest Of188 0 xs
 
 pub no_rest : IsRest Of188 []
+unfolding cut cut_after
 no_rest = is_rest []
+
+-- which is shorter than a packet
+short_rest : (rest : List ℕ) → IsRest Of188 rest → length rest < 188
+unfolding in_bytes
+short_rest rest is = is.short
 
 pub few_in : (xs : List ℕ) → 188 * length (cut Of188 xs).packets + (cut Of188 xs).skipped + length (cut Of188 xs).rest ≤ length xs
 unfolding cut
@@ -103,6 +111,11 @@ played_more writes bytes p has =
           ∙ sym (plays_more 0 [] writes bytes no_rest);
     }
 
+-- nothing was written
+pub played_none : (p : Playing) → p ≡ unplayed → HasPlayed [] p
+unfolding cut cut_after
+played_none p is = record { rest = ap (λ (q : Playing). q.rest) is; count = ap (λ (q : Playing). q.count) is; batches = ap (λ (q : Playing). q.batches) is }
+
 -- ------ the batch of one write
 
 -- what the write at a place completes, where a rest was there before
@@ -163,7 +176,7 @@ few_from first rest [] is short = All-nil (λ (batch : Option Packets). IfSome b
 few_from first rest (bytes ∷ writes) is short =
     let c : Cut = cut Of188 (rest ++ bytes) in
     let here : length bytes ≤ most_bytes = All-head (λ (b : List ℕ). length b ≤ most_bytes) bytes writes short in
-    let few : length c.packets ≤ 64 = omega (arith, few_in (rest ++ bytes), length-append rest bytes, here, is.short) in
+    let few : length c.packets ≤ 64 = omega (arith, few_in (rest ++ bytes), length-append rest bytes, here, short_rest rest is) in
     All-cons (λ (batch : Option Packets). IfSome batch IsPlayed) (batch_of first c.packets) (plays_from (first + length c.packets) c.rest writes) (batch_few first c.packets few (are_packets (rest ++ bytes)))
     (few_from (first + length c.packets) c.rest writes (is_rest (rest ++ bytes)) (All-tail (λ (b : List ℕ). length b ≤ most_bytes) bytes writes short))
 
@@ -182,3 +195,50 @@ last_bytes xs =
     let whole : xs ≡ front ++ rest = h.made.whole in
     let count : length xs - length rest ≡ length front = omega (arith, ap length whole, length-append front rest) in
     ap (λ n. drop n xs) count ∙ ap (λ ys. drop (length front) ys) whole ∙ drop-append_seam front rest
+
+-- ------ all at once
+
+nil_of : {A : Type 0} (xs : List A) → length xs ≡ 0 → xs ≡ []
+nil_of [] is = refl
+nil_of (x ∷ xs) is = absurd (omega (arith, is))
+
+-- Two pushes into a room for 64 packets each: the first takes all packets of few bytes, and the second, which is for the bytes
+-- behind 64 packets, finds none and takes all bytes.
+module _ (bytes : List ℕ) (taken again : ℕ) (found none : List (List ℕ)) (mid end : Cutting) (few : length bytes ≤ 12219)
+         (within : taken ≤ length bytes) (stops : taken < length bytes → 64 ≤ length found)
+         (within_again : again ≤ length (drop taken bytes)) (stops_again : again < length (drop taken bytes) → 64 ≤ length none)
+         (first : Cuts (fresh Of188) (take taken bytes) found mid)
+         (second : Cuts (fresh Of188) (take taken bytes ++ take again (drop taken bytes)) (found ++ none) end) where
+  all : List ℕ
+  all = take taken bytes ++ take again (drop taken bytes)
+
+  at_most : 188 * length (found ++ none) ≤ 12219
+  at_most = omega (arith, few_in all, ap length second.packets, few, within, within_again, length-append (take taken bytes) (take again (drop taken bytes)), length-take-le taken bytes within,
+                   length-take-le again (drop taken bytes) within_again, length-drop taken bytes)
+
+  none_behind : taken ≡ length bytes → length none ≡ 0
+  none_behind is =
+      let left : length (drop taken bytes) ≡ 0 = omega (arith, length-drop taken bytes, is) in
+      let short : length (take again (drop taken bytes)) ≡ 0 = omega (arith, length-take-le again (drop taken bytes) within_again, within_again, left) in
+      let same : all ≡ take taken bytes = ap (λ xs. take taken bytes ++ xs) (nil_of (take again (drop taken bytes)) short) ∙ append-nil (take taken bytes) in
+      omega (arith, length-append found none, ap length (sym second.packets ∙ ap (λ xs. (cut Of188 xs).packets) same ∙ first.packets))
+
+  none_more_found : length none ≡ 0
+  none_more_found = elim (cases_lt taken (length bytes)) [
+    | inl lt ↦ omega (arith, stops lt, length-append found none, at_most)
+    | inr le ↦ none_behind (omega (arith, le, within))
+  ]
+
+  takes_all : all ≡ bytes
+  takes_all =
+      let whole : again ≡ length (drop taken bytes) = elim (cases_lt again (length (drop taken bytes))) [
+        | inl lt ↦ absurd (omega (arith, stops_again lt, none_more_found))
+        | inr le ↦ omega (arith, le, within_again)
+      ] in
+      ap (λ n. take taken bytes ++ take n (drop taken bytes)) whole ∙ ap (λ xs. take taken bytes ++ xs) (take-length (drop taken bytes)) ∙ take-append-drop taken bytes
+
+  pub all_found : found ≡ (cut Of188 bytes).packets
+  all_found = sym (append-nil found) ∙ ap (λ ps. found ++ ps) (sym (nil_of none none_more_found)) ∙ sym second.packets ∙ ap (λ xs. (cut Of188 xs).packets) takes_all
+
+  pub all_left : end.rest ≡ (cut Of188 bytes).rest
+  all_left = second.rest ∙ ap (λ xs. (cut Of188 xs).rest) takes_all

@@ -1,5 +1,5 @@
 // The writes of one client, and their batches.
-ghost use Rattle.std.specs.Prelude.{◌≡◌, ◌<◌, ◌≤◌, [], ◌∷◌, ◌++◌, List, ℕ, length, IfOk, OnOk, OnErr, slice_index_or, None, IsSome};
+ghost use Rattle.std.specs.Prelude.{◌≡◌, ◌<◌, ◌≤◌, ◌^◌, [], ◌∷◌, ◌++◌, List, ℕ, length, IfOk, OnOk, OnErr, slice_index_or, None, IsSome};
 ghost use Rattle.std.specs.Option.{option_map};
 ghost use Rattle.ts_packet.specs.Cut.{cut};
 ghost use Rattle.ts_packet.specs.declared.size.PacketSize.TheVariants.{Of188};
