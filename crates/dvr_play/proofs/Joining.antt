@@ -205,22 +205,25 @@ nil_of (x ∷ xs) is = absurd (omega (arith, is))
 -- Two pushes into a room for 64 packets each: the first takes all packets of few bytes, and the second, which is for the bytes
 -- behind 64 packets, finds none and takes all bytes.
 module _ (bytes : List ℕ) (taken again : ℕ) (found none : List (List ℕ)) (mid end : Cutting) (few : length bytes ≤ 12219)
-         (within : taken ≤ length bytes) (stops : taken < length bytes → 64 ≤ length found)
-         (within_again : again ≤ length (drop taken bytes)) (stops_again : again < length (drop taken bytes) → 64 ≤ length none)
+         (left : List ℕ) (are : left ≡ drop taken bytes) (within : taken ≤ length bytes) (stops : taken < length bytes → 64 ≤ length found)
+         (within_again : again ≤ length left) (stops_again : again < length left → 64 ≤ length none)
          (first : Cuts (fresh Of188) (take taken bytes) found mid)
-         (second : Cuts (fresh Of188) (take taken bytes ++ take again (drop taken bytes)) (found ++ none) end) where
+         (second : Cuts (fresh Of188) (take taken bytes ++ take again left) (found ++ none) end) where
+  left_count : length left ≡ length bytes - taken
+  left_count = ap length are ∙ length-drop taken bytes
+
   all : List ℕ
-  all = take taken bytes ++ take again (drop taken bytes)
+  all = take taken bytes ++ take again left
 
   at_most : 188 * length (found ++ none) ≤ 12219
-  at_most = omega (arith, few_in all, ap length second.packets, few, within, within_again, length-append (take taken bytes) (take again (drop taken bytes)), length-take-le taken bytes within,
-                   length-take-le again (drop taken bytes) within_again, length-drop taken bytes)
+  at_most = omega (arith, few_in all, ap length second.packets, few, within, within_again, length-append (take taken bytes) (take again left), length-take-le taken bytes within,
+                   length-take-le again left within_again, left_count)
 
   none_behind : taken ≡ length bytes → length none ≡ 0
   none_behind is =
-      let left : length (drop taken bytes) ≡ 0 = omega (arith, length-drop taken bytes, is) in
-      let short : length (take again (drop taken bytes)) ≡ 0 = omega (arith, length-take-le again (drop taken bytes) within_again, within_again, left) in
-      let same : all ≡ take taken bytes = ap (λ xs. take taken bytes ++ xs) (nil_of (take again (drop taken bytes)) short) ∙ append-nil (take taken bytes) in
+      let gone : length left ≡ 0 = omega (arith, left_count, is) in
+      let short : length (take again left) ≡ 0 = omega (arith, length-take-le again left within_again, within_again, gone) in
+      let same : all ≡ take taken bytes = ap (λ xs. take taken bytes ++ xs) (nil_of (take again left) short) ∙ append-nil (take taken bytes) in
       omega (arith, length-append found none, ap length (sym second.packets ∙ ap (λ xs. (cut Of188 xs).packets) same ∙ first.packets))
 
   none_more_found : length none ≡ 0
@@ -231,11 +234,11 @@ module _ (bytes : List ℕ) (taken again : ℕ) (found none : List (List ℕ)) (
 
   takes_all : all ≡ bytes
   takes_all =
-      let whole : again ≡ length (drop taken bytes) = elim (cases_lt again (length (drop taken bytes))) [
+      let whole : again ≡ length left = elim (cases_lt again (length left)) [
         | inl lt ↦ absurd (omega (arith, stops_again lt, none_more_found))
         | inr le ↦ omega (arith, le, within_again)
       ] in
-      ap (λ n. take taken bytes ++ take n (drop taken bytes)) whole ∙ ap (λ xs. take taken bytes ++ xs) (take-length (drop taken bytes)) ∙ take-append-drop taken bytes
+      ap (λ n. take taken bytes ++ take n left) whole ∙ ap (λ xs. take taken bytes ++ xs) (take-length left) ∙ take-append-drop taken bytes
 
   pub all_found : found ≡ (cut Of188 bytes).packets
   all_found = sym (append-nil found) ∙ ap (λ ps. found ++ ps) (sym (nil_of none none_more_found)) ∙ sym second.packets ∙ ap (λ xs. (cut Of188 xs).packets) takes_all
