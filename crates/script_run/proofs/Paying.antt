@@ -11,7 +11,7 @@ use Rattle.lemmas.proofs.Lists.{at_place, one_value, has_at}
 use Rattle.ts_packet.specs.Fields.{IsPacket}
 use Rattle.dmx_calls.specs.declared.reply.Errno.TheVariants.{Ebadf}
 use Rattle.dmx_calls.specs.Invocation.{brought}
-use Rattle.dmx_calls.specs.Log.{LogEntry, filled_act, filled_entry}
+use Rattle.dmx_calls.specs.Log.{LogEntry, filled_act, filled_entry, from_stream}
 use Rattle.dmx_calls.specs.Owning.{HasRead}
 use Rattle.dmx_calls.specs.Response.{Response, Refused}
 use Rattle.client_script.specs.declared.line.Line.{Line}
@@ -71,8 +71,8 @@ firsts lines d = 33 * commands_by lines d
 not_refused : (r : Response) → ends_drain r ≡ false → r ≢ Refused Ebadf
 not_refused r goes_on is = (let k : ends_drain (Refused Ebadf) ≡ false = sym (ap ends_drain is) ∙ goes_on in absurd (cc k))
 
-reads_on : (stream : List (List ℕ)) (e : LogEntry) → IsGoing e.act e.response → HasRead e.who (filled_entry stream e)
-reads_on stream e g = record { by = refl; read = (g.now, g.count, ap (filled_act stream) g.read); response = not_refused e.response g.goes_on }
+reads_on : (stream : List (List ℕ)) (e : LogEntry) → IsGoing e.act e.response → HasRead e.who (filled_entry (from_stream stream) e)
+reads_on stream e g = record { by = refl; read = (g.now, g.count, ap (filled_act (λ input. stream)) g.read); response = not_refused e.response g.goes_on }
 
 pays_not_itself : (payers : Payers) (client who : ℕ) → MayPay payers client who → who ≢ client + 1
 pays_not_itself feeder client who is same = absurd (omega (arith, is, same))
@@ -97,7 +97,7 @@ module _ (payers : Payers) (script : Scripted) (most : ℕ) (stream : List (List
         let who : e.who ≡ d + 1 = omega (arith, is) in
         record { client = d; low = low; who = who; made = λ is. (s.clients d is).only e.node e.place h e log at who }
 
-  brings_none : (e : LogEntry) → StandsIn hs e → e.who ≢ 0 → length (brought (filled_act stream e.act)) ≡ 0
+  brings_none : (e : LogEntry) → StandsIn hs e → e.who ≢ 0 → length (brought (filled_act (λ input. stream) e.act)) ≡ 0
   brings_none e stands not =
       let m : IsMade e = made_by e stands not in
       event_brings_none stream (next_event m.client script (replies (take e.step (s.clients m.client m.low).made))) e ((s.clients m.client m.low).steps e.step e (m.made m.low)).3

@@ -6,7 +6,7 @@ use Rattle.dmx_calls.specs.Response.{Response, NoMemory}
 use Rattle.dmx_calls.specs.Legal.{IsLegalFor}
 use Rattle.dmx_calls.specs.declared.log.Act.{Act}
 use Rattle.dmx_calls.specs.declared.log.Act.TheVariants.{Pass as PassAct, End as EndAct}
-use Rattle.dmx_calls.specs.Log.{LogEntry, act_of, filled}
+use Rattle.dmx_calls.specs.Log.{LogEntry, act_of, filled, from_stream}
 use Rattle.dmx_calls.specs.Rules.{rules_at}
 use Rattle.client_script.specs.Script.{clients_in, Scripted}
 use Rattle.client_core.specs.declared.event.Event.{Event}
@@ -88,6 +88,6 @@ pub record IsRun (script : Scripted) (most : ℕ) (stream : List (List ℕ)) (hs
   pub nodes : length hs ≡ DEMUX_NODES + 1
   pub places : ArePlaced script hs
   -- each response is the one that the entries before it give
-  pub legal : (node : ℕ) (h : List LogEntry) → slice_get hs node ≡ Some h → IsLegalFor (rules_at node) (filled stream h)
+  pub legal : (node : ℕ) (h : List LogEntry) → slice_get hs node ≡ Some h → IsLegalFor (rules_at node) (filled (from_stream stream) h)
   pub fed : IsFed most (length stream) hs
   pub clients_done : (c : ℕ) → c < clients_in script → HasDone script c hs

@@ -6,7 +6,7 @@ use Rattle.dmx_calls.specs.declared.log.Act.{Act}
 use Rattle.dmx_calls.specs.declared.log.Act.TheVariants.{Pass as PassAct}
 use Rattle.dmx_calls.specs.Accounted.{IsAccounted}
 use Rattle.dmx_calls.specs.Legal.{IsLegalFor}
-use Rattle.dmx_calls.specs.Log.{LogEntry, filled}
+use Rattle.dmx_calls.specs.Log.{LogEntry, filled, from_stream}
 use Rattle.dmx_calls.specs.Rules.{rules_at}
 use Rattle.client_script.specs.Script.{clients_in, Scripted}
 use Rattle.client_core.specs.Commands.{commands_of}
@@ -73,7 +73,7 @@ pub record IsSoFar (payers : Payers) (script : Scripted) (most : ℕ) (stream : 
     (hs : List (List LogEntry)) : Type 0 where
   pub nodes : length hs ≡ DEMUX_NODES + 1
   pub places : ArePlaced script hs
-  pub legal : (node : ℕ) (h : List LogEntry) → slice_get hs node ≡ Some h → IsLegalFor (rules_at node) (filled stream h)
+  pub legal : (node : ℕ) (h : List LogEntry) → slice_get hs node ≡ Some h → IsLegalFor (rules_at node) (filled (from_stream stream) h)
   pub fed : IsFedSoFar most (length stream) hs
   pub clients : (c : ℕ) → c < clients_in script → HasDoneSoFar payers script c hs
 
@@ -111,4 +111,4 @@ CallsArePaid =
 abbrev pub RunsAreAccounted : Type 0
 RunsAreAccounted =
     (script : Scripted) (most : ℕ) (stream : List (List ℕ)) (hs : List (List LogEntry)) → IsRun script most stream hs
-    → (node : ℕ) (h : List LogEntry) → slice_get hs node ≡ Some h → IsAccounted (rules_at node) (filled stream h)
+    → (node : ℕ) (h : List LogEntry) → slice_get hs node ≡ Some h → IsAccounted (rules_at node) (filled (from_stream stream) h)
