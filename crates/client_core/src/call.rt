@@ -53,6 +53,7 @@ fn pass_of(batch: &Arc<Batch>, now: u64) -> Result<Call, NoMemory>
 
 /// The call that is asked for by this client, made at the moment `now`, in milliseconds. A Read comes with an empty buffer, and a
 /// pass with the batch of its write, which is shared and not copied: only these take memory.
+#[tactic(auto, using(crate::proofs::Playing::written_rules))]
 pub fn call_of(
     alloc: Global,
     core: &ClientCore,
