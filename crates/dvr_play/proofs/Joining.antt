@@ -6,8 +6,8 @@ use Rattle.std.specs.Option.{IfSome}
 use Rattle.std.proofs.lemmas.List.Elements.{All-nil, All-cons, All-head, All-tail}
 use Rattle.std.proofs.lemmas.Bool.{cases_lt}
 use Rattle.std.proofs.lemmas.Grind.{flat_map-append}
-use Rattle.std.proofs.lemmas.List.{length-drop, length-take-le, take-append-drop}
-use Rattle.std.proofs.Math.Seq.{drop-append_seam, drop-append-add, take-length}
+use Rattle.std.proofs.lemmas.List.{drop-drop, length-drop, length-take-le, take-append-drop}
+use Rattle.std.proofs.Math.Seq.{drop-append_seam, drop-append-add, take-append_seam, take-length}
 use Rattle.ts_packet.specs.Cut.{Cut, cut, cut_after, in_bytes, only_rest, join}
 use Rattle.ts_packet.specs.Cutting.{Cutting, Cuts, IsRest, fresh}
 use Rattle.ts_packet.specs.Fields.{IsPacket}
@@ -17,7 +17,7 @@ use Rattle.ts_packet.proofs.CutLemmas.{cut-append, cut-rest, cut_after-is_rest, 
 use Rattle.ts_packet.proofs.PieceLemmas.{has-pieces}
 use Rattle.ts_batch.specs.Batch.{Packets}
 use Rattle.dvr_play.specs.Plays.{batch_of, plays_from, plays, joined, cut_of, Playing, unplayed, with_write, HasPlayed, most_bytes}
-use Rattle.dvr_play.specs.Laws.{AreJoined, AreCounted, AreCompleted, AreFew, IsPlayed, packets_in, whole_by, completed}
+use Rattle.dvr_play.specs.Laws.{AreJoined, AreCounted, AreCompleted, AreFew, ArePlaced, IsPlayed, StandsAmong, packets_in, whole_by, completed}
 
 -- ------ the cutting
 
@@ -182,6 +182,27 @@ few_from first rest (bytes ∷ writes) is short =
 
 pub are_few : AreFew
 are_few writes short = few_from 0 [] writes no_rest short
+
+-- ------ their places
+
+batch_placed : (all : List (List ℕ)) (first : ℕ) (ps more : List (List ℕ)) → drop first all ≡ ps ++ more → IfSome (batch_of first ps) (StandsAmong all)
+batch_placed all first [] more at = tt
+batch_placed all first (p ∷ ps) more at = sym (ap (λ xs. take (length (p ∷ ps)) xs) at ∙ take-append_seam (p ∷ ps) more)
+
+placed_from : (all : List (List ℕ)) (first : ℕ) (rest : List ℕ) (writes : List (List ℕ)) → drop first all ≡ (cut Of188 (rest ++ joined writes)).packets
+    → All (λ batch. IfSome batch (StandsAmong all)) (plays_from first rest writes)
+placed_from all first rest [] at = All-nil (λ (batch : Option Packets). IfSome batch (StandsAmong all))
+placed_from all first rest (bytes ∷ writes) at =
+    let c : Cut = cut Of188 (rest ++ bytes) in
+    let d : Cut = cut Of188 (c.rest ++ joined writes) in
+    let here : drop first all ≡ c.packets ++ d.packets = at ∙ ap (λ e. e.packets) (one_more rest bytes writes) in
+    let later : drop (first + length c.packets) all ≡ d.packets =
+    sym (drop-drop (length c.packets) first all) ∙ ap (λ ps. drop (length c.packets) ps) here ∙ drop-append_seam c.packets d.packets in
+    All-cons (λ (batch : Option Packets). IfSome batch (StandsAmong all)) (batch_of first c.packets) (plays_from (first + length c.packets) c.rest writes)
+    (batch_placed all first c.packets d.packets here) (placed_from all (first + length c.packets) c.rest writes later)
+
+pub are_placed : ArePlaced
+are_placed writes = placed_from (cut_of writes).packets 0 [] writes refl
 
 -- ------ what is left
 

@@ -45,3 +45,12 @@ abbrev pub AreFew : Type 0
 AreFew =
     (writes : List (List ℕ)) → All (λ bytes. length bytes ≤ most_bytes) writes
     → All (λ batch. IfSome batch IsPlayed) (plays writes)
+
+-- the packets of a batch stand among these, from its first on
+abbrev pub StandsAmong : (all : List (List ℕ)) → Packets → Type 0
+StandsAmong all batch = batch.packets ≡ take (length batch.packets) (drop batch.first all)
+
+-- Each batch is the stretch of all packets that begins with its first.
+abbrev pub ArePlaced : Type 0
+ArePlaced =
+    (writes : List (List ℕ)) → All (λ batch. IfSome batch (StandsAmong (cut_of writes).packets)) (plays writes)

@@ -1,5 +1,5 @@
 // Laws of the definitions: the function does nothing, and its contract is the laws.
-ghost use Rattle.dvr_play.specs.Laws.{AreJoined, AreCounted, AreCompleted, AreFew};
+ghost use Rattle.dvr_play.specs.Laws.{AreJoined, AreCounted, AreCompleted, AreFew, ArePlaced};
 
 /// What the batches of writes are.
 pub fn plays_law()
@@ -11,4 +11,6 @@ pub fn plays_law()
     ensures completed { AreCompleted }
     // Each has 1 to 64 packets, where no write is too long.
     ensures few { AreFew }
+    // Each is the stretch of all packets that begins with its first.
+    ensures placed { ArePlaced }
 {}

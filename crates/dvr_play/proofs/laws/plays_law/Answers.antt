@@ -1,4 +1,4 @@
-use Rattle.dvr_play.proofs.Joining.{are_joined, are_counted, are_completed, are_few}
+use Rattle.dvr_play.proofs.Joining.{are_joined, are_counted, are_completed, are_few, are_placed}
 use Rattle.dvr_play.proofs.laws.plays_law.Goals as goal
 
 pub returns-clause-joined : goal.returns-clause-joined
@@ -12,3 +12,6 @@ returns-clause-completed c = are_completed
 
 pub returns-clause-few : goal.returns-clause-few
 returns-clause-few c = are_few
+
+pub returns-clause-placed : goal.returns-clause-placed
+returns-clause-placed c = are_placed
