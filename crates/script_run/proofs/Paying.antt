@@ -184,7 +184,7 @@ module _ (payers : Payers) (script : Scripted) (most : ℕ) (stream : List (List
     abbrev OtherPays : LogEntry → Type 0
     OtherPays e = (d : ℕ) × (d < clients_in script) × ClientPays d e
 
-    events : (d : ℕ) (low : d < clients_in script) (i : ℕ) (e : LogEntry) → slice_get (s.clients d low).made i ≡ Some e → IsEvent (next_event d script (replies (take i (s.clients d low).made))) e
+    events : (d : ℕ) (low : d < clients_in script) (i : ℕ) (e : LogEntry) → slice_get (s.clients d low).made i ≡ Some e → IsEvent (plays_of d script) (next_event d script (replies (take i (s.clients d low).made))) e
     events d low i e at = ((s.clients d low).steps i e at).3
 
     client_at : (d : ℕ) → d < clients_in script → (same : Bool) → nat_eq d c ≡ same → Pool quiet (ClientPays d) (if same then 0 else firsts script d)
