@@ -3,9 +3,12 @@
  * sets it). What is asked of demux0 and dvr0 goes to dvb_serve, as requests over a pair of named pipes; frontend.c answers
  * for the frontend. Nothing of this is proved.
  *
- *   DVBEMU_DIR    the folder in which dvb_serve has its pipe `door`
- *   DVBEMU_PAUSE  microseconds between two looks of a program that waits (2000)
+ *   DVBEMU_DIR    the folder in which dvb_serve has its pipe `door`, and the files `bell.N`
  *   DVBEMU_FREQ   the only frequency at which the frontend locks, in Hz (none: any)
+ *
+ * A program that waits sleeps in the system's poll, on the bells of its nodes beside its own descriptors: dvb_serve writes the
+ * file bell.N where packets that node N was asked for have passed since its last read or poll, and inotify tells of it. So it
+ * makes no call until there may be something. A filter with a timeout is looked at once more when that may be over.
  *
  * A program that is linked statically, or that calls the kernel past the C library, isn't seen. Nor are dup, fstat and mmap
  * of these devices, and DMX_GET_PES_PIDS.
@@ -24,6 +27,7 @@
 #include <string.h>
 #include <sys/epoll.h>
 #include <sys/eventfd.h>
+#include <sys/inotify.h>
 #include <sys/ioctl.h>
 #include <sys/mman.h>
 #include <sys/select.h>
@@ -39,8 +43,10 @@
 enum { OPEN_DEMUX = 1, OPEN_DVR, CLOSE, IOCTL, READ, POLL };
 enum { READABLE = 1, OVERFLOW = 2, TIMED_OUT = 4, SOMETHING = READABLE | OVERFLOW | TIMED_OUT };
 enum { NONE, FRONTEND, DEMUX, DVR };
-enum { MOST_FILES = 4096, FIRST_OWN = 900, ARGUMENT = 60, NAME = 64, PATH = 4200, MOST_READ = 65536, MOST_POLLED = 1024 };
-enum { SEAT_MS = 5000 };
+enum { MOST_FILES = 4096, FIRST_OWN = 900, ARGUMENT = 60, NAME = 64, PATH = 4200, MOST_READ = 65536, MOST_WATCHED = 2048 };
+enum { SEAT_MS = 5000, FRONTEND_MS = 100, PAUSE_MS = 10, DVR_NODE = 32 };
+/* of which epoll set a device is: none, several, or that of this descriptor */
+enum { NO_SET = -1, SEVERAL_SETS = -2 };
 
 struct request {
 	uint32_t verb, node, number, length;
@@ -51,12 +57,18 @@ struct reply {
 	uint64_t place;
 };
 
-/* what stands behind a descriptor, which is an eventfd; `set` is whether that can be read */
+/*
+ * What stands behind a descriptor, which is an eventfd: `set` is whether that can be read, `bell` an inotify descriptor for the
+ * node's bell, and `quiet` that nothing was there at the last look and the bell hasn't rung since.
+ */
 static struct file {
-	int kind, nonblock, section, set;
+	int kind, nonblock, section, timeout, set, bell, quiet, in_set;
 	uint32_t node;
 	pid_t pid;
 } files[MOST_FILES];
+/* the descriptors of the preload itself, and the first one above all that a device has had */
+static char own[MOST_FILES];
+static int files_end;
 
 /* the pair of pipes: `one` goes round a request and its reply, for forked children too */
 static struct {
@@ -64,7 +76,6 @@ static struct {
 	pthread_mutex_t *one;
 } line = { -1, -1, NULL };
 
-static long pause_us = 2000;
 static pthread_mutex_t opening = PTHREAD_MUTEX_INITIALIZER;
 
 /* the C library's own calls */
@@ -80,6 +91,7 @@ OWN(fcntl);
 OWN(poll);
 OWN(select);
 OWN(epoll_wait);
+OWN(epoll_ctl);
 
 static void find(void)
 {
@@ -95,9 +107,7 @@ static void find(void)
 	FIND(poll);
 	FIND(select);
 	FIND(epoll_wait);
-	const char *text = getenv("DVBEMU_PAUSE");
-	if (text)
-		pause_us = atol(text);
+	FIND(epoll_ctl);
 }
 
 static void init(void)
@@ -124,7 +134,17 @@ static int high(int fd)
 		return -1;
 	int other = real_fcntl(fd, F_DUPFD_CLOEXEC, FIRST_OWN);
 	real_close(fd);
+	if (other >= 0 && other < MOST_FILES)
+		own[other] = 1;
 	return other;
+}
+
+static void let_go(int fd)
+{
+	if (fd >= 0 && fd < MOST_FILES)
+		own[fd] = 0;
+	if (fd >= 0)
+		real_close(fd);
 }
 
 static int put(const void *bytes, size_t count)
@@ -159,10 +179,8 @@ static int get(void *bytes, size_t count)
 
 static void leave(void)
 {
-	if (line.ask >= 0)
-		real_close(line.ask);
-	if (line.tell >= 0)
-		real_close(line.tell);
+	let_go(line.ask);
+	let_go(line.tell);
 	line.ask = line.tell = -1;
 }
 
@@ -217,7 +235,7 @@ static int sit_down(const char *tell)
 	if (fd < 0)
 		return -1;
 	real_fcntl(fd, F_SETFL, 0);
-	real_close(line.tell);
+	let_go(line.tell);
 	line.tell = fd;
 	return 0;
 }
@@ -274,6 +292,19 @@ static int device_of(const char *path)
 	return NONE;
 }
 
+/* a descriptor that can be read once the node's bell has rung; -1 where there is none */
+static int bell_of(uint32_t node)
+{
+	char path[PATH];
+	int fd = inotify_init1(IN_NONBLOCK | IN_CLOEXEC);
+	snprintf(path, PATH, "%s/bell.%u", getenv("DVBEMU_DIR"), node);
+	if (fd >= 0 && inotify_add_watch(fd, path, IN_MODIFY) < 0) {
+		real_close(fd);
+		return -1;
+	}
+	return high(fd);
+}
+
 static int open_device(int kind, int flags)
 {
 	struct reply reply = { 0 };
@@ -287,11 +318,15 @@ static int open_device(int kind, int flags)
 		if (fd >= 0)
 			real_close(fd);
 		if (kind != FRONTEND)
-			request(CLOSE, reply.value, 0, NULL, 0, &reply, NULL);
+			request(CLOSE, kind == DVR ? DVR_NODE : reply.value, 0, NULL, 0, &reply, NULL);
 		errno = EMFILE;
 		return -1;
 	}
-	files[fd] = (struct file){ .kind = kind, .nonblock = !!(flags & O_NONBLOCK), .node = reply.value, .pid = getpid() };
+	uint32_t node = kind == DVR ? DVR_NODE : reply.value;
+	int bell = kind == FRONTEND ? -1 : bell_of(node);
+	files[fd] = (struct file){ .kind = kind, .nonblock = !!(flags & O_NONBLOCK), .bell = bell, .in_set = NO_SET, .node = node, .pid = getpid() };
+	if (fd >= files_end)
+		files_end = fd + 1;
 	return fd;
 }
 
@@ -311,10 +346,46 @@ static int open_path(const char *path, int flags)
 	return fd;
 }
 
-static void rest(void)
+/* ------ waiting */
+
+/* whether the server has gone while somebody waited */
+static int is_gone;
+
+/* the bell; -1 in a forked child, which would take what its parent is told */
+static int bell_in(const struct file *file) { return file->pid == getpid() ? file->bell : -1; }
+
+/* takes what the bell has told: whether it rang */
+static int has_rung(const struct file *file)
 {
-	struct timespec time = { pause_us / 1000000, pause_us % 1000000 * 1000 };
-	nanosleep(&time, NULL);
+	char told[sizeof(struct inotify_event) * 8];
+	int rang = 0, bell = bell_in(file);
+	while (bell >= 0 && real_read(bell, told, sizeof told) > 0)
+		rang = 1;
+	return rang;
+}
+
+/* how much is left of a time that began at `since`: -1 where it has no end */
+static int left_of(long since, int time)
+{
+	long left = time - (milliseconds() - since);
+	return time < 0 ? -1 : left < 0 ? 0 : (int)left;
+}
+
+/* How long it may sleep. A filter with a timeout, and a device without a bell, are looked at from time to time. */
+static int nap_of(const struct file *file, int time)
+{
+	int most = file->kind == FRONTEND ? FRONTEND_MS : bell_in(file) < 0 ? PAUSE_MS : file->timeout ? file->timeout : -1;
+	return most < 0 || (time >= 0 && time < most) ? time : most;
+}
+
+/* Sleeps so long, or until one of these has something; the last of them is the server's end. */
+static int doze(struct pollfd *all, nfds_t count, int time)
+{
+	all[count] = (struct pollfd){ line.tell, 0, 0 };
+	int n = real_poll(all, count + 1, time);
+	if (n > 0 && all[count].revents)
+		is_gone = 1;
+	return n;
 }
 
 /* A section filter gives one section; any other node is read until all bytes are there, where the read blocks. */
@@ -327,10 +398,13 @@ static ssize_t read_device(struct file *file, void *into, size_t count)
 	}
 	for (;;) {
 		struct reply reply;
+		struct pollfd bell[2] = { { bell_in(file), POLLIN, 0 } };
+		has_rung(file);
 		uint32_t most = count - done < MOST_READ ? (uint32_t)(count - done) : MOST_READ;
 		int error = request(READ, file->node, most, NULL, 0, &reply, (char *)into + done);
+		file->quiet = error == -EAGAIN;
 		if (error == -EAGAIN && !file->nonblock) {
-			rest();
+			doze(bell, 1, nap_of(file, -1));
 			continue;
 		}
 		if (error && !done) {
@@ -354,8 +428,11 @@ static int ioctl_device(struct file *file, uint32_t number, void *argument)
 	if (length > ARGUMENT)
 		length = 0;
 	int error = request(IOCTL, file->node, number, argument, length, &reply, NULL);
-	if (!error && (number == DMX_SET_FILTER || number == DMX_SET_PES_FILTER))
+	if (!error && (number == DMX_SET_FILTER || number == DMX_SET_PES_FILTER)) {
 		file->section = number == DMX_SET_FILTER;
+		file->timeout = file->section ? (int)(((struct dmx_sct_filter_params *)argument)->timeout & 0x7fffffff) : 0;
+	}
+	file->quiet = 0;
 	return error;
 }
 
@@ -365,25 +442,20 @@ static uint32_t refresh(int fd)
 	struct file *file = &files[fd];
 	struct reply reply = { 0 };
 	uint64_t one = 1;
-	uint32_t found = frontend_event() ? READABLE : 0;
-	if (file->kind != FRONTEND)
-		found = request(POLL, file->node, 0, NULL, 0, &reply, NULL) ? 0 : reply.value;
+	uint32_t found = 0;
+	if (has_rung(file) || file->timeout || bell_in(file) < 0 || is_gone)
+		file->quiet = 0;
+	if (file->kind == FRONTEND)
+		found = frontend_event() ? READABLE : 0;
+	else if (!file->quiet)
+		found = request(POLL, file->node, 0, NULL, 0, &reply, NULL) ? OVERFLOW : reply.value;
 	int wanted = !!(found & SOMETHING);
+	file->quiet = !wanted;
 	if (wanted && !file->set)
 		file->set = syscall(SYS_write, fd, &one, sizeof one) == sizeof one;
 	else if (!wanted && file->set)
 		file->set = real_read(fd, &one, sizeof one) != sizeof one;
 	return found;
-}
-
-/* how long to wait at once, of a time that began at `since`: -1 where none of it is left */
-static int slice(long since, int time)
-{
-	int most = pause_us < 1000 ? 1 : (int)(pause_us / 1000);
-	long left = time < 0 ? most : time - (milliseconds() - since);
-	if (left <= 0)
-		return -1;
-	return left < most ? (int)left : most;
 }
 
 /* ------ the C library's calls */
@@ -439,7 +511,7 @@ int access(const char *path, int mode)
 	return -1;
 }
 
-/* A forked child's close tells nothing: the node is still its parent's. */
+/* A forked child's close tells nothing: the node is still its parent's. What the preload has itself stays open. */
 int close(int fd)
 {
 	struct reply reply;
@@ -447,9 +519,11 @@ int close(int fd)
 	struct file *file = file_of(fd);
 	if (file && file->pid == getpid() && file->kind != FRONTEND)
 		request(CLOSE, file->node, 0, NULL, 0, &reply, NULL);
-	if (file)
+	if (file) {
 		file->kind = NONE;
-	if (fd >= FIRST_OWN && (fd == line.ask || fd == line.tell))
+		let_go(file->bell);
+	}
+	if (fd >= 0 && fd < MOST_FILES && own[fd])
 		return 0;
 	return real_close(fd);
 }
@@ -534,26 +608,38 @@ static short events_of(uint32_t found, short events)
 	return (short)(told | (found & (OVERFLOW | TIMED_OUT) ? POLLERR : 0));
 }
 
-/* looks at the devices once, and waits for the others so long where no device has anything; how many have something */
-static int poll_once(struct pollfd *all, nfds_t count, int time)
+/* looks at the devices, and says how many have something */
+static int look(struct pollfd *all, nfds_t count)
 {
-	struct pollfd others[MOST_POLLED];
 	int ready = 0;
 	for (nfds_t i = 0; i < count; i++) {
-		others[i] = all[i];
 		if (!file_of(all[i].fd))
 			continue;
-		others[i].fd = -1;
 		all[i].revents = events_of(refresh(all[i].fd), all[i].events);
 		ready += all[i].revents != 0;
 	}
-	int n = real_poll(others, count, ready ? 0 : time);
-	if (n < 0)
-		return n;
-	for (nfds_t i = 0; i < count; i++)
-		if (!file_of(all[i].fd))
-			all[i].revents = others[i].revents;
-	return ready + n;
+	return ready;
+}
+
+/* Sleeps until one of the others has something or a device's bell rings; how many of the others have something. */
+static int poll_others(struct pollfd *all, nfds_t count, int time)
+{
+	struct pollfd watched[MOST_WATCHED + 1];
+	int ready = 0;
+	for (nfds_t i = 0; i < count; i++) {
+		struct file *file = file_of(all[i].fd);
+		watched[i] = file ? (struct pollfd){ bell_in(file), POLLIN, 0 } : all[i];
+		time = file ? nap_of(file, time) : time;
+	}
+	if (doze(watched, count, time) < 0)
+		return -1;
+	for (nfds_t i = 0; i < count; i++) {
+		if (file_of(all[i].fd))
+			continue;
+		all[i].revents = watched[i].revents;
+		ready += all[i].revents != 0;
+	}
+	return ready;
 }
 
 int poll(struct pollfd *all, nfds_t count, int time)
@@ -562,14 +648,14 @@ int poll(struct pollfd *all, nfds_t count, int time)
 	init();
 	for (nfds_t i = 0; i < count; i++)
 		ours |= file_of(all[i].fd) != NULL;
-	if (!ours || count > MOST_POLLED)
+	if (!ours || count > MOST_WATCHED)
 		return real_poll(all, count, time);
 	long since = milliseconds();
 	for (;;) {
-		int wait = slice(since, time);
-		int n = poll_once(all, count, wait < 0 ? 0 : wait);
-		if (n || wait < 0)
-			return n;
+		int ready = look(all, count), left = left_of(since, time);
+		int n = poll_others(all, count, ready ? 0 : left);
+		if (n < 0 || ready + n || !left)
+			return n < 0 ? n : ready + n;
 	}
 }
 
@@ -585,28 +671,50 @@ int ppoll(struct pollfd *all, nfds_t count, const struct timespec *time, const s
 
 static int is_in(int fd, const fd_set *set) { return set && FD_ISSET(fd, set); }
 
+/* a device is waited for by reads and by exceptions alone */
+static struct file *asked(int fd, const fd_set *reads, const fd_set *others)
+{
+	return is_in(fd, reads) || is_in(fd, others) ? file_of(fd) : NULL;
+}
+
+/* sleeps until one of these may have something; negative where a signal comes */
+static int sleep_for(int count, const fd_set *reads, const fd_set *writes, const fd_set *others, int time)
+{
+	struct pollfd watched[FD_SETSIZE + 1];
+	nfds_t used = 0;
+	for (int i = 0; i < count; i++) {
+		struct file *file = asked(i, reads, others);
+		short events = (short)((is_in(i, reads) ? POLLIN : 0) | (is_in(i, writes) ? POLLOUT : 0) | (is_in(i, others) ? POLLPRI : 0));
+		if (file)
+			watched[used++] = (struct pollfd){ bell_in(file), POLLIN, 0 };
+		else if (events)
+			watched[used++] = (struct pollfd){ i, events, 0 };
+		time = file ? nap_of(file, time) : time;
+	}
+	return doze(watched, used, time);
+}
+
 int select(int count, fd_set *reads, fd_set *writes, fd_set *others, struct timeval *time)
 {
-	int ours = 0, most = time ? (int)(time->tv_sec * 1000 + time->tv_usec / 1000) : -1;
+	int ours = 0, most = time ? (int)(time->tv_sec * 1000 + (time->tv_usec + 999) / 1000) : -1;
 	init();
 	for (int i = 0; i < count; i++)
-		ours |= file_of(i) && (is_in(i, reads) || is_in(i, others));
+		ours |= asked(i, reads, others) != NULL;
 	if (!ours)
 		return real_select(count, reads, writes, others, time);
 	long since = milliseconds();
 	for (;;) {
-		fd_set r, w, o;
-		int wait = slice(since, most);
+		fd_set r = reads ? *reads : (fd_set){ 0 }, w = writes ? *writes : (fd_set){ 0 }, o = others ? *others : (fd_set){ 0 };
+		struct timeval none = { 0, 0 };
 		for (int i = 0; i < count; i++)
-			if (file_of(i) && (is_in(i, reads) || is_in(i, others)))
+			if (asked(i, reads, others))
 				refresh(i);
-		r = reads ? *reads : (fd_set){ 0 };
-		w = writes ? *writes : (fd_set){ 0 };
-		o = others ? *others : (fd_set){ 0 };
-		struct timeval left = { 0, wait < 0 ? 0 : wait * 1000 };
-		int n = real_select(count, &r, &w, &o, &left);
-		if (!n && wait >= 0)
+		int n = real_select(count, &r, &w, &o, &none), left = left_of(since, most);
+		if (!n && left) {
+			if (sleep_for(count, reads, writes, others, left) < 0)
+				return -1;
 			continue;
+		}
 		if (n >= 0 && reads)
 			*reads = r;
 		if (n >= 0 && writes)
@@ -617,24 +725,57 @@ int select(int count, fd_set *reads, fd_set *writes, fd_set *others, struct time
 	}
 }
 
-/* an epoll set has the eventfds, which are kept right while the program waits */
+/* the signals stay as they are */
+int pselect(int count, fd_set *reads, fd_set *writes, fd_set *others, const struct timespec *time, const sigset_t *signals)
+{
+	struct timeval most = { time ? time->tv_sec : 0, time ? time->tv_nsec / 1000 : 0 };
+	(void)signals;
+	return select(count, reads, writes, others, time ? &most : NULL);
+}
+
+/* ------ epoll: a set has the eventfds of devices, which are kept right while the program waits */
+
+int epoll_ctl(int set, int what, int fd, struct epoll_event *event)
+{
+	init();
+	struct file *file = file_of(fd);
+	int result = real_epoll_ctl(set, what, fd, event);
+	if (file && !result && what == EPOLL_CTL_ADD)
+		file->in_set = file->in_set == NO_SET || file->in_set == set ? set : SEVERAL_SETS;
+	else if (file && !result && what == EPOLL_CTL_DEL)
+		file->in_set = NO_SET;
+	return result;
+}
+
+/* the device behind a descriptor, where this set has it */
+static struct file *member(int set, int fd)
+{
+	struct file *file = file_of(fd);
+	return file && (file->in_set == set || file->in_set == SEVERAL_SETS) ? file : NULL;
+}
+
 int epoll_wait(int set, struct epoll_event *events, int most, int time)
 {
-	int ours = 0;
+	struct pollfd watched[MOST_FILES + 2];
 	init();
-	for (int i = 0; i < MOST_FILES; i++)
-		ours |= files[i].kind != NONE;
-	if (!ours)
-		return real_epoll_wait(set, events, most, time);
 	long since = milliseconds();
 	for (;;) {
-		int wait = slice(since, time);
-		for (int i = 0; i < MOST_FILES; i++)
-			if (files[i].kind != NONE)
-				refresh(i);
-		int n = real_epoll_wait(set, events, most, wait < 0 ? 0 : wait);
-		if (n || wait < 0)
+		nfds_t used = 1;
+		int left = left_of(since, time), nap = left;
+		watched[0] = (struct pollfd){ set, POLLIN, 0 };
+		for (int i = 0; i < files_end; i++) {
+			struct file *file = member(set, i);
+			if (!file)
+				continue;
+			refresh(i);
+			watched[used++] = (struct pollfd){ bell_in(file), POLLIN, 0 };
+			nap = nap_of(file, nap);
+		}
+		int n = real_epoll_wait(set, events, most, used == 1 ? left : 0);
+		if (n || !left || used == 1)
 			return n;
+		if (doze(watched, used, nap) < 0)
+			return -1;
 	}
 }
 

@@ -4,12 +4,14 @@ ghost use Rattle.std.specs.Io.{ReadsAtMost};
 ghost use Rattle.std.specs.Io.KnownBytes.{ReadConsumes, WriteAppends};
 ghost use Rattle.emu_io.specs.Causes.{HasCause};
 
+use crate::bells::Bells;
 use emu_io::{Failed, Sink, Source};
 use serve_frames::numbers::{LEAVE, REQUEST_LEN};
 use std::fs::{File, OpenOptions};
 use std::io;
 use std::io::{ErrorKind, Read, Write};
 use std::marker::Model;
+use std::sync::Arc;
 
 // How often a call is made again where a signal interrupts it.
 const TRIES: u64 = u64::MAX;
@@ -49,7 +51,7 @@ fn write_again(output: &mut File, piece: &[u8]) -> Option<usize>
 
 // Reads until the buffer is full. False where the file has ended before, or fails.
 fn fill(input: &mut File, into: &mut [u8; REQUEST_LEN]) -> bool {
-    let mut done = 0usize;
+    let mut done = 0;
     'pieces: while done < REQUEST_LEN {
         let count = read_again(input, &mut into[done..]);
         if count == 0 {
@@ -95,7 +97,10 @@ pub struct PipeLine {
     rt: HostRuntime,
     folder: String,
     door: File,
+    bells: Arc<Bells>,
     at: At,
+    // The nodes of whose filters the program has asked for packets: a bit each.
+    asked: u64,
     request: [u8; REQUEST_LEN],
     given: usize,
     faults: u64,
@@ -152,13 +157,15 @@ fn program_of(rt: &HostRuntime, folder: &str, name: &str) -> io::Result<Program>
 
 impl PipeLine {
     /// The line at the door of this folder.
-    pub fn new(rt: &HostRuntime, folder: &str) -> io::Result<PipeLine> {
+    pub fn new(rt: &HostRuntime, folder: &str, bells: &Arc<Bells>) -> io::Result<PipeLine> {
         let path = path_of(rt, folder, "door", "")?;
         Ok(PipeLine {
             rt: *rt,
             folder: String::from_str(rt.alloc(), folder)?,
             door: end_of(rt, path.as_str(), true)?,
+            bells: bells.clone()?,
             at: At::Door,
+            asked: 0,
             request: [0; REQUEST_LEN],
             given: REQUEST_LEN,
             faults: 0,
@@ -194,12 +201,34 @@ impl PipeLine {
             At::Program(program) => fill(&mut program.from, &mut self.request),
             _ => false,
         };
-        if !has {
+        if has {
+            self.note();
+        } else {
             self.at = At::Door;
+            self.forget();
             self.request = leaving();
         }
         self.given = 0;
         true
+    }
+
+    // Tells the bells of the request.
+    fn note(&mut self) {
+        if let Some(node) = self.bells.note(&self.request)
+            && node < 64
+        {
+            self.asked |= 1 << node;
+        }
+    }
+
+    // Tells the bells that the program has gone.
+    fn forget(&mut self) {
+        'nodes: for node in 0..64 {
+            if self.asked >> node & 1 == 1 {
+                self.bells.forget(node);
+            }
+        }
+        self.asked = 0;
     }
 }
 

@@ -1,6 +1,7 @@
 // The threads of the seats.
 ghost use Rattle.std.specs.Prelude.{◌≡◌, ◌<◌, All};
-ghost use Rattle.seats.specs.Seated.{IsFit, IsReady, GoesOn, HaveServed};
+ghost use Rattle.seats.specs.Seated.{IsFit, IsReady, GoesOn};
+ghost use Rattle.seats.specs.Served.{HaveServed};
 
 use crate::seat::Seat;
 use adapter::Adapter;

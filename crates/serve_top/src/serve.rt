@@ -1,5 +1,6 @@
 // What a server does from its first call to its report.
-ghost use Rattle.std.specs.Prelude.{◌≡◌, ◌<◌, ◌≤◌, ◌^◌, ◌-◌, vec_len, All, IfOk};
+ghost use Rattle.std.specs.Prelude.{◌≡◌, ◌<◌, ◌≤◌, ◌+◌, ◌^◌, ◌-◌, vec_len, All, IfOk, IsErrOf, OnErr};
+ghost use Rattle.emu_io.specs.Causes.{raised};
 ghost use Rattle.feed_pull.specs.Pulling.{IsDone};
 ghost use Rattle.trace_merge.specs.Merging.{AreOnNodes};
 
@@ -7,17 +8,52 @@ use crate::desks::{Books, books_of, desks_of};
 use crate::threads::sit_and_feed;
 use adapter::Adapter;
 use client_core::Stop;
-use emu_io::{Clock, Sink, Source};
+use emu_io::{Clock, Gate, Sink, Source};
 use feed_pull::Puller;
-use report_text::report;
+use report_text::{ReportError, write_report};
 use std::alloc::{AllocError as NoMemory, Global};
 use std::sync::Wait;
 use std::thread::Threads;
 use trace_merge::histories;
+use ts_packet::PacketSize;
 use workers::FeederWorker;
 
-// The report of what has passed and of what was called.
-fn report_of(alloc: Global, feeder: FeederWorker, books: Books) -> Result<Vec<u8>, NoMemory>
+/// Why a server has written no whole report.
+#[derive(Clone, Copy, Debug, PartialEq, Eq, Drop)]
+pub enum NoReport {
+    /// Memory was refused. Nothing was written.
+    NoMemory,
+    /// The source was read 4,294,967,296 times. Nothing was written.
+    TooLong,
+    /// A write failed. A part of the report was written, from its front on.
+    Failed,
+}
+
+impl From<NoMemory> for NoReport {
+    ghost use Rattle.std.specs.Prelude.{◌≡◌};
+
+    ghost from_gives = { λ _ e. e ≡ NoReport.NoMemory };
+
+    fn from(_e: NoMemory) -> NoReport {
+        NoReport::NoMemory
+    }
+}
+
+// Why there is no report where the feeder stopped for this reason.
+fn no_report(stop: Stop) -> NoReport {
+    match stop {
+        Stop::NoMemory => NoReport::NoMemory,
+        Stop::TooLong { .. } => NoReport::TooLong,
+    }
+}
+
+// Writes the report of what has passed and of what was called.
+fn write_all<K: Sink>(
+    alloc: Global,
+    sink: &mut K,
+    feeder: FeederWorker,
+    books: Books,
+) -> Result<(), NoReport>
     requires done { IsDone feeder.puller }
     requires nodes { All (λ log. AreOnNodes log.items) books.logs.items }
 {
@@ -29,21 +65,36 @@ fn report_of(alloc: Global, feeder: FeederWorker, books: Books) -> Result<Vec<u8
     let Books { logs, outcomes } = books;
     let head = puller.head(alloc)?;
     let all = histories(alloc, feeding, logs)?;
-    report(alloc, &head, &outcomes, &all)
+    match write_report(alloc, sink, &head, &outcomes, &all) {
+        Ok(()) => Ok(()),
+        Err(ReportError::NoMemory) => Err(NoReport::NoMemory),
+        Err(ReportError::Failed) => Err(NoReport::Failed),
+    }
 }
 
 /// Passes the stream of a source through the 33 nodes, in batches of 64 packets and then its end, while for each line a seat
-/// answers its requests until it ends; and answers the report of all calls.
+/// answers its requests until it ends; and writes the report of all calls. Before each batch, and once more behind the end, it
+/// calls the gate as caller 0.
 ///
 /// # Errors
 ///
-/// `NoMemory` where memory was refused; `TooLong` where the source was read 4,294,967,296 times.
+/// Why there is no whole report.
 pub fn serve<
     R: Threads + Wait + Sync,
     S: Source + Send,
     T: Source + Sink + Send + Drop,
+    K: Sink,
     C: Clock + Sync,
->(rt: &R, alloc: Global, source: &mut S, lines: Vec<T>, clock: &C) -> Result<Vec<u8>, Stop>
+    G: Gate + Sync,
+>(
+    rt: &R,
+    alloc: Global,
+    source: &mut S,
+    lines: Vec<T>,
+    sink: &mut K,
+    clock: &C,
+    gate: &G,
+) -> Result<(), NoReport>
     requires few { vec_len lines ≤ 8 }
     requires faults { (S.end source.old).faults < 2 ^ 64 - 1 }
 {
@@ -51,14 +102,14 @@ pub fn serve<
     let mut desks = desks_of(alloc, clients, lines)?;
     let mut feeder = FeederWorker {
         feeder,
-        puller: Puller::new(alloc, Vec::new(alloc), 0)?,
+        puller: Puller::new(alloc, Vec::new(alloc), 0, PacketSize::Of188)?,
         feeding: Vec::new(alloc),
         stop: None,
     };
-    sit_and_feed(rt, alloc, &adapter, &mut feeder, &mut desks, source, clock);
+    sit_and_feed(rt, alloc, &adapter, &mut feeder, &mut desks, source, clock, gate);
     if let Some(stop) = feeder.stop {
-        return Err(stop);
+        return Err(no_report(stop));
     }
     let books = books_of(alloc, desks)?;
-    Ok(report_of(alloc, feeder, books)?)
+    write_all(alloc, sink, feeder, books)
 }

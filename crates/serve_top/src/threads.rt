@@ -2,10 +2,11 @@
 ghost use Rattle.std.specs.Prelude.{◌≡◌, ◌<◌, ◌≤◌, ◌^◌, ◌-◌, All};
 ghost use denote.Param.Send.{IsSync, IsSend};
 ghost use Rattle.workers.specs.Inside.FeederWork.{MayPass, HasPassed, HasFedToEnd};
-ghost use Rattle.seats.specs.Seated.{IsReady, HaveServed};
+ghost use Rattle.seats.specs.Seated.{IsReady};
+ghost use Rattle.seats.specs.Served.{HaveServed};
 
 use adapter::Adapter;
-use emu_io::{Clock, NoGate, Sink, Source};
+use emu_io::{Clock, Gate, Sink, Source};
 use seats::{Desk, sit_all};
 use std::alloc::Global;
 use std::sync::Wait;
@@ -22,6 +23,7 @@ pub fn sit_and_feed<
     S: Source + Send,
     T: Source + Sink + Send + Drop,
     C: Clock + Sync,
+    G: Gate + Sync,
 >(
     rt: &R,
     alloc: Global,
@@ -30,6 +32,7 @@ pub fn sit_and_feed<
     desks: &mut Vec<Desk<T>>,
     source: &mut S,
     clock: &C,
+    gate: &G,
 )
     requires feeder { MayPass 64 (S.end source.old).faults adapter.now feeder.old }
     requires begun { HasPassed 64 (C.may_give clock.now) (S.end source.old) (S.end source.old) feeder.old.puller feeder.old }
@@ -37,12 +40,11 @@ pub fn sit_and_feed<
     ensures feeder { HasFedToEnd 64 (C.may_give clock.now) (S.end source.old) (S.end source.new) feeder.old feeder.new }
     ensures desks { HaveServed adapter.now desks.old.items desks.new.items }
 {
-    let gate = NoGate::new();
     let mut first = ||
         requires may { MayPass 64 (S.end source.now).faults adapter.now feeder.now }
         requires begun { HasPassed 64 (C.may_give clock.now) (S.end source.now) (S.end source.now) feeder.now.puller feeder.now }
         ensures { HasFedToEnd 64 (C.may_give clock.entry.now) (S.end source.entry.now) (S.end source.exit.now) feeder.entry.now feeder.exit.now }
-    { feeder.work(rt, adapter, source, BATCH, clock, &gate) };
+    { feeder.work(rt, adapter, source, BATCH, clock, gate) };
     let mut others = ||
         requires { IsSync R.row × IsSync C.row × IsSend T.row × All (λ d. IsReady adapter.now d.seat) desks.now.items }
         ensures { HaveServed adapter.entry.now desks.entry.now.items desks.exit.now.items }
