@@ -27,6 +27,9 @@ use std::sync::{Arc, Wait};
 use std::thread::Threads;
 use stream::RungSource;
 
+// What words are accepted.
+const USAGE: &str = "usage: dvb_serve FOLDER SEATS < STREAM > REPORT";
+
 // The lines of so many seats at the door of this folder.
 fn lines_of(
     rt: &HostRuntime,
@@ -82,8 +85,12 @@ fn main(rt: HostRuntime) -> ExitCode {
     else {
         return failed(&rt, "no words");
     };
+    if words.as_slice() == ["--help"] {
+        let _ = println!(rt; "{USAGE}");
+        return ExitCode::SUCCESS;
+    }
     let [folder, seats] = words.as_slice() else {
-        return failed(&rt, "usage: dvb_serve FOLDER SEATS < STREAM > REPORT");
+        return failed(&rt, USAGE);
     };
     let seats = match seats.as_str().parse::<u32>() {
         Ok(seats) if seats >= 1 && seats <= 8 => seats,
