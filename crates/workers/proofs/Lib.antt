@@ -14,6 +14,7 @@ mod FeederWork
 mod Leaving
 mod Lists
 mod Logging
+mod Coming
 mod TooLong
 mod Working
 pub mod Budgeting

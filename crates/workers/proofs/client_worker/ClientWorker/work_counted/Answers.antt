@@ -1,0 +1,7 @@
+use Rattle.workers.proofs.Coming.{has_come}
+use Rattle.workers.proofs.client_worker.ClientWorker.work_counted.Goals as goal
+
+pub returns : goal.returns
+returns g c =
+    let e = c.run.ensures in
+    has_come (g.C.Clock.may_give c.args.clock.now) c.args.adapter.now c.args.self.now c.run.new.self c.run.result e.same e.fit e.works e.ends e.too_long
