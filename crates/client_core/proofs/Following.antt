@@ -9,7 +9,7 @@ use Rattle.std.proofs.lemmas.Option.{slice_get-get_or}
 use Rattle.std.proofs.Math.Seq.{take-length}
 use Rattle.dmx_calls.specs.Response.{Response}
 use Rattle.ts_packet.specs.Cut.{cut, cut_after}
-use Rattle.ts_packet.specs.Cutting.{bytes_counted}
+use Rattle.ts_packet.specs.Cutting.{bytes_taken}
 use Rattle.stc_clock.specs.Clock.{unset, last_pcr, HasFollowed}
 use Rattle.client_script.specs.declared.line.Line.{Line}
 use Rattle.client_script.specs.declared.line.Verb.{Verb}
@@ -55,8 +55,8 @@ none_followed true = record {
 none_followed false = record { each = λ node within. absurd (omega (arith, within)) }
 
 pub none_taken : (asked : Bool) → AreFew 0 (fresh_clocks asked)
-none_taken true = All-replicate (λ c. bytes_counted c.clock.cutting ≤ 0) 33 uncalled (omega arith)
-none_taken false = All-nil (λ c. bytes_counted c.clock.cutting ≤ 0)
+none_taken true = All-replicate (λ c. bytes_taken c.clock.cutting ≤ 0) 33 uncalled (omega arith)
+none_taken false = All-nil (λ c. bytes_taken c.clock.cutting ≤ 0)
 
 -- where clocks are kept, each command can begin
 can_ask_all : (v : Verb) → CanAsk 33 v
