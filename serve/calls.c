@@ -1,12 +1,17 @@
 /*
  * A small program of a DVB adapter, for serve/check: each way to wait, a fork, reads in parts, wrong calls. The stream has to bring
  * a PAT of 24 bytes. Its last line is `N passed, M failed`.
+ *
+ *   calls               all of it, where nobody else has a node
+ *   calls beside        what may be asked beside other programs
+ *   calls wait SECONDS  waits so long for a section that never comes
  */
 #include <errno.h>
 #include <fcntl.h>
 #include <linux/dvb/dmx.h>
 #include <poll.h>
 #include <stdio.h>
+#include <stdlib.h>
 #include <string.h>
 #include <sys/epoll.h>
 #include <sys/ioctl.h>
@@ -128,9 +133,21 @@ static void try_all_nodes(int free_nodes)
 		close(fds[--count]);
 }
 
+/* a filter on a PID of null packets, which bring no section */
+static int wait_for_nothing(int seconds)
+{
+	struct dmx_sct_filter_params params = { .pid = 0x1fff, .flags = DMX_IMMEDIATE_START };
+	int fd = open(demux, O_RDWR);
+	struct pollfd one = { fd, POLLIN, 0 };
+	want(fd >= 0 && !ioctl(fd, DMX_SET_FILTER, &params), "a filter that finds nothing");
+	want(poll(&one, 1, seconds * 1000) == 0, "poll waits for nothing");
+	return failed > 0;
+}
+
 int main(int count, char **words)
 {
-	(void)words;
+	if (count == 3 && !strcmp(words[1], "wait"))
+		return wait_for_nothing(atoi(words[2]));
 	try_blocking();
 	int fd = open_pat(O_NONBLOCK);
 	try_waits(fd);

@@ -60,6 +60,11 @@ impl PidBits {
     pub fn clear(&mut self) {
         self.words = [0; WORDS];
     }
+
+    /// Whether there is none.
+    pub fn is_empty(&self) -> bool {
+        self.words[WORDS - 1] == 0
+    }
 }
 
 // The PIDs that a node's filter was asked for.
@@ -200,12 +205,18 @@ impl Bells {
         false
     }
 
-    // Rings a node's bell where its program has looked since it was rung last.
+    // Whether a node's program has looked since its bell was rung last.
+    fn has_looked(&self, node: usize) -> bool {
+        match self.looked.get(node) {
+            Some(looked) => looked.load(Ordering::SeqCst) != 0,
+            None => false,
+        }
+    }
+
+    // Rings a node's bell.
     fn ring_one(&self, node: usize) {
-        let (Some(looked), Some(file)) = (self.looked.get(node), self.files.get(node)) else {
-            return;
-        };
-        if looked.swap(0, Ordering::SeqCst) != 0 {
+        if let (Some(looked), Some(file)) = (self.looked.get(node), self.files.get(node)) {
+            looked.store(0, Ordering::SeqCst);
             let _ = file.write_at(&[1], 0);
         }
     }
@@ -213,7 +224,7 @@ impl Bells {
     /// These packets have passed all nodes.
     pub fn ring(&self, passed: &PidBits) {
         'nodes: for node in 0..NODES {
-            if self.may_have(node, passed) {
+            if self.has_looked(node) && self.may_have(node, passed) {
                 self.ring_one(node);
             }
         }
@@ -237,7 +248,9 @@ impl Gate for LastBells {
     fn at(&self, _who: u32, _step: u64) {
         if self.bells.ended.load(Ordering::SeqCst) != 0 {
             'nodes: for node in 0..NODES {
-                self.bells.ring_one(node);
+                if self.bells.has_looked(node) {
+                    self.bells.ring_one(node);
+                }
             }
         }
     }

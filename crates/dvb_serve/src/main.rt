@@ -85,18 +85,19 @@ fn main(rt: HostRuntime) -> ExitCode {
     else {
         return failed(&rt, "no words");
     };
-    if words.as_slice() == ["--help"] {
-        let _ = println!(rt; "{USAGE}");
-        return ExitCode::SUCCESS;
-    }
-    let [folder, seats] = words.as_slice() else {
-        return failed(&rt, USAGE);
+    let (folder, seats) = match words.as_slice() {
+        [folder, seats] => (folder.as_str(), seats.as_str()),
+        [word] if word.as_str() == "--help" => {
+            let _ = println!(rt; "{USAGE}");
+            return ExitCode::SUCCESS;
+        }
+        _ => return failed(&rt, USAGE),
     };
-    let seats = match seats.as_str().parse::<u32>() {
+    let seats = match seats.parse::<u32>() {
         Ok(seats) if seats >= 1 && seats <= 8 => seats,
         _ => return failed(&rt, "SEATS is 1 to 8"),
     };
-    match serve_folder(&rt, &rt, folder.as_str(), seats, source, sink, &clock) {
+    match serve_folder(&rt, &rt, folder, seats, source, sink, &clock) {
         Ok(Ok(())) => ExitCode::SUCCESS,
         Ok(Err(NoReport::Failed)) => failed(&rt, "the report can't be written"),
         Ok(Err(NoReport::NoMemory)) => failed(&rt, "there is no memory"),

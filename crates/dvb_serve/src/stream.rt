@@ -118,8 +118,10 @@ impl Source for RungSource {
         ensures bytes { ReadConsumes None None result into.new }
         ensures cause { HasCause self.old self.new result }
     {
-        self.bells.ring(&self.passing.due);
-        self.passing.due.clear();
+        if !self.passing.due.is_empty() {
+            self.bells.ring(&self.passing.due);
+            self.passing.due.clear();
+        }
         let count = self.input.read(into);
         match count {
             Ok(count) if count > 0 => self.passing.follow(&into[..count]),
