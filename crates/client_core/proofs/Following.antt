@@ -1,15 +1,16 @@
 -- What the clocks of a client have followed, and the outcomes that are by them.
-use Rattle.std.proofs.Common.{◌≡◌, ◌<◌, ◌≤◌, ◌⊎◌, inl, inr, refl, sym, ap, subst, ◌∙◌, ℕ, Bool, true, false, List, [], ◌∷◌, ◌++◌, Some, None, length, map, take, replicate, arith}
-use Rattle.std.specs.Prelude.{slice_get, slice_index_or, if◌then◌else◌}
+use Rattle.std.proofs.Common.{◌≡◌, ◌≢◌, ◌<◌, ◌≤◌, ◌⊎◌, nat_eq, inl, inr, refl, sym, ap, subst, ◌∙◌, ℕ, Bool, true, false, List, [], ◌∷◌, ◌++◌, Some, None, length, map, take, replicate, arith}
+use Rattle.std.specs.Prelude.{slice_get, slice_set, slice_index_or, if◌then◌else◌}
 use Rattle.std.specs.List.{All}
 use Rattle.std.specs.Option.{option_and_then}
-use Rattle.std.proofs.lemmas.List.{append_assoc, append-nil, take-append-le}
+use Rattle.std.proofs.lemmas.List.{append_assoc, append-nil, take-append-le, length-set, get_or-set_same, get_or-set_other}
+use Rattle.std.proofs.lemmas.Bool.Decides.{nat_tests}
 use Rattle.std.proofs.lemmas.List.Elements.{All-nil, All-cons, All-head, All-tail, All-replicate, All-get_or}
 use Rattle.std.proofs.lemmas.Option.{slice_get-get_or}
 use Rattle.std.proofs.Math.Seq.{take-length}
 use Rattle.dmx_calls.specs.Response.{Response}
 use Rattle.ts_packet.specs.Cut.{cut, cut_after}
-use Rattle.ts_packet.specs.Cutting.{bytes_taken}
+use Rattle.ts_packet.specs.Cutting.{bytes_counted}
 use Rattle.stc_clock.specs.Clock.{unset, last_pcr, HasFollowed}
 use Rattle.client_script.specs.declared.line.Line.{Line}
 use Rattle.client_script.specs.declared.line.Verb.{Verb}
@@ -18,7 +19,7 @@ use Rattle.client_core.specs.declared.command.Command.{Command}
 use Rattle.client_core.specs.declared.task.Ending.{Ending}
 use Rattle.client_core.specs.declared.task.Ending.TheVariants.{Made, Bound, AllBusy, NoNode, Asked}
 use Rattle.client_core.specs.Events.{Ended, next_event}
-use Rattle.client_core.specs.Stc.{Exchange, with_reply, exchanges_after, exchanges, filter_type, is_counter, stc}
+use Rattle.client_core.specs.Stc.{Exchange, bytes_after, bytes_read, type_after, with_reply, exchanges_after, exchanges, filter_type, is_counter, stc}
 use Rattle.client_core.specs.Outcomes.{Counters, stc_kind, kind_by, outcome_by, counters_after, outcome_of}
 use Rattle.client_core.specs.Inside.Clocks.{NodeClock, uncalled, counter_of, counter_in, HasFollowedNode, HaveFollowed, AreFew}
 use Rattle.client_core.specs.Inside.Tasks.{IsCallEnding, CanAsk, HasClock}
@@ -39,7 +40,7 @@ exchanges_more client lines before older (q ∷ replies) r =
 
 nothing_followed : HasFollowed [] unset
 unfolding cut cut_after
-nothing_followed = record { found = []; cuts = record { packets = refl; rest = refl; skipped = refl; counted = refl }; last = refl }
+nothing_followed = record { found = []; cuts = record { size = refl; packets = refl; rest = refl; skipped = refl; counted = refl }; last = refl }
 
 -- clocks of which none has followed a call, for all nodes or for none
 abbrev pub fresh_clocks : (asked : Bool) → List NodeClock
@@ -55,8 +56,8 @@ none_followed true = record {
 none_followed false = record { each = λ node within. absurd (omega (arith, within)) }
 
 pub none_taken : (asked : Bool) → AreFew 0 (fresh_clocks asked)
-none_taken true = All-replicate (λ c. bytes_taken c.clock.cutting ≤ 0) 33 uncalled (omega arith)
-none_taken false = All-nil (λ c. bytes_taken c.clock.cutting ≤ 0)
+none_taken true = All-replicate (λ c. bytes_counted c.clock.cutting ≤ 0) 33 uncalled (omega arith)
+none_taken false = All-nil (λ c. bytes_counted c.clock.cutting ≤ 0)
 
 -- where clocks are kept, each command can begin
 can_ask_all : (v : Verb) → CanAsk 33 v
@@ -103,6 +104,48 @@ kinds_free f g NoNode is = refl
 pub called_has_clock : (kept : ℕ) (ending : Ending) → IsCallEnding ending → HasClock kept ending
 called_has_clock kept (Asked node num) is = absurd is
 called_has_clock kept _ is = tt
+
+-- ------ a call more
+
+-- a node's clock follows a call on it
+followed_here : (xs : List Exchange) (x : Exchange) (c d : NodeClock) (node : ℕ) → nat_eq x.event.node node ≡ true
+    → ((bytes : List ℕ) → HasFollowed bytes c.clock → HasFollowed (bytes_after x.event.want x.reply bytes) d.clock) → d.filter_type ≡ type_after x.event.want x.reply c.filter_type
+    → HasFollowedNode node xs c → HasFollowedNode node (x ∷ xs) d
+followed_here xs x c d node is bytes set h = record {
+  followed = subst (λ (b : Bool). HasFollowed (if b then bytes_after x.event.want x.reply (bytes_read node xs) else bytes_read node xs) d.clock) (sym is) (bytes (bytes_read node xs) h.followed);
+  set = set ∙ (ap (type_after x.event.want x.reply) h.set ∙ ap (λ (b : Bool). if b then type_after x.event.want x.reply (filter_type node xs) else filter_type node xs) (sym is));
+}
+
+-- and none on another node
+followed_elsewhere : (xs : List Exchange) (x : Exchange) (c : NodeClock) (node : ℕ) → nat_eq x.event.node node ≡ false → HasFollowedNode node xs c → HasFollowedNode node (x ∷ xs) c
+followed_elsewhere xs x c node is h = record {
+  followed = subst (λ (b : Bool). HasFollowed (if b then bytes_after x.event.want x.reply (bytes_read node xs) else bytes_read node xs) c.clock) (sym is) h.followed;
+  set = h.set ∙ ap (λ (b : Bool). if b then type_after x.event.want x.reply (filter_type node xs) else filter_type node xs) (sym is);
+}
+
+-- the clocks follow a call on one of their nodes
+pub followed_more : (xs : List Exchange) (x : Exchange) (clocks : List NodeClock) (d : NodeClock) → x.event.node < length clocks
+    → ((bytes : List ℕ) → HasFollowed bytes (slice_index_or clocks x.event.node uncalled).clock → HasFollowed (bytes_after x.event.want x.reply bytes) d.clock)
+    → d.filter_type ≡ type_after x.event.want x.reply (slice_index_or clocks x.event.node uncalled).filter_type
+    → HaveFollowed xs clocks → HaveFollowed (x ∷ xs) (slice_set clocks x.event.node d)
+followed_more xs x clocks d within bytes set have = record {
+  each = λ node lt.
+      let below : node < length clocks = subst (λ n. node < n) (length-set clocks x.event.node d) lt in
+      go node below (nat_eq x.event.node node) refl;
+}
+  where
+    go : (node : ℕ) → node < length clocks → (here : Bool) → nat_eq x.event.node node ≡ here → HasFollowedNode node (x ∷ xs) (slice_index_or (slice_set clocks x.event.node d) node uncalled)
+    go node below true is =
+        let same : x.event.node ≡ node = grind (arith, nat_tests, is) in
+        let there : slice_index_or (slice_set clocks x.event.node d) node uncalled ≡ d = subst (λ n. slice_index_or (slice_set clocks x.event.node d) n uncalled ≡ d) same (get_or-set_same clocks x.event.node d uncalled within) in
+        subst (HasFollowedNode node (x ∷ xs)) (sym there)
+        (followed_here xs x (slice_index_or clocks node uncalled) d node is
+        (subst (λ n. (read : List ℕ) → HasFollowed read (slice_index_or clocks n uncalled).clock → HasFollowed (bytes_after x.event.want x.reply read) d.clock) same bytes)
+        (subst (λ n. d.filter_type ≡ type_after x.event.want x.reply (slice_index_or clocks n uncalled).filter_type) same set) (have.each node below))
+    go node below false is =
+        let other : node ≢ x.event.node = grind (arith, nat_tests, is) in
+        let there : slice_index_or (slice_set clocks x.event.node d) node uncalled ≡ slice_index_or clocks node uncalled = get_or-set_other clocks x.event.node node d uncalled other in
+        subst (HasFollowedNode node (x ∷ xs)) (sym there) (followed_elsewhere xs x (slice_index_or clocks node uncalled) node is (have.each node below))
 
 -- ------ outcomes
 

@@ -1,7 +1,7 @@
 // The clocks of what a client reads, and the counters that it asks for.
 ghost use Rattle.std.specs.Prelude.{◌≡◌, ℕ, ◌+◌, ◌<◌, ◌≤◌, ◌^◌, List, [], ◌++◌, length, replicate, Some, IfOk, OnOk, true, if◌then◌else◌};
 ghost use Rattle.dmx_calls.specs.Calls.{response_of};
-ghost use Rattle.ts_packet.specs.Cutting.{bytes_taken};
+ghost use Rattle.ts_packet.specs.Cutting.{bytes_counted};
 ghost use Rattle.stc_clock.specs.Clock.{HasFollowed};
 ghost use Rattle.client_core.specs.Stc.{Exchange, begins_anew as begins_by, type_of as type_by, set_by_call, bytes_after, type_after, with_reply, is_counter as is_counter_by};
 ghost use Rattle.client_core.specs.Inside.Clocks.{uncalled, counter_of, counter_in, HaveFollowed, AreFew};
@@ -75,7 +75,7 @@ impl NodeClock {
     fn accept(&mut self, want: &Want)
         ensures followed { (bytes : List ℕ) → HasFollowed bytes self.old.clock → HasFollowed (if begins_by want.now then [] else bytes) self.new.clock }
         ensures set { self.new.filter_type ≡ set_by_call want.now self.old.filter_type }
-        ensures few { bytes_taken self.new.clock.cutting ≤ bytes_taken self.old.clock.cutting }
+        ensures few { bytes_counted self.new.clock.cutting ≤ bytes_counted self.old.clock.cutting }
     {
         if begins_anew(want) {
             self.clock.clear();
@@ -89,10 +89,10 @@ impl NodeClock {
 
     // Bytes were read.
     fn read(&mut self, buf: &ByteBuf)
-        requires few { bytes_taken self.old.clock.cutting < 2 ^ 62 }
+        requires few { bytes_counted self.old.clock.cutting < 2 ^ 62 }
         ensures followed { (bytes : List ℕ) → HasFollowed bytes self.old.clock → HasFollowed (bytes ++ buf.now.bytes) self.new.clock }
         ensures set { self.new.filter_type ≡ self.old.filter_type }
-        ensures few { bytes_taken self.new.clock.cutting ≤ bytes_taken self.old.clock.cutting + 65536 }
+        ensures few { bytes_counted self.new.clock.cutting ≤ bytes_counted self.old.clock.cutting + 65536 }
     {
         let _ = buf.count();
         self.clock.push(buf.bytes());
@@ -100,10 +100,10 @@ impl NodeClock {
 
     // A call on the node, and its reply.
     fn follow(&mut self, request: &Request, reply: &Reply)
-        requires few { bytes_taken self.old.clock.cutting < 2 ^ 62 }
+        requires few { bytes_counted self.old.clock.cutting < 2 ^ 62 }
         ensures followed { (bytes : List ℕ) → HasFollowed bytes self.old.clock → HasFollowed (bytes_after request.now (response_of reply.now) bytes) self.new.clock }
         ensures set { self.new.filter_type ≡ type_after request.now (response_of reply.now) self.old.filter_type }
-        ensures few { bytes_taken self.new.clock.cutting ≤ bytes_taken self.old.clock.cutting + 65536 }
+        ensures few { bytes_counted self.new.clock.cutting ≤ bytes_counted self.old.clock.cutting + 65536 }
     {
         match reply {
             Reply::Data(buf) => self.read(buf),

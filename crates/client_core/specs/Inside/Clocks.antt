@@ -1,7 +1,7 @@
 -- The clocks that a client core keeps: one for each of the 33 nodes, or none where the client asks for none.
 use Rattle.std.specs.Prelude.{ℕ, ◌≡◌, ◌<◌, ◌≤◌, List, length, Option, None, slice_get, slice_index_or, if◌then◌else◌, All}
 use Rattle.std.specs.Option.{option_and_then}
-use Rattle.ts_packet.specs.Cutting.{bytes_taken}
+use Rattle.ts_packet.specs.Cutting.{bytes_counted}
 use Rattle.stc_clock.specs.Clock.{Clock, unset, HasFollowed}
 use Rattle.client_core.specs.Stc.{Exchange, bytes_read, filter_type, is_counter}
 use Rattle.client_core.specs.Outcomes.{Counters}
@@ -34,4 +34,4 @@ pub record HaveFollowed (xs : List Exchange) (clocks : List NodeClock) : Type 0 
 
 -- none has followed more bytes
 abbrev pub AreFew : (most : ℕ) → List NodeClock → Type 0
-AreFew most clocks = All (λ c. bytes_taken c.clock.cutting ≤ most) clocks
+AreFew most clocks = All (λ c. bytes_counted c.clock.cutting ≤ most) clocks
