@@ -13,6 +13,8 @@ use Rattle.adapter.specs.Rows.{Fits}
 use Rattle.adapter.proofs.Pairs.{caller_fits}
 use Rattle.trace_merge.specs.Merging.{AreOnNodes}
 use Rattle.seats.specs.Calls.{MakesCall, MakesCalls}
+use Rattle.seats.specs.Holding.{KnowsItsNodes}
+use Rattle.seats.proofs.Holding.{knows_none}
 use Rattle.seats.specs.declared.seat.Seat.{Seat}
 use Rattle.seats.specs.Seated.{log_of, IsFit, IsNew, IsReady, AreReady, GoesOn}
 
@@ -50,12 +52,13 @@ kept_goes a b c l = record {
   made = c;
 }
 
-pub kept_fit : (locks : List TableId) (a b : Seat) → b.client ≡ a.client → b.who ≡ a.who → b.log.items ≡ a.log.items → IsFit locks a → IsFit locks b
-kept_fit locks a b c w l f = record {
+pub kept_fit : (locks : List TableId) (a b : Seat) → b.client ≡ a.client → b.who ≡ a.who → b.log.items ≡ a.log.items → b.held ≡ a.held → IsFit locks a → IsFit locks b
+kept_fit locks a b c w l h f = record {
   fits = subst (λ (k : Caller). Fits locks k.passes) (sym c) f.fits;
   who = w ∙ (f.who ∙ ap (λ (k : Caller). k.who) (sym c));
   left = subst (λ (k : Caller). k.left + length b.log.items ≡ 2 ^ 40) (sym c) (subst (λ (m : List ToldEntry). a.client.left + length m ≡ 2 ^ 40) (sym l) f.left);
   nodes = subst AreOnNodes (sym l) f.nodes;
+  knows = subst (KnowsItsNodes b.client) (sym h) (subst (λ (k : Caller). KnowsItsNodes k a.held) (sym c) f.knows);
 }
 
 -- ------ new seats
@@ -68,6 +71,7 @@ module _ (locks : List TableId) (n : ℕ) (feeder : Caller) (clients : List Call
       who = is.who ∙ sym f.number;
       left = omega (arith, size, calls);
       nodes = subst AreOnNodes (sym is.log) (All-nil (λ (e : ToldEntry). e.node ≤ 32));
+      knows = knows_none locks (n + 1) (c + 1) (2 ^ 40) s.client f s.held;
     };
     room = record { log = omega (arith, size, room.0); outcomes = omega (arith, told, room.1); left = omega (arith, calls) };
   }

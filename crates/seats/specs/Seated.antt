@@ -7,6 +7,7 @@ use Rattle.adapter.specs.Callers.{Caller}
 use Rattle.adapter.specs.Rows.{Fits}
 use Rattle.trace_merge.specs.Merging.{AreOnNodes}
 use Rattle.seats.specs.Calls.{MakesCalls}
+use Rattle.seats.specs.Holding.{KnowsItsNodes}
 use Rattle.seats.specs.declared.seat.Seat.{Seat}
 
 -- the calls of its log
@@ -19,12 +20,14 @@ pub record HasRoom (calls : ℕ) (s : Seat) : Type 0 where
   pub outcomes : length s.outcomes.items + calls ≤ vec_capacity s.outcomes
   pub left : calls ≤ s.client.left
 
--- It has a pass of each of these locks, and a log of so many calls as it has made, each on a node.
+-- It has a pass of each of these locks, and a log of so many calls as it has made, each on a node; and it has left each node
+-- that isn't marked as held.
 pub record IsFit (locks : List TableId) (s : Seat) : Type 0 where
   pub fits : Fits locks s.client.passes
   pub who : s.who ≡ s.client.who
   pub left : s.client.left + length s.log.items ≡ 2 ^ 40
   pub nodes : AreOnNodes s.log.items
+  pub knows : KnowsItsNodes s.client s.held
 
 -- It is fit, and has room for the calls that give back what it may hold.
 pub record IsReady (locks : List TableId) (s : Seat) : Type 0 where

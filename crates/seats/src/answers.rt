@@ -1,10 +1,12 @@
 // What a seat does for what it is asked, and what it tells.
-ghost use Rattle.std.specs.Prelude.{◌≡◌, ◌<◌, ◌≤◌, ◌+◌, None, length, vec_capacity, IfOk, IfSome};
+ghost use Rattle.std.specs.Prelude.{◌≡◌, ◌≢◌, ◌<◌, ◌≤◌, ◌+◌, ℕ, None, length, vec_capacity, IfOk, IfSome};
 ghost use Rattle.dmx_calls.specs.Calls.{invocation_of};
 ghost use Rattle.dmx_calls.specs.Log.{act_of};
 ghost use Rattle.dmx_calls.specs.declared.limits.TheConstants.{DEMUX_NODES as nodes};
+ghost use Rattle.dmx_calls.specs.Invocation as asks;
 ghost use Rattle.script_run.specs.SoFar.{PassesNone};
 ghost use Rattle.serve_frames.specs.Asks.{IsAskInRange, IsWantInRange};
+ghost use Rattle.seats.specs.Holding.{HasLeft};
 ghost use Rattle.seats.specs.Seated.{IsFit, HasRoom, GoesOn};
 
 use crate::seat::{MOST_CALLS, Seat};
@@ -36,15 +38,6 @@ fn refused(code: u32) -> Answered
     Answered {
         tell: Tell::refused(code),
         at: None,
-    }
-}
-
-// Whether a call that is done gives the program a node, or takes it.
-fn change_of(call: &Call) -> Option<bool> {
-    match call {
-        Call::Open => Some(true),
-        Call::Close => Some(false),
-        _ => None,
     }
 }
 
@@ -90,10 +83,11 @@ impl Seat {
         ensures few { (length self.new.log.items ≤ length self.old.log.items + 2) × (self.old.client.left ≤ self.new.client.left + 2) }
         ensures one { length self.new.outcomes.items ≡ length self.old.outcomes.items + 1 }
         ensures room { (vec_capacity self.new.log ≡ vec_capacity self.old.log) × (vec_capacity self.new.outcomes ≡ vec_capacity self.old.outcomes) }
+        ensures left { invocation_of call ≢ asks.Open → (i : ℕ) → HasLeft i self.old.client → HasLeft i self.new.client }
+        ensures closed { invocation_of call ≡ asks.Close → HasLeft node self.new.client }
     {
-        let change = change_of(&call);
         let at = self.call(rt, alloc, adapter, node, call, steps);
-        self.finish(node, at, at, change);
+        self.keep(at, OutcomeKind::Done);
         at
     }
 
@@ -118,7 +112,7 @@ impl Seat {
             if let Reply::Busy { .. } = self.log[at].reply {
                 continue;
             }
-            self.finish(node, from, at, Some(true));
+            self.keep(from, OutcomeKind::Done);
             let mut told = self.told_at(at);
             told.tell.value = node;
             return told;
@@ -144,6 +138,8 @@ impl Seat {
         ensures few { (length self.new.log.items ≤ length self.old.log.items + 2) × (self.old.client.left ≤ self.new.client.left + 2) }
         ensures told { length self.new.outcomes.items ≤ length self.old.outcomes.items + 1 }
         ensures room { (vec_capacity self.new.log ≡ vec_capacity self.old.log) × (vec_capacity self.new.outcomes ≡ vec_capacity self.old.outcomes) }
+        ensures left { HasLeft node self.new.client }
+        ensures still { (i : ℕ) → HasLeft i self.old.client → HasLeft i self.new.client }
     {
         if !self.held[node as usize] {
             return;
@@ -166,6 +162,7 @@ impl Seat {
         ensures few { (length self.new.log.items ≤ length self.old.log.items + 66) × (self.old.client.left ≤ self.new.client.left + 66) }
         ensures told { length self.new.outcomes.items ≤ length self.old.outcomes.items + 33 }
         ensures room { (vec_capacity self.new.log ≡ vec_capacity self.old.log) × (vec_capacity self.new.outcomes ≡ vec_capacity self.old.outcomes) }
+        ensures left { (node : ℕ) → node ≤ nodes → HasLeft node self.new.client }
     {
         'nodes: for node in 0..NODES {
             self.let_go(rt, alloc, adapter, node, steps);

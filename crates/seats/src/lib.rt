@@ -10,15 +10,16 @@
 //! caller has made just the calls of a list, one after another, each at the place and with the response that the list has; `GoesOn`
 //! in `specs/Seated.antt` that a seat's log has grown by just the calls that its client has made.
 //!
-//! What is proved, whatever comes on the lines and however the threads fall: from `seats_of` to `sit_all` each seat goes on
+//! What is proved, whatever comes on the lines and however the threads fall: from `desks_of` to `sit_all` each seat goes on
 //! (`GoesOn`), so its log is just its calls: no call is left out of it, and nothing else stands in it. Room for the calls by which all
 //! nodes are closed is kept at any time, so want of memory keeps no node from being closed; where there is no room for a request, it
-//! makes no call.
+//! makes no call. A seat that has served its line owns no node (`HasServed`), by what its passes have seen; and what others call
+//! makes it no owner.
 //!
-//! What is neither proved nor tested yet: which requests are answered by which calls, that what is told is the reply of the call at
-//! the place that is told, and that a seat that has left owns no node.
+//! What is only tested, in `serve_tests`: which requests are answered by which calls, and that what is told is the reply of the call
+//! at the place that is told.
 //!
-//! Limits: a seat makes at most 2^40 calls, of which 66 are kept for leaving. `seats_of` takes memory, and so does each request. Of
+//! Limits: a seat makes at most 2^40 calls, of which 66 are kept for leaving. `desks_of` takes memory, and so does each request. Of
 //! a server no clause says that it answers, nor when.
 #![tactic(auto)]
 
@@ -29,6 +30,6 @@ mod seat;
 mod serve;
 
 pub use answers::Answered;
-pub use making::seats_of;
+pub use making::desks_of;
 pub use run::{Desk, sit_all};
 pub use seat::{MOST_CALLS, Seat};

@@ -1,7 +1,7 @@
 // The threads of the seats.
 ghost use Rattle.std.specs.Prelude.{◌≡◌, ◌<◌, All};
-ghost use Rattle.seats.specs.Seated.{IsFit, IsReady, GoesOn};
-ghost use Rattle.seats.specs.Served.{HaveServed};
+ghost use Rattle.seats.specs.Seated.{IsReady};
+ghost use Rattle.seats.specs.Served.{HasServed, HaveServed};
 
 use crate::seat::Seat;
 use adapter::Adapter;
@@ -36,8 +36,7 @@ impl Seat {
     )
         requires ledger { (blank.name ≡ L.name) × (blank.parts ≡ L.parts) × (0 < L.parts) }
         requires ready { IsReady adapter.now self.old }
-        ensures fit { IsFit adapter.now self.new }
-        ensures goes { GoesOn self.old self.new }
+        ensures { HasServed adapter.now self.old self.new }
     {
         let mut steps: Steps<L> = Steps::new(blank);
         self.serve(rt, alloc, adapter, line, clock, &mut steps);
@@ -53,8 +52,7 @@ impl Seat {
         clock: &C,
     )
         requires ready { IsReady adapter.now self.old }
-        ensures fit { IsFit adapter.now self.new }
-        ensures goes { GoesOn self.old self.new }
+        ensures { HasServed adapter.now self.old self.new }
     {
         self.sit_counted::<T, C, Brand, R>(rt, alloc, adapter, line, clock, Blank::new(1))
     }
@@ -74,8 +72,7 @@ pub fn sit_all<R: Threads + Wait + Sync, T: Source + Sink + Send + Drop, C: Cloc
 {
     let call = |_: usize, desk: &mut Desk<T>|
         requires { IsReady adapter.now desk.old.seat }
-        ensures fit { IsFit adapter.entry.now desk.new.seat }
-        ensures goes { GoesOn desk.old.seat desk.new.seat }
+        ensures { HasServed adapter.entry.now desk.old.seat desk.new.seat }
     { desk.seat.sit(rt, alloc, adapter, &mut desk.line, clock) };
     let threads = desks.len().max(1);
     thread::for_each_mut(rt, desks, threads, &call);

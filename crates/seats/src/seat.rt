@@ -1,10 +1,13 @@
 // A seat and its calls.
-ghost use Rattle.std.specs.Prelude.{◌≡◌, ◌<◌, ◌≤◌, ◌+◌, List, length, vec_capacity, OnOk, IfOk, IfSome};
+ghost use Rattle.std.specs.Prelude.{◌≡◌, ◌≢◌, ◌<◌, ◌≤◌, ◌+◌, ℕ, List, length, vec_capacity, OnOk, IfOk, IfSome};
 ghost use Rattle.atomic_table.specs.Seated.{TableId};
 ghost use Rattle.dmx_calls.specs.Calls.{invocation_of, response_of};
 ghost use Rattle.dmx_calls.specs.Log.{act_of};
 ghost use Rattle.dmx_calls.specs.declared.limits.TheConstants.{DEMUX_NODES as nodes};
+ghost use Rattle.dmx_calls.specs.Invocation as asks;
+ghost use Rattle.dmx_calls.specs.Response.{is_accepted as is_accepted_by};
 ghost use Rattle.script_run.specs.SoFar.{PassesNone};
+ghost use Rattle.seats.specs.Holding.{HasLeft, has_then as has_then_by};
 ghost use Rattle.seats.specs.Seated.{IsFit, IsNew, HasRoom, GoesOn};
 
 use adapter::{Adapter, Client};
@@ -35,7 +38,7 @@ pub struct Seat {
 
 // What the dvr node is to be told behind this reply of a node.
 fn told_dvr(node: u32, reply: &Reply) -> Option<Call>
-    ensures { IfSome result (λ call. PassesNone (act_of (invocation_of call))) }
+    ensures { IfSome result (λ call. (node ≢ nodes) × PassesNone (act_of (invocation_of call)) × (invocation_of call ≢ asks.Open)) }
 {
     if node == DEMUX_NODES {
         return None;
@@ -76,11 +79,33 @@ fn fitted(alloc: Global, reply: Reply) -> Reply
     }
 }
 
-// Whether the program has a node behind a call with this reply, which changes it where it is an Open or a Close and is done.
-fn has_after(has: bool, change: Option<bool>, reply: &Reply) -> bool {
-    match (change, reply) {
-        (Some(then), Reply::Done { .. }) => then,
-        _ => has,
+// Whether a call with this reply changes anything.
+fn is_accepted(reply: &Reply) -> bool
+    ensures { result ≡ is_accepted_by (response_of reply.now) }
+{
+    !matches!(reply, Reply::Busy { .. } | Reply::Refused(_) | Reply::NoMemory)
+}
+
+// Whether the program has a node behind a call with this reply, where it had it or not before.
+fn has_then(had: bool, act: &Act, reply: &Reply) -> bool
+    ensures { result ≡ has_then_by had act.now (response_of reply.now) }
+{
+    match act {
+        Act::Open => {
+            if is_accepted(reply) {
+                true
+            } else {
+                had
+            }
+        }
+        Act::Close => {
+            if is_accepted(reply) {
+                false
+            } else {
+                had
+            }
+        }
+        _ => had,
     }
 }
 
@@ -116,18 +141,23 @@ impl Seat {
         ensures goes { GoesOn self.old self.new }
         ensures one { (length self.new.log.items ≡ length self.old.log.items + 1) × (self.new.client.left + 1 ≡ self.old.client.left) }
         ensures room { vec_capacity self.new.log ≡ vec_capacity self.old.log }
-        ensures rest { (self.new.outcomes ≡ self.old.outcomes) × (self.new.held ≡ self.old.held) }
+        ensures rest { self.new.outcomes ≡ self.old.outcomes }
+        ensures left { invocation_of call ≢ asks.Open → (i : ℕ) → HasLeft i self.old.client → HasLeft i self.new.client }
+        ensures closed { invocation_of call ≡ asks.Close → HasLeft node self.new.client }
     {
         let act = Act::of(&call);
         let step = self.log.len() as u64;
         let (place, answer) = self.client.call(rt, adapter, node, call, steps);
+        let reply = fitted(alloc, answer.reply);
+        let has = has_then(self.held[node as usize], &act, &reply);
+        self.held[node as usize] = has;
         self.log.push_reserved(Entry {
             node,
             place,
             step,
             who: self.who,
             act,
-            reply: fitted(alloc, answer.reply),
+            reply,
         });
     }
 
@@ -151,7 +181,9 @@ impl Seat {
         ensures at { (result ≡ length self.old.log.items) × (result < length self.new.log.items) }
         ensures few { (length self.new.log.items ≤ length self.old.log.items + 2) × (self.old.client.left ≤ self.new.client.left + 2) }
         ensures room { vec_capacity self.new.log ≡ vec_capacity self.old.log }
-        ensures rest { (self.new.outcomes ≡ self.old.outcomes) × (self.new.held ≡ self.old.held) }
+        ensures rest { self.new.outcomes ≡ self.old.outcomes }
+        ensures left { invocation_of call ≢ asks.Open → (i : ℕ) → HasLeft i self.old.client → HasLeft i self.new.client }
+        ensures closed { invocation_of call ≡ asks.Close → HasLeft node self.new.client }
     {
         let at = self.log.len();
         self.make(rt, alloc, adapter, node, call, steps);
@@ -177,23 +209,6 @@ impl Seat {
             to: self.log.len() as u64,
             kind,
         });
-    }
-
-    /// Keeps that a command on a node is done, for which there is room, and whether the program has the node since. Its calls began
-    /// at one place of the log, and its last one stands at another.
-    pub fn finish(&mut self, node: u32, from: usize, at: usize, change: Option<bool>)
-        requires node { node ≤ nodes }
-        requires at { at < length self.old.log.items }
-        requires room { HasRoom 1 self.old }
-        ensures fit { (locks : List TableId) → IsFit locks self.old → IsFit locks self.new }
-        ensures goes { GoesOn self.old self.new }
-        ensures one { length self.new.outcomes.items ≡ length self.old.outcomes.items + 1 }
-        ensures room { vec_capacity self.new.outcomes ≡ vec_capacity self.old.outcomes }
-        ensures rest { (self.new.client ≡ self.old.client) × (self.new.who ≡ self.old.who) × (self.new.log ≡ self.old.log) }
-    {
-        let has = has_after(self.held[node as usize], change, &self.log[at].reply);
-        self.held[node as usize] = has;
-        self.keep(from, OutcomeKind::Done);
     }
 
     /// Takes memory for so many calls more, and as many commands.

@@ -2,6 +2,7 @@
 ghost use Rattle.std.specs.Prelude.{◌≡◌, ◌<◌, ◌≤◌, ◌+◌, ◌-◌, ℕ, length, OnOk, IfSome};
 ghost use Rattle.std.specs.Io.KnownBytes.{Appends};
 ghost use Rattle.seats.specs.Seated.{IsFit, IsReady, HasRoom, GoesOn};
+ghost use Rattle.seats.specs.Served.{HasServed};
 
 use crate::answers::Answered;
 use crate::seat::Seat;
@@ -92,8 +93,7 @@ impl Seat {
         steps: &mut Steps<L>,
     )
         requires ready { IsReady adapter.now self.old }
-        ensures fit { IsFit adapter.now self.new }
-        ensures goes { GoesOn self.old self.new }
+        ensures { HasServed adapter.now self.old self.new }
     {
         'requests: for _ in rt.forever() {
             if !self.turn(rt, alloc, adapter, line, clock, steps) {

@@ -4,11 +4,15 @@
 //! and then its end, while `sit_all` of `seats` answers the lines; and writes the report of all calls. The threads of the seats come
 //! behind the stream where none can be made.
 //!
-//! What is proved: that it is safe. What a seat does is a clause of `seats`, and how the stream passes one of the feeder's worker of
-//! `workers`; nothing brings the two together yet.
+//! What is proved, whatever comes on the lines and however the threads fall: a report that is written whole is that of the stream's
+//! bytes and of what was called (`HasReported` in `specs/Reported.antt`). Each seat's log is just the calls of its client, at the
+//! places and with the replies that it was told; these and the feeder's batches, and nothing else, are the histories of the
+//! adapter's locks, which the report tells; and behind its log a seat owns no node. Nothing is written where there was no memory.
+//!
+//! What is only tested, in `serve_tests` and by `serve/check`: which requests are answered by which calls.
 #![tactic(auto)]
 
-mod desks;
+mod left;
 mod serve;
 mod threads;
 

@@ -1,20 +1,19 @@
 // What a server does from its first call to its report.
-ghost use Rattle.std.specs.Prelude.{◌≡◌, ◌<◌, ◌≤◌, ◌+◌, ◌^◌, ◌-◌, vec_len, All, IfOk, IsErrOf, OnErr};
+ghost use Rattle.std.specs.Prelude.{◌≡◌, ◌<◌, ◌≤◌, ◌+◌, ◌^◌, ◌-◌, vec_len, All, OnOk, IsErrOf};
 ghost use Rattle.emu_io.specs.Causes.{raised};
-ghost use Rattle.feed_pull.specs.Pulling.{IsDone};
-ghost use Rattle.trace_merge.specs.Merging.{AreOnNodes};
+ghost use Rattle.serve_top.specs.Reported.{HasReported};
 
-use crate::desks::{Books, books_of, desks_of};
+use crate::left::left_by;
 use crate::threads::sit_and_feed;
 use adapter::Adapter;
 use client_core::Stop;
 use emu_io::{Clock, Gate, Sink, Source};
 use feed_pull::Puller;
 use report_text::{ReportError, write_report};
+use seats::desks_of;
 use std::alloc::{AllocError as NoMemory, Global};
 use std::sync::Wait;
 use std::thread::Threads;
-use trace_merge::histories;
 use ts_packet::PacketSize;
 use workers::FeederWorker;
 
@@ -31,8 +30,9 @@ pub enum NoReport {
 
 impl From<NoMemory> for NoReport {
     ghost use Rattle.std.specs.Prelude.{◌≡◌};
+    ghost use Rattle.serve_top.specs.declared.serve.NoReport.TheVariants.{NoMemory as WantOfMemory};
 
-    ghost from_gives = { λ _ e. e ≡ NoReport.NoMemory };
+    ghost from_gives = { λ _ e. e ≡ WantOfMemory };
 
     fn from(_e: NoMemory) -> NoReport {
         NoReport::NoMemory
@@ -44,31 +44,6 @@ fn no_report(stop: Stop) -> NoReport {
     match stop {
         Stop::NoMemory => NoReport::NoMemory,
         Stop::TooLong { .. } => NoReport::TooLong,
-    }
-}
-
-// Writes the report of what has passed and of what was called.
-fn write_all<K: Sink>(
-    alloc: Global,
-    sink: &mut K,
-    feeder: FeederWorker,
-    books: Books,
-) -> Result<(), NoReport>
-    requires done { IsDone feeder.puller }
-    requires nodes { All (λ log. AreOnNodes log.items) books.logs.items }
-{
-    let FeederWorker {
-        puller,
-        feeding,
-        ..
-    } = feeder;
-    let Books { logs, outcomes } = books;
-    let head = puller.head(alloc)?;
-    let all = histories(alloc, feeding, logs)?;
-    match write_report(alloc, sink, &head, &outcomes, &all) {
-        Ok(()) => Ok(()),
-        Err(ReportError::NoMemory) => Err(NoReport::NoMemory),
-        Err(ReportError::Failed) => Err(NoReport::Failed),
     }
 }
 
@@ -97,6 +72,11 @@ pub fn serve<
 ) -> Result<(), NoReport>
     requires few { vec_len lines ≤ 8 }
     requires faults { (S.end source.old).faults < 2 ^ 64 - 1 }
+    // The report is that of the stream's bytes and of what was called.
+    ensures reported { OnOk result (HasReported (C.may_give clock.now) (S.end source.old) (S.end source.new) (K.end sink.old).written (K.end sink.new).written) }
+    ensures memory { IsErrOf result NoReport.NoMemory → sink.new ≡ sink.old }
+    ensures too_long { IsErrOf result NoReport.TooLong → sink.new ≡ sink.old }
+    ensures failed { IsErrOf result NoReport.Failed → (K.end sink.new).faults ≡ raised (K.end sink.old).faults }
 {
     let (adapter, feeder, clients) = Adapter::new(alloc, lines.len() as u32)?;
     let mut desks = desks_of(alloc, clients, lines)?;
@@ -110,6 +90,10 @@ pub fn serve<
     if let Some(stop) = feeder.stop {
         return Err(no_report(stop));
     }
-    let books = books_of(alloc, desks)?;
-    write_all(alloc, sink, feeder, books)
+    let left = left_by(alloc, adapter, feeder, desks)?;
+    match write_report(alloc, sink, &left.head, &left.outcomes, &left.histories) {
+        Ok(()) => Ok(()),
+        Err(ReportError::NoMemory) => Err(NoReport::NoMemory),
+        Err(ReportError::Failed) => Err(NoReport::Failed),
+    }
 }

@@ -18,12 +18,12 @@ nodes-preserved g c =
     }
 
 pub returns-in-nodes-clause-fit : goal.returns-in-nodes-clause-fit
-returns-in-nodes-clause-fit g c = c.finish.ensures.fit c.args.adapter.now c.call.ensures.fit
+returns-in-nodes-clause-fit g c = c.keep-in-nodes.ensures.fit c.args.adapter.now c.call.ensures.fit
 
 pub returns-in-nodes-clause-goes : goal.returns-in-nodes-clause-goes
 returns-in-nodes-clause-goes g c =
-    goes_trans c.args.self.now c.call.new.self c.finish.new.self
-    (goes_trans c.args.self.now c.nodes.self c.call.new.self c.nodes.invariant.goes c.call.ensures.goes) c.finish.ensures.goes
+    goes_trans c.args.self.now c.call.new.self c.keep-in-nodes.new.self
+    (goes_trans c.args.self.now c.nodes.self c.call.new.self c.nodes.invariant.goes c.call.ensures.goes) c.keep-in-nodes.ensures.goes
 
 pub returns-clause-fit : goal.returns-clause-fit
 returns-clause-fit g c = c.keep.ensures.fit c.args.adapter.now c.nodes.invariant.fit
