@@ -193,6 +193,8 @@ class Walk(second.Run):
 
     def __init__(self, lines, client, report, where):
         super().__init__([line for line in lines if is_of(client, line[1])], [], 1)
+        # (a client below the last may have no command)
+        self.outcomes += [[] for _ in range(client + 1 - len(self.outcomes))]
         self.client, self.told, self.where = client, report.clients, where
         who = f"c{client}"
         self.left = {node: deque(entry for entry in entries if entry.who == who) for node, entries in report.nodes.items()}

@@ -6,7 +6,7 @@ ghost use Rattle.seats.specs.Seated.{IsFit, HasRoom, IsReady};
 
 use super::request;
 use adapter::{Adapter, Client, Feeder};
-use seats::{Answered, Seat, seats_of};
+use seats::{Answered, Desk, Seat, desks_of};
 use serve_frames::{Ask, data_of};
 use std::alloc::Global;
 use std::marker::Brand;
@@ -38,8 +38,11 @@ pub fn one_seat(
     ensures ready { IfSome result (IsReady adapter.now) }
     ensures feeder { Fits adapter.now feeder.now.passes × (feeder.now.left ≡ 2 ^ 44) }
 {
-    let mut seats = seats_of(alloc, clients).ok()?;
-    seats.pop()
+    let mut lines = Vec::new(alloc);
+    lines.push(0u8).ok()?;
+    let mut desks = desks_of(alloc, clients, lines).ok()?;
+    let Desk { seat, .. } = desks.pop()?;
+    Some(seat)
 }
 
 // A batch of one packet of PID 0, which brings a section of 24 bytes with the table_id 0.

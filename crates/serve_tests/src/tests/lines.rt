@@ -13,10 +13,21 @@ use seats::Seat;
 use std::alloc::Global;
 use std::sync::Wait;
 
-// A line whose requests and replies stand in memory.
-struct MemLine {
+/// A line whose requests and replies stand in memory.
+#[derive(Drop)]
+pub struct MemLine {
     from: MemSource,
     to: MemSink,
+}
+
+impl MemLine {
+    /// A line of these requests, which come in pieces of 50 bytes, with room for so many bytes of replies.
+    pub fn new(alloc: Global, requests: &[u8], room: usize) -> Option<MemLine> {
+        Some(MemLine {
+            from: MemSource::new(requests.to_vec(alloc).ok()?, 50, Vec::new(alloc)),
+            to: MemSink::new(alloc, room, 7, Vec::new(alloc)).ok()?,
+        })
+    }
 }
 
 impl Source for MemLine {
@@ -57,18 +68,15 @@ struct Left {
 fn sat<R: Wait>(rt: &R, alloc: Global, requests: &[u8], room: usize) -> Option<Left> {
     let (adapter, feeder, clients) = Adapter::new(alloc, 1).ok()?;
     let mut seat = one_seat(&adapter, &feeder, alloc, clients)?;
-    let mut line = MemLine {
-        from: MemSource::new(requests.to_vec(alloc).ok()?, 50, Vec::new(alloc)),
-        to: MemSink::new(alloc, room, 7, Vec::new(alloc)).ok()?,
-    };
+    let mut line = MemLine::new(alloc, requests, room)?;
     seat.sit(rt, alloc, &adapter, &mut line, &FixedClock::new(7));
     let written = line.to.bytes().to_vec(alloc).ok()?;
     let Seat { log, .. } = seat;
     Some(Left { written, log })
 }
 
-// These requests, one behind another.
-fn joined(alloc: Global, requests: &[[u8; 76]]) -> Option<Vec<u8>> {
+/// These requests, one behind another.
+pub fn joined(alloc: Global, requests: &[[u8; 76]]) -> Option<Vec<u8>> {
     let mut bytes = Vec::new(alloc);
     for request in requests {
         bytes.extend_from_slice(request).ok()?;
