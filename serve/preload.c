@@ -240,7 +240,7 @@ static int sit_down(const char *tell)
 	return 0;
 }
 
-static int exchange(const struct request *request, struct reply *reply, void *into)
+static int exchange(const struct request *request, struct reply *reply, void *into, uint32_t room)
 {
 	char ask[PATH] = "", tell[PATH] = "";
 	int first = line.ask < 0;
@@ -251,16 +251,17 @@ static int exchange(const struct request *request, struct reply *reply, void *in
 		unlink(ask);
 		unlink(tell);
 	}
-	bad = bad || get(reply, sizeof *reply) || (reply->length && get(into, reply->length));
+	bad = bad || get(reply, sizeof *reply) || reply->length > room || get(into, reply->length);
 	if (bad)
 		leave();
 	return bad ? -EIO : -(int)reply->code;
 }
 
-/* one request and its reply: 0 or a negative error */
+/* one request and its reply, with at most as many bytes as a read asks for: 0 or a negative error */
 static int request(uint32_t verb, uint32_t node, uint32_t number, const void *argument, uint32_t length,
 		   struct reply *reply, void *into)
 {
+	uint32_t room = verb == READ ? number : 0;
 	struct request asked = { verb, node, number, length, { 0 } };
 	if (length)
 		memcpy(asked.argument, argument, length);
@@ -268,7 +269,7 @@ static int request(uint32_t verb, uint32_t node, uint32_t number, const void *ar
 		return -ENOMEM;
 	if (pthread_mutex_lock(line.one) == EOWNERDEAD)
 		pthread_mutex_consistent(line.one);
-	int result = exchange(&asked, reply, into);
+	int result = exchange(&asked, reply, into, room);
 	pthread_mutex_unlock(line.one);
 	return result;
 }
