@@ -1,6 +1,6 @@
 -- A client that has worked to its end.
-use Rattle.std.proofs.Common.{◌≡◌, ◌≢◌, ◌×◌, ℕ, Bool, Result, Ok, Err, OnOk, IsErrOf, Option, Some, None, Unit, refl, absurd}
-use Rattle.core.specs.Result.{result_err}
+use Rattle.std.proofs.Common.{◌≡◌, ◌≢◌, ℕ, Bool, List, Result, Ok, Err, OnOk, IsErrOf, Option, Some, None, refl}
+use Rattle.std.specs.Result.{result_err}
 use Rattle.atomic_table.specs.Seated.{TableId}
 use Rattle.client_core.specs.declared.stop.TheConstants.{MOST_CALLS}
 use Rattle.client_core.specs.declared.stop.Stop.{Stop}
@@ -38,8 +38,8 @@ has_come may locks old w (Err NoMemory) same fit goes ends long = record {
 }
 has_come may locks old w (Err (TooLong turns)) same fit goes ends long = let k = long turns refl in record {
   same = same;
-  fit = λ not. fit_stopped locks w (Some (TooLong turns)) k.2.2.0;
-  goes_on = λ not. goes_stopped may old w (Some (TooLong turns)) k.2.2.1;
+  fit = λ not. fit_stopped locks w (Some (TooLong turns)) k.2;
+  goes_on = λ not. goes_stopped may old w (Some (TooLong turns)) k.3;
   ends = λ is. absurd (cc is);
   too_long = λ said is. let same_turns : Some (TooLong turns) ≡ Some (TooLong said) = is in let l = long said (cc same_turns) in (l.0, l.1);
 }

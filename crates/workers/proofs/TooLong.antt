@@ -54,7 +54,7 @@ module _ (lines : List Line) (locks : List TableId) (n : ℕ) (feeder : Caller) 
 
   running : (ahead : List ℕ) → Pulls ahead [] [] first → IsRunning lines most may k.packets (ended ∷ []) f.feeder f.feeding.items (map (λ (w : ClientWorker). w.client) new) (map log_of new)
   running ahead pulls = record {
-    are_packets = subst (All IsPacket) (Pulls-done ahead k.draws.carries.more k.packets f.puller (now_pulls ahead pulls) k.done).packets (are_packets (ahead ++ k.draws.carries.more));
+    are_packets = subst (All IsPacket) (Pulls-done ahead k.draws.carries.more k.packets f.puller (now_pulls ahead pulls) k.done).packets (are_packets f.puller.cutting.size (ahead ++ k.draws.carries.more));
     end = inr refl;
     fed = k.fed;
     clients = length-map new (λ (w : ClientWorker). w.client) ∙ count;

@@ -1,6 +1,10 @@
-use Rattle.std.proofs.Common.{rules, ◌≡◌, ◌+◌, ℕ, [], ◌∷◌, ◌++◌, length, Vec, Global, refl, sym, ap, ◌∙◌, length-append}
+use Rattle.std.proofs.Common.{rules, ◌≡◌, ◌+◌, ℕ, List, [], ◌∷◌, ◌++◌, length, Vec, Global, refl, sym, ap, subst, ◌∙◌, length-append}
+use Rattle.std.proofs.lemmas.List.{map-id}
+use Rattle.std.proofs.lemmas.Iterator.Consumers.{YieldsList-end}
+use Rattle.std.proofs.lemmas.Iterator.Adapters.{YieldsList-from_vec}
 use Rattle.dmx_calls.specs.declared.log.Entry.{Entry}
 use Rattle.workers.specs.declared.client_worker.ClientWorker.{ClientWorker}
+use Rattle.workers.specs.Inside.Begun.{IsLeftByClients}
 use Rattle.workers.proofs.Lists.{maps_more, gives_more, outcomes_more}
 use Rattle.workers.proofs.clients.left_by_clients.Goals as goal
 
@@ -19,3 +23,13 @@ workers-preserved c =
       each = outcomes_more c.workers.yielded w c.workers.outcomes.items c.push.new.self.items those outcomes i.outcomes i.each
           (λ client lines replies after. c.in_ok-copied_outcomes.ensures.tied client lines replies after);
     }
+
+pub returns : goal.returns
+returns c =
+    let i = c.workers.invariant in
+    let ws : List ClientWorker = c.args.workers.items in
+    let b = c.into_iter-worker-iterator.ensures.into_iter_gives in
+    let end = YieldsList-end (YieldsList-from_vec {s = c.into_iter-worker-iterator.result} ws b.0 (b.1 ∙ c.args.workers.ok.0)) c.workers.yielded c.workers.worker-iterator c.workers.yielded_by c.next.result c.next.new.self c.in-None.is c.next.ensures.steps in
+    let all : c.workers.yielded ≡ ws = sym (map-id c.workers.yielded) ∙ end.0 in
+    subst (λ (l : List ClientWorker). IsLeftByClients l (record { clients = c.workers.clients; logs = c.workers.logs; outcomes = c.workers.outcomes })) all
+    (record { clients = i.clients; logs = i.logs; outcomes = i.outcomes; each = i.each })
