@@ -35,8 +35,8 @@ pub record IsReady (locks : List TableId) (s : Seat) : Type 0 where
   pub room : HasRoom 66 s
 
 -- It is the seat of this caller, and has done nothing yet.
-pub record IsNew (who : ℕ) (s : Seat) : Type 0 where
-  pub who : s.who ≡ who
+pub record IsNew (number : ℕ) (s : Seat) : Type 0 where
+  pub who : s.who ≡ number
   pub log : s.log.items ≡ []
   pub outcomes : s.outcomes.items ≡ []
   pub room : (66 ≤ vec_capacity s.log) × (66 ≤ vec_capacity s.outcomes)
