@@ -32,6 +32,23 @@ use Rattle.seats.proofs.Owning.{owner_refused, owner_closed, still_own, owned_be
 no_open : (e : Entry) (h : History) (call : Invocation) → e.invocation ≡ call → opens (event (entry_of 0 call e.response) []) ≡ false → opens (event e h) ≡ false
 no_open e h call is nay = rw is nay
 
+not_open : (e : Entry) (h : History) (call : Invocation) → e.invocation ≡ call → call ≢ Open → opens (event e h) ≡ false
+not_open e h Open is other = absurd (other refl)
+not_open e h Close is other = no_open e h Close is refl
+not_open e h (SetFilter p now) is other = no_open e h (SetFilter p now) is refl
+not_open e h (SetPes p now) is other = no_open e h (SetPes p now) is refl
+not_open e h (AddPid n) is other = no_open e h (AddPid n) is refl
+not_open e h (RemovePid n) is other = no_open e h (RemovePid n) is refl
+not_open e h (Start now) is other = no_open e h (Start now) is refl
+not_open e h Stop is other = no_open e h Stop is refl
+not_open e h (SetSize n) is other = no_open e h (SetSize n) is refl
+not_open e h (Read now n) is other = no_open e h (Read now n) is refl
+not_open e h (Poll now) is other = no_open e h (Poll now) is refl
+not_open e h (Pass i f ps now) is other = no_open e h (Pass i f ps now) is refl
+not_open e h End is other = no_open e h End is refl
+not_open e h (Attach n ps) is other = no_open e h (Attach n ps) is refl
+not_open e h (Detach n) is other = no_open e h (Detach n) is refl
+
 is_close : (e : Entry) (h : History) → e.invocation ≡ Close → closes (event e h) ≡ true
 is_close e h is = rw is refl
 
@@ -139,6 +156,18 @@ module _ (c d : Caller) (node place : ℕ) (e : Entry) (o : MakesEntry node e pl
           subst (λ (n : ℕ). HasLeft n d) (sym here) (left_marked e.invocation refl had (λ none. k.left node (was ∙ ap (λ (b : Bool). Some b) none)) marked))
           (λ more. left_elsewhere i more (k.left i (sym (set_elsewhere held node i (has_then had (act_of e.invocation) e.response) more) ∙ at)));
     }
+
+-- ------ for a caller that is told only what it has called
+
+-- a call that is no Open
+pub left_call : (c d : Caller) (node place : ℕ) (e : Entry) (o : MakesEntry node e place c.passes d.passes) (who : d.who ≡ c.who) (own : (i : ℕ) (p : TableId × View Entry) → slice_get c.passes i ≡ Some p → IsOwnPass c.who p)
+    → e.invocation ≢ Open → (i : ℕ) → HasLeft i c → HasLeft i d
+left_call c d node place e o who own other = left_still c d node place e o who own (not_open e (reverse o.more.before) e.invocation refl other)
+
+-- a Close of its own
+pub closed_call : (c d : Caller) (node place : ℕ) (e : Entry) (o : MakesEntry node e place c.passes d.passes) (who : d.who ≡ c.who) (own : (i : ℕ) (p : TableId × View Entry) → slice_get c.passes i ≡ Some p → IsOwnPass c.who p)
+    → e.who ≡ c.who → e.invocation ≡ Close → HasLeft node d
+closed_call c d node place e o who own mine closing = left_closed c d node place e o who own mine closing
 
 -- ------ before the first call
 

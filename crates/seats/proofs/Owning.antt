@@ -61,7 +61,7 @@ owner_before e h who other is = by_accepted (is_accepted e.response) refl where
 -- ------ entries of others
 
 -- a list with the newest entry first
-turned : (ps : List Entry) (x : Entry) → reverse (ps ++ x ∷ []) ≡ x ∷ reverse ps
+pub turned : (ps : List Entry) (x : Entry) → reverse (ps ++ x ∷ []) ≡ x ∷ reverse ps
 turned ps x = reverse-append ps (x ∷ [])
 
 -- where none of the later entries is its own, it was the owner before them
