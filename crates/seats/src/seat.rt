@@ -38,7 +38,7 @@ pub struct Seat {
 
 // What the dvr node is to be told behind this reply of a node.
 fn told_dvr(node: u32, reply: &Reply) -> Option<Call>
-    ensures { IfSome result (λ call. (node ≢ nodes) × PassesNone (act_of (invocation_of call)) × (invocation_of call ≢ asks.Open)) }
+    ensures { IfSome result (λ call. PassesNone (act_of (invocation_of call)) × (invocation_of call ≢ asks.Open)) }
 {
     if node == DEMUX_NODES {
         return None;
