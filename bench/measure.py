@@ -5,9 +5,12 @@ import resource
 import subprocess
 import sys
 import time
+from typing import NamedTuple
 
 # Of 16 packets ten are of PID 256, three of PID 257, and one each of the others, on average.
 PIDS = [256] * 10 + [257] * 3 + [0, 8191, 512]
+# A script with one section filter, which is drained.
+ONE_FILTER = b"c0 open n0\nc0 section n0 0 0 5 0=00/ff/00\nc0 drain n0 4096\nstream\n"
 
 
 def crc(data):
@@ -41,33 +44,96 @@ def mixed_packets(count, seed):
         counters[pid] = (counters[pid] + 1) % 16
 
 
+# How much of what a program writes is taken from its pipe at once.
+PIECE = 1 << 16
+
+
+class Taken(NamedTuple):
+    """What a run took: seconds by the wall and of processors; and how many bytes it wrote."""
+
+    wall: float
+    work: float
+    written: int
+
+
+class Held(NamedTuple):
+    """The most bytes of memory that a run held, and its seconds by the wall."""
+
+    memory: int
+    wall: float
+
+
 def environment(words):
-    """The environment of a program: the wrapper `dvbemu` asks the C library for large pages, but for `run`."""
-    return dict(os.environ) if "run" in words else {"GLIBC_TUNABLES": "glibc.malloc.hugetlb=1", **os.environ}
+    """The environment of a program. To one of this repository, which is named by its path, the wrapper `dvbemu` gives large pages of the
+    C library's memory, but for `run`."""
+    has_setting = "/" in words[0] and words[1:2] != ["run"]
+    return {"GLIBC_TUNABLES": "glibc.malloc.hugetlb=1", **os.environ} if has_setting else dict(os.environ)
 
 
-def run(words, path):
-    """What a run writes with the file as its standard input, and how many seconds it takes."""
+def output_of(words, path):
+    """What a run writes with the file as its standard input."""
+    with open(path, "rb") as source:
+        return subprocess.run(words, stdin=source, stdout=subprocess.PIPE, env=environment(words), check=True).stdout
+
+
+def taken(words, path):
+    """What a run takes with the file as its standard input. What it writes is read from a pipe, into the same memory again and again."""
+    piece, written, before = bytearray(PIECE), 0, processor_time()
     with open(path, "rb") as source:
         begun = time.perf_counter()
-        written = subprocess.run(words, stdin=source, stdout=subprocess.PIPE, env=environment(words), check=True).stdout
-        return written, time.perf_counter() - begun
+        child = subprocess.Popen(words, stdin=source, stdout=subprocess.PIPE, env=environment(words), bufsize=0)
+        with child.stdout as pipe:
+            while count := pipe.readinto(piece):
+                written += count
+        status = child.wait()
+        wall = time.perf_counter() - begun
+    if status:
+        raise SystemExit(f"{' '.join(words)} ended with status {status}")
+    return Taken(wall, processor_time() - before, written)
+
+
+def all_taken(ways, repeats):
+    """What the runs of each of these ways took, run in turn. A way is its words and the file that it reads."""
+    runs = {name: [] for name in ways}
+    for _ in range(repeats):
+        for name, way in ways.items():
+            runs[name].append(taken(*way))
+    return runs
+
+
+def least_times(ways, path, repeats):
+    """The least time by the wall of each of these ways over one file, run in turn."""
+    runs = all_taken({name: (words, path) for name, words in ways.items()}, repeats)
+    return {name: min(one.wall for one in of) for name, of in runs.items()}
+
+
+def machine():
+    """A line about the machine, and how much else is done on it: how many programs ran or waited for a processor in the last minute."""
+    with open("/proc/cpuinfo", encoding="utf-8") as file:
+        model = next((line.split(":")[1].strip() for line in file if line.startswith("model name")), "unknown processors")
+    return f"{os.cpu_count()} processors, {model}; load {os.getloadavg()[0]:.1f}"
+
+
+def tell_goal(what, value, most, unit=""):
+    """Prints what was measured beside what is aimed at."""
+    print(f"goal: {what}: {value:.3g}{unit}, at most {most}: {'met' if value <= most else 'MISSED'}")
+
+
+def split(session):
+    """A session's script, the bytes up to and with the line `stream`, and its stream."""
+    end = session.index(b"\nstream\n") + len(b"\nstream\n")
+    return session[:end], session[end:]
 
 
 def quarter_of(session):
-    """The session with the first quarter of its stream. Its script is the bytes up to and with the line `stream`."""
-    end = session.index(b"\nstream\n") + len(b"\nstream\n")
-    return session[:end + (len(session) - end) // 4 // 188 * 188]
+    """The session with the first quarter of its stream."""
+    script, stream = split(session)
+    return script + stream[:len(stream) // 4 // 188 * 188]
 
 
-def write_stream(path, session, size):
-    """Writes a session without clients, whose stream is that of this session over and over, up to this size."""
-    stream = session[session.index(b"\nstream\n") + len(b"\nstream\n"):]
-    with open(path, "wb") as out:
-        out.write(b"stream\n")
-        for _ in range(size // len(stream)):
-            out.write(stream)
-        out.write(stream[:size % len(stream) // 188 * 188])
+def long_input(script, stream, count):
+    """A pipe that gives the file of a script and then so often that of a stream."""
+    return subprocess.Popen(["cat", script, *[stream] * count], stdout=subprocess.PIPE).stdout
 
 
 def silent_time(program, seconds):
@@ -92,32 +158,31 @@ def processor_time():
     return used.ru_utime + used.ru_stime
 
 
-def least_times(ways, path, repeats):
-    """The least time of each of these ways, run in turn."""
-    least = dict.fromkeys(ways, float("inf"))
-    for _ in range(repeats):
-        for name, words in ways.items():
-            least[name] = min(least[name], run(words, path)[1])
-    return least
-
-
-# Starts the words as a child of its own and prints the most memory, in KiB, that it held. The system counts what a process held
-# before it became the program as well, so what starts it must be small: this is run by an interpreter of its own.
+# Starts the words as a child of its own, throws away what it writes, and prints the most memory, in KiB, that it held, and its seconds.
+# The system counts what a process held before it became the program as well, so what starts it must be small: this is run by an
+# interpreter of its own.
 STARTER = """
-import os, sys
+import os, sys, time
+begun = time.perf_counter()
 child = os.fork()
 if child == 0:
     os.dup2(os.open(os.devnull, os.O_WRONLY), 1)
     os.execvp(sys.argv[1], sys.argv[1:])
 _, status, used = os.wait4(child, 0)
-print(used.ru_maxrss)
+print(used.ru_maxrss, time.perf_counter() - begun)
 sys.exit(status != 0)
 """
 
 
-def peak_memory(words, path):
-    """The most bytes of memory that a run held; no less than what STARTER holds, which a run of `true` shows."""
+def held_over(words, source):
+    """What one run held with this open file as its standard input; no less memory than what STARTER holds, which a run of `true` shows."""
+    starter = [sys.executable, "-I", "-S", "-c", STARTER, *words]
+    told = subprocess.run(starter, stdin=source, stdout=subprocess.PIPE, env=environment(words), check=True)
+    memory, wall = told.stdout.split()
+    return Held(int(memory) * 1024, float(wall))
+
+
+def held(words, path):
+    """What one run held over a file."""
     with open(path, "rb") as source:
-        starter = [sys.executable, "-I", "-S", "-c", STARTER, *words]
-        told = subprocess.run(starter, stdin=source, stdout=subprocess.PIPE, env=environment(words), check=True)
-    return int(told.stdout) * 1024
+        return held_over(words, source)
