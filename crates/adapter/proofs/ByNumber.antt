@@ -1,5 +1,5 @@
 -- The kind of a node, by its number, and what its machine stands for.
-use Rattle.std.proofs.Common.{◌≡◌, ℕ, ◌<◌, List, subst, sym, reverse}
+use Rattle.std.proofs.Common.{ℕ, ◌<◌, List, subst, sym, reverse}
 use Rattle.dmx_calls.specs.declared.limits.TheConstants.{DEMUX_NODES}
 use Rattle.dmx_calls.specs.History.{Entry}
 use Rattle.dmx_calls.specs.Rules.{Rules}

@@ -1,6 +1,6 @@
 -- The passes of one caller of which one is changed: each is still the caller's, of its lock, and has a call left for each that
 -- the caller has.
-use Rattle.std.proofs.Common.{◌≡◌, ℕ, ◌-◌, ◌<◌, ◌≤◌, List, slice_get, slice_index, set, Some, refl, ap, sym, ◌∙◌, subst, arith, length-set}
+use Rattle.std.proofs.Common.{◌≡◌, ℕ, ◌-◌, ◌<◌, ◌≤◌, Bool, true, false, List, slice_get, slice_index, set, Some, refl, ap, sym, ◌∙◌, subst, arith, length-set}
 use Rattle.std.proofs.lemmas.Option.{slice_get_within}
 use mathlib.Core.Logic.{dite}
 use native.Mathlib.Decide.{ℕ_discrete}
@@ -31,8 +31,11 @@ module _ {N : Type 0} where
   pub same_after : (ps qs : List (TableId × View N)) (node : ℕ) (p q : TableId × View N) → slice_get ps node ≡ Some p → qs ≡ set ps node q → IsSamePass p q → AreSamePasses ps qs
   same_after ps qs node p q was is same = subst (AreSamePasses ps) (sym is) (same_set ps node p q was same)
 
-  pub same_all : (who_of : N → ℕ) (S : ℕ → List N → Type 0) (entry : ℕ → N) (places : List ℕ) (ps qs : List (TableId × View N)) → AllCall who_of S entry places ps qs → AreSamePasses ps qs
-  same_all who_of S entry places ps qs a = (a.long, λ i p q x y. (a.each i p q x y).same)
+  pub same_all : (who_of : N → ℕ) (S : ℕ → List N → Type 0) (among : ℕ → Bool) (entry : ℕ → N) (places : List ℕ) (ps qs : List (TableId × View N)) → AllCall who_of S among entry places ps qs → AreSamePasses ps qs
+  same_all who_of S among entry places ps qs a = (a.long, λ i p q x y. by_test i p q x y (among i) refl) where
+    by_test : (i : ℕ) (p q : TableId × View N) → slice_get ps i ≡ Some p → slice_get qs i ≡ Some q → (b : Bool) → among i ≡ b → IsSamePass p q
+    by_test i p q x y true is = (a.each i p q x y is).same
+    by_test i p q x y false is = subst (λ (z : TableId × View N). IsSamePass p z) (sym (a.others i p q x y is)) (same_self p)
 
   pub fits_same : (locks : List TableId) (ps qs : List (TableId × View N)) → Fits locks ps → AreSamePasses ps qs → Fits locks qs
   fits_same locks ps qs f s = (s.0 ∙ f.0, λ i l q x y. let low = slice_get_within qs i q y in let long = s.0 in let p = at_place ps i (omega arith) in (s.1 i p.0 q p.1 y).0 ∙ f.1 i l p.0 x p.1)
@@ -69,9 +72,14 @@ module _ (who left : ℕ) where
     pub fits_after : (locks : List TableId) → Fits locks ps → OneCalls caller_of S node entry place ps qs → Fits locks qs
     fits_after locks f o = fits_same locks ps qs f (same_after ps qs node o.first o.then o.was o.is o.more.same)
 
-  module _ (S : ℕ → List Entry → Type 0) (entry : ℕ → Entry) (places : List ℕ) (ps qs : List (TableId × View Entry)) where
-    pub all_mine : 0 < left → AreMine who left ps → AllCall caller_of S entry places ps qs → AreMine who (left - 1) qs
-    all_mine some mine a i q at = let low = slice_get_within qs i q at in let long = a.long in let p = at_place ps i (omega arith) in let o = a.each i p.0 q p.1 at in let m = mine i p.0 p.1 in let few = m.1 in let fewer = o.left in (o.same.1 ∙ m.0, omega arith)
+  module _ (S : ℕ → List Entry → Type 0) (among : ℕ → Bool) (entry : ℕ → Entry) (places : List ℕ) (ps qs : List (TableId × View Entry)) where
+    pub all_mine : 0 < left → AreMine who left ps → AllCall caller_of S among entry places ps qs → AreMine who (left - 1) qs
+    all_mine some mine a i q at = let low = slice_get_within qs i q at in let long = a.long in let p = at_place ps i (omega arith) in by_test p.0 p.1 (among i) refl where
+      by_test : (p : TableId × View Entry) → slice_get ps i ≡ Some p → (b : Bool) → among i ≡ b → (q.1.number ≡ who) × (left - 1 ≤ q.1.left)
+      by_test p was true is = let o = a.each i p q was at is in let m = mine i p was in let few = m.1 in let fewer = o.left in (o.same.1 ∙ m.0, omega arith)
+      by_test p was false is =
+          let m = mine i p was in let few = m.1 in let less : left - 1 ≤ p.1.left = omega arith in
+          subst (λ (z : TableId × View Entry). (z.1.number ≡ who) × (left - 1 ≤ z.1.left)) (sym (a.others i p q was at is)) (m.0, less)
 
-    pub all_by_me : AreMine who left ps → AllCall caller_of S entry places ps qs → AllCall caller_of S (λ _. entry who) places ps qs
-    all_by_me mine a = record { long = a.long; each = λ i p q x y. subst (λ (n : ℕ). OneMore caller_of (S i) (entry n) (slice_index places i) p q) (mine i p x).0 (a.each i p q x y) }
+    pub all_by_me : AreMine who left ps → AllCall caller_of S among entry places ps qs → AllCall caller_of S among (λ _. entry who) places ps qs
+    all_by_me mine a = record { long = a.long; each = λ i p q x y is. subst (λ (n : ℕ). OneMore caller_of (S i) (entry n) (slice_index places i) p q) (mine i p x).0 (a.each i p q x y is); others = a.others }

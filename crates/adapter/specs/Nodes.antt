@@ -1,6 +1,6 @@
 -- The nodes 0 to 32: the demux nodes, and the dvr node last. A history has the
 -- oldest entry first here, as that of a lock.
-use Rattle.std.specs.Prelude.{ℕ, List, reverse}
+use Rattle.std.specs.Prelude.{ℕ, Bool, false, List, reverse, slice_index_or}
 use Rattle.ts_batch.specs.Batch.{Packets}
 use Rattle.atomic_table.specs.Seated.{TableId}
 use Rattle.node_lock.specs.declared.lock.Held.{Held}
@@ -32,10 +32,14 @@ MakesNoEntry node held old new = OneMisses caller_of (IsLegalAt node) node held 
 abbrev pub Looks : (node len : ℕ) → List (TableId × View Entry) → List (TableId × View Entry) → Type 0
 Looks node len old new = OneLooks caller_of (IsLegalAt node) node len old new
 
--- the pass of each node has made this entry, at the place with its number
-abbrev pub MakesEachEntry : Entry → (places : List ℕ) → List (TableId × View Entry) → List (TableId × View Entry)
-    → Type 0
-MakesEachEntry e places old new = AllCall caller_of IsLegalAt (λ who. e) places old new
+-- whether a node is among these: for each node they say whether it is
+abbrev pub is_in : List Bool → (node : ℕ) → Bool
+is_in nodes node = slice_index_or nodes node false
+
+-- the pass of each node that is among these has made this entry, at the place with its number, and no other pass is changed
+abbrev pub MakesEachEntry : (among : ℕ → Bool) → Entry → (places : List ℕ) → List (TableId × View Entry)
+    → List (TableId × View Entry) → Type 0
+MakesEachEntry among e places old new = AllCall caller_of IsLegalAt among (λ who. e) places old new
 
 -- the entry that the feeder, caller 0, makes of a batch, and that of the stream's end
 abbrev pub fed : Packets → (now : ℕ) → Entry

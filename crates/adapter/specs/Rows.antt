@@ -1,5 +1,5 @@
 -- Rows of passes: a caller has one pass of each lock. A pass is a pair: its lock, and what it knows.
-use Rattle.std.specs.Prelude.{◌≡◌, ℕ, ◌+◌, ◌<◌, ◌≤◌, ◌^◌, List, [], ◌∷◌, ◌++◌, length, slice_get, slice_index, set, Some}
+use Rattle.std.specs.Prelude.{◌≡◌, ℕ, ◌+◌, ◌<◌, ◌≤◌, ◌^◌, Bool, true, false, List, [], ◌∷◌, ◌++◌, length, slice_get, slice_index, set, Some}
 use Rattle.std.specs.Option.{option_to_list}
 use mathlib.Core.List.{IsPrefix}
 use Rattle.atomic_table.specs.Seated.{TableId}
@@ -110,12 +110,14 @@ module _ {N : Type 0} where
     pub is : new ≡ set old node then
     pub looked : OneLook who_of stood len first then
 
-  -- each pass of a row has made a call, at the place with its number
-  pub record AllCall (who_of : N → ℕ) (stood : ℕ → List N → Type 0) (entry : ℕ → N) (places : List ℕ)
+  -- each pass of a row whose place is among these has made a call, at the place with its number; every other is as it was
+  pub record AllCall (who_of : N → ℕ) (stood : ℕ → List N → Type 0) (among : ℕ → Bool) (entry : ℕ → N) (places : List ℕ)
       (old new : List (TableId × View N)) : Type 0 where
     pub long : length new ≡ length old
-    pub each : (i : ℕ) (p q : TableId × View N) → slice_get old i ≡ Some p → slice_get new i ≡ Some q
+    pub each : (i : ℕ) (p q : TableId × View N) → slice_get old i ≡ Some p → slice_get new i ≡ Some q → among i ≡ true
         → OneMore who_of (stood i) (entry p.1.number) (slice_index places i) p q
+    pub others : (i : ℕ) (p q : TableId × View N) → slice_get old i ≡ Some p → slice_get new i ≡ Some q
+        → among i ≡ false → q ≡ p
 
   -- p has taken in what q has seen, its numbers and its calls, and is now r
   pub record OneJoins (p q r : TableId × View N) : Type 0 where

@@ -2,7 +2,7 @@
 ghost use Rattle.std.specs.Prelude.{◌≡◌, ℕ, ◌+◌, ◌*◌, ◌<◌, ◌≤◌, List, length};
 ghost use Rattle.dmx_calls.specs.declared.limits.TheConstants.{DEMUX_NODES, NODES};
 ghost use Rattle.adapter.specs.Rows.{Fits};
-ghost use Rattle.adapter.specs.Nodes.{MakesEachEntry, fed, ended};
+ghost use Rattle.adapter.specs.Nodes.{MakesEachEntry, is_in, fed, ended};
 ghost use Rattle.adapter.specs.Callers.{IsSameCaller};
 
 use crate::adapter::Adapter;
@@ -34,40 +34,43 @@ impl Model for Feeder {
 }
 
 impl Feeder {
-    /// Passes a batch of the frontend through the nodes 0 to 32, in that order, and answers the places of the entries. `now`
-    /// is the moment, in milliseconds. Each node hands the batch back for the next, so it is never copied. It may wait.
+    /// Passes a batch of the frontend through the nodes for which `nodes` has true, from 0 to 32, and answers the places of the
+    /// entries, by node. `now` is the moment, in milliseconds. Each node hands the batch back for the next, so it is never copied.
+    /// It may wait.
     pub fn feed<L: Ledger, R: Wait>(
         &mut self,
         rt: &R,
         adapter: &Adapter,
+        nodes: &[bool; NODES as usize],
         batch: Arc<Batch>,
         now: u64,
         steps: &mut Steps<L>,
     ) -> [u64; NODES as usize]
         requires own { Fits adapter.now self.old.passes }
         requires left { 1 ≤ self.old.left }
-        ensures entries { MakesEachEntry (fed batch.value now) result self.old.passes self.new.passes }
+        ensures entries { MakesEachEntry (is_in nodes.now) (fed batch.value now) result self.old.passes self.new.passes }
         ensures cost { steps.new ≤ steps.old + NODES * length batch.value.packets }
         ensures left { self.new.left + 1 ≡ self.old.left }
         ensures same { IsSameCaller self.old self.new }
         ensures own { Fits adapter.now self.new.passes }
     {
-        let places = self.passes.feed(rt, adapter, batch, now, steps);
+        let places = self.passes.feed(rt, adapter, nodes, batch, now, steps);
         self.left -= 1;
         places
     }
 
-    /// Tells the nodes 0 to 32, in that order, that the stream has ended, and answers the places of the entries. It may
-    /// wait.
+    /// Tells the nodes for which `nodes` has true, from 0 to 32, that the stream has ended, and answers the places of the entries,
+    /// by node. It may wait.
     pub fn end<L: Ledger, R: Wait>(
         &mut self,
         rt: &R,
         adapter: &Adapter,
+        nodes: &[bool; NODES as usize],
         steps: &mut Steps<L>,
     ) -> [u64; NODES as usize]
         requires own { Fits adapter.now self.old.passes }
         requires left { 1 ≤ self.old.left }
-        ensures entries { MakesEachEntry ended result self.old.passes self.new.passes }
+        ensures entries { MakesEachEntry (is_in nodes.now) ended result self.old.passes self.new.passes }
         ensures nodes { length self.new.passes ≡ DEMUX_NODES + 1 }
         ensures cost { steps.new ≤ steps.old }
         ensures left { self.new.left + 1 ≡ self.old.left }
@@ -76,7 +79,7 @@ impl Feeder {
     {
         // Its type says that it has a lock for each node.
         let _ = &adapter.demux;
-        let places = self.passes.end(rt, adapter, steps);
+        let places = self.passes.end(rt, adapter, nodes, steps);
         self.left -= 1;
         places
     }

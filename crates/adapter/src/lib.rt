@@ -10,11 +10,11 @@
 //!
 //! What is proved: each call is one entry on its node, at the place that is answered, behind what the caller had seen there;
 //! the history with it is legal, so the answer is one that it allows. The caller's own calls grow by just that one, one call
-//! less is left, and no other pass is changed. `feed` makes on each node one Pass of the whole batch, and `end` one End,
-//! both answered Passed; `feed` takes at most a step for each packet on each node. `try_call` waits for nobody; where it
-//! makes no call, `Held` has two numbers of that node's words and the call comes back. `len` is a number of entries that the
-//! history has. After `gather` or `finish` each node has one legal history, with just the calls of the feeder and the
-//! clients, each at the place that was told, and it begins with what each of them had seen; `finish` tells the lengths.
+//! less is left, and no other pass is changed. `feed` makes on each node that it is told one Pass of the whole batch, and `end` one
+//! End, both answered Passed, and no call on another; `feed` takes at most a step for each packet on each node. `try_call` waits
+//! for nobody; where it makes no call, `Held` has two numbers of that node's words and the call comes back. `len` is a number of
+//! entries that the history has. After `gather` or `finish` each node has one legal history, with just the calls of the feeder and
+//! the clients, each at the place that was told, and it begins with what each of them had seen; `finish` tells the lengths.
 //!
 //! What is only tested, in `run_tests`: the feeder and two clients on threads of their own, each of whose replies is replayed by
 //! plain code in the order of the places; and that a batch comes to the dvr node behind all others.

@@ -8,7 +8,7 @@ ghost use Rattle.dmx_calls.specs.Invocation as asks;
 ghost use Rattle.dmx_calls.specs.Response.{Passed};
 ghost use Rattle.dmx_calls.specs.declared.params.Input.TheVariants.{Frontend};
 ghost use Rattle.adapter.specs.Rows.{Fits, MayCallAt, MayCall, OneCalls, OneMisses, OneLooks, AllCall, AllJoin};
-ghost use Rattle.adapter.specs.Nodes.{IsLegalAt};
+ghost use Rattle.adapter.specs.Nodes.{IsLegalAt, is_in};
 
 use crate::adapter::Adapter;
 use crate::boxed::Boxed;
@@ -100,18 +100,19 @@ impl NodePasses {
         }
     }
 
-    // A batch passes each node, and is handed on from one to the next. It answers the places.
+    // A batch passes each of these nodes, and is handed on from one to the next. It answers the places, 0 at another node.
     pub(crate) fn feed<L: Ledger, R: Wait>(
         &mut self,
         rt: &R,
         adapter: &Adapter,
+        nodes: &[bool; NODES as usize],
         batch: Arc<Batch>,
         now: u64,
         steps: &mut Steps<L>,
     ) -> [u64; NODES as usize]
         requires own { Fits adapter.now self.old }
         requires left { MayCall self.old }
-        ensures entries { AllCall caller_of IsLegalAt (λ who. entry_of who (asks.Pass Frontend batch.value.first batch.value.packets now) Passed) result self.old self.new }
+        ensures entries { AllCall caller_of IsLegalAt (is_in nodes.now) (λ who. entry_of who (asks.Pass Frontend batch.value.first batch.value.packets now) Passed) result self.old self.new }
         ensures cost { steps.new ≤ steps.old + NODES * length batch.value.packets }
     {
         // Its type says that it has a lock for each node.
@@ -119,6 +120,9 @@ impl NodePasses {
         let mut batch = batch;
         let mut places = [0; NODES as usize];
         'nodes: for node in 0..NODES {
+            if !nodes[node as usize] {
+                continue;
+            }
             let call = Call::Pass {
                 input: Input::Frontend,
                 batch,
@@ -131,22 +135,26 @@ impl NodePasses {
         places
     }
 
-    // Tells each node that the stream has ended. It answers the places.
+    // Tells each of these nodes that the stream has ended. It answers the places, 0 at another node.
     pub(crate) fn end<L: Ledger, R: Wait>(
         &mut self,
         rt: &R,
         adapter: &Adapter,
+        nodes: &[bool; NODES as usize],
         steps: &mut Steps<L>,
     ) -> [u64; NODES as usize]
         requires own { Fits adapter.now self.old }
         requires left { MayCall self.old }
-        ensures entries { AllCall caller_of IsLegalAt (λ who. entry_of who asks.End Passed) result self.old self.new }
+        ensures entries { AllCall caller_of IsLegalAt (is_in nodes.now) (λ who. entry_of who asks.End Passed) result self.old self.new }
         ensures cost { steps.new ≤ steps.old }
     {
         // Its type says that it has a lock for each node.
         let _ = &adapter.demux;
         let mut places = [0; NODES as usize];
         'nodes: for node in 0..NODES {
+            if !nodes[node as usize] {
+                continue;
+            }
             let (place, _) = self.call(rt, adapter, node, Call::End, steps);
             places[node as usize] = place;
         }

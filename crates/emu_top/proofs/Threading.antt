@@ -26,7 +26,7 @@ module _ (batch : ℕ) (size : PacketSize) (may : ℕ → Bool) (lines : List Li
 
   -- over the stream that the threads have passed these histories are those of a whole run
   abbrev AreWhole : List (List LogEntry) → Type 0
-  AreWhole histories = (stream : List (List ℕ)) → AreWorked lines batch may stream left.feeder left.feeding.items left.clients.items (map (λ log. map told_entry log.items) left.logs.items) became
+  AreWhole histories = (among : ℕ → Bool) (stream : List (List ℕ)) → AreWorked lines among batch may stream left.feeder left.feeding.items left.clients.items (map (λ log. map told_entry log.items) left.logs.items) became
       → IsWholeRun lines batch may stream became histories
 
   pub thread_output : (y z : SourceEnd) (puller : Pulling) (histories : List (List LogEntry)) (text : List ℕ)
@@ -41,7 +41,7 @@ module _ (batch : ℕ) (size : PacketSize) (may : ℕ → Bool) (lines : List Li
         record {
           histories = histories;
           outcomes = became;
-          whole = whole (cut size (ahead ++ of.0)).packets is.worked;
+          whole = whole _ (cut size (ahead ++ of.0)).packets is.worked;
           report = rw (← is.head) e;
         },
   )

@@ -11,8 +11,8 @@
 //!   (`tests/shared/in_order`) and beside each other, where plain code replays each reply (`tests/shared/beside`);
 //! - the places and answers of calls on one lock, by one thread, by two and by eight, a try beside a call that is held, and
 //!   passes that are joined in an odd order (`tests/locks`);
-//! - the histories that two logs tell (`tests/merging`), the sums of the machine that adds (`tests/adder`), and that a counter
-//!   of steps takes no bytes (`tests/counter`).
+//! - the histories that two logs tell (`tests/merging`), the nodes that a script can name (`tests/named`), the sums of the machine
+//!   that adds (`tests/adder`), and that a counter of steps takes no bytes (`tests/counter`).
 #![tactic(auto)]
 
 #[cfg(test)]

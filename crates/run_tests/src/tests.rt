@@ -5,6 +5,7 @@ mod adder;
 mod counter;
 mod locks;
 mod merging;
+mod named;
 mod serial;
 mod shared;
 mod threads;

@@ -1,6 +1,6 @@
 -- The workers before the first call.
-use Rattle.std.proofs.Common.{◌≡◌, ◌≢◌, inr, ℕ, Bool, ◌+◌, ◌≤◌, ◌^◌, List, [], ◌∷◌, ◌++◌, length, map, Some, refl, ap, sym, ◌∙◌, subst, arith}
-use Rattle.std.specs.Prelude.{slice_get, option_map, All, IsTrue}
+use Rattle.std.proofs.Common.{◌≡◌, ◌≢◌, inr, ℕ, Bool, true, false, ◌+◌, ◌≤◌, ◌^◌, List, [], ◌∷◌, ◌++◌, length, map, Some, refl, ap, sym, ◌∙◌, subst, arith}
+use Rattle.std.specs.Prelude.{slice_get, option_map, All, IsTrue, if◌then◌else◌}
 use Rattle.emu_io.specs.Ends.{SourceEnd}
 use Rattle.std.proofs.lemmas.Option.{slice_get-map, slice_get_within}
 use Rattle.std.proofs.lemmas.List.Elements.{All-nil}
@@ -26,7 +26,7 @@ use Rattle.workers.specs.declared.feeder_worker.FeederWorker.{FeederWorker}
 use Rattle.workers.specs.Logged.{IsLogged, HasCalled}
 use Rattle.workers.specs.Inside.Working.{IsFit, IsWorking}
 use Rattle.workers.specs.Inside.Begun.{AreFreshWorkers}
-use Rattle.workers.specs.Feeding.{AreFullBatches, HasFed}
+use Rattle.workers.specs.Feeding.{AreFullBatches, HasFed, HasMade}
 use Rattle.workers.specs.Inside.FeederWork.{IsFitFeeder, HasPassed}
 use Rattle.feed_pull.proofs.Drawing.{draws_none}
 
@@ -56,13 +56,16 @@ module _ (locks : List TableId) (callers who left : ℕ) (c : Caller) (f : IsFre
     paid = λ i e g at next waits. absurd (cc at);
   }
 
-  pub fed_none : (most : ℕ) (may : ℕ → Bool) → who ≡ 0 → HasFed most may [] [] c []
-  fed_none most may is = record {
+  pub fed_none : (among : ℕ → Bool) (most : ℕ) (may : ℕ → Bool) → who ≡ 0 → HasFed among most may [] [] c []
+  fed_none among most may is = record {
     who = f.number ∙ is;
     tiles = refl;
     moments = All-nil (λ (x : Fed). IsTrue (may x.now));
-    made = λ node p at. record { places = []; number = (fresh_pass node p at).0 ∙ is; own = (fresh_pass node p at).1; stand = tt; rise = λ i j a b low first second. absurd (cc first) };
-  }
+    made = λ node p at. either (among node) p (record { places = []; number = (fresh_pass node p at).0 ∙ is; own = (fresh_pass node p at).1; stand = tt; rise = λ i j a b low first second. absurd (cc first) });
+  } where
+    either : (b : Bool) (p : TableId × View Entry) → HasMade [] p → HasMade (if b then [] else []) p
+    either true p m = m
+    either false p m = m
 
 module _ (lines : List Line) (locks : List TableId) (n : ℕ) (feeder : Caller) (clients : List Caller) (fresh : AreFreshCallers locks n feeder clients) (all : AreAllCallers locks (clients ++ feeder ∷ [])) where
   -- a client's worker before its first call
@@ -98,11 +101,11 @@ module _ (lines : List Line) (locks : List TableId) (n : ℕ) (feeder : Caller) 
       given = omega (arith, given);
     }
 
-    pub begun_passed : (most : ℕ) (may : ℕ → Bool) (x : SourceEnd) → HasPassed most may x x f.puller f
-    begun_passed most may x = record {
+    pub begun_passed : (among : ℕ → Bool) (most : ℕ) (may : ℕ → Bool) (x : SourceEnd) → HasPassed among most may x x f.puller f
+    begun_passed among most may x = record {
       packets = [];
       draws = draws_none x f.puller;
       given = given;
-      fed = subst (λ (y : Caller). HasFed most may [] [] y f.feeding.items) (sym is) (subst (HasFed most may [] [] feeder) (sym none) (fed_none locks (n + 1) 0 (2 ^ 44) feeder fresh.first most may refl));
+      fed = subst (λ (y : Caller). HasFed among most may [] [] y f.feeding.items) (sym is) (subst (HasFed among most may [] [] feeder) (sym none) (fed_none locks (n + 1) 0 (2 ^ 44) feeder fresh.first among most may refl));
       full = λ ahead taken given pulls. (subst (AreFullBatches most) (sym none) tt, inr (subst (All (λ fed. fed.count ≡ most)) (sym none) (All-nil (λ (fed : Fed). fed.count ≡ most))));
     }

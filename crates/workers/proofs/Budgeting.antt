@@ -1,6 +1,6 @@
 -- A client of a run by threads keeps to its budget, at each moment.
-use Rattle.std.proofs.Common.{◌≡◌, refl, sym, ap, subst, ◌∙◌, ℕ, ◌*◌, ◌<◌, ◌≤◌, Bool, true, false, List, [], ◌∷◌, ◌++◌, length, slice_get, Some, inl, inr, arith}
-use Rattle.std.specs.Prelude.{◌⊎◌}
+use Rattle.std.proofs.Common.{◌≡◌, refl, sym, subst, ◌∙◌, ℕ, ◌*◌, ◌<◌, ◌≤◌, Bool, true, false, List, [], ◌∷◌, ◌++◌, length, take, slice_get, Some, inl, inr, arith}
+use Rattle.std.specs.Prelude.{◌⊎◌, if◌then◌else◌}
 use Rattle.std.proofs.lemmas.Option.{slice_get_within}
 use Rattle.lemmas.proofs.Lists.{has_at}
 use Rattle.dmx_calls.specs.declared.histories.Fed.{Fed}
@@ -14,13 +14,19 @@ use Rattle.script_run.specs.SoFar.{others as Others}
 use Rattle.script_run.proofs.Paying.{calls_are_paid}
 use Rattle.adapter.specs.Callers.{Caller}
 use Rattle.adapter.specs.Nodes.{ended}
-use Rattle.adapter.proofs.Lists.{one_value}
+use Rattle.adapter.proofs.Lists.{at_place, one_value}
+use Rattle.adapter.specs.Ends.{HaveHistories}
+use Rattle.atomic_table.specs.Seated.{TableId}
+use Rattle.node_lock.specs.declared.view.View.{View}
+use Rattle.script_run.specs.IsRun.{replies}
 use Rattle.workers.specs.Budget.{IsRunning, CallsAreWithinBudget, FewBytesAreFewCalls, ManyCallsAreTooLong}
 use Rattle.workers.specs.Feeding.{HasMade, fed_entries}
-use Rattle.workers.specs.Telling.{IsLoggedIn}
+use Rattle.workers.specs.Telling.{HasLogged, IsLoggedIn}
 use Rattle.workers.proofs.Calls.{has_all}
 use Rattle.workers.proofs.Feeders.{behind_of, acts_of, fed_is}
-use Rattle.workers.proofs.Owning.{Moment}
+use Rattle.workers.proofs.Owning.{Moment, idle_there, made_by}
+use Rattle.workers.proofs.Completing.{feeders_calls, whole, whole_have, whole_made}
+use Rattle.workers.proofs.Naming.{named_call}
 use Rattle.workers.proofs.Merged.{are_woven}
 use Rattle.workers.proofs.SoFar.{has_logged, IsOfScript, log_at, done, so_far}
 
@@ -29,21 +35,35 @@ over_or_not : (behind : List Entry) → (behind ≡ []) ⊎ (behind ≡ ended �
 over_or_not behind (inl is) = (false, is)
 over_or_not behind (inr is) = (true, is)
 
-module _ (lines : List Line) (most : ℕ) (may : ℕ → Bool) (packets : List (List ℕ)) (behind : List Entry) (feeder : Caller) (fs : List Fed) (others : List Caller) (books : List (List LogEntry))
-    (r : IsRunning lines most may packets behind feeder fs others books) where
+module _ (lines : List Line) (among : ℕ → Bool) (most : ℕ) (may : ℕ → Bool) (packets : List (List ℕ)) (behind : List Entry) (feeder : Caller) (fs : List Fed) (others : List Caller) (books : List (List LogEntry))
+    (r : IsRunning lines among most may packets behind feeder fs others books) where
   abbrev over : Bool
   over = (over_or_not behind r.end).0
+
+  made : (node : ℕ) (p : TableId × View Entry) → slice_get feeder.passes node ≡ Some p → HasMade (if among node then made_by over packets fs else []) p
+  made node p at = subst (λ l. HasMade (if among node then fed_entries packets fs ++ l else []) p) (over_or_not behind r.end).1 (r.fed.made node p at)
+
+  named_in : (e : LogEntry) → IsLoggedIn books e → among e.node ≡ true
+  named_in e (c, log, i, book, at) =
+      let client = at_place others c (omega (arith, slice_get_within books c log book, r.logs, r.clients)) in
+      r.named e.node (named_call lines c (replies (take i log)) e ((r.called c client.0 log client.1 book).events i e at))
+
+  logged_each : (c : ℕ) (client : Caller) (log : List LogEntry) → slice_get others c ≡ Some client → slice_get books c ≡ Some log → HasLogged c client log
+  logged_each c client log at book = has_logged lines c may client log (r.called c client log at book)
+
+  histories : HaveHistories (others ++ whole among (made_by over packets fs) feeder ∷ [])
+  histories = whole_have among (made_by over packets fs) feeder others (feeders_calls over packets fs) made (idle_there among others books (r.logs ∙ sym r.clients) logged_each named_in) r.histories
 
   abbrev m : Moment
   m = record {
     stream = packets;
     acts = acts_of over fs;
-    feeder = feeder;
+    feeder = whole among (made_by over packets fs) feeder;
     others = others;
     books = books;
-    fed = λ node p at. subst (λ es. HasMade es p) (ap (λ l. fed_entries packets fs ++ l) (over_or_not behind r.end).1 ∙ fed_is over packets fs) (r.fed.made node p at);
+    fed = λ node p at. subst (λ es. HasMade es p) (fed_is over packets fs) (whole_made among (made_by over packets fs) feeder made node p at);
     logs = r.logs ∙ sym r.clients;
-    each = λ c client log at book. has_logged lines c may client log (r.called c client log at book);
+    each = logged_each;
   }
 
   of_script : IsOfScript lines most may over fs m
@@ -55,19 +75,19 @@ module _ (lines : List Line) (most : ℕ) (may : ℕ → Bool) (packets : List (
   within : (c : ℕ) (log : List LogEntry) → slice_get books c ≡ Some log → length log ≤ most_calls (all_commands lines) (188 * length packets)
   unfolding so_far done
   within c log book =
-      let hs = are_woven m r.histories in
+      let hs = are_woven m histories in
       let is : c < clients_in lines = omega (arith, slice_get_within books c log book, r.logs) in
-      let here = log_at lines most may over fs m of_script r.histories low hs.0 hs.1 c is in
-      let bound = calls_are_paid Others lines most packets hs.0 (so_far lines most may over fs m of_script r.histories low hs.0 hs.1) r.are_packets c is in
+      let here = log_at lines most may over fs m of_script histories low hs.0 hs.1 c is in
+      let bound = calls_are_paid Others lines most packets hs.0 (so_far lines most may over fs m of_script histories low hs.0 hs.1) r.are_packets c is in
       subst (λ l. length l ≤ most_calls (all_commands lines) (188 * length packets)) (one_value books c here.0 log here.1 book) bound
 
 pub calls_within : CallsAreWithinBudget
-calls_within lines most may packets behind feeder fs others books r c log book = within lines most may packets behind feeder fs others books r c log book
+calls_within lines among most may packets behind feeder fs others books r c log book = within lines among most may packets behind feeder fs others books r c log book
 
 pub few_calls : FewBytesAreFewCalls
-few_calls lines most may packets behind feeder feeding others books r few c log book =
-    omega (arith, few, calls_within lines most may packets behind feeder feeding others books r c log book)
+few_calls lines among most may packets behind feeder feeding others books r few c log book =
+    omega (arith, few, calls_within lines among most may packets behind feeder feeding others books r c log book)
 
 pub many_calls : ManyCallsAreTooLong
-many_calls lines most may packets behind feeder feeding others books r start ahead taken fits c log book is =
-    inr (is, omega (arith, is, fits, calls_within lines most may packets behind feeder feeding others books r c log book))
+many_calls lines among most may packets behind feeder feeding others books r start ahead taken fits c log book is =
+    inr (is, omega (arith, is, fits, calls_within lines among most may packets behind feeder feeding others books r c log book))

@@ -1,5 +1,5 @@
 -- What the threads of a run leave are the histories of a run of the script.
-use Rattle.std.proofs.Common.{◌≡◌, ℕ, Bool, true, ◌<◌, ◌≤◌, List, [], ◌∷◌, ◌++◌, length, map, sum, slice_get, Some, None, ap, sym, ◌∙◌, subst, refl, arith}
+use Rattle.std.proofs.Common.{◌≡◌, ℕ, Bool, true, ◌<◌, ◌≤◌, List, [], ◌∷◌, ◌++◌, length, map, sum, take, slice_get, Some, None, ap, sym, ◌∙◌, subst, refl, arith}
 use Rattle.std.proofs.lemmas.Option.{slice_get_within}
 use Rattle.atomic_table.specs.Seated.{TableId}
 use Rattle.node_lock.specs.declared.view.View.{View}
@@ -24,38 +24,51 @@ use Rattle.workers.specs.Left.{HasWorked, AreWorked}
 use Rattle.workers.specs.Telling.{IsLoggedIn, WorkersHaveCalled, steps_from}
 use Rattle.workers.proofs.Members.{steps_tile}
 use Rattle.workers.proofs.Batches.{total_is}
-use Rattle.workers.proofs.Owning.{Moment, at_end, acts_by}
-use Rattle.workers.proofs.Merged.{AreWoven, there, node_low}
+use Rattle.workers.proofs.Owning.{Moment, at_end, acts_by, made_by}
+use Rattle.workers.proofs.Completing.{whole, whole_full}
+use Rattle.workers.proofs.Naming.{named_call}
+use Rattle.workers.proofs.Merged.{AreWoven, have_whole, there, node_low}
 use Rattle.workers.proofs.SoFar.{has_logged, IsOfScript, log_at, moment_at, done, fed, so_far}
 
 -- what became of a client
-became : (lines : List Line) (most : ℕ) (may : ℕ → Bool) (stream : List (List ℕ)) (feeder : Caller) (fs : List Fed) (others : List Caller) (books : List (List LogEntry)) (told : List (List Outcome))
-    → AreWorked lines most may stream feeder fs others books told → (c : ℕ) (client : Caller) (log : List LogEntry) → slice_get others c ≡ Some client → slice_get books c ≡ Some log
+became : (lines : List Line) (among : ℕ → Bool) (most : ℕ) (may : ℕ → Bool) (stream : List (List ℕ)) (feeder : Caller) (fs : List Fed) (others : List Caller) (books : List (List LogEntry)) (told : List (List Outcome))
+    → AreWorked lines among most may stream feeder fs others books told → (c : ℕ) (client : Caller) (log : List LogEntry) → slice_get others c ≡ Some client → slice_get books c ≡ Some log
     → (out : List Outcome) × (slice_get told c ≡ Some out) × HasWorked lines c may client log out
-became lines most may stream feeder fs others books told w c client log at book =
+became lines among most may stream feeder fs others books told w c client log at book =
     let out = at_place told c (omega (arith, slice_get_within books c log book, w.logs, w.outcomes)) in
     (out.0, out.1, w.each c client log out.0 at book out.1)
 
 -- what the threads leave was called so
 pub have_called : WorkersHaveCalled
-have_called lines most may stream feeder fs others books told w = record {
+have_called lines among most may stream feeder fs others books told w = record {
   fed = w.fed.fed.made;
   logs = w.logs ∙ sym w.clients;
-  each = λ c client log at book. has_logged lines c may client log (became lines most may stream feeder fs others books told w c client log at book).2.called;
-}
+  each = λ c client log at book. has_logged lines c may client log (became lines among most may stream feeder fs others books told w c client log at book).2.called;
+  named = named_in;
+} where
+  named_in : (e : LogEntry) → IsLoggedIn books e → among e.node ≡ true
+  named_in e (c, log, i, book, at) =
+      let client = at_place others c (omega (arith, slice_get_within books c log book, w.logs, w.clients)) in
+      w.named e.node (named_call lines c (replies (take i log)) e ((became lines among most may stream feeder fs others books told w c client.0 log client.1 book).2.called.events i e at))
 
-module _ (lines : List Line) (most : ℕ) (may : ℕ → Bool) (stream : List (List ℕ)) (feeder : Caller) (fs : List Fed) (others : List Caller) (books : List (List LogEntry)) (told : List (List Outcome))
-    (w : AreWorked lines most may stream feeder fs others books told) (full : (node : ℕ) → node ≤ DEMUX_NODES → (p : TableId × View Entry) × (slice_get feeder.passes node ≡ Some p))
-    (have : HaveHistories (others ++ feeder ∷ [])) (low : (e : LogEntry) → IsLoggedIn books e → e.node ≤ DEMUX_NODES) where
+module _ (lines : List Line) (among : ℕ → Bool) (most : ℕ) (may : ℕ → Bool) (stream : List (List ℕ)) (feeder : Caller) (fs : List Fed) (others : List Caller) (books : List (List LogEntry)) (told : List (List Outcome))
+    (w : AreWorked lines among most may stream feeder fs others books told) (full_row : (node : ℕ) → node ≤ DEMUX_NODES → (p : TableId × View Entry) × (slice_get feeder.passes node ≡ Some p))
+    (had : HaveHistories (others ++ feeder ∷ [])) (low : (e : LogEntry) → IsLoggedIn books e → e.node ≤ DEMUX_NODES) where
   abbrev pub m : Moment
-  m = at_end stream feeder fs others books (have_called lines most may stream feeder fs others books told w)
+  m = at_end among stream feeder fs others books (have_called lines among most may stream feeder fs others books told w)
+
+  have : HaveHistories (others ++ whole among (made_by true stream fs) feeder ∷ [])
+  have = have_whole among stream feeder fs others books (have_called lines among most may stream feeder fs others books told w) had
+
+  full : (node : ℕ) → node ≤ DEMUX_NODES → (p : TableId × View Entry) × (slice_get (whole among (made_by true stream fs) feeder).passes node ≡ Some p)
+  full = whole_full among (made_by true stream fs) feeder full_row
 
   of_script : IsOfScript lines most may true fs m
   of_script = record {
     acts = refl;
     tiles = w.fed.fed.tiles;
     count = w.logs;
-    calls = λ c client log at book. (became lines most may stream feeder fs others books told w c client log at book).2.called;
+    calls = λ c client log at book. (became lines among most may stream feeder fs others books told w c client log at book).2.called;
   }
 
   module _ (hs : List (List LogEntry)) (woven : AreWoven m hs) where
@@ -66,7 +79,7 @@ module _ (lines : List Line) (most : ℕ) (may : ℕ → Bool) (stream : List (L
     out_of : (c : ℕ) (log : List LogEntry) → slice_get books c ≡ Some log → (out : List Outcome) × (slice_get told c ≡ Some out) × (next_event c lines (replies log) ≡ None) × (out ≡ outcomes c lines (replies log))
     out_of c log book =
         let client = at_place others c (omega (arith, slice_get_within books c log book, w.logs, w.clients)) in
-        let b = became lines most may stream feeder fs others books told w c client.0 log client.1 book in
+        let b = became lines among most may stream feeder fs others books told w c client.0 log client.1 book in
         (b.0, b.1, b.2.ends, b.2.outcomes)
 
     whole_is : sum (map (λ (b : Batch). b.size) (map batch_of fs)) ≡ length stream

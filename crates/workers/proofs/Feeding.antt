@@ -1,6 +1,6 @@
 -- One batch more.
-use Rattle.std.proofs.Common.{◌≡◌, ⊎_elim, ℕ, zero, suc, Bool, ◌+◌, ◌<◌, ◌≤◌, List, [], ◌∷◌, ◌++◌, length, map, take, drop, Some, refl, ap, sym, ◌∙◌, subst, arith, length-append, append_assoc, append-nil}
-use Rattle.std.specs.Prelude.{IsTrue, All, slice_get}
+use Rattle.std.proofs.Common.{◌≡◌, ⊎_elim, ℕ, zero, suc, Bool, true, false, ◌+◌, ◌<◌, ◌≤◌, List, [], ◌∷◌, ◌++◌, length, map, take, drop, Some, refl, ap, sym, ◌∙◌, subst, arith, length-append, append_assoc, append-nil}
+use Rattle.std.specs.Prelude.{IsTrue, All, slice_get, if◌then◌else◌}
 use Rattle.std.proofs.lemmas.List.{map-append, take-append-le, drop-append-le, length-drop}
 use Rattle.std.proofs.Math.Seq.{drop-append_seam, take-length}
 use Rattle.std.proofs.lemmas.List.Elements.{All-push, All-tail}
@@ -88,14 +88,18 @@ entry_now packets more first now is = ap (λ (ps : List (List ℕ)). entry_of 0 
 
 -- ------ the feeder
 
-module _ (most : ℕ) (may : ℕ → Bool) (packets : List (List ℕ)) (c d : Caller) (feeding : List Fed) (places : List ℕ) (who : d.who ≡ c.who) where
-  made_on : (x : Entry) → MakesEachEntry x places c.passes d.passes → HasFed most may packets [] c feeding → (node : ℕ) (q : TableId × View Entry) → slice_get d.passes node ≡ Some q → HasMade ((fed_entries packets feeding ++ []) ++ x ∷ []) q
+module _ (among : ℕ → Bool) (most : ℕ) (may : ℕ → Bool) (packets : List (List ℕ)) (c d : Caller) (feeding : List Fed) (places : List ℕ) (who : d.who ≡ c.who) where
+  made_on : (x : Entry) → MakesEachEntry among x places c.passes d.passes → HasFed among most may packets [] c feeding → (node : ℕ) (q : TableId × View Entry) → slice_get d.passes node ≡ Some q
+      → HasMade (if among node then (fed_entries packets feeding ++ []) ++ x ∷ [] else []) q
   made_on x a h node q at =
-      let low = slice_get_within d.passes node q at in let long = a.long in let p = at_place c.passes node (omega arith) in
-      let o = a.each node p.0 q p.1 at in made_more (fed_entries packets feeding ++ []) (IsLegalAt node) x _ p.0 q (h.made node p.0 p.1) o
+      let low = slice_get_within d.passes node q at in let long = a.long in let p = at_place c.passes node (omega arith) in by_test p.0 p.1 (among node) refl (h.made node p.0 p.1) where
+        by_test : (p : TableId × View Entry) → slice_get c.passes node ≡ Some p → (b : Bool) → among node ≡ b → HasMade (if b then fed_entries packets feeding ++ [] else []) p
+            → HasMade (if b then (fed_entries packets feeding ++ []) ++ x ∷ [] else []) q
+        by_test p was true is m = made_more (fed_entries packets feeding ++ []) (IsLegalAt node) x _ p q m (a.each node p q was at is)
+        by_test p was false is m = subst (HasMade []) (sym (a.others node p q was at is)) m
 
-  pub fed_more : (batch : Packets) (now : ℕ) → HasFed most may packets [] c feeding → MakesEachEntry (fed batch now) places c.passes d.passes → batch.first ≡ length packets → 1 ≤ length batch.packets → length batch.packets ≤ most → IsTrue (may now)
-      → HasFed most may (packets ++ batch.packets) [] d (feeding ++ record { first = batch.first; count = length batch.packets; now = now } ∷ [])
+  pub fed_more : (batch : Packets) (now : ℕ) → HasFed among most may packets [] c feeding → MakesEachEntry among (fed batch now) places c.passes d.passes → batch.first ≡ length packets → 1 ≤ length batch.packets → length batch.packets ≤ most → IsTrue (may now)
+      → HasFed among most may (packets ++ batch.packets) [] d (feeding ++ record { first = batch.first; count = length batch.packets; now = now } ∷ [])
   fed_more batch now h a is least few given =
       let f : Fed = record { first = batch.first; count = length batch.packets; now = now } in
       let entries : (fed_entries packets feeding ++ []) ++ fed batch now ∷ [] ≡ fed_entries (packets ++ batch.packets) (feeding ++ f ∷ []) ++ [] =
@@ -106,15 +110,15 @@ module _ (most : ℕ) (may : ℕ → Bool) (packets : List (List ℕ)) (c d : Ca
         who = who ∙ h.who;
         tiles = subst (λ (n : ℕ). Tiles most 0 n (feeding ++ f ∷ [])) (sym (length-append packets batch.packets)) (tiles_more most 0 (length packets) feeding f h.tiles is least few);
         moments = All-push (λ (x : Fed). IsTrue (may x.now)) feeding f h.moments given;
-        made = λ node q at. subst (λ (xs : List Entry). HasMade xs q) entries (made_on (fed batch now) a h node q at);
+        made = λ node q at. subst (λ (xs : List Entry). HasMade (if among node then xs else []) q) entries (made_on (fed batch now) a h node q at);
       }
 
-  pub fed_end : HasFed most may packets [] c feeding → MakesEachEntry ended places c.passes d.passes → HasFed most may packets (ended ∷ []) d feeding
+  pub fed_end : HasFed among most may packets [] c feeding → MakesEachEntry among ended places c.passes d.passes → HasFed among most may packets (ended ∷ []) d feeding
   fed_end h a = record {
     who = who ∙ h.who;
     tiles = h.tiles;
     moments = h.moments;
-    made = λ node q at. subst (λ (xs : List Entry). HasMade (xs ++ ended ∷ []) q) (append-nil (fed_entries packets feeding)) (made_on ended a h node q at);
+    made = λ node q at. subst (λ (xs : List Entry). HasMade (if among node then xs ++ ended ∷ [] else []) q) (append-nil (fed_entries packets feeding)) (made_on ended a h node q at);
   }
 
 -- ------ full batches

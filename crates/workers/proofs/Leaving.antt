@@ -29,6 +29,7 @@ use Rattle.workers.specs.declared.feeder_worker.FeederWorker.{FeederWorker}
 use Rattle.workers.specs.declared.left.Left.{Left}
 use Rattle.workers.specs.Inside.Working.{log_of, IsWorking, HasCome}
 use Rattle.workers.specs.Inside.Begun.{AreFreshWorkers, HaveCome, AreOutcomesOf}
+use Rattle.script_nodes.specs.Named.{is_named}
 use Rattle.workers.specs.Feeding.{HasFed, HasFedAll}
 use Rattle.workers.specs.Inside.FeederWork.{HasPassedAll}
 use Rattle.workers.specs.Inside.Leaving.{GoesFirst, StopsBy, IsLeftByWorkers}
@@ -72,14 +73,14 @@ module _ (may : ℕ → Bool) (locks : List TableId) where
 -- ------ the feeder
 
 -- all packets of the stream that was taken have passed
-pub worked_feeder : (most : ℕ) (may : ℕ → Bool) (x y : SourceEnd) (first : Pulling) (f : FeederWorker) (k : HasPassedAll most may x y first f) (ahead : List ℕ) → Pulls ahead [] [] first
-    → HasFedAll most may (cut first.cutting.size (ahead ++ k.draws.carries.more)).packets f.feeder f.feeding.items
-worked_feeder most may x y first f k ahead pulls =
+pub worked_feeder : (among : ℕ → Bool) (most : ℕ) (may : ℕ → Bool) (x y : SourceEnd) (first : Pulling) (f : FeederWorker) (k : HasPassedAll among most may x y first f) (ahead : List ℕ) → Pulls ahead [] [] first
+    → HasFedAll among most may (cut first.cutting.size (ahead ++ k.draws.carries.more)).packets f.feeder f.feeding.items
+worked_feeder among most may x y first f k ahead pulls =
     let more = k.draws.carries.more in
     let now : Pulls ahead more k.packets f.puller = k.draws.carries.pulls ahead [] [] pulls in
     let all : (cut first.cutting.size (ahead ++ more)).packets ≡ k.packets = ap (λ size. (cut size (ahead ++ more)).packets) (sym k.draws.carries.size) ∙ (Pulls-done ahead more k.packets f.puller now k.done).packets in
     record {
-      fed = subst (λ (ps : List (List ℕ)). HasFed most may ps (ended ∷ []) f.feeder f.feeding.items) (sym all) k.fed;
+      fed = subst (λ (ps : List (List ℕ)). HasFed among most may ps (ended ∷ []) f.feeder f.feeding.items) (sym all) k.fed;
       full = k.full ahead [] [] pulls;
     }
 
@@ -137,10 +138,11 @@ module _ (lines : List Line) (locks : List TableId) (n : ℕ) (feeder : Caller) 
         subst (λ (x : Caller). HasWorked lines c may x log told) v.2 (subst (λ (x : List LogEntry). HasWorked lines c may v.0.client x told) one
         (worked_one may locks lines c u.0 v.0 told (begun_works lines locks n feeder clients fresh all old b c u.0 u.1 may) u.2 (none c v.0 v.1) (left.each c v.0 told v.1 at_told)))
 
-    pub all_worked : (most : ℕ) (stream : List (List ℕ)) → n ≡ clients_in lines → HasFedAll most may stream f.feeder f.feeding.items
-        → AreWorked lines most may stream w.feeder w.feeding.items w.clients.items (map (λ (log : Vec ToldEntry Global). map told_entry log.items) w.logs.items) (map (λ (those : Vec Outcome Global). those.items) w.outcomes.items)
+    pub all_worked : (most : ℕ) (stream : List (List ℕ)) → n ≡ clients_in lines → HasFedAll (is_named lines) most may stream f.feeder f.feeding.items
+        → AreWorked lines (is_named lines) most may stream w.feeder w.feeding.items w.clients.items (map (λ (log : Vec ToldEntry Global). map told_entry log.items) w.logs.items) (map (λ (those : Vec Outcome Global). those.items) w.outcomes.items)
     all_worked most stream is fed = record {
-      fed = subst (λ (es : Vec Fed Global). HasFedAll most may stream w.feeder es.items) (sym left.feeding) (subst (λ (x : Caller). HasFedAll most may stream x f.feeding.items) (sym left.feeder) fed);
+      fed = subst (λ (es : Vec Fed Global). HasFedAll (is_named lines) most may stream w.feeder es.items) (sym left.feeding) (subst (λ (x : Caller). HasFedAll (is_named lines) most may stream x f.feeding.items) (sym left.feeder) fed);
+      named = λ node is. is;
       clients = ap length left.clients ∙ (length-map new (λ (v : ClientWorker). v.client) ∙ (many ∙ is));
       logs = ap length (books_are w.logs.items new left.logs) ∙ (length-map new log_of ∙ (many ∙ is));
       outcomes = length-map w.outcomes.items (λ (those : Vec Outcome Global). those.items) ∙ (left.outcomes ∙ (many ∙ is));

@@ -3,6 +3,8 @@ pub mod Members
 pub mod Calls
 pub mod Feeders
 pub mod Columns
+pub mod Completing
+pub mod Naming
 pub mod Owning
 pub mod Batches
 pub mod Merged

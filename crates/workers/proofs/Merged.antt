@@ -20,13 +20,15 @@ use Rattle.script_run.specs.IsRun.{StandsIn, steps_of}
 use Rattle.trace_merge.specs.Merging.{AreOnNodes, AreByPlace}
 use Rattle.adapter.specs.Callers.{Caller, AreAllCallers}
 use Rattle.adapter.specs.Ends.{IsHistory, HaveHistories}
+use Rattle.adapter.specs.Nodes.{IsLegalAt}
 use Rattle.adapter.proofs.Lists.{at_end as with_last, at_last, at_place, one_value}
-use Rattle.workers.specs.Telling.{HaveCalled, IsLoggedIn, TellWhatWasCalled, steps_from}
+use Rattle.workers.specs.Telling.{HaveCalled, IsLoggedIn, IsTheHistory, TellWhatWasCalled, steps_from}
+use Rattle.workers.proofs.Completing.{feeders_calls, nothing, same_column, whole, whole_full, whole_have}
 use Rattle.workers.proofs.Weaves.{Rises, rises_less, weaves}
 use Rattle.workers.proofs.Lists.{mapped}
 use Rattle.workers.proofs.Members.{all_at, all_from, at_has, each_woven, has_woven, steps_woven}
-use Rattle.workers.proofs.Calls.{has_all, RisesOn, AreApart, of_some_log, is_merged, merged_rise}
-use Rattle.workers.proofs.Owning.{Moment, at_end, passes_on, called, log_rises, logged_there, IsLoggedAt, IsFeeders, feeders_zero, owner, acts_by, told_here}
+use Rattle.workers.proofs.Calls.{has_all, all_has, RisesOn, AreApart, of_some_log, is_merged, merged_rise}
+use Rattle.workers.proofs.Owning.{Moment, at_end, idle_there, made_by, passes_on, called, log_rises, logged_there, IsLoggedAt, IsFeeders, feeders_zero, owner, acts_by, told_here}
 
 -- the logs as contracts see them
 abbrev pub books_of : List (List ToldEntry) → List (List LogEntry)
@@ -180,12 +182,28 @@ pub full : (locks : List TableId) (others : List Caller) (feeder : Caller) → A
     → (node : ℕ) → node ≤ DEMUX_NODES → (p : TableId × View Entry) × (slice_get feeder.passes node ≡ Some p)
 full locks others feeder all long node low = at_place feeder.passes node (omega (arith, (all.fits (length others) feeder (at_last others feeder)).0, long, low))
 
-module _ (stream : List (List ℕ)) (feeder : Caller) (fs : List Fed) (others : List Caller) (books : List (List LogEntry)) (c : HaveCalled stream feeder fs others books)
-    (all : (node : ℕ) → node ≤ DEMUX_NODES → (p : TableId × View Entry) × (slice_get feeder.passes node ≡ Some p)) (have : HaveHistories (others ++ feeder ∷ [])) (low : (e : LogEntry) → IsLoggedIn books e → e.node ≤ DEMUX_NODES) where
-  abbrev when : Moment
-  when = at_end stream feeder fs others books c
+-- where the feeder has called some nodes, and the clients none but these, all of it stands in histories as if it had called all
+pub have_whole : (among : ℕ → Bool) (stream : List (List ℕ)) (feeder : Caller) (fs : List Fed) (others : List Caller) (books : List (List LogEntry)) → HaveCalled among stream feeder fs others books
+    → HaveHistories (others ++ feeder ∷ []) → HaveHistories (others ++ whole among (made_by true stream fs) feeder ∷ [])
+have_whole among stream feeder fs others books c have =
+    whole_have among (made_by true stream fs) feeder others (feeders_calls true stream fs) c.fed (idle_there among others books c.logs c.each c.named) have
 
-  pub tell : (hs : List (List LogEntry)) → AreWoven when hs → TellWhatWasCalled stream feeder fs others books hs
+module _ (among : ℕ → Bool) (stream : List (List ℕ)) (feeder : Caller) (fs : List Fed) (others : List Caller) (books : List (List LogEntry)) (c : HaveCalled among stream feeder fs others books)
+    (full_row : (node : ℕ) → node ≤ DEMUX_NODES → (p : TableId × View Entry) × (slice_get feeder.passes node ≡ Some p)) (had : HaveHistories (others ++ feeder ∷ [])) (low : (e : LogEntry) → IsLoggedIn books e → e.node ≤ DEMUX_NODES) where
+  abbrev when : Moment
+  when = at_end among stream feeder fs others books c
+
+  have : HaveHistories (others ++ whole among (made_by true stream fs) feeder ∷ [])
+  have = have_whole among stream feeder fs others books c had
+
+  all : (node : ℕ) → node ≤ DEMUX_NODES → (p : TableId × View Entry) × (slice_get (whole among (made_by true stream fs) feeder).passes node ≡ Some p)
+  all = whole_full among (made_by true stream fs) feeder full_row
+
+  -- an entry of a node that nobody has called is the feeder's
+  idle_zero : (node : ℕ) → among node ≡ false → (e : LogEntry) → IsToldBy when node (acts_on when node) e → e.who ≡ 0
+  idle_zero node off e t = ⊎_elim (λ l. let both : true ≡ false = sym (c.named e l.1) ∙ (ap among l.0 ∙ off) in absurd (cc both)) (λ f. ap (λ (z : LogEntry). z.who) f.0) t
+
+  pub tell : (hs : List (List LogEntry)) → AreWoven when hs → TellWhatWasCalled among stream feeder fs others books hs
   tell hs w = record {
     nodes = w.many;
     logged = stands when have low hs w;
@@ -194,15 +212,23 @@ module _ (stream : List (List ℕ)) (feeder : Caller) (fs : List Fed) (others : 
         let is : e.place ≡ place = omega (arith, in_place-at 0 h t.place place e here) in
         subst (λ k. IsLoggedIn books e ⊎ (e ≡ feeder_entry node k e.step e.act)) is (⊎_elim (λ l. inl l.1) (λ f. inr f.0) (t.told place e here));
     fed = λ node h at. let t = there when have low hs w node h at in t.2.steps ∙ ap (λ o. steps_from 0 (acts_by when o)) (all node (node_low when have low hs w node h at)).1;
-    locks = λ node h at.
+    locks = λ node h at called.
         let t = there when have low hs w node h at in
+        subst (λ ps. IsTheHistory node ps (map (filled_entry stream) h))
+        (same_column among (made_by true stream fs) feeder others (feeders_calls true stream fs) c.fed (idle_there among others books c.logs c.each c.named) had node called)
         (subst (IsHistory node (passes_on when node)) (sym t.2.is) t.1, λ other is. sym (tells when node h (w.each node h at) other is).is);
+    idle = λ node h at off.
+        let t = there when have low hs w node h at in (
+          nothing among (made_by true stream fs) feeder others (feeders_calls true stream fs) c.fed (idle_there among others books c.logs c.each c.named) had node off (node_low when have low hs w node h at),
+          subst (IsLegalAt node) (sym t.2.is) t.1.legal,
+          all_has (λ (e : LogEntry). e.who ≡ 0) h (λ e has. let i = at_has h e has in idle_zero node off e (t.2.told i.0 e i.1)),
+        );
   }
 
-module _ (stream : List (List ℕ)) (feeder : Caller) (fs : List Fed) (others : List Caller) (logs : List (List ToldEntry)) (c : HaveCalled stream feeder fs others (books_of logs))
-    (all : (node : ℕ) → node ≤ DEMUX_NODES → (p : TableId × View Entry) × (slice_get feeder.passes node ≡ Some p)) (nodes : List (List ToldEntry)) (merged : AreByPlace logs nodes) (have : HaveHistories (others ++ feeder ∷ [])) where
+module _ (among : ℕ → Bool) (stream : List (List ℕ)) (feeder : Caller) (fs : List Fed) (others : List Caller) (logs : List (List ToldEntry)) (c : HaveCalled among stream feeder fs others (books_of logs))
+    (full_row : (node : ℕ) → node ≤ DEMUX_NODES → (p : TableId × View Entry) × (slice_get feeder.passes node ≡ Some p)) (nodes : List (List ToldEntry)) (merged : AreByPlace logs nodes) (had : HaveHistories (others ++ feeder ∷ [])) where
   abbrev m : Moment
-  m = at_end stream feeder fs others (books_of logs) c
+  m = at_end among stream feeder fs others (books_of logs) c
 
   -- the entry of a log, as the code keeps it
   book_at : (c : ℕ) (log : List LogEntry) (i : ℕ) (e : LogEntry) → slice_get (books_of logs) c ≡ Some log → slice_get log i ≡ Some e → (l : List ToldEntry) × (slice_get logs c ≡ Some l) × ((x : ToldEntry) × (slice_get l i ≡ Some x) × (told_entry x ≡ e))
@@ -250,14 +276,14 @@ module _ (stream : List (List ℕ)) (feeder : Caller) (fs : List Fed) (others : 
         let within = slice_get_within (histories_of fs nodes) node l at in
         let low : node ≤ DEMUX_NODES = omega (arith, within, long, merged.many) in
         let calls = at_place nodes node (omega (arith, within, long)) in
-        let h = have node low in
+        let h = have_whole among stream feeder fs others (books_of logs) c had node low in
         let zero_on : 0 + node ≡ node = omega arith in
         let here : slice_get (histories_of fs nodes) node ≡ Some (woven node (feeder_acts fs) (map told_entry calls.0)) =
         woven_nodes-at 0 (feeder_acts fs) (map (λ calls. map told_entry calls) nodes) node (map told_entry calls.0) (at_map (λ calls. map told_entry calls) nodes node calls.0 calls.1)
         ∙ ap (λ n. Some (woven n (feeder_acts fs) (map told_entry calls.0))) zero_on in (
           map told_entry calls.0,
           are_calls node calls.0 calls.1 h.0 h.1,
-          ap (λ o. woven node (acts_by m o) (map told_entry calls.0)) (all node low).1 ∙ one_value (histories_of fs nodes) node (woven node (feeder_acts fs) (map told_entry calls.0)) l here at,
+          ap (λ o. woven node (acts_by m o) (map told_entry calls.0)) (whole_full among (made_by true stream fs) feeder full_row node low).1 ∙ one_value (histories_of fs nodes) node (woven node (feeder_acts fs) (map told_entry calls.0)) l here at,
         )
 
 -- ------ the logs as the code keeps them

@@ -1,5 +1,5 @@
 -- Each entry of a node's history is in a client's log, or is the feeder's; so the logs and the batches tell the history.
-use Rattle.std.proofs.Common.{◌≡◌, ◌≢◌, ◌⊎◌, inl, inr, ⊎_elim, ℕ, suc, true, eq-eqb, ne_eqb, ◌+◌, ◌<◌, List, [], ◌∷◌, ◌++◌, length, filter, slice_get, Option, Some, None, refl, ap, sym, ◌∙◌, subst, arith}
+use Rattle.std.proofs.Common.{◌≡◌, ◌≢◌, ◌⊎◌, inl, inr, ⊎_elim, ℕ, suc, Bool, true, false, eq-eqb, ne_eqb, ◌+◌, ◌<◌, List, [], ◌∷◌, ◌++◌, length, filter, slice_get, Option, Some, None, refl, ap, sym, ◌∙◌, subst, arith}
 use Rattle.std.specs.Prelude.{if◌then◌else◌}
 use Rattle.std.proofs.lemmas.Option.{slice_get_within}
 use mathlib.Core.Logic.{dite}
@@ -21,14 +21,15 @@ use Rattle.adapter.specs.Callers.{Caller}
 use Rattle.adapter.specs.Ends.{IsHistory, rows_of}
 use Rattle.adapter.proofs.Lists.{at_place, at_either, at_last, at_before, one_value}
 use Rattle.workers.specs.Logged.{Tells, calls_on}
-use Rattle.workers.specs.Feeding.{HasMade}
+use Rattle.workers.specs.Feeding.{HasMade, fed_entries}
 use Rattle.script_run.specs.SoFar.{PassesNone}
 use Rattle.workers.specs.Telling.{HasLogged, HaveCalled, IsLoggedIn}
 use Rattle.workers.proofs.Weaves.{AreTold, fed_of, by_feeder}
 use Rattle.workers.proofs.Calls.{has_all}
 use Rattle.adapter.proofs.Everybody.{in_column, of_column}
 use Rattle.workers.proofs.Columns.{some_calls}
-use Rattle.workers.proofs.Feeders.{got, got_back, ups_from, picked, stand_picks, has_own, fed_is, fed_zero, acts_of}
+use Rattle.workers.proofs.Feeders.{got, got_back, ups_from, picked, stand_picks, has_own, fed_is, fed_zero, acts_of, behind_of}
+use Rattle.workers.proofs.Completing.{whole, whole_made}
 
 -- an entry of a client, filled with the stream, is the one that it tells
 fills_entry : (stream : List (List ℕ)) (e : LogEntry) (x : Entry) → Tells e x → PassesNone e.act → filled_entry stream e ≡ x
@@ -48,6 +49,21 @@ some_entry node (x ∷ log) who place has = dite (ℕ_discrete x.node node)
       behind : (i : ℕ) × (e : LogEntry) × (slice_get log i ≡ Some e) × (e.node ≡ node) × (e.who ≡ who) × (e.place ≡ place)
           → (i : ℕ) × (e : LogEntry) × (slice_get (x ∷ log) i ≡ Some e) × (e.node ≡ node) × (e.who ≡ who) × (e.place ≡ place)
       behind r = (suc r.0, r.1, r.2, r.3, r.4, r.5)
+
+-- a log without entries on a node has no call there
+calls_none : (node : ℕ) (log : List LogEntry) → ((i : ℕ) (e : LogEntry) → slice_get log i ≡ Some e → e.node ≢ node) → calls_on node log ≡ []
+calls_none node [] none = refl
+calls_none node (e ∷ log) none = ap (λ b. if b then (e.who, e.place) ∷ calls_on node log else calls_on node log) (ne_eqb e.node node (none 0 e refl)) ∙ calls_none node log (λ i f at. none (suc i) f at)
+
+-- where no entry of a log is on a node, no client has called it
+module _ (among : ℕ → Bool) (others : List Caller) (books : List (List LogEntry)) (logs : length books ≡ length others)
+    (each : (c : ℕ) (client : Caller) (log : List LogEntry) → slice_get others c ≡ Some client → slice_get books c ≡ Some log → HasLogged c client log)
+    (named : (e : LogEntry) → IsLoggedIn books e → among e.node ≡ true) where
+  pub idle_there : (node : ℕ) → among node ≡ false → (k : ℕ) (c : Caller) (p : TableId × View Entry) → slice_get others k ≡ Some c → slice_get c.passes node ≡ Some p → p.1.own ≡ []
+  idle_there node off k c p at is =
+      let low = slice_get_within others k c at in let n = logs in let log = at_place books k (omega arith) in
+      (each k c log.0 at log.1).logged.just node p is
+      ∙ calls_none node log.0 (λ i e here on. let both : true ≡ false = sym (named e (k, log.0, i, log.1, here)) ∙ (ap among on ∙ off) in absurd (cc both))
 
 -- the entry of a log on a node that has this caller and this place
 pub record IsLoggedAt (books : List (List LogEntry)) (node who place : ℕ) : Type 0 where
@@ -74,15 +90,19 @@ pub record Moment : Type 0 where
   pub logs : length books ≡ length others
   pub each : (c : ℕ) (client : Caller) (log : List LogEntry) → slice_get others c ≡ Some client → slice_get books c ≡ Some log → HasLogged c client log
 
--- the moment at which all was called
-abbrev pub at_end : (stream : List (List ℕ)) (feeder : Caller) (feeding : List Fed) (others : List Caller) (books : List (List LogEntry)) → HaveCalled stream feeder feeding others books → Moment
-at_end stream feeder feeding others books w = record {
+-- what the feeder makes of its batches, and then of the end or not yet
+abbrev pub made_by : (over : Bool) (stream : List (List ℕ)) → List Fed → List Entry
+made_by over stream feeding = fed_entries stream feeding ++ behind_of over
+
+-- The moment at which all was called. The feeder is seen as if it had called every node.
+abbrev pub at_end : (among : ℕ → Bool) (stream : List (List ℕ)) (feeder : Caller) (feeding : List Fed) (others : List Caller) (books : List (List LogEntry)) → HaveCalled among stream feeder feeding others books → Moment
+at_end among stream feeder feeding others books w = record {
   stream = stream;
   acts = acts_of true feeding;
-  feeder = feeder;
+  feeder = whole among (made_by true stream feeding) feeder;
   others = others;
   books = books;
-  fed = λ node p at. subst (λ es. HasMade es p) (fed_is true stream feeding) (w.fed node p at);
+  fed = λ node p at. subst (λ es. HasMade es p) (fed_is true stream feeding) (whole_made among (made_by true stream feeding) feeder w.fed node p at);
   logs = w.logs;
   each = w.each;
 }

@@ -29,6 +29,7 @@ use Rattle.workers.specs.declared.client_worker.ClientWorker.{ClientWorker}
 use Rattle.workers.specs.declared.feeder_worker.FeederWorker.{FeederWorker}
 use Rattle.workers.specs.Inside.Working.{log_of}
 use Rattle.workers.specs.Inside.Begun.{AreFreshWorkers, HaveCome}
+use Rattle.script_nodes.specs.Named.{is_named}
 use Rattle.workers.specs.Budget.{IsRunning, ManyCallsAreTooLong}
 use Rattle.workers.specs.Logged.{HasCalled}
 use Rattle.workers.specs.Inside.FeederWork.{HasPassedAll}
@@ -40,7 +41,7 @@ use Rattle.workers.proofs.Leaving.{come_at, many}
 
 module _ (lines : List Line) (locks : List TableId) (n : ℕ) (feeder : Caller) (clients : List Caller) (fresh : AreFreshCallers locks n feeder clients) (all : AreAllCallers locks (clients ++ feeder ∷ []))
     (may : ℕ → Bool) (old new : List ClientWorker) (b : AreFreshWorkers lines clients old) (h : HaveCome may locks old new)
-    (most : ℕ) (x y : SourceEnd) (first : Pulling) (f : FeederWorker) (k : HasPassedAll most may x y first f)
+    (most : ℕ) (x y : SourceEnd) (first : Pulling) (f : FeederWorker) (k : HasPassedAll (is_named lines) most may x y first f)
     (found : (i : ℕ) (w : ClientWorker) → slice_get new i ≡ Some w → w.stop ≢ Some NoMemory) (is : n ≡ clients_in lines) (histories : HaveHistories (map (λ (w : ClientWorker). w.client) new ++ f.feeder ∷ [])) where
   now_pulls : (ahead : List ℕ) → Pulls ahead [] [] first → Pulls ahead k.draws.carries.more k.packets f.puller
   now_pulls ahead pulls = k.draws.carries.pulls ahead [] [] pulls
@@ -52,11 +53,12 @@ module _ (lines : List Line) (locks : List TableId) (n : ℕ) (feeder : Caller) 
   told_nodes [] on = All-nil (λ (e : LogEntry). e.node ≤ DEMUX_NODES)
   told_nodes (e ∷ es) on = All-cons (λ (e : LogEntry). e.node ≤ DEMUX_NODES) (told_entry e) (map told_entry es) (on 0 e (omega arith)) (told_nodes es (All-tail (λ (e : ToldEntry). e.node ≤ DEMUX_NODES) e es on))
 
-  running : (ahead : List ℕ) → Pulls ahead [] [] first → IsRunning lines most may k.packets (ended ∷ []) f.feeder f.feeding.items (map (λ (w : ClientWorker). w.client) new) (map log_of new)
+  running : (ahead : List ℕ) → Pulls ahead [] [] first → IsRunning lines (is_named lines) most may k.packets (ended ∷ []) f.feeder f.feeding.items (map (λ (w : ClientWorker). w.client) new) (map log_of new)
   running ahead pulls = record {
     are_packets = subst (All IsPacket) (Pulls-done ahead k.draws.carries.more k.packets f.puller (now_pulls ahead pulls) k.done).packets (are_packets f.puller.cutting.size (ahead ++ k.draws.carries.more));
     end = inr refl;
     fed = k.fed;
+    named = λ node is. is;
     clients = length-map new (λ (w : ClientWorker). w.client) ∙ count;
     logs = length-map new log_of ∙ count;
     called = λ c client log at_client at_log.
@@ -80,6 +82,6 @@ module _ (lines : List Line) (locks : List TableId) (n : ℕ) (feeder : Caller) 
         k.draws.carries.more,
         k.draws.carries.consumes,
         λ ahead pulls. subst (λ (t : ℕ). IsTooLong lines first.start t ahead k.draws.carries.more) (size ∙ sym turns_is)
-            (law lines most may k.packets (ended ∷ []) f.feeder f.feeding.items (map (λ (z : ClientWorker). z.client) new) (map log_of new) (running ahead pulls) first.start ahead k.draws.carries.more
+            (law lines (is_named lines) most may k.packets (ended ∷ []) f.feeder f.feeding.items (map (λ (z : ClientWorker). z.client) new) (map log_of new) (running ahead pulls) first.start ahead k.draws.carries.more
             (Pulls-size ahead k.draws.carries.more k.packets f.puller (now_pulls ahead pulls)) i (log_of w) (slice_get-map log_of new i ∙ ap (option_map log_of) at) size),
       )

@@ -1,5 +1,5 @@
 -- How many calls a client makes in a run by threads (this project's own).
-use Rattle.std.specs.Prelude.{◌≡◌, ◌⊎◌, ◌<◌, ◌≤◌, ◌+◌, ◌*◌, ◌^◌, ℕ, Bool, List, [], ◌∷◌, ◌++◌, length, slice_get, Some, All}
+use Rattle.std.specs.Prelude.{◌≡◌, ◌⊎◌, ◌<◌, ◌≤◌, ◌+◌, ◌*◌, ◌^◌, ℕ, Bool, true, List, [], ◌∷◌, ◌++◌, length, slice_get, Some, All}
 use Rattle.ts_packet.specs.Fields.{IsPacket}
 use Rattle.dmx_calls.specs.declared.histories.Fed.{Fed}
 use Rattle.dmx_calls.specs.declared.limits.TheConstants.{DEMUX_NODES}
@@ -12,16 +12,19 @@ use Rattle.script_run.specs.Budget.{most_calls, all_commands, IsTooLong}
 use Rattle.adapter.specs.Callers.{Caller}
 use Rattle.adapter.specs.Ends.{HaveHistories}
 use Rattle.adapter.specs.Nodes.{ended}
+use Rattle.script_nodes.specs.Named.{is_named}
 use Rattle.workers.specs.Logged.{HasCalled}
 use Rattle.workers.specs.Feeding.{HasFed}
 
--- A moment of a run by threads, or its end: the feeder has passed these packets, and the end of the stream or not yet;
--- each client has made the calls of its log; and each node has a legal history of just the calls of all of them.
-pub record IsRunning (lines : List Line) (most : ℕ) (may : ℕ → Bool) (packets : List (List ℕ)) (behind : List Entry)
+-- A moment of a run by threads, or its end: the feeder has passed these packets through the nodes that are among these, with all
+-- that the script can name, and the end of the stream or not yet; each client has made the calls of its log; and each node has a
+-- legal history of just the calls of all of them.
+pub record IsRunning (lines : List Line) (among : ℕ → Bool) (most : ℕ) (may : ℕ → Bool) (packets : List (List ℕ)) (behind : List Entry)
     (feeder : Caller) (feeding : List Fed) (others : List Caller) (books : List (List LogEntry)) : Type 0 where
   pub are_packets : All IsPacket packets
   pub end : (behind ≡ []) ⊎ (behind ≡ ended ∷ [])
-  pub fed : HasFed most may packets behind feeder feeding
+  pub fed : HasFed among most may packets behind feeder feeding
+  pub named : (node : ℕ) → is_named lines node ≡ true → among node ≡ true
   pub clients : length others ≡ clients_in lines
   pub logs : length books ≡ clients_in lines
   pub called : (c : ℕ) (client : Caller) (log : List LogEntry) → slice_get others c ≡ Some client
@@ -33,18 +36,18 @@ pub record IsRunning (lines : List Line) (most : ℕ) (may : ℕ → Bool) (pack
 -- commands of all clients and the bytes of the packets allow.
 abbrev pub CallsAreWithinBudget : Type 0
 CallsAreWithinBudget =
-    (lines : List Line) (most : ℕ) (may : ℕ → Bool) (packets : List (List ℕ)) (behind : List Entry) (feeder : Caller)
-    (feeding : List Fed) (others : List Caller) (books : List (List LogEntry))
-    → IsRunning lines most may packets behind feeder feeding others books
+    (lines : List Line) (among : ℕ → Bool) (most : ℕ) (may : ℕ → Bool) (packets : List (List ℕ)) (behind : List Entry)
+    (feeder : Caller) (feeding : List Fed) (others : List Caller) (books : List (List LogEntry))
+    → IsRunning lines among most may packets behind feeder feeding others books
     → (c : ℕ) (log : List LogEntry) → slice_get books c ≡ Some log
     → length log ≤ most_calls (all_commands lines) (188 * length packets)
 
 -- Where commands and bytes are fewer than 2^32 together, no client comes to 549,755,813,888 calls.
 abbrev pub FewBytesAreFewCalls : Type 0
 FewBytesAreFewCalls =
-    (lines : List Line) (most : ℕ) (may : ℕ → Bool) (packets : List (List ℕ)) (behind : List Entry) (feeder : Caller)
-    (feeding : List Fed) (others : List Caller) (books : List (List LogEntry))
-    → IsRunning lines most may packets behind feeder feeding others books
+    (lines : List Line) (among : ℕ → Bool) (most : ℕ) (may : ℕ → Bool) (packets : List (List ℕ)) (behind : List Entry)
+    (feeder : Caller) (feeding : List Fed) (others : List Caller) (books : List (List LogEntry))
+    → IsRunning lines among most may packets behind feeder feeding others books
     → all_commands lines + 188 * length packets < 2 ^ 32
     → (c : ℕ) (log : List LogEntry) → slice_get books c ≡ Some log → length log < MOST_CALLS
 
@@ -52,9 +55,9 @@ FewBytesAreFewCalls =
 -- the bytes of which the packets were cut.
 abbrev pub ManyCallsAreTooLong : Type 0
 ManyCallsAreTooLong =
-    (lines : List Line) (most : ℕ) (may : ℕ → Bool) (packets : List (List ℕ)) (behind : List Entry) (feeder : Caller)
-    (feeding : List Fed) (others : List Caller) (books : List (List LogEntry))
-    → IsRunning lines most may packets behind feeder feeding others books
+    (lines : List Line) (among : ℕ → Bool) (most : ℕ) (may : ℕ → Bool) (packets : List (List ℕ)) (behind : List Entry)
+    (feeder : Caller) (feeding : List Fed) (others : List Caller) (books : List (List LogEntry))
+    → IsRunning lines among most may packets behind feeder feeding others books
     → (start : ℕ) (ahead taken : List ℕ) → 188 * length packets ≤ length ahead + length taken
     → (c : ℕ) (log : List LogEntry) → slice_get books c ≡ Some log → length log ≡ MOST_CALLS
     → IsTooLong lines start (length log) ahead taken

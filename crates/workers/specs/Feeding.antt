@@ -1,5 +1,5 @@
 -- What the feeder has done, and how it is tied to what its passes know.
-use Rattle.std.specs.Prelude.{◌≡◌, ◌<◌, ◌≤◌, ◌+◌, ℕ, Bool, IsTrue, List, [], ◌∷◌, ◌++◌, length, map, take, drop, slice_get, Some, All}
+use Rattle.std.specs.Prelude.{◌≡◌, ◌<◌, ◌≤◌, ◌+◌, ℕ, Bool, true, false, IsTrue, if◌then◌else◌, List, [], ◌∷◌, ◌++◌, length, map, take, drop, slice_get, Some, All}
 use mathlib.Core.Option.{some}
 use lib.ListN.{get_elem?}
 use Rattle.atomic_table.specs.Seated.{TableId}
@@ -52,15 +52,15 @@ pub record HasMade (entries : List Entry) (p : TableId × View Entry) : Type 0 w
   pub rise : (i j place later : ℕ) → i < j → slice_get places i ≡ Some place → slice_get places j ≡ Some later
       → place < later
 
--- The feeder has passed these packets through all nodes, in these batches, each at a moment that the clock may give,
--- and has made these entries behind them.
-pub record HasFed (most : ℕ) (may : ℕ → Bool) (packets : List (List ℕ)) (behind : List Entry) (c : Caller)
-    (feeding : List Fed) : Type 0 where
+-- The feeder has passed these packets through the nodes that are among these, in these batches, each at a moment that the
+-- clock may give, and has made these entries behind them; on every other node it has made no call.
+pub record HasFed (among : ℕ → Bool) (most : ℕ) (may : ℕ → Bool) (packets : List (List ℕ)) (behind : List Entry)
+    (c : Caller) (feeding : List Fed) : Type 0 where
   pub who : c.who ≡ 0
   pub tiles : Tiles most 0 (length packets) feeding
   pub moments : All (λ fed. IsTrue (may fed.now)) feeding
   pub made : (node : ℕ) (p : TableId × View Entry) → slice_get c.passes node ≡ Some p
-      → HasMade (fed_entries packets feeding ++ behind) p
+      → HasMade (if among node then fed_entries packets feeding ++ behind else []) p
 
 -- the last call of this pass is that the stream has ended
 pub record HasEndedBy (p : TableId × View Entry) : Type 0 where
@@ -69,13 +69,15 @@ pub record HasEndedBy (p : TableId × View Entry) : Type 0 where
   pub own : p.1.own ≡ before ++ (p.1.number, place) ∷ []
   pub at : get_elem? p.1.seen place ≡ some ended
 
--- Whatever the feeder has passed, its last call on each of the 33 nodes is End.
-abbrev pub HasEnded : Caller → Type 0
-HasEnded c = (node : ℕ) → node ≤ DEMUX_NODES
-    → (p : TableId × View Entry) × (slice_get c.passes node ≡ Some p) × HasEndedBy p
+-- Whatever the feeder has passed, its last call on each of the 33 nodes that is among these is End, and it has made no call on
+-- any other.
+pub record HasEnded (among : ℕ → Bool) (c : Caller) : Type 0 where
+  pub ended : (node : ℕ) → node ≤ DEMUX_NODES → among node ≡ true
+      → (p : TableId × View Entry) × (slice_get c.passes node ≡ Some p) × HasEndedBy p
+  pub idle : (node : ℕ) (p : TableId × View Entry) → slice_get c.passes node ≡ Some p → among node ≡ false → p.1.own ≡ []
 
--- The whole stream has passed, in full batches but for the last, and then its end.
-pub record HasFedAll (most : ℕ) (may : ℕ → Bool) (stream : List (List ℕ)) (c : Caller)
+-- The whole stream has passed the nodes that are among these, in full batches but for the last, and then its end.
+pub record HasFedAll (among : ℕ → Bool) (most : ℕ) (may : ℕ → Bool) (stream : List (List ℕ)) (c : Caller)
     (feeding : List Fed) : Type 0 where
-  pub fed : HasFed most may stream (ended ∷ []) c feeding
+  pub fed : HasFed among most may stream (ended ∷ []) c feeding
   pub full : AreFullBatches most feeding

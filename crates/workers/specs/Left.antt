@@ -1,5 +1,5 @@
 -- What `work` answers.
-use Rattle.std.specs.Prelude.{◌≡◌, ℕ, Bool, List, length, map, slice_get, Some, None}
+use Rattle.std.specs.Prelude.{◌≡◌, ℕ, Bool, true, List, length, map, slice_get, Some, None}
 use Rattle.ts_packet.specs.Cut.{cut}
 use Rattle.ts_packet.specs.declared.size.PacketSize.{PacketSize}
 use Rattle.ts_watch.specs.Head.{told_head, head_of}
@@ -14,6 +14,7 @@ use Rattle.client_core.specs.Outcomes.{outcomes}
 use Rattle.script_run.specs.IsRun.{replies}
 use Rattle.adapter.specs.Callers.{Caller}
 use Rattle.workers.specs.declared.left.Left.{Left}
+use Rattle.script_nodes.specs.Named.{is_named}
 use Rattle.workers.specs.Logged.{HasCalled}
 use Rattle.workers.specs.Feeding.{HasFedAll}
 
@@ -24,11 +25,13 @@ pub record HasWorked (lines : List Line) (client : ℕ) (may : ℕ → Bool) (c 
   pub ends : next_event client lines (replies log) ≡ None
   pub outcomes : told ≡ outcomes client lines (replies log)
 
--- The feeder has passed the whole stream, and each client of the script has done its commands to their end.
-pub record AreWorked (lines : List Line) (most : ℕ) (may : ℕ → Bool) (stream : List (List ℕ)) (feeder : Caller)
+-- The feeder has passed the whole stream through the nodes that are among these, and called no other; all that the script can
+-- name are among them. Each client of the script has done its commands to their end.
+pub record AreWorked (lines : List Line) (among : ℕ → Bool) (most : ℕ) (may : ℕ → Bool) (stream : List (List ℕ)) (feeder : Caller)
     (feeding : List Fed) (others : List Caller) (books : List (List LogEntry))
     (told : List (List Outcome)) : Type 0 where
-  pub fed : HasFedAll most may stream feeder feeding
+  pub fed : HasFedAll among most may stream feeder feeding
+  pub named : (node : ℕ) → is_named lines node ≡ true → among node ≡ true
   pub clients : length others ≡ clients_in lines
   pub logs : length books ≡ clients_in lines
   pub outcomes : length told ≡ clients_in lines
@@ -37,9 +40,9 @@ pub record AreWorked (lines : List Line) (most : ℕ) (may : ℕ → Bool) (stre
       → HasWorked lines c may client log became
 
 -- This is what the threads of a run of a script leave over a stream of these bytes, whose packets take up so many each,
--- and in which the source failed or not.
+-- and in which the source failed or not; the feeder has called just the nodes that the script can name.
 pub record IsLeftBy (lines : List Line) (most : ℕ) (may : ℕ → Bool) (size : PacketSize) (stream : List ℕ)
     (left : Left) : Type 0 where
-  pub worked : AreWorked lines most may (cut size stream).packets left.feeder left.feeding.items left.clients.items
+  pub worked : AreWorked lines (is_named lines) most may (cut size stream).packets left.feeder left.feeding.items left.clients.items
       (map (λ log. map told_entry log.items) left.logs.items) (map (λ those. those.items) left.outcomes.items)
   pub head : told_head left.head ≡ head_of size stream left.head.read_fault

@@ -1,5 +1,5 @@
 -- What the merged histories tell: just what the feeder and the clients have called, as the locks have it.
-use Rattle.std.specs.Prelude.{◌≡◌, ◌⊎◌, ◌+◌, ℕ, suc, Bool, List, [], ◌∷◌, ◌++◌, length, map, slice_get, Some, All}
+use Rattle.std.specs.Prelude.{◌≡◌, ◌⊎◌, ◌+◌, ℕ, suc, Bool, true, false, if◌then◌else◌, List, [], ◌∷◌, ◌++◌, length, map, slice_get, Some, All}
 use Rattle.atomic_table.specs.Seated.{TableId}
 use Rattle.node_lock.specs.declared.view.View.{View}
 use Rattle.dmx_calls.specs.declared.histories.Fed.{Fed}
@@ -15,7 +15,7 @@ use Rattle.client_script.specs.declared.line.Line.{Line}
 use Rattle.adapter.specs.Rows.{column}
 use Rattle.adapter.specs.Callers.{Caller}
 use Rattle.adapter.specs.Ends.{IsHistory, rows_of}
-use Rattle.adapter.specs.Nodes.{ended}
+use Rattle.adapter.specs.Nodes.{IsLegalAt, ended}
 use Rattle.workers.specs.Logged.{IsLogged}
 use Rattle.workers.specs.Feeding.{HasMade, fed_entries}
 use Rattle.workers.specs.Left.{AreWorked}
@@ -29,30 +29,31 @@ pub record HasLogged (client : ℕ) (c : Caller) (log : List LogEntry) : Type 0 
   pub logged : IsLogged c log
   pub passes : All (λ e. PassesNone e.act) log
 
--- The feeder has passed these batches of the stream through its nodes, and then the end, and has made no other call;
--- and each client has made just the calls of its log.
-pub record HaveCalled (stream : List (List ℕ)) (feeder : Caller) (feeding : List Fed) (clients : List Caller)
-    (books : List (List LogEntry)) : Type 0 where
-  pub fed : (node : ℕ) (p : TableId × View Entry) → slice_get feeder.passes node ≡ Some p
-      → HasMade (fed_entries stream feeding ++ ended ∷ []) p
-  pub logs : length books ≡ length clients
-  pub each : (c : ℕ) (client : Caller) (log : List LogEntry) → slice_get clients c ≡ Some client
-      → slice_get books c ≡ Some log → HasLogged c client log
-
--- What the threads of a run of a script leave was called so.
-abbrev pub WorkersHaveCalled : Type 0
-WorkersHaveCalled =
-    (lines : List Line) (most : ℕ) (may : ℕ → Bool) (stream : List (List ℕ)) (feeder : Caller) (feeding : List Fed)
-    (clients : List Caller) (books : List (List LogEntry)) (told : List (List Outcome))
-    → AreWorked lines most may stream feeder feeding clients books told
-    → HaveCalled stream feeder feeding clients books
-
--- ------ what is told
-
 -- the entry is one of a client's log
 abbrev pub IsLoggedIn : List (List LogEntry) → LogEntry → Type 0
 IsLoggedIn books e =
     (c : ℕ) × (log : List LogEntry) × (i : ℕ) × (slice_get books c ≡ Some log) × (slice_get log i ≡ Some e)
+
+-- The feeder has passed these batches of the stream through the nodes that are among these, and then the end, and has
+-- made no other call; each client has made just the calls of its log, all of them on such nodes.
+pub record HaveCalled (among : ℕ → Bool) (stream : List (List ℕ)) (feeder : Caller) (feeding : List Fed)
+    (clients : List Caller) (books : List (List LogEntry)) : Type 0 where
+  pub fed : (node : ℕ) (p : TableId × View Entry) → slice_get feeder.passes node ≡ Some p
+      → HasMade (if among node then fed_entries stream feeding ++ ended ∷ [] else []) p
+  pub logs : length books ≡ length clients
+  pub each : (c : ℕ) (client : Caller) (log : List LogEntry) → slice_get clients c ≡ Some client
+      → slice_get books c ≡ Some log → HasLogged c client log
+  pub named : (e : LogEntry) → IsLoggedIn books e → among e.node ≡ true
+
+-- What the threads of a run of a script leave was called so.
+abbrev pub WorkersHaveCalled : Type 0
+WorkersHaveCalled =
+    (lines : List Line) (among : ℕ → Bool) (most : ℕ) (may : ℕ → Bool) (stream : List (List ℕ)) (feeder : Caller)
+    (feeding : List Fed) (clients : List Caller) (books : List (List LogEntry)) (told : List (List Outcome))
+    → AreWorked lines among most may stream feeder feeding clients books told
+    → HaveCalled among stream feeder feeding clients books
+
+-- ------ what is told
 
 -- these calls with the numbers that they have among their caller's, from this one on
 abbrev pub steps_from : (step : ℕ) → List Act → List Step
@@ -64,9 +65,10 @@ abbrev pub IsTheHistory : (node : ℕ) → (passes : List (TableId × View Entry
 IsTheHistory node passes h =
     IsHistory node passes h × ((other : List Entry) → IsHistory node passes other → other ≡ h)
 
--- The histories tell what these callers have called, and nothing else.
-pub record TellWhatWasCalled (stream : List (List ℕ)) (feeder : Caller) (feeding : List Fed) (clients : List Caller)
-    (books : List (List LogEntry)) (hs : List (List LogEntry)) : Type 0 where
+-- The histories tell what these callers have called, and nothing else; and what the nodes that nobody has called would have
+-- answered to the feeder.
+pub record TellWhatWasCalled (among : ℕ → Bool) (stream : List (List ℕ)) (feeder : Caller) (feeding : List Fed)
+    (clients : List Caller) (books : List (List LogEntry)) (hs : List (List LogEntry)) : Type 0 where
   -- there is a list for each of the 33 nodes
   pub nodes : length hs ≡ DEMUX_NODES + 1
   -- each call that a client has logged stands in them as it was logged: on its node, at its place, with its reply
@@ -77,6 +79,10 @@ pub record TellWhatWasCalled (stream : List (List ℕ)) (feeder : Caller) (feedi
   -- the feeder's calls on each node are that its batches pass, one after another, and then End
   pub fed : (node : ℕ) (h : List LogEntry) → slice_get hs node ≡ Some h
       → steps_of 0 h ≡ steps_from 0 (feeder_acts feeding)
-  -- the list of each node, with the packets of the stream, is the history of its lock, entry by entry
-  pub locks : (node : ℕ) (h : List LogEntry) → slice_get hs node ≡ Some h
+  -- the list of each node that is among these, with the packets of the stream, is the history of its lock, entry by entry
+  pub locks : (node : ℕ) (h : List LogEntry) → slice_get hs node ≡ Some h → among node ≡ true
       → IsTheHistory node (column node (rows_of (clients ++ feeder ∷ []))) (map (filled_entry stream) h)
+  -- the lock of another node has had no call of anybody; its list is legal, and has the feeder's calls alone
+  pub idle : (node : ℕ) (h : List LogEntry) → slice_get hs node ≡ Some h → among node ≡ false
+      → IsTheHistory node (column node (rows_of (clients ++ feeder ∷ []))) []
+      × IsLegalAt node (map (filled_entry stream) h) × All (λ e. e.who ≡ 0) h

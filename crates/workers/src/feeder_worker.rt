@@ -3,14 +3,16 @@ ghost use Rattle.std.specs.Prelude.{◌≡◌, ◌≢◌, true, false, ℕ, ◌+
 ghost use Rattle.emu_io.specs.Ends.{SourceEnd};
 ghost use Rattle.client_core.specs.declared.stop.Stop.TheVariants.{NoMemory as WantOfMemory};
 ghost use Rattle.adapter.specs.Callers.{IsSameCaller};
+ghost use Rattle.adapter.specs.Nodes.{is_in};
 ghost use Rattle.feed_pull.specs.declared.fault.Reading.TheVariants.{TooMany};
 ghost use Rattle.feed_pull.specs.Pulling.{Pulling, IsDone};
 ghost use Rattle.feed_pull.specs.Streams.{Draws};
-ghost use Rattle.workers.specs.Inside.FeederWork.{IsFitFeeder, MayPass, HasPassed, HasFedToEnd};
+ghost use Rattle.workers.specs.Inside.FeederWork.{IsFitFeeder, LeavesOthers, MayPass, HasPassed, HasFedToEnd};
 
 use adapter::{Adapter, Feeder};
 use client_core::Stop;
 use dmx_calls::Fed;
+use dmx_calls::limits::NODES;
 use emu_io::{Clock, Gate, Source};
 use feed_pull::{PullFault, Puller};
 use std::alloc::AllocError as NoMemory;
@@ -33,13 +35,14 @@ pub struct FeederWorker {
 }
 
 impl FeederWorker {
-    // The next batch passes all nodes, at a moment of the clock, and is kept among the batches; or none is left.
+    // The next batch passes these nodes, at a moment of the clock, and is kept among the batches; or none is left.
     fn turn<S: Source, L: Ledger, R: Wait, C: Clock, G: Gate>(
         &mut self,
         rt: &R,
         adapter: &Adapter,
         source: &mut S,
         most: u32,
+        nodes: &[bool; NODES as usize],
         clock: &C,
         gate: &G,
         steps: &mut Steps<L>,
@@ -47,9 +50,10 @@ impl FeederWorker {
         requires may { MayPass most (S.end source.old).faults adapter.now self.old }
         ensures fit { IsFitFeeder adapter.now self.new }
         ensures same { IsSameCaller self.old.feeder self.new.feeder }
+        ensures others { LeavesOthers (is_in nodes.now) self.old.feeder.passes self.new.feeder.passes }
         ensures draws { (packets : List (List ℕ)) × Draws (S.end source.old) (S.end source.new) self.old.puller self.new.puller packets }
-        ensures passed { OnOk result ((before : SourceEnd) (first : Pulling) → HasPassed most (C.may_give clock.now) before (S.end source.old) first self.old
-            → HasPassed most (C.may_give clock.now) before (S.end source.new) first self.new) }
+        ensures passed { OnOk result ((before : SourceEnd) (first : Pulling) → HasPassed (is_in nodes.now) most (C.may_give clock.now) before (S.end source.old) first self.old
+            → HasPassed (is_in nodes.now) most (C.may_give clock.now) before (S.end source.new) first self.new) }
         ensures done { IfOk result (λ some. some ≡ false → IsDone self.new.puller) }
         ensures rises { IfOk result (λ some. some ≡ true → self.old.puller.given < self.new.puller.given) }
     {
@@ -64,7 +68,7 @@ impl FeederWorker {
             count: batch.count(),
             now,
         };
-        self.feeder.feed(rt, adapter, batch, now, steps);
+        self.feeder.feed(rt, adapter, nodes, batch, now, steps);
         self.feeding.push_reserved(fed);
         Ok(true)
     }
@@ -76,6 +80,7 @@ impl FeederWorker {
         adapter: &Adapter,
         source: &mut S,
         most: u32,
+        nodes: &[bool; NODES as usize],
         clock: &C,
         gate: &G,
         steps: &mut Steps<L>,
@@ -83,12 +88,13 @@ impl FeederWorker {
         requires may { MayPass most (S.end source.old).faults adapter.now self.old }
         ensures fit { IsFitFeeder adapter.now self.new }
         ensures same { IsSameCaller self.old.feeder self.new.feeder }
+        ensures others { LeavesOthers (is_in nodes.now) self.old.feeder.passes self.new.feeder.passes }
         ensures draws { (packets : List (List ℕ)) × Draws (S.end source.old) (S.end source.new) self.old.puller self.new.puller packets }
-        ensures passed { OnOk result ((before : SourceEnd) (first : Pulling) → HasPassed most (C.may_give clock.now) before (S.end source.old) first self.old
-            → HasPassed most (C.may_give clock.now) before (S.end source.new) first self.new) }
+        ensures passed { OnOk result ((before : SourceEnd) (first : Pulling) → HasPassed (is_in nodes.now) most (C.may_give clock.now) before (S.end source.old) first self.old
+            → HasPassed (is_in nodes.now) most (C.may_give clock.now) before (S.end source.new) first self.new) }
         ensures done { OnOk result (IsDone self.new.puller) }
     {
-        'batches: while self.turn(rt, adapter, source, most, clock, gate, steps)? {}
+        'batches: while self.turn(rt, adapter, source, most, nodes, clock, gate, steps)? {}
         Ok(())
     }
 
@@ -115,42 +121,45 @@ impl FeederWorker {
         adapter: &Adapter,
         source: &mut S,
         most: u32,
+        nodes: &[bool; NODES as usize],
         clock: &C,
         gate: &G,
         blank: Blank,
     )
         requires ledger { (blank.name ≡ L.name) × (blank.parts ≡ L.parts) × (0 < L.parts) }
         requires may { MayPass most (S.end source.old).faults adapter.now self.old }
-        requires begun { HasPassed most (C.may_give clock.now) (S.end source.old) (S.end source.old) self.old.puller self.old }
-        ensures { HasFedToEnd most (C.may_give clock.now) (S.end source.old) (S.end source.new) self.old self.new }
+        requires begun { HasPassed (is_in nodes.now) most (C.may_give clock.now) (S.end source.old) (S.end source.old) self.old.puller self.old }
+        ensures { HasFedToEnd (is_in nodes.now) most (C.may_give clock.now) (S.end source.old) (S.end source.new) self.old self.new }
     {
         let mut steps: Steps<L> = Steps::new(blank);
-        let passed = self.pass_all(rt, adapter, source, most, clock, gate, &mut steps);
-        self.feeder.end(rt, adapter, &mut steps);
+        let passed = self.pass_all(rt, adapter, source, most, nodes, clock, gate, &mut steps);
+        self.feeder.end(rt, adapter, nodes, &mut steps);
         gate.at(FEEDER, self.feeding.len() as u64 + 1);
         self.stop = self.stop_of(passed);
     }
 
-    /// Passes the stream in batches of so many packets, the last one with what is left, and then its end. Where memory is
-    /// refused the end passes all the same: whatever stops the feeder, its last call on each node is End.
+    /// Passes the stream through these nodes in batches of so many packets, the last one with what is left, and then its end.
+    /// Where memory is refused the end passes all the same: whatever stops the feeder, its last call on each of them is End.
     pub fn work<S: Source, R: Wait, C: Clock, G: Gate>(
         &mut self,
         rt: &R,
         adapter: &Adapter,
         source: &mut S,
         most: u32,
+        nodes: &[bool; NODES as usize],
         clock: &C,
         gate: &G,
     )
         requires may { MayPass most (S.end source.old).faults adapter.now self.old }
-        requires begun { HasPassed most (C.may_give clock.now) (S.end source.old) (S.end source.old) self.old.puller self.old }
-        ensures { HasFedToEnd most (C.may_give clock.now) (S.end source.old) (S.end source.new) self.old self.new }
+        requires begun { HasPassed (is_in nodes.now) most (C.may_give clock.now) (S.end source.old) (S.end source.old) self.old.puller self.old }
+        ensures { HasFedToEnd (is_in nodes.now) most (C.may_give clock.now) (S.end source.old) (S.end source.new) self.old self.new }
     {
         self.work_counted::<S, Brand, R, C, G>(
             rt,
             adapter,
             source,
             most,
+            nodes,
             clock,
             gate,
             Blank::new(1),

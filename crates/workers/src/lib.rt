@@ -1,8 +1,9 @@
 //! Runs of a script by threads, over the adapter's 33 locked nodes.
 //!
-//! `work` does each client's commands on a thread of its own, while the feeder passes a stream through all nodes on another, in
-//! batches, and then its end. Each of them keeps what it has called. A client that waits repeats its read when another caller has
-//! called that node since. Before each event, and once more behind its last, a worker calls the gate, never under a lock.
+//! `work` does each client's commands on a thread of its own, while the feeder passes a stream through the nodes that the script
+//! can name (`script_nodes`) on another, in batches, and then its end. Each of them keeps what it has called. A client that waits
+//! repeats its read when another caller has called that node since. Before each event, and once more behind its last, a worker
+//! calls the gate, never under a lock.
 //! `histories_of_run` ends the adapter, and brings all calls together in the order of their places.
 //!
 //! What a contract sees: a client's log as the list of its calls. `IsLogged` ties it to what the client's passes know: they
@@ -16,14 +17,17 @@
 //! run ends, at most one read has failed. `TooLong` comes only where so many reads were made, or where the commands and the bytes
 //! allow a client so many calls: at each moment of a run no client makes more calls than that (`calls_are_within_budget`), since
 //! each repeated read is paid for by another caller's entry or by a byte. Where the run stops early, what was taken of the source
-//! is told as the puller's pulls tell it. Whatever stops the feeder, want of memory too, its last call on each of the 33 nodes is
-//! End (`HasEnded`): that is a clause of the feeder's worker, since the feeder is gone where `work` answers an error.
+//! is told as the puller's pulls tell it. Whatever stops the feeder, want of memory too, its last call on each of these nodes is
+//! End, and it has called no other (`HasEnded`): that is a clause of the feeder's worker, since the feeder is gone where `work`
+//! answers an error.
 //!
 //! `histories_of_run` gives the histories of the adapter's locks, whatever was called (`TellWhatWasCalled`): each call that a
 //! client has logged stands in them on its node, at its place and with the reply that it was told; each other entry is the
-//! feeder's, its batches in their order and then End; and each list, entry by entry, is the only history that its lock can have
-//! had, by what all passes know. What `work` leaves was called so (`workers_have_called`), and then they are the histories of a
-//! run of the script (`IsWholeRun` of `script_run`).
+//! feeder's, its batches in their order and then End; and the list of each node that the feeder has called, entry by entry, is the
+//! only history that its lock can have had, by what all passes know. Any other node was called by nobody: its list has the
+//! feeder's entries alone, and is legal. What `work` leaves was called so (`workers_have_called`), and then they are the histories
+//! of a run of the script (`IsWholeRun` of `script_run`). Both are said of a feeder that called any of the nodes, where these are
+//! all that the clients' calls are on.
 //!
 //! What is only tested, in `run_tests`: that the threads run beside each other, that each moment is a reading of its own, that
 //! the gate is told of each step, and that memory isn't refused where there is enough.

@@ -22,6 +22,7 @@ use client_core::Stop;
 use client_script::Script;
 use emu_io::{Clock, Gate, Source};
 use feed_pull::Puller;
+use script_nodes::named;
 use std::alloc::{AllocError as NoMemory, Global};
 use std::sync::Wait;
 use std::thread::Threads;
@@ -94,9 +95,9 @@ fn left_by(
 }
 
 /// Does the commands of a script by a thread for each client, while one for the feeder passes the stream of the puller
-/// through all nodes, in batches of `batch` packets, 1 to 64, the last with what is left, and then its end. No pull of the
-/// puller was made before, and it reads from this source. The feeder and the clients are the adapter's, and none of them
-/// has made a call.
+/// through the nodes that the script can name, in batches of `batch` packets, 1 to 64, the last with what is left, and then its
+/// end. No pull of the puller was made before, and it reads from this source. The feeder and the clients are the adapter's, and
+/// none of them has made a call.
 ///
 /// Lines `feed` and `tick` are passed over. A client whose read is repeated looks at the node until another caller's entry
 /// stands behind its own last one; it may wait for ever, and so may each call. Before each of its calls a worker calls
@@ -161,6 +162,7 @@ pub fn work<R: Threads + Wait + Sync, S: Source + Send, C: Clock + Sync, G: Gate
         &mut workers,
         source,
         batch,
+        &named(script),
         clock,
         gate,
     );

@@ -1,6 +1,7 @@
 // The threads.
 ghost use Rattle.std.specs.Prelude.{◌≡◌, ◌-◌, ◌<◌, ◌≤◌, ◌^◌, ℕ, All, length, slice_index_or};
 ghost use denote.Param.Send.{IsSync, IsSend};
+ghost use Rattle.adapter.specs.Nodes.{is_in};
 ghost use Rattle.workers.specs.Inside.Begun.{HaveCome};
 ghost use Rattle.workers.specs.Inside.FeederWork.{MayPass, HasPassed, HasFedToEnd};
 ghost use Rattle.workers.specs.Inside.Working.{MayWork, HasCome};
@@ -8,6 +9,7 @@ ghost use Rattle.workers.specs.Inside.Working.{MayWork, HasCome};
 use crate::client_worker::ClientWorker;
 use crate::feeder_worker::FeederWorker;
 use adapter::Adapter;
+use dmx_calls::limits::NODES;
 use emu_io::{Clock, Gate, Source};
 use std::alloc::Global;
 use std::sync::Wait;
@@ -44,20 +46,21 @@ pub fn work_all<R: Threads + Wait + Sync, S: Source + Send, C: Clock + Sync, G: 
     clients: &mut Vec<ClientWorker>,
     source: &mut S,
     batch: u32,
+    nodes: &[bool; NODES as usize],
     clock: &C,
     gate: &G,
 )
     requires feeder { MayPass batch (S.end source.old).faults adapter.now feeder.old }
-    requires begun { HasPassed batch (C.may_give clock.now) (S.end source.old) (S.end source.old) feeder.old.puller feeder.old }
+    requires begun { HasPassed (is_in nodes.now) batch (C.may_give clock.now) (S.end source.old) (S.end source.old) feeder.old.puller feeder.old }
     requires clients { All (λ w. MayWork adapter.now w) clients.old.items }
-    ensures feeder { HasFedToEnd batch (C.may_give clock.now) (S.end source.old) (S.end source.new) feeder.old feeder.new }
+    ensures feeder { HasFedToEnd (is_in nodes.now) batch (C.may_give clock.now) (S.end source.old) (S.end source.new) feeder.old feeder.new }
     ensures clients { HaveCome (C.may_give clock.now) adapter.now clients.old.items clients.new.items }
 {
     let mut first = ||
         requires may { MayPass batch (S.end source.now).faults adapter.now feeder.now }
-        requires begun { HasPassed batch (C.may_give clock.now) (S.end source.now) (S.end source.now) feeder.now.puller feeder.now }
-        ensures { HasFedToEnd batch (C.may_give clock.entry.now) (S.end source.entry.now) (S.end source.exit.now) feeder.entry.now feeder.exit.now }
-    { feeder.work(rt, adapter, source, batch, clock, gate) };
+        requires begun { HasPassed (is_in nodes.now) batch (C.may_give clock.now) (S.end source.now) (S.end source.now) feeder.now.puller feeder.now }
+        ensures { HasFedToEnd (is_in nodes.entry.now) batch (C.may_give clock.entry.now) (S.end source.entry.now) (S.end source.exit.now) feeder.entry.now feeder.exit.now }
+    { feeder.work(rt, adapter, source, batch, nodes, clock, gate) };
     let mut others = ||
         requires { IsSync R.row × IsSync C.row × IsSync G.row × All (λ w. MayWork adapter.now w) clients.now.items }
         ensures { HaveCome (C.may_give clock.entry.now) adapter.entry.now clients.entry.now.items clients.exit.now.items }

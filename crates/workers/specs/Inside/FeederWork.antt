@@ -1,11 +1,14 @@
 -- The feeder at work.
-use Rattle.std.specs.Prelude.{◌≡◌, ◌≢◌, ◌⊎◌, ◌<◌, ◌≤◌, ◌+◌, ◌-◌, ◌^◌, ℕ, Bool, List, [], ◌∷◌, length, None, Some, All}
+use Rattle.std.specs.Prelude.{◌≡◌, ◌≢◌, ◌⊎◌, ◌<◌, ◌≤◌, ◌+◌, ◌-◌, ◌^◌, ℕ, Bool, false, List, [], ◌∷◌, length, slice_get, None, Some, All}
 use Rattle.emu_io.specs.Ends.{SourceEnd}
 use Rattle.atomic_table.specs.Seated.{TableId}
 use Rattle.client_core.specs.declared.stop.Stop.TheVariants.{NoMemory, TooLong}
 use Rattle.feed_pull.specs.declared.fault.Reading.TheVariants.{Going, TooMany}
 use Rattle.feed_pull.specs.Pulling.{Pulling, Pulls, IsDone}
 use Rattle.feed_pull.specs.Streams.{Draws}
+use Rattle.node_lock.specs.declared.view.View.{View}
+use Rattle.dmx_calls.specs.History.{Entry}
+use Rattle.dmx_calls.specs.declared.limits.TheConstants.{DEMUX_NODES}
 use Rattle.adapter.specs.Callers.{IsSameCaller}
 use Rattle.adapter.specs.Rows.{Fits}
 use Rattle.adapter.specs.Nodes.{ended}
@@ -28,38 +31,44 @@ pub record MayPass (most failed : ℕ) (locks : List TableId) (f : FeederWorker)
   pub faults : f.puller.reading ≡ Going → failed < 2 ^ 64 - 1
   pub fit : IsFitFeeder locks f
 
+-- the passes of the nodes that are not among these are as they were
+abbrev pub LeavesOthers : (among : ℕ → Bool) → (old new : List (TableId × View Entry)) → Type 0
+LeavesOthers among old new = (node : ℕ) → among node ≡ false → slice_get new node ≡ slice_get old node
+
 -- all batches were full, or the puller has nothing more
 abbrev pub AreFullSoFar : (most : ℕ) → FeederWorker → Type 0
 AreFullSoFar most f =
     AreFullBatches most f.feeding.items × (IsDone f.puller ⊎ All (λ fed. fed.count ≡ most) f.feeding.items)
 
--- It has passed the packets that were drawn from the source, from this puller on, in full batches but for the last.
-pub record HasPassed (most : ℕ) (may : ℕ → Bool) (before after : SourceEnd) (first : Pulling)
+-- It has passed the packets that were drawn from the source, from this puller on, through the nodes that are among these, in
+-- full batches but for the last.
+pub record HasPassed (among : ℕ → Bool) (most : ℕ) (may : ℕ → Bool) (before after : SourceEnd) (first : Pulling)
     (f : FeederWorker) : Type 0 where
   pub packets : List (List ℕ)
   pub draws : Draws before after first f.puller packets
   pub given : f.puller.given ≡ length packets
-  pub fed : HasFed most may packets [] f.feeder f.feeding.items
+  pub fed : HasFed among most may packets [] f.feeder f.feeding.items
   pub full : (ahead taken : List ℕ) (given : List (List ℕ)) → Pulls ahead taken given first → AreFullSoFar most f
 
--- All packets of the source have passed, from this puller on, and then the end of the stream.
-pub record HasPassedAll (most : ℕ) (may : ℕ → Bool) (before after : SourceEnd)
+-- All packets of the source have passed these nodes, from this puller on, and then the end of the stream.
+pub record HasPassedAll (among : ℕ → Bool) (most : ℕ) (may : ℕ → Bool) (before after : SourceEnd)
     (first : Pulling) (f : FeederWorker) : Type 0 where
   pub packets : List (List ℕ)
   pub draws : Draws before after first f.puller packets
   pub done : IsDone f.puller
-  pub fed : HasFed most may packets (ended ∷ []) f.feeder f.feeding.items
+  pub fed : HasFed among most may packets (ended ∷ []) f.feeder f.feeding.items
   pub full : (ahead taken : List ℕ) (given : List (List ℕ)) → Pulls ahead taken given first
       → AreFullBatches most f.feeding.items
 
--- The feeder has worked to its end: whatever stopped it, its last call on each node is End. Where memory wasn't refused
--- the whole stream has passed before; it answers TooLong only where so many reads were made.
-pub record HasFedToEnd (most : ℕ) (may : ℕ → Bool) (before after : SourceEnd)
+-- The feeder has worked to its end: whatever stopped it, its last call on each of these nodes is End, and it has called no other.
+-- Where memory wasn't refused the whole stream has passed before; it answers TooLong only where so many reads were made.
+pub record HasFedToEnd (among : ℕ → Bool) (most : ℕ) (may : ℕ → Bool) (before after : SourceEnd)
     (old new : FeederWorker) : Type 0 where
   pub same : IsSameCaller old.feeder new.feeder
   pub draws : (packets : List (List ℕ)) × Draws before after old.puller new.puller packets
-  pub ended : HasEnded new.feeder
-  pub all : new.stop ≢ Some NoMemory → HasPassedAll most may before after old.puller new
+  pub nodes : length new.feeder.passes ≡ DEMUX_NODES + 1
+  pub ended : HasEnded among new.feeder
+  pub all : new.stop ≢ Some NoMemory → HasPassedAll among most may before after old.puller new
   pub few : new.stop ≡ None → new.puller.reading ≢ TooMany
   pub too_long : (turns : ℕ) → new.stop ≡ Some (TooLong turns)
       → (turns ≡ 2 ^ 32) × (2 ^ 32 ≤ new.puller.start + new.puller.taken)

@@ -51,7 +51,7 @@ impl Feeding {
         if self.feeder.left() == 0 {
             return false;
         }
-        let places = self.feeder.feed(rt, adapter, batch, 0, steps);
+        let places = self.feeder.feed(rt, adapter, &[true; 33], batch, 0, steps);
         self.fed.push(Fed { number, places }).is_ok()
     }
 }
@@ -83,7 +83,7 @@ fn feed_all<L: Ledger, R: Wait>(
     if feeding.feeder.left() == 0 {
         return feeding;
     }
-    let ended = feeding.feeder.end(rt, adapter, &mut steps);
+    let ended = feeding.feeder.end(rt, adapter, &[true; 33], &mut steps);
     feeding.ended = ended;
     feeding
 }

@@ -15,6 +15,9 @@ use ts_batch::Batch;
 // The node that both clients call.
 const SHARED: u32 = 3;
 
+// The node that the feeder leaves out.
+const LEFT_OUT: u32 = 7;
+
 // What came of the calls on the shared node, and of the feeder's.
 #[derive(Drop)]
 struct Seen {
@@ -40,7 +43,7 @@ fn owner_in(reply: &Reply) -> u32 {
     }
 }
 
-// Client 0 opens the node, client 1 looks and tries to open it, a batch passes, and the stream ends.
+// Client 0 opens the node, client 1 looks and tries to open it, a batch passes all nodes but one, and the stream ends there.
 fn one_after_another<L: Ledger, R: Wait>(
     rt: &R,
     adapter: Adapter,
@@ -62,8 +65,10 @@ fn one_after_another<L: Ledger, R: Wait>(
         Some((place, answer)) => Some((place, owner_in(&answer.reply))),
         None => None,
     };
-    let fed = feeder.feed(rt, &adapter, batch, 0, &mut steps);
-    let ended = feeder.end(rt, &adapter, &mut steps);
+    let mut nodes = [true; 33];
+    nodes[LEFT_OUT as usize] = false;
+    let fed = feeder.feed(rt, &adapter, &nodes, batch, 0, &mut steps);
+    let ended = feeder.end(rt, &adapter, &nodes, &mut steps);
     let opened = (place, owner_in(&answer.reply));
     let lengths = lengths_of(adapter, feeder, one, two, clients);
     Seen {
@@ -86,10 +91,15 @@ fn made_on_a_new_adapter<L: Ledger, R: Wait>(rt: &R, alloc: Global, blank: Blank
     Some(one_after_another::<L, R>(rt, adapter, feeder, clients, batch, blank))
 }
 
-// Each number is this, but that of the shared node.
+// Each number is this, but that of the shared node, and 0 at the node that was left out.
 fn are_all(numbers: &[u64; 33], all: u64, shared: u64) -> bool {
     for (node, number) in numbers.iter().enumerate() {
-        if *number != if node as u32 == SHARED { shared } else { all } {
+        let wanted = match node as u32 {
+            SHARED => shared,
+            LEFT_OUT => 0,
+            _ => all,
+        };
+        if *number != wanted {
             return false;
         }
     }

@@ -14,24 +14,24 @@ use Rattle.workers.proofs.Merged.{books_of, full, merged_woven, nodes_low, tell}
 use Rattle.workers.proofs.ending.histories_of_run.Goals as goal
 
 pub returns-clause-tells : goal.returns-clause-tells
-returns-clause-tells c = IfOk-weaker c.histories.result _ _ (λ hs m stream called.
+returns-clause-tells c = IfOk-weaker c.histories.result _ _ (λ hs m among stream called.
     let logs = map (λ log. log.items) c.args.logs.items in
     let same = map-map (λ (log : List ToldEntry). map told_entry log) (λ log. log.items) c.args.logs.items in
     let feeder = c.args.feeder in let feeding = c.args.feeding.items in let clients = c.args.clients.items in
     let all = full c.args.adapter clients feeder c.requires.all c.gather.ensures.locks in
-    let was : HaveCalled stream feeder feeding clients (books_of logs) = subst (λ books. HaveCalled stream feeder feeding clients books) (sym same) called in
-    subst (λ h. TellWhatWasCalled stream feeder feeding clients (map (λ log. map told_entry log.items) c.args.logs.items) h) (sym m.2)
-    (subst (λ books. TellWhatWasCalled stream feeder feeding clients books (histories_of feeding m.0)) same
-    (tell stream feeder feeding clients (books_of logs) was all c.gather.ensures.histories (nodes_low logs (All-map AreOnNodes (λ log. log.items) c.args.logs.items c.requires.nodes))
-    (histories_of feeding m.0) (merged_woven stream feeder feeding clients logs was all m.0 m.1 c.gather.ensures.histories)))) c.histories.ensures
+    let was : HaveCalled among stream feeder feeding clients (books_of logs) = subst (λ books. HaveCalled among stream feeder feeding clients books) (sym same) called in
+    subst (λ h. TellWhatWasCalled among stream feeder feeding clients (map (λ log. map told_entry log.items) c.args.logs.items) h) (sym m.2)
+    (subst (λ books. TellWhatWasCalled among stream feeder feeding clients books (histories_of feeding m.0)) same
+    (tell among stream feeder feeding clients (books_of logs) was all c.gather.ensures.histories (nodes_low logs (All-map AreOnNodes (λ log. log.items) c.args.logs.items c.requires.nodes))
+    (histories_of feeding m.0) (merged_woven among stream feeder feeding clients logs was all m.0 m.1 c.gather.ensures.histories)))) c.histories.ensures
 
 pub returns-clause-run : goal.returns-clause-run
-returns-clause-run c = IfOk-weaker c.histories.result _ _ (λ hs m lines most may stream told w.
+returns-clause-run c = IfOk-weaker c.histories.result _ _ (λ hs m lines among most may stream told w.
     let logs = map (λ log. log.items) c.args.logs.items in
     let feeder = c.args.feeder in let feeding = c.args.feeding.items in let clients = c.args.clients.items in
     let all = full c.args.adapter clients feeder c.requires.all c.gather.ensures.locks in
-    let were : AreWorked lines most may stream feeder feeding clients (books_of logs) told =
-    subst (λ books. AreWorked lines most may stream feeder feeding clients books told) (sym (map-map (λ (log : List ToldEntry). map told_entry log) (λ log. log.items) c.args.logs.items)) w in
+    let were : AreWorked lines among most may stream feeder feeding clients (books_of logs) told =
+    subst (λ books. AreWorked lines among most may stream feeder feeding clients books told) (sym (map-map (λ (log : List ToldEntry). map told_entry log) (λ log. log.items) c.args.logs.items)) w in
     subst (λ h. IsWholeRun lines most may stream told h) (sym m.2)
-    (whole_run lines most may stream feeder feeding clients (books_of logs) told were all c.gather.ensures.histories (nodes_low logs (All-map AreOnNodes (λ log. log.items) c.args.logs.items c.requires.nodes))
-    (histories_of feeding m.0) (merged_woven stream feeder feeding clients logs (have_called lines most may stream feeder feeding clients (books_of logs) told were) all m.0 m.1 c.gather.ensures.histories))) c.histories.ensures
+    (whole_run lines among most may stream feeder feeding clients (books_of logs) told were all c.gather.ensures.histories (nodes_low logs (All-map AreOnNodes (λ log. log.items) c.args.logs.items c.requires.nodes))
+    (histories_of feeding m.0) (merged_woven among stream feeder feeding clients logs (have_called lines among most may stream feeder feeding clients (books_of logs) told were) all m.0 m.1 c.gather.ensures.histories))) c.histories.ensures

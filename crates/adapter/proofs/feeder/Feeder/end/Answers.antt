@@ -3,7 +3,7 @@ use Rattle.dmx_calls.specs.History.{entry_of}
 use Rattle.dmx_calls.specs.Invocation as asks
 use Rattle.dmx_calls.specs.Response.{Passed}
 use Rattle.dmx_calls.specs.Entries.{caller_of}
-use Rattle.adapter.specs.Nodes.{IsLegalAt}
+use Rattle.adapter.specs.Nodes.{IsLegalAt, is_in}
 use Rattle.adapter.specs.Rows.{Fits}
 use Rattle.adapter.specs.Callers.{Caller}
 use Rattle.adapter.proofs.Mine.{may_call, all_mine, all_by_me, fits_same, same_all}
@@ -14,15 +14,15 @@ end-places-requires-clause-left g c = let some : 0 < c.self.inside.left = search
 
 pub invariant_of-self : goal.invariant_of-self
 invariant_of-self g c = let some : 0 < c.self.inside.left = search rules in
-    all_mine 0 c.self.inside.left IsLegalAt (λ who. entry_of who asks.End Passed) c.end-places.result c.self.inside.passes c.end-places.new.self some c.self.invariant c.end-places.ensures.entries
+    all_mine 0 c.self.inside.left IsLegalAt (is_in c.args.nodes.now) (λ who. entry_of who asks.End Passed) c.end-places.result c.self.inside.passes c.end-places.new.self some c.self.invariant c.end-places.ensures.entries
 
 pub returns-clause-entries : goal.returns-clause-entries
-returns-clause-entries g c = rw (← c.self.view_is) (all_by_me 0 c.self.inside.left IsLegalAt (λ who. entry_of who asks.End Passed) c.end-places.result c.self.inside.passes c.end-places.new.self c.self.invariant c.end-places.ensures.entries)
+returns-clause-entries g c = rw (← c.self.view_is) (all_by_me 0 c.self.inside.left IsLegalAt (is_in c.args.nodes.now) (λ who. entry_of who asks.End Passed) c.end-places.result c.self.inside.passes c.end-places.new.self c.self.invariant c.end-places.ensures.entries)
 
 pub returns-clause-same : goal.returns-clause-same
-returns-clause-same g c = rw (← c.self.view_is) (refl, same_all caller_of IsLegalAt (λ who. entry_of who asks.End Passed) c.end-places.result c.self.inside.passes c.end-places.new.self c.end-places.ensures.entries)
+returns-clause-same g c = rw (← c.self.view_is) (refl, same_all caller_of IsLegalAt (is_in c.args.nodes.now) (λ who. entry_of who asks.End Passed) c.end-places.result c.self.inside.passes c.end-places.new.self c.end-places.ensures.entries)
 
 pub returns-clause-own : goal.returns-clause-own
 returns-clause-own g c =
     let own : Fits c.args.adapter.now c.self.inside.passes = subst (λ (v : Caller). Fits c.args.adapter.now v.passes) (sym c.self.view_is) c.requires.own in
-    fits_same c.args.adapter.now c.self.inside.passes c.end-places.new.self own (same_all caller_of IsLegalAt (λ who. entry_of who asks.End Passed) c.end-places.result c.self.inside.passes c.end-places.new.self c.end-places.ensures.entries)
+    fits_same c.args.adapter.now c.self.inside.passes c.end-places.new.self own (same_all caller_of IsLegalAt (is_in c.args.nodes.now) (λ who. entry_of who asks.End Passed) c.end-places.result c.self.inside.passes c.end-places.new.self c.end-places.ensures.entries)

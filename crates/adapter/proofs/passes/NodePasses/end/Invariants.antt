@@ -2,8 +2,9 @@ use Rattle.std.proofs.Common.{◌≤◌}
 use Rattle.dmx_calls.specs.History.{entry_of}
 use Rattle.dmx_calls.specs.Invocation as asks
 use Rattle.dmx_calls.specs.Response.{Passed}
+use Rattle.adapter.specs.Nodes.{is_in}
 use Rattle.adapter.proofs.Passing.{PassedTo}
 use Rattle.adapter.proofs.passes.NodePasses.end.Given as goal
 
 abbrev pub invariant-nodes : goal.invariant-nodes
-invariant-nodes g l = PassedTo l.adapter (λ who. entry_of who asks.End Passed) l.fn.self l.node l.places l.self × (l.steps ≤ l.fn.steps)
+invariant-nodes g l = PassedTo l.adapter (is_in l.fn.nodes) (λ who. entry_of who asks.End Passed) l.fn.self l.node l.places l.self × (l.steps ≤ l.fn.steps)

@@ -3,8 +3,9 @@ use Rattle.dmx_calls.specs.History.{entry_of}
 use Rattle.dmx_calls.specs.Invocation as asks
 use Rattle.dmx_calls.specs.Response.{Passed}
 use Rattle.dmx_calls.specs.declared.params.Input.TheVariants.{Frontend}
+use Rattle.adapter.specs.Nodes.{is_in}
 use Rattle.adapter.proofs.Passing.{PassedTo}
 use Rattle.adapter.proofs.passes.NodePasses.feed.Given as goal
 
 abbrev pub invariant-nodes : goal.invariant-nodes
-invariant-nodes g l = PassedTo l.adapter (λ who. entry_of who (asks.Pass Frontend l.fn.batch.value.first l.fn.batch.value.packets l.fn.now) Passed) l.fn.self l.node l.places l.self × (l.batch.value ≡ l.fn.batch.value) × (l.steps ≤ l.fn.steps + l.node * length l.fn.batch.value.packets)
+invariant-nodes g l = PassedTo l.adapter (is_in l.fn.nodes) (λ who. entry_of who (asks.Pass Frontend l.fn.batch.value.first l.fn.batch.value.packets l.fn.now) Passed) l.fn.self l.node l.places l.self × (l.batch.value ≡ l.fn.batch.value) × (l.steps ≤ l.fn.steps + l.node * length l.fn.batch.value.packets)

@@ -1,18 +1,20 @@
 use Rattle.std.proofs.Common.{◌-◌, ◌^◌, ℕ, List}
 use Rattle.emu_io.specs.Ends.{SourceEnd}
 use Rattle.adapter.specs.Callers.{IsSameCaller}
+use Rattle.adapter.specs.Nodes.{is_in}
 use Rattle.feed_pull.specs.Pulling.{Pulling}
 use Rattle.feed_pull.specs.Streams.{Draws}
-use Rattle.workers.specs.Inside.FeederWork.{IsFitFeeder, HasPassed}
+use Rattle.workers.specs.Inside.FeederWork.{IsFitFeeder, LeavesOthers, HasPassed}
 use Rattle.workers.proofs.feeder_worker.FeederWorker.pass_all.Given as goal
 
 abbrev pub invariant-batches : goal.invariant-batches
 invariant-batches g l = record {
   fit : IsFitFeeder l.adapter l.self;
   same : IsSameCaller l.fn.self.feeder l.self.feeder;
+  others : LeavesOthers (is_in l.nodes) l.initial.self.feeder.passes l.self.feeder.passes;
   draws : (packets : List (List ℕ)) × Draws (g.S.Source.end l.initial.source) (g.S.Source.end l.source) l.initial.self.puller l.self.puller packets;
-  passed : (before : SourceEnd) (first : Pulling) → HasPassed l.most (g.C.Clock.may_give l.clock) before (g.S.Source.end l.initial.source) first l.initial.self
-      → HasPassed l.most (g.C.Clock.may_give l.clock) before (g.S.Source.end l.source) first l.self;
+  passed : (before : SourceEnd) (first : Pulling) → HasPassed (is_in l.nodes) l.most (g.C.Clock.may_give l.clock) before (g.S.Source.end l.initial.source) first l.initial.self
+      → HasPassed (is_in l.nodes) l.most (g.C.Clock.may_give l.clock) before (g.S.Source.end l.source) first l.self;
 }
 
 abbrev pub decreases-batches : goal.decreases-batches

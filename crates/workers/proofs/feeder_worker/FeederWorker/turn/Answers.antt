@@ -2,7 +2,8 @@ use Rattle.std.proofs.Common.{rules, ◌≡◌, ◌<◌, ◌≤◌, [], ◌∷�
 use Rattle.dmx_calls.specs.declared.histories.Fed.{Fed}
 use Rattle.feed_pull.specs.Pulling.{IsDone, given_by}
 use Rattle.feed_pull.proofs.Drawing.{draws_none}
-use Rattle.workers.proofs.FeederWork.{passed_none, passed_batch}
+use Rattle.adapter.specs.Nodes.{is_in}
+use Rattle.workers.proofs.FeederWork.{leaves_others, passed_none, passed_batch}
 use Rattle.workers.proofs.feeder_worker.FeederWorker.turn.Goals as goal
 
 pub returns-in_err-reserve-clause-draws : goal.returns-in_err-reserve-clause-draws
@@ -15,8 +16,11 @@ returns-in_default-clause-passed g c before first h =
     let none : qs ≡ [] = search rules in
     let items : c.reserve.new.self.items ≡ c.args.self.now.feeding.items = search rules in
     let done : IsDone c.pull.new.self = search rules in
-    passed_none c.args.most (g.C.Clock.may_give c.args.clock.now) before _ _ first c.args.self.now c.pull.new.self qs
+    passed_none (is_in c.args.nodes.now) c.args.most (g.C.Clock.may_give c.args.clock.now) before _ _ first c.args.self.now c.pull.new.self qs
     (record { carries = e.stream; follows = e.follows; start = e.start }) e.given c.reserve.new.self none items done h
+
+pub returns-clause-others : goal.returns-clause-others
+returns-clause-others g c = leaves_others (is_in c.args.nodes.now) _ _ _ _ c.feed.ensures.entries
 
 pub returns-clause-passed : goal.returns-clause-passed
 returns-clause-passed g c before first h =
@@ -30,6 +34,6 @@ returns-clause-passed g c before first h =
     let some : 1 ≤ length batch.packets = search rules in
     let few : length batch.packets ≤ c.args.most = search rules in
     let done : length batch.packets < c.args.most → IsDone c.pull.new.self = search rules in
-    passed_batch c.args.most (g.C.Clock.may_give c.args.clock.now) before _ _ first c.args.self.now c.pull.new.self qs
+    passed_batch (is_in c.args.nodes.now) c.args.most (g.C.Clock.may_give c.args.clock.now) before _ _ first c.args.self.now c.pull.new.self qs
     (record { carries = e.stream; follows = e.follows; start = e.start }) e.given c.feed.new.self c.push_reserved.new.self batch c.now-now.result c.feed.result
     is items c.feed.ensures.same.0 c.feed.ensures.entries number some few c.now-now.ensures done e.stopped h

@@ -1,0 +1,23 @@
+-- The nodes that the calls of a script can be on.
+use Rattle.std.specs.Prelude.{ℕ, Bool, true, false, ◌||◌, List, nat_eq}
+use Rattle.std.specs.List.{list_any}
+use Rattle.dmx_calls.specs.declared.limits.TheConstants.{DEMUX_NODES}
+use Rattle.client_script.specs.declared.line.Line.{Line}
+use Rattle.client_script.specs.declared.line.Line.TheVariants.{Command}
+use Rattle.client_script.specs.declared.line.Target.{Target}
+use Rattle.client_script.specs.declared.line.Target.TheVariants.{Node, Slot, Dvr}
+
+-- a command for this target may call this node; a slot may be bound to any
+abbrev pub is_for : Target → (node : ℕ) → Bool
+is_for (Node n) node = nat_eq n node
+is_for (Slot slot) node = true
+is_for Dvr node = false
+
+abbrev pub names : (node : ℕ) → Line → Bool
+names node (Command line client target verb) = is_for target node
+names node _ = false
+
+-- Some command of the script may call this node. The dvr node is always one of them, since it is told of the demux
+-- nodes' taps.
+abbrev pub is_named : List Line → (node : ℕ) → Bool
+is_named lines node = nat_eq node DEMUX_NODES || list_any (names node) lines
