@@ -318,7 +318,7 @@ class Demux(Node):
             elif self.filter[3] == "tap" and payload_of(packet) is not None:
                 self.arrive([payload_of(packet)])
 
-    # RULES: af087d17 Refusals
+    # RULES: 509697ad Refusals
     def refused(self, who, act):
         """The refusals, in their order; act is a name and its arguments."""
         name, args = act[0], act[1:]
@@ -338,7 +338,7 @@ class Demux(Node):
             if name == "add" and args[0] not in self.pids:
                 if self.filter[3] != "tsdemux_tap" and self.pids:
                     return "EINVAL"
-                if len(self.pids) >= 32:
+                if len(self.pids) >= 128:
                     return "ENOSPC"
         elif name == "start" and self.filter is None:
             return "EINVAL"

@@ -3,7 +3,7 @@ from reports import DVR
 from walk import FLAGS
 
 SMALLEST_SIZE, LARGEST_SIZE = 2, 16777216
-MOST_PIDS, ALL_PACKETS, LARGEST_PID, LARGEST_TYPE = 32, 0x2000, 0x1FFF, 20
+MOST_PIDS, ALL_PACKETS, LARGEST_PID, LARGEST_TYPE = 128, 0x2000, 0x1FFF, 20
 
 
 def wrong_argument(act):
@@ -35,7 +35,7 @@ def wrong_pids(node, act):
         return None
     if node.filter.output != "tsdemux_tap" and node.filter.pids:
         return "EINVAL", "only TSDEMUX_TAP takes more than one PID"
-    return ("ENOSPC", "32 PIDs are in the set") if len(node.filter.pids) >= MOST_PIDS else None
+    return ("ENOSPC", "128 PIDs are in the set") if len(node.filter.pids) >= MOST_PIDS else None
 
 
 def refusal(node, client, act):

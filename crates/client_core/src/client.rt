@@ -20,7 +20,7 @@ use crate::event::Event;
 use crate::machine::{Current, add, begin, bind, kind_of};
 use crate::task::{Next, Task, after, event_of, node_of};
 use client_script::{Line, Script, Verb};
-use dmx_calls::{Outcome, Reply};
+use dmx_calls::{LogReply, Outcome, Reply};
 use std::alloc::{AllocError as NoMemory, Global};
 use std::marker::Model;
 
@@ -93,7 +93,7 @@ fn one_asks(commands: &[Command]) -> bool
 }
 
 // The clocks follow the call of a task, and its reply.
-fn follow(clocks: &mut Clocks, task: &Task, step: u64, reply: &Reply)
+fn follow(clocks: &mut Clocks, task: &Task, step: u64, reply: &LogReply)
     requires task { IsTaskInRange task.now }
     requires few { AreFew (65536 * step) clocks.old }
     requires step { step < 2 ^ 46 }
@@ -107,7 +107,7 @@ fn follow(clocks: &mut Clocks, task: &Task, step: u64, reply: &Reply)
 }
 
 // The node on which a client waits that goes on with this task after this reply.
-fn waits_after(task: &Task, reply: &Reply) -> Option<u32>
+fn waits_after(task: &Task, reply: &LogReply) -> Option<u32>
     ensures { (step : ℕ) → result ≡ waits_with (response_of reply.now) (node_in (resumed task.now step [])) }
 {
     match reply {
@@ -181,7 +181,7 @@ impl ClientCore {
     }
 
     /// Takes the reply to that call.
-    pub fn take(&mut self, reply: &Reply)
+    pub fn take(&mut self, reply: &LogReply)
         requires some { IsSome self.old.current }
         requires few { self.old.step < 2 ^ 46 }
         ensures after { (client : ℕ) (lines : List ScriptLine) (replies : List Response) → IsAfter client lines replies self.old → IsAfter client lines (replies ++ response_of reply.now ∷ []) self.new }

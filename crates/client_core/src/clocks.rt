@@ -9,7 +9,7 @@ ghost use Rattle.client_core.specs.Inside.Clocks.{uncalled, counter_of, counter_
 use crate::event::{Event, Request};
 use client_script::Want;
 use dmx_calls::limits::DEMUX_NODES;
-use dmx_calls::{ByteBuf, Output, PesParams, Reply};
+use dmx_calls::{ByteBuf, LogReply, Output, PesParams, Reply};
 use stc_clock::StcClock;
 use std::alloc::{AllocError as NoMemory, Global};
 use std::marker::Model;
@@ -99,7 +99,7 @@ impl NodeClock {
     }
 
     // A call on the node, and its reply.
-    fn follow(&mut self, request: &Request, reply: &Reply)
+    fn follow(&mut self, request: &Request, reply: &LogReply)
         requires few { bytes_counted self.old.clock.cutting < 2 ^ 62 }
         ensures followed { (bytes : List ℕ) → HasFollowed bytes self.old.clock → HasFollowed (bytes_after request.now (response_of reply.now) bytes) self.new.clock }
         ensures set { self.new.filter_type ≡ type_after request.now (response_of reply.now) self.old.filter_type }
@@ -164,7 +164,7 @@ impl Clocks {
     }
 
     /// A call, and its reply.
-    pub fn follow(&mut self, event: &Event, reply: &Reply)
+    pub fn follow(&mut self, event: &Event, reply: &LogReply)
         requires few { AreFew 4611686018427387903 self.old }
         ensures followed { (xs : List Exchange) → HaveFollowed xs self.old → HaveFollowed (with_reply (Some event.now) (response_of reply.now) xs) self.new }
         ensures few { (most : ℕ) → AreFew most self.old → AreFew (most + 65536) self.new }

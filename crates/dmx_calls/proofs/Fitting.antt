@@ -6,8 +6,7 @@ use Rattle.std.proofs.Math.Seq.{drop-nil}
 use native.Mathlib.Decide.{dec_le}
 use Rattle.dmx_calls.specs.declared.reply.Errno.{Errno}
 use Rattle.dmx_calls.specs.Invocation.{Invocation, Open, Close, SetFilter, SetPes, AddPid, RemovePid, Start, Stop, SetSize, Read, Poll, Pass, End, Attach, Detach}
-use Rattle.dmx_calls.specs.declared.reply.Tap.{Tap as TapChange}
-use Rattle.dmx_calls.specs.Response.{Response, Done, Busy, Refused, NoMemory, Data, Again, Overflow, TimedOut, Ready, Passed, is_accepted}
+use Rattle.dmx_calls.specs.Response.{Response, Done, Busy, Refused, NoMemory, Data, Again, Overflow, TimedOut, Ready, Passed, is_accepted, TapChange}
 use Rattle.dmx_calls.specs.History.{Event, History, is_empty, event, entry_of, Since}
 use Rattle.dmx_calls.specs.Rules.{Rules}
 use Rattle.dmx_calls.specs.Ledger.{joined, total, answered, edge, answered_in, is_overflow}

@@ -42,7 +42,7 @@ pids_of (SectionSet params) = params.pid ∷ []
 pids_of (PesSet params pids) = pids
 
 -- a Data reply is seen by its bytes alone
-abbrev pub response_of : Reply → Response
+abbrev pub response_of : Reply (List ℕ) → Response
 response_of (DoneReply dropped tap) = Done dropped.from dropped.to tap
 response_of (BusyReply owner) = Busy owner
 response_of (RefusedReply errno) = Refused errno

@@ -15,6 +15,7 @@ pub mod Answer
 pub mod Legal
 pub mod Accounted
 pub mod Calls
+pub mod Kept
 pub mod Log
 pub mod Histories
 pub mod Back

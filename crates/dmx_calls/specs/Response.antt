@@ -2,7 +2,11 @@
 use Rattle.std.specs.Prelude.{ℕ, Bool, true, false, List}
 use Rattle.dmx_calls.specs.declared.reply.Errno.{Errno}
 use Rattle.dmx_calls.specs.declared.reply.PollError.{PollError}
-use Rattle.dmx_calls.specs.declared.reply.Tap.{Tap as TapChange}
+use Rattle.dmx_calls.specs.declared.reply.Tap.{Tap}
+
+-- what the dvr node is to be told of a demux node's tap
+abbrev pub TapChange : Type 0
+TapChange = Tap (List ℕ)
 
 -- Places count the bytes of a capture from 0. Done names the span of unread bytes that the call dropped. Overflow names
 -- the span that is lost, the first item that didn't fit, its length and the room that it found.

@@ -12,7 +12,8 @@
 //! stand at their places, and the feeder's calls, which are kept once, at all others (`woven`). `Act`, `Entry` and `Outcome`
 //! are what a report tells of a call, of its reply and of a script's command.
 //!
-//! What is proved: each call of `ByteBuf` and of `Histories`, and that each `name` is its text in `specs/Names.antt`.
+//! What is proved: each call of `ByteBuf` and of `Histories`, and that each `name` is its text in `specs/Names.antt`. What an
+//! entry keeps is its call (`KeptAct`) and the same response (`SharedReply`), whatever that is shared with.
 //! `refusal`, whose body is the table of calls and states, is the refusal that the answer of a history names. The laws of
 //! `laws`: every legal history is accounted, so each byte is given,
 //! named as lost or named as dropped, in its place; an entry that isn't accepted changes nothing; the items of a capture
@@ -25,13 +26,15 @@
 //!
 //! Sources: the Linux media API, chapter Digital TV demux, for calls, filters, states and errors; ISO/IEC 13818-1 for
 //! packets and sections; what these leave open is this project's rule, as are the numbers of `limits` but the flags other than
-//! KEEP, the PIDs and the PES types. `ByteBuf::new` and `ByteBuf::fitted` alone take memory.
+//! KEEP, the PIDs and the PES types. `ByteBuf::new`, `ByteBuf::fitted`, `KeptAct::of`
+//! and `SharedReply::of` alone take memory.
 #![tactic(auto)]
 
 mod byte_buf;
 mod call;
 pub mod examples;
 mod histories;
+mod kept;
 pub mod laws;
 pub mod limits;
 mod log;
@@ -45,6 +48,7 @@ mod told;
 pub use byte_buf::ByteBuf;
 pub use call::Call;
 pub use histories::{Fed, Histories};
+pub use kept::{KeptAct, LogReply, LogTap, SharedReply};
 pub use log::{Act, Entry};
 pub use node::{NodeKind, State};
 pub use outcome::{Outcome, OutcomeKind};

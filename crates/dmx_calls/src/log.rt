@@ -5,8 +5,8 @@ ghost use Rattle.dmx_calls.specs.Calls.{invocation_of};
 ghost use Rattle.dmx_calls.specs.Log.{act_of};
 
 use crate::call::Call;
+use crate::kept::{KeptAct, SharedReply};
 use crate::params::{Input, PesParams, SectionParams};
-use crate::reply::Reply;
 use pid_set::Pids;
 
 /// A call as a report tells it: a Read by its count, and a Pass by the number of its first packet and how many there are.
@@ -119,19 +119,20 @@ impl Act {
     }
 }
 
-/// One call of a node with its reply, as a report tells it.
+/// One call of a node with its reply, as a report tells it. It takes 64 bytes, and memory of its own for a reply that it
+/// doesn't share and for what is large in either.
 #[derive(Drop)]
 pub struct Entry {
-    /// The node: 0 to 31 for a demux node, 32 for the dvr node.
-    pub node: u32,
     /// The entry's place in the node's history, counted from 0.
     pub place: u64,
     /// The number of the call among its caller's calls, counted from 0.
     pub step: u64,
+    /// The node: 0 to 31 for a demux node, 32 for the dvr node.
+    pub node: u32,
     /// The caller: 0 for the feeder, and `c + 1` for client c.
     pub who: u32,
     /// The call.
-    pub act: Act,
+    pub act: KeptAct,
     /// Its reply.
-    pub reply: Reply,
+    pub reply: SharedReply,
 }

@@ -70,26 +70,26 @@ pub struct Span {
     pub to: u64,
 }
 
-/// What the dvr node is to be told of this node's tap.
+/// What the dvr node is to be told of this node's tap. A log keeps it with the PIDs as `KeptPids`.
 #[derive(Clone, Debug, PartialEq, Eq, Drop)]
-pub enum Tap {
+pub enum Tap<P = Pids> {
     /// Nothing.
     Keep,
     /// The tap is attached, with these PIDs.
-    Attach(Pids),
+    Attach(P),
     /// The tap is detached.
     Detach,
 }
 
-/// What a node replies.
+/// What a node replies. It takes no memory but a read's bytes; a log keeps it with the PIDs of a tap as `KeptPids`.
 #[derive(Drop)]
-pub enum Reply {
+pub enum Reply<P = Pids> {
     /// The call was done.
     Done {
         /// The bytes that were unread and are now dropped.
         dropped: Span,
         /// What the dvr node is to be told.
-        tap: Tap,
+        tap: Tap<P>,
     },
     /// The node has an owner.
     Busy {

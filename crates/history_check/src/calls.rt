@@ -6,7 +6,7 @@ ghost use Rattle.dmx_calls.specs.Calls.{invocation_of};
 ghost use Rattle.dmx_calls.specs.Log.{filled_act};
 ghost use Rattle.history_check.specs.Playing.{IsCallable};
 
-use dmx_calls::{Act, ByteBuf, Call, Input};
+use dmx_calls::{Act, ByteBuf, Call, Input, KeptAct};
 use std::alloc::{AllocError as NoMemory, Global};
 use ts_batch::Batch;
 use ts_packet::Packet;
@@ -33,13 +33,13 @@ fn pass(
 }
 
 /// The call that an act tells, with the stream's packets for a pass.
-pub fn call_told(alloc: Global, packets: &[Packet], act: &Act) -> Result<Call, NoMemory>
+pub fn call_told(alloc: Global, packets: &[Packet], act: &KeptAct) -> Result<Call, NoMemory>
     requires callable { IsCallable packets.now act.now }
     requires packets { All IsPacket packets.now }
     requires long { length packets.now < 2 ^ 63 }
     ensures { IfOk result (λ call. invocation_of call ≡ filled_act packets.now act.now) }
 {
-    Ok(match *act {
+    Ok(match act.act() {
         Act::Open => Call::Open,
         Act::Close => Call::Close,
         Act::SetFilter { params, now } => Call::SetFilter { params, now },
@@ -61,10 +61,7 @@ pub fn call_told(alloc: Global, packets: &[Packet], act: &Act) -> Result<Call, N
             now,
         } => pass(alloc, packets, input, first, count, now)?,
         Act::End => Call::End,
-        Act::Attach { node, ref pids } => {
-            let pids = pids.copied();
-            Call::Attach { node, pids }
-        }
+        Act::Attach { node, pids } => Call::Attach { node, pids },
         Act::Detach { node } => Call::Detach { node },
     })
 }

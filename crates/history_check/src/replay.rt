@@ -11,7 +11,7 @@ ghost use Rattle.history_check.specs.Playing.{IsCallable, IsToldBy, PlaysBy, pla
 
 use crate::calls::call_told;
 use crate::same::is_same_reply;
-use dmx_calls::{Answer, Call, Entry, Reply, Told};
+use dmx_calls::{Answer, Call, Entry, Reply, SharedReply, Told};
 use machine::Machine;
 use std::alloc::{AllocError as NoMemory, Global};
 use std::sync::ledger::Ledger;
@@ -24,7 +24,7 @@ pub fn agrees<M: Machine<Call = Call, Answer = Answer, Entry = Told>, L: Ledger>
     core: &mut M,
     who: u32,
     call: Call,
-    told: &Reply,
+    told: &SharedReply,
     steps: &mut Steps<L>,
 ) -> Result<bool, NoMemory>
     requires entries { IsToldBy M.entry_of }
@@ -39,7 +39,7 @@ pub fn agrees<M: Machine<Call = Call, Answer = Answer, Entry = Told>, L: Ledger>
     let answer = core.apply(who, call, steps);
     match &answer.reply {
         Reply::NoMemory => Err(NoMemory),
-        reply => Ok(is_same_reply(reply, told)),
+        reply => Ok(is_same_reply(reply, told.told())),
     }
 }
 

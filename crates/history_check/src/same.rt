@@ -2,16 +2,28 @@
 ghost use Rattle.std.specs.Prelude.{◌≡◌, ◌≢◌, true, false};
 ghost use Rattle.dmx_calls.specs.Calls.{response_of};
 
-use dmx_calls::Reply;
+use dmx_calls::{LogReply, LogTap, Reply, Tap};
 
-/// Whether two replies are the same. Data replies are compared by their bytes.
-pub fn is_same_reply(this: &Reply, other: &Reply) -> bool
+// Whether two taps are the same.
+fn is_same_tap(this: &Tap, other: &LogTap) -> bool
+    ensures same { result ≡ true → this.now ≡ other.now }
+    ensures differs { result ≡ false → this.now ≢ other.now }
+{
+    match this {
+        Tap::Keep => matches!(other, Tap::Keep),
+        Tap::Attach(pids) => matches!(other, Tap::Attach(p) if *pids == p.set()),
+        Tap::Detach => matches!(other, Tap::Detach),
+    }
+}
+
+/// Whether a reply is the told one. Data replies are compared by their bytes.
+pub fn is_same_reply(this: &Reply, other: &LogReply) -> bool
     ensures same { result ≡ true → response_of this.now ≡ response_of other.now }
     ensures differs { result ≡ false → response_of this.now ≢ response_of other.now }
 {
     match this {
         Reply::Done { dropped, tap } => {
-            matches!(other, Reply::Done { dropped: d, tap: t } if dropped == d && tap == t)
+            matches!(other, Reply::Done { dropped: d, tap: t } if dropped == d && is_same_tap(tap, t))
         }
         Reply::Busy { owner } => matches!(other, Reply::Busy { owner: o } if owner == o),
         Reply::Refused(errno) => matches!(other, Reply::Refused(e) if errno == e),

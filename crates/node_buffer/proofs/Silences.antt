@@ -2,10 +2,9 @@
 use Rattle.std.proofs.Common.{ℕ, ◌≡◌, refl, Bool, true, false, Option, Some, None}
 use Rattle.std.specs.Prelude.{if◌then◌else◌}
 use Rattle.dmx_calls.specs.declared.reply.PollError.{PollError}
-use Rattle.dmx_calls.specs.declared.reply.Tap.{Tap as TapChange}
 use Rattle.dmx_calls.specs.declared.reply.Tap.TheVariants.{Keep as KeepTap}
 use Rattle.dmx_calls.specs.Invocation.{Invocation}
-use Rattle.dmx_calls.specs.Response.{Response, Done, Ready, Passed, is_accepted}
+use Rattle.dmx_calls.specs.Response.{Response, Done, Ready, Passed, is_accepted, TapChange}
 use Rattle.dmx_calls.specs.History.{History, entry_of, event}
 use Rattle.dmx_calls.specs.Rules.{tells_timeout}
 use Rattle.dmx_calls.specs.Ledger.{answered_in, is_overflow}

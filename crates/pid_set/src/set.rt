@@ -17,8 +17,8 @@ pub const ALL_PACKETS: u16 = 0x2000;
 #[error("the set of PIDs is full")]
 pub struct PidsFull;
 
-/// The PIDs of one filter: at most 32 (this project's rule).
-pub type Pids = PidSet<32>;
+/// The PIDs of one filter: at most 128 (this project's rule).
+pub type Pids = PidSet<128>;
 
 /// A set of at most `N` PIDs. A contract sees it as the list of its members, ascending and without repeats.
 #[derive(Debug, PartialEq, Eq, Drop)]
@@ -113,11 +113,29 @@ impl<const N: usize> PidSet<N> {
     pub fn copied(&self) -> PidSet<N>
         ensures { result ≡ self.now }
     {
+        PidSet::of_slice(&self.pids)
+    }
+
+    // The set of these PIDs, which ascend.
+    pub(crate) fn of_slice(members: &[u16]) -> PidSet<N>
+        requires fits { length members.now ≤ N }
+        requires pids { ArePids members.now }
+        ensures { result ≡ members.now }
+    {
         let mut pids = ArrayVec::new();
-        match pids.try_extend_from_slice(&self.pids) {
+        match pids.try_extend_from_slice(members) {
             Ok(()) => PidSet { pids },
             Err(_) => unreachable!(),
         }
+    }
+
+    // The members, ascending.
+    pub(crate) fn members(&self) -> &[u16]
+        ensures value { result.now ≡ self.now }
+        ensures fits { length result.now ≤ N }
+        ensures pids { ArePids result.now }
+    {
+        &self.pids
     }
 
     /// The number of PIDs.

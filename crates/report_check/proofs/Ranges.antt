@@ -4,9 +4,8 @@ use Rattle.std.proofs.lemmas.List.Elements.{All-head, All-tail, All-nil, All-con
 use Rattle.std.specs.Prelude.{nat_lt, if◌then◌else◌, slice_index_or, option_map}
 use Rattle.std.specs.List.{All, flat_map}
 use Rattle.dmx_calls.specs.declared.limits.TheConstants.{DEMUX_NODES}
-use Rattle.dmx_calls.specs.declared.reply.Tap.{Tap as TapChange}
 use Rattle.dmx_calls.specs.declared.reply.Tap.TheVariants.{Keep as KeepTap, Attach as AttachTap, Detach as DetachTap}
-use Rattle.dmx_calls.specs.Response.{Response, Done, Busy}
+use Rattle.dmx_calls.specs.Response.{Response, Done, Busy, TapChange}
 use Rattle.client_script.specs.declared.line.Line.{Line}
 use Rattle.client_script.specs.declared.line.Line.TheVariants.{Command as CommandLine}
 use Rattle.client_script.specs.declared.line.Target.{Target}

@@ -4,7 +4,7 @@ ghost use Rattle.dmx_calls.specs.Calls.{told_entry};
 ghost use Rattle.script_run.specs.IsRun.{steps_of};
 ghost use Rattle.report_check.specs.Inside.Feeding.{step_of, passed_behind as passed_by, is_end as is_end_act, are_none, feeds, IsFedAlike};
 
-use dmx_calls::{Act, Entry, Input};
+use dmx_calls::{Act, Entry, Input, KeptAct};
 
 // The feeder's first call, and the entries behind it.
 fn next_of(entries: &[Entry]) -> Option<(&Entry, &[Entry])>
@@ -23,27 +23,28 @@ fn next_of(entries: &[Entry]) -> Option<(&Entry, &[Entry])>
 }
 
 // How many packets have passed behind this call, where it passes the next 1 to 64.
-fn passed_behind(act: &Act, first: u64, packets: u64) -> Option<u64>
+fn passed_behind(act: &KeptAct, first: u64, packets: u64) -> Option<u64>
     requires within { first ≤ packets }
     ensures value { result ≡ passed_by packets first act.now }
     ensures within { IfSome result (λ next. next ≤ packets) }
 {
-    match act {
+    match act.act() {
         Act::Pass {
             input: Input::Frontend,
             first: from,
             count,
             ..
-        } if *from == first && *count > 0 && *count <= 64 && u64::from(*count) <= packets - first =>
-            { Some(first + u64::from(*count)) }
+        } if from == first && count > 0 && count <= 64 && u64::from(count) <= packets - first => {
+            Some(first + u64::from(count))
+        }
         _ => None,
     }
 }
 
-fn is_end(act: &Act) -> bool
+fn is_end(act: &KeptAct) -> bool
     ensures { result ≡ is_end_act act.now }
 {
-    matches!(act, Act::End)
+    matches!(act.act(), Act::End)
 }
 
 // The place of an entry that isn't the end, or comes before all packets have passed, or isn't the feeder's last.
@@ -65,7 +66,7 @@ fn is_same_call(this: &Entry, other: &Entry) -> bool
     ensures same { result ≡ true → step_of (told_entry this.now) ≡ step_of (told_entry other.now) }
     ensures differs { result ≡ false → step_of (told_entry this.now) ≢ step_of (told_entry other.now) }
 {
-    this.step == other.step && this.act == other.act
+    this.step == other.step && this.act.act() == other.act.act()
 }
 
 /// The place of the first call of the feeder that doesn't pass the next packets, or isn't the end where they have all passed; the

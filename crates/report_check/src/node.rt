@@ -6,16 +6,16 @@ ghost use Rattle.report_check.specs.Inside.Parts.{told_node, told_nodes, is_call
 use crate::fault::{FaultKind, Odd};
 use crate::feeder::{fed_unlike, unfed};
 use dmx_calls::limits::LARGEST_READ;
-use dmx_calls::{Act, Entry};
+use dmx_calls::{Act, Entry, KeptAct};
 
 // Whether the call can be made again with so many packets.
-fn is_callable(act: &Act, packets: u64) -> bool
+fn is_callable(act: &KeptAct, packets: u64) -> bool
     ensures { result ≡ can_be_called packets act.now }
 {
-    match act {
-        Act::Read { count, .. } => *count <= LARGEST_READ,
+    match act.act() {
+        Act::Read { count, .. } => count <= LARGEST_READ,
         Act::Pass { first, count, .. } => {
-            *count > 0 && *count <= 64 && *first <= packets && u64::from(*count) <= packets - *first
+            count > 0 && count <= 64 && first <= packets && u64::from(count) <= packets - first
         }
         _ => true,
     }

@@ -6,11 +6,10 @@ use Rattle.std.specs.Fmt.{decimal}
 use Rattle.dmx_calls.specs.declared.reply.Errno.{Errno}
 use Rattle.dmx_calls.specs.declared.reply.Errno.TheVariants as errno
 use Rattle.dmx_calls.specs.declared.reply.PollError.{PollError}
-use Rattle.dmx_calls.specs.declared.reply.Tap.{Tap as TapChange}
 use Rattle.dmx_calls.specs.declared.reply.Tap.TheVariants.{Keep as KeepTap, Attach as AttachTap, Detach as DetachTap}
 use Rattle.dmx_calls.specs.Names.{errno_text, pending_text}
 use Rattle.dmx_calls.specs.declared.limits.TheConstants.{LARGEST_READ}
-use Rattle.dmx_calls.specs.Response.{Response, Done, Busy, Refused, NoMemory, Data, Again, Overflow, TimedOut, Ready, Passed}
+use Rattle.dmx_calls.specs.Response.{Response, Done, Busy, Refused, NoMemory, Data, Again, Overflow, TimedOut, Ready, Passed, TapChange}
 use Rattle.text_forms.specs.Hex.{hex_text, digit_text}
 use Rattle.text_forms.specs.Names.{who_text}
 use Rattle.report_text.specs.Replies.{flag_text, data_text, tap_text, response_text}

@@ -87,12 +87,12 @@ comma (pid ∷ pids) rest stops = refl
 fits_first : (set : List ℕ) (pid : ℕ) (pids : List ℕ) → All (λ p. p < 65536) (pid ∷ pids) → pid < 65536
 fits_first set pid pids all = All-head (λ p. p < 65536) pid pids all
 
-not_full : (set : List ℕ) (pid n : ℕ) → length set + (1 + n) ≤ 32 → is_full_for pid set ≡ false
+not_full : (set : List ℕ) (pid n : ℕ) → length set + (1 + n) ≤ 128 → is_full_for pid set ≡ false
 not_full set pid n room =
-    let few : nat_eq (length set) 32 ≡ false = grind (arith, nat_tests) in
+    let few : nat_eq (length set) 128 ≡ false = grind (arith, nat_tests) in
     rw few (and-false (not (has_pid pid set)))
 
-more_again : (left : ℕ) (set pids rest : List ℕ) → length pids ≤ left → length set + length pids ≤ 32 → Rising (set ++ pids) → All (λ p. p < 65536) pids → EndsSet rest
+more_again : (left : ℕ) (set pids rest : List ℕ) → length pids ≤ left → length set + length pids ≤ 128 → Rising (set ++ pids) → All (λ p. p < 65536) pids → EndsSet rest
     → more_pids left set (flat_map next_pid_text pids ++ rest) ≡ Some (set ++ pids, rest)
 unfolding more_pids pid_step
 more_again zero set [] rest few room up all ends = rw (append-nil set) refl
@@ -120,8 +120,8 @@ pids_again (pid ∷ pids) rest is ends =
     let fits : pid < 65536 = All-head (λ p. p < 65536) pid pids all in
     let one : number16 (decimal pid ++ (flat_map next_pid_text pids ++ rest)) ≡ Some (pid, flat_map next_pid_text pids ++ rest) = number16_again pid (flat_map next_pid_text pids ++ rest) fits (comma pids rest ends.0) in
     let dash : behind (45 ∷ []) (decimal pid ++ (flat_map next_pid_text pids ++ rest)) ≡ None = number_apart 45 pid (flat_map next_pid_text pids ++ rest) (omega arith) refl in
-    let later : more_pids 31 (pid ∷ []) (flat_map next_pid_text pids ++ rest) ≡ Some (pid ∷ pids, rest) =
-    more_again 31 (pid ∷ []) pids rest (omega (arith, is.1)) (omega (arith, is.1)) (rising-from (pid ∷ pids) is.0.ascending) (All-tail (λ p. p < 65536) pid pids all) ends in
+    let later : more_pids 127 (pid ∷ []) (flat_map next_pid_text pids ++ rest) ≡ Some (pid ∷ pids, rest) =
+    more_again 127 (pid ∷ []) pids rest (omega (arith, is.1)) (omega (arith, is.1)) (rising-from (pid ∷ pids) is.0.ascending) (All-tail (λ p. p < 65536) pid pids all) ends in
     let whole : pids_in (decimal pid ++ (flat_map next_pid_text pids ++ rest)) ≡ Some (pid ∷ pids, rest) = rw (dash, choose, one, later) refl in
     rw (append_assoc (decimal pid) (flat_map next_pid_text pids) rest) whole
 

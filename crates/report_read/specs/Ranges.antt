@@ -11,17 +11,16 @@ use Rattle.dmx_calls.specs.declared.outcome.OutcomeKind.{OutcomeKind}
 use Rattle.dmx_calls.specs.declared.outcome.OutcomeKind.TheVariants.{Stc}
 use Rattle.dmx_calls.specs.declared.log.Act.{Act}
 use Rattle.dmx_calls.specs.declared.log.Act.TheVariants.{Open as OpenAct, Close as CloseAct, SetFilter as SetFilterAct, SetPes as SetPesAct, AddPid as AddPidAct, RemovePid as RemovePidAct, Start as StartAct, Stop as StopAct, SetSize as SetSizeAct, Read as ReadAct, Poll as PollAct, Pass as PassAct, End as EndAct, Attach as AttachAct, Detach as DetachAct}
-use Rattle.dmx_calls.specs.declared.reply.Tap.{Tap as TapChange}
 use Rattle.dmx_calls.specs.declared.reply.Tap.TheVariants.{Keep as KeepTap, Attach as AttachTap, Detach as DetachTap}
-use Rattle.dmx_calls.specs.Response.{Response, Done, Busy, Refused, NoMemory, Data, Again, Overflow, TimedOut, Ready, Passed}
+use Rattle.dmx_calls.specs.Response.{Response, Done, Busy, Refused, NoMemory, Data, Again, Overflow, TimedOut, Ready, Passed, TapChange}
 use Rattle.dmx_calls.specs.Log.{LogEntry}
 use Rattle.text_forms.specs.Places.{IsFilter}
 use Rattle.report_text.specs.Told.{ToldNode, Told}
 
 -- ------ calls
--- the PIDs of a filter or a tap: an ascending set of at most 32
+-- the PIDs of a filter or a tap: an ascending set of at most 128
 abbrev pub IsPidSet : List ℕ → Type 0
-IsPidSet pids = ArePids pids × (length pids ≤ 32)
+IsPidSet pids = ArePids pids × (length pids ≤ 128)
 
 -- a call
 abbrev pub IsActInRange : Act → Type 0

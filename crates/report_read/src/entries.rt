@@ -14,7 +14,7 @@ use crate::acts::read_act;
 use crate::bytes::Bytes;
 use crate::parts::read_who;
 use crate::replies::read_reply;
-use dmx_calls::{Act, Entry};
+use dmx_calls::{Act, Entry, KeptAct, SharedReply};
 use report_text::add_entry;
 use std::alloc::{AllocError as NoMemory, Global};
 
@@ -72,8 +72,8 @@ pub fn read_entry(
         place: front.place,
         step: front.step,
         who: front.who,
-        act: front.act,
-        reply,
+        act: KeptAct::of(alloc, front.act)?,
+        reply: SharedReply::of(alloc, None, reply)?,
     }))
 }
 

@@ -28,7 +28,7 @@ fn with_its_range(set: Pids) -> Pids
     ensures same { result ≡ set }
     ensures range { IsPidSet result }
 {
-    let fits = set.len() <= 32;
+    let fits = set.len() <= 128;
     prove!(fits);
     set
 }
@@ -60,7 +60,7 @@ pub fn read_pids(bytes: &mut Bytes<'_>) -> Option<Pids>
         return Some(with_its_range(Pids::new()));
     }
     let pid = bytes.number16()?;
-    let set = read_more_pids(31, Pids::of(pid), bytes)?;
+    let set = read_more_pids(127, Pids::of(pid), bytes)?;
     Some(with_its_range(set))
 }
 

@@ -4,7 +4,7 @@ ghost use Rattle.std.specs.Fmt.{decimal};
 ghost use Rattle.dmx_calls.specs.Names.{input_text, output_text};
 ghost use Rattle.report_text.specs.Acts.{act_text, next_pid_text, pass_text, pes_text, pids_text, section_text};
 
-use dmx_calls::{Act, Input, Output, PesParams, SectionParams};
+use dmx_calls::{Act, Input, KeptAct, Output, PesParams, SectionParams};
 use pid_set::Pids;
 use std::alloc::AllocError as NoMemory;
 use text_forms::{write_decimal, write_filter, write_input, write_output};
@@ -46,8 +46,8 @@ fn add_output(out: &mut Vec<u8>, name: &[u8], output: Output) -> Result<(), NoMe
 #[tactic(auto, unfolding(crate::specs::Acts::pids_text))]
 fn add_set(out: &mut Vec<u8>, pids: &Pids) -> Result<(), NoMemory>
     ensures items { OnOk result (out.new.items ≡ out.old.items ++ pids_text pids.now) }
-    ensures full { OnErr result (vec_capacity out.old < vec_len out.old + 700) }
-    ensures few { vec_len out.new ≤ vec_len out.old + 700 }
+    ensures full { OnErr result (vec_capacity out.old < vec_len out.old + 2720) }
+    ensures few { vec_len out.new ≤ vec_len out.old + 2720 }
     ensures room { vec_capacity out.old ≤ vec_capacity out.new }
 {
     let Some(first) = pids.get(0) else {
@@ -65,8 +65,8 @@ fn add_set(out: &mut Vec<u8>, pids: &Pids) -> Result<(), NoMemory>
 /// A name and the PIDs of a set.
 pub fn add_pids(out: &mut Vec<u8>, name: &[u8], pids: &Pids) -> Result<(), NoMemory>
     ensures items { OnOk result (out.new.items ≡ out.old.items ++ (name.now ++ pids_text pids.now)) }
-    ensures full { OnErr result (vec_capacity out.old < vec_len out.old + (length name.now + 700)) }
-    ensures few { vec_len out.new ≤ vec_len out.old + (length name.now + 700) }
+    ensures full { OnErr result (vec_capacity out.old < vec_len out.old + (length name.now + 2720)) }
+    ensures few { vec_len out.new ≤ vec_len out.old + (length name.now + 2720) }
     ensures room { vec_capacity out.old ≤ vec_capacity out.new }
 {
     out.extend_from_slice(name)?;
@@ -135,8 +135,8 @@ fn add_read(out: &mut Vec<u8>, count: u32, now: u64) -> Result<(), NoMemory>
 // A tap of this demux node for these PIDs.
 fn add_attach(out: &mut Vec<u8>, node: u32, pids: &Pids) -> Result<(), NoMemory>
     ensures items { OnOk result (out.new.items ≡ out.old.items ++ (codes "attach node=" ++ (decimal node ++ (codes " pids=" ++ pids_text pids.now)))) }
-    ensures full { OnErr result (vec_capacity out.old < vec_len out.old + 760) }
-    ensures few { vec_len out.new ≤ vec_len out.old + 760 }
+    ensures full { OnErr result (vec_capacity out.old < vec_len out.old + 2780) }
+    ensures few { vec_len out.new ≤ vec_len out.old + 2780 }
     ensures room { vec_capacity out.old ≤ vec_capacity out.new }
 {
     add_field(out, b"attach node=", node as u64)?;
@@ -145,32 +145,32 @@ fn add_attach(out: &mut Vec<u8>, node: u32, pids: &Pids) -> Result<(), NoMemory>
 
 /// A call.
 #[tactic(auto, unfolding(crate::specs::Acts::act_text))]
-pub fn add_act(out: &mut Vec<u8>, act: &Act) -> Result<(), NoMemory>
+pub fn add_act(out: &mut Vec<u8>, act: &KeptAct) -> Result<(), NoMemory>
     ensures items { OnOk result (out.new.items ≡ out.old.items ++ act_text act.now) }
-    ensures full { OnErr result (vec_capacity out.old < vec_len out.old + 760) }
-    ensures few { vec_len out.new ≤ vec_len out.old + 760 }
+    ensures full { OnErr result (vec_capacity out.old < vec_len out.old + 2780) }
+    ensures few { vec_len out.new ≤ vec_len out.old + 2780 }
     ensures room { vec_capacity out.old ≤ vec_capacity out.new }
 {
-    match act {
+    match act.act() {
         Act::Open => out.extend_from_slice(b"open"),
         Act::Close => out.extend_from_slice(b"close"),
-        Act::SetFilter { params, now } => add_section(out, params, *now),
-        Act::SetPes { params, now } => add_pes(out, params, *now),
-        Act::AddPid(pid) => add_field(out, b"add ", *pid as u64),
-        Act::RemovePid(pid) => add_field(out, b"remove ", *pid as u64),
-        Act::Start { now } => add_field(out, b"start at=", *now),
+        Act::SetFilter { params, now } => add_section(out, &params, now),
+        Act::SetPes { params, now } => add_pes(out, &params, now),
+        Act::AddPid(pid) => add_field(out, b"add ", pid as u64),
+        Act::RemovePid(pid) => add_field(out, b"remove ", pid as u64),
+        Act::Start { now } => add_field(out, b"start at=", now),
         Act::Stop => out.extend_from_slice(b"stop"),
-        Act::SetSize(size) => add_field(out, b"size ", *size as u64),
-        Act::Read { now, count } => add_read(out, *count, *now),
-        Act::Poll { now } => add_field(out, b"poll at=", *now),
+        Act::SetSize(size) => add_field(out, b"size ", size as u64),
+        Act::Read { now, count } => add_read(out, count, now),
+        Act::Poll { now } => add_field(out, b"poll at=", now),
         Act::Pass {
             input,
             first,
             count,
             now,
-        } => add_pass(out, *input, *first, *count, *now),
+        } => add_pass(out, input, first, count, now),
         Act::End => out.extend_from_slice(b"end"),
-        Act::Attach { node, pids } => add_attach(out, *node, pids),
-        Act::Detach { node } => add_field(out, b"detach node=", *node as u64),
+        Act::Attach { node, pids } => add_attach(out, node, &pids),
+        Act::Detach { node } => add_field(out, b"detach node=", node as u64),
     }
 }

@@ -12,7 +12,7 @@ use std::marker::Model;
 const PIECE: usize = 65536;
 
 // The most bytes of a line: a client's, with 65,536 bytes of data in two digits each.
-const LONGEST_LINE: usize = 132000;
+const LONGEST_LINE: usize = 134000;
 
 /// The text that waits to be written: less than a piece, with room for a longest line behind it. A contract sees its bytes.
 #[derive(Drop)]
@@ -28,7 +28,7 @@ impl Model for Waiting {
 
     ghost view = { λ w. w.bytes.items };
 
-    ghost invariant = { λ w. (vec_len w.bytes < 65536) × (197536 ≤ vec_capacity w.bytes) };
+    ghost invariant = { λ w. (vec_len w.bytes < 65536) × (199536 ≤ vec_capacity w.bytes) };
 }
 
 impl Waiting {

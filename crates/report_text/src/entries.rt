@@ -34,8 +34,8 @@ fn add_caller(out: &mut Vec<u8>, place: u64, who: u32, step: u64) -> Result<(), 
 /// `PLACE WHO STEP ACT = REPLY` and a line feed.
 pub fn add_entry(out: &mut Vec<u8>, entry: &Entry) -> Result<(), NoMemory>
     ensures items { OnOk result (out.new.items ≡ out.old.items ++ entry_text (told_entry entry.now)) }
-    ensures full { OnErr result (vec_capacity out.old < vec_len out.old + 132000) }
-    ensures few { vec_len out.new ≤ vec_len out.old + 132000 }
+    ensures full { OnErr result (vec_capacity out.old < vec_len out.old + 134000) }
+    ensures few { vec_len out.new ≤ vec_len out.old + 134000 }
     ensures room { vec_capacity out.old ≤ vec_capacity out.new }
 {
     add_caller(out, entry.place, entry.who, entry.step)?;

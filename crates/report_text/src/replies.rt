@@ -7,7 +7,7 @@ ghost use Rattle.text_forms.specs.Names.{who_text};
 ghost use Rattle.report_text.specs.Replies.{data_text, flag_text, response_text, tap_text};
 
 use crate::acts::{add_field, add_pids};
-use dmx_calls::{PollError, Reply, Span, Tap};
+use dmx_calls::{LogTap, PollError, Reply, SharedReply, Span, Tap};
 use std::alloc::AllocError as NoMemory;
 use text_forms::{write_hex, write_who};
 
@@ -57,23 +57,23 @@ fn add_data(out: &mut Vec<u8>, bytes: &[u8]) -> Result<(), NoMemory>
 }
 
 #[tactic(auto, unfolding(crate::specs::Replies::tap_text))]
-fn add_tap(out: &mut Vec<u8>, tap: &Tap) -> Result<(), NoMemory>
+fn add_tap(out: &mut Vec<u8>, tap: &LogTap) -> Result<(), NoMemory>
     ensures items { OnOk result (out.new.items ≡ out.old.items ++ tap_text tap.now) }
-    ensures full { OnErr result (vec_capacity out.old < vec_len out.old + 710) }
-    ensures few { vec_len out.new ≤ vec_len out.old + 710 }
+    ensures full { OnErr result (vec_capacity out.old < vec_len out.old + 2730) }
+    ensures few { vec_len out.new ≤ vec_len out.old + 2730 }
     ensures room { vec_capacity out.old ≤ vec_capacity out.new }
 {
     match tap {
         Tap::Keep => out.extend_from_slice(b"keep"),
-        Tap::Attach(pids) => add_pids(out, b"attach:", pids),
+        Tap::Attach(pids) => add_pids(out, b"attach:", &pids.set()),
         Tap::Detach => out.extend_from_slice(b"detach"),
     }
 }
 
-fn add_done(out: &mut Vec<u8>, dropped: &Span, tap: &Tap) -> Result<(), NoMemory>
+fn add_done(out: &mut Vec<u8>, dropped: &Span, tap: &LogTap) -> Result<(), NoMemory>
     ensures items { OnOk result (out.new.items ≡ out.old.items ++ (codes "done drop=" ++ (decimal dropped.now.from ++ (codes ".." ++ (decimal dropped.now.to ++ (codes " tap=" ++ tap_text tap.now)))))) }
-    ensures full { OnErr result (vec_capacity out.old < vec_len out.old + 800) }
-    ensures few { vec_len out.new ≤ vec_len out.old + 800 }
+    ensures full { OnErr result (vec_capacity out.old < vec_len out.old + 2820) }
+    ensures few { vec_len out.new ≤ vec_len out.old + 2820 }
     ensures room { vec_capacity out.old ≤ vec_capacity out.new }
 {
     add_field(out, b"done drop=", dropped.from)?;
@@ -136,13 +136,13 @@ fn add_ready(
 
 /// A reply.
 #[tactic(auto, using(crate::proofs::Short::short_errno), unfolding(crate::specs::Replies::response_text))]
-pub fn add_reply(out: &mut Vec<u8>, reply: &Reply) -> Result<(), NoMemory>
+pub fn add_reply(out: &mut Vec<u8>, reply: &SharedReply) -> Result<(), NoMemory>
     ensures items { OnOk result (out.new.items ≡ out.old.items ++ response_text (response_of reply.now)) }
     ensures full { OnErr result (vec_capacity out.old < vec_len out.old + 131100) }
     ensures few { vec_len out.new ≤ vec_len out.old + 131100 }
     ensures room { vec_capacity out.old ≤ vec_capacity out.new }
 {
-    match reply {
+    match reply.told() {
         Reply::Done { dropped, tap } => add_done(out, dropped, tap),
         Reply::Busy { owner } => add_who(out, b"busy owner=", *owner),
         Reply::Refused(errno) => out.extend_from_slice(errno.name().as_bytes()),

@@ -9,7 +9,7 @@ ghost use Rattle.report_text.specs.Summary.{data_bytes as bytes_of_response, is_
 
 use crate::acts::add_field;
 use dmx_calls::limits::DEMUX_NODES;
-use dmx_calls::{Entry, Histories, Reply};
+use dmx_calls::{Entry, Histories, Reply, SharedReply};
 use itoa::Buffer;
 use std::alloc::{AllocError as NoMemory, Global};
 use ts_watch::Head;
@@ -23,27 +23,27 @@ struct Sums {
 }
 
 /// How many bytes a reply answers.
-pub fn data_bytes(reply: &Reply) -> usize
+pub fn data_bytes(reply: &SharedReply) -> usize
     ensures value { result ≡ bytes_of_response (response_of reply.now) }
     ensures bound { result < 2 ^ 63 }
 {
-    match reply {
+    match reply.told() {
         Reply::Data(buf) => buf.bytes().len(),
         _ => 0,
     }
 }
 
-fn is_overflow(reply: &Reply) -> bool
+fn is_overflow(reply: &SharedReply) -> bool
     ensures { result ≡ tells_overflow (response_of reply.now) }
 {
-    matches!(reply, Reply::Overflow { .. })
+    matches!(reply.told(), Reply::Overflow { .. })
 }
 
 // The bytes that are read in these calls.
 fn bytes_read(calls: &[Entry]) -> u128
-    requires { length calls.now < 2 ^ 56 }
+    requires { length calls.now < 2 ^ 57 }
     ensures value { result ≡ bytes_of_entries (map told_entry calls.now) }
-    ensures bound { result ≤ 2 ^ 119 }
+    ensures bound { result ≤ 2 ^ 120 }
 {
     let mut sum: u128 = 0;
     'calls: for call in calls {
@@ -70,7 +70,7 @@ fn overflows(calls: &[Entry]) -> usize
 fn node_sums(histories: &Histories, node: u32) -> Sums
     requires { node ≤ DEMUX_NODES }
     ensures sums { AreSums (take 1 (drop node histories.now)) result }
-    ensures bound { AreAtMost (2 ^ 120) result }
+    ensures bound { AreAtMost (2 ^ 121) result }
     ensures nodes { length histories.now ≡ DEMUX_NODES + 1 }
 {
     let (feeding, calls) = histories.node(node);

@@ -5,8 +5,7 @@ use Rattle.std.proofs.lemmas.List.{map-append, reverse-append}
 use Rattle.dmx_calls.specs.declared.reply.Errno.{Errno}
 use Rattle.dmx_calls.specs.Invocation as call
 use Rattle.dmx_calls.specs.Invocation.{Invocation}
-use Rattle.dmx_calls.specs.declared.reply.Tap.{Tap as TapChange}
-use Rattle.dmx_calls.specs.Response.{Response, NoMemory, Again}
+use Rattle.dmx_calls.specs.Response.{Response, NoMemory, Again, TapChange}
 use Rattle.dmx_calls.specs.History.{History, entry_of}
 use Rattle.dmx_calls.specs.Tenure.{has_ended}
 use Rattle.dmx_calls.specs.Rules.{Rules, rules_at}

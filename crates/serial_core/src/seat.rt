@@ -14,7 +14,7 @@ ghost use Rattle.serial_core.specs.Inside.Standing.{IsSeat, StandsAt, entries_in
 
 use crate::node::AnyCore;
 use client_core::{ClientCore, fitted, unless_no_memory};
-use dmx_calls::{Act, Call, Entry, Reply};
+use dmx_calls::{Act, Call, Entry, KeptAct, Reply, SharedReply};
 use std::alloc::{AllocError as NoMemory, Global};
 use std::sync::ledger::Ledger;
 use steps::Steps;
@@ -111,14 +111,17 @@ impl Seat {
         let place = self.core.entries();
         let act = Act::of(&call);
         let reply = self.hear(who, call, steps)?;
-        client.take(&reply);
+        let act = KeptAct::of(alloc, act)?;
+        let fitting = fitted(alloc, reply)?;
+        let kept = SharedReply::of(alloc, self.entries.last(), fitting)?;
+        client.take(kept.told());
         self.entries.push(Entry {
-            node: self.node,
             place,
             step: nth,
+            node: self.node,
             who,
             act,
-            reply: fitted(alloc, reply)?,
+            reply: kept,
         })?;
         Ok(())
     }

@@ -4,11 +4,11 @@ ghost use Rattle.dmx_calls.specs.Calls.{told_entry};
 ghost use Rattle.dmx_calls.specs.Log.{act_of};
 ghost use Rattle.client_core.specs.Commands.{call_of, own_call};
 ghost use Rattle.script_run.specs.IsRun.{IsEvent};
-ghost use Rattle.walk_check.specs.Inside.Steps.{moment_in};
+ghost use Rattle.walk_check.specs.Inside.Steps.{asked_at, moment_in};
 
 use client_core::{Event, Request};
 use client_script::Want;
-use dmx_calls::{Act, Entry};
+use dmx_calls::{Act, Entry, KeptAct};
 
 // The moment of a call; 0 where it has none.
 fn moment_of(act: &Act) -> u64
@@ -66,13 +66,20 @@ fn is_same(this: &Act, other: &Act) -> bool
     this == other
 }
 
+// Whether a told call is this one, at its own moment.
+fn is_asked(request: &Request, told: &KeptAct) -> bool
+    ensures same { result ≡ true → told.now ≡ asked_at request.now told.now }
+    ensures differs { result ≡ false → told.now ≢ asked_at request.now told.now }
+{
+    let act = told.act();
+    is_same(&act, &asked(request, moment_of(&act)))
+}
+
 /// Whether a told entry is this event of its client: on its node, with its step, and the call that is asked for, at some moment.
 #[tactic(auto, using(crate::proofs::Asked::asked_rules))]
 pub fn is_event(event: &Event, entry: &Entry) -> bool
     ensures is { result ≡ true → IsEvent (Some event.now) (told_entry entry.now) × (entry.now.step ≡ event.now.step) }
     ensures other { result ≡ false → IsEvent (Some event.now) (told_entry entry.now) → entry.now.step ≢ event.now.step }
 {
-    entry.node == event.node
-        && entry.step == event.step
-        && is_same(&entry.act, &asked(&event.want, moment_of(&entry.act)))
+    entry.node == event.node && entry.step == event.step && is_asked(&event.want, &entry.act)
 }

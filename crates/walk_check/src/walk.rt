@@ -31,7 +31,7 @@ pub fn is_walked(core: &mut ClientCore, client: u32, nodes: &mut Vec<&[Entry]>) 
         if !is_event(&event, entry) {
             return false;
         }
-        core.take(&entry.reply);
+        core.take(entry.reply.told());
     }
     is_none_left(nodes, client)
 }

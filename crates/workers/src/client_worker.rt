@@ -18,7 +18,7 @@ ghost use Rattle.workers.specs.Inside.Working.{IsFit, MayWork, IsWorking, MayCal
 use crate::moment::moment_of;
 use adapter::{Adapter, Client};
 use client_core::{ClientCore, Event, MOST_CALLS, Stop, call_of, fitted, unless_no_memory};
-use dmx_calls::{Act, Entry};
+use dmx_calls::{Act, Entry, KeptAct, SharedReply};
 use emu_io::{Clock, Gate};
 use std::alloc::{AllocError as NoMemory, Global};
 use std::marker::Brand;
@@ -80,17 +80,20 @@ impl ClientWorker {
         self.log.reserve(1)?;
         let Event { step, node, want } = event;
         let call = call_of(alloc, &want, now)?;
-        let act = Act::of(&call);
+        let asked = Act::of(&call);
+        let act = KeptAct::of(alloc, asked)?;
         let (place, answer) = self.client.call(rt, adapter, node, call, steps);
         let reply = unless_no_memory(answer.reply)?;
-        self.core.take(&reply);
+        let fitting = fitted(alloc, reply)?;
+        let kept = SharedReply::of(alloc, self.log.last(), fitting)?;
+        self.core.take(kept.told());
         self.log.push_reserved(Entry {
-            node,
             place,
             step,
+            node,
             who: self.who,
             act,
-            reply: fitted(alloc, reply)?,
+            reply: kept,
         });
         Ok(())
     }

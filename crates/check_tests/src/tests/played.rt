@@ -5,7 +5,7 @@ ghost use Rattle.dmx_calls.specs.Calls.{told_entry};
 ghost use Rattle.history_check.specs.Playing.{IsCallable, IsToldBy};
 
 use crate::tests::told::{DONE, Made, Row, Said, data, entry_of};
-use dmx_calls::{Act, Answer, Call, Entry, Errno, PollError, Told};
+use dmx_calls::{Act, Answer, Call, Entry, Errno, PollError, SharedReply, Told};
 use dvr_core::DvrCore;
 use history_check::is_played;
 use machine::Machine;
@@ -62,7 +62,8 @@ fn are_callable(packets: &[Packet], entries: &[Entry]) -> bool
 {
     match entries.split_first() {
         None => true,
-        Some((first, later)) => is_callable(packets, &first.act) && are_callable(packets, later),
+        Some((first, later)) => is_callable(packets, &first.act.act())
+            && are_callable(packets, later),
     }
 }
 
@@ -425,7 +426,7 @@ fn read_of(alloc: Global, pid: u8, counter: u8, spoilt: bool) -> Result<Entry, N
         bytes[187] = 0;
     }
     let mut entry = entry_of(alloc, 3, 0, (1, Made::Read(0, 188), Said::Passed))?;
-    entry.reply = data(alloc, &bytes)?;
+    entry.reply = SharedReply::of(alloc, None, data(alloc, &bytes)?)?;
     Ok(entry)
 }
 

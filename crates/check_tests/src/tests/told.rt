@@ -1,8 +1,8 @@
 // Told entries, as rows.
 
 use dmx_calls::{
-    Act, ByteBuf, Entry, Errno, Input, Output, PesParams, PollError, Reply, SectionParams, Span,
-    Tap,
+    Act, ByteBuf, Entry, Errno, Input, KeptAct, Output, PesParams, PollError, Reply, SectionParams,
+    SharedReply, Span, Tap,
 };
 use filter_match::{Place, SectionFilter};
 use pid_set::Pids;
@@ -197,11 +197,11 @@ pub fn reply_of(alloc: Global, said: Said) -> Result<Reply, NoMemory> {
 pub fn entry_of(alloc: Global, node: u32, step: u64, row: Row) -> Result<Entry, NoMemory> {
     let (who, made, said) = row;
     Ok(Entry {
-        node,
         place: 0,
         step,
+        node,
         who,
-        act: act_of(made),
-        reply: reply_of(alloc, said)?,
+        act: KeptAct::of(alloc, act_of(made))?,
+        reply: SharedReply::of(alloc, None, reply_of(alloc, said)?)?,
     })
 }

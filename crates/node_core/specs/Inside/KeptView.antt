@@ -5,9 +5,8 @@ use Rattle.dmx_calls.specs.declared.limits.TheConstants.{DEMUX_SIZE}
 use Rattle.dmx_calls.specs.Invocation.{Invocation}
 use Rattle.dmx_calls.specs.Tenure.{Empty}
 use Rattle.dmx_calls.specs.Calls.{params_of, pids_of}
-use Rattle.dmx_calls.specs.declared.reply.Tap.{Tap as TapChange}
 use Rattle.dmx_calls.specs.declared.reply.Tap.TheVariants.{Keep as KeepTap, Attach as AttachTap, Detach as DetachTap}
-use Rattle.dmx_calls.specs.Response.{Response, Passed}
+use Rattle.dmx_calls.specs.Response.{Response, Passed, TapChange}
 use Rattle.dmx_calls.specs.Answer.{is_recording, response_to}
 use Rattle.item_select.specs.Selecting.{bytes_held}
 use Rattle.node_core.specs.declared.kept.Kept.{Kept}

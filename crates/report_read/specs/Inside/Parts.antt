@@ -12,12 +12,11 @@ use Rattle.dmx_calls.specs.declared.params.Output.TheVariants as output
 use Rattle.dmx_calls.specs.declared.reply.Errno.TheVariants as errno
 use Rattle.dmx_calls.specs.declared.reply.PollError.{PollError}
 use Rattle.dmx_calls.specs.declared.reply.PollError.TheVariants as pending
-use Rattle.dmx_calls.specs.declared.reply.Tap.{Tap as TapChange}
 use Rattle.dmx_calls.specs.declared.reply.Tap.TheVariants.{Keep as KeepTap, Attach as AttachTap, Detach as DetachTap}
 use Rattle.dmx_calls.specs.declared.log.Act.{Act}
 use Rattle.dmx_calls.specs.declared.log.Act.TheVariants.{Open as OpenAct, Close as CloseAct, SetFilter as SetFilterAct, SetPes as SetPesAct, AddPid as AddPidAct, RemovePid as RemovePidAct, Start as StartAct, Stop as StopAct, SetSize as SetSizeAct, Read as ReadAct, Poll as PollAct, Pass as PassAct, End as EndAct, Attach as AttachAct, Detach as DetachAct}
 use Rattle.dmx_calls.specs.declared.limits.TheConstants.{LARGEST_READ}
-use Rattle.dmx_calls.specs.Response.{Response, Done, Busy, Refused, NoMemory, Data, Again, Overflow, TimedOut, Ready, Passed}
+use Rattle.dmx_calls.specs.Response.{Response, Done, Busy, Refused, NoMemory, Data, Again, Overflow, TimedOut, Ready, Passed, TapChange}
 use Rattle.report_read.specs.Inside.Reading.{Reading, and_then, made, past, choose, number_in, number16, number32, number64, byte_in, bytes_in, begins_number}
 
 -- ------ words
@@ -52,9 +51,9 @@ who_in bytes =
 
 -- ------ sets and filters
 
--- a set of 32 PIDs takes no other
+-- a set of 128 PIDs takes no other
 abbrev pub is_full_for : (pid : ℕ) → (set : List ℕ) → Bool
-is_full_for pid set = not (has_pid pid set) && nat_eq (length set) 32
+is_full_for pid set = not (has_pid pid set) && nat_eq (length set) 128
 
 -- one more PID
 unfoldable pub pid_step : (set bytes : List ℕ) → Reading (List ℕ)
@@ -68,11 +67,11 @@ more_pids (suc left) set bytes =
     choose (codes ",") bytes (λ bytes. and_then (pid_step set bytes) (λ set bytes. more_pids left set bytes))
     (Some (set, bytes))
 
--- the PIDs of a set, at most 32
+-- the PIDs of a set, at most 128
 unfoldable pub pids_in : List ℕ → Reading (List ℕ)
 pids_in bytes =
     choose (codes "-") bytes (λ bytes. Some ([], bytes))
-    (and_then (number16 bytes) (λ pid bytes. more_pids 31 (pid ∷ []) bytes))
+    (and_then (number16 bytes) (λ pid bytes. more_pids 127 (pid ∷ []) bytes))
 
 -- `I=FF/MM/DD`
 unfoldable pub place_in : List ℕ → Reading Place

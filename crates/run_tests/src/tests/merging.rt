@@ -3,22 +3,29 @@
 ghost use Rattle.std.specs.Prelude.{◌≡◌, ◌≤◌, IfOk};
 ghost use Rattle.trace_merge.specs.Merging.{AreOnNodes};
 
-use dmx_calls::{Act, Entry, Fed, Histories, Reply};
+use dmx_calls::{Act, Entry, Fed, Histories, KeptAct, Reply, SharedReply};
 use std::alloc::{AllocError as NoMemory, Global};
 use trace_merge::histories;
 
 // An entry that names itself by the size that it asks for.
-fn told(node: u32, place: u64, step: u64, who: u32, size: u32) -> Entry
-    ensures { result.node ≡ node }
+fn told(
+    alloc: Global,
+    node: u32,
+    place: u64,
+    step: u64,
+    who: u32,
+    size: u32,
+) -> Result<Entry, NoMemory>
+    ensures { IfOk result (λ entry. entry.node ≡ node) }
 {
-    Entry {
-        node,
+    Ok(Entry {
         place,
         step,
+        node,
         who,
-        act: Act::SetSize(size),
-        reply: Reply::Passed,
-    }
+        act: KeptAct::of(alloc, Act::SetSize(size))?,
+        reply: SharedReply::of(alloc, None, Reply::Passed)?,
+    })
 }
 
 // The log of client 0.
@@ -26,9 +33,9 @@ fn first_log(alloc: Global) -> Result<Vec<Entry>, NoMemory>
     ensures { IfOk result (λ log. AreOnNodes log.items) }
 {
     Ok(vec![in alloc;
-        told(0, 0, 0, 1, 10),
-        told(32, 1, 1, 1, 11),
-        told(0, 3, 2, 1, 12),
+        told(alloc, 0, 0, 0, 1, 10)?,
+        told(alloc, 32, 1, 1, 1, 11)?,
+        told(alloc, 0, 3, 2, 1, 12)?,
     ]?)
 }
 
@@ -37,9 +44,9 @@ fn second_log(alloc: Global) -> Result<Vec<Entry>, NoMemory>
     ensures { IfOk result (λ log. AreOnNodes log.items) }
 {
     Ok(vec![in alloc;
-        told(0, 1, 0, 2, 20),
-        told(32, 3, 1, 2, 21),
-        told(0, 5, 2, 2, 22),
+        told(alloc, 0, 1, 0, 2, 20)?,
+        told(alloc, 32, 3, 1, 2, 21)?,
+        told(alloc, 0, 5, 2, 2, 22)?,
     ]?)
 }
 
@@ -49,7 +56,7 @@ static WANTS: [(u32, &[u32]); 3] = [(0, &[10, 20, 12, 22]), (5, &[]), (32, &[11,
 // Whether the calls ask for these sizes, in this order.
 fn ask_for(calls: &[Entry], sizes: &[u32]) -> bool {
     for (call, size) in calls.iter().zip(sizes.iter()) {
-        if call.act != Act::SetSize(*size) {
+        if call.act.act() != Act::SetSize(*size) {
             return false;
         }
     }

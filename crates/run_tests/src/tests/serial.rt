@@ -28,7 +28,7 @@ fn replies(ran: &Left, node: u32, from: usize) -> &[Entry]
 
 // Whether the reply is the bytes of these packets, each of the PID 256 and its number, with its counter.
 fn is_data(entry: &Entry, packets: &[(u8, u8)]) -> bool {
-    let Reply::Data(buf) = &entry.reply else {
+    let Reply::Data(buf) = entry.reply.told() else {
         return false;
     };
     let mut bytes = buf.bytes();
@@ -53,7 +53,7 @@ fn tells_the_overflow_first(ran: &Left) -> bool {
         return false;
     };
     let is_told = matches!(
-        lost.reply,
+        lost.reply.told(),
         Reply::Overflow {
             from: 0,
             to: 564,
@@ -97,7 +97,7 @@ const DRAIN: &str =
 fn has_read_each_byte(ran: &Left) -> bool {
     let calls = replies(ran, 0, 0);
     let is_last = match calls.last() {
-        Some(last) => matches!(last.reply, Reply::Again { ended: true }),
+        Some(last) => matches!(last.reply.told(), Reply::Again { ended: true }),
         None => false,
     };
     is_last && calls.len() == 3 + 1 + 188 + 1 + 1 && calls.len() <= 33 * (4 + 2 * 188 + 1)

@@ -115,12 +115,12 @@ fn log_of(left: &Left, client: usize) -> &[Entry] {
 
 // Whether a reply is that the call was done.
 fn is_done(entry: &Entry) -> bool {
-    matches!(entry.reply, Reply::Done { .. })
+    matches!(entry.reply.told(), Reply::Done { .. })
 }
 
 // The owner that a reply names, as a caller number; 0 where it names none.
 fn owner_in(entry: &Entry) -> u32 {
-    match &entry.reply {
+    match entry.reply.told() {
         Reply::Busy { owner } => *owner,
         _ => 0,
     }
@@ -128,9 +128,9 @@ fn owner_in(entry: &Entry) -> u32 {
 
 // The moment of a poll or a read.
 fn moment_in(entry: &Entry) -> Option<u64> {
-    match &entry.act {
-        Act::Poll { now } => Some(*now),
-        Act::Read { now, .. } => Some(*now),
+    match entry.act.act() {
+        Act::Poll { now } => Some(now),
+        Act::Read { now, .. } => Some(now),
         _ => None,
     }
 }
@@ -171,7 +171,8 @@ fn has_one_poll(left: &Left) -> bool {
     let [poll] = log_of(left, 0) else {
         return false;
     };
-    poll.act == Act::Poll { now: 7 } && matches!(poll.reply, Reply::Refused(Errno::Ebadf))
+    poll.act.act() == Act::Poll { now: 7 }
+        && matches!(poll.reply.told(), Reply::Refused(Errno::Ebadf))
 }
 
 #[test]
@@ -187,12 +188,12 @@ fn has_timed_out(left: &Left) -> bool {
     let [_, _, _, read] = log_of(left, 0) else {
         return false;
     };
-    match read.reply {
+    match read.reply.told() {
         Reply::TimedOut {
             started,
             now,
             timeout,
-        } => timeout == 1 && now > started,
+        } => *timeout == 1 && now > started,
         _ => false,
     }
 }
@@ -294,10 +295,10 @@ fn has_waited(left: &Left) -> bool {
     let [_, _, _, first, second] = log_of(left, 0) else {
         return false;
     };
-    let Reply::Data(buf) = &second.reply else {
+    let Reply::Data(buf) = second.reply.told() else {
         return false;
     };
-    matches!(first.reply, Reply::Again { ended: false })
+    matches!(first.reply.told(), Reply::Again { ended: false })
         && first.place == 3
         && second.place > 4
         && buf.bytes().len() == 188

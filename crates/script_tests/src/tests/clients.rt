@@ -4,8 +4,8 @@ use client_core::{
     ClientCore, Event, MOST_CALLS, Request, Stop, call_of, fitted, unless_no_memory,
 };
 use client_script::{MOST_BYTES, Script, Want};
-use dmx_calls::{ByteBuf, Call, Outcome, OutcomeKind, Reply, Span, Tap};
-use pid_set::Pids;
+use dmx_calls::{ByteBuf, Call, LogReply, LogTap, Outcome, OutcomeKind, Reply, Span, Tap};
+use pid_set::{KeptPids, Pids};
 use std::alloc::{AllocError as NoMemory, Global};
 use std::process::Abort;
 
@@ -22,7 +22,7 @@ fn client_of(rt: &impl Abort, alloc: Global, script: &[u8], client: u32) -> Clie
 }
 
 // Done, with nothing dropped.
-const fn done(tap: Tap) -> Reply {
+const fn done(tap: LogTap) -> LogReply {
     Reply::Done {
         dropped: Span { from: 0, to: 0 },
         tap,
@@ -30,14 +30,14 @@ const fn done(tap: Tap) -> Reply {
 }
 
 // The client takes a reply.
-fn take(rt: &impl Abort, core: &mut ClientCore, reply: Reply) {
+fn take(rt: &impl Abort, core: &mut ClientCore, reply: LogReply) {
     assert!(rt; core.next().is_some(), "a reply to no call");
     assert!(rt; core.steps() < 1_000_000);
     core.take(&reply);
 }
 
 // The client takes a reply, and this call has to be its next.
-fn answer(rt: &impl Abort, core: &mut ClientCore, reply: Reply, next: &Option<Event>) {
+fn answer(rt: &impl Abort, core: &mut ClientCore, reply: LogReply, next: &Option<Event>) {
     take(rt, core, reply);
     assert!(rt; core.next() == *next, "the call {}", core.steps());
 }
@@ -185,7 +185,7 @@ fn a_waiting_read_is_repeated_until_there_are_bytes(rt: HostRuntime) {
 }
 
 // Bytes that were lost.
-const fn lost() -> Reply {
+const fn lost() -> LogReply {
     Reply::Overflow {
         from: 1,
         to: 189,
@@ -218,7 +218,10 @@ fn the_dvr_node_is_told_of_a_tap(rt: HostRuntime) {
         node: 3,
         pids: pids(&[17, 256]),
     };
-    let tap = Tap::Attach(pids(&[256, 17]));
+    let Ok(kept) = KeptPids::of(rt.alloc(), &pids(&[256, 17])) else {
+        panic!(rt; "no memory");
+    };
+    let tap = Tap::Attach(kept);
     answer(&rt, &mut core, done(tap), &telling(1, told));
     answer(&rt, &mut core, done(Tap::Keep), &event(2, 3, Want::Stop));
     let told = telling(3, Request::Detach { node: 3 });

@@ -91,40 +91,40 @@ fn a_set_keeps_its_order_and_its_bound(rt: HostRuntime) {
     );
 }
 
-// Adds 32 PIDs, from the highest, 4000, down to 900, and says whether each was new.
-fn adds_32(set: &mut Pids) -> bool {
-    for i in 0..32u16 {
-        if set.add(4000 - 100 * i) != Ok(true) {
+// Adds 128 PIDs, from the highest, 8000, down to 380, and says whether each was new.
+fn adds_128(set: &mut Pids) -> bool {
+    for i in 0..128u16 {
+        if set.add(8000 - 60 * i) != Ok(true) {
             return false;
         }
     }
     true
 }
 
-// Whether these 32 PIDs stand in their places, and the PIDs behind them are absent.
-fn has_32(set: &Pids) -> bool {
-    for i in 0..32u16 {
-        let pid = 900 + 100 * i;
+// Whether these 128 PIDs stand in their places, and the PIDs behind them are absent.
+fn has_128(set: &Pids) -> bool {
+    for i in 0..128u16 {
+        let pid = 380 + 60 * i;
         if set.get(usize::from(i)) != Some(pid) || !set.has(pid) || set.has(pid + 1) {
             return false;
         }
     }
-    set.len() == 32
+    set.len() == 128
 }
 
 // Whether a full set refuses PID 5 until PID 2000 is removed.
 fn is_full_until_one_is_removed(set: &mut Pids) -> bool {
     set.add(5) == Err(PidsFull)
-        && set.add(900) == Ok(false)
+        && set.add(380) == Ok(false)
         && set.remove(2000)
         && set.add(5) == Ok(true)
-        && set.len() == 32
+        && set.len() == 128
 }
 
 #[test]
-fn the_pids_of_a_filter_are_32(rt: HostRuntime) {
+fn the_pids_of_a_filter_are_128(rt: HostRuntime) {
     let mut set = Pids::new();
-    assert!(rt; adds_32(&mut set) && has_32(&set) && is_full_until_one_is_removed(&mut set));
+    assert!(rt; adds_128(&mut set) && has_128(&set) && is_full_until_one_is_removed(&mut set));
 }
 
 static PIDS: [u16; 6] = [0, 255, 256, 257, 0x1fff, 0x2000];

@@ -21,7 +21,11 @@ const FULL: Was = Packets(
     Output::TsdemuxTap,
     &[
         0, 1, 2, 3, 4, 5, 6, 7, 8, 9, 10, 11, 12, 13, 14, 15, 16, 17, 18, 19, 20, 21, 22, 23, 24,
-        25, 26, 27, 28, 29, 30, 31,
+        25, 26, 27, 28, 29, 30, 31, 32, 33, 34, 35, 36, 37, 38, 39, 40, 41, 42, 43, 44, 45, 46, 47,
+        48, 49, 50, 51, 52, 53, 54, 55, 56, 57, 58, 59, 60, 61, 62, 63, 64, 65, 66, 67, 68, 69, 70,
+        71, 72, 73, 74, 75, 76, 77, 78, 79, 80, 81, 82, 83, 84, 85, 86, 87, 88, 89, 90, 91, 92, 93,
+        94, 95, 96, 97, 98, 99, 100, 101, 102, 103, 104, 105, 106, 107, 108, 109, 110, 111, 112,
+        113, 114, 115, 116, 117, 118, 119, 120, 121, 122, 123, 124, 125, 126, 127,
     ],
 );
 
@@ -123,10 +127,10 @@ pub const PIDS: &[Row] = &[
     (RECORDED, Step::Add(256), WITH_FILTER),
     (RECORDED, Step::Add(0), REFUSED),
     (NOT_RECORDED, Step::Add(0), WITH_FILTER),
-    // 32 PIDs at most
+    // 128 PIDs at most
     (
         FULL,
-        Step::Add(32),
+        Step::Add(128),
         [EINVAL, ENOSPC, ENOSPC, ENOSPC, ENOSPC, EINVAL],
     ),
     (
@@ -134,9 +138,9 @@ pub const PIDS: &[Row] = &[
         Step::Add(8192),
         [EINVAL, ENOSPC, ENOSPC, ENOSPC, ENOSPC, EINVAL],
     ),
-    (FULL, Step::Add(31), WITH_FILTER),
+    (FULL, Step::Add(127), WITH_FILTER),
     (FULL, Step::Add(8193), REFUSED),
-    (FULL, Step::Remove(32), WITH_FILTER),
+    (FULL, Step::Remove(128), WITH_FILTER),
 ];
 
 /// The other calls.

@@ -1,6 +1,6 @@
 //! Whole reports.
 
-use dmx_calls::{Act, OutcomeKind, Reply};
+use dmx_calls::{Act, LogReply, OutcomeKind, Reply};
 use report_read::{Told, read_report};
 use std::alloc::{AllocError as NoMemory, Global};
 
@@ -66,11 +66,11 @@ fn is_whole(told: &Told) -> bool {
         && read.place == 1
         && read.who == 1
         && read.step == 3
-        && matches!(read.act, Act::Read { now: 9, count: 4 })
-        && is_data(&read.reply)
+        && matches!(read.act.act(), Act::Read { now: 9, count: 4 })
+        && is_data(read.reply.told())
 }
 
-fn is_data(reply: &Reply) -> bool {
+fn is_data(reply: &LogReply) -> bool {
     match reply {
         Reply::Data(buf) => buf.bytes() == b"\x47\x01\x00\x10".as_slice(),
         _ => false,

@@ -2,7 +2,8 @@
 
 use dmx_calls::limits::LARGEST_READ;
 use dmx_calls::{
-    Act, ByteBuf, Entry, Errno, Input, PesParams, PollError, Reply, SectionParams, Span, Tap,
+    Act, ByteBuf, Entry, Errno, Input, KeptAct, PesParams, PollError, Reply, SectionParams,
+    SharedReply, Span, Tap,
 };
 use pid_set::Pids;
 use std::alloc::{AllocError as NoMemory, Global};
@@ -160,11 +161,11 @@ pub fn entry_of(alloc: Global, node: u32, row: Row) -> Result<Entry, NoMemory> {
     let (place, step, who, asked, answered) = row;
     let reply = reply_of(alloc, answered)?;
     Ok(Entry {
-        node,
         place,
         step,
+        node,
         who,
-        act: act_of(asked),
-        reply,
+        act: KeptAct::of(alloc, act_of(asked))?,
+        reply: SharedReply::of(alloc, None, reply)?,
     })
 }

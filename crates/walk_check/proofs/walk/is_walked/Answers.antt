@@ -2,7 +2,7 @@ use Rattle.std.proofs.Common.{◌≡◌, ◌<◌, ◌≤◌, ◌+◌, ◌∙◌,
 use Rattle.std.proofs.lemmas.List.{map-append}
 use Rattle.std.specs.Prelude.{Option}
 use Rattle.dmx_calls.specs.declared.log.Entry.{Entry as ToldEntry}
-use Rattle.dmx_calls.specs.Calls.{told_entry}
+use Rattle.dmx_calls.specs.Calls.{told_entry, response_of}
 use Rattle.dmx_calls.specs.Log.{LogEntry}
 use Rattle.dmx_calls.specs.Response.{Response}
 use Rattle.client_core.specs.declared.event.Event.{Event}
@@ -52,7 +52,8 @@ walk-preserved c =
           let more : replies (on.made ++ e ∷ []) ≡ replies on.made ++ e.response ∷ [] = map-append (λ (f : LogEntry). f.response) on.made (e ∷ []) in
           record {
             made = on.made ++ e ∷ [];
-            after = subst (λ (rs : List Response). IsAfter c.args.client lines rs c.take.new.self) (sym more) (c.take.ensures.after c.args.client lines (replies on.made) on.after);
+            after = subst (λ (rs : List Response). IsAfter c.args.client lines rs c.take.new.self) (sym more)
+                (subst (λ r. IsAfter c.args.client lines (replies on.made ++ response_of r ∷ []) c.take.new.self) c.told.ensures (c.take.ensures.after c.args.client lines (replies on.made) on.after));
             back = λ later rest.
                 let there : IsRest c.args.client lines (replies on.made ++ e.response ∷ []) behind later = subst (λ (rs : List Response). IsRest c.args.client lines rs behind later) more rest in
                 let whole : IsRest c.args.client lines [] first (on.made ++ e ∷ later) = on.back (e ∷ later) (step_back c.args.client lines (replies on.made) here e behind later event step taken there) in

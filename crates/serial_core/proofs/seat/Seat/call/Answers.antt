@@ -8,7 +8,7 @@ use Rattle.serial_core.proofs.seat.Seat.call.Goals as goal
 pub returns-clause-at : goal.returns-clause-at
 returns-clause-at g c acts n at =
     let k = c.in_ok-reply.ensures.answer n at.core in
-    let e : Entry = record { node = c.hear.new.self.node; place = c.entries-place.result; step = c.args.nth; who = c.args.who; act = c.of-act.result; reply = c.in_ok-fitted.field-0 } in
+    let e : Entry = record { place = c.entries-place.result; step = c.args.nth; node = c.hear.new.self.node; who = c.args.who; act = c.in_ok-act.act; reply = c.in_ok-kept.kept } in
     seat_called acts c.args.self.now _ n c.args.who c.args.nth (invocation_of c.args.call) e
     c.in_ok-reply.ensures.node (c.in_ok-push.ensures.items ∙ ap (λ es. es.items ++ e ∷ []) c.in_ok-reply.ensures.entries)
-    c.in_ok-reply.ensures.node (c.entries-place.ensures ∙ entries_count c.args.self.now.core n.number (history_of n) at.core) refl refl c.of-act.ensures (c.in_ok-fitted.ensures ∙ k.0) k.1 at
+    c.in_ok-reply.ensures.node (c.entries-place.ensures ∙ entries_count c.args.self.now.core n.number (history_of n) at.core) refl refl (c.in_ok-act.ensures ∙ c.of-act.ensures) (c.in_ok-kept.ensures ∙ (c.in_ok-fitting.ensures ∙ k.0)) k.1 at
