@@ -1,5 +1,5 @@
 -- How the batches of writes come from the bytes of all.
-use Rattle.std.proofs.Common.{◌≡◌, refl, sym, ap, subst, ◌∙◌, ℕ, zero, suc, ◌+◌, ◌-◌, ◌*◌, ◌<◌, ◌≤◌, List, [], ◌∷◌, ◌++◌, Option, Some, None, length, take, drop, absurd, inl, inr, arith, length-append, append_assoc, append-nil}
+use Rattle.std.proofs.Common.{◌≡◌, refl, sym, ap, subst, ◌∙◌, ℕ, zero, suc, ◌+◌, ◌-◌, ◌*◌, ◌<◌, ◌≤◌, List, [], ◌∷◌, ◌++◌, Option, Some, length, take, drop, inl, inr, arith, length-append, append_assoc, append-nil}
 use Rattle.std.specs.Prelude.{slice_get, All}
 use Rattle.std.specs.List.{flat_map}
 use Rattle.std.specs.Option.{IfSome}
@@ -17,7 +17,7 @@ use Rattle.ts_packet.proofs.CutLemmas.{cut-append, cut-rest, cut_after-is_rest, 
 use Rattle.ts_packet.proofs.PieceLemmas.{has-pieces}
 use Rattle.ts_batch.specs.Batch.{Packets}
 use Rattle.dvr_play.specs.Plays.{batch_of, plays_from, plays, joined, cut_of, Playing, unplayed, with_write, HasPlayed, most_bytes}
-use Rattle.dvr_play.specs.Laws.{AreJoined, AreCounted, AreCompleted, AreFew, ArePlaced, IsPlayed, StandsAmong, packets_in, whole_by, completed}
+use Rattle.dvr_play.specs.Laws.{AreJoined, AreCounted, AreCompleted, AreFew, ArePlaced, IsPlayed, StandsAmong, packets_in, whole_by}
 
 -- ------ the cutting
 
@@ -38,6 +38,12 @@ short_rest rest is = is.short
 pub few_in : (xs : List ℕ) → 188 * length (cut Of188 xs).packets + (cut Of188 xs).skipped + length (cut Of188 xs).rest ≤ length xs
 unfolding cut
 few_in xs = let h = cut_after-size Of188 0 xs (omega arith) in omega (arith, h)
+
+pub short : (xs : List ℕ) → length (cut Of188 xs).rest < 188
+short xs = short_rest (cut Of188 xs).rest (is_rest xs)
+
+pub few_whole : (xs : List ℕ) → length xs ≤ 12219 → length (cut Of188 xs).packets ≤ 64
+few_whole xs few = omega (arith, few_in xs, few)
 
 -- nothing more was written
 none_more : (rest : List ℕ) → IsRest Of188 rest → cut Of188 (rest ++ []) ≡ only_rest rest
@@ -95,7 +101,7 @@ plays_more first rest (b ∷ writes) bytes is =
 joined_more : (writes : List (List ℕ)) (bytes : List ℕ) → joined (writes ++ bytes ∷ []) ≡ joined writes ++ bytes
 joined_more writes bytes = flat_map-append (λ (x : List ℕ). x) writes (bytes ∷ []) ∙ ap (λ xs. joined writes ++ xs) (append-nil bytes)
 
-pub played_more : (writes : List (List ℕ)) (bytes : List ℕ) (p : Playing) → HasPlayed writes p → HasPlayed (writes ++ bytes ∷ []) (with_write bytes p)
+played_more : (writes : List (List ℕ)) (bytes : List ℕ) (p : Playing) → HasPlayed writes p → HasPlayed (writes ++ bytes ∷ []) (with_write bytes p)
 played_more writes bytes p has =
     let c : Cut = cut_of writes in
     let whole : cut_of (writes ++ bytes ∷ []) ≡ join c (cut Of188 (c.rest ++ bytes)) = ap (cut Of188) (joined_more writes bytes) ∙ cut-append Of188 (joined writes) bytes in
@@ -110,6 +116,9 @@ played_more writes bytes p has =
           ∙ ap (λ n. plays writes ++ batch_of n (cut Of188 (c.rest ++ bytes)).packets ∷ []) (sym now)
           ∙ sym (plays_more 0 [] writes bytes no_rest);
     }
+
+pub tied_by : (writes : List (List ℕ)) (bytes : List ℕ) (old new : Playing) → new ≡ with_write bytes old → HasPlayed writes old → HasPlayed (writes ++ bytes ∷ []) new
+tied_by writes bytes old new is has = subst (λ (p : Playing). HasPlayed (writes ++ bytes ∷ []) p) (sym is) (played_more writes bytes old has)
 
 -- nothing was written
 pub played_none : (p : Playing) → p ≡ unplayed → HasPlayed [] p
@@ -226,19 +235,22 @@ nil_of (x ∷ xs) is = absurd (omega (arith, is))
 -- Two pushes into a room for 64 packets each: the first takes all packets of few bytes, and the second, which is for the bytes
 -- behind 64 packets, finds none and takes all bytes.
 module _ (bytes : List ℕ) (taken again : ℕ) (found none : List (List ℕ)) (mid end : Cutting) (few : length bytes ≤ 12219)
-         (left : List ℕ) (are : left ≡ drop taken bytes) (within : taken ≤ length bytes) (stops : taken < length bytes → 64 ≤ length found)
-         (within_again : again ≤ length left) (stops_again : again < length left → 64 ≤ length none)
-         (first : Cuts (fresh Of188) (take taken bytes) found mid)
-         (second : Cuts (fresh Of188) (take taken bytes ++ take again left) (found ++ none) end) where
+    (left : List ℕ) (are : left ≡ drop taken bytes) (within : taken ≤ length bytes) (stops : taken < length bytes → 64 ≤ length found)
+    (within_again : again ≤ length left) (stops_again : again < length left → 64 ≤ length none)
+    (first : Cuts (fresh Of188) (take taken bytes) found mid)
+    (second : Cuts (fresh Of188) (take taken bytes ++ take again left) (found ++ none) end) where
   left_count : length left ≡ length bytes - taken
   left_count = ap length are ∙ length-drop taken bytes
 
-  all : List ℕ
+  abbrev all : List ℕ
   all = take taken bytes ++ take again left
 
   at_most : 188 * length (found ++ none) ≤ 12219
-  at_most = omega (arith, few_in all, ap length second.packets, few, within, within_again, length-append (take taken bytes) (take again left), length-take-le taken bytes within,
-                   length-take-le again left within_again, left_count)
+  at_most =
+      let same : (cut Of188 all).packets ≡ found ++ none = second.packets in
+      let count : length all ≡ taken + again =
+      omega (arith, length-append (take taken bytes) (take again left), length-take-le taken bytes within, length-take-le again left within_again) in
+      omega (arith, few_in all, ap length same, few, within, within_again, count, left_count)
 
   none_behind : taken ≡ length bytes → length none ≡ 0
   none_behind is =
@@ -259,7 +271,7 @@ module _ (bytes : List ℕ) (taken again : ℕ) (found none : List (List ℕ)) (
         | inl lt ↦ absurd (omega (arith, stops_again lt, none_more_found))
         | inr le ↦ omega (arith, le, within_again)
       ] in
-      ap (λ n. take taken bytes ++ take n left) whole ∙ ap (λ xs. take taken bytes ++ xs) (take-length left) ∙ take-append-drop taken bytes
+      ap (λ n. take taken bytes ++ take n left) whole ∙ ap (λ xs. take taken bytes ++ xs) (take-length left ∙ are) ∙ take-append-drop taken bytes
 
   pub all_found : found ≡ (cut Of188 bytes).packets
   all_found = sym (append-nil found) ∙ ap (λ ps. found ++ ps) (sym (nil_of none none_more_found)) ∙ sym second.packets ∙ ap (λ xs. (cut Of188 xs).packets) takes_all

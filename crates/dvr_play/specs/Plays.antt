@@ -1,7 +1,7 @@
 -- What a client plays: how the bytes that it writes to the dvr device fall into packets and batches. A packet is that of
 -- ISO/IEC 13818-1, 2.4.3.2, and packets are found as in a stream; that a write's packets pass as one batch is this
 -- project's rule.
-use Rattle.std.specs.Prelude.{◌≡◌, ℕ, ◌+◌, ◌≤◌, List, [], ◌∷◌, ◌++◌, length, Option, Some, None}
+use Rattle.std.specs.Prelude.{◌≡◌, ℕ, ◌+◌, List, [], ◌∷◌, ◌++◌, length, Option, Some, None}
 use Rattle.std.specs.List.{flat_map}
 use Rattle.ts_packet.specs.Cut.{Cut, cut}
 use Rattle.ts_packet.specs.declared.size.PacketSize.TheVariants.{Of188}

@@ -1,10 +1,11 @@
 // The writes of one client, and their batches.
-ghost use Rattle.std.specs.Prelude.{◌≡◌, ◌<◌, ◌≤◌, ◌^◌, [], ◌∷◌, ◌++◌, List, ℕ, length, IfOk, OnOk, OnErr, slice_index_or, None, IsSome};
+ghost use Rattle.std.specs.Prelude.{◌≡◌, ◌+◌, ◌<◌, ◌≤◌, ◌^◌, [], ◌∷◌, ◌++◌, List, ℕ, length, IfOk, OnOk, OnErr, slice_index_or, None, IsSome};
 ghost use Rattle.std.specs.Option.{option_map};
 ghost use Rattle.ts_packet.specs.Cut.{cut};
 ghost use Rattle.ts_packet.specs.declared.size.PacketSize.TheVariants.{Of188};
 ghost use Rattle.dvr_play.specs.Plays.{batch_of, with_write, unplayed, HasPlayed};
 
+use arrayvec::ArrayVec;
 use std::alloc::{AllocError as NoMemory, Global};
 use std::marker::Model;
 use std::sync::Arc;
@@ -21,37 +22,59 @@ const MOST_CUT: usize = PACKET_LEN - 1 + MOST_BYTES;
 /// whole, and the batches.
 #[derive(Drop)]
 pub struct Plays {
-    held: [u8; 188],
-    len: usize,
+    rest: ArrayVec<u8, 188>,
     count: u64,
     batches: Vec<Option<Arc<Batch>>>,
 }
 
 impl Model for Plays {
-    ghost use Rattle.std.specs.Prelude.{◌≤◌, ◌<◌, ◌*◌, take, map, length};
+    ghost use Rattle.std.specs.Prelude.{◌≤◌, ◌<◌, ◌*◌, map, length};
     ghost use Rattle.std.specs.Option.{option_map};
     ghost use Rattle.dvr_play.specs.Plays.{Playing};
 
     ghost Value = { Playing };
 
-    ghost view = { λ p. record { rest = take p.len p.held; count = p.count; batches = map (option_map (λ b. b.value)) p.batches.items } };
+    ghost view = { λ p. record { rest = p.rest.items; count = p.count; batches = map (option_map (λ b. b.value)) p.batches.items } };
 
-    ghost invariant = { λ p. (p.len < 188) × (p.count ≤ 64 * length p.batches.items) };
+    ghost invariant = { λ p. (length p.rest.items < 188) × (p.count ≤ 64 * length p.batches.items) };
 }
 
-// The packets of these bytes, and how many bytes are left behind them.
-fn cut_all(bytes: &[u8], found: &mut PacketBuf) -> usize
+// Writes bytes behind the others, for which there is room.
+fn put<const N: usize>(written: &mut ArrayVec<u8, N>, bytes: &[u8])
+    requires { length written.old.items + length bytes.now ≤ N }
+    ensures { written.new.items ≡ written.old.items ++ bytes.now }
+{
+    match written.try_extend_from_slice(bytes) {
+        Ok(()) => (),
+        Err(_) => unreachable!(),
+    }
+}
+
+// These bytes, and those behind them.
+fn joined(first: &[u8], behind: &[u8]) -> ArrayVec<u8, MOST_CUT>
+    requires { length first.now + length behind.now ≤ 12219 }
+    ensures { result.items ≡ first.now ++ behind.now }
+{
+    let mut joined = ArrayVec::new();
+    put(&mut joined, first);
+    put(&mut joined, behind);
+    joined
+}
+
+// The packets of these bytes, and the bytes that are left behind them.
+fn cut_all<'a>(bytes: &'a [u8], found: &mut PacketBuf) -> &'a [u8]
     requires few { length bytes.now ≤ 12219 }
     requires empty { found.old ≡ [] }
     ensures packets { found.new ≡ (cut Of188 bytes.now).packets }
-    ensures rest { result ≡ length (cut Of188 bytes.now).rest }
+    ensures rest { result.now ≡ (cut Of188 bytes.now).rest }
 {
     let mut cutter = Cutter::new(PacketSize::Of188);
     let taken = cutter.push(bytes, found);
     // Behind 64 packets fewer bytes are left than a packet has.
     let mut none = PacketBuf::new();
     cutter.push(&bytes[taken..], &mut none);
-    cutter.finish().rest as usize
+    let rest = cutter.finish().rest as usize;
+    &bytes[bytes.len() - rest..]
 }
 
 // The batch of these packets, if there are some.
@@ -72,8 +95,7 @@ impl Plays {
         ensures played { HasPlayed [] result }
     {
         Plays {
-            held: [0; 188],
-            len: 0,
+            rest: ArrayVec::new(),
             count: 0,
             batches: Vec::new(alloc),
         }
@@ -102,16 +124,13 @@ impl Plays {
         // Over all writes: whatever was written before, these bytes are written behind it.
         ensures tied { (writes : List (List ℕ)) → HasPlayed writes self.old → OnOk result (HasPlayed (writes ++ bytes.now ∷ []) self.new) }
     {
-        let mut joined = [0; MOST_CUT];
-        let end = self.len + bytes.len();
-        joined[..self.len].copy_from_slice(&self.held[..self.len]);
-        joined[self.len..end].copy_from_slice(bytes);
+        let joined = joined(self.rest.as_slice(), bytes);
         let mut found = PacketBuf::new();
-        let rest = cut_all(&joined[..end], &mut found);
+        let rest = cut_all(joined.as_slice(), &mut found);
         self.batches.push(batch(alloc, self.count, &found)?)?;
         self.count += u64::from(found.len());
-        self.held[..rest].copy_from_slice(&joined[end - rest..end]);
-        self.len = rest;
+        self.rest.clear();
+        put(&mut self.rest, rest);
         Ok(found.len())
     }
 
