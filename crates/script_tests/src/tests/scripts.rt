@@ -314,7 +314,11 @@ fn is_written(alloc: Global, count: usize, line: &[u8]) -> Result<bool, Fail> {
 #[test]
 fn a_write_has_1_to_12032_bytes(rt: HostRuntime) -> Result<(), Fail> {
     for (count, is) in [(0, false), (1, true), (12_032, true), (12_033, false)] {
-        assert_eq!(rt; is_written(rt.alloc(), count, b"c3 write dvr ")?, is, "{count}");
+        assert_eq!(rt;
+            is_written(rt.alloc(), count, b"c3 write dvr ")?,
+            is,
+            "{count}"
+        );
     }
     Ok(())
 }
@@ -323,8 +327,14 @@ fn a_write_has_1_to_12032_bytes(rt: HostRuntime) -> Result<(), Fail> {
 fn a_script_has_the_bytes_of_its_writes(rt: HostRuntime) -> Result<(), Fail> {
     let bytes = b"c0 write dvr 01\nc7 write dvr 02\nfeed 1\nc0 write dvr 03ff\nstream\n";
     let script = Script::read(rt.alloc(), bytes)?;
-    assert_eq!(rt; (script.writes(0), script.writes(1), script.writes(7)), (2, 0, 1));
-    assert_eq!(rt; printed(rt.alloc(), bytes)?.as_slice(), &bytes[..bytes.len() - 7]);
+    assert_eq!(rt;
+        (script.writes(0), script.writes(1), script.writes(7)),
+        (2, 0, 1)
+    );
+    assert_eq!(rt;
+        printed(rt.alloc(), bytes)?.as_slice(),
+        &bytes[..bytes.len() - 7]
+    );
     Ok(())
 }
 
