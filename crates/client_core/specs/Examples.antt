@@ -131,13 +131,13 @@ AllNodesAreBusy =
 
 abbrev pub UnboundSlot : Type 0
 UnboundSlot =
-    outcomes 0 (Command 1 0 (Slot 5) (Once Stop) ∷ []) [] ≡ record { line = 1; from = 0; to = 0; kind = Unbound } ∷ []
+    outcomes 0 (plain (Command 1 0 (Slot 5) (Once Stop) ∷ [])) [] ≡ record { line = 1; from = 0; to = 0; kind = Unbound } ∷ []
 
 -- a slot is bound to the first node that isn't busy, and stays bound
 abbrev pub BoundSlot : Type 0
 BoundSlot =
     next_event 0
-    (Command 1 0 (Slot 5) (Once Open) ∷ Command 2 0 (Slot 5) (Once Close) ∷ Command 3 0 (Slot 5) (Once Start) ∷ [])
+    (plain (Command 1 0 (Slot 5) (Once Open) ∷ Command 2 0 (Slot 5) (Once Close) ∷ Command 3 0 (Slot 5) (Once Start) ∷ []))
     (Busy 2 ∷ keep ∷ keep ∷ [])
     ≡ Some (record { step = 3; node = 1; want = Own Start })
 
@@ -238,9 +238,9 @@ LastStcCounts =
 -- a question of an unbound slot, and one of the dvr node, on which no filter is set
 abbrev pub StcOfNoFilter : Type 0
 StcOfNoFilter =
-    (outcomes 0 (Command 1 0 (Slot 3) (GetStc 0) ∷ []) []
+    (outcomes 0 (plain (Command 1 0 (Slot 3) (GetStc 0) ∷ [])) []
     ≡ record { line = 1; from = 0; to = 0; kind = Unbound } ∷ [])
-    × (outcomes 0 (Command 1 0 Dvr (GetStc 0) ∷ []) [] ≡ without_stc 1 0 ∷ [])
+    × (outcomes 0 (plain (Command 1 0 Dvr (GetStc 0) ∷ [])) [] ≡ without_stc 1 0 ∷ [])
 
 -- ------ writes
 
