@@ -50,6 +50,7 @@ mod run;
 mod threads;
 
 pub use ending::histories_of_run;
+pub use feeder_worker::FeederWorker;
 pub use laws::{
     calls_are_within_budget, few_bytes_are_few_calls, many_calls_are_too_long, workers_have_called,
 };

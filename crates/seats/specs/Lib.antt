@@ -1,0 +1,4 @@
+pub mod Calls
+pub mod Holding
+pub mod Seated
+pub mod Served

@@ -1,0 +1,2 @@
+mod Logged
+mod Seating
