@@ -11,15 +11,19 @@ use std::sync::atomic::{AtomicU32, AtomicU64, Ordering};
 
 // The nodes, of which the last is the dvr node.
 const NODES: usize = 33;
+
 const DVR: usize = 32;
 
 // The words of 64 bits that have one for each PID and one for all of them, 0 to 8192.
 const WORDS: usize = 129;
+
 const ALL_PIDS: u16 = 8192;
 
 // The requests that name a PID, which stands at the front of their structure (DMX_SET_FILTER, DMX_SET_PES_FILTER, DMX_ADD_PID).
 const SET_FILTER: u32 = 0x403c_6f2b;
+
 const SET_PES: u32 = 0x4014_6f2c;
+
 const ADD_PID: u32 = 0x4002_6f33;
 
 /// The PIDs of packets: a bit each.
@@ -124,14 +128,22 @@ pub struct Bells {
 // The file of a node's bell.
 fn file_of(rt: &HostRuntime, folder: &str, node: usize) -> io::Result<File> {
     let path = format!(in rt.alloc(); "{folder}/bell.{node}")?;
-    OpenOptions::new().write(true).create(true).open(rt, path.as_str())
+    OpenOptions::new()
+        .write(true)
+        .create(true)
+        .open(rt, path.as_str())
 }
 
 // The number in four bytes of a request.
 fn number_at(request: &[u8; REQUEST_LEN], at: usize) -> u32
     requires { at ≤ 72 }
 {
-    u32::from_le_bytes([request[at], request[at + 1], request[at + 2], request[at + 3]])
+    u32::from_le_bytes([
+        request[at],
+        request[at + 1],
+        request[at + 2],
+        request[at + 3],
+    ])
 }
 
 impl Bells {

@@ -70,7 +70,15 @@ fn serve_folder<R: Threads + Wait + Sync>(
     let lines = lines_of(rt, folder, seats, &bells)?;
     let mut source = RungSource::new(input, bells.clone()?);
     let gate = LastBells { bells };
-    Ok(serve(threads, rt.alloc(), &mut source, lines, &mut sink, clock, &gate))
+    Ok(serve(
+        threads,
+        rt.alloc(),
+        &mut source,
+        lines,
+        &mut sink,
+        clock,
+        &gate,
+    ))
 }
 
 fn main(rt: HostRuntime) -> ExitCode {

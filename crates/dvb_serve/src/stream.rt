@@ -11,7 +11,9 @@ use std::sync::Arc;
 
 // The bytes of a packet, its first one, and the packets of a batch.
 const PACKET: usize = 188;
+
 const SYNC: u8 = 0x47;
+
 const BATCH: u32 = 64;
 
 // The packets of a stream, as its bytes come: as many PIDs as a batch has, and those of the batches that are whole.

@@ -1,22 +1,23 @@
 -- A seat goes on, call by call.
 use Rattle.std.proofs.Common.{◌≡◌, ◌+◌, ◌≤◌, ◌^◌, ℕ, List, [], ◌∷◌, ◌++◌, length, map, Some, refl, ap, sym, ◌∙◌, subst, arith, length-append}
 use Rattle.std.proofs.lemmas.List.{map-append, append-nil, append_assoc, length-map}
-use Rattle.std.proofs.lemmas.List.Elements.{All-nil}
+use Rattle.std.proofs.lemmas.List.Elements.{All-nil, All-push}
 use Rattle.std.proofs.lemmas.Option.{slice_get-map}
 use Rattle.std.specs.Prelude.{slice_get, option_map}
 use Rattle.atomic_table.specs.Seated.{TableId}
 use Rattle.dmx_calls.specs.Calls.{told_entry}
 use Rattle.dmx_calls.specs.Log.{LogEntry}
 use Rattle.dmx_calls.specs.declared.log.Entry.{Entry as ToldEntry}
+use Rattle.dmx_calls.specs.declared.limits.TheConstants.{DEMUX_NODES}
 use Rattle.adapter.specs.Callers.{Caller, AreFreshCallers}
 use Rattle.adapter.specs.Rows.{Fits}
 use Rattle.adapter.proofs.Pairs.{caller_fits}
-use Rattle.trace_merge.specs.Merging.{AreOnNodes}
 use Rattle.seats.specs.Calls.{MakesCall, MakesCalls}
 use Rattle.seats.specs.Holding.{KnowsItsNodes}
 use Rattle.seats.proofs.Holding.{knows_none}
+use Rattle.seats.specs.declared.made.Made.{Made}
 use Rattle.seats.specs.declared.seat.Seat.{Seat}
-use Rattle.seats.specs.Seated.{log_of, IsFit, IsNew, IsReady, AreReady, GoesOn}
+use Rattle.seats.specs.Seated.{told_made, log_of, AreOnNodes, IsFit, IsNew, IsReady, AreReady, GoesOn}
 
 -- ------ calls
 
@@ -36,44 +37,75 @@ goes_trans a b c x y = record {
   made = calls_trans (length (log_of a)) (length (log_of b)) a.client b.client c.client x.calls y.calls (ap length x.log ∙ length-append (log_of a) x.calls) x.made y.made;
 }
 
+-- how many calls it has made
+pub log_long : (s : Seat) → length (log_of s) ≡ length s.log.items + length s.made.items
+log_long s =
+    let a = length-append (map told_entry s.log.items) (map (told_made s.who) s.made.items) in
+    let b = length-map s.log.items told_entry in let c = length-map s.made.items (told_made s.who) in omega (arith, a, b, c)
+
 -- one call more
-pub goes_one : (a b : Seat) (e : ToldEntry) → b.log.items ≡ a.log.items ++ e ∷ [] → e.step ≡ length a.log.items → MakesCall (told_entry e) a.client b.client → GoesOn a b
-goes_one a b e is step m = record {
-  calls = told_entry e ∷ [];
-  log = ap (map told_entry) is ∙ map-append told_entry a.log.items (e ∷ []);
-  made = (b.client, step ∙ sym (length-map a.log.items told_entry), m, refl);
+pub log_one : (a b : Seat) (m : Made) → b.log.items ≡ a.log.items → b.made.items ≡ a.made.items ++ m ∷ [] → b.who ≡ a.who → log_of b ≡ log_of a ++ told_made a.who m ∷ []
+log_one a b m l is w =
+    ap (λ (k : List ToldEntry). map told_entry k ++ map (told_made b.who) b.made.items) l
+    ∙ (ap (λ (n : ℕ). map told_entry a.log.items ++ map (told_made n) b.made.items) w
+    ∙ (ap (λ (k : List Made). map told_entry a.log.items ++ map (told_made a.who) k) is
+    ∙ (ap (λ (k : List LogEntry). map told_entry a.log.items ++ k) (map-append (told_made a.who) a.made.items (m ∷ []))
+    ∙ sym (append_assoc (map told_entry a.log.items) (map (told_made a.who) a.made.items) (told_made a.who m ∷ [])))))
+
+pub goes_one : (a b : Seat) (m : Made) → log_of b ≡ log_of a ++ told_made a.who m ∷ [] → m.step ≡ length a.log.items + length a.made.items → MakesCall (told_made a.who m) a.client b.client → GoesOn a b
+goes_one a b m is step made = record {
+  calls = told_made a.who m ∷ [];
+  log = is;
+  made = (b.client, step ∙ sym (log_long a), made, refl);
 }
 
--- where only what was kept of commands, or of the nodes held, has changed
-pub kept_goes : (a b : Seat) → b.client ≡ a.client → b.log.items ≡ a.log.items → GoesOn a b
+pub nodes_one : (a b : Seat) (m : Made) → log_of b ≡ log_of a ++ told_made a.who m ∷ [] → m.node ≤ DEMUX_NODES → AreOnNodes (log_of a) → AreOnNodes (log_of b)
+nodes_one a b m is low all = subst AreOnNodes (sym is) (All-push (λ (e : LogEntry). e.node ≤ DEMUX_NODES) (log_of a) (told_made a.who m) all low)
+
+-- where it has made no call
+pub kept_goes : (a b : Seat) → b.client ≡ a.client → log_of b ≡ log_of a → GoesOn a b
 kept_goes a b c l = record {
   calls = [];
-  log = ap (map told_entry) l ∙ sym (append-nil (log_of a));
+  log = l ∙ sym (append-nil (log_of a));
   made = c;
 }
 
-pub kept_fit : (locks : List TableId) (a b : Seat) → b.client ≡ a.client → b.who ≡ a.who → b.log.items ≡ a.log.items → b.held ≡ a.held → IsFit locks a → IsFit locks b
+pub kept_fit : (locks : List TableId) (a b : Seat) → b.client ≡ a.client → b.who ≡ a.who → log_of b ≡ log_of a → b.held ≡ a.held → IsFit locks a → IsFit locks b
 kept_fit locks a b c w l h f = record {
   fits = subst (λ (k : Caller). Fits locks k.passes) (sym c) f.fits;
   who = w ∙ (f.who ∙ ap (λ (k : Caller). k.who) (sym c));
-  left = subst (λ (k : Caller). k.left + length b.log.items ≡ 2 ^ 40) (sym c) (subst (λ (m : List ToldEntry). a.client.left + length m ≡ 2 ^ 40) (sym l) f.left);
+  left = let before = f.left in let same = ap length l in let x = log_long a in let y = log_long b in let k = ap (λ (k : Caller). k.left) c in omega (arith, before, same, x, y, k);
   nodes = subst AreOnNodes (sym l) f.nodes;
   knows = subst (KnowsItsNodes b.client) (sym h) (subst (λ (k : Caller). KnowsItsNodes k a.held) (sym c) f.knows);
 }
+
+-- where it has put calls into its log, and none is beside that
+pub log_settled : (a b : Seat) (rest : List ToldEntry) → b.log.items ≡ a.log.items ++ rest → map told_entry rest ≡ map (told_made a.who) a.made.items → b.made.items ≡ [] → log_of b ≡ log_of a
+log_settled a b rest l told none =
+    ap (λ (k : List ToldEntry). map told_entry k ++ map (told_made b.who) b.made.items) l
+    ∙ (ap (λ (k : List Made). map told_entry (a.log.items ++ rest) ++ map (told_made b.who) k) none
+    ∙ (append-nil (map told_entry (a.log.items ++ rest))
+    ∙ (map-append told_entry a.log.items rest ∙ ap (λ (k : List LogEntry). map told_entry a.log.items ++ k) told)))
+
+-- before its first call
+pub log_none : (s : Seat) → s.log.items ≡ [] → s.made.items ≡ [] → log_of s ≡ []
+log_none s l m =
+    ap (λ (k : List ToldEntry). map told_entry k ++ map (told_made s.who) s.made.items) l
+    ∙ ap (λ (k : List Made). map (told_made s.who) k) m
 
 -- ------ new seats
 
 module _ (locks : List TableId) (n : ℕ) (feeder : Caller) (clients : List Caller) (fresh : AreFreshCallers locks n feeder clients) (c : ℕ) (s : Seat) (at : slice_get clients c ≡ Some s.client) (is : IsNew (c + 1) s) where
   pub new_ready : IsReady locks s
-  new_ready = let f = fresh.each c s.client at in let size = ap length is.log in let told = ap length is.outcomes in let calls = f.calls in let room = is.room in record {
+  new_ready = let f = fresh.each c s.client at in let size = ap length is.log.0 in let made = ap length is.log.1 in let told = ap length is.outcomes in let calls = f.calls in let room = is.room in record {
     fit = record {
       fits = caller_fits (n + 1) locks (c + 1) (2 ^ 40) s.client f;
       who = is.who ∙ sym f.number;
-      left = omega (arith, size, calls);
-      nodes = subst AreOnNodes (sym is.log) (All-nil (λ (e : ToldEntry). e.node ≤ 32));
+      left = omega (arith, size, made, calls);
+      nodes = subst AreOnNodes (sym (log_none s is.log.0 is.log.1)) (All-nil (λ (e : LogEntry). e.node ≤ DEMUX_NODES));
       knows = knows_none locks (n + 1) (c + 1) (2 ^ 40) s.client f s.held;
     };
-    room = record { log = omega (arith, size, room.0); outcomes = omega (arith, told, room.1); left = omega (arith, calls) };
+    room = record { made = omega (arith, made, room.0); outcomes = omega (arith, told, room.1); left = omega (arith, calls) };
   }
 
 -- each of the seats
@@ -83,5 +115,5 @@ all_ready locks n feeder clients fresh seats are each = record {
   are = are;
   each = λ c s at.
       let there : slice_get clients c ≡ Some s.client = ap (λ (l : List Caller). slice_get l c) (sym are) ∙ (slice_get-map (λ (z : Seat). z.client) seats c ∙ ap (λ o. option_map (λ (z : Seat). z.client) o) at) in
-      (new_ready locks n feeder clients fresh c s there (each c s at), ap (map told_entry) (each c s at).log);
+      (new_ready locks n feeder clients fresh c s there (each c s at), log_none s (each c s at).log.0 (each c s at).log.1);
 }

@@ -72,7 +72,7 @@ owner_behind ps (x ∷ xs) who others is =
     let moved : (ps ++ x ∷ []) ++ xs ≡ ps ++ x ∷ xs = append_assoc ps (x ∷ []) xs in
     let long : length (ps ++ x ∷ []) ≡ length ps + 1 = length-append ps (x ∷ []) in
     let later : owner (reverse (ps ++ x ∷ [])) ≡ Some who = owner_behind (ps ++ x ∷ []) xs who
-        (λ k y low at. others k y (omega arith) (subst (λ (l : List Entry). get_elem? l k ≡ some y) moved at)) (subst (λ (l : List Entry). owner (reverse l) ≡ Some who) (sym moved) is) in
+    (λ k y low at. others k y (omega arith) (subst (λ (l : List Entry). get_elem? l k ≡ some y) moved at)) (subst (λ (l : List Entry). owner (reverse l) ≡ Some who) (sym moved) is) in
     let here : get_elem? (ps ++ x ∷ xs) (length ps) ≡ some x = prefix_at (ps ++ x ∷ []) (ps ++ x ∷ xs) (length ps) x (xs, moved) (at_last ps x (length ps) refl) in
     owner_before x (reverse ps) who (λ opened. others (length ps) x (omega arith) here) (subst (λ (h : List Entry). owner h ≡ Some who) (turned ps x) later)
 
@@ -89,14 +89,14 @@ module _ (who : ℕ) (S : List Entry → Type 0) (e : Entry) (place : ℕ) (p q 
       let mine : Has q.1.numbers (caller_of x) = subst (λ (ns : List ℕ). Has ns (caller_of x)) (sym still_own.numbers) (inl (sym is)) in
       let told : Has (p.1.own ++ (p.1.number, place) ∷ []) (caller_of x, j) = subst (λ (l : List (ℕ × ℕ)). Has l (caller_of x, j)) more.told ((more.calls.only j x there).1 mine) in
       ⊎_elim
-          (λ old. let s = k.calls.there (caller_of x) j old in let below = at_below p.1.seen j s.0 s.1 in omega arith)
-          (λ last. this_place last)
-          (has_either p.1.own ((p.1.number, place) ∷ []) (caller_of x, j) told) where
-    this_place : Has ((p.1.number, place) ∷ []) (caller_of x, j) → ⊥
-    this_place last = ⊎_elim
-        (λ same. let here : place ≡ j = ap (λ (z : ℕ × ℕ). z.1) same in let below = at_below more.before j x at in let end = more.at in omega arith)
-        (λ none. none)
-        last
+      (λ old. let s = k.calls.there (caller_of x) j old in let below = at_below p.1.seen j s.0 s.1 in omega arith)
+      (λ last. this_place last)
+      (has_either p.1.own ((p.1.number, place) ∷ []) (caller_of x, j) told) where
+        this_place : Has ((p.1.number, place) ∷ []) (caller_of x, j) → ⊥
+        this_place last = ⊎_elim
+            (λ same. let here : place ≡ j = ap (λ (z : ℕ × ℕ). z.1) same in let below = at_below more.before j x at in let end = more.at in omega arith)
+            (λ none. none)
+            last
 
   -- where it was the owner before its call, it was so when it had looked last
   pub owned_before : owner (reverse more.before) ≡ Some who → owner (reverse p.1.seen) ≡ Some who

@@ -22,12 +22,12 @@ use std::sync::Wait;
 use std::sync::ledger::Ledger;
 use steps::Steps;
 
-/// What is told, and which entry of the log has the bytes that follow.
+/// What is told, and which call has the bytes that follow.
 #[derive(Clone, Copy, Drop)]
 pub struct Answered {
     /// What is told.
     pub tell: Tell,
-    /// The place in the log of the entry that is told; None where no call was made.
+    /// The place among the last calls of the one that is told; None where no call was made.
     pub at: Option<usize>,
 }
 
@@ -51,14 +51,14 @@ fn own_call(alloc: Global, want: Want, now: u64) -> Result<Call, NoMemory>
 }
 
 impl Seat {
-    // What the log has in this place, as it is told.
+    // The last call in this place, as it is told.
     fn told_at(&self, at: usize) -> Answered
-        requires at { at < length self.now.log.items }
-        ensures at { IfSome result.at (λ i. i < length self.now.log.items) }
+        requires at { at < length self.now.made.items }
+        ensures at { IfSome result.at (λ i. i < length self.now.made.items) }
     {
-        let entry = &self.log[at];
+        let call = &self.made[at];
         Answered {
-            tell: Tell::of(&entry.reply, entry.place),
+            tell: Tell::of(&call.reply, call.place),
             at: Some(at),
         }
     }
@@ -67,7 +67,6 @@ impl Seat {
     fn command<L: Ledger, R: Wait>(
         &mut self,
         rt: &R,
-        alloc: Global,
         adapter: &Adapter,
         node: u32,
         call: Call,
@@ -79,15 +78,16 @@ impl Seat {
         requires room { HasRoom 2 self.old }
         ensures fit { IsFit adapter.now self.new }
         ensures goes { GoesOn self.old self.new }
-        ensures at { result < length self.new.log.items }
-        ensures few { (length self.new.log.items ≤ length self.old.log.items + 2) × (self.old.client.left ≤ self.new.client.left + 2) }
+        ensures at { result < length self.new.made.items }
+        ensures few { (length self.new.made.items ≤ length self.old.made.items + 2) × (self.old.client.left ≤ self.new.client.left + 2) }
         ensures one { length self.new.outcomes.items ≡ length self.old.outcomes.items + 1 }
-        ensures room { (vec_capacity self.new.log ≡ vec_capacity self.old.log) × (vec_capacity self.new.outcomes ≡ vec_capacity self.old.outcomes) }
+        ensures room { (vec_capacity self.new.made ≡ vec_capacity self.old.made) × (vec_capacity self.new.outcomes ≡ vec_capacity self.old.outcomes) }
         ensures left { invocation_of call ≢ asks.Open → (i : ℕ) → HasLeft i self.old.client → HasLeft i self.new.client }
         ensures closed { invocation_of call ≡ asks.Close → HasLeft node self.new.client }
     {
-        let at = self.call(rt, alloc, adapter, node, call, steps);
-        self.keep(at, OutcomeKind::Done);
+        let from = self.count();
+        let at = self.call(rt, adapter, node, call, steps);
+        self.keep(from, OutcomeKind::Done);
         at
     }
 
@@ -95,7 +95,6 @@ impl Seat {
     fn open_demux<L: Ledger, R: Wait>(
         &mut self,
         rt: &R,
-        alloc: Global,
         adapter: &Adapter,
         steps: &mut Steps<L>,
     ) -> Answered
@@ -104,12 +103,12 @@ impl Seat {
         ensures fit { IsFit adapter.now self.new }
         ensures room { HasRoom 66 self.new }
         ensures goes { GoesOn self.old self.new }
-        ensures at { IfSome result.at (λ i. i < length self.new.log.items) }
+        ensures at { IfSome result.at (λ i. i < length self.new.made.items) }
     {
-        let from = self.log.len();
+        let from = self.count();
         'nodes: for node in 0..DEMUX_NODES {
-            let at = self.call(rt, alloc, adapter, node, Call::Open, steps);
-            if let Reply::Busy { .. } = self.log[at].reply {
+            let at = self.call(rt, adapter, node, Call::Open, steps);
+            if let Reply::Busy { .. } = self.made[at].reply {
                 continue;
             }
             self.keep(from, OutcomeKind::Done);
@@ -125,7 +124,6 @@ impl Seat {
     fn let_go<L: Ledger, R: Wait>(
         &mut self,
         rt: &R,
-        alloc: Global,
         adapter: &Adapter,
         node: u32,
         steps: &mut Steps<L>,
@@ -135,37 +133,31 @@ impl Seat {
         requires room { HasRoom 2 self.old }
         ensures fit { IsFit adapter.now self.new }
         ensures goes { GoesOn self.old self.new }
-        ensures few { (length self.new.log.items ≤ length self.old.log.items + 2) × (self.old.client.left ≤ self.new.client.left + 2) }
+        ensures few { (length self.new.made.items ≤ length self.old.made.items + 2) × (self.old.client.left ≤ self.new.client.left + 2) }
         ensures told { length self.new.outcomes.items ≤ length self.old.outcomes.items + 1 }
-        ensures room { (vec_capacity self.new.log ≡ vec_capacity self.old.log) × (vec_capacity self.new.outcomes ≡ vec_capacity self.old.outcomes) }
+        ensures room { (vec_capacity self.new.made ≡ vec_capacity self.old.made) × (vec_capacity self.new.outcomes ≡ vec_capacity self.old.outcomes) }
         ensures left { HasLeft node self.new.client }
         ensures still { (i : ℕ) → HasLeft i self.old.client → HasLeft i self.new.client }
     {
         if !self.held[node as usize] {
             return;
         }
-        self.command(rt, alloc, adapter, node, Call::Close, steps);
+        self.command(rt, adapter, node, Call::Close, steps);
     }
 
     /// Closes each node that the program has. There is room for that.
-    pub fn leave<L: Ledger, R: Wait>(
-        &mut self,
-        rt: &R,
-        alloc: Global,
-        adapter: &Adapter,
-        steps: &mut Steps<L>,
-    )
+    pub fn leave<L: Ledger, R: Wait>(&mut self, rt: &R, adapter: &Adapter, steps: &mut Steps<L>)
         requires fit { IsFit adapter.now self.old }
         requires room { HasRoom 66 self.old }
         ensures fit { IsFit adapter.now self.new }
         ensures goes { GoesOn self.old self.new }
-        ensures few { (length self.new.log.items ≤ length self.old.log.items + 66) × (self.old.client.left ≤ self.new.client.left + 66) }
+        ensures few { (length self.new.made.items ≤ length self.old.made.items + 66) × (self.old.client.left ≤ self.new.client.left + 66) }
         ensures told { length self.new.outcomes.items ≤ length self.old.outcomes.items + 33 }
-        ensures room { (vec_capacity self.new.log ≡ vec_capacity self.old.log) × (vec_capacity self.new.outcomes ≡ vec_capacity self.old.outcomes) }
+        ensures room { (vec_capacity self.new.made ≡ vec_capacity self.old.made) × (vec_capacity self.new.outcomes ≡ vec_capacity self.old.outcomes) }
         ensures left { (node : ℕ) → node ≤ nodes → HasLeft node self.new.client }
     {
         'nodes: for node in 0..NODES {
-            self.let_go(rt, alloc, adapter, node, steps);
+            self.let_go(rt, adapter, node, steps);
         }
     }
 
@@ -185,19 +177,19 @@ impl Seat {
         ensures fit { IsFit adapter.now self.new }
         ensures room { HasRoom 66 self.new }
         ensures goes { GoesOn self.old self.new }
-        ensures at { IfSome result.at (λ i. i < length self.new.log.items) }
+        ensures at { IfSome result.at (λ i. i < length self.new.made.items) }
     {
         match ask {
-            Ask::OpenDemux => self.open_demux(rt, alloc, adapter, steps),
+            Ask::OpenDemux => self.open_demux(rt, adapter, steps),
             Ask::Call { node, want } => {
                 let Ok(call) = own_call(alloc, want, now) else {
                     return refused(ENOMEM);
                 };
-                let at = self.command(rt, alloc, adapter, node, call, steps);
+                let at = self.command(rt, adapter, node, call, steps);
                 self.told_at(at)
             }
             Ask::Leave => {
-                self.leave(rt, alloc, adapter, steps);
+                self.leave(rt, adapter, steps);
                 refused(0)
             }
             Ask::Refused(code) => refused(code),
@@ -222,9 +214,9 @@ impl Seat {
         ensures fit { IsFit adapter.now self.new }
         ensures room { HasRoom 66 self.new }
         ensures goes { GoesOn self.old self.new }
-        ensures at { IfSome result.at (λ i. i < length self.new.log.items) }
+        ensures at { IfSome result.at (λ i. i < length self.new.made.items) }
     {
-        match self.reserve(2 * MOST_CALLS) {
+        match self.reserve(alloc, 2 * MOST_CALLS) {
             Ok(()) => self.done(rt, alloc, adapter, ask, now, steps),
             Err(_) => refused(ENOMEM),
         }

@@ -11,9 +11,10 @@
 //! in `specs/Seated.antt` that a seat's log has grown by just the calls that its client has made.
 //!
 //! What is proved, whatever comes on the lines and however the threads fall: from `desks_of` to `sit_all` each seat goes on
-//! (`GoesOn`), so its log is just its calls: no call is left out of it, and nothing else stands in it. Room for the calls by which all
-//! nodes are closed is kept at any time, so want of memory keeps no node from being closed; where there is no room for a request, it
-//! makes no call. A seat that has served its line owns no node (`HasServed`), by what its passes have seen; and what others call
+//! (`GoesOn`), so its log is just its calls: no call is left out of it, and nothing else stands in it. An entry of a log takes memory,
+//! so the last calls are kept beside it at first (`Made`), and a request comes to its calls only once there is memory for all that
+//! were made before. Room for the calls by which all nodes are closed is kept at any time, so want of memory keeps no node from being
+//! closed. A seat that has served its line owns no node (`HasServed`), by what its passes have seen; and what others call
 //! makes it no owner.
 //!
 //! What is only tested, in `serve_tests`: which requests are answered by which calls, and that what is told is the reply of the call
@@ -24,12 +25,14 @@
 #![tactic(auto)]
 
 mod answers;
+mod made;
 mod making;
 mod run;
 mod seat;
 mod serve;
 
 pub use answers::Answered;
+pub use made::Made;
 pub use making::desks_of;
 pub use run::{Desk, sit_all};
-pub use seat::{MOST_CALLS, Seat};
+pub use seat::{Book, MOST_CALLS, Seat};

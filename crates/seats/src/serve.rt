@@ -44,10 +44,10 @@ fn write_whole<K: Sink>(sink: &mut K, bytes: &[u8]) -> Result<(), Failed>
 impl Seat {
     // Writes a reply.
     fn tell<K: Sink>(&self, sink: &mut K, answered: &Answered) -> Result<(), Failed>
-        requires at { IfSome answered.now.at (λ i. i < length self.now.log.items) }
+        requires at { IfSome answered.now.at (λ i. i < length self.now.made.items) }
     {
         let data: &[u8] = match answered.at {
-            Some(at) => data_of(&self.log[at].reply),
+            Some(at) => data_of(&self.made[at].reply),
             None => &[],
         };
         let head = answered.tell.head(data.len() as u32);
@@ -97,7 +97,7 @@ impl Seat {
     {
         'requests: for _ in rt.forever() {
             if !self.turn(rt, alloc, adapter, line, clock, steps) {
-                self.leave(rt, alloc, adapter, steps);
+                self.leave(rt, adapter, steps);
                 return;
             }
         }

@@ -1,2 +1,3 @@
+mod Books
 mod Logged
 mod Seating

@@ -12,7 +12,6 @@ use Rattle.script_run.specs.SoFar.{PassesNone}
 use Rattle.adapter.specs.Callers.{Caller, IsSameCaller, AreFreshCallers, AreAllCallers}
 use Rattle.adapter.proofs.Everybody.{still_all}
 use Rattle.adapter.proofs.Lists.{at_place, at_end, one_value}
-use Rattle.trace_merge.specs.Merging.{AreOnNodes}
 use Rattle.workers.specs.Feeding.{HasFedAll}
 use Rattle.workers.specs.Logged.{IsLogged}
 use Rattle.workers.specs.Telling.{HasLogged, HaveCalled}
@@ -22,8 +21,9 @@ use Rattle.seats.specs.declared.run.Desk.{Desk}
 use Rattle.seats.specs.declared.seat.Seat.{Seat}
 use Rattle.seats.specs.Calls.{MakesCalls}
 use Rattle.seats.specs.Holding.{HasLeft}
-use Rattle.seats.specs.Seated.{log_of, IsReady, AreReady, GoesOn}
+use Rattle.seats.specs.Seated.{log_of, AreOnNodes, IsReady, AreReady, GoesOn}
 use Rattle.seats.specs.Served.{HasServed, HaveServed}
+use Rattle.serve_top.specs.Reported.{every}
 use Rattle.serve_top.proofs.Logged.{same_calls, logged_calls, passes_calls}
 
 module _ {T : Type 0} (locks : List TableId) (n : ℕ) (feeder : Caller) (clients : List Caller) (fresh : AreFreshCallers locks n feeder clients) (all : AreAllCallers locks (clients ++ feeder ∷ []))
@@ -102,12 +102,12 @@ module _ {T : Type 0} (locks : List TableId) (n : ℕ) (feeder : Caller) (client
         (at_end clients feeder c k at)
 
   -- each entry is on a node
-  pub all_nodes : All (λ (d : Desk T). AreOnNodes d.seat.log.items) new
+  pub all_nodes : All (λ (d : Desk T). AreOnNodes (log_of d.seat)) new
   all_nodes k d low = let long = h.long in (h.each k d (omega arith)).fit.nodes
 
   -- what was called
-  pub have_called : (most : ℕ) (may : ℕ → Bool) (stream : List (List ℕ)) (g : Caller) (feeding : List Fed) → HasFedAll most may stream g feeding
-      → HaveCalled stream g feeding (map (λ (d : Desk T). d.seat.client) new) (map (λ (d : Desk T). log_of d.seat) new)
+  pub have_called : (most : ℕ) (may : ℕ → Bool) (stream : List (List ℕ)) (g : Caller) (feeding : List Fed) → HasFedAll every most may stream g feeding
+      → HaveCalled every stream g feeding (map (λ (d : Desk T). d.seat.client) new) (map (λ (d : Desk T). log_of d.seat) new)
   have_called most may stream g feeding fed = record {
     fed = fed.fed.made;
     logs = length-map new (λ (d : Desk T). log_of d.seat) ∙ sym (length-map new (λ (d : Desk T). d.seat.client));
@@ -116,6 +116,7 @@ module _ {T : Type 0} (locks : List TableId) (n : ℕ) (feeder : Caller) (client
         let w = mapped (λ (x : Desk T). log_of x.seat) new k log there in
         let same : v.0 ≡ w.0 = one_value new k v.0 w.0 v.1 w.1 in
         subst (λ (x : Caller). HasLogged k x log) v.2 (subst (HasLogged k v.0.seat.client) w.2 (subst (λ (x : Desk T). HasLogged k v.0.seat.client (log_of x.seat)) same (has_logged k v.0 v.1)));
+    named = λ e is. refl;
   }
 
   -- none of them owns a node

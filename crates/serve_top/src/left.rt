@@ -2,12 +2,12 @@
 ghost use Rattle.std.specs.Prelude.{◌≡◌, ◌++◌, ◌∷◌, [], map, All, IfOk};
 ghost use Rattle.adapter.specs.Callers.{AreAllCallers};
 ghost use Rattle.feed_pull.specs.Pulling.{IsDone};
-ghost use Rattle.trace_merge.specs.Merging.{AreOnNodes};
+ghost use Rattle.seats.specs.Seated.{log_of, AreOnNodes};
 ghost use Rattle.serve_top.specs.Reported.{AreBooksOf, IsLeftBy};
 
 use adapter::{Adapter, Client};
 use dmx_calls::{Entry, Histories, Outcome};
-use seats::{Desk, Seat};
+use seats::{Book, Desk};
 use std::alloc::{AllocError as NoMemory, Global};
 use ts_watch::Head;
 use workers::{FeederWorker, histories_of_run};
@@ -31,12 +31,11 @@ pub fn books_of<T: Drop>(alloc: Global, desks: Vec<Desk<T>>) -> Result<Books, No
     let mut logs = Vec::new(alloc);
     let mut outcomes = Vec::new(alloc);
     'desks: for desk in desks {
-        let Seat {
+        let Book {
             client,
             log,
             outcomes: told,
-            ..
-        } = desk.seat;
+        } = desk.seat.into_book(alloc)?;
         clients.push(client)?;
         logs.push(log)?;
         outcomes.push(told)?;
@@ -68,7 +67,7 @@ pub fn left_by<T: Drop>(
 ) -> Result<Left, NoMemory>
     requires done { IsDone feeder.puller }
     requires all { AreAllCallers adapter (map (λ d. d.seat.client) desks.items ++ feeder.feeder ∷ []) }
-    requires nodes { All (λ d. AreOnNodes d.seat.log.items) desks.items }
+    requires nodes { All (λ d. AreOnNodes (log_of d.seat)) desks.items }
     ensures { IfOk result (IsLeftBy feeder desks.items) }
 {
     let FeederWorker {

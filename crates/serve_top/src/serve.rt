@@ -7,6 +7,7 @@ use crate::left::left_by;
 use crate::threads::sit_and_feed;
 use adapter::Adapter;
 use client_core::Stop;
+use dmx_calls::limits::NODES;
 use emu_io::{Clock, Gate, Sink, Source};
 use feed_pull::Puller;
 use report_text::{ReportError, write_report};
@@ -38,6 +39,9 @@ impl From<NoMemory> for NoReport {
         NoReport::NoMemory
     }
 }
+
+// The nodes that the stream passes: a program may open any of them.
+const ALL: [bool; NODES as usize] = [true; NODES as usize];
 
 // Why there is no report where the feeder stopped for this reason.
 fn no_report(stop: Stop) -> NoReport {
@@ -86,7 +90,17 @@ pub fn serve<
         feeding: Vec::new(alloc),
         stop: None,
     };
-    sit_and_feed(rt, alloc, &adapter, &mut feeder, &mut desks, source, clock, gate);
+    sit_and_feed(
+        rt,
+        alloc,
+        &adapter,
+        &mut feeder,
+        &mut desks,
+        source,
+        &ALL,
+        clock,
+        gate,
+    );
     if let Some(stop) = feeder.stop {
         return Err(no_report(stop));
     }

@@ -12,8 +12,8 @@ pub mod SoFar
 pub mod Ended
 pub mod Beginning
 mod Feeding
-mod FeederWork
-mod Leaving
+pub mod FeederWork
+pub mod Leaving
 pub mod Lists
 pub mod Logging
 mod Coming

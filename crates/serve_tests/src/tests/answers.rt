@@ -61,12 +61,12 @@ fn batch_of_pat(alloc: Global) -> Option<Arc<Batch>> {
 type Told = (u32, u32, u64, usize);
 
 fn told(seat: &Seat, answered: &Answered) -> Told {
-    let entry = match answered.at {
-        Some(at) => seat.log.get(at),
+    let call = match answered.at {
+        Some(at) => seat.made.get(at),
         None => None,
     };
-    let count = match entry {
-        Some(entry) => data_of(&entry.reply).len(),
+    let count = match call {
+        Some(call) => data_of(&call.reply).len(),
         None => 0,
     };
     (
@@ -117,7 +117,7 @@ fn filtered<L: Ledger, R: Wait>(
     let filter = ask(rt, alloc, adapter, seat, &set, &mut steps);
     let poll = request(6, 0, 0, &[]);
     let before = ask(rt, alloc, adapter, seat, &poll, &mut steps);
-    feeder.feed(rt, adapter, batch, 7, &mut steps);
+    feeder.feed(rt, adapter, &[true; 33], batch, 7, &mut steps);
     let behind = ask(rt, alloc, adapter, seat, &poll, &mut steps);
     let read = request(5, 0, 4096, &[]);
     let section = ask(rt, alloc, adapter, seat, &read, &mut steps);

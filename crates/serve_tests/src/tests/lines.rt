@@ -9,7 +9,7 @@ use super::request;
 use adapter::Adapter;
 use dmx_calls::{Act, Entry};
 use emu_io::{Failed, FixedClock, MemSink, MemSource, Sink, Source};
-use seats::Seat;
+use seats::Book;
 use std::alloc::Global;
 use std::sync::Wait;
 
@@ -71,7 +71,7 @@ fn sat<R: Wait>(rt: &R, alloc: Global, requests: &[u8], room: usize) -> Option<L
     let mut line = MemLine::new(alloc, requests, room)?;
     seat.sit(rt, alloc, &adapter, &mut line, &FixedClock::new(7));
     let written = line.to.bytes().to_vec(alloc).ok()?;
-    let Seat { log, .. } = seat;
+    let Book { log, .. } = seat.into_book(alloc).ok()?;
     Some(Left { written, log })
 }
 
@@ -88,7 +88,7 @@ pub fn joined(alloc: Global, requests: &[[u8; 76]]) -> Option<Vec<u8>> {
 fn closes(log: &[Entry]) -> usize {
     let mut count = 0usize;
     for entry in log {
-        if entry.act == Act::Close {
+        if entry.act.act() == Act::Close {
             count = count.saturating_add(1);
         }
     }

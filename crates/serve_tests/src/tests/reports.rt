@@ -34,7 +34,15 @@ fn served<R: Threads + Wait + Sync>(
     lines.push(MemLine::new(alloc, &requests, 1000)?).ok()?;
     lines.push(MemLine::new(alloc, &requests, 1000)?).ok()?;
     let clock = FixedClock::new(7);
-    let ended = serve(rt, alloc, &mut source, lines, &mut sink, &clock, &NoGate::new());
+    let ended = serve(
+        rt,
+        alloc,
+        &mut source,
+        lines,
+        &mut sink,
+        &clock,
+        &NoGate::new(),
+    );
     Some((ended, sink.bytes().to_vec(alloc).ok()?))
 }
 
@@ -50,8 +58,18 @@ fn the_report_tells_what_both_have_called(rt: HostRuntime) {
     };
     assert!(rt; ended == Ok(()));
     assert!(rt; report.starts_with(b"dvbemu 1\npackets=100 skipped=0 rest=0\npid 1 packets=100 "));
-    assert!(rt; has(&report, b"\nclient 0\nline 1 steps 0..1 done\nline 2 steps 1..2 done\n"));
-    assert!(rt; has(&report, b"\nclient 1\nline 1 steps 0..1 done\nline 2 steps 1..2 done\nnode dvr\n"));
+    assert!(rt;
+        has(
+            &report,
+            b"\nclient 0\nline 1 steps 0..1 done\nline 2 steps 1..2 done\n"
+        )
+    );
+    assert!(rt;
+        has(
+            &report,
+            b"\nclient 1\nline 1 steps 0..1 done\nline 2 steps 1..2 done\nnode dvr\n"
+        )
+    );
     assert!(rt; has(&report, b" c0 0 open = ") && has(&report, b" c1 1 close = "));
     assert!(rt; report.ends_with(b"\nend\n"));
 }

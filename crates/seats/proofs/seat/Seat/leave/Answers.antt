@@ -9,7 +9,7 @@ pub nodes-init : goal.nodes-init
 nodes-init g c = record {
   fit = c.requires.fit;
   goes = goes_self c.args.self.now;
-  log = search rules;
+  made = search rules;
   left = search rules;
   told = search rules;
   room = search rules;
@@ -22,7 +22,7 @@ nodes-preserved g c =
     record {
       fit = e.fit;
       goes = goes_trans c.args.self.now c.nodes.self c.let_go.new.self v.goes e.goes;
-      log = let a = v.log in let b = e.few.0 in omega (arith, a, b);
+      made = let a = v.made in let b = e.few.0 in omega (arith, a, b);
       left = let a = v.left in let b = e.few.1 in omega (arith, a, b);
       told = let a = v.told in let b = e.told in omega (arith, a, b);
       room = search rules;

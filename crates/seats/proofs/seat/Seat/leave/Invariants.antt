@@ -8,9 +8,9 @@ abbrev pub invariant-nodes : goal.invariant-nodes
 invariant-nodes g l = record {
   fit : IsFit l.adapter l.self;
   goes : GoesOn l.fn.self l.self;
-  log : length l.self.log.items ≤ length l.fn.self.log.items + 2 * l.node;
+  made : length l.self.made.items ≤ length l.fn.self.made.items + 2 * l.node;
   left : l.fn.self.client.left ≤ l.self.client.left + 2 * l.node;
   told : length l.self.outcomes.items ≤ length l.fn.self.outcomes.items + l.node;
-  room : (vec_capacity l.self.log ≡ vec_capacity l.fn.self.log) × (vec_capacity l.self.outcomes ≡ vec_capacity l.fn.self.outcomes);
+  room : (vec_capacity l.self.made ≡ vec_capacity l.fn.self.made) × (vec_capacity l.self.outcomes ≡ vec_capacity l.fn.self.outcomes);
   gone : (i : ℕ) → i < l.node → HasLeft i l.self.client;
 }

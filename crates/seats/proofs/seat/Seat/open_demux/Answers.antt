@@ -3,7 +3,7 @@ use Rattle.seats.proofs.Going.{goes_self, goes_trans}
 use Rattle.seats.proofs.seat.Seat.open_demux.Goals as goal
 
 pub nodes-init : goal.nodes-init
-nodes-init g c = record { fit = c.requires.fit; goes = goes_self c.args.self.now; log = search rules; left = search rules; room = refl; told = refl }
+nodes-init g c = record { fit = c.requires.fit; goes = goes_self c.args.self.now; made = search rules; left = search rules; room = refl; told = refl }
 
 pub nodes-preserved : goal.nodes-preserved
 nodes-preserved g c =
@@ -11,7 +11,7 @@ nodes-preserved g c =
     record {
       fit = e.fit;
       goes = goes_trans c.args.self.now c.nodes.self c.call.new.self i.goes e.goes;
-      log = let a = i.log in let b = e.few.0 in omega (arith, a, b);
+      made = let a = i.made in let b = e.few.0 in omega (arith, a, b);
       left = let a = i.left in let b = e.few.1 in omega (arith, a, b);
       room = search rules;
       told = search rules;

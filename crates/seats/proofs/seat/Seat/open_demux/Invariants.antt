@@ -7,8 +7,8 @@ abbrev pub invariant-nodes : goal.invariant-nodes
 invariant-nodes g l = record {
   fit : IsFit l.adapter l.self;
   goes : GoesOn l.fn.self l.self;
-  log : length l.self.log.items ≤ length l.fn.self.log.items + 2 * l.node;
+  made : length l.self.made.items ≤ length l.fn.self.made.items + 2 * l.node;
   left : l.fn.self.client.left ≤ l.self.client.left + 2 * l.node;
-  room : vec_capacity l.self.log ≡ vec_capacity l.fn.self.log;
+  room : vec_capacity l.self.made ≡ vec_capacity l.fn.self.made;
   told : l.self.outcomes ≡ l.fn.self.outcomes;
 }
