@@ -87,6 +87,13 @@ log_settled a b rest l told none =
     ∙ (append-nil (map told_entry (a.log.items ++ rest))
     ∙ (map-append told_entry a.log.items rest ∙ ap (λ (k : List LogEntry). map told_entry a.log.items ++ k) told)))
 
+-- where its log and its last calls are the same
+pub log_same : (a b : Seat) → b.log.items ≡ a.log.items → b.made.items ≡ a.made.items → b.who ≡ a.who → log_of b ≡ log_of a
+log_same a b l m w =
+    ap (λ (k : List ToldEntry). map told_entry k ++ map (told_made b.who) b.made.items) l
+    ∙ (ap (λ (n : ℕ). map told_entry a.log.items ++ map (told_made n) b.made.items) w
+    ∙ ap (λ (k : List Made). map told_entry a.log.items ++ map (told_made a.who) k) m)
+
 -- before its first call
 pub log_none : (s : Seat) → s.log.items ≡ [] → s.made.items ≡ [] → log_of s ≡ []
 log_none s l m =

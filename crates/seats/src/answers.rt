@@ -1,11 +1,13 @@
 // What a seat does for what it is asked, and what it tells.
-ghost use Rattle.std.specs.Prelude.{◌≡◌, ◌≢◌, ◌<◌, ◌≤◌, ◌+◌, ℕ, None, length, vec_capacity, IfOk, IfSome};
-ghost use Rattle.dmx_calls.specs.Calls.{invocation_of};
+ghost use Rattle.std.specs.Prelude.{◌≡◌, ◌≢◌, ◌<◌, ◌≤◌, ◌+◌, ℕ, None, Some, length, slice_get, vec_capacity, IfOk, IfSome};
+ghost use Rattle.dmx_calls.specs.Calls.{invocation_of, response_of};
 ghost use Rattle.dmx_calls.specs.Log.{act_of};
 ghost use Rattle.dmx_calls.specs.declared.limits.TheConstants.{DEMUX_NODES as nodes};
 ghost use Rattle.dmx_calls.specs.Invocation as asks;
 ghost use Rattle.script_run.specs.SoFar.{PassesNone};
 ghost use Rattle.serve_frames.specs.Asks.{IsAskInRange, IsWantInRange};
+ghost use Rattle.serve_frames.specs.Tells.{told_of};
+ghost use Rattle.seats.specs.declared.made.Made.{Made};
 ghost use Rattle.seats.specs.Holding.{HasLeft};
 ghost use Rattle.seats.specs.Seated.{IsFit, HasRoom, GoesOn};
 
@@ -54,7 +56,8 @@ impl Seat {
     // The last call in this place, as it is told.
     fn told_at(&self, at: usize) -> Answered
         requires at { at < length self.now.made.items }
-        ensures at { IfSome result.at (λ i. i < length self.now.made.items) }
+        ensures at { result.at ≡ Some at }
+        ensures told { (m : Made) → slice_get self.now.made.items at ≡ Some m → result.tell ≡ told_of (response_of m.reply) m.place }
     {
         let call = &self.made[at];
         Answered {

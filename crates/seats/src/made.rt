@@ -1,5 +1,5 @@
 // Calls that were made, until there is memory to keep them in a log.
-ghost use Rattle.std.specs.Prelude.{◌≡◌, ◌++◌, ◌×◌, List, map, OnOk, IfOk};
+ghost use Rattle.std.specs.Prelude.{◌≡◌, ◌++◌, List, map, OnOk, IfOk};
 ghost use Rattle.dmx_calls.specs.Calls.{response_of, told_entry};
 ghost use Rattle.dmx_calls.specs.declared.log.Entry.{Entry as ToldEntry};
 ghost use Rattle.seats.specs.Seated.{told_made};

@@ -180,10 +180,11 @@ impl Seat {
         ensures rest { (self.new.client ≡ self.old.client) × (self.new.who ≡ self.old.who) × (self.new.log ≡ self.old.log) × (self.new.made ≡ self.old.made) × (self.new.held ≡ self.old.held) }
     {
         let line = (self.outcomes.len() as u64).saturating_add(1);
+        let to = self.count();
         self.outcomes.push_reserved(Outcome {
             line: u32::try_from(line).unwrap_or(u32::MAX),
             from,
-            to: self.count(),
+            to,
             kind,
         });
     }

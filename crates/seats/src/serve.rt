@@ -1,8 +1,9 @@
 // A seat at its line: requests come in, and replies go out.
-ghost use Rattle.std.specs.Prelude.{◌≡◌, ◌<◌, ◌≤◌, ◌+◌, ◌-◌, ℕ, length, OnOk, IfSome};
-ghost use Rattle.std.specs.Io.KnownBytes.{Appends};
+ghost use Rattle.std.specs.Prelude.{◌≡◌, ◌<◌, ◌≤◌, ◌+◌, ◌-◌, ℕ, true, length, OnOk, IfSome};
+ghost use Rattle.std.specs.Io.KnownBytes.{Appends, Consumes};
 ghost use Rattle.seats.specs.Seated.{IsFit, IsReady, HasRoom, GoesOn};
 ghost use Rattle.seats.specs.Served.{HasServed};
+ghost use Rattle.seats.specs.Told.{reply_bytes, data_read, call_at};
 
 use crate::answers::Answered;
 use crate::seat::Seat;
@@ -18,6 +19,7 @@ use steps::Steps;
 // Fills the buffer. False where the source has ended or failed before.
 fn fill<S: Source>(source: &mut S, into: &mut [u8]) -> bool
     ensures same { length into.new ≡ length into.old }
+    ensures whole { result ≡ true → Consumes (S.end source.old).left (S.end source.new).left into.new }
 {
     let mut done = 0;
     'reading: while done < into.len() {
@@ -45,6 +47,7 @@ impl Seat {
     // Writes a reply.
     fn tell<K: Sink>(&self, sink: &mut K, answered: &Answered) -> Result<(), Failed>
         requires at { IfSome answered.now.at (λ i. i < length self.now.made.items) }
+        ensures whole { OnOk result (Appends (K.end sink.old).written (K.end sink.new).written (reply_bytes answered.now.tell (data_read (call_at self.now.made.items answered.now.at)))) }
     {
         let data: &[u8] = match answered.at {
             Some(at) => data_of(&self.made[at].reply),

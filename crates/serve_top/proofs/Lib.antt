@@ -1,3 +1,4 @@
 mod Books
 mod Logged
+mod Reporting
 mod Seating
