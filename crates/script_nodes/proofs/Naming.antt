@@ -5,9 +5,8 @@ use Rattle.std.specs.List.{list_any}
 use Rattle.lemmas.specs.Lists.{Has}
 use Rattle.lemmas.proofs.Lists.{has_either}
 use Rattle.dmx_calls.specs.declared.limits.TheConstants.{DEMUX_NODES}
-use Rattle.dmx_calls.specs.declared.reply.Tap.{Tap}
 use Rattle.dmx_calls.specs.declared.reply.Tap.TheVariants.{Keep as KeepTap, Attach as AttachTap, Detach as DetachTap}
-use Rattle.dmx_calls.specs.Response.{Response, Done}
+use Rattle.dmx_calls.specs.Response.{Response, Done, TapChange}
 use Rattle.client_script.specs.declared.line.Line.{Line}
 use Rattle.client_script.specs.declared.line.Line.TheVariants.{Command as CommandLine, Feed, Tick}
 use Rattle.client_script.specs.declared.line.Target.{Target}
@@ -45,7 +44,7 @@ module _ (target : Target) where
   once_on ending node want step [] may = may
   once_on ending node want step (r ∷ rs) may = tt
 
-  told_on : (ending : Ending) (node : ℕ) (tap : Tap) (step : ℕ) (rs : List Response) → IsOn target (told ending node tap step rs)
+  told_on : (ending : Ending) (node : ℕ) (tap : TapChange) (step : ℕ) (rs : List Response) → IsOn target (told ending node tap step rs)
   told_on ending node KeepTap step rs = tt
   told_on ending node (AttachTap pids) step rs = once_on ending DEMUX_NODES _ step rs (inr refl)
   told_on ending node DetachTap step rs = once_on ending DEMUX_NODES _ step rs (inr refl)

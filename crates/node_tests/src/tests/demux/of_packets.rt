@@ -109,17 +109,17 @@ fn a_filter_of_payloads_has_one_pid(rt: HostRuntime) -> Result<(), NoMemory> {
 const ENOSPC: Want = Want::Refused(Errno::Enospc);
 
 #[test]
-fn a_filter_has_at_most_32_pids(rt: HostRuntime) -> Result<(), NoMemory> {
+fn a_filter_has_at_most_128_pids(rt: HostRuntime) -> Result<(), NoMemory> {
     let mut rows = vec![in rt.alloc(); OPEN, (1, Step::Whole(0, 0), DONE)]?;
-    for pid in 1..32 {
+    for pid in 1..128 {
         rows.push((1, Step::Add(pid), DONE))?;
     }
     rows.extend_from_slice(&[
-        (1, Step::Add(32), ENOSPC),
+        (1, Step::Add(128), ENOSPC),
         (1, Step::Add(0x2000), ENOSPC),
-        (1, Step::Add(31), DONE),
+        (1, Step::Add(127), DONE),
         (1, Step::Remove(0), DONE),
-        (1, Step::Add(32), DONE),
+        (1, Step::Add(128), DONE),
         (1, Step::Add(0), ENOSPC),
     ])?;
     check(&rt, rt.alloc(), &rows)
