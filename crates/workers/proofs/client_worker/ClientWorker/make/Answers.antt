@@ -1,5 +1,7 @@
-use Rattle.std.proofs.Common.{rules, ◌+◌, Option, ◌≡◌, [], ◌∷◌, ◌++◌, subst, sym, ap, ◌∙◌, refl}
-use Rattle.std.proofs.lemmas.List.{map-append, length-map}
+use Rattle.std.proofs.Common.{rules, arith, ◌+◌, ◌≤◌, Option, ◌≡◌, [], ◌∷◌, ◌++◌, length, subst, sym, ap, ◌∙◌, refl}
+use Rattle.std.proofs.lemmas.List.{map-append, length-map, length-append}
+use Rattle.std.proofs.lemmas.List.Elements.{All-append, All-cons, All-nil}
+use Rattle.dmx_calls.specs.declared.limits.TheConstants.{DEMUX_NODES}
 use Rattle.dmx_calls.specs.Calls.{told_entry, response_of}
 use Rattle.dmx_calls.specs.Entries.{told}
 use Rattle.dmx_calls.specs.Log.{LogEntry, act_of}
@@ -45,4 +47,19 @@ returns-clause-works g c may lines client given turn works =
           (λ waits last i at long. past k d (IsLegalAt node) node place (told k.who call answer) e.entry e.same.0 (last.place + 1)
           (turn waits last i e.entry.first at (long ∙ length-map w.log.items told_entry) e.entry.was)));
       after = rw (logs, one) after;
+    }
+
+pub returns-clause-fit : goal.returns-clause-fit
+returns-clause-fit g c =
+    let w = c.args.self.now in let f = c.requires.fit in let is = c.call-place.ensures in let step = c.take.ensures.step in
+    let entry : ToldEntry = record { place = c.call-place.result.0; step = c.args.event.step; node = c.args.event.node; who = w.who; act = c.in_ok-act.act; reply = c.in_ok-kept.kept } in
+    let items : c.push_reserved.new.self.items ≡ w.log.items ++ entry ∷ [] = search rules in
+    let long : length c.push_reserved.new.self.items ≡ length w.log.items + 1 = ap length items ∙ length-append w.log.items (entry ∷ []) in
+    let P = λ (e : ToldEntry). e.node ≤ DEMUX_NODES in
+    record {
+      fits = is.own;
+      who = f.who ∙ sym is.same.0;
+      left = let had = f.left in let now = is.left in omega arith;
+      steps = let had = f.steps in omega arith;
+      nodes = rw items (All-append P w.log.items (entry ∷ []) f.nodes (All-cons P entry [] c.requires.node (All-nil P)));
     }
