@@ -15,6 +15,8 @@ use Rattle.adapter.proofs.Pairs.{caller_fits}
 use Rattle.seats.specs.Calls.{MakesCall, MakesCalls}
 use Rattle.seats.specs.Holding.{KnowsItsNodes}
 use Rattle.seats.proofs.Holding.{knows_none}
+use Rattle.seats.proofs.Lists.{mapped}
+use Rattle.seats.specs.declared.run.Desk.{Desk}
 use Rattle.seats.specs.declared.made.Made.{Made}
 use Rattle.seats.specs.declared.seat.Seat.{Seat}
 use Rattle.seats.specs.Seated.{told_made, log_of, AreOnNodes, IsFit, IsNew, IsReady, AreReady, GoesOn}
@@ -124,3 +126,14 @@ all_ready locks n feeder clients fresh seats are each = record {
       let there : slice_get clients c ≡ Some s.client = ap (λ (l : List Caller). slice_get l c) (sym are) ∙ (slice_get-map (λ (z : Seat). z.client) seats c ∙ ap (λ o. option_map (λ (z : Seat). z.client) o) at) in
       (new_ready locks n feeder clients fresh c s there (each c s at), log_none s (each c s at).log.0 (each c s at).log.1);
 }
+
+-- the seats of desks
+module _ {T : Type 0} where
+  seats_of : (desks : List (Desk T)) → map (λ (s : Seat). s.client) (map (λ (d : Desk T). d.seat) desks) ≡ map (λ (d : Desk T). d.seat.client) desks
+  seats_of [] = refl
+  seats_of (d ∷ ds) = ap (λ l. d.seat.client ∷ l) (seats_of ds)
+
+  pub ready_desks : (locks : List TableId) (n : ℕ) (feeder : Caller) (clients : List Caller) → AreFreshCallers locks n feeder clients
+      → (desks : List (Desk T)) → map (λ (d : Desk T). d.seat.client) desks ≡ clients → ((c : ℕ) (d : Desk T) → slice_get desks c ≡ Some d → IsNew (c + 1) d.seat) → AreReady locks clients (map (λ (d : Desk T). d.seat) desks)
+  ready_desks locks n feeder clients fresh desks are each = all_ready locks n feeder clients fresh (map (λ (d : Desk T). d.seat) desks) (seats_of desks ∙ are)
+      (λ c s at. let d = mapped (λ (d : Desk T). d.seat) desks c s at in subst (IsNew (c + 1)) d.2 (each c d.0 d.1))

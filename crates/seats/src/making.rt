@@ -30,10 +30,8 @@ pub fn desks_of<T: Drop>(
     'clients: for client in clients {
         let line = lines.pop().unwrap();
         number += 1;
-        desks.push(Desk {
-            seat: Seat::new(alloc, client, number)?,
-            line,
-        })?;
+        let seat = Seat::new(alloc, client, number)?;
+        desks.push(Desk { seat, line })?;
     }
     Ok(desks)
 }

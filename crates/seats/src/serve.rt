@@ -44,15 +44,24 @@ fn write_whole<K: Sink>(sink: &mut K, bytes: &[u8]) -> Result<(), Failed>
 }
 
 impl Seat {
+    // The bytes that were read by the call that is told.
+    fn data_at(&self, at: Option<usize>) -> &[u8]
+        requires { IfSome at (λ i. i < length self.now.made.items) }
+        ensures value { result.now ≡ data_read (call_at self.now.made.items at) }
+        ensures few { length result.now ≤ 65536 }
+    {
+        match at {
+            Some(at) => data_of(&self.made[at].reply),
+            None => &[],
+        }
+    }
+
     // Writes a reply.
     fn tell<K: Sink>(&self, sink: &mut K, answered: &Answered) -> Result<(), Failed>
         requires at { IfSome answered.now.at (λ i. i < length self.now.made.items) }
         ensures whole { OnOk result (Appends (K.end sink.old).written (K.end sink.new).written (reply_bytes answered.now.tell (data_read (call_at self.now.made.items answered.now.at)))) }
     {
-        let data: &[u8] = match answered.at {
-            Some(at) => data_of(&self.made[at].reply),
-            None => &[],
-        };
+        let data = self.data_at(answered.at);
         let head = answered.tell.head(data.len() as u32);
         write_whole(sink, head.as_slice())?;
         write_whole(sink, data)
