@@ -1,5 +1,10 @@
 -- From what the threads have left to what the report tells.
-use Rattle.std.proofs.Common.{◌≡◌, ℕ, Bool, List, [], ◌∷◌, ◌++◌, map, Option, ap, sym, ◌∙◌, subst}
+use Rattle.std.proofs.Common.{◌≡◌, ◌≤◌, ◌+◌, ℕ, Bool, true, false, List, [], ◌∷◌, ◌++◌, map, replicate, Option, ap, ◌∙◌, subst, arith}
+use Rattle.std.specs.Prelude.{slice_index_or, option_map, All}
+use Rattle.std.proofs.lemmas.List.{get_or-replicate}
+use Rattle.std.proofs.lemmas.Option.{slice_get-map, slice_get-get_or}
+use Rattle.adapter.specs.Nodes.{is_in}
+use Rattle.dmx_calls.specs.declared.limits.TheConstants.{DEMUX_NODES}
 use Rattle.std.specs.Io.KnownBytes.{Appends}
 use Rattle.emu_io.specs.Ends.{SourceEnd}
 use Rattle.atomic_table.specs.Seated.{TableId}
@@ -17,11 +22,21 @@ use Rattle.workers.specs.Telling.{HaveCalled}
 use Rattle.workers.specs.Inside.FeederWork.{HasPassedAll}
 use Rattle.workers.proofs.Leaving.{worked_feeder}
 use Rattle.seats.specs.declared.run.Desk.{Desk}
-use Rattle.seats.specs.Seated.{log_of, AreReady}
+use Rattle.seats.specs.Seated.{log_of, IsReady, AreReady}
 use Rattle.seats.specs.Served.{HaveServed}
 use Rattle.serve_top.specs.declared.left.Left.{Left}
 use Rattle.serve_top.specs.Reported.{every, HasReported, IsLeftBy}
 use Rattle.serve_top.proofs.Seating.{have_called, have_left}
+
+-- a row that has all nodes
+pub all_in : (node : ℕ) → node ≤ DEMUX_NODES → is_in (replicate (DEMUX_NODES + 1) true) node ≡ every node
+all_in node low = get_or-replicate (DEMUX_NODES + 1) node true false (omega arith)
+
+-- the seats are ready
+pub desks_ready : {T : Type 0} (locks : List TableId) (clients : List Caller) (desks : List (Desk T)) → AreReady locks clients (map (λ (d : Desk T). d.seat) desks) → All (λ (d : Desk T). IsReady locks d.seat) desks
+desks_ready locks clients desks ready k d low =
+    let x = slice_index_or desks k d in
+    (ready.each k x.seat (slice_get-map (λ (z : Desk _). z.seat) desks k ∙ ap (option_map (λ (z : Desk _). z.seat)) (slice_get-get_or desks k d low))).0
 
 module _ {T : Type 0} (locks : List TableId) (n : ℕ) (feeder : Caller) (clients : List Caller) (fresh : AreFreshCallers locks n feeder clients) (all : AreAllCallers locks (clients ++ feeder ∷ []))
     (old new : List (Desk T)) (ready : AreReady locks clients (map (λ (d : Desk T). d.seat) old)) (served : HaveServed locks old new)

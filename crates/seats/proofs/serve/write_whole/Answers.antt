@@ -1,4 +1,4 @@
-use Rattle.std.proofs.Common.{◌≡◌, ◌≤◌, ◌++◌, ℕ, length, take, drop, ◌-◌, arith, ap, ◌∙◌, subst, sym}
+use Rattle.std.proofs.Common.{◌≡◌, ◌≤◌, ◌++◌, ℕ, List, length, take, drop, ◌-◌, arith, ap, ◌∙◌, subst, sym}
 use Rattle.std.proofs.lemmas.List.{length-drop, take_all}
 use Rattle.std.proofs.Math.Seq.{take-add}
 use Rattle.std.specs.Io.KnownBytes.{Appends}
@@ -13,5 +13,5 @@ writing-preserved g c =
     let bound = c.in_ok-count.ensures.bound.1 in let same = ap length rest in
     record {
       within = omega (arith, size, bound, same);
-      bytes = rw (take-add d n bytes) (Appends-trans _ _ _ _ _ c.writing.invariant.bytes (rw (← rest) c.in_ok-count.ensures.bytes));
+      bytes = rw (take-add d n bytes) (Appends-trans _ _ _ _ _ c.writing.invariant.bytes (subst (λ (l : List ℕ). Appends _ _ (take n l)) rest c.in_ok-count.ensures.bytes));
     }

@@ -1,4 +1,6 @@
-use Rattle.std.proofs.Common.{rules, ◌≡◌, ◌++◌, ◌∷◌, [], ◌+◌, length, refl, sym, ◌∙◌, subst, arith}
+use Rattle.std.proofs.Common.{rules, ◌≡◌, ◌++◌, ◌∷◌, [], ◌+◌, length, refl, sym, ◌∙◌, subst, arith, false}
+use Rattle.std.specs.Prelude.{slice_index_or}
+use Rattle.std.proofs.lemmas.Option.{slice_get-get_or}
 use Rattle.dmx_calls.specs.Entries.{told}
 use Rattle.script_run.specs.SoFar.{PassesNone}
 use Rattle.seats.specs.declared.made.Made.{Made}
@@ -18,7 +20,7 @@ returns-clause-fit g c =
       who = f.who ∙ sym e.same.0;
       left = omega (arith, left, less, size);
       nodes = nodes_one s _ m (log_one s _ m refl items refl) c.requires.node f.nodes;
-      knows = knows_made s.client c.call-place.new.self c.args.node c.call-place.result.0 (told s.client.who c.args.call c.call-place.result.1) e.entry e.same.0 refl _ _ _ f.knows (search rules) (search rules);
+      knows = knows_made s.client c.call-place.new.self c.args.node c.call-place.result.0 (told s.client.who c.args.call c.call-place.result.1) e.entry e.same.0 refl s.held _ (slice_index_or s.held c.args.node false) f.knows (slice_get-get_or s.held c.args.node false (search rules)) (search rules);
     }
 
 pub returns-clause-goes : goal.returns-clause-goes
