@@ -1,0 +1,5 @@
+pub mod Going
+pub mod Holding
+pub mod Lists
+pub mod Owning
+pub mod Ranges
