@@ -1,15 +1,19 @@
 // What a seat does for what it is asked, and what it tells.
-ghost use Rattle.std.specs.Prelude.{◌≡◌, ◌≢◌, ◌<◌, ◌≤◌, ◌+◌, ℕ, None, Some, length, slice_get, vec_capacity, IfOk, IfSome};
+ghost use Rattle.std.specs.Prelude.{◌≡◌, ◌≢◌, ◌<◌, ◌≤◌, ◌+◌, ◌⊎◌, ℕ, None, Some, length, slice_get, vec_capacity, IfOk, IfSome};
 ghost use Rattle.dmx_calls.specs.Calls.{invocation_of, response_of};
 ghost use Rattle.dmx_calls.specs.Log.{act_of};
 ghost use Rattle.dmx_calls.specs.declared.limits.TheConstants.{DEMUX_NODES as nodes};
 ghost use Rattle.dmx_calls.specs.Invocation as asks;
+ghost use Rattle.client_core.specs.Commands.{own_call as own_call_by};
 ghost use Rattle.script_run.specs.SoFar.{PassesNone};
 ghost use Rattle.serve_frames.specs.Asks.{IsAskInRange, IsWantInRange};
 ghost use Rattle.serve_frames.specs.Tells.{told_of};
 ghost use Rattle.seats.specs.declared.made.Made.{Made};
+ghost use Rattle.seats.specs.Answered.{is_busy as is_busy_by, refusal, AreClosings, IsAnswered, IsClosing, IsFull, IsOpened};
+ghost use Rattle.seats.specs.Doing.{Does, DoesCommand, HasAnswered};
 ghost use Rattle.seats.specs.Holding.{HasLeft};
 ghost use Rattle.seats.specs.Seated.{IsFit, HasRoom, GoesOn};
+ghost use Rattle.seats.specs.Told.{data_read, call_at};
 
 use crate::seat::{MOST_CALLS, Seat};
 use adapter::Adapter;
@@ -35,7 +39,7 @@ pub struct Answered {
 
 // A refusal without a call.
 fn refused(code: u32) -> Answered
-    ensures { result.at ≡ None }
+    ensures { (result.tell ≡ refusal code) × (result.at ≡ None) }
 {
     Answered {
         tell: Tell::refused(code),
@@ -46,10 +50,18 @@ fn refused(code: u32) -> Answered
 // The call that is asked for at this moment.
 fn own_call(alloc: Global, want: Want, now: u64) -> Result<Call, NoMemory>
     requires { IsWantInRange want }
-    ensures { IfOk result (λ call. PassesNone (act_of (invocation_of call))) }
+    ensures bare { IfOk result (λ call. PassesNone (act_of (invocation_of call))) }
+    ensures value { IfOk result (λ call. invocation_of call ≡ own_call_by want now) }
 {
     let call = call_of(alloc, &Request::Own(want), now)?;
     Ok(call)
+}
+
+// Whether the node has an owner, as this reply says.
+fn is_busy(reply: &Reply) -> bool
+    ensures { result ≡ is_busy_by (response_of reply.now) }
+{
+    matches!(reply, Reply::Busy { .. })
 }
 
 impl Seat {
@@ -85,6 +97,7 @@ impl Seat {
         ensures few { (length self.new.made.items ≤ length self.old.made.items + 2) × (self.old.client.left ≤ self.new.client.left + 2) }
         ensures one { length self.new.outcomes.items ≡ length self.old.outcomes.items + 1 }
         ensures room { (vec_capacity self.new.made ≡ vec_capacity self.old.made) × (vec_capacity self.new.outcomes ≡ vec_capacity self.old.outcomes) }
+        ensures did { DoesCommand node (act_of (invocation_of call)) result self.old self.new }
         ensures left { invocation_of call ≢ asks.Open → (i : ℕ) → HasLeft i self.old.client → HasLeft i self.new.client }
         ensures closed { invocation_of call ≡ asks.Close → HasLeft node self.new.client }
     {
@@ -107,11 +120,12 @@ impl Seat {
         ensures room { HasRoom 66 self.new }
         ensures goes { GoesOn self.old self.new }
         ensures at { IfSome result.at (λ i. i < length self.new.made.items) }
+        ensures did { Does (λ calls. IsOpened calls result.tell (data_read (call_at self.new.made.items result.at)) ⊎ IsFull calls result.tell (data_read (call_at self.new.made.items result.at))) self.old self.new }
     {
         let from = self.count();
         'nodes: for node in 0..DEMUX_NODES {
             let at = self.call(rt, adapter, node, Call::Open, steps);
-            if let Reply::Busy { .. } = self.made[at].reply {
+            if is_busy(&self.made[at].reply) {
                 continue;
             }
             self.keep(from, OutcomeKind::Done);
@@ -139,6 +153,7 @@ impl Seat {
         ensures few { (length self.new.made.items ≤ length self.old.made.items + 2) × (self.old.client.left ≤ self.new.client.left + 2) }
         ensures told { length self.new.outcomes.items ≤ length self.old.outcomes.items + 1 }
         ensures room { (vec_capacity self.new.made ≡ vec_capacity self.old.made) × (vec_capacity self.new.outcomes ≡ vec_capacity self.old.outcomes) }
+        ensures did { Does (IsClosing node) self.old self.new }
         ensures left { HasLeft node self.new.client }
         ensures still { (i : ℕ) → HasLeft i self.old.client → HasLeft i self.new.client }
     {
@@ -157,6 +172,7 @@ impl Seat {
         ensures few { (length self.new.made.items ≤ length self.old.made.items + 66) × (self.old.client.left ≤ self.new.client.left + 66) }
         ensures told { length self.new.outcomes.items ≤ length self.old.outcomes.items + 33 }
         ensures room { (vec_capacity self.new.made ≡ vec_capacity self.old.made) × (vec_capacity self.new.outcomes ≡ vec_capacity self.old.outcomes) }
+        ensures did { Does (AreClosings (nodes + 1)) self.old self.new }
         ensures left { (node : ℕ) → node ≤ nodes → HasLeft node self.new.client }
     {
         'nodes: for node in 0..NODES {
@@ -181,6 +197,7 @@ impl Seat {
         ensures room { HasRoom 66 self.new }
         ensures goes { GoesOn self.old self.new }
         ensures at { IfSome result.at (λ i. i < length self.new.made.items) }
+        ensures did { Does (λ calls. IsAnswered ask now calls result.tell (data_read (call_at self.new.made.items result.at))) self.old self.new }
     {
         match ask {
             Ask::OpenDemux => self.open_demux(rt, adapter, steps),
@@ -218,6 +235,7 @@ impl Seat {
         ensures room { HasRoom 66 self.new }
         ensures goes { GoesOn self.old self.new }
         ensures at { IfSome result.at (λ i. i < length self.new.made.items) }
+        ensures answered { HasAnswered ask now self.old self.new result.tell (data_read (call_at self.new.made.items result.at)) }
     {
         match self.reserve(alloc, 2 * MOST_CALLS) {
             Ok(()) => self.done(rt, alloc, adapter, ask, now, steps),

@@ -1,5 +1,5 @@
 // A seat and its calls.
-ghost use Rattle.std.specs.Prelude.{◌≡◌, ◌≢◌, ◌<◌, ◌≤◌, ◌+◌, ◌^◌, ℕ, List, [], length, map, vec_capacity, OnOk, IfOk, IfSome};
+ghost use Rattle.std.specs.Prelude.{◌≡◌, ◌≢◌, ◌<◌, ◌≤◌, ◌+◌, ◌^◌, ℕ, List, [], length, map, option_map, vec_capacity, OnOk, IfOk, IfSome};
 ghost use Rattle.atomic_table.specs.Seated.{TableId};
 ghost use Rattle.dmx_calls.specs.Calls.{invocation_of, response_of, told_entry};
 ghost use Rattle.dmx_calls.specs.Log.{act_of};
@@ -7,6 +7,8 @@ ghost use Rattle.dmx_calls.specs.declared.limits.TheConstants.{DEMUX_NODES as no
 ghost use Rattle.dmx_calls.specs.Invocation as asks;
 ghost use Rattle.dmx_calls.specs.Response.{is_accepted as is_accepted_by};
 ghost use Rattle.script_run.specs.SoFar.{PassesNone};
+ghost use Rattle.seats.specs.Answered.{act_behind};
+ghost use Rattle.seats.specs.Doing.{MakesOne, DoesCommand};
 ghost use Rattle.seats.specs.Holding.{HasLeft, has_then as has_then_by};
 ghost use Rattle.seats.specs.Seated.{log_of, IsFit, IsNew, HasRoom, GoesOn};
 
@@ -41,7 +43,8 @@ pub struct Seat {
 
 // What the dvr node is to be told behind this reply of a node.
 fn told_dvr(node: u32, reply: &Reply) -> Option<Call>
-    ensures { IfSome result (λ call. PassesNone (act_of (invocation_of call)) × (invocation_of call ≢ asks.Open)) }
+    ensures bare { IfSome result (λ call. PassesNone (act_of (invocation_of call)) × (invocation_of call ≢ asks.Open)) }
+    ensures asks { option_map (λ call. act_of (invocation_of call)) result ≡ act_behind node (response_of reply.now) }
 {
     if node == DEMUX_NODES {
         return None;
@@ -121,6 +124,7 @@ impl Seat {
         ensures one { (length self.new.made.items ≡ length self.old.made.items + 1) × (self.new.client.left + 1 ≡ self.old.client.left) }
         ensures room { vec_capacity self.new.made ≡ vec_capacity self.old.made }
         ensures rest { self.new.outcomes ≡ self.old.outcomes }
+        ensures did { MakesOne node (act_of (invocation_of call)) self.old self.new }
         ensures left { invocation_of call ≢ asks.Open → (i : ℕ) → HasLeft i self.old.client → HasLeft i self.new.client }
         ensures closed { invocation_of call ≡ asks.Close → HasLeft node self.new.client }
     {
@@ -158,6 +162,7 @@ impl Seat {
         ensures few { (length self.new.made.items ≤ length self.old.made.items + 2) × (self.old.client.left ≤ self.new.client.left + 2) }
         ensures room { vec_capacity self.new.made ≡ vec_capacity self.old.made }
         ensures rest { self.new.outcomes ≡ self.old.outcomes }
+        ensures did { DoesCommand node (act_of (invocation_of call)) result self.old self.new }
         ensures left { invocation_of call ≢ asks.Open → (i : ℕ) → HasLeft i self.old.client → HasLeft i self.new.client }
         ensures closed { invocation_of call ≡ asks.Close → HasLeft node self.new.client }
     {
@@ -218,6 +223,7 @@ impl Seat {
     pub fn reserve(&mut self, alloc: Global, calls: usize) -> Result<(), NoMemory>
         ensures room { OnOk result (HasRoom calls self.new) }
         ensures still { (calls : ℕ) → HasRoom calls self.old → HasRoom calls self.new }
+        ensures same { log_of self.new ≡ log_of self.old }
         ensures goes { GoesOn self.old self.new }
         ensures fit { (locks : List TableId) → IsFit locks self.old → IsFit locks self.new }
     {

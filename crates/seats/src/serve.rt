@@ -1,9 +1,10 @@
 // A seat at its line: requests come in, and replies go out.
 ghost use Rattle.std.specs.Prelude.{◌≡◌, ◌<◌, ◌≤◌, ◌+◌, ◌-◌, ℕ, true, length, OnOk, IfSome};
 ghost use Rattle.std.specs.Io.KnownBytes.{Appends, Consumes};
-ghost use Rattle.seats.specs.Seated.{IsFit, IsReady, HasRoom, GoesOn};
+ghost use Rattle.seats.specs.Seated.{log_of, IsFit, IsReady, HasRoom, GoesOn};
 ghost use Rattle.seats.specs.Served.{HasServed};
 ghost use Rattle.seats.specs.Told.{reply_bytes, data_read, call_at};
+ghost use Rattle.seats.specs.Turns.{HasTurned};
 
 use crate::answers::Answered;
 use crate::seat::Seat;
@@ -82,6 +83,7 @@ impl Seat {
         ensures fit { IsFit adapter.now self.new }
         ensures room { HasRoom 66 self.new }
         ensures goes { GoesOn self.old self.new }
+        ensures turned { HasTurned (λ at. (T.Source.end at).left) (λ at. (T.Sink.end at).written) result line.old line.new (log_of self.old) (log_of self.new) }
     {
         let mut bytes = [0u8; REQUEST_LEN];
         if !fill(line, &mut bytes) {
@@ -105,7 +107,7 @@ impl Seat {
         steps: &mut Steps<L>,
     )
         requires ready { IsReady adapter.now self.old }
-        ensures { HasServed adapter.now self.old self.new }
+        ensures { HasServed (λ at. (T.Source.end at).left) (λ at. (T.Sink.end at).written) adapter.now line.old self.old self.new }
     {
         'requests: for _ in rt.forever() {
             if !self.turn(rt, alloc, adapter, line, clock, steps) {

@@ -1,5 +1,5 @@
 -- From what the threads have left to what the report tells.
-use Rattle.std.proofs.Common.{◌≡◌, ◌≤◌, ◌+◌, ℕ, Bool, true, false, List, [], ◌∷◌, ◌++◌, map, replicate, Option, ap, ◌∙◌, subst, arith}
+use Rattle.std.proofs.Common.{◌≡◌, ◌≤◌, ◌+◌, ℕ, Bool, true, false, List, [], ◌∷◌, ◌++◌, map, replicate, reverse, Option, ap, ◌∙◌, subst, arith}
 use Rattle.std.specs.Prelude.{slice_index_or, option_map, All}
 use Rattle.std.proofs.lemmas.List.{get_or-replicate}
 use Rattle.std.proofs.lemmas.Option.{slice_get-map, slice_get-get_or}
@@ -26,7 +26,7 @@ use Rattle.seats.specs.Seated.{log_of, IsReady, AreReady}
 use Rattle.seats.specs.Served.{HaveServed}
 use Rattle.serve_top.specs.declared.left.Left.{Left}
 use Rattle.serve_top.specs.Reported.{every, HasReported, IsLeftBy}
-use Rattle.serve_top.proofs.Seating.{have_called, have_left}
+use Rattle.serve_top.proofs.Seating.{have_called, have_left, have_answered}
 
 -- a row that has all nodes
 pub all_in : (node : ℕ) → node ≤ DEMUX_NODES → is_in (replicate (DEMUX_NODES + 1) true) node ≡ every node
@@ -38,10 +38,10 @@ desks_ready locks clients desks ready k d low =
     let x = slice_index_or desks k d in
     (ready.each k x.seat (slice_get-map (λ (z : Desk _). z.seat) desks k ∙ ap (option_map (λ (z : Desk _). z.seat)) (slice_get-get_or desks k d low))).0
 
-module _ {T : Type 0} (locks : List TableId) (n : ℕ) (feeder : Caller) (clients : List Caller) (fresh : AreFreshCallers locks n feeder clients) (all : AreAllCallers locks (clients ++ feeder ∷ []))
-    (old new : List (Desk T)) (ready : AreReady locks clients (map (λ (d : Desk T). d.seat) old)) (served : HaveServed locks old new)
+module _ {T : Type 0} (left written : T → Option (List ℕ)) (lines : List T) (locks : List TableId) (n : ℕ) (feeder : Caller) (clients : List Caller) (fresh : AreFreshCallers locks n feeder clients) (all : AreAllCallers locks (clients ++ feeder ∷ []))
+    (old new : List (Desk T)) (ready : AreReady locks clients (map (λ (d : Desk T). d.seat) old)) (served : HaveServed left written locks old new) (are : map (λ (d : Desk T). d.line) old ≡ reverse lines)
     (may : ℕ → Bool) (x y : SourceEnd) (first : Pulling) (size : first.cutting.size ≡ Of188) (pulls : Pulls [] [] [] first)
-    (f : FeederWorker) (passed : HasPassedAll every 64 may x y first f) (left : Left) (is : IsLeftBy f new left) where
+    (f : FeederWorker) (passed : HasPassedAll every 64 may x y first f) (what : Left) (is : IsLeftBy f new what) where
   taken : List ℕ
   taken = passed.draws.carries.more
 
@@ -49,12 +49,12 @@ module _ {T : Type 0} (locks : List TableId) (n : ℕ) (feeder : Caller) (client
   fed = subst (λ (s : PacketSize). HasFedAll every 64 may (cut s taken).packets f.feeder f.feeding.items) size (worked_feeder every 64 may x y first f passed [] pulls)
 
   called : HaveCalled every (cut Of188 taken).packets f.feeder f.feeding.items (map (λ (d : Desk T). d.seat.client) new) (map (λ (d : Desk T). log_of d.seat) new)
-  called = have_called locks n feeder clients fresh all old new ready served 64 may (cut Of188 taken).packets f.feeder f.feeding.items fed
+  called = have_called left written locks n feeder clients fresh all old new ready served 64 may (cut Of188 taken).packets f.feeder f.feeding.items fed
 
-  head : told_head left.head ≡ head_of Of188 taken (has_failed f.puller.reading)
+  head : told_head what.head ≡ head_of Of188 taken (has_failed f.puller.reading)
   head = is.head taken passed.packets (passed.draws.carries.pulls [] [] [] pulls) ∙ ap (λ (s : PacketSize). head_of s taken (has_failed f.puller.reading)) (passed.draws.carries.size ∙ size)
 
-  pub has_reported : (was now : Option (List ℕ)) (told : List (List Outcome)) → Appends was now (report_of (told_head left.head) told left.histories) → HasReported may x y was now
+  pub has_reported : (was now : Option (List ℕ)) (told : List (List Outcome)) → Appends was now (report_of (told_head what.head) told what.histories) → HasReported left written lines may x y was now
   has_reported was now told written = record {
     taken = taken;
     consumes = passed.draws.carries.consumes;
@@ -65,9 +65,10 @@ module _ {T : Type 0} (locks : List TableId) (n : ℕ) (feeder : Caller) (client
     clients = map (λ (d : Desk T). d.seat.client) new;
     books = map (λ (d : Desk T). log_of d.seat) new;
     called = called;
-    left = have_left locks n feeder clients fresh all old new ready served;
-    histories = left.histories;
+    asked = have_answered left written locks n feeder clients fresh all old new ready served lines are;
+    owned = have_left left written locks n feeder clients fresh all old new ready served;
+    histories = what.histories;
     tells = is.tells every (cut Of188 taken).packets called;
     told = told;
-    written = subst (λ h. Appends was now (report_of h told left.histories)) head written;
+    written = subst (λ h. Appends was now (report_of h told what.histories)) head written;
   }

@@ -1,5 +1,5 @@
 -- What a server has done where it has written its report.
-use Rattle.std.specs.Prelude.{◌≡◌, ◌≤◌, ℕ, Bool, true, List, [], map, slice_get, Some, Option}
+use Rattle.std.specs.Prelude.{◌≡◌, ◌≤◌, ℕ, Bool, true, List, [], map, reverse, slice_get, Some, Option}
 use Rattle.std.specs.Io.KnownBytes.{Appends, Consumes}
 use Rattle.emu_io.specs.Ends.{SourceEnd}
 use Rattle.ts_packet.specs.Cut.{cut}
@@ -19,6 +19,7 @@ use Rattle.workers.specs.Telling.{HaveCalled, TellWhatWasCalled}
 use Rattle.seats.specs.declared.run.Desk.{Desk}
 use Rattle.seats.specs.Holding.{HasLeft}
 use Rattle.seats.specs.Seated.{log_of}
+use Rattle.seats.specs.Turns.{HasAnsweredAll}
 use Rattle.serve_top.specs.declared.left.Books.{Books}
 use Rattle.serve_top.specs.declared.left.Left.{Left}
 
@@ -26,8 +27,10 @@ use Rattle.serve_top.specs.declared.left.Left.{Left}
 abbrev pub every : (node : ℕ) → Bool
 every node = true
 
--- What was read of the stream, what was called by whom, and the report that tells just this.
-pub record HasReported (may : ℕ → Bool) (before after : SourceEnd) (was now : Option (List ℕ)) : Type 0 where
+-- What was read of the stream, what was called by whom and why, and the report that tells just this. Of a line, `left` is what is
+-- left to be read, and `written` what was written to it, where it tells these.
+pub record HasReported {T : Type 0} (left written : T → Option (List ℕ)) (lines : List T) (may : ℕ → Bool)
+    (before after : SourceEnd) (was now : Option (List ℕ)) : Type 0 where
   -- the bytes that were read, and whether a read has failed
   pub taken : List ℕ
   pub consumes : Consumes before.left after.left taken
@@ -40,8 +43,12 @@ pub record HasReported (may : ℕ → Bool) (before after : SourceEnd) (was now 
   pub clients : List Caller
   pub books : List (List LogEntry)
   pub called : HaveCalled every (cut Of188 taken).packets feeder feeding clients books
+  -- these are the calls that the requests of its line ask for, one after another, each told in its reply, and then those by which
+  -- all nodes were closed
+  pub asked : (c : ℕ) (book : List LogEntry) → slice_get books c ≡ Some book
+      → (line : T) × (slice_get (reverse lines) c ≡ Some line) × HasAnsweredAll left written line [] book
   -- and behind them it owns no node
-  pub left : (c : ℕ) (client : Caller) → slice_get clients c ≡ Some client → (node : ℕ) → node ≤ DEMUX_NODES
+  pub owned : (c : ℕ) (client : Caller) → slice_get clients c ≡ Some client → (node : ℕ) → node ≤ DEMUX_NODES
       → HasLeft node client
   -- the report tells these calls and no others, as the locks of the nodes have them
   pub histories : List (List LogEntry)

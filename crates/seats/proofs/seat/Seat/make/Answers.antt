@@ -45,3 +45,10 @@ returns-clause-left g c other = left_call c.args.self.now.client c.call-place.ne
 
 pub returns-clause-closed : goal.returns-clause-closed
 returns-clause-closed g c closing = closed_call c.args.self.now.client c.call-place.new.self c.args.node c.call-place.result.0 _ c.call-place.ensures.entry c.call-place.ensures.same.0 c.requires.fit.knows.own refl closing
+
+pub returns-clause-did : goal.returns-clause-did
+returns-clause-did g c =
+    let s = c.args.self.now in
+    let m : Made = record { node = c.args.node; place = c.call-place.result.0; step = c.count-step.result; act = c.of-act.result; reply = c.call-place.result.1.reply } in
+    let items : c.push_reserved.new.self.items ≡ s.made.items ++ m ∷ [] = search rules in
+    record { own = m; has = record { made = items; log = refl; who = refl }; node = refl; act = c.of-act.ensures }
