@@ -174,11 +174,6 @@ pub knows_made : (c d : Caller) (node place : ℕ) (e : Entry) (o : MakesEntry n
     → slice_get held node ≡ Some had → now ≡ set held node (has_then had (act_of e.invocation) e.response) → KnowsItsNodes d now
 knows_made c d node place e o who mine held now had k was is = subst (KnowsItsNodes d) (sym is) (knows_then c d node place e o who k.own mine held k had was)
 
--- what it knows of its nodes behind a call of its own
-pub knows_made : (c d : Caller) (node place : ℕ) (e : Entry) (o : MakesEntry node e place c.passes d.passes) (who : d.who ≡ c.who) → e.who ≡ c.who → (held now : List Bool) (had : Bool) → KnowsItsNodes c held
-    → slice_get held node ≡ Some had → now ≡ set held node (has_then had (act_of e.invocation) e.response) → KnowsItsNodes d now
-knows_made c d node place e o who mine held now had k was is = subst (KnowsItsNodes d) (sym is) (knows_then c d node place e o who k.own mine held k had was)
-
 -- ------ before the first call
 
 module _ (locks : List TableId) (callers who left : ℕ) (c : Caller) (f : IsFreshCaller locks callers who left c) where
