@@ -3,7 +3,7 @@ use Rattle.std.proofs.Common.{◌≡◌, refl, sym, ap, ◌∙◌, ℕ, Bool, tr
 use Rattle.std.specs.Prelude.{if◌then◌else◌}
 use Rattle.std.proofs.lemmas.Option.{none-some}
 use Rattle.dmx_calls.specs.Response.{Response}
-use Rattle.client_script.specs.declared.line.Line.{Line}
+use Rattle.client_script.specs.Script.{Scripted}
 use Rattle.client_core.specs.declared.command.Command.{Command}
 use Rattle.client_core.specs.declared.event.Event.{Event}
 use Rattle.client_core.specs.declared.task.Ending.{Ending}
@@ -45,8 +45,8 @@ ends_from slots step (c ∷ cs) rs r line x was none =
           ∙ deeper ending next left was (sym (ap (λ d. standing_at line (progress_of slots step c cs d).standing) on.0) ∙ none)
 
 -- Where the reply to a call of a line's command ends it, the client waits for nothing.
-pub ended_waits_not : (client : ℕ) (lines : List Line) (line : ℕ) (rs : List Response) (r : Response) (x : Event) → next_of_line client lines line rs ≡ Some x
-    → next_of_line client lines line (rs ++ r ∷ []) ≡ None → waits_on client lines (rs ++ r ∷ []) ≡ None
+pub ended_waits_not : (client : ℕ) (script : Scripted) (line : ℕ) (rs : List Response) (r : Response) (x : Event) → next_of_line client script line rs ≡ Some x
+    → next_of_line client script line (rs ++ r ∷ []) ≡ None → waits_on client script (rs ++ r ∷ []) ≡ None
 unfolding progress
-ended_waits_not client lines line rs r x was none =
-    last_counts (progress client lines (rs ++ r ∷ [])).standing rs r ∙ ends_from no_slots 0 (commands_of client lines) rs r line x was none
+ended_waits_not client script line rs r x was none =
+    last_counts (progress client script (rs ++ r ∷ [])).standing rs r ∙ ends_from no_slots 0 (commands_of client script) rs r line x was none

@@ -5,7 +5,7 @@ use Rattle.std.proofs.lemmas.Bool.Decides.{nat_tests}
 use Rattle.dmx_calls.specs.declared.limits.TheConstants.{DEMUX_NODES}
 use Rattle.dmx_calls.specs.declared.reply.Tap.TheVariants.{Keep as KeepTap, Attach as AttachTap, Detach as DetachTap}
 use Rattle.dmx_calls.specs.Response.{Response, Done, Busy, Again, TapChange}
-use Rattle.client_script.specs.declared.line.Line.{Line}
+use Rattle.client_script.specs.Script.{Scripted}
 use Rattle.client_script.specs.declared.line.Target.{Target}
 use Rattle.client_script.specs.declared.line.Target.TheVariants.{Node, Slot, Dvr}
 use Rattle.client_script.specs.declared.line.Verb.{Verb}
@@ -171,17 +171,17 @@ all_tight slots step (c ∷ cs) rs s is =
             stays = λ grows t is. later.stays (omega (arith, grows, on.1, kept)) t (sym stood ∙ is);
           }
 
-pub first_calls : (client : ℕ) (lines : List Line) (replies : List Response) (s : Standing) → (progress client lines replies).standing ≡ Some s
-    → length replies < 33 * length (commands_of client lines) + repeats client lines replies
+pub first_calls : (client : ℕ) (script : Scripted) (replies : List Response) (s : Standing) → (progress client script replies).standing ≡ Some s
+    → length replies < 33 * length (commands_of client script) + repeats client script replies
 unfolding progress repeats
-first_calls client lines replies s is = (all_tight no_slots 0 (commands_of client lines) replies s is).few
+first_calls client script replies s is = (all_tight no_slots 0 (commands_of client script) replies s is).few
 
-pub stays_on : (client : ℕ) (lines : List Line) (replies : List Response) (s : Standing) → (progress client lines replies).standing ≡ Some s
-    → repeats client lines replies < repeats client lines (replies ++ Again false ∷ []) → (t : Standing) → (progress client lines (replies ++ Again false ∷ [])).standing ≡ Some t
+pub stays_on : (client : ℕ) (script : Scripted) (replies : List Response) (s : Standing) → (progress client script replies).standing ≡ Some s
+    → repeats client script replies < repeats client script (replies ++ Again false ∷ []) → (t : Standing) → (progress client script (replies ++ Again false ∷ [])).standing ≡ Some t
     → t.event.node ≡ s.event.node
 unfolding progress repeats
-stays_on client lines replies s is grows t now = (all_tight no_slots 0 (commands_of client lines) replies s is).stays grows t now
+stays_on client script replies s is grows t now = (all_tight no_slots 0 (commands_of client script) replies s is).stays grows t now
 
 -- the law of the budget: of the replies taken
 pub few : CallsAreFew
-few client lines replies s is = let one = first_calls client lines replies s is in omega (arith, one)
+few client script replies s is = let one = first_calls client script replies s is in omega (arith, one)

@@ -12,7 +12,7 @@ use Rattle.dmx_calls.specs.Response.{Response}
 use Rattle.ts_packet.specs.Cut.{cut, cut_after}
 use Rattle.ts_packet.specs.Cutting.{bytes_counted}
 use Rattle.stc_clock.specs.Clock.{unset, last_pcr, HasFollowed}
-use Rattle.client_script.specs.declared.line.Line.{Line}
+use Rattle.client_script.specs.Script.{Scripted}
 use Rattle.client_script.specs.declared.line.Verb.{Verb}
 use Rattle.client_script.specs.declared.line.Verb.TheVariants.{GetStc}
 use Rattle.client_core.specs.declared.command.Command.{Command}
@@ -28,13 +28,13 @@ use Rattle.client_core.specs.Inside.Core.{CanBegin, IsLate}
 -- ------ exchanges
 
 -- one reply more
-pub exchanges_more : (client : ℕ) (lines : List Line) (before : List Response) (older : List Exchange) (replies : List Response) (r : Response)
-    → exchanges_after client lines before older (replies ++ r ∷ [])
-    ≡ with_reply (next_event client lines (before ++ replies)) r (exchanges_after client lines before older replies)
-exchanges_more client lines before older [] r = ap (λ rs. with_reply (next_event client lines rs) r older) (sym (append-nil before))
-exchanges_more client lines before older (q ∷ replies) r =
-    exchanges_more client lines (before ++ q ∷ []) (with_reply (next_event client lines before) q older) replies r
-    ∙ ap (λ rs. with_reply (next_event client lines rs) r (exchanges_after client lines before older (q ∷ replies))) (append_assoc before (q ∷ []) replies)
+pub exchanges_more : (client : ℕ) (script : Scripted) (before : List Response) (older : List Exchange) (replies : List Response) (r : Response)
+    → exchanges_after client script before older (replies ++ r ∷ [])
+    ≡ with_reply (next_event client script (before ++ replies)) r (exchanges_after client script before older replies)
+exchanges_more client script before older [] r = ap (λ rs. with_reply (next_event client script rs) r older) (sym (append-nil before))
+exchanges_more client script before older (q ∷ replies) r =
+    exchanges_more client script (before ++ q ∷ []) (with_reply (next_event client script before) q older) replies r
+    ∙ ap (λ rs. with_reply (next_event client script rs) r (exchanges_after client script before older (q ∷ replies))) (append_assoc before (q ∷ []) replies)
 
 -- ------ before the first call
 
@@ -150,38 +150,38 @@ followed_more xs x clocks d within bytes set have = record {
 -- ------ outcomes
 
 -- one reply more changes no outcome of a command that was through
-pub early_same : (client : ℕ) (lines : List Line) (replies : List Response) (r : Response) (es : List Ended) → All (λ e. e.from ≤ length replies) es
-    → map (outcome_of client lines replies) es ≡ map (outcome_of client lines (replies ++ r ∷ [])) es
-early_same client lines replies r [] early = refl
-early_same client lines replies r (e ∷ es) early =
+pub early_same : (client : ℕ) (script : Scripted) (replies : List Response) (r : Response) (es : List Ended) → All (λ e. e.from ≤ length replies) es
+    → map (outcome_of client script replies) es ≡ map (outcome_of client script (replies ++ r ∷ [])) es
+early_same client script replies r [] early = refl
+early_same client script replies r (e ∷ es) early =
     let one : take e.from (replies ++ r ∷ []) ≡ take e.from replies = take-append-le e.from replies (r ∷ []) (All-head (λ (e : Ended). e.from ≤ length replies) e es early) in
-    let more = early_same client lines replies r es (All-tail (λ (e : Ended). e.from ≤ length replies) e es early) in
+    let more = early_same client script replies r es (All-tail (λ (e : Ended). e.from ≤ length replies) e es early) in
     rw (one, more) refl
 
-late_one : (client : ℕ) (lines : List Line) (replies : List Response) (kept : ℕ) (f : Counters)
-    → ((node num : ℕ) → node < kept → f node num ≡ counters_after client lines replies node num)
-    → (e : Ended) → HasClock kept e.ending → (e.from ≡ length replies) ⊎ IsCallEnding e.ending → outcome_by f e ≡ outcome_of client lines replies e
-late_one client lines replies kept f same e has (inl now) =
+late_one : (client : ℕ) (script : Scripted) (replies : List Response) (kept : ℕ) (f : Counters)
+    → ((node num : ℕ) → node < kept → f node num ≡ counters_after client script replies node num)
+    → (e : Ended) → HasClock kept e.ending → (e.from ≡ length replies) ⊎ IsCallEnding e.ending → outcome_by f e ≡ outcome_of client script replies e
+late_one client script replies kept f same e has (inl now) =
     let all : take e.from replies ≡ replies = ap (λ n. take n replies) now ∙ take-length replies in
     ap (λ k. record { line = e.line; from = e.from; to = e.to; kind = k })
-    (kinds_agree kept f (counters_after client lines replies) same e.ending has ∙ ap (λ rs. kind_by (counters_after client lines rs) e.ending) (sym all))
-late_one client lines replies kept f same e has (inr free) =
-    ap (λ k. record { line = e.line; from = e.from; to = e.to; kind = k }) (kinds_free f (counters_after client lines (take e.from replies)) e.ending free)
+    (kinds_agree kept f (counters_after client script replies) same e.ending has ∙ ap (λ rs. kind_by (counters_after client script rs) e.ending) (sym all))
+late_one client script replies kept f same e has (inr free) =
+    ap (λ k. record { line = e.line; from = e.from; to = e.to; kind = k }) (kinds_free f (counters_after client script (take e.from replies)) e.ending free)
 
 -- the outcomes by clocks that have followed these replies
-pub late_same : (client : ℕ) (lines : List Line) (replies : List Response) (kept : ℕ) (f : Counters)
-    → ((node num : ℕ) → node < kept → f node num ≡ counters_after client lines replies node num)
-    → (es : List Ended) → All (IsLate kept (length replies)) es → map (outcome_by f) es ≡ map (outcome_of client lines replies) es
-late_same client lines replies kept f same [] late = refl
-late_same client lines replies kept f same (e ∷ es) late =
+pub late_same : (client : ℕ) (script : Scripted) (replies : List Response) (kept : ℕ) (f : Counters)
+    → ((node num : ℕ) → node < kept → f node num ≡ counters_after client script replies node num)
+    → (es : List Ended) → All (IsLate kept (length replies)) es → map (outcome_by f) es ≡ map (outcome_of client script replies) es
+late_same client script replies kept f same [] late = refl
+late_same client script replies kept f same (e ∷ es) late =
     let l = All-head (IsLate kept (length replies)) e es late in
-    let one : outcome_by f e ≡ outcome_of client lines replies e = late_one client lines replies kept f same e l.clock l.now in
-    let more = late_same client lines replies kept f same es (All-tail (IsLate kept (length replies)) e es late) in
+    let one : outcome_by f e ≡ outcome_of client script replies e = late_one client script replies kept f same e l.clock l.now in
+    let more = late_same client script replies kept f same es (All-tail (IsLate kept (length replies)) e es late) in
     rw (one, more) refl
 
 -- The outcomes of commands, and of others that are through now, by clocks that have followed all replies.
-pub told_now : (client : ℕ) (lines : List Line) (replies : List Response) (clocks : List NodeClock) (passed : List Ended)
-    → HaveFollowed (exchanges client lines replies) clocks → All (IsLate (length clocks) (length replies)) passed
-    → map (outcome_by (counter_in clocks)) passed ≡ map (outcome_of client lines replies) passed
-told_now client lines replies clocks passed have late =
-    late_same client lines replies (length clocks) (counter_in clocks) (λ node num within. counter_is (exchanges client lines replies) clocks have node num within) passed late
+pub told_now : (client : ℕ) (script : Scripted) (replies : List Response) (clocks : List NodeClock) (passed : List Ended)
+    → HaveFollowed (exchanges client script replies) clocks → All (IsLate (length clocks) (length replies)) passed
+    → map (outcome_by (counter_in clocks)) passed ≡ map (outcome_of client script replies) passed
+told_now client script replies clocks passed have late =
+    late_same client script replies (length clocks) (counter_in clocks) (λ node num within. counter_is (exchanges client script replies) clocks have node num within) passed late

@@ -15,7 +15,7 @@ use Rattle.client_core.specs.Stc.{with_reply, exchanges}
 use Rattle.client_core.specs.Outcomes.{outcome_by, outcome_of}
 use Rattle.client_core.specs.Inside.Clocks.{counter_in, HaveFollowed}
 use Rattle.client_core.specs.Inside.Tasks.{resumed, node_in, IsTaskInRange}
-use Rattle.client_script.specs.declared.line.Line.{Line}
+use Rattle.client_script.specs.Script.{Scripted}
 use Rattle.std.specs.Option.{IfSome, IfNone}
 use Rattle.client_core.specs.declared.event.Event.{Event}
 use Rattle.client_core.specs.declared.machine.Current.{Current}
@@ -62,8 +62,8 @@ passed_goes_on slots step left c cs ending is does es more =
 
 -- ------ a reply is taken
 
-pub now_is : (client : ℕ) (lines : List Line) (replies : List Response) (c : Core) → (after : IsAfter client lines replies c) → progress client lines replies ≡ behind after.ended (coming c [])
-now_is client lines replies c after = sym (ap (λ rs. progress client lines rs) (append-nil replies)) ∙ after.goes_on []
+pub now_is : (client : ℕ) (script : Scripted) (replies : List Response) (c : Core) → (after : IsAfter client script replies c) → progress client script replies ≡ behind after.ended (coming c [])
+now_is client script replies c after = sym (ap (λ rs. progress client script rs) (append-nil replies)) ∙ after.goes_on []
 
 last_alone : (s : Standing) (replies : List Response) (r : Response) → waits_after (Some s) (replies ++ r ∷ []) ≡ waits_after (Some s) (r ∷ [])
 last_alone s [] r = refl
@@ -74,22 +74,22 @@ pub last_counts : (s : Option Standing) (replies : List Response) (r : Response)
 last_counts None replies r = refl
 last_counts (Some s) replies r = last_alone s replies r
 
-pub taken : (client : ℕ) (lines : List Line) (replies : List Response) (r : Response) (c d : Core) → IsAfter client lines replies c → HasTaken r c d → d.step ≡ c.step + 1 → IsAfter client lines (replies ++ r ∷ []) d
-taken client lines replies r c d after takes step = record {
+pub taken : (client : ℕ) (script : Scripted) (replies : List Response) (r : Response) (c d : Core) → IsAfter client script replies c → HasTaken r c d → d.step ≡ c.step + 1 → IsAfter client script (replies ++ r ∷ []) d
+taken client script replies r c d after takes step = record {
   ended = after.ended ++ takes.passed;
   goes_on = on;
   outcomes = takes.told
-      ∙ ap (λ os. os ++ map (outcome_by (counter_in d.clocks)) takes.passed) (after.outcomes ∙ early_same client lines replies r after.ended after.early)
-      ∙ ap (λ os. map (outcome_of client lines (replies ++ r ∷ [])) after.ended ++ os) (told_now client lines (replies ++ r ∷ []) d.clocks takes.passed followed_now late_now)
-      ∙ sym (map-append (outcome_of client lines (replies ++ r ∷ [])) after.ended takes.passed);
+      ∙ ap (λ os. os ++ map (outcome_by (counter_in d.clocks)) takes.passed) (after.outcomes ∙ early_same client script replies r after.ended after.early)
+      ∙ ap (λ os. map (outcome_of client script (replies ++ r ∷ [])) after.ended ++ os) (told_now client script (replies ++ r ∷ []) d.clocks takes.passed followed_now late_now)
+      ∙ sym (map-append (outcome_of client script (replies ++ r ∷ [])) after.ended takes.passed);
   early = All-append (λ (e : Ended). e.from ≤ length (replies ++ r ∷ [])) after.ended takes.passed
       (All-weaker (λ (e : Ended). e.from ≤ length replies) (λ (e : Ended). e.from ≤ length (replies ++ r ∷ [])) (λ e le. omega (arith, le, longer)) after.ended after.early)
       (All-weaker (IsLate (length d.clocks) (length (replies ++ r ∷ []))) (λ (e : Ended). e.from ≤ length (replies ++ r ∷ [])) (λ e l. l.from) takes.passed late_now);
   followed = followed_now;
   steps = steps_now;
   waits = takes.waits
-      ∙ ap (λ p. waits_after p.standing (r ∷ [])) (sym (on []) ∙ ap (λ rs. progress client lines rs) (append-nil (replies ++ r ∷ [])))
-      ∙ sym (last_counts (progress client lines (replies ++ r ∷ [])).standing replies r);
+      ∙ ap (λ p. waits_after p.standing (r ∷ [])) (sym (on []) ∙ ap (λ rs. progress client script rs) (append-nil (replies ++ r ∷ [])))
+      ∙ sym (last_counts (progress client script (replies ++ r ∷ [])).standing replies r);
 } where
   longer : length (replies ++ r ∷ []) ≡ length replies + 1
   longer = length-append replies (r ∷ [])
@@ -100,18 +100,18 @@ taken client lines replies r c d after takes step = record {
   late_now : All (IsLate (length d.clocks) (length (replies ++ r ∷ []))) takes.passed
   late_now = subst (λ n. All (IsLate (length d.clocks) n) takes.passed) steps_now takes.late
 
-  on : (more : List Response) → progress client lines ((replies ++ r ∷ []) ++ more) ≡ behind (after.ended ++ takes.passed) (coming d more)
-  on more = ap (λ rs. progress client lines rs) (append_assoc replies (r ∷ []) more) ∙ after.goes_on (r ∷ more)
+  on : (more : List Response) → progress client script ((replies ++ r ∷ []) ++ more) ≡ behind (after.ended ++ takes.passed) (coming d more)
+  on more = ap (λ rs. progress client script rs) (append_assoc replies (r ∷ []) more) ∙ after.goes_on (r ∷ more)
       ∙ ap (λ p. behind after.ended p) (takes.goes_on more) ∙ sym (behind_two after.ended takes.passed (coming d more))
 
-  next_is : next_event client lines replies ≡ next_of c
-  next_is = ap (λ p. option_map (λ s. s.event) p.standing) (now_is client lines replies c after)
+  next_is : next_event client script replies ≡ next_of c
+  next_is = ap (λ p. option_map (λ s. s.event) p.standing) (now_is client script replies c after)
 
-  followed_now : HaveFollowed (exchanges client lines (replies ++ r ∷ [])) d.clocks
+  followed_now : HaveFollowed (exchanges client script (replies ++ r ∷ [])) d.clocks
   followed_now =
-      let same : exchanges client lines (replies ++ r ∷ []) ≡ with_reply (next_of c) r (exchanges client lines replies) =
-      exchanges_more client lines [] [] replies r ∙ ap (λ e. with_reply e r (exchanges client lines replies)) next_is in
-      subst (λ xs. HaveFollowed xs d.clocks) (sym same) (takes.followed (exchanges client lines replies) after.followed)
+      let same : exchanges client script (replies ++ r ∷ []) ≡ with_reply (next_of c) r (exchanges client script replies) =
+      exchanges_more client script [] [] replies r ∙ ap (λ e. with_reply e r (exchanges client script replies)) next_is in
+      subst (λ xs. HaveFollowed xs d.clocks) (sym same) (takes.followed (exchanges client script replies) after.followed)
 
 -- what stands there has this step
 abbrev pub StandsAt : (step : ℕ) → Doing → Type 0

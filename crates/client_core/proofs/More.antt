@@ -228,10 +228,10 @@ some_of (Some s) e is = (s, refl, cc)
 
 pub one_reply_more : OneReplyMore
 unfolding progress repeats
-one_reply_more client lines replies r e is =
-    let there = some_of (progress client lines replies).standing e is in
-    let more : IsMore there.0.event.want r (repeats client lines replies) (repeats client lines (replies ++ r ∷ [])) (progress client lines (replies ++ r ∷ [])).standing =
-    all_more no_slots 0 (commands_of client lines) replies r there.0 there.1 in (
-      subst (λ x. repeats client lines (replies ++ r ∷ []) ≤ repeats client lines replies + added_by x.want r) there.2 more.le,
-      λ again none. more.waits again (sym (last_counts (progress client lines (replies ++ r ∷ [])).standing replies r) ∙ none),
+one_reply_more client script replies r e is =
+    let there = some_of (progress client script replies).standing e is in
+    let more : IsMore there.0.event.want r (repeats client script replies) (repeats client script (replies ++ r ∷ [])) (progress client script (replies ++ r ∷ [])).standing =
+    all_more no_slots 0 (commands_of client script) replies r there.0 there.1 in (
+      subst (λ x. repeats client script (replies ++ r ∷ []) ≤ repeats client script replies + added_by x.want r) there.2 more.le,
+      λ again none. more.waits again (sym (last_counts (progress client script (replies ++ r ∷ [])).standing replies r) ∙ none),
     )

@@ -9,6 +9,7 @@ use Rattle.dmx_calls.specs.declared.limits.TheConstants.{DEMUX_NODES}
 use Rattle.dmx_calls.specs.declared.reply.Tap.TheVariants.{Keep as KeepTap, Attach as AttachTap, Detach as DetachTap}
 use Rattle.dmx_calls.specs.Response.{Response, Done, Busy, TapChange}
 use Rattle.client_script.specs.Grammar.{IsTargetInRange, IsInRange}
+use Rattle.client_script.specs.Script.{Scripted}
 use Rattle.client_script.specs.declared.line.Line.{Line}
 use Rattle.client_script.specs.declared.line.Line.TheVariants.{Feed, Tick, Command as CommandLine}
 use Rattle.client_script.specs.declared.line.Target.{Target}
@@ -22,7 +23,7 @@ use Rattle.client_core.specs.declared.event.Event.{Event}
 use Rattle.client_core.specs.declared.event.Request.{Request}
 use Rattle.client_core.specs.declared.task.Ending.{Ending}
 use Rattle.client_core.specs.declared.task.Ending.TheVariants.{Made, Bound, AllBusy, NoNode, Asked}
-use Rattle.client_core.specs.Commands.{Slots, Doing, stands, through, once, told, called, opened, read_until, done_on, done_at, done_by_slot, done, ends_wait, ends_drain, commands_in, commands_of}
+use Rattle.client_core.specs.Commands.{Slots, Doing, stands, through, once, told, called, opened, read_until, done_on, done_at, done_by_slot, done, ends_wait, ends_drain, commands_in, commands_among, commands_of}
 use Rattle.client_core.specs.Events.{Standing, slots_after, progress_from, progress, no_slots, next_event, standing_at}
 use Rattle.client_core.specs.Inside.Tasks.{IsEndingInRange, AreSlots}
 use Rattle.client_core.specs.Repeats.{repeats_in}
@@ -145,22 +146,22 @@ targets_in client (CommandLine line who target verb) is = go (nat_eq who client)
   go true = (is.3, tt)
   go false = tt
 
-targets_of : (client : ℕ) (lines : List Line) → All IsInRange lines → AreTargets (commands_of client lines)
+targets_of : (client : ℕ) (lines : List Line) → All IsInRange lines → AreTargets (commands_among client lines)
 targets_of client [] ranges = tt
 targets_of client (line ∷ lines) ranges =
-    targets_append (commands_in client line) (commands_of client lines) (targets_in client line (All-head IsInRange line lines ranges)) (targets_of client lines (All-tail IsInRange line lines ranges))
+    targets_append (commands_in client line) (commands_among client lines) (targets_in client line (All-head IsInRange line lines ranges)) (targets_of client lines (All-tail IsInRange line lines ranges))
 
 free_slots : (n : ℕ) → AreSlots (replicate n None)
 free_slots zero = All-nil (λ slot. IfSome slot (λ node. node < DEMUX_NODES))
 free_slots (suc n) = All-cons (λ slot. IfSome slot (λ node. node < DEMUX_NODES)) None (replicate n None) tt (free_slots n)
 
 -- The call that a client makes next has as its step the number of the replies that it got, and is on one of the 33 nodes.
-pub next_is_numbered : (client : ℕ) (lines : List Line) (replies : List Response) (e : Event) → All IsInRange lines → next_event client lines replies ≡ Some e
+pub next_is_numbered : (client : ℕ) (script : Scripted) (replies : List Response) (e : Event) → All IsInRange script.lines → next_event client script replies ≡ Some e
     → (e.step ≡ length replies) × (e.node ≤ DEMUX_NODES)
 unfolding progress
-next_is_numbered client lines replies e ranges is =
-    let there = some_of (progress client lines replies).standing e is in
-    let fits = all_fits no_slots 0 (commands_of client lines) replies there.0 (free_slots DEMUX_NODES) (targets_of client lines ranges) there.1 in
+next_is_numbered client script replies e ranges is =
+    let there = some_of (progress client script replies).standing e is in
+    let fits = all_fits no_slots 0 (commands_of client script) replies there.0 (free_slots DEMUX_NODES) (targets_of client script.lines ranges) there.1 in
     subst (λ x. (x.step ≡ length replies) × (x.node ≤ DEMUX_NODES)) there.2 (omega (arith, fits.0), fits.1)
 
 -- ------ commands that are through

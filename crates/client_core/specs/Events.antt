@@ -2,7 +2,7 @@
 use Rattle.std.specs.Prelude.{ℕ, false, List, [], ◌∷◌, Option, Some, None, option_map, nat_lt, nat_eq, replicate, slice_set, if◌then◌else◌}
 use Rattle.dmx_calls.specs.declared.limits.TheConstants.{DEMUX_NODES}
 use Rattle.dmx_calls.specs.Response.{Response, Again}
-use Rattle.client_script.specs.declared.line.Line.{Line}
+use Rattle.client_script.specs.Script.{Scripted}
 use Rattle.client_core.specs.declared.command.Command.{Command}
 use Rattle.client_core.specs.declared.event.Event.{Event}
 use Rattle.client_core.specs.declared.task.Ending.{Ending}
@@ -52,12 +52,12 @@ abbrev pub no_slots : Slots
 no_slots = replicate DEMUX_NODES None
 
 -- How far a client of a script is after these replies.
-unfoldable pub progress : (client : ℕ) → List Line → List Response → Progress
-progress client lines replies = progress_from no_slots 0 (commands_of client lines) replies
+unfoldable pub progress : (client : ℕ) → Scripted → List Response → Progress
+progress client script replies = progress_from no_slots 0 (commands_of client script) replies
 
 -- the call that it makes next
-abbrev pub next_event : (client : ℕ) → List Line → List Response → Option Event
-next_event client lines replies = option_map (λ s. s.event) (progress client lines replies).standing
+abbrev pub next_event : (client : ℕ) → Scripted → List Response → Option Event
+next_event client script replies = option_map (λ s. s.event) (progress client script replies).standing
 
 -- the node on which it waits: the last reply was Again, and what stands there repeats the read
 abbrev pub waits_after : Option Standing → List Response → Option ℕ
@@ -67,13 +67,13 @@ waits_after (Some s) (Again false ∷ []) = if nat_lt s.from s.event.step then S
 waits_after (Some s) (reply ∷ []) = None
 waits_after (Some s) (reply ∷ next ∷ more) = waits_after (Some s) (next ∷ more)
 
-abbrev pub waits_on : (client : ℕ) → List Line → List Response → Option ℕ
-waits_on client lines replies = waits_after (progress client lines replies).standing replies
+abbrev pub waits_on : (client : ℕ) → Scripted → List Response → Option ℕ
+waits_on client script replies = waits_after (progress client script replies).standing replies
 
 -- the call before which the command of a line stands; None where the command is through
 abbrev pub standing_at : (line : ℕ) → Option Standing → Option Event
 standing_at line None = None
 standing_at line (Some s) = if nat_eq s.line line then Some s.event else None
 
-abbrev pub next_of_line : (client : ℕ) → List Line → (line : ℕ) → List Response → Option Event
-next_of_line client lines line replies = standing_at line (progress client lines replies).standing
+abbrev pub next_of_line : (client : ℕ) → Scripted → (line : ℕ) → List Response → Option Event
+next_of_line client script line replies = standing_at line (progress client script replies).standing

@@ -8,6 +8,7 @@ use Rattle.dmx_calls.specs.declared.reply.Errno.TheVariants.{Ebadf}
 use Rattle.dmx_calls.specs.declared.reply.PollError.TheVariants.{Quiet}
 use Rattle.dmx_calls.specs.declared.reply.Tap.TheVariants.{Keep as KeepTap, Attach as AttachTap, Detach as DetachTap}
 use Rattle.dmx_calls.specs.Response.{Response, Done, Busy, Refused, Data, Again, Overflow, TimedOut, Ready}
+use Rattle.client_script.specs.Script.{Scripted, plain}
 use Rattle.client_script.specs.declared.line.Line.{Line}
 use Rattle.client_script.specs.declared.line.Line.TheVariants.{Feed, Command}
 use Rattle.client_script.specs.declared.line.Target.TheVariants.{Node, Slot, Dvr}
@@ -29,11 +30,11 @@ abbrev pub keep : Response
 keep = Done 0 0 KeepTap
 
 -- a node is opened, set and started, read once and polled
-abbrev pub one_read : List Line
+abbrev pub one_read : Scripted
 one_read =
-    Command 1 0 (Node 0) (Once Open) ∷ Command 2 0 (Node 0) (Once (Pes recording))
+    plain (Command 1 0 (Node 0) (Once Open) ∷ Command 2 0 (Node 0) (Once (Pes recording))
     ∷ Command 3 0 (Node 0) (Once Start) ∷ Feed 3
-    ∷ Command 5 0 (Node 0) (Once (Read 4)) ∷ Command 6 0 (Node 0) (Once Poll) ∷ []
+    ∷ Command 5 0 (Node 0) (Once (Read 4)) ∷ Command 6 0 (Node 0) (Once Poll) ∷ [])
 
 abbrev pub read_bytes : Response
 read_bytes = Data (0x47 ∷ 0x01 ∷ 0x00 ∷ 0x10 ∷ [])
@@ -60,10 +61,11 @@ abbrev pub NoCommands : Type 0
 NoCommands = (next_event 1 one_read [] ≡ None) × (outcomes 1 one_read [] ≡ [])
 
 -- a read that waits for bytes
-abbrev pub waiting : List Line
-waiting = Command 1 0 (Node 0) (Once Open) ∷ Command 2 0 (Node 0) (Once (Pes recording))
+abbrev pub waiting : Scripted
+waiting =
+    plain (Command 1 0 (Node 0) (Once Open) ∷ Command 2 0 (Node 0) (Once (Pes recording))
     ∷ Command 3 0 (Node 0) (Once Start)
-    ∷ Command 4 0 (Node 0) (ReadWait 2) ∷ []
+    ∷ Command 4 0 (Node 0) (ReadWait 2) ∷ [])
 
 abbrev pub WaitedRead : Type 0
 WaitedRead = outcomes 0 waiting (keep ∷ keep ∷ keep ∷ Again false ∷ Again false ∷ Data (0x47 ∷ 0x01 ∷ []) ∷ [])
@@ -79,8 +81,9 @@ abbrev pub WaitEndsWithTheStream : Type 0
 WaitEndsWithTheStream = next_event 0 waiting (keep ∷ keep ∷ keep ∷ Again false ∷ Again true ∷ []) ≡ None
 
 -- a drain goes on over bytes and overflows
-abbrev pub draining : List Line
-draining = Command 1 2 (Node 3) (Drain 9) ∷ []
+abbrev pub draining : Scripted
+draining =
+    plain (Command 1 2 (Node 3) (Drain 9) ∷ [])
 
 abbrev pub DrainGoesOn : Type 0
 DrainGoesOn =
@@ -94,8 +97,9 @@ DrainEnds = (outcomes 2 draining (Data (1 ∷ []) ∷ Again true ∷ []) ≡ don
     × (outcomes 2 draining (TimedOut 0 5 5 ∷ []) ≡ done_line 1 0 1 ∷ [])
 
 -- the dvr node is told of a tap
-abbrev pub taps : List Line
-taps = Command 1 0 (Node 3) (Once Start) ∷ Command 2 0 (Node 3) (Once Stop) ∷ Command 3 0 Dvr (Once Open) ∷ []
+abbrev pub taps : Scripted
+taps =
+    plain (Command 1 0 (Node 3) (Once Start) ∷ Command 2 0 (Node 3) (Once Stop) ∷ Command 3 0 Dvr (Once Open) ∷ [])
 
 abbrev pub TapIsTold : Type 0
 TapIsTold =
@@ -109,9 +113,9 @@ TapIsTold =
     ≡ done_line 1 0 2 ∷ done_line 2 2 4 ∷ done_line 3 4 5 ∷ [])
 
 -- 33 slots are opened, where there are 32 nodes: the open of slot k finds k nodes busy
-abbrev pub slots_opened : List Line
+abbrev pub slots_opened : Scripted
 slots_opened =
-    map (λ k. Command (k + 1) 0 (Slot k) (Once Open)) (range_with_len 0 32) ++ Command 33 0 (Slot 0) (Once Open) ∷ []
+    plain (map (λ k. Command (k + 1) 0 (Slot k) (Once Open)) (range_with_len 0 32) ++ Command 33 0 (Slot 0) (Once Open) ∷ [])
 
 abbrev pub slot_replies : List Response
 slot_replies = flat_map (λ k. replicate k (Busy 1) ++ keep ∷ []) (range_with_len 0 32) ++ replicate 32 (Busy 1)
@@ -127,19 +131,20 @@ AllNodesAreBusy =
 
 abbrev pub UnboundSlot : Type 0
 UnboundSlot =
-    outcomes 0 (Command 1 0 (Slot 5) (Once Stop) ∷ []) [] ≡ record { line = 1; from = 0; to = 0; kind = Unbound } ∷ []
+    outcomes 0 (plain (Command 1 0 (Slot 5) (Once Stop) ∷ [])) [] ≡ record { line = 1; from = 0; to = 0; kind = Unbound } ∷ []
 
 -- a slot is bound to the first node that isn't busy, and stays bound
 abbrev pub BoundSlot : Type 0
 BoundSlot =
     next_event 0
-    (Command 1 0 (Slot 5) (Once Open) ∷ Command 2 0 (Slot 5) (Once Close) ∷ Command 3 0 (Slot 5) (Once Start) ∷ [])
+    (plain (Command 1 0 (Slot 5) (Once Open) ∷ Command 2 0 (Slot 5) (Once Close) ∷ Command 3 0 (Slot 5) (Once Start) ∷ []))
     (Busy 2 ∷ keep ∷ keep ∷ [])
     ≡ Some (record { step = 3; node = 1; want = Own Start })
 
 -- a slot whose open finds all nodes busy is bound as before
-abbrev pub reopened : List Line
-reopened = Command 1 0 (Slot 5) (Once Open) ∷ Command 2 0 (Slot 5) (Once Open) ∷ Command 3 0 (Slot 5) (Once Start) ∷ []
+abbrev pub reopened : Scripted
+reopened =
+    plain (Command 1 0 (Slot 5) (Once Open) ∷ Command 2 0 (Slot 5) (Once Open) ∷ Command 3 0 (Slot 5) (Once Start) ∷ [])
 
 abbrev pub SlotStaysBound : Type 0
 SlotStaysBound =
@@ -164,11 +169,11 @@ clock_packet n =
     0x47 ∷ 0x01 ∷ 0x00 ∷ 0x20 ∷ 0xb7 ∷ 0x10 ∷ 0x00 ∷ 0x00 ∷ 0x00 ∷ n ∷ 0xfe ∷ 0x05 ∷ replicate 176 0xff
 
 -- a node is opened, set and started; its counter is asked for, bytes are read, and it is asked for again
-abbrev pub asked_twice : (num pes_type : ℕ) → List Line
+abbrev pub asked_twice : (num pes_type : ℕ) → Scripted
 asked_twice num pes_type =
-    Command 1 0 (Node 0) (Once Open) ∷ Command 2 0 (Node 0) (Once (Pes (counter_filter pes_type)))
+    plain (Command 1 0 (Node 0) (Once Open) ∷ Command 2 0 (Node 0) (Once (Pes (counter_filter pes_type)))
     ∷ Command 3 0 (Node 0) (Once Start) ∷ Feed 1 ∷ Command 5 0 (Node 0) (GetStc num)
-    ∷ Command 6 0 (Node 0) (Once (Read 188)) ∷ Command 7 0 (Node 0) (GetStc num) ∷ []
+    ∷ Command 6 0 (Node 0) (Once (Read 188)) ∷ Command 7 0 (Node 0) (GetStc num) ∷ [])
 
 abbrev pub one_clock : List Response
 one_clock = keep ∷ keep ∷ keep ∷ Data (clock_packet 0) ∷ []
@@ -204,10 +209,10 @@ LostStcIsNone =
     ≡ Some (without_stc 7 4))
 
 -- a filter is set, its packets are read until there are none, and the counter is asked for behind this other line
-abbrev pub read_all : (between : List Line) → List Line
+abbrev pub read_all : (between : List Line) → Scripted
 read_all between =
-    Command 1 0 (Node 0) (Once (Pes (counter_filter 4))) ∷ Command 2 0 (Node 0) (Drain 188) ∷ (between
-    ++ Command 5 0 (Node 0) (GetStc 0) ∷ [])
+    plain (Command 1 0 (Node 0) (Once (Pes (counter_filter 4))) ∷ Command 2 0 (Node 0) (Drain 188) ∷ (between
+    ++ Command 5 0 (Node 0) (GetStc 0) ∷ []))
 
 abbrev pub two_clocks : List Response
 two_clocks =
@@ -233,6 +238,6 @@ LastStcCounts =
 -- a question of an unbound slot, and one of the dvr node, on which no filter is set
 abbrev pub StcOfNoFilter : Type 0
 StcOfNoFilter =
-    (outcomes 0 (Command 1 0 (Slot 3) (GetStc 0) ∷ []) []
+    (outcomes 0 (plain (Command 1 0 (Slot 3) (GetStc 0) ∷ [])) []
     ≡ record { line = 1; from = 0; to = 0; kind = Unbound } ∷ [])
-    × (outcomes 0 (Command 1 0 Dvr (GetStc 0) ∷ []) [] ≡ without_stc 1 0 ∷ [])
+    × (outcomes 0 (plain (Command 1 0 Dvr (GetStc 0) ∷ [])) [] ≡ without_stc 1 0 ∷ [])

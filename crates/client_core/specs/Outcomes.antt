@@ -4,7 +4,7 @@ use Rattle.dmx_calls.specs.Response.{Response}
 use Rattle.dmx_calls.specs.declared.outcome.OutcomeKind.{OutcomeKind}
 use Rattle.dmx_calls.specs.declared.outcome.OutcomeKind.TheVariants.{Done, Emfile, Unbound, Stc, NoStc}
 use Rattle.dmx_calls.specs.declared.outcome.Outcome.{Outcome}
-use Rattle.client_script.specs.declared.line.Line.{Line}
+use Rattle.client_script.specs.Script.{Scripted}
 use Rattle.client_core.specs.declared.task.Ending.{Ending}
 use Rattle.client_core.specs.declared.task.Ending.TheVariants.{AllBusy, NoNode, Asked}
 use Rattle.client_core.specs.Events.{Ended, progress}
@@ -30,13 +30,13 @@ abbrev pub outcome_by : Counters → Ended → Outcome
 outcome_by counters e = record { line = e.line; from = e.from; to = e.to; kind = kind_by counters e.ending }
 
 -- the counters of a client after these replies
-abbrev pub counters_after : (client : ℕ) → List Line → List Response → Counters
-counters_after client lines replies node num = stc node num (exchanges client lines replies)
+abbrev pub counters_after : (client : ℕ) → Scripted → List Response → Counters
+counters_after client script replies node num = stc node num (exchanges client script replies)
 
 -- the outcome of a command: a counter is that of the replies to the commands before it
-abbrev pub outcome_of : (client : ℕ) → List Line → List Response → Ended → Outcome
-outcome_of client lines replies e = outcome_by (counters_after client lines (take e.from replies)) e
+abbrev pub outcome_of : (client : ℕ) → Scripted → List Response → Ended → Outcome
+outcome_of client script replies e = outcome_by (counters_after client script (take e.from replies)) e
 
 -- What became of the commands that are through after these replies, in the order of their lines.
-abbrev pub outcomes : (client : ℕ) → List Line → List Response → List Outcome
-outcomes client lines replies = map (outcome_of client lines replies) (progress client lines replies).ended
+abbrev pub outcomes : (client : ℕ) → Scripted → List Response → List Outcome
+outcomes client script replies = map (outcome_of client script replies) (progress client script replies).ended

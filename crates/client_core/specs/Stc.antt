@@ -4,7 +4,7 @@ use Rattle.std.specs.Prelude.{ℕ, ◌+◌, ◌*◌, ◌==◌, Bool, true, false
 use Rattle.dmx_calls.specs.declared.params.Output.{Output}
 use Rattle.dmx_calls.specs.declared.params.Output.TheVariants.{TsdemuxTap}
 use Rattle.dmx_calls.specs.Response.{Response, Done, Data, Overflow}
-use Rattle.client_script.specs.declared.line.Line.{Line}
+use Rattle.client_script.specs.Script.{Scripted}
 use Rattle.client_script.specs.declared.line.Want.{Want}
 use Rattle.client_script.specs.declared.line.Want.TheVariants.{Open, Close, Section, Pes, Start, Size}
 use Rattle.client_core.specs.declared.event.Event.{Event}
@@ -26,14 +26,14 @@ with_reply None reply older = older
 with_reply (Some event) reply older = record { event = event; reply = reply } ∷ older
 
 -- with replies that come after others, each to the call that the client makes next
-abbrev pub exchanges_after : (client : ℕ) → List Line → (before : List Response) → (older : List Exchange)
+abbrev pub exchanges_after : (client : ℕ) → Scripted → (before : List Response) → (older : List Exchange)
     → List Response → List Exchange
-exchanges_after client lines before older [] = older
-exchanges_after client lines before older (reply ∷ replies) =
-    exchanges_after client lines (before ++ reply ∷ []) (with_reply (next_event client lines before) reply older) replies
+exchanges_after client script before older [] = older
+exchanges_after client script before older (reply ∷ replies) =
+    exchanges_after client script (before ++ reply ∷ []) (with_reply (next_event client script before) reply older) replies
 
-abbrev pub exchanges : (client : ℕ) → List Line → List Response → List Exchange
-exchanges client lines replies = exchanges_after client lines [] [] replies
+abbrev pub exchanges : (client : ℕ) → Scripted → List Response → List Exchange
+exchanges client script replies = exchanges_after client script [] [] replies
 
 -- ------ the bytes that were read on a node
 

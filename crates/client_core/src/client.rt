@@ -3,10 +3,10 @@ ghost use Rattle.std.specs.Prelude.{◌≡◌, ℕ, ◌+◌, ◌*◌, ◌<◌, �
 ghost use Rattle.dmx_calls.specs.declared.limits.TheConstants.{DEMUX_NODES as nodes};
 ghost use Rattle.dmx_calls.specs.Calls.{response_of};
 ghost use Rattle.dmx_calls.specs.Response.{Response};
-ghost use Rattle.client_script.specs.declared.line.Line.{Line as ScriptLine};
-ghost use Rattle.client_script.specs.Script.{IsScript};
+ghost use Rattle.client_script.specs.Grammar.{IsInRange};
+ghost use Rattle.client_script.specs.Script.{Scripted};
 ghost use Rattle.client_core.specs.declared.event.Event.{Event as EventValue};
-ghost use Rattle.client_core.specs.Commands.{commands_of, stands, IsRequestInRange};
+ghost use Rattle.client_core.specs.Commands.{commands_among, commands_of, stands, IsRequestInRange};
 ghost use Rattle.client_core.specs.Events.{next_event, waits_on, next_of_line};
 ghost use Rattle.client_core.specs.Stc.{Exchange, with_reply};
 ghost use Rattle.client_core.specs.Outcomes.{outcomes as outcomes_of};
@@ -48,10 +48,10 @@ impl Model for ClientCore {
         × (length c.outcomes.items + one_if_some c.current + length c.left ≤ vec_capacity c.outcomes) };
 }
 
-// The client's commands, in the order of their lines.
+// The client's commands among these lines, in their order.
 fn commands(alloc: Global, lines: &[Line], client: u32) -> Result<Vec<Command>, NoMemory>
-    requires { IsScript lines.now }
-    ensures value { IfOk result (λ commands. commands.items ≡ commands_of client lines.now) }
+    requires { All IsInRange lines.now }
+    ensures value { IfOk result (λ commands. commands.items ≡ commands_among client lines.now) }
     ensures range { IfOk result (λ commands. All IsCommandInRange commands.items) }
 {
     let mut commands = Vec::new(alloc);
@@ -143,7 +143,7 @@ impl ClientCore {
     /// The client's next call; None where its commands are through.
     pub fn next(&self) -> Option<Event>
         ensures next { result ≡ next_of self.now }
-        ensures tied { (client : ℕ) (lines : List ScriptLine) (replies : List Response) → IsAfter client lines replies self.now → result ≡ next_event client lines replies }
+        ensures tied { (client : ℕ) (script : Scripted) (replies : List Response) → IsAfter client script replies self.now → result ≡ next_event client script replies }
         ensures node { IfSome result (λ e. (e.step ≡ self.now.step) × (e.node ≤ nodes)) }
         ensures range { IfSome result (λ e. IsRequestInRange e.want) }
         ensures some { IsSome result ↔ IsSome self.now.current }
@@ -156,7 +156,7 @@ impl ClientCore {
 
     /// The call before which the command of this line stands; None where that command is through.
     pub fn next_at(&self, line: u32) -> Option<Event>
-        ensures tied { (client : ℕ) (lines : List ScriptLine) (replies : List Response) → IsAfter client lines replies self.now → result ≡ next_of_line client lines line replies }
+        ensures tied { (client : ℕ) (script : Scripted) (replies : List Response) → IsAfter client script replies self.now → result ≡ next_of_line client script line replies }
         ensures node { IfSome result (λ e. (e.step ≡ self.now.step) × (e.node ≤ nodes)) }
         ensures range { IfSome result (λ e. IsRequestInRange e.want) }
         ensures some { IsSome result → IsSome self.now.current }
@@ -184,7 +184,7 @@ impl ClientCore {
     pub fn take(&mut self, reply: &LogReply)
         requires some { IsSome self.old.current }
         requires few { self.old.step < 2 ^ 46 }
-        ensures after { (client : ℕ) (lines : List ScriptLine) (replies : List Response) → IsAfter client lines replies self.old → IsAfter client lines (replies ++ response_of reply.now ∷ []) self.new }
+        ensures after { (client : ℕ) (script : Scripted) (replies : List Response) → IsAfter client script replies self.old → IsAfter client script (replies ++ response_of reply.now ∷ []) self.new }
         ensures taken { HasTaken (response_of reply.now) self.old self.new }
         ensures step { self.new.step ≡ self.old.step + 1 }
     {
@@ -228,7 +228,7 @@ impl ClientCore {
     /// The node on which the client waits: the last reply was Again, the stream hasn't ended, and the read is repeated.
     pub fn waits(&self) -> Option<u32>
         ensures value { result ≡ self.now.waits }
-        ensures tied { (client : ℕ) (lines : List ScriptLine) (replies : List Response) → IsAfter client lines replies self.now → result ≡ waits_on client lines replies }
+        ensures tied { (client : ℕ) (script : Scripted) (replies : List Response) → IsAfter client script replies self.now → result ≡ waits_on client script replies }
     {
         self.waits
     }
@@ -236,7 +236,7 @@ impl ClientCore {
     /// The outcomes of the commands that are through.
     pub fn outcomes(&self) -> &[Outcome]
         ensures value { result.now ≡ self.now.outcomes }
-        ensures tied { (client : ℕ) (lines : List ScriptLine) (replies : List Response) → IsAfter client lines replies self.now → result.now ≡ outcomes_of client lines replies }
+        ensures tied { (client : ℕ) (script : Scripted) (replies : List Response) → IsAfter client script replies self.now → result.now ≡ outcomes_of client script replies }
     {
         &self.outcomes
     }
@@ -244,8 +244,8 @@ impl ClientCore {
     /// A copy of these outcomes.
     pub fn copied_outcomes(&self, alloc: Global) -> Result<Vec<Outcome>, NoMemory>
         ensures value { IfOk result (λ copy. copy.items ≡ self.now.outcomes) }
-        ensures tied { (client : ℕ) (lines : List ScriptLine) (replies : List Response) → IsAfter client lines replies self.now
-            → IfOk result (λ copy. copy.items ≡ outcomes_of client lines replies) }
+        ensures tied { (client : ℕ) (script : Scripted) (replies : List Response) → IsAfter client script replies self.now
+            → IfOk result (λ copy. copy.items ≡ outcomes_of client script replies) }
     {
         let outcomes = self.outcomes();
         let mut copy = Vec::with_capacity(alloc, outcomes.len())?;

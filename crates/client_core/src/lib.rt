@@ -8,7 +8,7 @@
 //! what the client has itself read on that node, by its filter on the PID of the clock. All of this is this project's own.
 //!
 //! What a contract sees: a `ClientCore` as the record `Core` of `specs/Inside/Core.antt`, which holds no history;
-//! `IsAfter client lines replies core` says that it stands after these replies to this client of the script. The
+//! `IsAfter client script replies core` says that it stands after these replies to this client of the script. The
 //! definitions are functions of the script and of the replies alone: `done` says what a command does
 //! (`specs/Commands.antt`), and `progress`, `next_event` and `waits_on` how far a client is (`specs/Events.antt`); `stc` is
 //! the counter that it finds (`specs/Stc.antt`), `outcomes` what became of its commands (`specs/Outcomes.antt`), and

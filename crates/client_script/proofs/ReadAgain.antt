@@ -18,7 +18,7 @@ use Rattle.client_script.specs.Words.{words_of, word_in}
 use Rattle.client_script.specs.Places.{places_in, filter_in}
 use Rattle.client_script.specs.Grammar.{number_in, numbered_target, target_of, name_of, section_in, pes_in, verb_in, command_in, line_in, line_of, is_passed_over, meaning, IsTargetInRange, IsVerbInRange, IsInRange}
 use Rattle.client_script.specs.Spelling.{want_text, name_text, target_text, line_text, command_text, spelling, with_number, numbered_from}
-use Rattle.client_script.specs.Script.{whole_lines, is_stream, lines_from, grammar}
+use Rattle.client_script.specs.Script.{whole_lines, is_stream, lines_from, grammar, plain}
 use Rattle.client_script.specs.declared.fault.ScriptFault.{ScriptFault}
 use Rattle.client_script.specs.declared.names.CommandName.{CommandName}
 use Rattle.client_script.specs.declared.names.CommandName.TheVariants.{Open as OpenName, Close as CloseName, Section as SectionName, Pes as PesName, Add as AddName, Remove as RemoveName, Start as StartName, Stop as StopName, Size as SizeName, Read as ReadName, ReadWait as ReadWaitName, Drain as DrainName, Poll as PollName, Ioctl as IoctlName}
@@ -163,7 +163,7 @@ first_whole_line line more few =
 -- ------ scripts
 
 lines_from-spellings : (missing : ScriptFault) (number : ℕ) (lines : List Line) → All IsInRange lines
-    → lines_from missing number (whole_lines (flat_map spelling lines ++ codes "stream\n")) ≡ Ok (numbered_from number lines)
+    → lines_from missing number (whole_lines (flat_map spelling lines ++ codes "stream\n")) ≡ Ok (plain (numbered_from number lines))
 unfolding lines_from
 lines_from-spellings missing number [] few = refl
 lines_from-spellings missing number (line ∷ more) few =
@@ -175,11 +175,11 @@ lines_from-spellings missing number (line ∷ more) few =
     rw (text, whole, not_stream line, meaning-line_text number line first, later) refl
 
 -- lines that are spelled, and the line `stream` behind them, are read as these lines
-pub grammar-spellings : (lines : List Line) → All IsInRange lines → grammar (flat_map spelling lines ++ codes "stream\n") ≡ Ok (numbered_from 1 lines)
+pub grammar-spellings : (lines : List Line) → All IsInRange lines → grammar (flat_map spelling lines ++ codes "stream\n") ≡ Ok (plain (numbered_from 1 lines))
 unfolding grammar
 grammar-spellings lines few = lines_from-spellings _ 1 lines few
 
-pub grammar-spelling : (line : Line) → IsInRange line → grammar (spelling line ++ codes "stream\n") ≡ Ok (with_number 1 line ∷ [])
+pub grammar-spelling : (line : Line) → IsInRange line → grammar (spelling line ++ codes "stream\n") ≡ Ok (plain (with_number 1 line ∷ []))
 grammar-spelling line few =
     let one : flat_map spelling (line ∷ []) ≡ spelling line = append-nil (spelling line) in
     rw (← one) (grammar-spellings (line ∷ []) (All-cons IsInRange line [] few (All-nil IsInRange)))

@@ -4,7 +4,7 @@ use Rattle.std.proofs.lemmas.List.{append-nil}
 use Rattle.std.specs.List.{count_by}
 use Rattle.std.specs.Prelude.{◌==◌, Option, Ok, Err}
 use Rattle.client_script.specs.Grammar.{meaning}
-use Rattle.client_script.specs.Script.{Parsed, before, lines_of, lines_from, whole_lines, is_stream, grammar}
+use Rattle.client_script.specs.Script.{Parsed, before, lines_of, lines_from, whole_lines, is_stream, grammar, plain}
 use Rattle.client_script.specs.declared.fault.ScriptFault.{ScriptFault}
 use Rattle.client_script.specs.declared.fault.FaultKind.{FaultKind}
 use Rattle.client_script.specs.declared.fault.FaultKind.TheVariants.{NoStream}
@@ -12,7 +12,7 @@ use Rattle.client_script.specs.declared.line.Line.{Line}
 
 -- lines stand before those of a script
 abbrev pub prepended : List Line → Parsed → Parsed
-prepended lines (Ok more) = Ok (lines ++ more)
+prepended lines (Ok more) = Ok (record more { lines = lines ++ more.lines })
 prepended lines (Err fault) = Err fault
 
 -- a script of which these lines were read; the next line has this number
@@ -35,7 +35,7 @@ pub script_by-end : (missing : ScriptFault) (lines : List Line) (number : ℕ) (
 unfolding script_by lines_from
 script_by-end missing lines number bytes none = rw none refl
 
-pub script_by-stream : (missing : ScriptFault) (lines : List Line) (number : ℕ) (bytes line : List ℕ) (more : List (List ℕ)) → whole_lines bytes ≡ line ∷ more → is_stream line ≡ true → script_by missing lines number bytes ≡ Ok lines
+pub script_by-stream : (missing : ScriptFault) (lines : List Line) (number : ℕ) (bytes line : List ℕ) (more : List (List ℕ)) → whole_lines bytes ≡ line ∷ more → is_stream line ≡ true → script_by missing lines number bytes ≡ Ok (plain lines)
 unfolding script_by lines_from
 script_by-stream missing lines number bytes line more some same = rw (some, same, append-nil lines) refl
 
@@ -50,5 +50,5 @@ unfolding script_by lines_from
 script_by-line missing lines after number bytes line behind asked grown some other means = rw (grown, some, other, means) (go (lines_from missing (number + 1) (whole_lines behind)))
   where
     go : (parsed : Parsed) → prepended lines (before number (Ok asked) parsed) ≡ prepended (lines ++ lines_of asked) parsed
-    go (Ok more) = rw (append_assoc lines (lines_of asked) more) refl
+    go (Ok more) = rw (append_assoc lines (lines_of asked) more.lines) refl
     go (Err fault) = refl

@@ -6,7 +6,7 @@ use Rattle.dmx_calls.specs.declared.params.Output.TheVariants.{TsTap, TsdemuxTap
 use Rattle.text_forms.specs.Numbers.{number_between}
 use Rattle.client_script.specs.Words.{next_as}
 use Rattle.client_script.specs.Grammar.{meaning}
-use Rattle.client_script.specs.Script.{grammar, split}
+use Rattle.client_script.specs.Script.{grammar, plain, split}
 use Rattle.client_script.specs.Spelling.{spelling}
 use Rattle.client_script.specs.declared.fault.FaultKind.{FaultKind}
 use Rattle.client_script.specs.declared.fault.FaultKind.TheVariants.{Client, Command as NoCommand, Target as NoTarget, Number, Name, Bytes, Count, NoStream}
@@ -143,7 +143,7 @@ ThirdLine =
 abbrev pub LinesBehindTheStream : Type 0
 LinesBehindTheStream =
     grammar (text (codes "#" ∷ codes "c1 open n0" ∷ codes "stream" ∷ codes "c9" ∷ []))
-    ≡ Ok (Command 2 1 (Node 0) (Once Open) ∷ [])
+    ≡ Ok (plain (Command 2 1 (Node 0) (Once Open) ∷ []))
 
 abbrev pub NoBytes : Type 0
 NoBytes = grammar [] ≡ Err (record { line = 1; kind = NoStream })

@@ -1,5 +1,5 @@
--- The lines of a script, and how a session's input falls into a script and a stream (this project's own).
-use Rattle.std.specs.Prelude.{◌≡◌, ℕ, ◌+◌, ◌≤◌, ◌==◌, Bool, List, [], ◌∷◌, ◌++◌, length, take, drop, max, fold, Option, Some, None, Result, Ok, Err, if◌then◌else◌, codes}
+-- What a script says, and how a session's input falls into a script and a stream (this project's own).
+use Rattle.std.specs.Prelude.{◌≡◌, ℕ, ◌+◌, ◌≤◌, ◌==◌, Bool, List, [], ◌∷◌, ◌++◌, length, take, drop, max, fold, replicate, Option, Some, None, Result, Ok, Err, if◌then◌else◌, codes}
 use Rattle.std.specs.List.{All, slice_split, count_by}
 use Rattle.std.specs.Option.{option_map}
 use Rattle.text_forms.specs.Words.{is_word}
@@ -29,11 +29,27 @@ whole_lines bytes = without_last (slice_split (λ byte. byte == 10) bytes)
 abbrev pub is_stream : List ℕ → Bool
 is_stream line = is_word line (codes "stream")
 
+-- ------ what a script says
+
+-- what a script says: its lines, in their order, and what each client writes
+pub record Scripted : Type 0 where
+  pub lines : List Line
+  -- for each client the bytes of its writes, in the order of their lines
+  pub writes : List (List (List ℕ))
+
+-- no client writes; there are eight
+abbrev pub no_writes : List (List (List ℕ))
+no_writes = replicate 8 []
+
+-- the script of these lines, of which none writes
+abbrev pub plain : List Line → Scripted
+plain lines = record { lines = lines; writes = no_writes }
+
 -- ------ the grammar
 
--- the lines of a script, or its first fault
+-- what a script says, or its first fault
 abbrev pub Parsed : Type 0
-Parsed = Result (List Line) ScriptFault
+Parsed = Result Scripted ScriptFault
 
 -- what a line asks for, if anything
 abbrev pub lines_of : Option Line → List Line
@@ -43,7 +59,7 @@ lines_of (Some asked) = asked ∷ []
 -- what a line means, in front of what the lines behind it mean; its fault goes before theirs
 abbrev pub before : (line : ℕ) → Result (Option Line) FaultKind → Parsed → Parsed
 before line (Err kind) behind = Err (record { line = line; kind = kind })
-before line (Ok asked) (Ok lines) = Ok (lines_of asked ++ lines)
+before line (Ok asked) (Ok script) = Ok (record script { lines = lines_of asked ++ script.lines })
 before line (Ok asked) (Err fault) = Err fault
 
 -- What whole lines mean, up to the line `stream`, where the first of them has this number; and `missing` where none of
@@ -51,9 +67,9 @@ before line (Ok asked) (Err fault) = Err fault
 unfoldable pub lines_from : (missing : ScriptFault) → (line : ℕ) → List (List ℕ) → Parsed
 lines_from missing line [] = Err missing
 lines_from missing line (bytes ∷ more) =
-    if is_stream bytes then Ok [] else before line (meaning line bytes) (lines_from missing (line + 1) more)
+    if is_stream bytes then Ok (plain []) else before line (meaning line bytes) (lines_from missing (line + 1) more)
 
--- The lines of a script, in their order, or its first fault. Lines are numbered from 1. Where none is the line
+-- What a script says, or its first fault. Lines are numbered from 1. Where none is the line
 -- `stream`, and none has a fault, the fault is in the line 1 plus the number of line feeds.
 unfoldable pub grammar : List ℕ → Parsed
 grammar bytes =
@@ -67,9 +83,9 @@ abbrev pub most_bytes : ℕ
 most_bytes = 1048576
 
 -- no more lines than bytes are searched, each in the ranges of the grammar
-pub record IsScript (lines : List Line) : Type 0 where
-  pub few : length lines ≤ most_bytes
-  pub ranges : All IsInRange lines
+pub record IsScript (script : Scripted) : Type 0 where
+  pub few : length script.lines ≤ most_bytes
+  pub ranges : All IsInRange script.lines
 
 -- how many clients there are up to the one that a line names, if it names one
 abbrev pub clients_of : Line → ℕ
@@ -77,13 +93,17 @@ clients_of (Feed n) = 0
 clients_of (Tick n) = 0
 clients_of (Command line client target verb) = client + 1
 
+-- how many clients there are up to the highest that these lines name, if they name one
+abbrev pub clients_among : List Line → ℕ
+clients_among lines = fold (λ most line. max most (clients_of line)) 0 lines
+
 -- how many clients a script has: 1 plus the highest that it names, or 0
-abbrev pub clients_in : List Line → ℕ
-clients_in lines = fold (λ most line. max most (clients_of line)) 0 lines
+abbrev pub clients_in : Scripted → ℕ
+clients_in script = clients_among script.lines
 
 -- a script was read as the grammar says, unless memory was refused
-abbrev pub IsRead : Result (List Line) ScriptError → Parsed → Type 0
-IsRead (Ok lines) parsed = parsed ≡ Ok lines
+abbrev pub IsRead : Result Scripted ScriptError → Parsed → Type 0
+IsRead (Ok script) parsed = parsed ≡ Ok script
 IsRead (Err (Fault fault)) parsed = parsed ≡ Err fault
 IsRead (Err NoMemory) parsed = Unit {0}
 

@@ -2,7 +2,7 @@
 ghost use Rattle.std.specs.Prelude.{◌≡◌, ◌<◌, ◌≤◌, ◌⊎◌, ◌++◌, ◌∷◌, [], ℕ, List, length, take, drop, codes, Some, None};
 ghost use Rattle.std.specs.List.{All, flat_map};
 ghost use Rattle.client_script.specs.Grammar.{IsInRange};
-ghost use Rattle.client_script.specs.Script.{grammar, split, most_bytes, script_len, whole_lines};
+ghost use Rattle.client_script.specs.Script.{grammar, plain, split, most_bytes, script_len, whole_lines};
 ghost use Rattle.client_script.specs.Spelling.{numbered_from, spelling, with_number};
 ghost use Rattle.client_script.specs.declared.line.Line.{Line};
 
@@ -15,8 +15,8 @@ pub fn nothing_behind_the_stream_is_examined()
 /// Reading the spellings of lines, and the line `stream` behind them, gives these lines again, each with its number in the
 /// script; and so it is for a single line.
 pub fn printed_lines_are_read_again()
-    ensures line { (line : Line) → IsInRange line → grammar (spelling line ++ codes "stream\n") ≡ Ok (with_number 1 line ∷ []) }
-    ensures script { (lines : List Line) → All IsInRange lines → grammar (flat_map spelling lines ++ codes "stream\n") ≡ Ok (numbered_from 1 lines) }
+    ensures line { (line : Line) → IsInRange line → grammar (spelling line ++ codes "stream\n") ≡ Ok (plain (with_number 1 line ∷ [])) }
+    ensures script { (lines : List Line) → All IsInRange lines → grammar (flat_map spelling lines ++ codes "stream\n") ≡ Ok (plain (numbered_from 1 lines)) }
 {}
 
 /// Where the first bytes of an input hold the whole line `stream`, they have its script part, and the others are its stream.

@@ -5,8 +5,9 @@
 //! `n0` to `n31`, of their slots `h0` to `h31` and of the dvr node. A request can also be given as a program makes it, by its
 //! number and the bytes of its structure (`ioctl`). Empty lines and comments (`#`) are passed over.
 //!
-//! What a contract sees: a `Script` as the list of its lines, each a `Line` of the code, and a fault as its line and kind.
-//! The grammar is `grammar` of `specs/Script.antt`: from bytes to the lines or to the first fault. It stands on `meaning`
+//! What a contract sees: a `Script` as what it says, a `Scripted`: the list of its lines, each a `Line` of the code, and what
+//! each client writes, which is nothing; and a fault as its line and kind.
+//! The grammar is `grammar` of `specs/Script.antt`: from bytes to what they say or to the first fault. It stands on `meaning`
 //! of one line (`specs/Grammar.antt`), where each word is asked for by its place (`specs/Words.antt`, `specs/Places.antt`,
 //! `specs/Requests.antt`).
 //! The first word that isn't what its place asks names the kind of the fault; a missing word and a word too many are

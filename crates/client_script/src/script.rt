@@ -16,22 +16,20 @@ use text_forms::is_word;
 /// How many bytes of an input are searched for the line `stream`.
 pub const MOST_BYTES: usize = 1_048_576;
 
-/// The lines of a script, up to its line `stream`. A contract sees it as the list of its lines.
+/// A script, up to its line `stream`. A contract sees it as what it says (`Scripted`).
 #[derive(Debug, Drop)]
 pub struct Script {
     lines: Vec<Line>,
 }
 
 impl Model for Script {
-    ghost use Rattle.std.specs.Prelude.{List};
-    ghost use Rattle.client_script.specs.declared.line.Line.{Line};
-    ghost use Rattle.client_script.specs.Script.{IsScript};
+    ghost use Rattle.client_script.specs.Script.{IsScript, Scripted, plain};
 
-    ghost Value = { List Line };
+    ghost Value = { Scripted };
 
-    ghost view = { λ s. s.lines.items };
+    ghost view = { λ s. plain s.lines.items };
 
-    ghost invariant = { λ s. IsScript s.lines.items };
+    ghost invariant = { λ s. IsScript (plain s.lines.items) };
 }
 
 // Whether a line is empty or a comment.
@@ -144,8 +142,8 @@ impl Script {
 
     /// The lines, in their order.
     pub fn lines(&self) -> &[Line]
-        ensures lines { result.now ≡ self.now }
-        ensures known { IsScript result.now }
+        ensures lines { result.now ≡ self.now.lines }
+        ensures known { IsScript self.now }
     {
         self.lines.as_slice()
     }

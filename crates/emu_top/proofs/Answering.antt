@@ -7,7 +7,7 @@ use Rattle.emu_io.specs.Causes.{raised, Rose}
 use Rattle.emu_io.specs.Ends.{SourceEnd, SinkEnd}
 use Rattle.client_script.specs.declared.line.Line.{Line}
 use Rattle.client_script.specs.declared.line.Line.TheVariants.{Feed, Tick, Command as CommandLine}
-use Rattle.client_script.specs.Script.{split, parted, grammar, most_bytes, script_len, whole_lines, IsScript}
+use Rattle.client_script.specs.Script.{split, parted, grammar, most_bytes, script_len, whole_lines, IsScript, Scripted}
 use Rattle.client_script.proofs.Splitting.{split-found}
 use Rattle.script_run.specs.Budget.{most_calls, all_commands}
 use Rattle.command_words.specs.declared.Command.{Command}
@@ -121,8 +121,8 @@ pub split_more : (bytes rest stream : List ℕ) → (split bytes).stream ≡ Som
 unfolding split
 split_more bytes rest stream is = split_by bytes rest (script_len (whole_lines (take most_bytes bytes))) stream refl is
 
-script_of_all : (input bytes rest stream : List ℕ) (lines : List Line) → input ≡ bytes ++ rest → grammar (split bytes).script ≡ Ok lines → (split bytes).stream ≡ Some stream → grammar (split input).script ≡ Ok lines
-script_of_all input bytes rest stream lines is script behind = ap (λ xs. grammar (split xs).script) is ∙ (ap grammar (split_more bytes rest stream behind).0 ∙ script)
+script_of_all : (input bytes rest stream : List ℕ) (script : Scripted) → input ≡ bytes ++ rest → grammar (split bytes).script ≡ Ok script → (split bytes).stream ≡ Some stream → grammar (split input).script ≡ Ok script
+script_of_all input bytes rest stream script is says behind = ap (λ xs. grammar (split xs).script) is ∙ (ap grammar (split_more bytes rest stream behind).0 ∙ says)
 
 -- ------ no budget is met
 
@@ -132,16 +132,16 @@ few_commands (Feed n ∷ lines) = let h = few_commands lines in omega arith
 few_commands (Tick n ∷ lines) = let h = few_commands lines in omega arith
 few_commands (CommandLine line client target verb ∷ lines) = let h = few_commands lines in omega arith
 
-pub not_too_long : (input bytes rest stream : List ℕ) (lines : List Line) (turns : ℕ) → input ≡ bytes ++ rest → length input < 4294967296 → length stream ≤ length bytes → IsScript lines
-    → ((turns ≡ 4294967296) × (turns ≤ length bytes)) ⊎ ((turns ≡ 2 ^ 39) × (turns ≤ most_calls (all_commands lines) (length stream))) → ⊥
-not_too_long input bytes rest stream lines turns is short fits known (inl (e, le)) =
+pub not_too_long : (input bytes rest stream : List ℕ) (script : Scripted) (turns : ℕ) → input ≡ bytes ++ rest → length input < 4294967296 → length stream ≤ length bytes → IsScript script
+    → ((turns ≡ 4294967296) × (turns ≤ length bytes)) ⊎ ((turns ≡ 2 ^ 39) × (turns ≤ most_calls (all_commands script.lines) (length stream))) → ⊥
+not_too_long input bytes rest stream script turns is short fits known (inl (e, le)) =
     let size : length input ≡ length bytes + length rest = ap length is ∙ length-append bytes rest in
     omega arith
-not_too_long input bytes rest stream lines turns is short fits known (inr (e, le)) =
+not_too_long input bytes rest stream script turns is short fits known (inr (e, le)) =
     let size : length input ≡ length bytes + length rest = ap length is ∙ length-append bytes rest in
-    let few = few_commands lines in
+    let few = few_commands script.lines in
     let known_few = known.few in
-    let big : 2 ^ 39 ≤ 33 * (all_commands lines + 2 * length stream + 1) = rw (← e) le in
+    let big : 2 ^ 39 ≤ 33 * (all_commands script.lines + 2 * length stream + 1) = rw (← e) le in
     omega arith
 
 -- ------ the answer that the input determines
@@ -162,9 +162,9 @@ determined out input x y w v (Script line kind) has fr fw nr nw says =
 determined out input x y w v (TooLong turns) has fr fw nr nw says =
     let g = says.0 in
     let t = by_taken input y.left g.bytes (subst (λ c. Consumes c y.left g.bytes) has g.taken) in
-    let ok = script_of_all input g.bytes t.0 g.stream g.lines t.1 g.session.script g.session.behind in
+    let ok = script_of_all input g.bytes t.0 g.stream g.script t.1 g.session.says g.session.behind in
     let fits = (split_more g.bytes t.0 g.stream g.session.behind).1 in
-    inr (rw ok (λ short. absurd (not_too_long input g.bytes t.0 g.stream g.lines turns t.1 short fits g.known g.cause)))
+    inr (rw ok (λ short. absurd (not_too_long input g.bytes t.0 g.stream g.script turns t.1 short fits g.known g.cause)))
 determined out input x y w v ReadFault has fr fw nr nw (steady_writes, inl (text, m, a)) = absurd (steady x.faults fr (subst (λ n. Rose x.faults n) nr m.reads))
 determined out input x y w v ReadFault has fr fw nr nw (steady_writes, inr (f, k)) = absurd (steady x.faults fr (subst (λ n. Rose x.faults n) nr f.rose))
 determined out input x y w v WriteFault has fr fw nr nw says = absurd (steady w.faults fw (subst (λ n. Rose w.faults n) nw says.front.rose))
@@ -172,7 +172,7 @@ determined out input x y w v NoMemory has fr fw nr nw says = inl refl
 determined out input x y w v Done has fr fw nr nw says =
     let m = says.made in
     let t = by_taken input y.left m.bytes (subst (λ c. Consumes c y.left m.bytes) has m.taken) in
-    let ok = script_of_all input m.bytes t.0 m.stream m.lines t.1 m.session.script m.session.behind in
+    let ok = script_of_all input m.bytes t.0 m.stream m.script t.1 m.session.says m.session.behind in
     inr (rw ok (λ short. refl))
 determined out input x y w v (Wrong fault) has fr fw nr nw says = absurd says
 

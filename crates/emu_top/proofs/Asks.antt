@@ -13,7 +13,7 @@ use Rattle.client_script.specs.Script.{whole_lines}
 use Rattle.client_script.specs.Inside.Part.{HasNoFeed}
 use Rattle.client_script.proofs.Parting.{first}
 use Rattle.client_script.proofs.Searching.{whole_lines-line, whole_lines-none}
-use Rattle.emu_top.specs.Checking.{Asked, asked, asked_in, asked_behind, in_front, lines_asked, size_of, EndsInLine, FailsToRead, HasFirstFault}
+use Rattle.emu_top.specs.Checking.{Asked, asked, asked_in, asked_behind, in_front, script_asked, size_of, EndsInLine, FailsToRead, HasFirstFault}
 use Rattle.emu_top.specs.Inside.Asking.{AsksFor, Begins}
 
 -- ------ the first line
@@ -53,10 +53,10 @@ asked_none bytes more none few end = ap (asked_behind (bytes ++ more)) (ap whole
 
 -- what is so of all that the bytes taken may be followed by is so of the input
 pub of_input : (content left : Option (List ℕ)) (bytes : List ℕ) (fault : ScriptFault) → Consumes content left bytes
-    → ((rest : List ℕ) → left ≡ Some rest → lines_asked (asked (bytes ++ rest)) ≡ Err fault) → IfSome content (λ input. lines_asked (asked input) ≡ Err fault)
+    → ((rest : List ℕ) → left ≡ Some rest → script_asked (asked (bytes ++ rest)) ≡ Err fault) → IfSome content (λ input. script_asked (asked input) ≡ Err fault)
 of_input None left bytes fault con each = tt
 of_input (Some input) None bytes fault con each = absurd con
-of_input (Some input) (Some rest) bytes fault con each = ap (λ xs. lines_asked (asked xs)) con ∙ each rest refl
+of_input (Some input) (Some rest) bytes fault con each = ap (λ xs. script_asked (asked xs)) con ∙ each rest refl
 
 at_end : (left : Option (List ℕ)) (rest : List ℕ) → left ≡ Some rest → IsAtEnd left → rest ≡ []
 at_end left rest is end = subst IsAtEnd is end
@@ -69,13 +69,13 @@ ended left rest n is (inr end) = inr (at_end left rest is end)
 pub no_line : (x y : SourceEnd) (bytes : List ℕ) → Consumes x.left y.left bytes → y.faults ≡ x.faults → HasNoFeed bytes → length bytes ≤ 40 → (length bytes ≡ 40) ⊎ IsAtEnd y.left
     → HasFirstFault (in_front Number) x y
 no_line x y bytes con steady none few end =
-    (steady, of_input x.left y.left bytes (in_front Number) con (λ rest is. ap lines_asked (asked_none bytes rest none few (ended y.left rest (length bytes) is end))))
+    (steady, of_input x.left y.left bytes (in_front Number) con (λ rest is. ap script_asked (asked_none bytes rest none few (ended y.left rest (length bytes) is end))))
 
 -- a first line that isn't of its form
 pub other_line : (x y : SourceEnd) (line : List ℕ) (size : Option ℕ) → Consumes x.left y.left (line ++ 10 ∷ []) → y.faults ≡ x.faults → HasNoFeed line → length line < 40 → size_of line ≡ size → size ≡ None
     → HasFirstFault (in_front Number) x y
 other_line x y line size con steady none fits is other =
-    (steady, of_input x.left y.left (line ++ 10 ∷ []) (in_front Number) con (λ rest at. ap lines_asked (asked_line line rest none fits ∙ ap (asked_in rest) (is ∙ other))))
+    (steady, of_input x.left y.left (line ++ 10 ∷ []) (in_front Number) con (λ rest at. ap script_asked (asked_line line rest none fits ∙ ap (asked_in rest) (is ∙ other))))
 
 -- and one that is
 pub sized : (x y : SourceEnd) (line : List ℕ) (size : ℕ) → Consumes x.left y.left (line ++ 10 ∷ []) → y.faults ≡ x.faults → HasNoFeed line → length line < 40 → size_of line ≡ Some size → AsksFor size x y
@@ -140,7 +140,7 @@ ends_before x y z size report a con steady short end =
       steady ∙ a.steady,
       of_input x.left z.left (a.bytes ++ report) (in_front NoStream) whole (λ rest is.
           let same : (a.bytes ++ report) ++ rest ≡ a.bytes ++ report = ap (λ r. (a.bytes ++ report) ++ r) (at_end z.left rest is end) ∙ append-nil (a.bytes ++ report) in
-          ap (λ bytes. lines_asked (asked bytes)) same ∙ ap lines_asked (a.parts report ∙ too_short size report short)),
+          ap (λ bytes. script_asked (asked bytes)) same ∙ ap script_asked (a.parts report ∙ too_short size report short)),
     )
 
 -- ------ reads that fail

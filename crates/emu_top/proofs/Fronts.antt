@@ -4,7 +4,7 @@ use Rattle.std.proofs.lemmas.List.{take_all, length-drop}
 use Rattle.std.specs.Prelude.{Option, Some, None, IfSome, Result, Ok, Err, unwrap_or, if◌then◌else◌}
 use Rattle.std.specs.Option.{option_map}
 use Rattle.client_script.specs.Grammar.{meaning}
-use Rattle.client_script.specs.Script.{whole_lines, is_stream, script_len, grammar, lines_from, before, Parsed, most_bytes, IsScript}
+use Rattle.client_script.specs.Script.{whole_lines, is_stream, script_len, grammar, lines_from, before, Parsed, most_bytes, IsScript, Scripted}
 use Rattle.client_script.specs.declared.line.Line.{Line}
 use Rattle.client_script.specs.declared.fault.FaultKind.{FaultKind}
 use Rattle.client_script.specs.declared.fault.ScriptFault.{ScriptFault}
@@ -38,22 +38,22 @@ parted_by line more true r is e none = absurd (cc)
 parted_by line more false None is e none = (is, e)
 parted_by line more false (Some m) is e none = absurd (cc)
 
-faulty_by : (k : ℕ) (m : Result (Option Line) FaultKind) (rest : Parsed) (asked : List Line) → ((ls : List Line) → rest ≡ Ok ls → ⊥) → before k m rest ≡ Ok asked → ⊥
+faulty_by : (k : ℕ) (m : Result (Option Line) FaultKind) (rest : Parsed) (asked : Scripted) → ((says : Scripted) → rest ≡ Ok says → ⊥) → before k m rest ≡ Ok asked → ⊥
 faulty_by k (Err kind) rest asked none e = absurd (cc)
-faulty_by k (Ok a) (Ok ls) asked none e = none ls refl
+faulty_by k (Ok a) (Ok says) asked none e = none says refl
 faulty_by k (Ok a) (Err fault) asked none e = absurd (cc)
 
-faulty : (lines : List (List ℕ)) (missing : ScriptFault) (k : ℕ) (asked : List Line) → script_len lines ≡ None → lines_from missing k lines ≡ Ok asked → ⊥
+faulty : (lines : List (List ℕ)) (missing : ScriptFault) (k : ℕ) (asked : Scripted) → script_len lines ≡ None → lines_from missing k lines ≡ Ok asked → ⊥
 unfolding lines_from
 faulty [] missing k asked none e = absurd (cc)
 faulty (line ∷ more) missing k asked none e =
     let o = parted_by line more (is_stream line) (script_len more) refl refl none in
     let here : before k (meaning k line) (lines_from missing (k + 1) more) ≡ Ok asked = rw o.0 at e in
-    faulty_by k (meaning k line) (lines_from missing (k + 1) more) asked (λ ls is. faulty more missing (k + 1) ls o.1 is) here
+    faulty_by k (meaning k line) (lines_from missing (k + 1) more) asked (λ says is. faulty more missing (k + 1) says o.1 is) here
 
-no_script : (bytes : List ℕ) (lines : List Line) → script_len (whole_lines bytes) ≡ None → grammar bytes ≡ Ok lines → ⊥
+no_script : (bytes : List ℕ) (script : Scripted) → script_len (whole_lines bytes) ≡ None → grammar bytes ≡ Ok script → ⊥
 unfolding grammar
-no_script bytes lines none e = faulty (whole_lines bytes) _ 1 lines none e
+no_script bytes script none e = faulty (whole_lines bytes) _ 1 script none e
 
 -- ------ the bytes of the script part
 
@@ -65,14 +65,14 @@ pub grammar_of_part : (bytes : List ℕ) (r : Option ℕ) → script_len (whole_
 grammar_of_part bytes None e = ap grammar (take_all (length bytes) bytes (omega arith))
 grammar_of_part bytes (Some n) e = (front_of bytes n e).1
 
-pub holds : (first : List ℕ) (r : Option ℕ) (size : PacketSize) (lines : List Line) (puller : Pulling) → length first ≤ most_bytes → script_len (whole_lines first) ≡ r
-    → grammar (part_of r first) ≡ Ok lines → IsScript lines → Pulls (drop (unwrap_or r (length first)) first) [] [] puller → puller.start ≤ length first → puller.cutting.size ≡ size → Holds first size lines puller
-holds first None size lines puller few e script known pulls reads takes_up = absurd (no_script first lines e (sym (grammar_of_part first None e) ∙ script))
-holds first (Some n) size lines puller few e script known pulls reads takes_up = record {
+pub holds : (first : List ℕ) (r : Option ℕ) (size : PacketSize) (script : Scripted) (puller : Pulling) → length first ≤ most_bytes → script_len (whole_lines first) ≡ r
+    → grammar (part_of r first) ≡ Ok script → IsScript script → Pulls (drop (unwrap_or r (length first)) first) [] [] puller → puller.start ≤ length first → puller.cutting.size ≡ size → Holds first size script puller
+holds first None size script puller few e says known pulls reads takes_up = absurd (no_script first script e (sym (grammar_of_part first None e) ∙ says))
+holds first (Some n) size script puller few e says known pulls reads takes_up = record {
   part = take n first;
   ahead = drop n first;
   splits = λ more. split-found first more n few e;
-  script = script;
+  says = says;
   known = known;
   pulls = pulls;
   reads = reads;

@@ -9,9 +9,8 @@ use Rattle.ts_packet.specs.Cut.{cut}
 use Rattle.ts_packet.specs.declared.size.PacketSize.{PacketSize}
 use Rattle.ts_packet.specs.Fields.{IsPacket}
 use Rattle.ts_watch.specs.Head.{told_head, head_of}
-use Rattle.client_script.specs.declared.line.Line.{Line}
 use Rattle.client_script.specs.declared.fault.ScriptFault.{ScriptFault}
-use Rattle.client_script.specs.Script.{split, grammar}
+use Rattle.client_script.specs.Script.{split, grammar, Scripted}
 use Rattle.feed_pull.specs.Pulling.{Pulling}
 use Rattle.feed_pull.specs.Streams.{OfStream}
 use Rattle.feed_pull.proofs.CutPackets.{are_packets}
@@ -19,7 +18,7 @@ use Rattle.report_runs.specs.Right.{IsRightReport}
 use Rattle.report_runs.proofs.Right.{right_are_of_runs}
 use Rattle.report_check.specs.declared.fault.Fault.{Fault}
 use Rattle.emu_top.specs.Session.{IsSession, Holds, Takes, Refuses, ReadsTo}
-use Rattle.emu_top.specs.Checking.{Asks, IsAnswer, Judges, Declines, SettlesAnswer, asked, answer_text, lines_asked}
+use Rattle.emu_top.specs.Checking.{Asks, IsAnswer, Judges, Declines, SettlesAnswer, asked, answer_text, script_asked}
 use Rattle.emu_top.specs.Inside.Asking.{Begins, IsCutOff, IsWholeOf, wrong_as}
 use Rattle.emu_top.specs.Serves.{Answers, Checks, Tells, WritesFront, WritesWhole, outside}
 use Rattle.emu_top.specs.declared.stream.Stream.{Stream}
@@ -31,17 +30,17 @@ use Rattle.emu_top.proofs.Rows.{head_rows}
 
 -- ------ a report and a session
 
-session_of : (first taken : List ℕ) (size : PacketSize) (lines : List Line) (puller : Pulling) (h : Holds first size lines puller) → IsSession (first ++ taken) lines (h.ahead ++ taken)
-session_of first taken size lines puller h = record {
-  script = ap (λ p. grammar p.script) (h.splits taken) ∙ h.script;
+session_of : (first taken : List ℕ) (size : PacketSize) (script : Scripted) (puller : Pulling) (h : Holds first size script puller) → IsSession (first ++ taken) script (h.ahead ++ taken)
+session_of first taken size script puller h = record {
+  says = ap (λ p. grammar p.script) (h.splits taken) ∙ h.says;
   behind = ap (λ p. p.stream) (h.splits taken);
 }
 
-asks : (report first taken : List ℕ) (x y : SourceEnd) (size : PacketSize) (lines : List Line) (puller : Pulling) (b : Begins report x y) (h : Holds first size lines puller) → Asks (b.bytes ++ (first ++ taken)) report lines (h.ahead ++ taken)
-asks report first taken x y size lines puller b h = record {
+asks : (report first taken : List ℕ) (x y : SourceEnd) (size : PacketSize) (script : Scripted) (puller : Pulling) (b : Begins report x y) (h : Holds first size script puller) → Asks (b.bytes ++ (first ++ taken)) report script (h.ahead ++ taken)
+asks report first taken x y size script puller b h = record {
   session = first ++ taken;
   parts = b.parts (first ++ taken);
-  whole = session_of first taken size lines puller h;
+  whole = session_of first taken size script puller h;
 }
 
 taken_all : (report first taken : List ℕ) (x y z w : SourceEnd) (b : Begins report x y) → Takes y z first → Consumes z.left w.left taken → Consumes x.left w.left (b.bytes ++ (first ++ taken))
@@ -53,7 +52,7 @@ pub declined_by_session : (report : List ℕ) (x y z : SourceEnd) (status : Stat
 declined_by_session report x y z Usage b r few = absurd r
 declined_by_session report x y z (Script line kind) b r few =
     let fault : ScriptFault = record { line = line; kind = kind } in
-    (r.0 ∙ b.steady, of_input x.left y.left b.bytes fault b.taken (λ rest is. ap lines_asked (b.parts rest) ∙ subst (λ c. IfSome c (λ input. grammar (split input).script ≡ Err fault)) is r.1))
+    (r.0 ∙ b.steady, of_input x.left y.left b.bytes fault b.taken (λ rest is. ap script_asked (b.parts rest) ∙ subst (λ c. IfSome c (λ input. grammar (split input).script ≡ Err fault)) is r.1))
 declined_by_session report x y z (TooLong turns) b r few = absurd (few turns refl)
 declined_by_session report x y z ReadFault b f few = record {
   bytes = b.bytes ++ f.bytes;
@@ -66,38 +65,38 @@ declined_by_session report x y z NoMemory b r few = tt
 declined_by_session report x y z Done b r few = absurd r
 declined_by_session report x y z (Wrong fault) b r few = absurd r
 
-pub declined_by_stream : (report first : List ℕ) (x y z w : SourceEnd) (size : PacketSize) (lines : List Line) (puller : Pulling) (status : Status)
-    → Begins report x y → Takes y z first → Holds first size lines puller → IsCutOff z w puller status → Declines x w status
-declined_by_stream report first x y z w size lines puller Usage b t h c = absurd c
-declined_by_stream report first x y z w size lines puller (Script line kind) b t h c = absurd c
-declined_by_stream report first x y z w size lines puller (TooLong turns) b t h (most, of) =
+pub declined_by_stream : (report first : List ℕ) (x y z w : SourceEnd) (size : PacketSize) (script : Scripted) (puller : Pulling) (status : Status)
+    → Begins report x y → Takes y z first → Holds first size script puller → IsCutOff z w puller status → Declines x w status
+declined_by_stream report first x y z w size script puller Usage b t h c = absurd c
+declined_by_stream report first x y z w size script puller (Script line kind) b t h c = absurd c
+declined_by_stream report first x y z w size script puller (TooLong turns) b t h (most, of) =
     let taken = of.0 in
     let few = of.2 h.ahead h.pulls in
     record {
       bytes = b.bytes ++ (first ++ taken);
       report = report;
-      lines = lines;
+      script = script;
       stream = h.ahead ++ taken;
       taken = taken_all report first taken x y z w b t of.1;
-      asks = asks report first taken x y size lines puller b h;
+      asks = asks report first taken x y size script puller b h;
       most = most;
       reads = omega (arith, few, h.reads, length-append b.bytes (first ++ taken), length-append first taken);
     }
-declined_by_stream report first x y z w size lines puller ReadFault b t h ((taken, con), rose) = record {
+declined_by_stream report first x y z w size script puller ReadFault b t h ((taken, con), rose) = record {
   bytes = b.bytes ++ (first ++ taken);
   taken = taken_all report first taken x y z w b t con;
   ends = inr (inr (record {
     report = report;
     session = first ++ taken;
     parts = b.parts (first ++ taken);
-    script = inr (lines, (h.ahead ++ taken, session_of first taken size lines puller h));
+    script = inr (script, (h.ahead ++ taken, session_of first taken size script puller h));
   }));
   rose = subst (λ n. Rose n w.faults) (t.steady ∙ b.steady) rose;
 }
-declined_by_stream report first x y z w size lines puller WriteFault b t h c = absurd c
-declined_by_stream report first x y z w size lines puller NoMemory b t h c = tt
-declined_by_stream report first x y z w size lines puller Done b t h c = absurd c
-declined_by_stream report first x y z w size lines puller (Wrong fault) b t h c = absurd c
+declined_by_stream report first x y z w size script puller WriteFault b t h c = absurd c
+declined_by_stream report first x y z w size script puller NoMemory b t h c = tt
+declined_by_stream report first x y z w size script puller Done b t h c = absurd c
+declined_by_stream report first x y z w size script puller (Wrong fault) b t h c = absurd c
 
 -- a status that is handed on
 pub handed_on : {T : Type 0} (r : Result T Status) (status : Status) (P : Status → Type 0) → IsErrAnd r (λ e. e ≡ status) → P status → IfErr r P
@@ -117,43 +116,43 @@ module _ (size : PacketSize) (bytes : List ℕ) (stream : Stream) (whole : IsWho
   pub packets_are : All IsPacket stream.packets.items
   packets_are = subst (All IsPacket) (sym whole.packets) (are_packets size bytes)
 
-  told_right : (lines : List Line) (report : List ℕ) → IsRightReport lines stream.packets.items (told_head stream.head) report → IsRightReport lines (cut size bytes).packets (head_of size bytes false) report
-  told_right lines report r = subst (λ h. IsRightReport lines (cut size bytes).packets h report) whole.head (subst (λ packets. IsRightReport lines packets (told_head stream.head) report) whole.packets r)
+  told_right : (script : Scripted) (report : List ℕ) → IsRightReport script stream.packets.items (told_head stream.head) report → IsRightReport script (cut size bytes).packets (head_of size bytes false) report
+  told_right script report r = subst (λ h. IsRightReport script (cut size bytes).packets h report) whole.head (subst (λ packets. IsRightReport script packets (told_head stream.head) report) whole.packets r)
 
-  right_told : (lines : List Line) (report : List ℕ) → IsRightReport lines (cut size bytes).packets (head_of size bytes false) report → IsRightReport lines stream.packets.items (told_head stream.head) report
-  right_told lines report r = subst (λ h. IsRightReport lines stream.packets.items h report) (sym whole.head) (subst (λ packets. IsRightReport lines packets (head_of size bytes false) report) (sym whole.packets) r)
+  right_told : (script : Scripted) (report : List ℕ) → IsRightReport script (cut size bytes).packets (head_of size bytes false) report → IsRightReport script stream.packets.items (told_head stream.head) report
+  right_told script report r = subst (λ h. IsRightReport script stream.packets.items h report) (sym whole.head) (subst (λ packets. IsRightReport script packets (head_of size bytes false) report) (sym whole.packets) r)
 
-  right_or_not : (lines : List Line) (report : List ℕ) (right : Bool) → (right ≡ true → IsRightReport lines stream.packets.items (told_head stream.head) report)
-      → (right ≡ false → IsRightReport lines stream.packets.items (told_head stream.head) report → ⊥) → IsAnswer right size report lines bytes
-  right_or_not lines report true right wrong =
-      (right_are_of_runs lines (cut size bytes).packets (head_of size bytes false) report (head_rows size bytes false) count_of).1 (told_right lines report (right refl))
-  right_or_not lines report false right wrong =
-      λ of. wrong refl (right_told lines report ((right_are_of_runs lines (cut size bytes).packets (head_of size bytes false) report (head_rows size bytes false) count_of).0 of))
+  right_or_not : (script : Scripted) (report : List ℕ) (right : Bool) → (right ≡ true → IsRightReport script stream.packets.items (told_head stream.head) report)
+      → (right ≡ false → IsRightReport script stream.packets.items (told_head stream.head) report → ⊥) → IsAnswer right size report script bytes
+  right_or_not script report true right wrong =
+      (right_are_of_runs script (cut size bytes).packets (head_of size bytes false) report (head_rows size bytes false) count_of).1 (told_right script report (right refl))
+  right_or_not script report false right wrong =
+      λ of. wrong refl (right_told script report ((right_are_of_runs script (cut size bytes).packets (head_of size bytes false) report (head_rows size bytes false) count_of).0 of))
 
-pub judged_by : (report first : List ℕ) (x y z w : SourceEnd) (size : PacketSize) (lines : List Line) (puller : Pulling) (stream : Stream) (right : Bool)
-    → Begins report x y → Takes y z first → Holds first size lines puller → OfStream z w puller (λ ahead taken. IsWholeOf puller.cutting.size (ahead ++ taken) stream) → ReadsTo false z w
-    → (right ≡ true → IsRightReport lines stream.packets.items (told_head stream.head) report)
-    → (right ≡ false → IsRightReport lines stream.packets.items (told_head stream.head) report → ⊥) → Judges right size x w
-judged_by report first x y z w size lines puller stream right b t h of reads told untold =
+pub judged_by : (report first : List ℕ) (x y z w : SourceEnd) (size : PacketSize) (script : Scripted) (puller : Pulling) (stream : Stream) (right : Bool)
+    → Begins report x y → Takes y z first → Holds first size script puller → OfStream z w puller (λ ahead taken. IsWholeOf puller.cutting.size (ahead ++ taken) stream) → ReadsTo false z w
+    → (right ≡ true → IsRightReport script stream.packets.items (told_head stream.head) report)
+    → (right ≡ false → IsRightReport script stream.packets.items (told_head stream.head) report → ⊥) → Judges right size x w
+judged_by report first x y z w size script puller stream right b t h of reads told untold =
     let taken = of.0 in
     let whole : IsWholeOf size (h.ahead ++ taken) stream = subst (λ s. IsWholeOf s (h.ahead ++ taken) stream) h.takes_up (of.2 h.ahead h.pulls) in
     record {
       bytes = b.bytes ++ (first ++ taken);
       report = report;
-      lines = lines;
+      script = script;
       stream = h.ahead ++ taken;
       taken = taken_all report first taken x y z w b t of.1;
       reads = (reads.0 ∙ (t.steady ∙ b.steady), reads.1);
-      asks = asks report first taken x y size lines puller b h;
-      answer = right_or_not size (h.ahead ++ taken) stream whole lines report right told untold;
+      asks = asks report first taken x y size script puller b h;
+      answer = right_or_not size (h.ahead ++ taken) stream whole script report right told untold;
     }
 
-pub judged : (report first : List ℕ) (x y z w : SourceEnd) (size : PacketSize) (lines : List Line) (puller : Pulling) (stream : Stream) (fault : Option Fault)
-    → Begins report x y → Takes y z first → Holds first size lines puller → OfStream z w puller (λ ahead taken. IsWholeOf puller.cutting.size (ahead ++ taken) stream) → ReadsTo false z w
-    → MatchOption fault (IsRightReport lines stream.packets.items (told_head stream.head) report) (λ _. IsRightReport lines stream.packets.items (told_head stream.head) report → ⊥)
+pub judged : (report first : List ℕ) (x y z w : SourceEnd) (size : PacketSize) (script : Scripted) (puller : Pulling) (stream : Stream) (fault : Option Fault)
+    → Begins report x y → Takes y z first → Holds first size script puller → OfStream z w puller (λ ahead taken. IsWholeOf puller.cutting.size (ahead ++ taken) stream) → ReadsTo false z w
+    → MatchOption fault (IsRightReport script stream.packets.items (told_head stream.head) report) (λ _. IsRightReport script stream.packets.items (told_head stream.head) report → ⊥)
     → MatchOption fault (Judges true size x w) (λ _. Judges false size x w)
-judged report first x y z w size lines puller stream None b t h of reads is = judged_by report first x y z w size lines puller stream true b t h of reads (λ e. is) (λ e. absurd (cc))
-judged report first x y z w size lines puller stream (Some fault) b t h of reads is = judged_by report first x y z w size lines puller stream false b t h of reads (λ e. absurd (cc)) (λ e. is)
+judged report first x y z w size script puller stream None b t h of reads is = judged_by report first x y z w size script puller stream true b t h of reads (λ e. is) (λ e. absurd (cc))
+judged report first x y z w size script puller stream (Some fault) b t h of reads is = judged_by report first x y z w size script puller stream false b t h of reads (λ e. absurd (cc)) (λ e. is)
 
 -- ------ what is written
 
@@ -200,40 +199,40 @@ answers_no size s x y w v text fault (Wrong other) is judged says = absurd says
 
 -- ------ what the input determines
 
-lines_of : (bytes rest report : List ℕ) (lines : List Line) (stream : List ℕ) → Asks bytes report lines stream → lines_asked (asked (bytes ++ rest)) ≡ Ok lines
-lines_of bytes rest report lines stream a =
-    ap lines_asked (asked_more bytes rest (record { report = report; session = a.session }) a.parts)
-    ∙ (ap grammar (split_more a.session rest stream a.whole.behind).0 ∙ a.whole.script)
+says_of : (bytes rest report : List ℕ) (script : Scripted) (stream : List ℕ) → Asks bytes report script stream → script_asked (asked (bytes ++ rest)) ≡ Ok script
+says_of bytes rest report script stream a =
+    ap script_asked (asked_more bytes rest (record { report = report; session = a.session }) a.parts)
+    ∙ (ap grammar (split_more a.session rest stream a.whole.behind).0 ∙ a.whole.says)
 
-lines_in : (input : List ℕ) (x y : SourceEnd) (bytes report : List ℕ) (lines : List Line) (stream : List ℕ) → x.left ≡ Some input → Consumes x.left y.left bytes → Asks bytes report lines stream
-    → (lines_asked (asked input) ≡ Ok lines) × (length bytes ≤ length input)
-lines_in input x y bytes report lines stream has con a =
+says_in : (input : List ℕ) (x y : SourceEnd) (bytes report : List ℕ) (script : Scripted) (stream : List ℕ) → x.left ≡ Some input → Consumes x.left y.left bytes → Asks bytes report script stream
+    → (script_asked (asked input) ≡ Ok script) × (length bytes ≤ length input)
+says_in input x y bytes report script stream has con a =
     let t = by_taken input y.left bytes (subst (λ c. Consumes c y.left bytes) has con) in
-    (ap (λ xs. lines_asked (asked xs)) t.1 ∙ lines_of bytes t.0 report lines stream a, omega (arith, ap length t.1, length-append bytes t.0))
+    (ap (λ xs. script_asked (asked xs)) t.1 ∙ says_of bytes t.0 report script stream a, omega (arith, ap length t.1, length-append bytes t.0))
 
 determined : (size : PacketSize) (input : List ℕ) (x y : SourceEnd) (w v : SinkEnd) (status : Status) → x.left ≡ Some input → x.faults < 2 ^ 64 - 1 → w.faults < 2 ^ 64 - 1
-    → y.faults ≡ x.faults → v.faults ≡ w.faults → Answers size (outside x w) (outside y v) status → (status ≡ NoMemory) ⊎ SettlesAnswer (lines_asked (asked input)) input status
+    → y.faults ≡ x.faults → v.faults ≡ w.faults → Answers size (outside x w) (outside y v) status → (status ≡ NoMemory) ⊎ SettlesAnswer (script_asked (asked input)) input status
 determined size input x y w v Usage has fr fw nr nw says = absurd says.0
 determined size input x y w v (Script line kind) has fr fw nr nw says =
-    let fault : lines_asked (asked input) ≡ Err (record { line = line; kind = kind }) = subst (λ c. IfSome c (λ whole. lines_asked (asked whole) ≡ Err (record { line = line; kind = kind }))) has says.0.1 in
+    let fault : script_asked (asked input) ≡ Err (record { line = line; kind = kind }) = subst (λ c. IfSome c (λ whole. script_asked (asked whole) ≡ Err (record { line = line; kind = kind }))) has says.0.1 in
     inr (rw fault refl)
 determined size input x y w v (TooLong turns) has fr fw nr nw says =
     let g = says.0 in
-    let ok = lines_in input x y g.bytes g.report g.lines g.stream has g.taken g.asks in
+    let ok = says_in input x y g.bytes g.report g.script g.stream has g.taken g.asks in
     inr (rw ok.0 (λ short. absurd (omega (arith, g.most, g.reads, ok.1))))
 determined size input x y w v ReadFault has fr fw nr nw says = absurd (steady x.faults fr (subst (λ n. Rose x.faults n) nr says.0.rose))
 determined size input x y w v WriteFault has fr fw nr nw says = absurd (steady w.faults fw (subst (λ n. Rose w.faults n) nw says.front.rose))
 determined size input x y w v NoMemory has fr fw nr nw says = inl refl
 determined size input x y w v Done has fr fw nr nw says =
     let m = says.judged in
-    inr (rw (lines_in input x y m.bytes m.report m.lines m.stream has m.taken m.asks).0 (λ short. tt))
+    inr (rw (says_in input x y m.bytes m.report m.script m.stream has m.taken m.asks).0 (λ short. tt))
 determined size input x y w v (Wrong fault) has fr fw nr nw says =
     let m = says.judged in
-    inr (rw (lines_in input x y m.bytes m.report m.lines m.stream has m.taken m.asks).0 (λ short. tt))
+    inr (rw (says_in input x y m.bytes m.report m.script m.stream has m.taken m.asks).0 (λ short. tt))
 
 settled_by : (size : PacketSize) (content : Option (List ℕ)) (x y : SourceEnd) (w v : SinkEnd) (status : Status) → x.left ≡ content → x.faults < 2 ^ 64 - 1 → w.faults < 2 ^ 64 - 1
     → y.faults ≡ x.faults → v.faults ≡ w.faults → Answers size (outside x w) (outside y v) status
-    → IfSome content (λ input. (status ≡ NoMemory) ⊎ SettlesAnswer (lines_asked (asked input)) input status)
+    → IfSome content (λ input. (status ≡ NoMemory) ⊎ SettlesAnswer (script_asked (asked input)) input status)
 settled_by size None x y w v status has fr fw nr nw says = tt
 settled_by size (Some input) x y w v status has fr fw nr nw says = determined size input x y w v status has fr fw nr nw says
 

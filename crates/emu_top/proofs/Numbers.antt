@@ -1,7 +1,7 @@
 -- The session of a number: its script has no fault, and it is short.
 use Rattle.std.proofs.Common.{◌≡◌, ◌<◌, ◌+◌, ◌*◌, ◌%◌, refl, sym, ap, subst, ◌∙◌, ℕ, suc, zero, Bool, true, false, List, [], ◌∷◌, ◌++◌, length, take, drop, append-nil, arith, length-append}
 use Rattle.std.proofs.lemmas.List.{take_all, length-replicate}
-use Rattle.std.specs.Prelude.{Option, Some, None, Result, Ok, Err, is_ok, replicate}
+use Rattle.std.specs.Prelude.{Option, Some, None, Ok, Err, is_ok, replicate}
 use Rattle.std.specs.Io.KnownBytes.{Consumes, IsAtEnd}
 use Rattle.std.specs.Int.{w16, w32, w64, to_be_bytes}
 use Rattle.emu_io.specs.Ends.{SourceEnd}
@@ -17,9 +17,7 @@ use Rattle.text_forms.specs.Places.{place_with, place_named}
 use Rattle.client_script.specs.Words.{word_in}
 use Rattle.client_script.specs.Places.{places_in, filter_in}
 use Rattle.client_script.specs.Grammar.{number_in, numbered_target, target_of, name_of, section_in, pes_in, verb_in, command_in, line_in, line_of, meaning}
-use Rattle.client_script.specs.declared.line.Line.{Line}
-use Rattle.client_script.specs.declared.fault.ScriptFault.{ScriptFault}
-use Rattle.client_script.specs.Script.{split, grammar, script_len, whole_lines, lines_from}
+use Rattle.client_script.specs.Script.{split, grammar, script_len, whole_lines, lines_from, Parsed, Scripted}
 use Rattle.client_script.proofs.Splitting.{split-found}
 use Rattle.report_text.specs.Summary.{summary_of}
 use Rattle.serial_core.specs.declared.run.Left.{Left}
@@ -41,22 +39,22 @@ script_end : script_len (whole_lines script) ≡ Some 656
 unfolding script
 script_end = refl
 
-lines_if : (p : Result (List Line) ScriptFault) → is_ok p ≡ true → (lines : List Line) × (p ≡ Ok lines)
-lines_if (Ok lines) e = (lines, refl)
-lines_if (Err fault) e = absurd (cc)
+says_if : (p : Parsed) → is_ok p ≡ true → (says : Scripted) × (p ≡ Ok says)
+says_if (Ok says) e = (says, refl)
+says_if (Err fault) e = absurd (cc)
 
-has_lines : is_ok (grammar script) ≡ true
+has_script : is_ok (grammar script) ≡ true
 unfolding script value_after hex_digit hex_byte word_in place_with place_named places_in with_place filter_in number_in input_named output_named numbered numbered_target target_of name_of section_in pes_in verb_in command_in line_in line_of meaning lines_from grammar
-has_lines = refl
+has_script = refl
 
 parts : (number : ℕ) → split (made number) ≡ record { script = take 656 script; stream = Some (drop 656 script ++ packets number 65536) }
 unfolding made
 parts number = split-found script (packets number 65536) 656 (omega (arith, script_length)) script_end
 
-lines_of : (number : ℕ) → (lines : List Line) × (grammar (split (made number)).script ≡ Ok lines)
-lines_of number =
-    let lines = lines_if (grammar script) has_lines in
-    (lines.0, ap (λ p. grammar p.script) (parts number) ∙ (ap grammar (take_all 656 script (omega (arith, script_length))) ∙ lines.1))
+says_of : (number : ℕ) → (says : Scripted) × (grammar (split (made number)).script ≡ Ok says)
+says_of number =
+    let says = says_if (grammar script) has_script in
+    (says.0, ap (λ p. grammar p.script) (parts number) ∙ (ap grammar (take_all 656 script (omega (arith, script_length))) ∙ says.1))
 
 -- ------ how long it is
 
@@ -111,11 +109,11 @@ unfailed left = record { left = left; faults = 0 }
 -- nothing but want of memory is told in place of its run
 pub refused : (number : ℕ) (left : Option (List ℕ)) (status : Status) → Refuses (unfailed (Some (made number))) (unfailed left) status → status ≡ NoMemory
 refused number left Usage r = absurd r
-refused number left (Script line kind) r = absurd (let e : Ok (lines_of number).0 ≡ Err (record { line = line; kind = kind }) = sym (lines_of number).1 ∙ r.1 in cc)
+refused number left (Script line kind) r = absurd (let e : Ok (says_of number).0 ≡ Err (record { line = line; kind = kind }) = sym (says_of number).1 ∙ r.1 in cc)
 refused number left (TooLong turns) g =
     let t = by_taken (made number) left g.bytes g.taken in
     let fits = (split_more g.bytes t.0 g.stream g.session.behind).1 in
-    absurd (not_too_long (made number) g.bytes t.0 g.stream g.lines turns t.1 (short number) fits g.known g.cause)
+    absurd (not_too_long (made number) g.bytes t.0 g.stream g.script turns t.1 (short number) fits g.known g.cause)
 refused number left ReadFault r = absurd (steady 0 (omega arith) r.rose)
 refused number left WriteFault r = absurd r
 refused number left NoMemory r = refl
@@ -133,10 +131,10 @@ summed_by number batch left ran text false is r e =
     let reads : ReadsTo false (unfailed (Some (made number))) (unfailed left) = subst (λ b. ReadsTo b (unfailed (Some (made number))) (unfailed left)) is r.reads in
     let whole : made number ≡ r.bytes = read_whole (made number) left r.bytes r.taken reads.1 in
     record {
-      lines = r.lines;
+      script = r.script;
       stream = r.stream;
       run = r.run;
-      session = subst (λ bytes. IsSession bytes r.lines r.stream) (sym whole) r.session;
+      session = subst (λ bytes. IsSession bytes r.script r.stream) (sym whole) r.session;
       ran = r.ran;
       sums = e ∙ (ap (λ h. summary_of h ran.histories) (r.head ∙ ap (head_of Of188 r.stream) is) ∙ ap (summary_of (head_of Of188 r.stream false)) r.histories);
     }

@@ -8,9 +8,8 @@ use Rattle.emu_io.specs.Causes.{raised, Rose}
 use Rattle.emu_io.specs.Ends.{SourceEnd}
 use Rattle.ts_packet.specs.Cut.{cut}
 use Rattle.ts_packet.specs.declared.size.PacketSize.{PacketSize}
-use Rattle.client_script.specs.declared.line.Line.{Line}
 use Rattle.client_script.specs.declared.fault.ScriptFault.{ScriptFault}
-use Rattle.client_script.specs.Script.{split, grammar, most_bytes, script_len, whole_lines}
+use Rattle.client_script.specs.Script.{split, grammar, most_bytes, script_len, whole_lines, Scripted}
 use Rattle.client_script.proofs.Parting.{front_of}
 use Rattle.client_script.proofs.Splitting.{split-found, split-missing}
 use Rattle.client_core.specs.declared.stop.Stop.{Stop}
@@ -44,30 +43,30 @@ reads_from : (b : Bool) (x y z : SourceEnd) → y.faults ≡ x.faults → ReadsT
 reads_from true x y z e r = subst (λ n. Rose n z.faults) e r
 reads_from false x y z e r = (r.0 ∙ e, r.1)
 
-session_of : (bytes part stream : List ℕ) (lines : List Line) → split bytes ≡ record { script = part; stream = Some stream } → grammar part ≡ Ok lines → IsSession bytes lines stream
-session_of bytes part stream lines s script = record { script = ap (λ p. grammar p.script) s ∙ script; behind = ap (λ p. p.stream) s }
+session_of : (bytes part stream : List ℕ) (script : Scripted) → split bytes ≡ record { script = part; stream = Some stream } → grammar part ≡ Ok script → IsSession bytes script stream
+session_of bytes part stream script s says = record { says = ap (λ p. grammar p.script) s ∙ says; behind = ap (λ p. p.stream) s }
 
 -- what the run of a session left
-pub run_of : (batch : ℕ) (size : PacketSize) (lines : List Line) (puller : Pulling) (x y z : SourceEnd) (first : List ℕ) (ran : Left)
-    → 1 ≤ batch → Takes x y first → Holds first size lines puller
-    → OfStream y z puller (λ ahead taken. IsLeftBy lines batch puller.cutting.size (ahead ++ taken) ran)
+pub run_of : (batch : ℕ) (size : PacketSize) (script : Scripted) (puller : Pulling) (x y z : SourceEnd) (first : List ℕ) (ran : Left)
+    → 1 ≤ batch → Takes x y first → Holds first size script puller
+    → OfStream y z puller (λ ahead taken. IsLeftBy script batch puller.cutting.size (ahead ++ taken) ran)
     → (IsTrue ran.head.read_fault ↔ (y.faults < z.faults)) → y.faults ≤ z.faults → (ran.head.read_fault ≡ false → IsAtEnd z.left)
     → Runs batch size x z ran
-run_of batch size lines puller x y z first ran one takes h of rose later end =
+run_of batch size script puller x y z first ran one takes h of rose later end =
     let taken = of.0 in
-    let r : IsLeftBy lines batch size (h.ahead ++ taken) ran = subst (λ s. IsLeftBy lines batch s (h.ahead ++ taken) ran) h.takes_up (of.2 h.ahead h.pulls) in
+    let r : IsLeftBy script batch size (h.ahead ++ taken) ran = subst (λ s. IsLeftBy script batch s (h.ahead ++ taken) ran) h.takes_up (of.2 h.ahead h.pulls) in
     let s = h.splits taken in
     record {
       bytes = first ++ taken;
-      lines = lines;
+      script = script;
       stream = h.ahead ++ taken;
       run = r.run;
       taken = Consumes-trans _ _ _ _ _ takes.taken of.1;
       reads = reads_from ran.head.read_fault x y z takes.steady (reads_to ran.head.read_fault y z rose later end);
-      session = session_of (first ++ taken) h.part (h.ahead ++ taken) lines s h.script;
+      session = session_of (first ++ taken) h.part (h.ahead ++ taken) script s h.says;
       ran = record {
         serial = r.serial;
-        whole = are_runs lines batch (cut size (h.ahead ++ taken)).packets r.run h.known.ranges one r.serial;
+        whole = are_runs script batch (cut size (h.ahead ++ taken)).packets r.run h.known.ranges one r.serial;
       };
       histories = r.histories;
       outcomes = r.outcomes;
@@ -78,7 +77,7 @@ run_of batch size lines puller x y z first ran one takes h of rose later end =
 pub reported : (batch : ℕ) (size : PacketSize) (x y : SourceEnd) (ran : Left) → Runs batch size x y ran → Makes (IsSerialOutput batch size) x y ran.head.read_fault (report_over ran)
 reported batch size x y ran r = record {
   bytes = r.bytes;
-  lines = r.lines;
+  script = r.script;
   stream = r.stream;
   taken = r.taken;
   reads = r.reads;
@@ -91,43 +90,43 @@ reported batch size x y ran r = record {
 }
 
 -- of whatever kind it is, the output for the bytes of a script and of the stream behind it
-pub made_of : (out : Output) (size : PacketSize) (lines : List Line) (puller : Pulling) (x y z : SourceEnd) (first : List ℕ) (failed : Bool) (text : List ℕ)
-    → Takes x y first → Holds first size lines puller → OfStream y z puller (λ ahead taken. out lines (ahead ++ taken) failed text)
+pub made_of : (out : Output) (size : PacketSize) (script : Scripted) (puller : Pulling) (x y z : SourceEnd) (first : List ℕ) (failed : Bool) (text : List ℕ)
+    → Takes x y first → Holds first size script puller → OfStream y z puller (λ ahead taken. out script (ahead ++ taken) failed text)
     → (IsTrue failed ↔ (y.faults < z.faults)) → y.faults ≤ z.faults → (failed ≡ false → IsAtEnd z.left) → Makes out x z failed text
-made_of out size lines puller x y z first failed text takes h of rose later end =
+made_of out size script puller x y z first failed text takes h of rose later end =
     let taken = of.0 in
     record {
       bytes = first ++ taken;
-      lines = lines;
+      script = script;
       stream = h.ahead ++ taken;
       taken = Consumes-trans _ _ _ _ _ takes.taken of.1;
       reads = reads_from failed x y z takes.steady (reads_to failed y z rose later end);
-      session = session_of (first ++ taken) h.part (h.ahead ++ taken) lines (h.splits taken) h.script;
+      session = session_of (first ++ taken) h.part (h.ahead ++ taken) script (h.splits taken) h.says;
       output = of.2 h.ahead h.pulls;
     }
 
 -- ------ a run that was given up
 
-cause_of : (lines : List Line) (start turns : ℕ) (ahead taken first : List ℕ) → start ≤ length first → IsTooLong lines start turns ahead taken
-    → ((turns ≡ 4294967296) × (turns ≤ length (first ++ taken))) ⊎ ((turns ≡ 2 ^ 39) × (turns ≤ most_calls (all_commands lines) (length (ahead ++ taken))))
-cause_of lines start turns ahead taken first reads (inl (is, le)) = inl (is, omega (arith, length-append first taken))
-cause_of lines start turns ahead taken first reads (inr (is, le)) = inr (is, rw (length-append ahead taken, is) le)
+cause_of : (script : Scripted) (start turns : ℕ) (ahead taken first : List ℕ) → start ≤ length first → IsTooLong script start turns ahead taken
+    → ((turns ≡ 4294967296) × (turns ≤ length (first ++ taken))) ⊎ ((turns ≡ 2 ^ 39) × (turns ≤ most_calls (all_commands script.lines) (length (ahead ++ taken))))
+cause_of script start turns ahead taken first reads (inl (is, le)) = inl (is, omega (arith, length-append first taken))
+cause_of script start turns ahead taken first reads (inr (is, le)) = inr (is, rw (length-append ahead taken, is) le)
 
-pub given_up : (size : PacketSize) (lines : List Line) (puller : Pulling) (x y z : SourceEnd) (first : List ℕ) (stop : Stop)
-    → ((turns : ℕ) → stop ≡ RunTooLong turns → OfStream y z puller (IsTooLong lines puller.start turns))
-    → Takes x y first → Holds first size lines puller → Refuses x z (status_of_stop stop)
-given_up size lines puller x y z first NoMemoryToRun each takes h = tt
-given_up size lines puller x y z first (RunTooLong turns) each takes h =
+pub given_up : (size : PacketSize) (script : Scripted) (puller : Pulling) (x y z : SourceEnd) (first : List ℕ) (stop : Stop)
+    → ((turns : ℕ) → stop ≡ RunTooLong turns → OfStream y z puller (IsTooLong script puller.start turns))
+    → Takes x y first → Holds first size script puller → Refuses x z (status_of_stop stop)
+given_up size script puller x y z first NoMemoryToRun each takes h = tt
+given_up size script puller x y z first (RunTooLong turns) each takes h =
     let of = each turns refl in
     let taken = of.0 in
     record {
       bytes = first ++ taken;
-      lines = lines;
+      script = script;
       stream = h.ahead ++ taken;
       taken = Consumes-trans _ _ _ _ _ takes.taken of.1;
-      session = session_of (first ++ taken) h.part (h.ahead ++ taken) lines (h.splits taken) h.script;
+      session = session_of (first ++ taken) h.part (h.ahead ++ taken) script (h.splits taken) h.says;
       known = h.known;
-      cause = cause_of lines puller.start turns h.ahead taken first h.reads (of.2 h.ahead h.pulls);
+      cause = cause_of script puller.start turns h.ahead taken first h.reads (of.2 h.ahead h.pulls);
     }
 
 -- ------ a script part that isn't read

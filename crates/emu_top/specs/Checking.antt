@@ -8,11 +8,10 @@ use Rattle.ts_packet.specs.declared.size.PacketSize.{PacketSize}
 use Rattle.ts_watch.specs.Head.{head_of}
 use Rattle.text_forms.specs.Words.{is_word}
 use Rattle.text_forms.specs.Numbers.{number_between}
-use Rattle.client_script.specs.declared.line.Line.{Line}
 use Rattle.client_script.specs.declared.fault.FaultKind.{FaultKind}
 use Rattle.client_script.specs.declared.fault.FaultKind.TheVariants.{Number, NoStream}
 use Rattle.client_script.specs.declared.fault.ScriptFault.{ScriptFault}
-use Rattle.client_script.specs.Script.{split, grammar, whole_lines, Parsed}
+use Rattle.client_script.specs.Script.{split, grammar, whole_lines, Parsed, Scripted}
 use Rattle.report_runs.specs.Right.{IsReportOfRun}
 use Rattle.emu_top.specs.Session.{IsSession, ReadsTo}
 use Rattle.emu_top.specs.declared.status.Status.{Status}
@@ -50,24 +49,24 @@ asked_behind input (line ∷ lines) = asked_in (drop (length line + 1) input) (s
 unfoldable pub asked : (input : List ℕ) → Result Asked ScriptFault
 asked input = asked_behind input (whole_lines (take 40 input))
 
--- the lines of the session's script; or the first fault of the input, in front of the session or in its script
-abbrev pub lines_asked : Result Asked ScriptFault → Parsed
-lines_asked (Err fault) = Err fault
-lines_asked (Ok asked) = grammar (split asked.session).script
+-- what the session's script says; or the first fault of the input, in front of the session or in its script
+abbrev pub script_asked : Result Asked ScriptFault → Parsed
+script_asked (Err fault) = Err fault
+script_asked (Ok asked) = grammar (split asked.session).script
 
--- these bytes are a report behind its first line, and behind it a session that has a whole script without a fault, with these
--- lines, and this stream
-pub record Asks (bytes report : List ℕ) (lines : List Line) (stream : List ℕ) : Type 0 where
+-- these bytes are a report behind its first line, and behind it a session that has a whole script without a fault, which says
+-- this, and this stream
+pub record Asks (bytes report : List ℕ) (script : Scripted) (stream : List ℕ) : Type 0 where
   pub session : List ℕ
   pub parts : asked bytes ≡ Ok (record { report = report; session = session })
-  pub whole : IsSession session lines stream
+  pub whole : IsSession session script stream
 
 -- ------ what is answered
 
--- whether the report is that of a run of the lines over the packets of the stream, all of which was read
-abbrev pub IsAnswer : (right : Bool) → PacketSize → (report : List ℕ) → (lines : List Line) → (stream : List ℕ) → Type 0
-IsAnswer true size report lines stream = IsReportOfRun lines (cut size stream).packets (head_of size stream false) report
-IsAnswer false size report lines stream = IsReportOfRun lines (cut size stream).packets (head_of size stream false) report → ⊥
+-- whether the report is that of a run of the script over the packets of the stream, all of which was read
+abbrev pub IsAnswer : (right : Bool) → PacketSize → (report : List ℕ) → (script : Scripted) → (stream : List ℕ) → Type 0
+IsAnswer true size report script stream = IsReportOfRun script (cut size stream).packets (head_of size stream false) report
+IsAnswer false size report script stream = IsReportOfRun script (cut size stream).packets (head_of size stream false) report → ⊥
 
 -- the answer, as it is written
 unfoldable pub answer_text : (right : Bool) → List ℕ
@@ -82,26 +81,26 @@ answer_text false = codes "no\n"
 pub record Judges (right : Bool) (size : PacketSize) (before after : SourceEnd) : Type 0 where
   pub bytes : List ℕ
   pub report : List ℕ
-  pub lines : List Line
+  pub script : Scripted
   pub stream : List ℕ
   pub taken : Consumes before.left after.left bytes
   pub reads : ReadsTo false before after
-  pub asks : Asks bytes report lines stream
-  pub answer : IsAnswer right size report lines stream
+  pub asks : Asks bytes report script stream
+  pub answer : IsAnswer right size report script stream
 
 -- the input has this first fault
 abbrev pub HasFirstFault : ScriptFault → (before after : SourceEnd) → Type 0
 HasFirstFault fault before after =
-    (after.faults ≡ before.faults) × IfSome before.left (λ input. lines_asked (asked input) ≡ Err fault)
+    (after.faults ≡ before.faults) × IfSome before.left (λ input. script_asked (asked input) ≡ Err fault)
 
 -- so many reads were made, each of which took a byte, and the stream went on
 pub record ReadsTooOften (before after : SourceEnd) (turns : ℕ) : Type 0 where
   pub bytes : List ℕ
   pub report : List ℕ
-  pub lines : List Line
+  pub script : Scripted
   pub stream : List ℕ
   pub taken : Consumes before.left after.left bytes
-  pub asks : Asks bytes report lines stream
+  pub asks : Asks bytes report script stream
   pub most : turns ≡ 4294967296
   pub reads : turns ≤ length bytes
 
@@ -118,7 +117,7 @@ pub record EndsInSession (bytes : List ℕ) : Type 0 where
   pub report : List ℕ
   pub session : List ℕ
   pub parts : asked bytes ≡ Ok (record { report = report; session = session })
-  pub script : ((split session).stream ≡ None) ⊎ ((lines : List Line) × ((stream : List ℕ) × IsSession session lines stream))
+  pub script : ((split session).stream ≡ None) ⊎ ((says : Scripted) × ((stream : List ℕ) × IsSession session says stream))
 
 -- a read failed, where nothing had been found that settles the answer
 pub record FailsToRead (before after : SourceEnd) : Type 0 where
@@ -147,4 +146,4 @@ TellsAnswer _ = ⊥
 -- bytes an answer.
 abbrev pub SettlesAnswer : Parsed → (input : List ℕ) → Status → Type 0
 SettlesAnswer (Err fault) input status = status ≡ Script fault.line fault.kind
-SettlesAnswer (Ok lines) input status = length input < 4294967296 → TellsAnswer status
+SettlesAnswer (Ok script) input status = length input < 4294967296 → TellsAnswer status

@@ -1,18 +1,16 @@
 -- What a call of the program does: by its words, by what source and sink tell before and after, and by its status.
-use Rattle.std.specs.Prelude.{◌≡◌, ◌⊎◌, ℕ, ◌+◌, ◌<◌, ◌≤◌, Bool, true, false, List, length, take, Option, Some, None, Result, Ok, Err, IfSome}
+use Rattle.std.specs.Prelude.{◌≡◌, ◌⊎◌, ℕ, ◌+◌, ◌<◌, ◌≤◌, Bool, true, false, List, length, take, Option, Some, None, Ok, Err, IfSome}
 use Rattle.std.specs.Io.KnownBytes.{Appends, Keeps}
 use Rattle.emu_io.specs.Causes.{Rose}
 use Rattle.emu_io.specs.Ends.{SourceEnd, SinkEnd}
 use Rattle.ts_packet.specs.declared.size.PacketSize.{PacketSize}
-use Rattle.client_script.specs.declared.line.Line.{Line}
-use Rattle.client_script.specs.declared.fault.ScriptFault.{ScriptFault}
-use Rattle.client_script.specs.Script.{split, grammar}
+use Rattle.client_script.specs.Script.{split, grammar, Parsed}
 use Rattle.command_words.specs.declared.Command.{Command}
 use Rattle.command_words.specs.declared.Command.TheVariants.{Steps, Run, Make, SelfTest, Check}
 use Rattle.command_words.specs.Meant.{meant}
 use Rattle.ts_make.specs.Made.{made}
 use Rattle.emu_top.specs.Session.{Output, IsSerialOutput, IsThreadOutput, IsSums, Makes, GivesUp, HasFault, FailsEarly}
-use Rattle.emu_top.specs.Checking.{Declines, Judges, SettlesAnswer, answer_text, asked, lines_asked}
+use Rattle.emu_top.specs.Checking.{Declines, Judges, SettlesAnswer, answer_text, asked, script_asked}
 use Rattle.emu_top.specs.declared.status.Status.{Status}
 use Rattle.emu_top.specs.declared.status.Status.TheVariants.{Usage, Script, TooLong, ReadFault, WriteFault, NoMemory, Ok as Done, Wrong}
 
@@ -105,9 +103,9 @@ Says output before after (Wrong fault) = ⊥
 
 -- The answer that an input determines where no read and no write fails: its script's fault, or for less than
 -- 4,294,967,296 bytes that all is well.
-abbrev pub Determines : Result (List Line) ScriptFault → (input : List ℕ) → Status → Type 0
+abbrev pub Determines : Parsed → (input : List ℕ) → Status → Type 0
 Determines (Err fault) input status = status ≡ Script fault.line fault.kind
-Determines (Ok lines) input status = length input < 4294967296 → status ≡ Done
+Determines (Ok script) input status = length input < 4294967296 → status ≡ Done
 
 -- What the program does with a session that has this output: the status says what was read and written. Where no read
 -- and no write fails, it is the one that the input determines, or memory was refused.
@@ -160,7 +158,7 @@ Answers size before after status = Declines before.source after.source status ×
 pub record Checks (size : PacketSize) (before after : Outside) (status : Status) : Type 0 where
   pub says : Answers size before after status
   pub settled : NoReadFails before after → NoWriteFails before after
-      → IfSome before.source.left (λ input. (status ≡ NoMemory) ⊎ SettlesAnswer (lines_asked (asked input)) input status)
+      → IfSome before.source.left (λ input. (status ≡ NoMemory) ⊎ SettlesAnswer (script_asked (asked input)) input status)
 
 -- ------ the whole
 

@@ -9,11 +9,10 @@ use Rattle.ts_packet.specs.declared.size.PacketSize.TheVariants.{Of188}
 use Rattle.ts_watch.specs.Head.{told_head, head_of}
 use Rattle.dmx_calls.specs.Log.{LogEntry}
 use Rattle.dmx_calls.specs.declared.outcome.Outcome.{Outcome}
-use Rattle.client_script.specs.declared.line.Line.{Line}
 use Rattle.client_script.specs.declared.fault.ScriptFault.{ScriptFault}
 use Rattle.client_script.specs.declared.fault.ScriptError.{ScriptError}
 use Rattle.client_script.specs.declared.fault.ScriptError.TheVariants.{Fault, NoMemory as NoMemoryToRead}
-use Rattle.client_script.specs.Script.{split, grammar, IsScript}
+use Rattle.client_script.specs.Script.{split, grammar, IsScript, Scripted}
 use Rattle.client_core.specs.declared.stop.Stop.{Stop}
 use Rattle.client_core.specs.declared.stop.Stop.TheVariants.{NoMemory as NoMemoryToRun, TooLong as RunTooLong}
 use Rattle.script_run.specs.Budget.{most_calls, all_commands}
@@ -29,48 +28,48 @@ use Rattle.ts_make.specs.Made.{made}
 use Rattle.emu_top.specs.declared.status.Status.{Status}
 use Rattle.emu_top.specs.declared.status.Status.TheVariants.{Script, TooLong, ReadFault, NoMemory}
 
--- these bytes of a session have a whole script without a fault, with these lines, and this stream behind it
-pub record IsSession (bytes : List ℕ) (lines : List Line) (stream : List ℕ) : Type 0 where
-  pub script : grammar (split bytes).script ≡ Ok lines
+-- these bytes of a session have a whole script without a fault, which says this, and this stream behind it
+pub record IsSession (bytes : List ℕ) (script : Scripted) (stream : List ℕ) : Type 0 where
+  pub says : grammar (split bytes).script ≡ Ok script
   pub behind : (split bytes).stream ≡ Some stream
 
--- The serial run of the lines over the packets of the stream, each of which takes up so many bytes, in batches of this size.
+-- The serial run of the script over the packets of the stream, each of which takes up so many bytes, in batches of this size.
 -- It is a run: 33 legal histories, which every packet passes once, in which each client did just what its commands ask; and
 -- each history is accounted.
-pub record IsRunOf (batch : ℕ) (size : PacketSize) (lines : List Line) (stream : List ℕ) (run : Run) : Type 0 where
-  pub serial : IsSerialRun lines batch (cut size stream).packets run
-  pub whole : IsAccountedRun lines batch (cut size stream).packets run
+pub record IsRunOf (batch : ℕ) (size : PacketSize) (script : Scripted) (stream : List ℕ) (run : Run) : Type 0 where
+  pub serial : IsSerialRun script batch (cut size stream).packets run
+  pub whole : IsAccountedRun script batch (cut size stream).packets run
 
 -- ------ what is written
 
--- What is written for the lines of a script and the bytes of a stream. `failed`: reading failed behind the last byte.
+-- What is written for a script and the bytes of a stream. `failed`: reading failed behind the last byte.
 abbrev pub Output : Type 1
-Output = (lines : List Line) → (stream : List ℕ) → (failed : Bool) → (text : List ℕ) → Type 0
+Output = (script : Scripted) → (stream : List ℕ) → (failed : Bool) → (text : List ℕ) → Type 0
 
 -- on one thread: the report of the serial run
-pub record IsSerialOutput (batch : ℕ) (size : PacketSize) (lines : List Line) (stream : List ℕ) (failed : Bool)
+pub record IsSerialOutput (batch : ℕ) (size : PacketSize) (script : Scripted) (stream : List ℕ) (failed : Bool)
     (text : List ℕ) : Type 0 where
   pub run : Run
-  pub ran : IsRunOf batch size lines stream run
-  pub report : text ≡ report_of (head_of size stream failed) (outcomes_in lines run) (histories_in run)
+  pub ran : IsRunOf batch size script stream run
+  pub report : text ≡ report_of (head_of size stream failed) (outcomes_in script run) (histories_in run)
 
--- By threads: the report of 33 histories that are those of a run of the lines over the packets of the stream, in full
+-- By threads: the report of 33 histories that are those of a run of the script over the packets of the stream, in full
 -- batches of this size but for the last, at moments that the clock may give. Each history is accounted, and the
 -- outcomes are those of the clients' commands by the replies in the histories.
-pub record IsThreadOutput (batch : ℕ) (size : PacketSize) (may : ℕ → Bool) (lines : List Line) (stream : List ℕ)
+pub record IsThreadOutput (batch : ℕ) (size : PacketSize) (may : ℕ → Bool) (script : Scripted) (stream : List ℕ)
     (failed : Bool) (text : List ℕ) : Type 0 where
   pub histories : List (List LogEntry)
   pub outcomes : List (List Outcome)
-  pub whole : IsWholeRun lines batch may (cut size stream).packets outcomes histories
+  pub whole : IsWholeRun script batch may (cut size stream).packets outcomes histories
   pub report : text ≡ report_of (head_of size stream failed) outcomes histories
 
 -- the text is the line of sums over the run of the session of a number, whose packets take up their own 188 bytes
 pub record IsSums (number batch : ℕ) (text : List ℕ) : Type 0 where
-  pub lines : List Line
+  pub script : Scripted
   pub stream : List ℕ
   pub run : Run
-  pub session : IsSession (made number) lines stream
-  pub ran : IsRunOf batch Of188 lines stream run
+  pub session : IsSession (made number) script stream
+  pub ran : IsRunOf batch Of188 script stream run
   pub sums : text ≡ summary_of (head_of Of188 stream false) (histories_in run)
 
 -- ------ sources
@@ -90,38 +89,38 @@ ReadsTo false before after = (after.faults ≡ before.faults) × IsAtEnd after.l
 -- the bytes that were taken are those of a session, and this is what its run left
 pub record Runs (batch : ℕ) (size : PacketSize) (before after : SourceEnd) (answer : Left) : Type 0 where
   pub bytes : List ℕ
-  pub lines : List Line
+  pub script : Scripted
   pub stream : List ℕ
   pub run : Run
   pub taken : Consumes before.left after.left bytes
   pub reads : ReadsTo answer.head.read_fault before after
-  pub session : IsSession bytes lines stream
-  pub ran : IsRunOf batch size lines stream run
+  pub session : IsSession bytes script stream
+  pub ran : IsRunOf batch size script stream run
   pub histories : answer.histories ≡ histories_in run
-  pub outcomes : map (λ those. those.items) answer.outcomes.items ≡ outcomes_in lines run
+  pub outcomes : map (λ those. those.items) answer.outcomes.items ≡ outcomes_in script run
   pub head : told_head answer.head ≡ head_of size stream answer.head.read_fault
 
 -- the bytes that were taken are those of a session, and have this output
 pub record Makes (is_output : Output) (before after : SourceEnd) (failed : Bool) (text : List ℕ) : Type 0 where
   pub bytes : List ℕ
-  pub lines : List Line
+  pub script : Scripted
   pub stream : List ℕ
   pub taken : Consumes before.left after.left bytes
   pub reads : ReadsTo failed before after
-  pub session : IsSession bytes lines stream
-  pub output : is_output lines stream failed text
+  pub session : IsSession bytes script stream
+  pub output : is_output script stream failed text
 
 -- The run of a script without a fault was given up: so many reads were made, each of which took a byte, or its commands
 -- and the bytes of the stream allow a client so many calls.
 pub record GivesUp (before after : SourceEnd) (turns : ℕ) : Type 0 where
   pub bytes : List ℕ
-  pub lines : List Line
+  pub script : Scripted
   pub stream : List ℕ
   pub taken : Consumes before.left after.left bytes
-  pub session : IsSession bytes lines stream
-  pub known : IsScript lines
+  pub session : IsSession bytes script stream
+  pub known : IsScript script
   pub cause : ((turns ≡ 4294967296) × (turns ≤ length bytes))
-      ⊎ ((turns ≡ 2 ^ 39) × (turns ≤ most_calls (all_commands lines) (length stream)))
+      ⊎ ((turns ≡ 2 ^ 39) × (turns ≤ most_calls (all_commands script.lines) (length stream)))
 
 -- the script of the input has this fault
 abbrev pub HasFault : ScriptFault → (before after : SourceEnd) → Type 0
@@ -155,12 +154,12 @@ status_of_stop (RunTooLong turns) = TooLong turns
 
 -- These first bytes of an input hold a script without a fault, and the puller begins with those behind its part. A packet of
 -- its stream takes up so many.
-pub record Holds (first : List ℕ) (size : PacketSize) (lines : List Line) (puller : Pulling) : Type 0 where
+pub record Holds (first : List ℕ) (size : PacketSize) (script : Scripted) (puller : Pulling) : Type 0 where
   pub part : List ℕ
   pub ahead : List ℕ
   pub splits : (more : List ℕ) → split (first ++ more) ≡ record { script = part; stream = Some (ahead ++ more) }
-  pub script : grammar part ≡ Ok lines
-  pub known : IsScript lines
+  pub says : grammar part ≡ Ok script
+  pub known : IsScript script
   pub pulls : Pulls ahead [] [] puller
   pub reads : puller.start ≤ length first
   pub takes_up : puller.cutting.size ≡ size

@@ -8,11 +8,10 @@ use Rattle.std.specs.List.{All}
 use Rattle.dmx_calls.specs.declared.limits.TheConstants.{LARGEST_READ}
 use Rattle.dmx_calls.specs.declared.log.Act.{Act}
 use Rattle.dmx_calls.specs.Log.{LogEntry, act_of}
-use Rattle.client_script.specs.declared.line.Line.{Line}
 use Rattle.client_script.specs.declared.line.Want.{Want}
 use Rattle.client_script.specs.declared.line.Want.TheVariants.{Read}
 use Rattle.client_script.specs.Grammar.{IsInRange}
-use Rattle.client_script.specs.Script.{clients_in}
+use Rattle.client_script.specs.Script.{clients_in, Scripted}
 use Rattle.client_core.specs.declared.event.Event.{Event}
 use Rattle.client_core.specs.declared.event.Request.{Request}
 use Rattle.client_core.specs.declared.event.Request.TheVariants.{Own, Attach, Detach}
@@ -77,7 +76,7 @@ event_can packets (Some event) e range is = rw is.1.1 (request_can packets event
 
 -- ------ a run
 
-module _ (lines : List Line) (packets : List (List ℕ)) (hs : List (List LogEntry)) (ranges : All IsInRange lines) (run : IsRun lines 64 packets hs) where
+module _ (script : Scripted) (packets : List (List ℕ)) (hs : List (List LogEntry)) (ranges : All IsInRange script.lines) (run : IsRun script 64 packets hs) where
   can_by : (node place : ℕ) (h : List LogEntry) (e : LogEntry) → slice_get hs node ≡ Some h → slice_get h place ≡ Some e → (who : ℕ) → e.who ≡ who → is_callable (length packets) e.act ≡ true
   can_by node place h e at here zero is =
       let all : All (CanStep (length packets)) (feeding 0 0 run.fed.batches) = feeding_can (length packets) 0 0 run.fed.batches run.fed.each_size (omega (arith, run.fed.whole)) in
@@ -85,22 +84,22 @@ module _ (lines : List Line) (packets : List (List ℕ)) (hs : List (List LogEnt
       fed_can (length packets) h mine place e here is
   can_by node place h e at here (suc c) is =
       let places = run.places node place h e at here in
-      let low : c < clients_in lines = omega (arith, places.2, is) in
+      let low : c < clients_in script = omega (arith, places.2, is) in
       let d = run.clients_done c low in
       let number : e.who ≡ c + 1 = omega (arith, is) in
       let made = d.only node place h e at here number in
       let s = d.steps e.step e made in
-      event_can (length packets) (next_event c lines (replies (take e.step d.made))) e (λ event at'. asks_in_range c lines (replies (take e.step d.made)) ranges event at') s.3
+      event_can (length packets) (next_event c script (replies (take e.step d.made))) e (λ event at'. asks_in_range c script (replies (take e.step d.made)) ranges event at') s.3
 
   sound_from : (node place : ℕ) (h rest : List LogEntry) → slice_get hs node ≡ Some h → ((i : ℕ) (e : LogEntry) → slice_get rest i ≡ Some e → slice_get h (place + i) ≡ Some e)
-      → are_sound (clients_in lines) (length packets) rest ≡ true
+      → are_sound (clients_in script) (length packets) rest ≡ true
   sound_from node place h [] at there = refl
   sound_from node place h (e ∷ es) at there =
       let here = there 0 e refl in
-      let who : nat_le e.who (clients_in lines) ≡ true = grind (arith, nat_tests, (run.places node (place + 0) h e at here).2) in
+      let who : nat_le e.who (clients_in script) ≡ true = grind (arith, nat_tests, (run.places node (place + 0) h e at here).2) in
       let can = can_by node (place + 0) h e at here e.who refl in
       let later = sound_from node (suc place) h es at (λ i f at'. let sum : place + suc i ≡ suc place + i = omega arith in subst (λ (k : ℕ). slice_get h k ≡ Some f) sum (there (suc i) f at')) in
       rw (who, can, later) refl
 
-  pub sound : (node : ℕ) (h : List LogEntry) → slice_get hs node ≡ Some h → are_sound (clients_in lines) (length packets) h ≡ true
+  pub sound : (node : ℕ) (h : List LogEntry) → slice_get hs node ≡ Some h → are_sound (clients_in script) (length packets) h ≡ true
   sound node h at = sound_from node 0 h h at (λ i e here. let sum : i ≡ 0 + i = omega arith in subst (λ (k : ℕ). slice_get h k ≡ Some e) sum here)

@@ -9,7 +9,7 @@ use Rattle.dmx_calls.specs.declared.log.Act.{Act}
 use Rattle.dmx_calls.specs.declared.log.Act.TheVariants.{Read as ReadAct, Pass as PassAct}
 use Rattle.dmx_calls.specs.Log.{LogEntry}
 use Rattle.ts_watch.specs.Head.{StreamHead}
-use Rattle.client_script.specs.declared.line.Line.{Line}
+use Rattle.client_script.specs.Script.{Scripted}
 use Rattle.client_script.specs.Grammar.{IsInRange as IsLineInRange}
 use Rattle.report_text.specs.Told.{ToldNode, Told, text_of}
 use Rattle.report_read.specs.Ranges.{IsInRange, IsNodeInRange}
@@ -26,29 +26,29 @@ use Rattle.report_check.proofs.Deciding.{is_run}
 
 -- ------ the answer
 
-pub right : (lines : List Line) (packets : List (List ℕ)) (head : StreamHead) (bytes : List ℕ) (t : Told) → IsReport t bytes → t.head ≡ head → head.tally.packets ≡ length packets
-    → HasPassed lines packets t → IsRightReport lines packets head bytes
-right lines packets head bytes t report same count passed =
+pub right : (script : Scripted) (packets : List (List ℕ)) (head : StreamHead) (bytes : List ℕ) (t : Told) → IsReport t bytes → t.head ≡ head → head.tally.packets ≡ length packets
+    → HasPassed script packets t → IsRightReport script packets head bytes
+right script packets head bytes t report same count passed =
     let mine : t.head.tally.packets ≡ length packets = ap (λ (h : StreamHead). h.tally.packets) same ∙ count in
-    record { told = t; report = report; same = same; run = is_run lines packets t report.range.parts.nodes report.order.nodes mine passed }
+    record { told = t; report = report; same = same; run = is_run script packets t report.range.parts.nodes report.order.nodes mine passed }
 
-pub no_report : (lines : List Line) (packets : List (List ℕ)) (head : StreamHead) (bytes : List ℕ) → IsNoReport bytes → IsRightReport lines packets head bytes → ⊥
-no_report lines packets head bytes none r = none r.told r.report.range r.report.order r.report.text
+pub no_report : (script : Scripted) (packets : List (List ℕ)) (head : StreamHead) (bytes : List ℕ) → IsNoReport bytes → IsRightReport script packets head bytes → ⊥
+no_report script packets head bytes none r = none r.told r.report.range r.report.order r.report.text
 
 only : (bytes : List ℕ) (t u : Told) → IsReport t bytes → IsReport u bytes → t ≡ u
 only bytes t u a b = one_thing t u a.range b.range (sym a.text ∙ b.text)
 
-pub other_head : (lines : List Line) (packets : List (List ℕ)) (head : StreamHead) (bytes : List ℕ) (t : Told) → IsReport t bytes → t.head ≢ head → IsRightReport lines packets head bytes → ⊥
-other_head lines packets head bytes t report differs r =
+pub other_head : (script : Scripted) (packets : List (List ℕ)) (head : StreamHead) (bytes : List ℕ) (t : Told) → IsReport t bytes → t.head ≢ head → IsRightReport script packets head bytes → ⊥
+other_head script packets head bytes t report differs r =
     let same : t ≡ r.told = only bytes t r.told report r.report in
     differs (ap (λ (u : Told). u.head) same ∙ r.same)
 
-pub not_passed : (lines : List Line) (packets : List (List ℕ)) (head : StreamHead) (bytes : List ℕ) (t : Told) → IsReport t bytes → All IsLineInRange lines
-    → (HasPassed lines packets t → ⊥) → IsRightReport lines packets head bytes → ⊥
-not_passed lines packets head bytes t report ranges never r =
+pub not_passed : (script : Scripted) (packets : List (List ℕ)) (head : StreamHead) (bytes : List ℕ) (t : Told) → IsReport t bytes → All IsLineInRange script.lines
+    → (HasPassed script packets t → ⊥) → IsRightReport script packets head bytes → ⊥
+not_passed script packets head bytes t report ranges never r =
     let same : r.told ≡ t = only bytes r.told t r.report report in
-    let run : IsRunOf lines packets t.outcomes (completed t) = subst (λ (u : Told). IsRunOf lines packets u.outcomes (completed u)) same r.run in
-    never (passes lines packets t ranges report.range.parts.nodes report.order.nodes run)
+    let run : IsRunOf script packets t.outcomes (completed t) = subst (λ (u : Told). IsRunOf script packets u.outcomes (completed u)) same r.run in
+    never (passes script packets t ranges report.range.parts.nodes report.order.nodes run)
 
 -- ------ what is asked of the nodes before they are played
 

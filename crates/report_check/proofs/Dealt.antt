@@ -8,7 +8,7 @@ use Rattle.dmx_calls.specs.declared.log.Entry.{Entry as ToldEntry}
 use Rattle.dmx_calls.specs.declared.outcome.Outcome.{Outcome}
 use Rattle.dmx_calls.specs.Calls.{told_entry}
 use Rattle.dmx_calls.specs.Log.{LogEntry}
-use Rattle.client_script.specs.declared.line.Line.{Line}
+use Rattle.client_script.specs.Script.{Scripted}
 use Rattle.client_core.specs.Outcomes.{outcomes}
 use Rattle.client_core.specs.Inside.Core.{Core}
 use Rattle.script_run.specs.IsRun.{replies}
@@ -64,16 +64,16 @@ dealt_all most node hs rest all end so_far =
 
 -- ------ what a client did
 
-module _ (client : ℕ) (lines : List Line) (hs : List (List LogEntry)) (told : List Outcome) where
-  pub is_done : (core : Core) (outs : List Outcome) (walked : HasWalked client lines (queues_in client hs) core) → outs ≡ outcomes client lines (replies walked.made) → told ≡ outs
-      → IsDoneAs lines hs client told
+module _ (client : ℕ) (script : Scripted) (hs : List (List LogEntry)) (told : List Outcome) where
+  pub is_done : (core : Core) (outs : List Outcome) (walked : HasWalked client script (queues_in client hs) core) → outs ≡ outcomes client script (replies walked.made) → told ≡ outs
+      → IsDoneAs script hs client told
   is_done core outs walked are same = record { made = walked.made; rest = walked.walk; outcomes = same ∙ are }
 
-  pub no_walk : (CanRest client lines [] (queues_in client hs) → ⊥) → IsDoneAs lines hs client told → ⊥
+  pub no_walk : (CanRest client script [] (queues_in client hs) → ⊥) → IsDoneAs script hs client told → ⊥
   no_walk never done = never (done.made, done.rest)
 
-  pub other_outcomes : (core : Core) (outs : List Outcome) (walked : HasWalked client lines (queues_in client hs) core) → outs ≡ outcomes client lines (replies walked.made) → told ≢ outs
-      → IsDoneAs lines hs client told → ⊥
+  pub other_outcomes : (core : Core) (outs : List Outcome) (walked : HasWalked client script (queues_in client hs) core) → outs ≡ outcomes client script (replies walked.made) → told ≢ outs
+      → IsDoneAs script hs client told → ⊥
   other_outcomes core outs walked are apart done =
-      let same : done.made ≡ walked.made = one_walk client lines [] (queues_in client hs) done.made walked.made done.rest walked.walk in
-      apart (done.outcomes ∙ (ap (λ (made : List LogEntry). outcomes client lines (replies made)) same ∙ sym are))
+      let same : done.made ≡ walked.made = one_walk client script [] (queues_in client hs) done.made walked.made done.rest walked.walk in
+      apart (done.outcomes ∙ (ap (λ (made : List LogEntry). outcomes client script (replies made)) same ∙ sym are))

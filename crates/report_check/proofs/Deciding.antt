@@ -12,8 +12,7 @@ use Rattle.dmx_calls.specs.Legal.{IsLegalFor}
 use Rattle.dmx_calls.specs.Log.{LogEntry, filled}
 use Rattle.dmx_calls.specs.Response.{Response, NoMemory, Passed}
 use Rattle.dmx_calls.specs.Rules.{rules_at}
-use Rattle.client_script.specs.declared.line.Line.{Line}
-use Rattle.client_script.specs.Script.{clients_in}
+use Rattle.client_script.specs.Script.{clients_in, Scripted}
 use Rattle.client_core.specs.Outcomes.{outcomes}
 use Rattle.script_run.specs.IsRun.{Step, feeding, steps_of, IsFed, IsRun, HasDone, replies}
 use Rattle.report_text.specs.Told.{ToldNode, Told}
@@ -63,10 +62,10 @@ sound_nodes clients packets count (m ∷ ns) sound i n at =
 
 -- ------ the run
 
-module _ (lines : List Line) (packets : List (List ℕ)) (t : Told) (nodes : All IsNodeInRange t.nodes) (order : are_nodes 0 t.nodes ≡ true)
-    (count : t.head.tally.packets ≡ length packets) (p : HasPassed lines packets t) where
+module _ (script : Scripted) (packets : List (List ℕ)) (t : Told) (nodes : All IsNodeInRange t.nodes) (order : are_nodes 0 t.nodes ≡ true)
+    (count : t.head.tally.packets ≡ length packets) (p : HasPassed script packets t) where
   feeder : IsFeeder (length packets) (feeder_of t.head.tally.packets t.nodes)
-  feeder = feeder_by (clients_in lines) packets t.head.tally.packets count t.nodes p.nodes p.played
+  feeder = feeder_by (clients_in script) packets t.head.tally.packets count t.nodes p.nodes p.played
 
   there : (node : ℕ) (h : List LogEntry) → slice_get (completed t) node ≡ Some h → TellsOrNot t.nodes (feeder_of t.head.tally.packets t.nodes) node h
   unfolding completed
@@ -75,16 +74,16 @@ module _ (lines : List Line) (packets : List (List ℕ)) (t : Told) (nodes : All
       subst (λ (k : ℕ). TellsOrNot t.nodes (feeder_of t.head.tally.packets t.nodes) k h) sum (complete_at (DEMUX_NODES + 1) 0 (feeder_of t.head.tally.packets t.nodes) t.nodes node h at)
 
   places_by : (node place : ℕ) (h : List LogEntry) (e : LogEntry) → TellsOrNot t.nodes (feeder_of t.head.tally.packets t.nodes) node h → slice_get h place ≡ Some e
-      → (e.node ≡ node) × (e.place ≡ place) × (e.who ≤ clients_in lines) × (e.response ≢ NoMemory)
+      → (e.node ≡ node) × (e.place ≡ place) × (e.who ≤ clients_in script) × (e.response ≢ NoMemory)
   places_by node place h e (inl is) here =
       let at : slice_get is.node.entries place ≡ Some e = subst (λ (es : List LogEntry). slice_get es place ≡ Some e) is.entries here in
       let range = all_at IsNodeInRange t.nodes nodes is.index is.node is.at in
       let one = all_at (IsEntryOf is.node.node) is.node.entries range.entries place e at in
-      let sound = sound_nodes (clients_in lines) (length packets) t.head.tally.packets t.nodes p.nodes is.index is.node is.at in
+      let sound = sound_nodes (clients_in script) (length packets) t.head.tally.packets t.nodes p.nodes is.index is.node is.at in
       let played = all_at (IsPlayed packets) t.nodes p.played is.index is.node is.at in (
         one.1 ∙ is.number,
         in_place is.node (each_whole 0 t.nodes order is.index is.node is.at) place e at,
-        sound_at (clients_in lines) (length packets) is.node.entries sound.0 place e at,
+        sound_at (clients_in script) (length packets) is.node.entries sound.0 place e at,
         all_at (λ x. x.response ≢ NoMemory) is.node.entries played.1 place e at,
       )
   places_by node place h e (inr same) here =
@@ -97,7 +96,7 @@ module _ (lines : List Line) (packets : List (List ℕ)) (t : Told) (nodes : All
       apart same = absurd (cc)
 
   places : (node place : ℕ) (h : List LogEntry) (e : LogEntry) → slice_get (completed t) node ≡ Some h → slice_get h place ≡ Some e
-      → (e.node ≡ node) × (e.place ≡ place) × (e.who ≤ clients_in lines) × (e.response ≢ NoMemory)
+      → (e.node ≡ node) × (e.place ≡ place) × (e.who ≤ clients_in script) × (e.response ≢ NoMemory)
   places node place h e at here = places_by node place h e (there node h at) here
 
   legal_by : (node : ℕ) (h : List LogEntry) → TellsOrNot t.nodes (feeder_of t.head.tally.packets t.nodes) node h → IsLegalFor (rules_at node) (filled packets h)
@@ -113,44 +112,44 @@ module _ (lines : List Line) (packets : List (List ℕ)) (t : Told) (nodes : All
 
   steps_by : (node : ℕ) (h : List LogEntry) → TellsOrNot t.nodes (feeder_of t.head.tally.packets t.nodes) node h → steps_of 0 h ≡ feeding 0 0 feeder.fed.batches
   steps_by node h (inl is) =
-      let sound = sound_nodes (clients_in lines) (length packets) t.head.tally.packets t.nodes p.nodes is.index is.node is.at in
+      let sound = sound_nodes (clients_in script) (length packets) t.head.tally.packets t.nodes p.nodes is.index is.node is.at in
       ap (steps_of 0) is.entries ∙ (sound.1 ∙ feeder.fed.same)
   steps_by node h (inr same) = ap (steps_of 0) same ∙ (steps_there node 0 (feeder_of t.head.tally.packets t.nodes) feeder.plain ∙ feeder.fed.same)
 
   -- ------ a client
 
   record IsDone (c : ℕ) : Type 0 where
-    done : HasDone lines c (completed t)
-    outcomes : slice_get t.outcomes c ≡ Some (outcomes c lines (replies done.made))
+    done : HasDone script c (completed t)
+    outcomes : slice_get t.outcomes c ≡ Some (outcomes c script (replies done.made))
 
   in_places : AreInPlace (completed t)
   in_places node place h e at here = let x = places node place h e at here in (x.0, x.1)
 
-  done_by : (c : ℕ) (o : List Outcome) → slice_get t.outcomes c ≡ Some o → IsDoneAs lines (dealt t.nodes) c o → IsDone c
+  done_by : (c : ℕ) (o : List Outcome) → slice_get t.outcomes c ≡ Some o → IsDoneAs script (dealt t.nodes) c o → IsDone c
   unfolding completed
   done_by c o at is =
       let same : queues_in c (completed t) ≡ queues_in c (dealt t.nodes) = same_queues c (DEMUX_NODES + 1) 0 (feeder_of t.head.tally.packets t.nodes) t.nodes (zero_fed t.head.tally.packets t.nodes) in
-      let rest : IsRest c lines [] (queues_in c (completed t)) is.made = subst (λ (qs : List (List LogEntry)). IsRest c lines [] qs is.made) (sym same) is.rest in
-      let d = walked_is_done c lines (completed t) in_places is.made rest in
+      let rest : IsRest c script [] (queues_in c (completed t)) is.made = subst (λ (qs : List (List LogEntry)). IsRest c script [] qs is.made) (sym same) is.rest in
+      let d = walked_is_done c script (completed t) in_places is.made rest in
       record {
         done = d.0;
-        outcomes = at ∙ ap (λ (x : List Outcome). Some x) (is.outcomes ∙ ap (λ (made : List LogEntry). outcomes c lines (replies made)) (sym d.1));
+        outcomes = at ∙ ap (λ (x : List Outcome). Some x) (is.outcomes ∙ ap (λ (made : List LogEntry). outcomes c script (replies made)) (sym d.1));
       }
 
-  some_at : (c : ℕ) → c < clients_in lines → (o : Option (List Outcome)) → slice_get t.outcomes c ≡ o → IsDone c
+  some_at : (c : ℕ) → c < clients_in script → (o : Option (List Outcome)) → slice_get t.outcomes c ≡ o → IsDone c
   some_at c is (Some o) at =
       let sum : 0 + c ≡ c = omega arith in
-      done_by c o at (subst (λ (k : ℕ). IsDoneAs lines (dealt t.nodes) k o) sum (done_at lines (dealt t.nodes) 0 t.outcomes p.done c o at))
+      done_by c o at (subst (λ (k : ℕ). IsDoneAs script (dealt t.nodes) k o) sum (done_at script (dealt t.nodes) 0 t.outcomes p.done c o at))
   some_at c is None at =
       let low : c < length t.outcomes = omega (arith, is, p.clients) in
       let s = at_place t.outcomes c low in
       let none : None ≡ Some s.0 = sym at ∙ s.1 in
       absurd (cc none)
 
-  client : (c : ℕ) → c < clients_in lines → IsDone c
+  client : (c : ℕ) → c < clients_in script → IsDone c
   client c is = some_at c is (slice_get t.outcomes c) refl
 
-  pub is_run : IsRunOf lines packets t.outcomes (completed t)
+  pub is_run : IsRunOf script packets t.outcomes (completed t)
   unfolding completed
   is_run = record {
     run = record {

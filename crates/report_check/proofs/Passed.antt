@@ -9,9 +9,8 @@ use Rattle.dmx_calls.specs.Legal.{IsLegalFor}
 use Rattle.dmx_calls.specs.Log.{LogEntry, filled}
 use Rattle.dmx_calls.specs.Response.{NoMemory}
 use Rattle.dmx_calls.specs.Rules.{rules_at}
-use Rattle.client_script.specs.declared.line.Line.{Line}
 use Rattle.client_script.specs.Grammar.{IsInRange}
-use Rattle.client_script.specs.Script.{clients_in}
+use Rattle.client_script.specs.Script.{clients_in, Scripted}
 use Rattle.client_core.specs.Outcomes.{outcomes}
 use Rattle.script_run.specs.IsRun.{Step, feeding, steps_of, IsRun, replies}
 use Rattle.report_text.specs.Told.{ToldNode, Told}
@@ -31,30 +30,30 @@ use Rattle.report_check.proofs.Callable.{sound}
 
 -- ------ clients
 
-pub done_from : (lines : List Line) (hs : List (List LogEntry)) (client : ℕ) (told : List (List Outcome))
-    → ((i : ℕ) (o : List Outcome) → slice_get told i ≡ Some o → IsDoneAs lines hs (client + i) o) → AreDoneAs lines hs client told
-done_from lines hs client [] each = tt
-done_from lines hs client (o ∷ told) each =
+pub done_from : (script : Scripted) (hs : List (List LogEntry)) (client : ℕ) (told : List (List Outcome))
+    → ((i : ℕ) (o : List Outcome) → slice_get told i ≡ Some o → IsDoneAs script hs (client + i) o) → AreDoneAs script hs client told
+done_from script hs client [] each = tt
+done_from script hs client (o ∷ told) each =
     let start : client + 0 ≡ client = omega arith in (
-      subst (λ (c : ℕ). IsDoneAs lines hs c o) start (each 0 o refl),
-      done_from lines hs (client + 1) told (λ i p at. let sum : client + suc i ≡ client + 1 + i = omega arith in subst (λ (c : ℕ). IsDoneAs lines hs c p) sum (each (suc i) p at)),
+      subst (λ (c : ℕ). IsDoneAs script hs c o) start (each 0 o refl),
+      done_from script hs (client + 1) told (λ i p at. let sum : client + suc i ≡ client + 1 + i = omega arith in subst (λ (c : ℕ). IsDoneAs script hs c p) sum (each (suc i) p at)),
     )
 
-pub done_at : (lines : List Line) (hs : List (List LogEntry)) (client : ℕ) (told : List (List Outcome)) → AreDoneAs lines hs client told
-    → (i : ℕ) (o : List Outcome) → slice_get told i ≡ Some o → IsDoneAs lines hs (client + i) o
-done_at lines hs client [] all i o at = absurd (cc)
-done_at lines hs client (p ∷ told) all zero o at =
+pub done_at : (script : Scripted) (hs : List (List LogEntry)) (client : ℕ) (told : List (List Outcome)) → AreDoneAs script hs client told
+    → (i : ℕ) (o : List Outcome) → slice_get told i ≡ Some o → IsDoneAs script hs (client + i) o
+done_at script hs client [] all i o at = absurd (cc)
+done_at script hs client (p ∷ told) all zero o at =
     let same : p ≡ o = cc in
     let start : client ≡ client + 0 = omega arith in
-    subst (λ (c : ℕ). IsDoneAs lines hs c o) start (subst (λ (q : List Outcome). IsDoneAs lines hs client q) same all.0)
-done_at lines hs client (p ∷ told) all (suc i) o at =
+    subst (λ (c : ℕ). IsDoneAs script hs c o) start (subst (λ (q : List Outcome). IsDoneAs script hs client q) same all.0)
+done_at script hs client (p ∷ told) all (suc i) o at =
     let sum : client + 1 + i ≡ client + suc i = omega arith in
-    subst (λ (c : ℕ). IsDoneAs lines hs c o) sum (done_at lines hs (client + 1) told all.1 i o at)
+    subst (λ (c : ℕ). IsDoneAs script hs c o) sum (done_at script hs (client + 1) told all.1 i o at)
 
 -- ------ all tests
 
-module _ (lines : List Line) (packets : List (List ℕ)) (t : Told) (ranges : All IsInRange lines) (nodes : All IsNodeInRange t.nodes) (order : are_nodes 0 t.nodes ≡ true)
-    (r : IsRunOf lines packets t.outcomes (completed t)) where
+module _ (script : Scripted) (packets : List (List ℕ)) (t : Told) (ranges : All IsInRange script.lines) (nodes : All IsNodeInRange t.nodes) (order : are_nodes 0 t.nodes ≡ true)
+    (r : IsRunOf script packets t.outcomes (completed t)) where
   stands : (i : ℕ) (n : ToldNode) → slice_get t.nodes i ≡ Some n → slice_get (completed t) n.node ≡ Some n.entries
   unfolding completed
   stands i n at = told_at (DEMUX_NODES + 1) 0 (feeder_of t.head.tally.packets t.nodes) t.nodes order (all_below t.nodes nodes) i n at n.node (omega arith)
@@ -62,14 +61,14 @@ module _ (lines : List Line) (packets : List (List ℕ)) (t : Told) (ranges : Al
   fed : (i : ℕ) (n : ToldNode) → slice_get t.nodes i ≡ Some n → steps_of 0 n.entries ≡ feeding 0 0 r.run.fed.batches
   fed i n at = r.run.fed.on_each n.node n.entries (stands i n at)
 
-  nodes_by : (ns : List ToldNode) → ((i : ℕ) (n : ToldNode) → slice_get ns i ≡ Some n → slice_get t.nodes i ≡ Some n) → AreSoundNodes (clients_in lines) (length packets) ns
+  nodes_by : (ns : List ToldNode) → ((i : ℕ) (n : ToldNode) → slice_get ns i ≡ Some n → slice_get t.nodes i ≡ Some n) → AreSoundNodes (clients_in script) (length packets) ns
   nodes_by [] there = tt
   nodes_by (n ∷ ns) there =
       let first : steps_of 0 n.entries ≡ feeding 0 0 r.run.fed.batches = fed 0 n (there 0 n refl) in
       let all : feeds (length packets) 0 0 (feeding 0 0 r.run.fed.batches) ≡ true = is_feeds (length packets) 0 0 r.run.fed.batches r.run.fed.each_size (omega (arith, r.run.fed.whole)) in (
         subst (λ (ss : List Step). feeds (length packets) 0 0 ss ≡ true) (sym first) all,
-        at_all (IsSoundNode (clients_in lines) (length packets) n.entries) (n ∷ ns) (λ i m at.
-            (sound lines packets (completed t) ranges r.run m.node m.entries (stands i m (there i m at)), fed i m (there i m at) ∙ sym first)),
+        at_all (IsSoundNode (clients_in script) (length packets) n.entries) (n ∷ ns) (λ i m at.
+            (sound script packets (completed t) ranges r.run m.node m.entries (stands i m (there i m at)), fed i m (there i m at) ∙ sym first)),
       )
 
   played : (i : ℕ) (n : ToldNode) → slice_get t.nodes i ≡ Some n → IsPlayed packets n
@@ -77,24 +76,24 @@ module _ (lines : List Line) (packets : List (List ℕ)) (t : Told) (ranges : Al
       let here = stands i n at in
       (r.run.legal n.node n.entries here, at_all (λ e. e.response ≢ NoMemory) n.entries (λ j e there. (r.run.places n.node j n.entries e here there).3))
 
-  done : (i : ℕ) (o : List Outcome) → slice_get t.outcomes i ≡ Some o → IsDoneAs lines (dealt t.nodes) i o
+  done : (i : ℕ) (o : List Outcome) → slice_get t.outcomes i ≡ Some o → IsDoneAs script (dealt t.nodes) i o
   unfolding completed
   done i o at =
-      let low : i < clients_in lines = omega (arith, slice_get_within t.outcomes i o at, r.clients) in
+      let low : i < clients_in script = omega (arith, slice_get_within t.outcomes i o at, r.clients) in
       let d = r.run.clients_done i low in
-      let rest : IsRest i lines [] (queues_in i (completed t)) d.made = done_is_walked i lines (completed t) (λ node place h e a b. let p = r.run.places node place h e a b in (p.0, p.1)) d in
+      let rest : IsRest i script [] (queues_in i (completed t)) d.made = done_is_walked i script (completed t) (λ node place h e a b. let p = r.run.places node place h e a b in (p.0, p.1)) d in
       let same : queues_in i (completed t) ≡ queues_in i (dealt t.nodes) = same_queues i (DEMUX_NODES + 1) 0 (feeder_of t.head.tally.packets t.nodes) t.nodes (zero_fed t.head.tally.packets t.nodes) in
-      let told : Some o ≡ Some (outcomes i lines (replies d.made)) = sym at ∙ r.outcomes i low in
+      let told : Some o ≡ Some (outcomes i script (replies d.made)) = sym at ∙ r.outcomes i low in
       record {
         made = d.made;
-        rest = subst (λ (qs : List (List LogEntry)). IsRest i lines [] qs d.made) same rest;
+        rest = subst (λ (qs : List (List LogEntry)). IsRest i script [] qs d.made) same rest;
         outcomes = cc;
       }
 
-  pub passes : HasPassed lines packets t
+  pub passes : HasPassed script packets t
   passes = record {
     clients = r.clients;
     nodes = nodes_by t.nodes (λ i n at. at);
-    done = done_from lines (dealt t.nodes) 0 t.outcomes (λ i o at. let sum : i ≡ 0 + i = omega arith in subst (λ (c : ℕ). IsDoneAs lines (dealt t.nodes) c o) sum (done i o at));
+    done = done_from script (dealt t.nodes) 0 t.outcomes (λ i o at. let sum : i ≡ 0 + i = omega arith in subst (λ (c : ℕ). IsDoneAs script (dealt t.nodes) c o) sum (done i o at));
     played = at_all (IsPlayed packets) t.nodes played;
   }

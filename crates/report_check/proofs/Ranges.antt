@@ -2,10 +2,11 @@
 use Rattle.std.proofs.Common.{◌≡◌, refl, sym, ap, subst, ◌∙◌, ℕ, ◌+◌, Bool, true, false, List, [], ◌∷◌, ◌++◌, Option, Some, None, nat_eq}
 use Rattle.std.proofs.lemmas.List.Elements.{All-head, All-tail, All-nil, All-cons}
 use Rattle.std.specs.Prelude.{nat_lt, if◌then◌else◌, slice_index_or, option_map}
-use Rattle.std.specs.List.{All, flat_map}
+use Rattle.std.specs.List.{All}
 use Rattle.dmx_calls.specs.declared.limits.TheConstants.{DEMUX_NODES}
 use Rattle.dmx_calls.specs.declared.reply.Tap.TheVariants.{Keep as KeepTap, Attach as AttachTap, Detach as DetachTap}
 use Rattle.dmx_calls.specs.Response.{Response, Done, Busy, TapChange}
+use Rattle.client_script.specs.Script.{Scripted}
 use Rattle.client_script.specs.declared.line.Line.{Line}
 use Rattle.client_script.specs.declared.line.Line.TheVariants.{Command as CommandLine}
 use Rattle.client_script.specs.declared.line.Target.{Target}
@@ -21,7 +22,7 @@ use Rattle.client_core.specs.declared.event.Request.{Request}
 use Rattle.client_core.specs.declared.event.Request.TheVariants.{Own}
 use Rattle.client_core.specs.declared.task.Ending.{Ending}
 use Rattle.client_core.specs.declared.task.Ending.TheVariants.{Made, Bound, AllBusy}
-use Rattle.client_core.specs.Commands.{commands_in, commands_of, Slots, Doing, stands, through, once, told, called, opened, read_until, done_on, done_at, done_by_slot, done, ends_wait, ends_drain, IsRequestInRange}
+use Rattle.client_core.specs.Commands.{commands_in, commands_among, commands_of, Slots, Doing, stands, through, once, told, called, opened, read_until, done_on, done_at, done_by_slot, done, ends_wait, ends_drain, IsRequestInRange}
 use Rattle.client_core.proofs.GoesOn.{progress_of}
 use Rattle.client_core.specs.Events.{Standing, slots_after, progress_from, progress, no_slots, next_event}
 
@@ -117,10 +118,10 @@ line_in client (CommandLine line who target verb) is = by (nat_eq who client)
     by false = All-nil HasRange
 line_in client _ is = All-nil HasRange
 
-commands_range : (client : ℕ) (lines : List Line) → All IsInRange lines → All HasRange (commands_of client lines)
+commands_range : (client : ℕ) (lines : List Line) → All IsInRange lines → All HasRange (commands_among client lines)
 commands_range client [] all = All-nil HasRange
 commands_range client (l ∷ lines) all =
-    all_append (commands_in client l) (commands_of client lines) (line_in client l (All-head IsInRange l lines all)) (commands_range client lines (All-tail IsInRange l lines all))
+    all_append (commands_in client l) (commands_among client lines) (line_in client l (All-head IsInRange l lines all)) (commands_range client lines (All-tail IsInRange l lines all))
 
 event_by : (o : Option Standing) → StandsInRange o → (e : Event) → option_map (λ s. s.event) o ≡ Some e → IsRequestInRange e.want
 event_by None is e at = absurd (cc)
@@ -128,7 +129,7 @@ event_by (Some s) is e at =
     let same : s.event ≡ e = cc in
     subst (λ (x : Event). IsRequestInRange x.want) same is
 
-pub asks_in_range : (client : ℕ) (lines : List Line) (rs : List Response) → All IsInRange lines → (e : Event) → next_event client lines rs ≡ Some e → IsRequestInRange e.want
+pub asks_in_range : (client : ℕ) (script : Scripted) (rs : List Response) → All IsInRange script.lines → (e : Event) → next_event client script rs ≡ Some e → IsRequestInRange e.want
 unfolding progress
-asks_in_range client lines rs all e at =
-    event_by (progress client lines rs).standing (progress_in no_slots 0 (commands_of client lines) rs (commands_range client lines all)) e at
+asks_in_range client script rs all e at =
+    event_by (progress client script rs).standing (progress_in no_slots 0 (commands_of client script) rs (commands_range client script.lines all)) e at

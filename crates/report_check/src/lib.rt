@@ -5,7 +5,7 @@
 //! that each client's entries are just what its commands ask for, and this became of them; and that each reply is the one that the
 //! node's entries before it give, by playing them again. `check` says whether it finds nothing. All of it is this project's own.
 //!
-//! What a contract sees: the report as the list of its bytes, the script as the list of its lines, the stream's packets as lists of
+//! What a contract sees: the report as the list of its bytes, the script as what it says, the stream's packets as lists of
 //! bytes, and the head as a record of numbers and rows. `IsRightReport` of `report_runs` says what is right: it names the text, the
 //! rules of the nodes and of the clients, and nothing of how this crate asks. The definitions of `specs/Inside/` are for the
 //! contracts of the crate's own functions.

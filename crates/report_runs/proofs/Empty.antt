@@ -16,7 +16,7 @@ use Rattle.dmx_calls.specs.Rules.{Rules, rules_at}
 use Rattle.dmx_calls.specs.Answer.{answer}
 use Rattle.dmx_calls.specs.Legal.{May, IsLegalFor}
 use Rattle.dmx_calls.specs.Log.{LogEntry, filled_act, filled_entry, filled}
-use Rattle.client_script.specs.declared.line.Line.{Line}
+use Rattle.client_script.specs.Script.{Scripted}
 use Rattle.client_core.specs.Events.{next_event}
 use Rattle.script_run.specs.IsRun.{Batch, feeding, steps_of, HasDone, IsRun, replies, StandsIn}
 use Rattle.report_text.specs.Entries.{is_of_client}
@@ -196,9 +196,9 @@ zero_at (f ∷ h) all zero e at = let same : f ≡ e = cc in ap (λ (g : LogEntr
 zero_at (f ∷ h) all (suc i) e at = zero_at h all.1 i e at
 
 -- a client that called no node made no call
-pub idle_made : (lines : List Line) (c : ℕ) (hs : List (List LogEntry)) → ((i : ℕ) (h : List LogEntry) → slice_get hs i ≡ Some h → list_any is_of_client h ≡ false)
-    → (d : HasDone lines c hs) → d.made ≡ []
-idle_made lines c hs quiet d = by d.made refl
+pub idle_made : (script : Scripted) (c : ℕ) (hs : List (List LogEntry)) → ((i : ℕ) (h : List LogEntry) → slice_get hs i ≡ Some h → list_any is_of_client h ≡ false)
+    → (d : HasDone script c hs) → d.made ≡ []
+idle_made script c hs quiet d = by d.made refl
   where
     by : (made : List LogEntry) → d.made ≡ made → d.made ≡ []
     by [] is = is
@@ -208,15 +208,15 @@ idle_made lines c hs quiet d = by d.made refl
         let zero' = zero_at stands.0 (uncalled stands.0 (quiet e.node stands.0 stands.1)) e.place e stands.2 in
         absurd (omega (arith, zero', s.1))
 
-pub idle_runs : (lines : List Line) (most : ℕ) (packets : List (List ℕ)) (head : StreamHead) (outcomes : List (List Outcome)) (hs : List (List LogEntry)) → head.tally.packets ≡ length packets
-    → IsRun lines most packets hs → shown 0 hs ≡ [] → IsRun lines 64 packets (completed (told_by head outcomes hs))
+pub idle_runs : (script : Scripted) (most : ℕ) (packets : List (List ℕ)) (head : StreamHead) (outcomes : List (List Outcome)) (hs : List (List LogEntry)) → head.tally.packets ≡ length packets
+    → IsRun script most packets hs → shown 0 hs ≡ [] → IsRun script 64 packets (completed (told_by head outcomes hs))
 unfolding completed
-idle_runs lines most packets head outcomes hs count run none =
+idle_runs script most packets head outcomes hs count run none =
     let n : ℕ = head.tally.packets in
     let feeder : List LogEntry = tiled n 0 0 n in
     let all : ArePlain feeder = plain n 0 0 n in
     let is : complete (DEMUX_NODES + 1) 0 (feeder_of n (shown 0 hs)) (shown 0 hs) ≡ complete (DEMUX_NODES + 1) 0 feeder [] = ap (λ (nodes : List ToldNode). complete (DEMUX_NODES + 1) 0 (feeder_of n nodes) nodes) none in
-    subst (λ (gs : List (List LogEntry)). IsRun lines 64 packets gs) (sym is) (record {
+    subst (λ (gs : List (List LogEntry)). IsRun script 64 packets gs) (sym is) (record {
       nodes = idle_long (DEMUX_NODES + 1) 0 feeder;
       places = λ node place h e at here.
           let same : h ≡ renumbered (0 + node) 0 feeder = idle_at (DEMUX_NODES + 1) 0 feeder node h at in
@@ -241,7 +241,7 @@ idle_runs lines most packets head outcomes hs count run none =
           record {
             made = [];
             steps = λ i e at. absurd (cc at);
-            ends = subst (λ (made : List LogEntry). next_event c lines (replies made) ≡ None) (idle_made lines c hs (uncalled_at 0 hs none) d) d.ends;
+            ends = subst (λ (made : List LogEntry). next_event c script (replies made) ≡ None) (idle_made script c hs (uncalled_at 0 hs none) d) d.ends;
             only = λ node place h e at here who.
                 let same : h ≡ renumbered (0 + node) 0 feeder = idle_at (DEMUX_NODES + 1) 0 feeder node h at in
                 let t = told_there (0 + node) 0 feeder all place e (subst (λ (es : List LogEntry). slice_get es place ≡ Some e) same here) in

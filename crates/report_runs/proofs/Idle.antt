@@ -14,7 +14,7 @@ use Rattle.dmx_calls.specs.Rules.{Rules, rules_at}
 use Rattle.dmx_calls.specs.Legal.{May, IsLegalFor}
 use Rattle.dmx_calls.specs.Log.{LogEntry, filled_act, filled_entry, filled}
 use Rattle.dmx_calls.proofs.Telling.{go_by}
-use Rattle.client_script.specs.declared.line.Line.{Line}
+use Rattle.client_script.specs.Script.{Scripted}
 use Rattle.script_run.specs.IsRun.{Batch, Step, feeding, IsRun}
 use Rattle.report_text.specs.Entries.{is_of_client}
 use Rattle.report_text.specs.Told.{ToldNode}
@@ -155,7 +155,7 @@ is_shown node (h ∷ hs) n nodes s = shown_one node h hs n nodes (is_shown (suc 
 
 -- ------ runs
 
-module _ (lines : List Line) (most : ℕ) (packets : List (List ℕ)) (hs : List (List LogEntry)) (run : IsRun lines most packets hs) where
+module _ (script : Scripted) (most : ℕ) (packets : List (List ℕ)) (hs : List (List LogEntry)) (run : IsRun script most packets hs) where
   idle : (n : ToldNode) → IsShown hs n → (i : ℕ) (h : List LogEntry) → slice_get hs i ≡ Some h → list_any is_of_client h ≡ false → h ≡ renumbered (0 + i) 0 (of_feeder n.entries)
   idle n s i h at none =
       let zeros = uncalled h none in
@@ -171,11 +171,11 @@ module _ (lines : List Line) (most : ℕ) (packets : List (List ℕ)) (hs : List
       let sum : 0 + i ≡ i = omega arith in
       same_feeders i 0 h (of_feeder n.entries) feeders passed (alone ∙ sym theirs) ∙ ap (λ (k : ℕ). renumbered k 0 (of_feeder n.entries)) (sym sum)
 
-pub runs_are_completed : (lines : List Line) (most : ℕ) (packets : List (List ℕ)) (head : StreamHead) (outcomes : List (List Outcome)) (hs : List (List LogEntry)) (n : ToldNode) (nodes : List ToldNode)
-    → IsRun lines most packets hs → shown 0 hs ≡ n ∷ nodes → completed (told_by head outcomes hs) ≡ hs
+pub runs_are_completed : (script : Scripted) (most : ℕ) (packets : List (List ℕ)) (head : StreamHead) (outcomes : List (List Outcome)) (hs : List (List LogEntry)) (n : ToldNode) (nodes : List ToldNode)
+    → IsRun script most packets hs → shown 0 hs ≡ n ∷ nodes → completed (told_by head outcomes hs) ≡ hs
 unfolding completed
-runs_are_completed lines most packets head outcomes hs n nodes run s =
-    let all : AreIdle 0 (of_feeder n.entries) hs = idle_from 0 (of_feeder n.entries) hs (idle lines most packets hs run n (is_shown 0 hs n nodes s)) in
+runs_are_completed script most packets head outcomes hs n nodes run s =
+    let all : AreIdle 0 (of_feeder n.entries) hs = idle_from 0 (of_feeder n.entries) hs (idle script most packets hs run n (is_shown 0 hs n nodes s)) in
     let whole : complete (length hs) 0 (of_feeder n.entries) (shown 0 hs) ≡ hs = complete_shown 0 (of_feeder n.entries) hs all in
     let feeder : feeder_of head.tally.packets (shown 0 hs) ≡ of_feeder n.entries = ap (feeder_of head.tally.packets) s in
     let same : complete (length hs) 0 (feeder_of head.tally.packets (shown 0 hs)) (shown 0 hs) ≡ hs = ap (λ (f : List LogEntry). complete (length hs) 0 f (shown 0 hs)) feeder ∙ whole in

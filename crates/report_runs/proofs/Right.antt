@@ -8,7 +8,7 @@ use Rattle.dmx_calls.specs.declared.limits.TheConstants.{DEMUX_NODES}
 use Rattle.dmx_calls.specs.declared.outcome.Outcome.{Outcome}
 use Rattle.dmx_calls.specs.Log.{LogEntry}
 use Rattle.ts_watch.specs.Head.{StreamHead}
-use Rattle.client_script.specs.declared.line.Line.{Line}
+use Rattle.client_script.specs.Script.{Scripted}
 use Rattle.client_core.specs.Outcomes.{outcomes}
 use Rattle.script_run.specs.IsRun.{replies}
 use Rattle.report_text.specs.Entries.{is_of_client}
@@ -153,9 +153,9 @@ idle_quiet head told hs none i h at =
     let same : h ≡ renumbered (0 + i) 0 (tiled n 0 0 n) = idle_at (DEMUX_NODES + 1) 0 (tiled n 0 0 n) i h there in
     subst (λ (es : List LogEntry). list_any is_of_client es ≡ false) (sym same) (quiet (0 + i) 0 (tiled n 0 0 n) (plain_zero (tiled n 0 0 n) (plain n 0 0 n)))
 
-of_run : (lines : List Line) (packets : List (List ℕ)) (head : StreamHead) (bytes : List ℕ) → are_rows 0 head.rows ≡ true → head.tally.packets ≡ length packets
-    → IsReportOfRun lines packets head bytes → IsRightReport lines packets head bytes
-of_run lines packets head bytes rows count r =
+of_run : (script : Scripted) (packets : List (List ℕ)) (head : StreamHead) (bytes : List ℕ) → are_rows 0 head.rows ≡ true → head.tally.packets ≡ length packets
+    → IsReportOfRun script packets head bytes → IsRightReport script packets head bytes
+of_run script packets head bytes rows count r =
     let t : Told = told_by head r.outcomes r.histories in
     record {
       told = t;
@@ -171,23 +171,23 @@ of_run lines packets head bytes rows count r =
       run = by (shown 0 r.histories) refl;
     }
   where
-    by : (ns : List ToldNode) → shown 0 r.histories ≡ ns → IsRunOf lines packets r.outcomes (completed (told_by head r.outcomes r.histories))
-    by (n ∷ ns) s = subst (λ (hs : List (List LogEntry)). IsRunOf lines packets r.outcomes hs) (sym (runs_are_completed lines 64 packets head r.outcomes r.histories n ns r.run.run s)) r.run
+    by : (ns : List ToldNode) → shown 0 r.histories ≡ ns → IsRunOf script packets r.outcomes (completed (told_by head r.outcomes r.histories))
+    by (n ∷ ns) s = subst (λ (hs : List (List LogEntry)). IsRunOf script packets r.outcomes hs) (sym (runs_are_completed script 64 packets head r.outcomes r.histories n ns r.run.run s)) r.run
     by [] s =
-        let run = idle_runs lines 64 packets head r.outcomes r.histories count r.run.run s in
+        let run = idle_runs script 64 packets head r.outcomes r.histories count r.run.run s in
         record {
           run = run;
           clients = r.run.clients;
           outcomes = λ c is.
-              let mine = idle_made lines c r.histories (uncalled_at 0 r.histories s) (r.run.run.clients_done c is) in
-              let made = idle_made lines c (completed (told_by head r.outcomes r.histories)) (idle_quiet head r.outcomes r.histories s) (run.clients_done c is) in
-              r.run.outcomes c is ∙ ap (λ (es : List LogEntry). Some (outcomes c lines (replies es))) (mine ∙ sym made);
+              let mine = idle_made script c r.histories (uncalled_at 0 r.histories s) (r.run.run.clients_done c is) in
+              let made = idle_made script c (completed (told_by head r.outcomes r.histories)) (idle_quiet head r.outcomes r.histories s) (run.clients_done c is) in
+              r.run.outcomes c is ∙ ap (λ (es : List LogEntry). Some (outcomes c script (replies es))) (mine ∙ sym made);
         }
 
-to_run : (lines : List Line) (packets : List (List ℕ)) (head : StreamHead) (bytes : List ℕ)
-    → IsRightReport lines packets head bytes → IsReportOfRun lines packets head bytes
+to_run : (script : Scripted) (packets : List (List ℕ)) (head : StreamHead) (bytes : List ℕ)
+    → IsRightReport script packets head bytes → IsReportOfRun script packets head bytes
 unfolding completed
-to_run lines packets head bytes r =
+to_run script packets head bytes r =
     let t : Told = r.told in
     let again : shown 0 (completed t) ≡ t.nodes = shown_again (DEMUX_NODES + 1) 0 (feeder_of t.head.tally.packets t.nodes) t.nodes (zero_fed t.head.tally.packets t.nodes) r.report.order.nodes (all_below t.nodes r.report.range.parts.nodes) in
     let same : t ≡ told_by head t.outcomes (completed t) = rw (again, ← r.same) refl in
@@ -199,6 +199,6 @@ to_run lines packets head bytes r =
       text = r.report.text ∙ (ap text_of same ∙ sym (reports_tell head t.outcomes (completed t)));
     }
 
-pub right_are_of_runs : (lines : List Line) (packets : List (List ℕ)) (head : StreamHead) (bytes : List ℕ) → are_rows 0 head.rows ≡ true → head.tally.packets ≡ length packets
-    → (IsReportOfRun lines packets head bytes → IsRightReport lines packets head bytes) × (IsRightReport lines packets head bytes → IsReportOfRun lines packets head bytes)
-right_are_of_runs lines packets head bytes rows count = (of_run lines packets head bytes rows count, to_run lines packets head bytes)
+pub right_are_of_runs : (script : Scripted) (packets : List (List ℕ)) (head : StreamHead) (bytes : List ℕ) → are_rows 0 head.rows ≡ true → head.tally.packets ≡ length packets
+    → (IsReportOfRun script packets head bytes → IsRightReport script packets head bytes) × (IsRightReport script packets head bytes → IsReportOfRun script packets head bytes)
+right_are_of_runs script packets head bytes rows count = (of_run script packets head bytes rows count, to_run script packets head bytes)

@@ -3,7 +3,7 @@ use Rattle.std.specs.Prelude.{◌≡◌, ℕ, true, List, [], ◌∷◌, length}
 use Rattle.dmx_calls.specs.declared.outcome.Outcome.{Outcome}
 use Rattle.dmx_calls.specs.Log.{LogEntry}
 use Rattle.ts_watch.specs.Head.{StreamHead}
-use Rattle.client_script.specs.declared.line.Line.{Line}
+use Rattle.client_script.specs.Script.{Scripted}
 use Rattle.script_run.specs.IsRun.{IsRun}
 use Rattle.report_text.specs.Report.{report_of}
 use Rattle.report_text.specs.Told.{ToldNode, text_of}
@@ -20,22 +20,22 @@ ReportsTell =
 -- Where a client called a node, a report of a run gives all histories of the run.
 abbrev pub RunsAreCompleted : Type 0
 RunsAreCompleted =
-    (lines : List Line) (most : ℕ) (packets : List (List ℕ)) (head : StreamHead) (outcomes : List (List Outcome))
+    (script : Scripted) (most : ℕ) (packets : List (List ℕ)) (head : StreamHead) (outcomes : List (List Outcome))
     (hs : List (List LogEntry)) (n : ToldNode) (nodes : List ToldNode)
-    → IsRun lines most packets hs → shown 0 hs ≡ n ∷ nodes → completed (told_by head outcomes hs) ≡ hs
+    → IsRun script most packets hs → shown 0 hs ≡ n ∷ nodes → completed (told_by head outcomes hs) ≡ hs
 
 -- Where no client called a node, the histories that a report of a run stands for are those of a run, too.
 abbrev pub IdleRunsAreRuns : Type 0
 IdleRunsAreRuns =
-    (lines : List Line) (most : ℕ) (packets : List (List ℕ)) (head : StreamHead) (outcomes : List (List Outcome))
+    (script : Scripted) (most : ℕ) (packets : List (List ℕ)) (head : StreamHead) (outcomes : List (List Outcome))
     (hs : List (List LogEntry)) → head.tally.packets ≡ length packets
-    → IsRun lines most packets hs → shown 0 hs ≡ [] → IsRun lines 64 packets (completed (told_by head outcomes hs))
+    → IsRun script most packets hs → shown 0 hs ≡ [] → IsRun script 64 packets (completed (told_by head outcomes hs))
 
 -- The reports of runs are those that are right: to tell them by what is read of them is to tell them by the runs that there are.
 -- The head is one of a stream with so many packets, its rows in their order.
 abbrev pub RightAreOfRuns : Type 0
 RightAreOfRuns =
-    (lines : List Line) (packets : List (List ℕ)) (head : StreamHead) (bytes : List ℕ)
+    (script : Scripted) (packets : List (List ℕ)) (head : StreamHead) (bytes : List ℕ)
     → are_rows 0 head.rows ≡ true → head.tally.packets ≡ length packets
-    → (IsReportOfRun lines packets head bytes → IsRightReport lines packets head bytes)
-    × (IsRightReport lines packets head bytes → IsReportOfRun lines packets head bytes)
+    → (IsReportOfRun script packets head bytes → IsRightReport script packets head bytes)
+    × (IsRightReport script packets head bytes → IsReportOfRun script packets head bytes)

@@ -7,6 +7,7 @@ use Rattle.lemmas.proofs.Lists.{has_either}
 use Rattle.dmx_calls.specs.declared.limits.TheConstants.{DEMUX_NODES}
 use Rattle.dmx_calls.specs.declared.reply.Tap.TheVariants.{Keep as KeepTap, Attach as AttachTap, Detach as DetachTap}
 use Rattle.dmx_calls.specs.Response.{Response, Done, TapChange}
+use Rattle.client_script.specs.Script.{Scripted}
 use Rattle.client_script.specs.declared.line.Line.{Line}
 use Rattle.client_script.specs.declared.line.Line.TheVariants.{Command as CommandLine, Feed, Tick}
 use Rattle.client_script.specs.declared.line.Target.{Target}
@@ -19,7 +20,7 @@ use Rattle.client_core.specs.declared.event.Event.{Event}
 use Rattle.client_core.specs.declared.event.Request.{Request}
 use Rattle.client_core.specs.declared.task.Ending.{Ending}
 use Rattle.client_core.specs.declared.task.Ending.TheVariants.{Made}
-use Rattle.client_core.specs.Commands.{commands_in, commands_of, Doing, stands, through, once, told, called, read_until, ends_wait, ends_drain, done_on, Slots, done}
+use Rattle.client_core.specs.Commands.{commands_in, commands_among, commands_of, Doing, stands, through, once, told, called, read_until, ends_wait, ends_drain, done_on, Slots, done}
 use Rattle.client_core.specs.Events.{Standing, slots_after, progress_from, progress, no_slots, next_event}
 use Rattle.client_core.proofs.GoesOn.{progress_of}
 use Rattle.script_nodes.specs.Named.{is_for, names, is_named}
@@ -104,14 +105,14 @@ module _ (client node : ℕ) (c : Command) (may : is_for c.target node ≡ true)
   by_line (Feed n) has = absurd has
   by_line (Tick n) has = absurd has
 
-  in_lines : (lines : List Line) → Has (commands_of client lines) c → list_any (names node) lines ≡ true
+  in_lines : (lines : List Line) → Has (commands_among client lines) c → list_any (names node) lines ≡ true
   in_lines [] has = absurd has
-  in_lines (l ∷ lines) has = ⊎_elim (λ here. ap (λ b. b || list_any (names node) lines) (by_line l here)) (λ more. behind (names node l) (in_lines lines more)) (has_either (commands_in client l) (commands_of client lines) c has) where
+  in_lines (l ∷ lines) has = ⊎_elim (λ here. ap (λ b. b || list_any (names node) lines) (by_line l here)) (λ more. behind (names node l) (in_lines lines more)) (has_either (commands_in client l) (commands_among client lines) c has) where
     behind : (b : Bool) → list_any (names node) lines ≡ true → (b || list_any (names node) lines) ≡ true
     behind true e = refl
     behind false e = e
 
-named_by : (lines : List Line) (client node : ℕ) (c : Command) → Has (commands_of client lines) c → MayCall c.target node → is_named lines node ≡ true
+named_by : (lines : List Line) (client node : ℕ) (c : Command) → Has (commands_among client lines) c → MayCall c.target node → is_named lines node ≡ true
 named_by lines client node c has (inl may) = behind (nat_eq node DEMUX_NODES) (in_lines client node c may lines has) where
   behind : (b : Bool) → list_any (names node) lines ≡ true → (b || list_any (names node) lines) ≡ true
   behind true e = refl
@@ -119,9 +120,9 @@ named_by lines client node c has (inl may) = behind (nat_eq node DEMUX_NODES) (i
 named_by lines client node c has (inr is) = ap (λ b. b || list_any (names node) lines) (eq-eqb node DEMUX_NODES is)
 
 -- whatever replies a client has got, its next call is on a node that the script can name
-pub named_next : (lines : List Line) (client : ℕ) (rs : List Response) (event : Event) → next_event client lines rs ≡ Some event → is_named lines event.node ≡ true
+pub named_next : (script : Scripted) (client : ℕ) (rs : List Response) (event : Event) → next_event client script rs ≡ Some event → is_named script.lines event.node ≡ true
 unfolding progress
-named_next lines client rs event is = of_standing (progress_from no_slots 0 (commands_of client lines) rs).standing (progress_on no_slots 0 (commands_of client lines) rs) is where
-  of_standing : (s : Option Standing) → IsOnSome (commands_of client lines) s → option_map (λ (s : Standing). s.event) s ≡ Some event → is_named lines event.node ≡ true
+named_next script client rs event is = of_standing (progress_from no_slots 0 (commands_of client script) rs).standing (progress_on no_slots 0 (commands_of client script) rs) is where
+  of_standing : (s : Option Standing) → IsOnSome (commands_of client script) s → option_map (λ (s : Standing). s.event) s ≡ Some event → is_named script.lines event.node ≡ true
   of_standing None on is = absurd (cc is)
-  of_standing (Some s) on is = let same : s.event ≡ event = cc is in subst (λ (e : Event). is_named lines e.node ≡ true) same (named_by lines client s.event.node on.0 on.1 on.2)
+  of_standing (Some s) on is = let same : s.event ≡ event = cc is in subst (λ (e : Event). is_named script.lines e.node ≡ true) same (named_by script.lines client s.event.node on.0 on.1 on.2)

@@ -1,7 +1,7 @@
 -- A law of the nodes that a script can name.
 use Rattle.std.specs.Prelude.{◌≡◌, ℕ, true, List, Some}
 use Rattle.dmx_calls.specs.Response.{Response}
-use Rattle.client_script.specs.declared.line.Line.{Line}
+use Rattle.client_script.specs.Script.{Scripted}
 use Rattle.client_core.specs.declared.event.Event.{Event}
 use Rattle.client_core.specs.Events.{next_event}
 use Rattle.script_nodes.specs.Named.{is_named}
@@ -9,5 +9,5 @@ use Rattle.script_nodes.specs.Named.{is_named}
 -- whatever replies a client of the script has got, its next call is on a node that the script can name
 abbrev pub CallsAreOnNamedNodes : Type 0
 CallsAreOnNamedNodes =
-    (lines : List Line) (client : ℕ) (replies : List Response) (event : Event)
-    → next_event client lines replies ≡ Some event → is_named lines event.node ≡ true
+    (script : Scripted) (client : ℕ) (replies : List Response) (event : Event)
+    → next_event client script replies ≡ Some event → is_named script.lines event.node ≡ true

@@ -4,7 +4,7 @@
 //! so a command for any node may call it too. `workers`, which runs a script by threads, passes the stream through these nodes
 //! and no other. This is this project's own.
 //!
-//! What a contract sees: `is_named lines node` (`specs/Named.antt`).
+//! What a contract sees: `is_named script.lines node` (`specs/Named.antt`).
 //!
 //! What is proved: `named` answers just that for each of the 33 nodes, and, as a law of the definitions, each call of a client is
 //! on one of them, whatever replies it has got (`calls_are_on_named_nodes`).

@@ -26,7 +26,7 @@ fn with_target(named: &[bool; NODES as usize], target: Target) -> [bool; NODES a
 /// For each of the 33 nodes whether a command of the script may call it. It may call any node where it has a slot, and the dvr
 /// node is told of the demux nodes' taps.
 pub fn named(script: &Script) -> [bool; NODES as usize]
-    ensures { (node : ℕ) → node ≤ last → slice_index_or result node false ≡ is_named script.now node }
+    ensures { (node : ℕ) → node ≤ last → slice_index_or result node false ≡ is_named script.now.lines node }
 {
     let mut named = [false; NODES as usize];
     named[DEMUX_NODES as usize] = true;

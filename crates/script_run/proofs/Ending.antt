@@ -11,7 +11,7 @@ use Rattle.dmx_calls.proofs.LawsHold.{demux_accounted, dvr_accounted}
 use Rattle.script_run.specs.SoFar.{RunsEnd, RunsAreAccounted}
 
 pub runs_end : RunsEnd
-runs_end payers lines most stream hs s over = (
+runs_end payers script most stream hs s over = (
   record {
     nodes = s.nodes;
     places = s.places;
@@ -43,4 +43,4 @@ accounted_at node h legal = go (nat_lt node DEMUX_NODES) legal where
   go false l = dvr_accounted h l
 
 pub are_accounted : RunsAreAccounted
-are_accounted lines most stream hs run node h at = accounted_at node (filled stream h) (run.legal node h at)
+are_accounted script most stream hs run node h at = accounted_at node (filled stream h) (run.legal node h at)

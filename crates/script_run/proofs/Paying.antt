@@ -18,9 +18,9 @@ use Rattle.client_script.specs.declared.line.Line.{Line}
 use Rattle.client_script.specs.declared.line.Line.TheVariants.{Feed, Tick, Command}
 use Rattle.client_script.specs.declared.line.Target.{Target}
 use Rattle.client_script.specs.declared.line.Verb.{Verb}
-use Rattle.client_script.specs.Script.{clients_in}
+use Rattle.client_script.specs.Script.{clients_in, Scripted}
 use Rattle.client_core.specs.declared.command.Command.{Command as ClientCommand}
-use Rattle.client_core.specs.Commands.{commands_of, ends_drain}
+use Rattle.client_core.specs.Commands.{commands_among, ends_drain}
 use Rattle.client_core.specs.Events.{next_event}
 use Rattle.script_run.specs.Budget.{all_commands, most_calls, bytes_in}
 use Rattle.script_run.specs.IsRun.{IsEvent, StandsIn, replies}
@@ -35,7 +35,7 @@ use Rattle.script_run.proofs.Repeating.{adds, quiet, IsGoing, going, quiet_calls
 -- ------ the commands of all clients
 
 abbrev commands_by : (lines : List Line) → ℕ → ℕ
-commands_by lines c = length (commands_of c lines)
+commands_by lines c = length (commands_among c lines)
 
 -- a line's command is one client's
 one_command : (line who : ℕ) (target : Target) (verb : Verb) (lines : List Line) (c : ℕ) → commands_by (Command line who target verb ∷ lines) c ≤ commands_by lines c + one_at who c
@@ -43,7 +43,7 @@ one_command line who target verb lines c = go (nat_eq who c) refl where
   one : ClientCommand
   one = record { line = line; target = target; verb = verb }
 
-  go : (b : Bool) → nat_eq who c ≡ b → length ((if b then one ∷ [] else []) ++ commands_of c lines) ≤ commands_by lines c + one_at who c
+  go : (b : Bool) → nat_eq who c ≡ b → length ((if b then one ∷ [] else []) ++ commands_among c lines) ≤ commands_by lines c + one_at who c
   go true yea = let here : nat_eq c who ≡ true = grind (arith, nat_tests, yea) in rw here (omega arith)
   go false nay = omega arith
 
@@ -78,29 +78,29 @@ pays_not_itself : (payers : Payers) (client who : ℕ) → MayPay payers client 
 pays_not_itself feeder client who is same = absurd (omega (arith, is, same))
 pays_not_itself others client who is same = is same
 
-module _ (payers : Payers) (lines : List Line) (most : ℕ) (stream : List (List ℕ)) (hs : List (List LogEntry)) (s : IsSoFar payers lines most stream hs) where
+module _ (payers : Payers) (script : Scripted) (most : ℕ) (stream : List (List ℕ)) (hs : List (List LogEntry)) (s : IsSoFar payers script most stream hs) where
   -- ------ the entries of a client
 
   -- an entry that isn't the feeder's is one of a client's calls
   record IsMade (e : LogEntry) : Type 0 where
     client : ℕ
-    low : client < clients_in lines
+    low : client < clients_in script
     who : e.who ≡ client + 1
-    made : (is : client < clients_in lines) → slice_get (s.clients client is).made e.step ≡ Some e
+    made : (is : client < clients_in script) → slice_get (s.clients client is).made e.step ≡ Some e
 
   made_by : (e : LogEntry) → StandsIn hs e → e.who ≢ 0 → IsMade e
   made_by e (h, log, at) not = go e.who refl where
     go : (n : ℕ) → e.who ≡ n → IsMade e
     go zero is = absurd (not is)
     go (suc d) is =
-        let low : d < clients_in lines = omega (arith, is, (s.places e.node e.place h e log at).2) in
+        let low : d < clients_in script = omega (arith, is, (s.places e.node e.place h e log at).2) in
         let who : e.who ≡ d + 1 = omega (arith, is) in
         record { client = d; low = low; who = who; made = λ is. (s.clients d is).only e.node e.place h e log at who }
 
   brings_none : (e : LogEntry) → StandsIn hs e → e.who ≢ 0 → length (brought (filled_act stream e.act)) ≡ 0
   brings_none e stands not =
       let m : IsMade e = made_by e stands not in
-      event_brings_none stream (next_event m.client lines (replies (take e.step (s.clients m.client m.low).made))) e ((s.clients m.client m.low).steps e.step e (m.made m.low)).3
+      event_brings_none stream (next_event m.client script (replies (take e.step (s.clients m.client m.low).made))) e ((s.clients m.client m.low).steps e.step e (m.made m.low)).3
 
   only_feeder : (es : List LogEntry) → ((i : ℕ) (e : LogEntry) → slice_get es i ≡ Some e → StandsIn hs e) → OnlyFeederBrings stream es
   only_feeder [] each = tt
@@ -173,29 +173,29 @@ module _ (payers : Payers) (lines : List Line) (most : ℕ) (stream : List (List
 
   -- ------ what other clients make
 
-  module _ (c : ℕ) (is : c < clients_in lines) where
-    abbrev me : HasDoneSoFar payers lines c hs
+  module _ (c : ℕ) (is : c < clients_in script) where
+    abbrev me : HasDoneSoFar payers script c hs
     me = s.clients c is
 
     abbrev ClientPays : ℕ → LogEntry → Type 0
-    ClientPays d e = (d ≢ c) × ((low : d < clients_in lines) → Has (s.clients d low).made e)
+    ClientPays d e = (d ≢ c) × ((low : d < clients_in script) → Has (s.clients d low).made e)
 
     abbrev OtherPays : LogEntry → Type 0
-    OtherPays e = (d : ℕ) × (d < clients_in lines) × ClientPays d e
+    OtherPays e = (d : ℕ) × (d < clients_in script) × ClientPays d e
 
-    events : (d : ℕ) (low : d < clients_in lines) (i : ℕ) (e : LogEntry) → slice_get (s.clients d low).made i ≡ Some e → IsEvent (next_event d lines (replies (take i (s.clients d low).made))) e
+    events : (d : ℕ) (low : d < clients_in script) (i : ℕ) (e : LogEntry) → slice_get (s.clients d low).made i ≡ Some e → IsEvent (next_event d script (replies (take i (s.clients d low).made))) e
     events d low i e at = ((s.clients d low).steps i e at).3
 
-    client_at : (d : ℕ) → d < clients_in lines → (same : Bool) → nat_eq d c ≡ same → Pool quiet (ClientPays d) (if same then 0 else firsts lines d)
+    client_at : (d : ℕ) → d < clients_in script → (same : Bool) → nat_eq d c ≡ same → Pool quiet (ClientPays d) (if same then 0 else firsts script.lines d)
     client_at d low true yea = record { tokens = []; within = omega arith; all = λ t pays. absurd (pays.0 (grind (arith, nat_tests, yea))) }
     client_at d low false nay = record {
       tokens = (s.clients d low).made;
-      within = quiet_calls lines d (s.clients d low).made (events d low);
+      within = quiet_calls script d (s.clients d low).made (events d low);
       all = λ t pays. pays.1 low;
     }
 
-    other_pool : Pool quiet OtherPays (total (but c (firsts lines)) (clients_in lines))
-    other_pool = all_pools quiet ClientPays (but c (firsts lines)) (clients_in lines) (λ d low. client_at d low (nat_eq d c) refl)
+    other_pool : Pool quiet OtherPays (total (but c (firsts script.lines)) (clients_in script))
+    other_pool = all_pools quiet ClientPays (but c (firsts script.lines)) (clients_in script) (λ d low. client_at d low (nat_eq d c) refl)
 
     -- ------ the entry behind a read
 
@@ -212,10 +212,10 @@ module _ (payers : Payers) (lines : List Line) (most : ℕ) (stream : List (List
         )
 
     abbrev my_bytes : ℕ → ℕ
-    my_bytes i = by_bytes lines c me.made (events c is) i
+    my_bytes i = by_bytes script c me.made (events c is) i
 
     abbrev my_again : ℕ → ℕ
-    my_again i = by_again lines c me.made (events c is) i
+    my_again i = by_again script c me.made (events c is) i
 
     -- ------ bytes
 
@@ -229,7 +229,7 @@ module _ (payers : Payers) (lines : List Line) (most : ℕ) (stream : List (List
           let stands = (me.steps i e at).2 in (
             e,
             (all_bytes are).all e (stands_on e stands),
-            bytes_pay lines c me.made (events c is) i e at (λ now count read. read_there e.node stream stands.0 (s.legal e.node stands.0 stands.1) e.place e now count stands.2 read) more,
+            bytes_pay script c me.made (events c is) i e at (λ now count read. read_there e.node stream stands.0 (s.legal e.node stands.0 stands.1) e.place e now count stands.2 read) more,
             at,
           )
 
@@ -251,9 +251,9 @@ module _ (payers : Payers) (lines : List Line) (most : ℕ) (stream : List (List
     module _ (Pays : LogEntry → Type 0) (bound : ℕ) (pool : Pool quiet Pays bound) (pays : (x : LogEntry) → StandsIn hs x → MayPay payers c x.who → Pays x) where
       again_there : (i : ℕ) (e f : LogEntry) → slice_get me.made i ≡ Some e → slice_get me.made (suc i) ≡ Some f → 0 < my_again i → (x : LogEntry) × Has pool.tokens x × (my_again i ≤ quiet x) × IsBehind i x
       again_there i e f at next more =
-          let w : IsWaiting lines c me.made (events c is) i e = waiting lines c me.made (events c is) i e at more in
+          let w : IsWaiting script c me.made (events c is) i e = waiting script c me.made (events c is) i e at more in
           go w (me.paid i e f at next (w.stays f next) w.waits) where
-            go : IsWaiting lines c me.made (events c is) i e → IsPaidBehind payers c hs e → (x : LogEntry) × Has pool.tokens x × (my_again i ≤ quiet x) × IsBehind i x
+            go : IsWaiting script c me.made (events c is) i e → IsPaidBehind payers c hs e → (x : LogEntry) × Has pool.tokens x × (my_again i ≤ quiet x) × IsBehind i x
             go w (x, stands, node, place, may) =
                 let mine : e.who ≡ c + 1 = (me.steps i e at).1 in
                 let differ : e.who ≢ x.who = λ same. pays_not_itself payers c x.who may (sym same ∙ mine) in
@@ -270,13 +270,13 @@ module _ (payers : Payers) (lines : List Line) (most : ℕ) (stream : List (List
 
       -- ------ the bound
 
-      within_to : firsts lines c + bound ≤ 33 * commands_for payers c lines + 33 * (length stream + 1) → All IsPacket stream → (n : ℕ) → length me.made ≡ n
-          → length me.made ≤ firsts lines c + total (grows lines c me.made (events c is)) (but_one lines c me.made (events c is) n) → length me.made ≤ most_calls (commands_for payers c lines) (188 * length stream)
+      within_to : firsts script.lines c + bound ≤ 33 * commands_for payers c script + 33 * (length stream + 1) → All IsPacket stream → (n : ℕ) → length me.made ≡ n
+          → length me.made ≤ firsts script.lines c + total (grows script c me.made (events c is)) (but_one script c me.made (events c is) n) → length me.made ≤ most_calls (commands_for payers c script) (188 * length stream)
       within_to enough are zero long few = omega (arith, long)
-      within_to enough are (suc k) long few = omega (arith, few, both_kinds lines c me.made (events c is) k, bytes_count are k (omega (arith, long)), again_count k (omega (arith, long)), enough)
+      within_to enough are (suc k) long few = omega (arith, few, both_kinds script c me.made (events c is) k, bytes_count are k (omega (arith, long)), again_count k (omega (arith, long)), enough)
 
-      pub within : firsts lines c + bound ≤ 33 * commands_for payers c lines + 33 * (length stream + 1) → All IsPacket stream → length me.made ≤ most_calls (commands_for payers c lines) (188 * length stream)
-      within enough are = within_to enough are (length me.made) refl (calls_and_repeats lines c me.made (events c is))
+      pub within : firsts script.lines c + bound ≤ 33 * commands_for payers c script + 33 * (length stream + 1) → All IsPacket stream → length me.made ≤ most_calls (commands_for payers c script) (188 * length stream)
+      within enough are = within_to enough are (length me.made) refl (calls_and_repeats script c me.made (events c is))
 
     feeders : (x : LogEntry) → StandsIn hs x → x.who ≡ 0 → FeederPays x
     feeders x stands zero_is = let on = stands_on x stands in (on.0, on.1, (on.2, zero_is))
@@ -288,19 +288,19 @@ module _ (payers : Payers) (lines : List Line) (most : ℕ) (stream : List (List
         inr (m.client, m.low, ((λ same. may (m.who ∙ ap (λ n. n + 1) same)), (λ low. has_at (s.clients m.client low).made x x.step (m.made low))))
 
 pub calls_are_paid : CallsArePaid
-calls_are_paid feeder lines most stream hs s are c is =
-    within feeder lines most stream hs s c is (FeederPays feeder lines most stream hs s) (total (λ node. length stream + 1) 33) (feeder_pool feeder lines most stream hs s)
-    (feeders feeder lines most stream hs s c is) (omega (arith, total_same (length stream + 1) 33)) are
-calls_are_paid others lines most stream hs s are c is =
-    within others lines most stream hs s c is (λ x. FeederPays others lines most stream hs s x ⊎ OtherPays others lines most stream hs s c is x)
-    (total (λ node. length stream + 1) 33 + total (but c (firsts lines)) (clients_in lines))
-    (both quiet (FeederPays others lines most stream hs s) (OtherPays others lines most stream hs s c is) (total (λ node. length stream + 1) 33) (total (but c (firsts lines)) (clients_in lines))
-    (feeder_pool others lines most stream hs s) (other_pool others lines most stream hs s c is))
-    (λ x stands may. either others lines most stream hs s c is x stands may (nat_eq x.who 0) refl)
+calls_are_paid feeder script most stream hs s are c is =
+    within feeder script most stream hs s c is (FeederPays feeder script most stream hs s) (total (λ node. length stream + 1) 33) (feeder_pool feeder script most stream hs s)
+    (feeders feeder script most stream hs s c is) (omega (arith, total_same (length stream + 1) 33)) are
+calls_are_paid others script most stream hs s are c is =
+    within others script most stream hs s c is (λ x. FeederPays others script most stream hs s x ⊎ OtherPays others script most stream hs s c is x)
+    (total (λ node. length stream + 1) 33 + total (but c (firsts script.lines)) (clients_in script))
+    (both quiet (FeederPays others script most stream hs s) (OtherPays others script most stream hs s c is) (total (λ node. length stream + 1) 33) (total (but c (firsts script.lines)) (clients_in script))
+    (feeder_pool others script most stream hs s) (other_pool others script most stream hs s c is))
+    (λ x stands may. either others script most stream hs s c is x stands may (nat_eq x.who 0) refl)
     (omega (
       arith,
       total_same (length stream + 1) 33,
-      total_but c (firsts lines) (clients_in lines) is,
-      total_33 (commands_by lines) (clients_in lines),
-      commands_shared lines (clients_in lines),
+      total_but c (firsts script.lines) (clients_in script) is,
+      total_33 (commands_by script.lines) (clients_in script),
+      commands_shared script.lines (clients_in script),
     )) are

@@ -7,7 +7,7 @@ use Rattle.dmx_calls.specs.declared.log.Act.{Act}
 use Rattle.dmx_calls.specs.declared.log.Act.TheVariants.{Read as ReadAct}
 use Rattle.dmx_calls.specs.Log.{LogEntry, act_of}
 use Rattle.dmx_calls.specs.Response.{Response, Done, Busy, Refused, NoMemory, Data, Again, Overflow, TimedOut, Ready, Passed}
-use Rattle.client_script.specs.declared.line.Line.{Line}
+use Rattle.client_script.specs.Script.{Scripted}
 use Rattle.client_core.specs.declared.event.Event.{Event}
 use Rattle.client_core.specs.declared.event.Request.{Request}
 use Rattle.client_core.specs.declared.event.Request.TheVariants.{Own}
@@ -92,48 +92,48 @@ asked_by (Some event) e is = record { event = event; is = refl; node = is.0; mom
 
 -- ------ along the log
 
-module _ (lines : List Line) (client : ℕ) (log : List LogEntry) (events : (i : ℕ) (e : LogEntry) → slice_get log i ≡ Some e → IsEvent (next_event client lines (replies (take i log))) e) where
+module _ (script : Scripted) (client : ℕ) (log : List LogEntry) (events : (i : ℕ) (e : LogEntry) → slice_get log i ≡ Some e → IsEvent (next_event client script (replies (take i log))) e) where
   -- the repeats after so many calls
   abbrev pub repeats_after : ℕ → ℕ
-  repeats_after i = repeats client lines (replies (take i log))
+  repeats_after i = repeats client script (replies (take i log))
 
   -- those that this call adds
   abbrev pub grows : ℕ → ℕ
   grows i = repeats_after (suc i) - repeats_after i
 
   pub record OneCall (i : ℕ) (e : LogEntry) : Type 0 where
-    pub few : i < 33 * length (commands_of client lines) + repeats_after i
+    pub few : i < 33 * length (commands_of client script) + repeats_after i
     pub more : repeats_after (suc i) ≤ repeats_after i + adds e
-    pub waits : e.response ≡ Again false → waits_on client lines (replies (take (suc i) log)) ≡ None → repeats_after (suc i) ≤ repeats_after i
+    pub waits : e.response ≡ Again false → waits_on client script (replies (take (suc i) log)) ≡ None → repeats_after (suc i) ≤ repeats_after i
     pub stays : e.response ≡ Again false → repeats_after i < repeats_after (suc i) → (f : LogEntry) → slice_get log (suc i) ≡ Some f → f.node ≡ e.node
 
   pub one_call : (i : ℕ) (e : LogEntry) → slice_get log i ≡ Some e → OneCall i e
   one_call i e is =
-      let a : Asked (next_event client lines (replies (take i log))) e = asked_by (next_event client lines (replies (take i log))) e (events i e is) in
-      let s = some_of (progress client lines (replies (take i log))).standing a.event a.is in
+      let a : Asked (next_event client script (replies (take i log))) e = asked_by (next_event client script (replies (take i log))) e (events i e is) in
+      let s = some_of (progress client script (replies (take i log))).standing a.event a.is in
       let next : replies (take (suc i) log) ≡ replies (take i log) ++ e.response ∷ [] = ap replies (take_next log i e is) ∙ map-append (λ (x : LogEntry). x.response) (take i log) (e ∷ []) in
-      let more = one_reply_more client lines (replies (take i log)) e.response a.event a.is in
+      let more = one_reply_more client script (replies (take i log)) e.response a.event a.is in
       let added : adds e ≡ added_by a.event.want e.response = ap (λ x. adds_to x e.response) a.act ∙ asked a.event.want a.moment e.response in
-      let grown : repeats_after (suc i) ≡ repeats client lines (replies (take i log) ++ e.response ∷ []) = ap (λ rs. repeats client lines rs) next in
+      let grown : repeats_after (suc i) ≡ repeats client script (replies (take i log) ++ e.response ∷ []) = ap (λ rs. repeats client script rs) next in
       let long : length (replies (take i log)) ≡ i = length_taken (λ (x : LogEntry). x.response) log i e is in
       record {
-        few = omega (arith, long, first_calls client lines (replies (take i log)) s.0 s.1);
+        few = omega (arith, long, first_calls client script (replies (take i log)) s.0 s.1);
         more = omega (arith, grown, added, more.0);
-        waits = λ again none. omega (arith, grown, more.1 again (sym (ap (λ rs. waits_on client lines rs) next) ∙ none));
+        waits = λ again none. omega (arith, grown, more.1 again (sym (ap (λ rs. waits_on client script rs) next) ∙ none));
         stays = λ again less f there. still a s.0 s.1 s.2 (next ∙ ap (λ r. replies (take i log) ++ r ∷ []) again) less f there;
       } where
-        still : (a : Asked (next_event client lines (replies (take i log))) e) (s : Standing) → (progress client lines (replies (take i log))).standing ≡ Some s → s.event ≡ a.event
+        still : (a : Asked (next_event client script (replies (take i log))) e) (s : Standing) → (progress client script (replies (take i log))).standing ≡ Some s → s.event ≡ a.event
             → replies (take (suc i) log) ≡ replies (take i log) ++ Again false ∷ [] → repeats_after i < repeats_after (suc i) → (f : LogEntry) → slice_get log (suc i) ≡ Some f → f.node ≡ e.node
         still a s stood same next less f there =
-            let b : Asked (next_event client lines (replies (take (suc i) log))) f = asked_by (next_event client lines (replies (take (suc i) log))) f (events (suc i) f there) in
-            let t = some_of (progress client lines (replies (take (suc i) log))).standing b.event b.is in
+            let b : Asked (next_event client script (replies (take (suc i) log))) f = asked_by (next_event client script (replies (take (suc i) log))) f (events (suc i) f there) in
+            let t = some_of (progress client script (replies (take (suc i) log))).standing b.event b.is in
             let kept : t.0.event.node ≡ s.event.node =
-            stays_on client lines (replies (take i log)) s stood (subst (λ rs. repeats_after i < repeats client lines rs) next less) t.0 (sym (ap (λ rs. (progress client lines rs).standing) next) ∙ t.1) in
+            stays_on client script (replies (take i log)) s stood (subst (λ rs. repeats_after i < repeats client script rs) next less) t.0 (sym (ap (λ rs. (progress client script rs).standing) next) ∙ t.1) in
             b.node ∙ sym (ap (λ x. x.node) t.2) ∙ kept ∙ ap (λ x. x.node) same ∙ sym a.node
 
   none_at_first : repeats_after 0 ≡ 0
   unfolding repeats
-  none_at_first = repeats_none no_slots 0 (commands_of client lines)
+  none_at_first = repeats_none no_slots 0 (commands_of client script)
 
   -- the repeats are those that the calls add
   pub all_repeats : (n : ℕ) → repeats_after n ≤ total grows n
@@ -150,17 +150,17 @@ module _ (lines : List Line) (client : ℕ) (log : List LogEntry) (events : (i :
   but_one zero = 0
   but_one (suc k) = k
 
-  few_to : (n : ℕ) → length log ≡ n → n ≤ 33 * length (commands_of client lines) + total grows (but_one n)
+  few_to : (n : ℕ) → length log ≡ n → n ≤ 33 * length (commands_of client script) + total grows (but_one n)
   few_to zero is = omega arith
   few_to (suc k) is =
       let e = at_place log k (omega (arith, is)) in
       omega (arith, (one_call k e.0 e.1).few, all_repeats k)
 
   -- A client makes 33 calls a command, beside the repeats that all its calls but the last add.
-  pub calls_and_repeats : length log ≤ 33 * length (commands_of client lines) + total grows (but_one (length log))
+  pub calls_and_repeats : length log ≤ 33 * length (commands_of client script) + total grows (but_one (length log))
   calls_and_repeats = few_to (length log) refl
 
-  quiet_to : (n : ℕ) → length log ≡ n → weigh quiet log ≤ 33 * length (commands_of client lines)
+  quiet_to : (n : ℕ) → length log ≡ n → weigh quiet log ≤ 33 * length (commands_of client script)
   quiet_to zero is = omega (arith, all_calls log, is)
   quiet_to (suc k) is =
       let fewer : total grows k ≤ total (weight_at adds log) k = total_le grows (weight_at adds log) k (λ i lt. grows_by i (omega (arith, lt, is))) in
@@ -168,7 +168,7 @@ module _ (lines : List Line) (client : ℕ) (log : List LogEntry) (events : (i :
       omega (arith, few_to (suc k) is, fewer, all, all_calls log, is)
 
   -- Of its calls, those that add no repeat are at most 33 a command.
-  pub quiet_calls : weigh quiet log ≤ 33 * length (commands_of client lines)
+  pub quiet_calls : weigh quiet log ≤ 33 * length (commands_of client script)
   quiet_calls = quiet_to (length log) refl
 
   -- ------ repeats by bytes and repeats after Again
@@ -214,7 +214,7 @@ module _ (lines : List Line) (client : ℕ) (log : List LogEntry) (events : (i :
   pub record IsWaiting (i : ℕ) (e : LogEntry) : Type 0 where
     pub going : IsGoing e.act e.response
     pub again : e.response ≡ Again false
-    pub waits : IsSome (waits_on client lines (replies (take (suc i) log)))
+    pub waits : IsSome (waits_on client script (replies (take (suc i) log)))
     pub stays : (f : LogEntry) → slice_get log (suc i) ≡ Some f → f.node ≡ e.node
     pub once : by_again i ≤ 1
 
@@ -244,7 +244,7 @@ module _ (lines : List Line) (client : ℕ) (log : List LogEntry) (events : (i :
       record {
         going = g.0;
         again = again;
-        waits = some_waits (waits_on client lines (replies (take (suc i) log))) (λ none. omega (arith, more, one.waits again none));
+        waits = some_waits (waits_on client script (replies (take (suc i) log))) (λ none. omega (arith, more, one.waits again none));
         stays = one.stays again (omega (arith, more));
         once = subst (λ b. (if b then grows i else 0) ≤ 1) (sym at) g.1;
       }

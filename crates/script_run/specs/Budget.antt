@@ -1,11 +1,12 @@
 -- How many calls a client makes in a run (this project's own).
 use Rattle.std.specs.Prelude.{ℕ, ◌≡◌, ◌⊎◌, ◌≤◌, ◌+◌, ◌*◌, ◌-◌, ◌^◌, List, [], ◌∷◌, length}
 use Rattle.dmx_calls.specs.Response.{Response, Data, Overflow}
+use Rattle.client_script.specs.Script.{Scripted}
 use Rattle.client_script.specs.declared.line.Line.{Line}
 use Rattle.client_script.specs.declared.line.Line.TheVariants.{Command}
 use Rattle.client_core.specs.declared.stop.TheConstants.{MOST_CALLS}
 
--- how many commands a script has
+-- how many commands these lines are
 abbrev pub all_commands : List Line → ℕ
 all_commands [] = 0
 all_commands (Command line client target verb ∷ lines) = 1 + all_commands lines
@@ -17,10 +18,10 @@ most_calls commands bytes = 33 * (commands + 2 * bytes + 1)
 
 -- Why a run is too long: so many reads were made, as the bytes taken show, or the commands and
 -- the bytes allow a client so many calls.
-abbrev pub IsTooLong : (lines : List Line) → (start turns : ℕ) → (ahead taken : List ℕ) → Type 0
-IsTooLong lines start turns ahead taken =
+abbrev pub IsTooLong : (script : Scripted) → (start turns : ℕ) → (ahead taken : List ℕ) → Type 0
+IsTooLong script start turns ahead taken =
     ((turns ≡ 2 ^ 32) × (2 ^ 32 ≤ start + length taken))
-    ⊎ ((turns ≡ MOST_CALLS) × (MOST_CALLS ≤ most_calls (all_commands lines) (length ahead + length taken)))
+    ⊎ ((turns ≡ MOST_CALLS) × (MOST_CALLS ≤ most_calls (all_commands script.lines) (length ahead + length taken)))
 
 -- the bytes that a reply gives, or names as lost
 abbrev pub bytes_in : Response → ℕ

@@ -8,8 +8,7 @@ use Rattle.dmx_calls.specs.declared.log.Act.{Act}
 use Rattle.dmx_calls.specs.declared.log.Act.TheVariants.{Pass as PassAct, End as EndAct}
 use Rattle.dmx_calls.specs.Log.{LogEntry, act_of, filled}
 use Rattle.dmx_calls.specs.Rules.{rules_at}
-use Rattle.client_script.specs.declared.line.Line.{Line}
-use Rattle.client_script.specs.Script.{clients_in}
+use Rattle.client_script.specs.Script.{clients_in, Scripted}
 use Rattle.client_core.specs.declared.event.Event.{Event}
 use Rattle.client_core.specs.Commands.{call_of}
 use Rattle.client_core.specs.Events.{next_event}
@@ -60,14 +59,14 @@ replies made = map (λ e. e.response) made
 
 -- A client did just what its commands ask, by the replies that it got, to their
 -- end: `made` is its calls in their order.
-pub record HasDone (lines : List Line) (client : ℕ) (hs : List (List LogEntry)) : Type 0 where
+pub record HasDone (script : Scripted) (client : ℕ) (hs : List (List LogEntry)) : Type 0 where
   pub made : List LogEntry
   -- its steps are 0, 1, .., and each is the call that its commands ask for after the replies before it
   pub steps : (i : ℕ) (e : LogEntry) → slice_get made i ≡ Some e
       → (e.step ≡ i) × (e.who ≡ client + 1) × StandsIn hs e
-      × IsEvent (next_event client lines (replies (take i made))) e
+      × IsEvent (next_event client script (replies (take i made))) e
   -- after all of them the commands are through
-  pub ends : next_event client lines (replies made) ≡ None
+  pub ends : next_event client script (replies made) ≡ None
   -- the histories have no other call of this client
   pub only : (node place : ℕ) (h : List LogEntry) (e : LogEntry) → slice_get hs node ≡ Some h
       → slice_get h place ≡ Some e → e.who ≡ client + 1 → slice_get made e.step ≡ Some e
@@ -78,17 +77,17 @@ pub record HasDone (lines : List Line) (client : ℕ) (hs : List (List LogEntry)
 -- ------ the run
 
 -- each entry stands on its node and at its place, its caller is the feeder or a client, and memory was found
-abbrev pub ArePlaced : List Line → List (List LogEntry) → Type 0
-ArePlaced lines hs =
+abbrev pub ArePlaced : Scripted → List (List LogEntry) → Type 0
+ArePlaced script hs =
     (node place : ℕ) (h : List LogEntry) (e : LogEntry) → slice_get hs node ≡ Some h → slice_get h place ≡ Some e
-    → (e.node ≡ node) × (e.place ≡ place) × (e.who ≤ clients_in lines) × (e.response ≢ NoMemory)
+    → (e.node ≡ node) × (e.place ≡ place) × (e.who ≤ clients_in script) × (e.response ≢ NoMemory)
 
 -- These histories are those of a run of the script: `most` is the greatest number of packets of a batch, and
 -- `stream` is the packets of the stream.
-pub record IsRun (lines : List Line) (most : ℕ) (stream : List (List ℕ)) (hs : List (List LogEntry)) : Type 0 where
+pub record IsRun (script : Scripted) (most : ℕ) (stream : List (List ℕ)) (hs : List (List LogEntry)) : Type 0 where
   pub nodes : length hs ≡ DEMUX_NODES + 1
-  pub places : ArePlaced lines hs
+  pub places : ArePlaced script hs
   -- each response is the one that the entries before it give
   pub legal : (node : ℕ) (h : List LogEntry) → slice_get hs node ≡ Some h → IsLegalFor (rules_at node) (filled stream h)
   pub fed : IsFed most (length stream) hs
-  pub clients_done : (c : ℕ) → c < clients_in lines → HasDone lines c hs
+  pub clients_done : (c : ℕ) → c < clients_in script → HasDone script c hs

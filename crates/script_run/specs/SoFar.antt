@@ -8,8 +8,7 @@ use Rattle.dmx_calls.specs.Accounted.{IsAccounted}
 use Rattle.dmx_calls.specs.Legal.{IsLegalFor}
 use Rattle.dmx_calls.specs.Log.{LogEntry, filled}
 use Rattle.dmx_calls.specs.Rules.{rules_at}
-use Rattle.client_script.specs.declared.line.Line.{Line}
-use Rattle.client_script.specs.Script.{clients_in}
+use Rattle.client_script.specs.Script.{clients_in, Scripted}
 use Rattle.client_core.specs.Commands.{commands_of}
 use Rattle.client_core.specs.Events.{next_event, waits_on}
 use Rattle.script_run.specs.Budget.{all_commands, most_calls}
@@ -48,13 +47,13 @@ IsPaidBehind payers client hs e =
     (x : LogEntry) × StandsIn hs x × (x.node ≡ e.node) × (x.place ≡ e.place + 1) × MayPay payers client x.who
 
 -- A client did just what its commands ask, by the replies that it got: `made` is its calls so far, in their order.
-pub record HasDoneSoFar (payers : Payers) (lines : List Line) (client : ℕ)
+pub record HasDoneSoFar (payers : Payers) (script : Scripted) (client : ℕ)
     (hs : List (List LogEntry)) : Type 0 where
   pub made : List LogEntry
   -- its steps are 0, 1, .., and each is the call that its commands ask for after the replies before it
   pub steps : (i : ℕ) (e : LogEntry) → slice_get made i ≡ Some e
       → (e.step ≡ i) × (e.who ≡ client + 1) × StandsIn hs e
-      × IsEvent (next_event client lines (replies (take i made))) e
+      × IsEvent (next_event client script (replies (take i made))) e
   -- the histories have no other call of this client
   pub only : (node place : ℕ) (h : List LogEntry) (e : LogEntry) → slice_get hs node ≡ Some h
       → slice_get h place ≡ Some e → e.who ≡ client + 1 → slice_get made e.step ≡ Some e
@@ -63,53 +62,53 @@ pub record HasDoneSoFar (payers : Payers) (lines : List Line) (client : ℕ)
       → e.node ≡ f.node → e.place < f.place
   -- between a read that found nothing and its repeat an entry of another stands on that node: it pays for the repeat
   pub paid : (i : ℕ) (e f : LogEntry) → slice_get made i ≡ Some e → slice_get made (suc i) ≡ Some f
-      → f.node ≡ e.node → IsSome (waits_on client lines (replies (take (suc i) made)))
+      → f.node ≡ e.node → IsSome (waits_on client script (replies (take (suc i) made)))
       → IsPaidBehind payers client hs e
 
 -- ------ the run
 
 -- These histories are those of a run of the script so far: at most the packets of `stream` have passed, and the end
 -- of the stream or not yet.
-pub record IsSoFar (payers : Payers) (lines : List Line) (most : ℕ) (stream : List (List ℕ))
+pub record IsSoFar (payers : Payers) (script : Scripted) (most : ℕ) (stream : List (List ℕ))
     (hs : List (List LogEntry)) : Type 0 where
   pub nodes : length hs ≡ DEMUX_NODES + 1
-  pub places : ArePlaced lines hs
+  pub places : ArePlaced script hs
   pub legal : (node : ℕ) (h : List LogEntry) → slice_get hs node ≡ Some h → IsLegalFor (rules_at node) (filled stream h)
   pub fed : IsFedSoFar most (length stream) hs
-  pub clients : (c : ℕ) → c < clients_in lines → HasDoneSoFar payers lines c hs
+  pub clients : (c : ℕ) → c < clients_in script → HasDoneSoFar payers script c hs
 
 -- ------ laws
 
 -- it is over: the whole stream has passed, and its end, and no client has a next call
-pub record IsOver {payers : Payers} {lines : List Line} {most : ℕ} {stream : List (List ℕ)}
-    {hs : List (List LogEntry)} (s : IsSoFar payers lines most stream hs) : Type 0 where
+pub record IsOver {payers : Payers} {script : Scripted} {most : ℕ} {stream : List (List ℕ)}
+    {hs : List (List LogEntry)} (s : IsSoFar payers script most stream hs) : Type 0 where
   pub whole : sum (map (λ b. b.size) s.fed.batches) ≡ length stream
   pub ended : (node : ℕ) (h : List LogEntry) → slice_get hs node ≡ Some h → steps_of 0 h ≡ feeding 0 0 s.fed.batches
-  pub through : (c : ℕ) (is : c < clients_in lines) → next_event c lines (replies (s.clients c is).made) ≡ None
+  pub through : (c : ℕ) (is : c < clients_in script) → next_event c script (replies (s.clients c is).made) ≡ None
 
 -- A run so far that is over is a run, of the same batches and of the same calls.
 abbrev pub RunsEnd : Type 0
 RunsEnd =
-    (payers : Payers) (lines : List Line) (most : ℕ) (stream : List (List ℕ)) (hs : List (List LogEntry))
-    (s : IsSoFar payers lines most stream hs) → IsOver s
-    → (run : IsRun lines most stream hs) × (run.fed.batches ≡ s.fed.batches)
-    × ((c : ℕ) (is : c < clients_in lines) → (run.clients_done c is).made ≡ (s.clients c is).made)
+    (payers : Payers) (script : Scripted) (most : ℕ) (stream : List (List ℕ)) (hs : List (List LogEntry))
+    (s : IsSoFar payers script most stream hs) → IsOver s
+    → (run : IsRun script most stream hs) × (run.fed.batches ≡ s.fed.batches)
+    × ((c : ℕ) (is : c < clients_in script) → (run.clients_done c is).made ≡ (s.clients c is).made)
 
 -- the commands whose calls may pay for a client's repeats, and its own
-abbrev pub commands_for : Payers → (client : ℕ) → List Line → ℕ
-commands_for feeder client lines = length (commands_of client lines)
-commands_for others client lines = all_commands lines
+abbrev pub commands_for : Payers → (client : ℕ) → Scripted → ℕ
+commands_for feeder client script = length (commands_of client script)
+commands_for others client script = all_commands script.lines
 
 -- At each moment of a run a client has made no more calls than these commands and the bytes of the packets allow.
 abbrev pub CallsArePaid : Type 0
 CallsArePaid =
-    (payers : Payers) (lines : List Line) (most : ℕ) (stream : List (List ℕ)) (hs : List (List LogEntry))
-    (s : IsSoFar payers lines most stream hs) → All IsPacket stream
-    → (c : ℕ) (is : c < clients_in lines)
-    → length (s.clients c is).made ≤ most_calls (commands_for payers c lines) (188 * length stream)
+    (payers : Payers) (script : Scripted) (most : ℕ) (stream : List (List ℕ)) (hs : List (List LogEntry))
+    (s : IsSoFar payers script most stream hs) → All IsPacket stream
+    → (c : ℕ) (is : c < clients_in script)
+    → length (s.clients c is).made ≤ most_calls (commands_for payers c script) (188 * length stream)
 
 -- Each history of a run is accounted.
 abbrev pub RunsAreAccounted : Type 0
 RunsAreAccounted =
-    (lines : List Line) (most : ℕ) (stream : List (List ℕ)) (hs : List (List LogEntry)) → IsRun lines most stream hs
+    (script : Scripted) (most : ℕ) (stream : List (List ℕ)) (hs : List (List LogEntry)) → IsRun script most stream hs
     → (node : ℕ) (h : List LogEntry) → slice_get hs node ≡ Some h → IsAccounted (rules_at node) (filled stream h)

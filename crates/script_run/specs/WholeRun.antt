@@ -7,8 +7,7 @@ use Rattle.dmx_calls.specs.declared.log.Act.{Act}
 use Rattle.dmx_calls.specs.declared.log.Act.TheVariants.{SetFilter as SetFilterAct, SetPes as SetPesAct, Start as StartAct, Read as ReadAct, Poll as PollAct, Pass as PassAct}
 use Rattle.dmx_calls.specs.Log.{LogEntry, filled}
 use Rattle.dmx_calls.specs.Rules.{rules_at}
-use Rattle.client_script.specs.declared.line.Line.{Line}
-use Rattle.client_script.specs.Script.{clients_in}
+use Rattle.client_script.specs.Script.{clients_in, Scripted}
 use Rattle.client_core.specs.Outcomes.{outcomes}
 use Rattle.script_run.specs.IsRun.{Batch, IsRun, replies}
 
@@ -30,14 +29,14 @@ AreFull most (b ∷ next ∷ bs) = (b.size ≡ most) × AreFull most (next ∷ b
 
 -- A run of the script in full batches, at moments that the clock may give. Each history is accounted, and `told` is
 -- what became of each client's commands, by the replies that its calls in the histories got.
-pub record IsWholeRun (lines : List Line) (most : ℕ) (may : ℕ → Bool) (stream : List (List ℕ))
+pub record IsWholeRun (script : Scripted) (most : ℕ) (may : ℕ → Bool) (stream : List (List ℕ))
     (told : List (List Outcome)) (hs : List (List LogEntry)) : Type 0 where
-  pub run : IsRun lines most stream hs
+  pub run : IsRun script most stream hs
   pub accounted : (node : ℕ) (h : List LogEntry) → slice_get hs node ≡ Some h
       → IsAccounted (rules_at node) (filled stream h)
   pub full : AreFull most run.fed.batches
   pub moments : (node place : ℕ) (h : List LogEntry) (e : LogEntry) → slice_get hs node ≡ Some h
       → slice_get h place ≡ Some e → IsGiven may e.act
-  pub clients : length told ≡ clients_in lines
-  pub outcomes : (c : ℕ) (is : c < clients_in lines)
-      → slice_get told c ≡ Some (outcomes c lines (replies (run.clients_done c is).made))
+  pub clients : length told ≡ clients_in script
+  pub outcomes : (c : ℕ) (is : c < clients_in script)
+      → slice_get told c ≡ Some (outcomes c script (replies (run.clients_done c is).made))

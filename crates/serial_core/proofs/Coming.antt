@@ -18,7 +18,7 @@ use Rattle.dmx_calls.specs.Rules.{rules_at}
 use Rattle.dmx_calls.specs.declared.log.Act.TheVariants.{Pass as PassAct}
 use Rattle.dmx_calls.specs.Log.{LogEntry, IsOfStream, act_of}
 use Rattle.client_script.specs.Grammar.{IsInRange}
-use Rattle.client_script.specs.Script.{clients_of, clients_in}
+use Rattle.client_script.specs.Script.{clients_of, clients_in, Scripted}
 use Rattle.client_script.specs.declared.line.Line.{Line}
 use Rattle.client_script.specs.declared.line.Line.TheVariants.{Feed, Tick, Command}
 use Rattle.client_core.specs.declared.event.Event.{Event}
@@ -51,8 +51,8 @@ few_clients : (lines : List Line) (m : ℕ) → m ≤ 8 → All IsInRange lines 
 few_clients [] m le ranges = le
 few_clients (line ∷ lines) m le ranges = few_clients lines (max m (clients_of line)) (omega (arith, le, few_in line (All-head IsInRange line lines ranges))) (All-tail IsInRange line lines ranges)
 
-pub few_in_all : (lines : List Line) → All IsInRange lines → clients_in lines ≤ 8
-few_in_all lines ranges = few_clients lines 0 (omega arith) ranges
+pub few_in_all : (script : Scripted) → All IsInRange script.lines → clients_in script ≤ 8
+few_in_all script ranges = few_clients script.lines 0 (omega arith) ranges
 
 -- ------ the end of the stream
 
@@ -71,7 +71,7 @@ after_again (Some s) _ is = absurd (cc is)
 
 -- ------ steps
 
-module _ (lines : List Line) (batch : ℕ) (packets : List (List ℕ)) (clients : ℕ) (few : clients ≤ 8) (ranges : All IsInRange lines) where
+module _ (script : Scripted) (batch : ℕ) (packets : List (List ℕ)) (clients : ℕ) (few : clients ≤ 8) (ranges : All IsInRange script.lines) where
   -- what holds wherever the run has come
   pub record HasCome (r : Run) : Type 0 where
     pub nodes : length r.nodes ≡ DEMUX_NODES + 1
@@ -81,7 +81,7 @@ module _ (lines : List Line) (batch : ℕ) (packets : List (List ℕ)) (clients 
     pub ended : r.has_ended ≡ true → length r.left ≡ 0
     pub sound : (node : ℕ) → node ≤ DEMUX_NODES → IsSound packets clients r.has_ended node (node_at node r)
     pub fed : AreFed batch (λ node. entries_at node r) r.turns r.first r.has_ended
-    pub made : (client : ℕ) → client < clients → AreMade lines client (λ node. entries_at node r) r.has_ended (replies_of client r)
+    pub made : (client : ℕ) → client < clients → AreMade script client (λ node. entries_at node r) r.has_ended (replies_of client r)
     pub silent : (client : ℕ) → clients ≤ client → replies_of client r ≡ []
 
   -- a call of the feeder
@@ -94,10 +94,10 @@ module _ (lines : List Line) (batch : ℕ) (packets : List (List ℕ)) (clients 
   fed_sound over node c r long le of is s =
       subst (IsSound packets clients over node) (sym (fed_at node c r long le)) (sound_answered packets clients r.has_ended over node (node_at node r) 0 r.turns c (omega arith) of is s)
 
-  fed_made : (over : Bool) (client : ℕ) (c : Invocation) (r : Run) → length r.nodes ≡ DEMUX_NODES + 1 → AreMade lines client (λ node. entries_at node r) r.has_ended (replies_of client r)
-      → AreMade lines client (λ node. entries_at node (fed_to_all c r)) over (replies_of client r)
+  fed_made : (over : Bool) (client : ℕ) (c : Invocation) (r : Run) → length r.nodes ≡ DEMUX_NODES + 1 → AreMade script client (λ node. entries_at node r) r.has_ended (replies_of client r)
+      → AreMade script client (λ node. entries_at node (fed_to_all c r)) over (replies_of client r)
   fed_made over client c r long m =
-      others_made lines client (λ node. entries_at node r) (λ node. entries_at node (fed_to_all c r)) r.has_ended over (replies_of client r)
+      others_made script client (λ node. entries_at node r) (λ node. entries_at node (fed_to_all c r)) r.has_ended over (replies_of client r)
       (λ node le. inr (entry_for 0 r.turns c (node_at node r), fed_entries node c r long le, λ same. absurd (omega (arith, same))))
       (λ e le waits unended. (
         entry_for 0 r.turns c (node_at e.node r),
@@ -169,18 +169,18 @@ module _ (lines : List Line) (batch : ℕ) (packets : List (List ℕ)) (clients 
         let c : Invocation = call.Pass Frontend r.first (take (min batch (length r.left)) r.left) r.moment in
         (entries_at node r, entry_for 0 r.turns c (node_at node r), fed_entries node c r p.nodes le, refl)
 
-  waited_last : (client : ℕ) (r : Run) → HasCome r → Waits lines client (replies_of client (after_waiting lines batch client r)) → (after_waiting lines batch client r).has_ended ≡ false
-      → (node : ℕ) → node ≤ DEMUX_NODES → IsFedLast node (after_waiting lines batch client r)
+  waited_last : (client : ℕ) (r : Run) → HasCome r → Waits script client (replies_of client (after_waiting script batch client r)) → (after_waiting script batch client r).has_ended ≡ false
+      → (node : ℕ) → node ≤ DEMUX_NODES → IsFedLast node (after_waiting script batch client r)
   waited_last client r p waits unended node le =
-      go (is_some (waits_on client lines (replies_of client r))) (subst (λ rs. Waits lines client (slice_index_or rs client [])) (waiting_replies lines batch client r) waits) unended where
+      go (is_some (waits_on client script (replies_of client r))) (subst (λ rs. Waits script client (slice_index_or rs client [])) (waiting_replies script batch client r) waits) unended where
         go : (b : Bool) → b ≡ true → (if b then turned batch r else r).has_ended ≡ false → IsFedLast node (if b then turned batch r else r)
         go true is unended = turn_last r p unended node le
         go false is unended = absurd (cc is)
 
   -- ------ a call of a client
 
-  module _ (r : Run) (client : ℕ) (e : Event) (lt : client < clients) (stands : next_event client lines (replies_of client r) ≡ Some e) (p : HasCome r) (only : OnlyWaits lines batch client r)
-      (fed : Waits lines client (replies_of client r) → r.has_ended ≡ false → (node : ℕ) → node ≤ DEMUX_NODES → IsFedLast node r) where
+  module _ (r : Run) (client : ℕ) (e : Event) (lt : client < clients) (stands : next_event client script (replies_of client r) ≡ Some e) (p : HasCome r) (only : OnlyWaits script batch client r)
+      (fed : Waits script client (replies_of client r) → r.has_ended ≡ false → (node : ℕ) → node ≤ DEMUX_NODES → IsFedLast node r) where
     abbrev after : Run
     after = called client e r
 
@@ -188,7 +188,7 @@ module _ (lines : List Line) (batch : ℕ) (packets : List (List ℕ)) (clients 
     c = call_of e.want r.moment
 
     numbered : (e.step ≡ length (replies_of client r)) × (e.node ≤ DEMUX_NODES)
-    numbered = next_is_numbered client lines (replies_of client r) e ranges stands
+    numbered = next_is_numbered client script (replies_of client r) e ranges stands
 
     at : (node : ℕ) → IsCalledAt client e r node
     at node = called_at client e r node p.nodes numbered.1
@@ -227,7 +227,7 @@ module _ (lines : List Line) (batch : ℕ) (packets : List (List ℕ)) (clients 
         get_or-set_same r.replies client (replies_of client r ++ reply_to client e r ∷ []) [] (omega (arith, lt, few, p.eight))
 
     -- the feeder has had its turn where the client waited
-    not_last : (x : LogEntry) → x.node ≤ DEMUX_NODES → x.who ≡ client + 1 → slice_get (entries_at x.node r) x.place ≡ Some x → Waits lines client (replies_of client r)
+    not_last : (x : LogEntry) → x.node ≤ DEMUX_NODES → x.who ≡ client + 1 → slice_get (entries_at x.node r) x.place ≡ Some x → Waits script client (replies_of client r)
         → IsOpenBehind (λ node. entries_at node r) r.has_ended x → ⊥
     not_last x le mine there waits (last, unended) =
         let f = fed waits unended x.node le in
@@ -236,25 +236,25 @@ module _ (lines : List Line) (batch : ℕ) (packets : List (List ℕ)) (clients 
         absurd (omega (arith, mine, f.3, ap (λ y. y.who) same))
 
     -- a client waits only after Again, before the end of the stream
-    still_open : Waits lines client (replies_of client r ++ x.response ∷ []) → r.has_ended ≡ false
+    still_open : Waits script client (replies_of client r ++ x.response ∷ []) → r.has_ended ≡ false
     still_open waits =
         let n : Node = node_at e.node r in
-        let now = (progress client lines (replies_of client r ++ x.response ∷ [])).standing in
+        let now = (progress client script (replies_of client r ++ x.response ∷ [])).standing in
         let again : x.response ≡ Again false = after_again now x.response (subst (λ o. IsSome o) (last_counts now (replies_of client r) x.response) waits) in
         sym (p.sound e.node numbered.1).ended ∙ answer_open (rules_at n.number) (history_of n) (client + 1) c again
 
-    call_made : (other : ℕ) → other < clients → (b : Bool) → nat_eq other client ≡ b → AreMade lines other (λ node. entries_at node after) r.has_ended (replies_of other after)
+    call_made : (other : ℕ) → other < clients → (b : Bool) → nat_eq other client ≡ b → AreMade script other (λ node. entries_at node after) r.has_ended (replies_of other after)
     call_made other less true yea =
         let eq : other ≡ client = grind (arith, nat_tests, yea) in
-        subst (λ o. AreMade lines o (λ node. entries_at node after) r.has_ended (replies_of o after)) (sym eq)
-        (subst (λ rs. AreMade lines client (λ node. entries_at node after) r.has_ended rs) (sym my_replies)
-        (mine_made lines client (λ node. entries_at node r) (λ node. entries_at node after) (replies_of client r) x e r.moment r.has_ended (p.made client lt) stands refl numbered.1 numbered.0 refl refl refl
+        subst (λ o. AreMade script o (λ node. entries_at node after) r.has_ended (replies_of o after)) (sym eq)
+        (subst (λ rs. AreMade script client (λ node. entries_at node after) r.has_ended rs) (sym my_replies)
+        (mine_made script client (λ node. entries_at node r) (λ node. entries_at node after) (replies_of client r) x e r.moment r.has_ended (p.made client lt) stands refl numbered.1 numbered.0 refl refl refl
         (here (at e.node)) (λ node le ne. elsewhere node ne (at node)) not_last still_open))
     call_made other less false nay =
         let ne : other ≢ client = λ is. grind (arith, nat_tests, nay, is) in
         let theirs : replies_of other after ≡ replies_of other r = get_or-set_other r.replies client other (replies_of client r ++ reply_to client e r ∷ []) [] ne in
-        subst (λ rs. AreMade lines other (λ node. entries_at node after) r.has_ended rs) (sym theirs)
-        (others_made lines other (λ node. entries_at node r) (λ node. entries_at node after) r.has_ended r.has_ended (replies_of other r) (λ node le. others node ne (at node))
+        subst (λ rs. AreMade script other (λ node. entries_at node after) r.has_ended rs) (sym theirs)
+        (others_made script other (λ node. entries_at node r) (λ node. entries_at node after) r.has_ended r.has_ended (replies_of other r) (λ node le. others node ne (at node))
         (λ x le waits unended. absurd (let k : true ≡ false = sym waits ∙ ap is_some (only other ne) in cc k)) (p.made other less)) where
           others : (node : ℕ) → other ≢ client → IsCalledAt client e r node
               → (entries_at node after ≡ entries_at node r) ⊎ ((y : LogEntry) × (entries_at node after ≡ entries_at node r ++ y ∷ []) × (y.who ≢ other + 1))
@@ -306,15 +306,15 @@ module _ (lines : List Line) (batch : ℕ) (packets : List (List ℕ)) (clients 
 
   -- ------ the run
 
-  steps : (one : 1 ≤ batch) → IsKept lines batch clients HasCome
+  steps : (one : 1 ≤ batch) → IsKept script batch clients HasCome
   steps one = record {
     feeds = record { passes = λ r size fit le p. pass_keeps r size (fit one).0 (fit one).1 le p; ends = end_keeps };
     ticks = tick_keeps;
-    calls = λ r client e lt stands only was p. call_keeps (after_waiting lines batch client r) client e lt stands p only (waited_last client r was);
+    calls = λ r client e lt stands only was p. call_keeps (after_waiting script batch client r) client e lt stands p only (waited_last client r was);
   }
 
-  pub moment_come : (one : 1 ≤ batch) (r : Run) → AreBelow clients lines → IsMoment lines batch packets r → HasCome r
-  moment_come one r below moment = kept_moment lines batch clients HasCome (steps one) packets r below moment begun_come
+  pub moment_come : (one : 1 ≤ batch) (r : Run) → AreBelow clients script.lines → IsMoment script batch packets r → HasCome r
+  moment_come one r below moment = kept_moment script batch clients HasCome (steps one) packets r below moment begun_come
 
-  pub run_come : (one : 1 ≤ batch) (r : Run) → AreBelow clients lines → IsSerialRun lines batch packets r → HasCome r
-  run_come one r below run = kept lines batch clients HasCome (steps one) packets r below run begun_come
+  pub run_come : (one : 1 ≤ batch) (r : Run) → AreBelow clients script.lines → IsSerialRun script batch packets r → HasCome r
+  run_come one r below run = kept script batch clients HasCome (steps one) packets r below run begun_come

@@ -3,7 +3,7 @@ use Rattle.std.proofs.Common.{◌≡◌, refl, sym, ap, subst, ◌∙◌, ℕ, �
 use Rattle.std.specs.Prelude.{is_some, slice_index_or}
 use Rattle.std.proofs.lemmas.List.{get_or-set_same, get_or-set_other, length-set}
 use Rattle.emu_io.specs.Ends.{SourceEnd}
-use Rattle.client_script.specs.declared.line.Line.{Line}
+use Rattle.client_script.specs.Script.{Scripted}
 use Rattle.client_core.specs.declared.event.Event.{Event}
 use Rattle.client_core.specs.Inside.Core.{Core, IsAfter}
 use Rattle.client_core.specs.Events.{next_of_line, waits_on}
@@ -38,13 +38,13 @@ moves_called x old v client e P sound counted same goes says = record {
 
 -- ------ waiting
 
-pub wait_turns : (lines : List Line) (batch client : ℕ) (r s : Run) → is_some (waits_on client lines (replies_of client r)) ≡ true → s ≡ turned batch r → s ≡ after_waiting lines batch client r
-wait_turns lines batch client r s is to = to ∙ sym (by (is_some (waits_on client lines (replies_of client r))) is) where
+pub wait_turns : (script : Scripted) (batch client : ℕ) (r s : Run) → is_some (waits_on client script (replies_of client r)) ≡ true → s ≡ turned batch r → s ≡ after_waiting script batch client r
+wait_turns script batch client r s is to = to ∙ sym (by (is_some (waits_on client script (replies_of client r))) is) where
   by : (b : Bool) → b ≡ true → (if b then turned batch r else r) ≡ turned batch r
   by b is = rw is refl
 
-pub wait_none : (lines : List Line) (batch client : ℕ) (r : Run) → is_some (waits_on client lines (replies_of client r)) ≡ false → r ≡ after_waiting lines batch client r
-wait_none lines batch client r is = sym (by (is_some (waits_on client lines (replies_of client r))) is) where
+pub wait_none : (script : Scripted) (batch client : ℕ) (r : Run) → is_some (waits_on client script (replies_of client r)) ≡ false → r ≡ after_waiting script batch client r
+wait_none script batch client r is = sym (by (is_some (waits_on client script (replies_of client r))) is) where
   by : (b : Bool) → b ≡ false → (if b then turned batch r else r) ≡ r
   by b is = rw is refl
 
@@ -53,25 +53,25 @@ wait_none lines batch client r is = sym (by (is_some (waits_on client lines (rep
 replies_called : (client : ℕ) (e : Event) (r : Run) → client < length r.replies → replies_of client (called client e r) ≡ replies_of client r ++ reply_to client e r ∷ []
 replies_called client e r lt = get_or-set_same r.replies client (replies_of client r ++ reply_to client e r ∷ []) [] lt
 
-pub comes_none : (lines : List Line) (batch client line : ℕ) (r : Run) (core : Core) → length r.replies ≡ 8 → IsAfter client lines (replies_of client r) core → ComesByCalls lines batch client line r r core
-comes_none lines batch client line r core clients after = record { after = after; clients = clients; others = λ other ne. refl; worked = λ s w. w; begun = no_call r }
+pub comes_none : (script : Scripted) (batch client line : ℕ) (r : Run) (core : Core) → length r.replies ≡ 8 → IsAfter client script (replies_of client r) core → ComesByCalls script batch client line r r core
+comes_none script batch client line r core clients after = record { after = after; clients = clients; others = λ other ne. refl; worked = λ s w. w; begun = no_call r }
 
-pub comes_on : (lines : List Line) (batch client line : ℕ) (first now s : Run) (core next : Core) (e : Event)
-    → client < 8 → ComesByCalls lines batch client line first now core → next_of_line client lines line (replies_of client now) ≡ Some e
-    → s ≡ called client e (after_waiting lines batch client now) → IsAfter client lines (replies_of client now ++ reply_to client e (after_waiting lines batch client now) ∷ []) next
-    → ComesByCalls lines batch client line first s next
-comes_on lines batch client line first now s core next e lt comes is to after =
-    let waited : Run = after_waiting lines batch client now in
-    let same : waited.replies ≡ now.replies = waiting_replies lines batch client now in
+pub comes_on : (script : Scripted) (batch client line : ℕ) (first now s : Run) (core next : Core) (e : Event)
+    → client < 8 → ComesByCalls script batch client line first now core → next_of_line client script line (replies_of client now) ≡ Some e
+    → s ≡ called client e (after_waiting script batch client now) → IsAfter client script (replies_of client now ++ reply_to client e (after_waiting script batch client now) ∷ []) next
+    → ComesByCalls script batch client line first s next
+comes_on script batch client line first now s core next e lt comes is to after =
+    let waited : Run = after_waiting script batch client now in
+    let same : waited.replies ≡ now.replies = waiting_replies script batch client now in
     let long : length waited.replies ≡ 8 = ap length same ∙ comes.clients in
     let those : replies_of client (called client e waited) ≡ replies_of client now ++ reply_to client e waited ∷ [] =
     replies_called client e waited (omega (arith, lt, long)) ∙ ap (λ rs. slice_index_or rs client [] ++ reply_to client e waited ∷ []) same in
-    subst (λ r. ComesByCalls lines batch client line first r next) (sym to) record {
-      after = subst (λ rs. IsAfter client lines rs next) (sym those) after;
+    subst (λ r. ComesByCalls script batch client line first r next) (sym to) record {
+      after = subst (λ rs. IsAfter client script rs next) (sym those) after;
       clients = length-set waited.replies client _ ∙ long;
       others = λ other ne. get_or-set_other waited.replies client other _ [] ne ∙ (ap (λ rs. slice_index_or rs other []) same ∙ comes.others other ne);
       worked = λ t w. comes.worked t (calls now t e is w);
-      begun = begun_on lines batch client line first now e comes.begun is;
+      begun = begun_on script batch client line first now e comes.begun is;
     }
 
 pub none_by : (o : Option Event) → ((x : Event) → o ≡ Some x → ⊥) → o ≡ None

@@ -13,7 +13,7 @@ use Rattle.dmx_calls.specs.declared.log.Act.{Act}
 use Rattle.dmx_calls.specs.Histories.{feeder_acts, histories_of, woven, woven_nodes}
 use Rattle.emu_io.specs.Ends.{SourceEnd}
 use Rattle.client_script.specs.Grammar.{IsInRange}
-use Rattle.client_script.specs.declared.line.Line.{Line}
+use Rattle.client_script.specs.Script.{Scripted}
 use Rattle.serial_core.specs.declared.seat.Seat.{Seat}
 use Rattle.serial_core.specs.declared.nodes.Nodes.{Nodes}
 use Rattle.client_core.specs.Inside.Core.{Core, IsAfter}
@@ -29,7 +29,7 @@ use Rattle.serial_core.specs.SerialRun.{Run, begun, replies_of, IsSerialRun}
 use Rattle.serial_core.specs.Inside.Standing.{Pairs, IsSeat, IsNodes, acts_on, acts_of}
 use Rattle.serial_core.specs.Inside.Legal.{AreLegal}
 use Rattle.serial_core.specs.Inside.Moving.{IsAt, Moves}
-use Rattle.serial_core.specs.Inside.Lines.{AreAfter, IsWholeBy, Overruns}
+use Rattle.serial_core.specs.Inside.Lines.{AreAfter, IsWholeBy, AllOverrunBy}
 use Rattle.serial_core.specs.Left.{IsLeftBy, IsFreshRunner, AreFreshCores, histories_in}
 use Rattle.feed_pull.specs.Streams.{OfStream}
 use Rattle.feed_pull.proofs.CutPackets.{are_packets}
@@ -64,13 +64,13 @@ all_woven v r at over legal =
 no_replies : (packets : List (List ℕ)) (c : ℕ) → c < 8 → replies_of c (begun packets) ≡ []
 no_replies packets c lt = get_or-replicate 8 c [] [] lt
 
-fresh_after : (lines : List Line) (packets : List (List ℕ)) (cores : List Core) → AreFreshCores lines cores → AreAfter lines (begun packets) cores
-fresh_after lines packets cores fresh c d lt = subst (λ rs. IsAfter c lines rs (slice_index_or cores c d)) (sym (no_replies packets c (omega (arith, lt, fresh.few)))) (fresh.after c d lt)
+fresh_after : (script : Scripted) (packets : List (List ℕ)) (cores : List Core) → AreFreshCores script cores → AreAfter script (begun packets) cores
+fresh_after script packets cores fresh c d lt = subst (λ rs. IsAfter c script rs (slice_index_or cores c d)) (sym (no_replies packets c (omega (arith, lt, fresh.few)))) (fresh.after c d lt)
 
 begun_at : (v : Runner) (packets : List (List ℕ)) → IsFreshRunner v → IsAt v (begun packets)
 begun_at v packets b = record { nodes = b.nodes packets; first = b.given; moment = b.moment }
 
-module _ (lines : List Line) (batch : ℕ) (x y : SourceEnd) (old new : Runner) (cores : List Core) (begins : IsFreshRunner old) (fresh : AreFreshCores lines cores) where
+module _ (script : Scripted) (batch : ℕ) (x y : SourceEnd) (old new : Runner) (cores : List Core) (begins : IsFreshRunner old) (fresh : AreFreshCores script cores) where
   -- the run that the code has come to, over the packets of whatever bytes stood ahead and were taken
   of_run : (goes : Run → Run → Type 0) (P : (ahead taken : List ℕ) → Type 0) → Moves x y old new goes
       → ((ahead taken : List ℕ) (ps : List (List ℕ)) (r : Run) → Pulls ahead taken ps new.puller → goes (begun ps) r → IsAt new r → P ahead taken) → OfStream x y old.puller P
@@ -83,35 +83,35 @@ module _ (lines : List Line) (batch : ℕ) (x y : SourceEnd) (old new : Runner) 
         so ahead moves.draws.carries.more ps k.0 (moves.draws.carries.pulls ahead [] [] pulls) k.1 k.2,
   )
 
-  pub left_is : (next : List Core) (left : Left) → length next ≡ length cores → Moves x y old new (IsWholeBy batch lines cores next) → IsDone new.puller → new.nodes.has_ended ≡ true
+  pub left_is : (next : List Core) (left : Left) → length next ≡ length cores → Moves x y old new (IsWholeBy batch script.lines cores next) → IsDone new.puller → new.nodes.has_ended ≡ true
       → ((r : Run) → IsNodes new.nodes r → AreLegal r → left.histories ≡ histories_in r)
-      → ((ls : List Line) (r : Run) → AreAfter ls r next → map (λ those. those.items) left.outcomes.items ≡ map (λ client. outcomes client ls (replies_of client r)) (range_with_len 0 (length next)))
+      → ((ls : Scripted) (r : Run) → AreAfter ls r next → map (λ those. those.items) left.outcomes.items ≡ map (λ client. outcomes client ls (replies_of client r)) (range_with_len 0 (length next)))
       → ((ahead taken : List ℕ) (given : List (List ℕ)) → Pulls ahead taken given new.puller → told_head left.head ≡ head_of new.puller.cutting.size (ahead ++ taken) left.head.read_fault)
-      → OfStream x y old.puller (λ ahead taken. IsLeftBy lines batch old.puller.cutting.size (ahead ++ taken) left)
-  left_is next left count moves done over histories outs head = of_run (IsWholeBy batch lines cores next) (λ ahead taken. IsLeftBy lines batch old.puller.cutting.size (ahead ++ taken) left) moves
+      → OfStream x y old.puller (λ ahead taken. IsLeftBy script batch old.puller.cutting.size (ahead ++ taken) left)
+  left_is next left count moves done over histories outs head = of_run (IsWholeBy batch script.lines cores next) (λ ahead taken. IsLeftBy script batch old.puller.cutting.size (ahead ++ taken) left) moves
       (λ ahead taken ps r p goes at.
       let kept : new.puller.cutting.size ≡ old.puller.cutting.size = moves.draws.carries.size in
       let all : (cut old.puller.cutting.size (ahead ++ taken)).packets ≡ ps = ap (λ size. (cut size (ahead ++ taken)).packets) (sym kept) ∙ (Pulls-done ahead taken ps new.puller p done).packets in
-      let w = goes refl (fresh_after lines ps cores fresh) in
-      let serial : IsSerialRun lines batch ps r = (w.before, w.done, w.ends) in
+      let w = goes script refl (fresh_after script ps cores fresh) in
+      let serial : IsSerialRun script batch ps r = (w.before, w.done, w.ends) in
       record {
         run = r;
-        serial = subst (λ qs. IsSerialRun lines batch qs r) (sym all) serial;
-        histories = histories r at.nodes (serial_legal lines batch ps r serial);
-        outcomes = outs lines r w.after ∙ ap (λ m. map (λ client. outcomes client lines (replies_of client r)) (range_with_len 0 m)) (count ∙ fresh.count);
+        serial = subst (λ qs. IsSerialRun script batch qs r) (sym all) serial;
+        histories = histories r at.nodes (serial_legal script batch ps r serial);
+        outcomes = outs script r w.after ∙ ap (λ m. map (λ client. outcomes client script (replies_of client r)) (range_with_len 0 m)) (count ∙ fresh.count);
         head = head ahead taken ps p ∙ ap (λ size. head_of size (ahead ++ taken) left.head.read_fault) kept;
       })
 
-  pub overrun_is : All IsInRange lines → 1 ≤ batch → Moves x y old new (λ r s. length r.replies ≡ 8 → AreAfter lines r cores → Overruns lines batch lines r s)
-      → OfStream x y old.puller (λ ahead taken. 2 ^ 39 ≤ most_calls (all_commands lines) (length ahead + length taken))
+  pub overrun_is : All IsInRange script.lines → 1 ≤ batch → Moves x y old new (AllOverrunBy batch script.lines cores)
+      → OfStream x y old.puller (λ ahead taken. 2 ^ 39 ≤ most_calls (all_commands script.lines) (length ahead + length taken))
   overrun_is ranges one moves =
-      of_run (λ r s. length r.replies ≡ 8 → AreAfter lines r cores → Overruns lines batch lines r s) (λ ahead taken. 2 ^ 39 ≤ most_calls (all_commands lines) (length ahead + length taken)) moves
+      of_run (AllOverrunBy batch script.lines cores) (λ ahead taken. 2 ^ 39 ≤ most_calls (all_commands script.lines) (length ahead + length taken)) moves
       (λ ahead taken ps r p goes at.
       let front = Pulls-front ahead taken ps new.puller p in
       let packets : All IsPacket ps = All-take_front ps front.0 (subst (λ qs. All IsPacket qs) front.1 (are_packets new.puller.cutting.size (ahead ++ taken))) in
-      let o = goes refl (fresh_after lines ps cores fresh) in
-      let few = within_budget.moments lines batch ps r ranges one packets o.way o.client in
-      omega (arith, few, o.calls, commands_shared lines (suc o.client), Pulls-size ahead taken ps new.puller p))
+      let o = goes script refl (fresh_after script ps cores fresh) in
+      let few = within_budget.moments script batch ps r ranges one packets o.way o.client in
+      omega (arith, few, o.calls, commands_shared script.lines (suc o.client), Pulls-size ahead taken ps new.puller p))
     where
       All-take_front : (xs ys : List (List ℕ)) → All IsPacket (xs ++ ys) → All IsPacket xs
       All-take_front xs ys all k d lt = subst IsPacket (get_or_append_left xs ys d k lt) (all k d (omega (arith, lt, length-append xs ys)))

@@ -8,7 +8,7 @@ use Rattle.std.proofs.lemmas.Nat.{div-add-mod'}
 use Rattle.dmx_calls.specs.Invocation as call
 use Rattle.std.specs.List.{All}
 use Rattle.std.proofs.lemmas.List.Elements.{All-head, All-tail}
-use Rattle.client_script.specs.Script.{clients_of, clients_in}
+use Rattle.client_script.specs.Script.{clients_of, clients_in, Scripted}
 use Rattle.client_script.specs.declared.line.Line.{Line}
 use Rattle.client_script.specs.declared.line.Line.TheVariants.{Feed, Tick, Command}
 use Rattle.client_script.specs.declared.line.Target.{Target}
@@ -116,8 +116,8 @@ fed_replies batch count r = kept_fed batch (λ s. s.replies ≡ r.replies) (same
 pub finished_replies : (batch : ℕ) (r : Run) → (ended (all_passed batch (length r.left) r)).replies ≡ r.replies
 finished_replies batch r = kept_finished batch (λ s. s.replies ≡ r.replies) (same_replies batch r) r refl
 
-pub waiting_replies : (lines : List Line) (batch client : ℕ) (r : Run) → (after_waiting lines batch client r).replies ≡ r.replies
-waiting_replies lines batch client r = go (is_some (waits_on client lines (replies_of client r))) where
+pub waiting_replies : (script : Scripted) (batch client : ℕ) (r : Run) → (after_waiting script batch client r).replies ≡ r.replies
+waiting_replies script batch client r = go (is_some (waits_on client script (replies_of client r))) where
   go : (w : Bool) → (if w then turned batch r else r).replies ≡ r.replies
   go true = kept_turned batch (λ s. s.replies ≡ r.replies) (same_replies batch r) r refl
   go false = refl
@@ -138,65 +138,65 @@ below_all clients (Tick n ∷ lines) all = below_all clients lines (All-tail (λ
 below_all clients (Command line client target verb ∷ lines) all =
     (omega (arith, All-head (λ l. clients_of l ≤ clients) (Command line client target verb) lines all), below_all clients lines (All-tail (λ l. clients_of l ≤ clients) (Command line client target verb) lines all))
 
-pub all_below : (lines : List Line) → AreBelow (clients_in lines) lines
-all_below lines = below_all (clients_in lines) lines (clients_within lines)
+pub all_below : (script : Scripted) → AreBelow (clients_in script) script.lines
+all_below script = below_all (clients_in script) script.lines (clients_within script)
 
 -- ------ who waits
 
-module _ (lines : List Line) (batch : ℕ) where
+module _ (script : Scripted) (batch : ℕ) where
   -- no client waits
   abbrev pub NoneWaits : Run → Type 0
-  NoneWaits r = (client : ℕ) → waits_on client lines (replies_of client r) ≡ None
+  NoneWaits r = (client : ℕ) → waits_on client script (replies_of client r) ≡ None
 
   -- no client waits but this one
   abbrev pub OnlyWaits : (client : ℕ) → Run → Type 0
-  OnlyWaits client r = (other : ℕ) → other ≢ client → waits_on other lines (replies_of other r) ≡ None
+  OnlyWaits client r = (other : ℕ) → other ≢ client → waits_on other script (replies_of other r) ≡ None
 
   same_waits : (r s : Run) → s.replies ≡ r.replies → NoneWaits r → NoneWaits s
-  same_waits r s same none client = ap (λ rs. waits_on client lines (slice_index_or rs client [])) same ∙ none client
+  same_waits r s same none client = ap (λ rs. waits_on client script (slice_index_or rs client [])) same ∙ none client
 
-  waited_only : (client : ℕ) (r : Run) → OnlyWaits client r → OnlyWaits client (after_waiting lines batch client r)
-  waited_only client r only other ne = ap (λ rs. waits_on other lines (slice_index_or rs other [])) (waiting_replies lines batch client r) ∙ only other ne
+  waited_only : (client : ℕ) (r : Run) → OnlyWaits client r → OnlyWaits client (after_waiting script batch client r)
+  waited_only client r only other ne = ap (λ rs. waits_on other script (slice_index_or rs other [])) (waiting_replies script batch client r) ∙ only other ne
 
   -- a client's call leaves the others' replies
   called_only : (client : ℕ) (e : Event) (r : Run) → OnlyWaits client r → OnlyWaits client (called client e r)
   called_only client e r only other ne =
-      ap (λ rs. waits_on other lines rs) (get_or-set_other r.replies client other (replies_of client r ++ reply_to client e r ∷ []) [] ne) ∙ only other ne
+      ap (λ rs. waits_on other script rs) (get_or-set_other r.replies client other (replies_of client r ++ reply_to client e r ∷ []) [] ne) ∙ only other ne
 
   -- where the command of this line is through, the client doesn't wait
   abbrev WaitsIn : (client line : ℕ) → Run → Type 0
-  WaitsIn client line r = next_of_line client lines line (replies_of client r) ≡ None → waits_on client lines (replies_of client r) ≡ None
+  WaitsIn client line r = next_of_line client script line (replies_of client r) ≡ None → waits_on client script (replies_of client r) ≡ None
 
-  called_in : (client line : ℕ) (e : Event) (r : Run) → next_of_line client lines line (replies_of client r) ≡ Some e → WaitsIn client line (called client e r)
+  called_in : (client line : ℕ) (e : Event) (r : Run) → next_of_line client script line (replies_of client r) ≡ Some e → WaitsIn client line (called client e r)
   called_in client line e r is none = go (index_set r.replies client client (replies_of client r ++ reply_to client e r ∷ [])) where
     go : (replies_of client (called client e r) ≡ replies_of client r) ⊎ (client ≡ client) × (replies_of client (called client e r) ≡ replies_of client r ++ reply_to client e r ∷ [])
-        → waits_on client lines (replies_of client (called client e r)) ≡ None
-    go (inl same) = absurd (none-some e (sym none ∙ ap (λ rs. next_of_line client lines line rs) same ∙ is))
+        → waits_on client script (replies_of client (called client e r)) ≡ None
+    go (inl same) = absurd (none-some e (sym none ∙ ap (λ rs. next_of_line client script line rs) same ∙ is))
     go (inr mine) =
-        ap (λ rs. waits_on client lines rs) mine.1
-        ∙ ended_waits_not client lines line (replies_of client r) (reply_to client e r) e is (sym (ap (λ rs. next_of_line client lines line rs) mine.1) ∙ none)
+        ap (λ rs. waits_on client script rs) mine.1
+        ∙ ended_waits_not client script line (replies_of client r) (reply_to client e r) e is (sym (ap (λ rs. next_of_line client script line rs) mine.1) ∙ none)
 
-  none_waits : (client : ℕ) (r : Run) → OnlyWaits client r → waits_on client lines (replies_of client r) ≡ None → NoneWaits r
+  none_waits : (client : ℕ) (r : Run) → OnlyWaits client r → waits_on client script (replies_of client r) ≡ None → NoneWaits r
   none_waits client r only none other = go (nat_eq other client) refl where
-    go : (b : Bool) → nat_eq other client ≡ b → waits_on other lines (replies_of other r) ≡ None
-    go true yea = let same : other ≡ client = grind (arith, nat_tests, yea) in subst (λ c. waits_on c lines (replies_of c r) ≡ None) (sym same) none
+    go : (b : Bool) → nat_eq other client ≡ b → waits_on other script (replies_of other r) ≡ None
+    go true yea = let same : other ≡ client = grind (arith, nat_tests, yea) in subst (λ c. waits_on c script (replies_of c r) ≡ None) (sym same) none
     go false nay = only other (λ same. grind (arith, nat_tests, nay, same))
 
   begun_waits : (packets : List (List ℕ)) → NoneWaits (begun packets)
-  begun_waits packets client = ap (λ rs. waits_on client lines rs) (none_said 8 client) ∙ sym (before_first (progress client lines []).standing)
+  begun_waits packets client = ap (λ rs. waits_on client script rs) (none_said 8 client) ∙ sym (before_first (progress client script []).standing)
 
 -- ------ steps
 
 -- what each step of the run keeps; a client's call, as the turn before it where the client waits, keeps it
-pub record IsKept (lines : List Line) (batch clients : ℕ) (P : Run → Type 0) : Type 0 where
+pub record IsKept (script : Scripted) (batch clients : ℕ) (P : Run → Type 0) : Type 0 where
   pub feeds : IsFedOn batch P
   pub ticks : (r : Run) (time : ℕ) → P r → P (ticked time r)
-  pub calls : (r : Run) (client : ℕ) (e : Event) → client < clients → next_event client lines (replies_of client (after_waiting lines batch client r)) ≡ Some e
-      → OnlyWaits lines batch client (after_waiting lines batch client r) → P r → P (after_waiting lines batch client r) → P (called client e (after_waiting lines batch client r))
+  pub calls : (r : Run) (client : ℕ) (e : Event) → client < clients → next_event client script (replies_of client (after_waiting script batch client r)) ≡ Some e
+      → OnlyWaits script batch client (after_waiting script batch client r) → P r → P (after_waiting script batch client r) → P (called client e (after_waiting script batch client r))
 
-module _ (lines : List Line) (batch clients : ℕ) (P : Run → Type 0) (keeps : IsKept lines batch clients P) where
-  kept_waited : (client : ℕ) (r : Run) → P r → P (after_waiting lines batch client r)
-  kept_waited client r p = go (is_some (waits_on client lines (replies_of client r))) where
+module _ (script : Scripted) (batch clients : ℕ) (P : Run → Type 0) (keeps : IsKept script batch clients P) where
+  kept_waited : (client : ℕ) (r : Run) → P r → P (after_waiting script batch client r)
+  kept_waited client r p = go (is_some (waits_on client script (replies_of client r))) where
     go : (w : Bool) → P (if w then turned batch r else r)
     go true = kept_turned batch P keeps.feeds r p
     go false = p
@@ -204,39 +204,39 @@ module _ (lines : List Line) (batch clients : ℕ) (P : Run → Type 0) (keeps :
   -- what holds while a client's command is done
   record IsAtWork (client : ℕ) (r : Run) : Type 0 where
     kept : P r
-    only : OnlyWaits lines batch client r
+    only : OnlyWaits script batch client r
 
-  work_called : (client line : ℕ) (r : Run) (e : Event) → client < clients → next_of_line client lines line (replies_of client r) ≡ Some e → IsAtWork client r
-      → IsAtWork client (called client e (after_waiting lines batch client r)) × WaitsIn lines batch client line (called client e (after_waiting lines batch client r))
+  work_called : (client line : ℕ) (r : Run) (e : Event) → client < clients → next_of_line client script line (replies_of client r) ≡ Some e → IsAtWork client r
+      → IsAtWork client (called client e (after_waiting script batch client r)) × WaitsIn script batch client line (called client e (after_waiting script batch client r))
   work_called client line r e lt is w =
-      let x : Run = after_waiting lines batch client r in
-      let same : replies_of client x ≡ replies_of client r = ap (λ rs. slice_index_or rs client []) (waiting_replies lines batch client r) in
-      let only : OnlyWaits lines batch client x = waited_only lines batch client r w.only in (
+      let x : Run = after_waiting script batch client r in
+      let same : replies_of client x ≡ replies_of client r = ap (λ rs. slice_index_or rs client []) (waiting_replies script batch client r) in
+      let only : OnlyWaits script batch client x = waited_only script batch client r w.only in (
         record {
-          kept = keeps.calls r client e lt (ap (λ rs. next_event client lines rs) same ∙ next_at_line client lines line (replies_of client r) e is) only w.kept (kept_waited client r w.kept);
-          only = called_only lines batch client e x only;
+          kept = keeps.calls r client e lt (ap (λ rs. next_event client script rs) same ∙ next_at_line client script line (replies_of client r) e is) only w.kept (kept_waited client r w.kept);
+          only = called_only script batch client e x only;
         },
-        called_in lines batch client line e x (ap (λ rs. next_of_line client lines line rs) same ∙ is),
+        called_in script batch client line e x (ap (λ rs. next_of_line client script line rs) same ∙ is),
       )
 
-  kept_worked : (client line : ℕ) (r s : Run) → client < clients → IsWorked lines batch client line r s → IsAtWork client r → WaitsIn lines batch client line r → P s × NoneWaits lines batch s
-  kept_worked client line r s lt (through _ none) w waits = (w.kept, none_waits lines batch client r w.only (waits none))
+  kept_worked : (client line : ℕ) (r s : Run) → client < clients → IsWorked script batch client line r s → IsAtWork client r → WaitsIn script batch client line r → P s × NoneWaits script batch s
+  kept_worked client line r s lt (through _ none) w waits = (w.kept, none_waits script batch client r w.only (waits none))
   kept_worked client line r s lt (calls _ _ e is more) w waits = let k = work_called client line r e lt is w in kept_worked client line _ s lt more k.0 k.1
 
-  kept_done : (more : List Line) (r t : Run) → AreBelow clients more → AreDone lines batch more r t → P r → NoneWaits lines batch r → P t × NoneWaits lines batch t
-  kept_done [] r t below same p none = subst (λ s. P s × NoneWaits lines batch s) (sym same) (p, none)
+  kept_done : (more : List Line) (r t : Run) → AreBelow clients more → AreDone script batch more r t → P r → NoneWaits script batch r → P t × NoneWaits script batch t
+  kept_done [] r t below same p none = subst (λ s. P s × NoneWaits script batch s) (sym same) (p, none)
   kept_done (Feed count ∷ more) r t below d p none =
-      kept_done more (fed batch count r) t below d (kept_fed batch P keeps.feeds count r p) (same_waits lines batch r (fed batch count r) (fed_replies batch count r) none)
+      kept_done more (fed batch count r) t below d (kept_fed batch P keeps.feeds count r p) (same_waits script batch r (fed batch count r) (fed_replies batch count r) none)
   kept_done (Tick time ∷ more) r t below d p none = kept_done more (ticked time r) t below d (keeps.ticks r time p) none
   kept_done (Command line client target verb ∷ more) r t below d p none =
       let k = kept_worked client line r d.0 below.0 d.1 (record { kept = p; only = λ other ne. none other }) (λ through. none client) in
       kept_done more d.0 t below.1 d.2 k.0 k.1
 
-  kept_begun : (client line : ℕ) (r s : Run) → client < clients → IsBegun lines batch client line r s → IsAtWork client r → P s
+  kept_begun : (client line : ℕ) (r s : Run) → client < clients → IsBegun script batch client line r s → IsAtWork client r → P s
   kept_begun client line r s lt (no_call _) w = w.kept
   kept_begun client line r s lt (one_call _ _ e is more) w = kept_begun client line _ s lt more (work_called client line r e lt is w).0
 
-  kept_line : (more : List Line) (r s : Run) → AreBelow clients more → AreBegun lines batch more r s → P r → NoneWaits lines batch r → P s
+  kept_line : (more : List Line) (r s : Run) → AreBelow clients more → AreBegun script batch more r s → P r → NoneWaits script batch r → P s
   kept_line [] r s below same p none = subst P (sym same) p
   kept_line (Feed count ∷ more) r s below same p none = subst P (sym same) p
   kept_line (Tick time ∷ more) r s below same p none = subst P (sym same) p
@@ -248,21 +248,21 @@ module _ (lines : List Line) (batch clients : ℕ) (P : Run → Type 0) (keeps :
   both_below (Tick time ∷ before) more below = both_below before more below
   both_below (Command line client target verb ∷ before) more below = let k = both_below before more below.1 in ((below.0, k.0), k.1)
 
-  pub kept_moment : (packets : List (List ℕ)) (s : Run) → AreBelow clients lines → IsMoment lines batch packets s → P (begun packets) → P s
+  pub kept_moment : (packets : List (List ℕ)) (s : Run) → AreBelow clients script.lines → IsMoment script batch packets s → P (begun packets) → P s
   kept_moment packets s below (before, more, whole, r, d, w) p =
       let k = both_below before more (subst (AreBelow clients) (sym whole) below) in
-      let done = kept_done before (begun packets) r k.0 d p (begun_waits lines batch packets) in
+      let done = kept_done before (begun packets) r k.0 d p (begun_waits script batch packets) in
       kept_line more r s k.1 w done.0 done.1
 
-  pub kept : (packets : List (List ℕ)) (t : Run) → AreBelow clients lines → IsSerialRun lines batch packets t → P (begun packets) → P t
+  pub kept : (packets : List (List ℕ)) (t : Run) → AreBelow clients script.lines → IsSerialRun script batch packets t → P (begun packets) → P t
   kept packets t below is p =
-      subst P (sym is.2) (kept_finished batch P keeps.feeds is.0 (kept_moment packets is.0 below (lines, [], append-nil lines, is.0, is.1, refl) p))
+      subst P (sym is.2) (kept_finished batch P keeps.feeds is.0 (kept_moment packets is.0 below (script.lines, [], append-nil script.lines, is.0, is.1, refl) p))
 
 -- ------ the way through lines
 
-module _ (lines : List Line) (batch : ℕ) where
+module _ (script : Scripted) (batch : ℕ) where
   abbrev Way : List Line → Run → Run → Type 0
-  Way = IsOnTheWay lines batch
+  Way = IsOnTheWay script batch
 
   pub way_fed : (count : ℕ) (more : List Line) (r s : Run) → Way more (fed batch count r) s → Way (Feed count ∷ more) r s
   way_fed count more r s (before, behind, whole, x, done, begun) = (Feed count ∷ before, behind, ap (λ ls. Feed count ∷ ls) whole, x, done, begun)
@@ -270,15 +270,15 @@ module _ (lines : List Line) (batch : ℕ) where
   pub way_ticked : (time : ℕ) (more : List Line) (r s : Run) → Way more (ticked time r) s → Way (Tick time ∷ more) r s
   way_ticked time more r s (before, behind, whole, x, done, begun) = (Tick time ∷ before, behind, ap (λ ls. Tick time ∷ ls) whole, x, done, begun)
 
-  pub way_worked : (line client : ℕ) (target : Target) (verb : Verb) (more : List Line) (r m s : Run) → IsWorked lines batch client line r m → Way more m s → Way (Command line client target verb ∷ more) r s
+  pub way_worked : (line client : ℕ) (target : Target) (verb : Verb) (more : List Line) (r m s : Run) → IsWorked script batch client line r m → Way more m s → Way (Command line client target verb ∷ more) r s
   way_worked line client target verb more r m s w (before, behind, whole, x, done, begun) =
       (Command line client target verb ∷ before, behind, ap (λ ls. Command line client target verb ∷ ls) whole, x, (m, w, done), begun)
 
-  pub way_begun : (line client : ℕ) (target : Target) (verb : Verb) (more : List Line) (r s : Run) → IsBegun lines batch client line r s → Way (Command line client target verb ∷ more) r s
+  pub way_begun : (line client : ℕ) (target : Target) (verb : Verb) (more : List Line) (r s : Run) → IsBegun script batch client line r s → Way (Command line client target verb ∷ more) r s
   way_begun line client target verb more r s begun = ([], Command line client target verb ∷ more, refl, r, refl, begun)
 
   -- one call more
-  pub begun_on : (client line : ℕ) (r s : Run) (e : Event) → IsBegun lines batch client line r s → next_of_line client lines line (replies_of client s) ≡ Some e
-      → IsBegun lines batch client line r (called client e (after_waiting lines batch client s))
+  pub begun_on : (client line : ℕ) (r s : Run) (e : Event) → IsBegun script batch client line r s → next_of_line client script line (replies_of client s) ≡ Some e
+      → IsBegun script batch client line r (called client e (after_waiting script batch client s))
   begun_on client line r s e (no_call _) is = one_call r _ e is (no_call _)
   begun_on client line r s e (one_call _ _ x at more) is = one_call r _ x at (begun_on client line _ s e more is)

@@ -10,8 +10,7 @@ use Rattle.dmx_calls.specs.Invocation as call
 use Rattle.dmx_calls.specs.Invocation.{Invocation, brought}
 use Rattle.dmx_calls.specs.Rules.{rules_at}
 use Rattle.dmx_calls.specs.Legal.{IsLegalFor}
-use Rattle.client_script.specs.Script.{clients_in}
-use Rattle.client_script.specs.declared.line.Line.{Line}
+use Rattle.client_script.specs.Script.{clients_in, Scripted}
 use Rattle.client_core.specs.Commands.{call_of}
 use Rattle.serial_core.specs.Nodes.{Node, uncalled, history_of, answered}
 use Rattle.serial_core.specs.SerialRun.{Run, fed_to_all, ended, all_passed, node_at, after_waiting, IsSerialRun}
@@ -61,8 +60,8 @@ one_legal (suc i) number (n ∷ ns) all = one_legal i number ns (All-tail IsLega
 -- ------ the run
 
 module _ (packets : List (List ℕ)) where
-  lawful : (lines : List Line) (batch : ℕ) → IsKept lines batch (clients_in lines) (IsLawful packets)
-  lawful lines batch = record {
+  lawful : (script : Scripted) (batch : ℕ) → IsKept script batch (clients_in script) (IsLawful packets)
+  lawful script batch = record {
     feeds = record {
       passes = λ r size fit le p.
           let k = fed_legal _ r p.legal in
@@ -82,7 +81,7 @@ module _ (packets : List (List ℕ)) where
           };
     };
     ticks = λ r time p. record { legal = record { numbers = p.legal.numbers; legal = p.legal.legal }; gone = p.gone; through = p.through; whole = p.whole };
-    calls = λ before client e lt stands only was p. let r = after_waiting lines batch client before in
+    calls = λ before client e lt stands only was p. let r = after_waiting script batch client before in
         let c : Invocation = call_of e.want r.moment in
         let n : Node = node_at e.node r in
         let m : Node = answered (client + 1) e.step c n in
@@ -102,8 +101,8 @@ module _ (packets : List (List ℕ)) where
   uncalled_numbers [] = refl
   uncalled_numbers (n ∷ ns) = ap (λ ms. n ∷ ms) (uncalled_numbers ns)
 
-  serial_lawful : (lines : List Line) (batch : ℕ) (r : Run) → IsSerialRun lines batch packets r → IsLawful packets r
-  serial_lawful lines batch r is = kept lines batch (clients_in lines) (IsLawful packets) (lawful lines batch) packets r (all_below lines) is record {
+  serial_lawful : (script : Scripted) (batch : ℕ) (r : Run) → IsSerialRun script batch packets r → IsLawful packets r
+  serial_lawful script batch r is = kept script batch (clients_in script) (IsLawful packets) (lawful script batch) packets r (all_below script) is record {
     legal = record {
       numbers = uncalled_numbers (range_with_len 0 (DEMUX_NODES + 1));
       legal = All-map IsLegalNode uncalled (range_with_len 0 (DEMUX_NODES + 1)) (λ k d lt. tt);
@@ -114,7 +113,7 @@ module _ (packets : List (List ℕ)) where
   }
 
 pub serial_legal : HistoriesAreLegal
-serial_legal lines batch packets r is = (serial_lawful packets lines batch r is).legal
+serial_legal script batch packets r is = (serial_lawful packets script batch r is).legal
 
 no_packet : (ps : List (List ℕ)) → length ps ≡ 0 → ps ≡ []
 no_packet [] is = refl
@@ -127,8 +126,8 @@ ended_left r = go r.has_ended where
   go false = refl
 
 pub serial_passes : PacketsPass
-serial_passes lines batch packets r is =
-    let p = serial_lawful packets lines batch r is in
+serial_passes script batch packets r is =
+    let p = serial_lawful packets script batch r is in
     let left : r.left ≡ [] = ap (λ s. s.left) is.2 ∙ no_packet _ (ap length (ended_left (all_passed batch (length is.0.left) is.0)) ∙ none_left batch is.0) in
     let whole : p.gone ≡ packets = sym (append-nil p.gone) ∙ (ap (λ left. p.gone ++ left) (sym left) ∙ p.whole) in
     p.through ∙ ap (replicate (DEMUX_NODES + 1)) whole

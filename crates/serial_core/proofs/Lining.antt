@@ -5,6 +5,7 @@ use Rattle.std.proofs.lemmas.List.{drop_all, get_or-set_same, get_or-set_other, 
 use Rattle.std.proofs.lemmas.List.Sums.{sum_by-le}
 use Rattle.std.proofs.lemmas.Bool.Decides.{nat_tests}
 use Rattle.emu_io.specs.Ends.{SourceEnd}
+use Rattle.client_script.specs.Script.{Scripted}
 use Rattle.client_script.specs.declared.line.Line.{Line}
 use Rattle.client_script.specs.declared.line.Line.TheVariants.{Feed, Tick, Command}
 use Rattle.client_script.specs.declared.line.Target.{Target}
@@ -15,32 +16,32 @@ use Rattle.serial_core.specs.declared.runner.Runner.{Runner}
 use Rattle.serial_core.specs.SerialRun.{Run, replies_of, fed, finished, ticked, through, AreDone}
 use Rattle.serial_core.specs.Inside.Moving.{IsAt, IsSound, Moves, IsDoneBy, ComesBy, ComesByCalls}
 use Rattle.feed_pull.specs.Streams.{Draws}
-use Rattle.serial_core.specs.Inside.Lines.{AreAfter, calls_by, AreInBudget, ComesByLines, IsLineBy, IsFrontBy, IsWholeBy, Overruns, OverrunsBy}
+use Rattle.serial_core.specs.Inside.Lines.{AreAfter, calls_by, AreInBudget, ComesByLines, IsLineBy, IsFrontBy, IsWholeBy, OverrunsBy, AllOverrunBy}
 use Rattle.feed_pull.proofs.Drawing.{draws_none}
 use Rattle.serial_core.specs.Budget.{IsOnTheWay}
 use Rattle.serial_core.proofs.Keeping.{fed_replies, finished_replies, way_fed, way_ticked, way_worked, way_begun}
 
 -- ------ a feed
 
-after_same : (lines : List Line) (r s : Run) (cores : List Core) → s.replies ≡ r.replies → AreAfter lines r cores → AreAfter lines s cores
-after_same lines r s cores same after c d lt = subst (λ rs. IsAfter c lines (slice_index_or rs c []) (slice_index_or cores c d)) (sym same) (after c d lt)
+after_same : (script : Scripted) (r s : Run) (cores : List Core) → s.replies ≡ r.replies → AreAfter script r cores → AreAfter script s cores
+after_same script r s cores same after c d lt = subst (λ rs. IsAfter c script (slice_index_or rs c []) (slice_index_or cores c d)) (sym same) (after c d lt)
 
 pub feed_done : (batch count : ℕ) (cores : List Core) (r s : Run) → s ≡ fed batch count r → IsLineBy batch (Feed count) cores cores r s
-feed_done batch count cores r s is lines rest clients after =
-    subst (λ x. ComesByLines lines batch rest (Feed count ∷ rest) r x cores) (sym is) record {
+feed_done batch count cores r s is script rest clients after =
+    subst (λ x. ComesByLines script batch rest (Feed count ∷ rest) r x cores) (sym is) record {
       clients = ap length (fed_replies batch count r) ∙ clients;
-      after = after_same lines r (fed batch count r) cores (fed_replies batch count r) after;
-      way = way_fed lines batch count rest r;
+      after = after_same script r (fed batch count r) cores (fed_replies batch count r) after;
+      way = way_fed script batch count rest r;
       done = λ t d. d;
     }
 
 -- ------ a tick
 
 pub tick_done : (batch time : ℕ) (cores : List Core) (r : Run) → IsLineBy batch (Tick time) cores cores r (ticked time r)
-tick_done batch time cores r lines rest clients after = record {
+tick_done batch time cores r script rest clients after = record {
   clients = clients;
   after = after;
-  way = way_ticked lines batch time rest r;
+  way = way_ticked script batch time rest r;
   done = λ t d. d;
 }
 
@@ -58,34 +59,34 @@ moves_ticked x time old new goes sound same at says = record {
 
 pub command_done : (batch line client : ℕ) (target : Target) (verb : Verb) (cores : List Core) (core next : Core) (r s : Run) → client < length cores → core ≡ get_or cores client core
     → IsDoneBy batch client line core next r s → IsLineBy batch (Command line client target verb) cores (set cores client next) r s
-command_done batch line client target verb cores core next r s there is done lines rest clients after =
-    let own : IsAfter client lines (replies_of client r) core = subst (λ c. IsAfter client lines (replies_of client r) c) (sym is) (after client core there) in
-    let k = done lines clients own in
+command_done batch line client target verb cores core next r s there is done script rest clients after =
+    let own : IsAfter client script (replies_of client r) core = subst (λ c. IsAfter client script (replies_of client r) c) (sym is) (after client core there) in
+    let k = done script clients own in
     record {
       clients = k.0.clients;
-      after = λ c d lt. go lines clients after own k.0 c d lt (nat_eq c client) refl;
-      way = λ t w. way_worked lines batch line client target verb rest r s t (k.0.worked s (through s k.1)) w;
+      after = λ c d lt. go script clients after own k.0 c d lt (nat_eq c client) refl;
+      way = λ t w. way_worked script batch line client target verb rest r s t (k.0.worked s (through s k.1)) w;
       done = λ t d. (s, k.0.worked s (through s k.1), d);
     } where
-      go : (lines : List Line) → length r.replies ≡ 8 → AreAfter lines r cores → IsAfter client lines (replies_of client r) core
-          → ComesByCalls lines batch client line r s next
-          → (c : ℕ) (d : Core) → c < length (set cores client next) → (b : Bool) → nat_eq c client ≡ b → IsAfter c lines (replies_of c s) (slice_index_or (set cores client next) c d)
-      go lines clients after own come c d lt true is_client =
+      go : (script : Scripted) → length r.replies ≡ 8 → AreAfter script r cores → IsAfter client script (replies_of client r) core
+          → ComesByCalls script batch client line r s next
+          → (c : ℕ) (d : Core) → c < length (set cores client next) → (b : Bool) → nat_eq c client ≡ b → IsAfter c script (replies_of c s) (slice_index_or (set cores client next) c d)
+      go script clients after own come c d lt true is_client =
           let same : c ≡ client = grind (arith, nat_tests) in
-          subst (λ i. IsAfter i lines (replies_of i s) (slice_index_or (set cores client next) i d)) (sym same)
-          (subst (λ x. IsAfter client lines (replies_of client s) x) (sym (get_or-set_same cores client next d there)) come.after)
-      go lines clients after own come c d lt false other =
+          subst (λ i. IsAfter i script (replies_of i s) (slice_index_or (set cores client next) i d)) (sym same)
+          (subst (λ x. IsAfter client script (replies_of client s) x) (sym (get_or-set_same cores client next d there)) come.after)
+      go script clients after own come c d lt false other =
           let ne : c ≢ client = λ same. absurd (let t : nat_eq c client ≡ true = grind (arith, nat_tests) in let e : true ≡ false = sym t ∙ other in cc) in
           let long : c < length cores = omega (arith, lt, length-set cores client next) in
-          subst (λ rs. IsAfter c lines rs (slice_index_or (set cores client next) c d)) (sym (come.others c ne))
-          (subst (λ x. IsAfter c lines (replies_of c r) x) (sym (get_or-set_other cores client c next d ne)) (after c d long))
+          subst (λ rs. IsAfter c script rs (slice_index_or (set cores client next) c d)) (sym (come.others c ne))
+          (subst (λ x. IsAfter c script (replies_of c r) x) (sym (get_or-set_other cores client c next d ne)) (after c d long))
 
 pub overruns : (batch line client : ℕ) (target : Target) (verb : Verb) (cores : List Core) (core next : Core) (r s : Run) → client < length cores → core ≡ get_or cores client core
     → 2 ^ 39 ≤ next.step → ComesBy batch client line core next r s → OverrunsBy batch (Command line client target verb) cores r s
-overruns batch line client target verb cores core next r s there is many come lines rest clients after =
-    let own : IsAfter client lines (replies_of client r) core = subst (λ c. IsAfter client lines (replies_of client r) c) (sym is) (after client core there) in
-    let k = come lines clients own in
-    record { client = client; calls = omega (arith, many, k.after.steps); way = way_begun lines batch line client target verb rest r s k.begun }
+overruns batch line client target verb cores core next r s there is many come script rest clients after =
+    let own : IsAfter client script (replies_of client r) core = subst (λ c. IsAfter client script (replies_of client r) c) (sym is) (after client core there) in
+    let k = come script clients own in
+    record { client = client; calls = omega (arith, many, k.after.steps); way = way_begun script batch line client target verb rest r s k.begun }
 
 -- ------ numbers
 
@@ -100,34 +101,34 @@ calls_most cores few calls = let all : calls_by cores ≤ length cores * 2 ^ 39 
 
 pub front_more : (batch count : ℕ) (lines rest : List Line) (line : Line) (a b c : List Core) (r s t : Run) → drop count lines ≡ line ∷ rest → drop (count + 1) lines ≡ rest
     → IsFrontBy batch lines count a b r s → IsLineBy batch line b c s t → IsFrontBy batch lines (count + 1) a c r t
-front_more batch count lines rest line a b c r s t here behind front by clients after =
-    let f = front clients after in
-    let n = by lines rest f.clients f.after in
+front_more batch count lines rest line a b c r s t here behind front by script clients after =
+    let f = front script clients after in
+    let n = by script rest f.clients f.after in
     record {
       clients = n.clients;
       after = n.after;
-      way = λ u w. f.way u (subst (λ ls. IsOnTheWay lines batch ls s u) (sym here) (n.way u (subst (λ ls. IsOnTheWay lines batch ls t u) behind w)));
-      done = λ u d. f.done u (subst (λ ls. AreDone lines batch ls s u) (sym here) (n.done u (subst (λ ls. AreDone lines batch ls t u) behind d)));
+      way = λ u w. f.way u (subst (λ ls. IsOnTheWay script batch ls s u) (sym here) (n.way u (subst (λ ls. IsOnTheWay script batch ls t u) behind w)));
+      done = λ u d. f.done u (subst (λ ls. AreDone script batch ls s u) (sym here) (n.done u (subst (λ ls. AreDone script batch ls t u) behind d)));
     }
 
 pub front_none : (batch : ℕ) (lines : List Line) (cores : List Core) (r : Run) → IsFrontBy batch lines 0 cores cores r r
-front_none batch lines cores r clients after = record { clients = clients; after = after; way = λ t w. w; done = λ t d. d }
+front_none batch lines cores r script clients after = record { clients = clients; after = after; way = λ t w. w; done = λ t d. d }
 
 pub front_overruns : (batch count : ℕ) (lines rest : List Line) (line : Line) (a b : List Core) (r s t : Run) → drop count lines ≡ line ∷ rest → IsFrontBy batch lines count a b r s → OverrunsBy batch line b s t
-    → length r.replies ≡ 8 → AreAfter lines r a → Overruns lines batch lines r t
-front_overruns batch count lines rest line a b r s t here front over clients after =
-    let f = front clients after in
-    let n = over lines rest f.clients f.after in
-    record { client = n.client; calls = n.calls; way = f.way t (subst (λ ls. IsOnTheWay lines batch ls s t) (sym here) n.way) }
+    → AllOverrunBy batch lines a r t
+front_overruns batch count lines rest line a b r s t here front over script clients after =
+    let f = front script clients after in
+    let n = over script rest f.clients f.after in
+    record { client = n.client; calls = n.calls; way = f.way t (subst (λ ls. IsOnTheWay script batch ls s t) (sym here) n.way) }
 
 -- ------ the whole run
 
 pub whole_by : (batch : ℕ) (lines : List Line) (a b : List Core) (r s t : Run) → IsFrontBy batch lines (length lines) a b r s → t ≡ finished batch s → IsWholeBy batch lines a b r t
-whole_by batch lines a b r s t front ends clients after =
-    let f = front clients after in
+whole_by batch lines a b r s t front ends script clients after =
+    let f = front script clients after in
     record {
       before = s;
-      done = f.done s (subst (λ ls. AreDone lines batch ls s s) (sym (drop_all (length lines) lines (omega arith))) refl);
+      done = f.done s (subst (λ ls. AreDone script batch ls s s) (sym (drop_all (length lines) lines (omega arith))) refl);
       ends = ends;
-      after = subst (λ x. AreAfter lines x b) (sym ends) (after_same lines s (finished batch s) b (finished_replies batch s) f.after);
+      after = subst (λ x. AreAfter script x b) (sym ends) (after_same script s (finished batch s) b (finished_replies batch s) f.after);
     }

@@ -8,7 +8,7 @@ use Rattle.std.proofs.Math.Seq.{take-append_seam}
 use Rattle.dmx_calls.specs.declared.limits.TheConstants.{DEMUX_NODES}
 use Rattle.dmx_calls.specs.Response.{Response}
 use Rattle.dmx_calls.specs.Log.{LogEntry, act_of}
-use Rattle.client_script.specs.declared.line.Line.{Line}
+use Rattle.client_script.specs.Script.{Scripted}
 use Rattle.client_core.specs.declared.event.Event.{Event}
 use Rattle.client_core.specs.Commands.{call_of}
 use Rattle.client_core.specs.Events.{next_event, waits_on}
@@ -23,10 +23,10 @@ IsFedBehind logs e = (x : LogEntry) × (slice_get (logs e.node) (e.place + 1) �
 abbrev pub IsOpenBehind : (logs : ℕ → List LogEntry) → (ended : Bool) → LogEntry → Type 0
 IsOpenBehind logs ended e = (length (logs e.node) ≡ e.place + 1) × (ended ≡ false)
 
-module _ (lines : List Line) (client : ℕ) where
+module _ (script : Scripted) (client : ℕ) where
   -- the client waits after these replies
   abbrev pub Waits : List Response → Type 0
-  Waits got = IsSome (waits_on client lines got)
+  Waits got = IsSome (waits_on client script got)
 
   -- it is call i of the client, and stands in these logs
   pub record IsMadeAt (logs : ℕ → List LogEntry) (before : List Response) (i : ℕ) (e : LogEntry) : Type 0 where
@@ -34,7 +34,7 @@ module _ (lines : List Line) (client : ℕ) where
     pub who : e.who ≡ client + 1
     pub within : e.node ≤ DEMUX_NODES
     pub there : slice_get (logs e.node) e.place ≡ Some e
-    pub event : IsEvent (next_event client lines before) e
+    pub event : IsEvent (next_event client script before) e
 
   -- the calls that a client has made, by the logs of the nodes and its replies, where the stream has ended or not
   pub record AreMade (logs : ℕ → List LogEntry) (ended : Bool) (got : List Response) : Type 0 where
@@ -82,7 +82,7 @@ module _ (lines : List Line) (client : ℕ) where
   -- ------ a call of the client
 
   module _ (logs after : ℕ → List LogEntry) (got : List Response) (x : LogEntry) (event : Event) (moment : ℕ) (ended : Bool) (m : AreMade logs ended got)
-      (stands : next_event client lines got ≡ Some event) (on : x.node ≡ event.node) (within : x.node ≤ DEMUX_NODES) (step : x.step ≡ length got) (who : x.who ≡ client + 1)
+      (stands : next_event client script got ≡ Some event) (on : x.node ≡ event.node) (within : x.node ≤ DEMUX_NODES) (step : x.step ≡ length got) (who : x.who ≡ client + 1)
       (place : x.place ≡ length (logs x.node)) (act : x.act ≡ act_of (call_of event.want moment)) (here : after x.node ≡ logs x.node ++ x ∷ [])
       (elsewhere : (node : ℕ) → node ≤ DEMUX_NODES → node ≢ x.node → after node ≡ logs node)
       (fed : (e : LogEntry) → e.node ≤ DEMUX_NODES → e.who ≡ client + 1 → slice_get (logs e.node) e.place ≡ Some e → Waits got → IsOpenBehind logs ended e → ⊥)
@@ -122,9 +122,9 @@ module _ (lines : List Line) (client : ℕ) where
     seam : take (length m.made) all ≡ m.made
     seam = take-append_seam m.made (x ∷ [])
 
-    is_event : IsEvent (next_event client lines (replies (take (length m.made) all))) x
+    is_event : IsEvent (next_event client script (replies (take (length m.made) all))) x
     is_event =
-        let next : next_event client lines (replies (take (length m.made) all)) ≡ Some event = ap (λ l. next_event client lines (replies l)) seam ∙ ap (λ rs. next_event client lines rs) m.same ∙ stands in
+        let next : next_event client script (replies (take (length m.made) all)) ≡ Some event = ap (λ l. next_event client script (replies l)) seam ∙ ap (λ rs. next_event client script rs) m.same ∙ stands in
         subst (λ o. IsEvent o x) (sym next) (on, (moment, act))
 
     at_last : IsMadeAt after (replies (take (length m.made) all)) (length m.made) x
@@ -145,7 +145,7 @@ module _ (lines : List Line) (client : ℕ) where
           who = at.who;
           within = at.within;
           there = stays_here e.node e.place e at.within at.there;
-          event = subst (λ l. IsEvent (next_event client lines (replies l)) e) (sym (take-append-le i m.made (x ∷ []) lt)) at.event;
+          event = subst (λ l. IsEvent (next_event client script (replies l)) e) (sym (take-append-le i m.made (x ∷ []) lt)) at.event;
         }
     new_steps i e (inr new) = subst (λ y. IsMadeAt after (replies (take i all)) i y) new.1 (subst (λ k. IsMadeAt after (replies (take k all)) k x) (sym new.0) at_last)
 

@@ -2,7 +2,7 @@
 use Rattle.std.proofs.Common.{◌≡◌, refl, ap, ℕ, zero, suc, Bool, true, false, nat_eq, List, [], ◌∷◌, Option, Some, None, ◌⊎◌, inl, inr}
 use Rattle.std.specs.Prelude.{if◌then◌else◌, option_map, replicate, slice_index_or, slice_set}
 use Rattle.dmx_calls.specs.Response.{Response}
-use Rattle.client_script.specs.declared.line.Line.{Line}
+use Rattle.client_script.specs.Script.{Scripted}
 use Rattle.client_core.specs.declared.event.Event.{Event}
 use Rattle.client_core.specs.Events.{Standing, progress, next_event, next_of_line, standing_at}
 use Rattle.std.proofs.lemmas.Option.{none-some}
@@ -20,8 +20,8 @@ index_set (x ∷ xs) (suc i) (suc j) y = go (index_set xs i j y) where
   go (inr mine) = inr (ap suc mine.0, mine.1)
 
 -- what stands at a line stands next
-pub next_at_line : (client : ℕ) (lines : List Line) (line : ℕ) (rs : List Response) (e : Event) → next_of_line client lines line rs ≡ Some e → next_event client lines rs ≡ Some e
-next_at_line client lines line rs e is = go (progress client lines rs).standing is where
+pub next_at_line : (client : ℕ) (script : Scripted) (line : ℕ) (rs : List Response) (e : Event) → next_of_line client script line rs ≡ Some e → next_event client script rs ≡ Some e
+next_at_line client script line rs e is = go (progress client script rs).standing is where
   by_line : (s : Standing) (b : Bool) → (if b then Some s.event else None) ≡ Some e → Some s.event ≡ Some e
   by_line s true at = at
   by_line s false at = absurd (none-some e at)

@@ -10,8 +10,7 @@ use Rattle.dmx_calls.specs.Rules.{rules_at}
 use Rattle.dmx_calls.specs.Legal.{IsLegalFor}
 use Rattle.dmx_calls.specs.Log.{LogEntry, filled}
 use Rattle.client_script.specs.Grammar.{IsInRange}
-use Rattle.client_script.specs.Script.{clients_in}
-use Rattle.client_script.specs.declared.line.Line.{Line}
+use Rattle.client_script.specs.Script.{clients_in, Scripted}
 use Rattle.client_core.specs.Commands.{commands_of}
 use Rattle.client_core.specs.Events.{next_event}
 use Rattle.script_run.specs.Budget.{most_calls}
@@ -32,18 +31,18 @@ use Rattle.serial_core.proofs.Keeping.{all_below}
 use Rattle.serial_core.proofs.Throughout.{none_stands}
 use Rattle.serial_core.proofs.Coming.{HasCome, few_in_all, ended_over, moment_come, run_come}
 
-module _ (lines : List Line) (batch : ℕ) (packets : List (List ℕ)) (few : clients_in lines ≤ 8) (ranges : All IsInRange lines) (r : Run) (p : HasCome lines batch packets (clients_in lines) few ranges r) where
-  placed : (node place : ℕ) (h : List LogEntry) (e : LogEntry) → slice_get (histories_in r) node ≡ Some h → slice_get h place ≡ Some e → IsPlaced packets (clients_in lines) node place e
+module _ (script : Scripted) (batch : ℕ) (packets : List (List ℕ)) (few : clients_in script ≤ 8) (ranges : All IsInRange script.lines) (r : Run) (p : HasCome script batch packets (clients_in script) few ranges r) where
+  placed : (node place : ℕ) (h : List LogEntry) (e : LogEntry) → slice_get (histories_in r) node ≡ Some h → slice_get h place ≡ Some e → IsPlaced packets (clients_in script) node place e
   placed node place h e log is =
       let w = histories_is r node h p.nodes log in
-      sound_placed packets (clients_in lines) r.has_ended node (node_at node r) (p.sound node w.0) place e (subst (λ l. slice_get l place ≡ Some e) (sym w.1) is)
+      sound_placed packets (clients_in script) r.has_ended node (node_at node r) (p.sound node w.0) place e (subst (λ l. slice_get l place ≡ Some e) (sym w.1) is)
 
   legal : (node : ℕ) (h : List LogEntry) → slice_get (histories_in r) node ≡ Some h → IsLegalFor (rules_at node) (filled packets h)
   legal node h log =
       let w = histories_is r node h p.nodes log in
       let s = p.sound node w.0 in
       subst (λ l. IsLegalFor (rules_at node) (filled packets l)) w.1
-      (subst (IsLegalFor (rules_at node)) (sym (sound_filled packets (clients_in lines) r.has_ended node (node_at node r) s)) (subst (λ n. IsLegalFor (rules_at n) (history_of (node_at node r))) s.number s.legal))
+      (subst (IsLegalFor (rules_at node)) (sym (sound_filled packets (clients_in script) r.has_ended node (node_at node r) s)) (subst (λ n. IsLegalFor (rules_at n) (history_of (node_at node r))) s.number s.legal))
 
   -- ------ the feeder
 
@@ -71,8 +70,8 @@ module _ (lines : List Line) (batch : ℕ) (packets : List (List ℕ)) (few : cl
 
   -- ------ a client
 
-  module _ (client : ℕ) (lt : client < clients_in lines) where
-    abbrev m : AreMade lines client (λ node. entries_at node r) r.has_ended (replies_of client r)
+  module _ (client : ℕ) (lt : client < clients_in script) where
+    abbrev m : AreMade script client (λ node. entries_at node r) r.has_ended (replies_of client r)
     m = p.made client lt
 
     only : (node place : ℕ) (h : List LogEntry) (e : LogEntry) → slice_get (histories_in r) node ≡ Some h → slice_get h place ≡ Some e → e.who ≡ client + 1 → slice_get m.made e.step ≡ Some e
@@ -87,7 +86,7 @@ module _ (lines : List Line) (batch : ℕ) (packets : List (List ℕ)) (few : cl
         let k = placed e.node (e.place + 1) (entries_at e.node r) x h there in
         (x, (entries_at e.node r, ap (slice_get (histories_in r)) k.0 ∙ h, ap (slice_get (entries_at e.node r)) k.1 ∙ there), k.0, k.1, fed)
 
-    done : HasDoneSoFar feeder lines client (histories_in r)
+    done : HasDoneSoFar feeder script client (histories_in r)
     done = record {
       made = m.made;
       steps = λ i e is. let s = m.steps i e is in (s.step, s.who, (entries_at e.node r, histories_get r e.node p.nodes s.within, s.there), s.event);
@@ -98,47 +97,47 @@ module _ (lines : List Line) (batch : ℕ) (packets : List (List ℕ)) (few : cl
 
   -- ------ the run so far
 
-  so_far : IsSoFar feeder lines batch packets (histories_in r)
+  so_far : IsSoFar feeder script batch packets (histories_in r)
   so_far = record { nodes = length-map r.nodes entries_of ∙ p.nodes; places = placed; legal = legal; fed = fed; clients = done }
 
   -- its calls are paid
-  bound : All IsPacket packets → (client : ℕ) → length (replies_of client r) ≤ most_calls (length (commands_of client lines)) (188 * length packets)
+  bound : All IsPacket packets → (client : ℕ) → length (replies_of client r) ≤ most_calls (length (commands_of client script)) (188 * length packets)
   unfolding so_far done
-  bound are client = elim (cases_lt client (clients_in lines)) [
+  bound are client = elim (cases_lt client (clients_in script)) [
     | inl lt ↦
         let count : length (p.made client lt).made ≡ length (replies_of client r) = sym (length-map (p.made client lt).made (λ e. e.response)) ∙ ap length (p.made client lt).same in
-        omega (arith, count, calls_are_paid feeder lines batch packets (histories_in r) so_far are client lt)
+        omega (arith, count, calls_are_paid feeder script batch packets (histories_in r) so_far are client lt)
     | inr above ↦ omega (arith, ap length (p.silent client above))
   ]
 
   -- where it is over it is a run
-  over : ((client : ℕ) → next_event client lines (replies_of client r) ≡ None) → r.has_ended ≡ true → IsOver so_far
+  over : ((client : ℕ) → next_event client script (replies_of client r) ≡ None) → r.has_ended ≡ true → IsOver so_far
   unfolding so_far fed done
   over through ended = record {
     whole = omega (arith, p.fed.whole, p.first, p.ended ended);
     ended = λ node h log. fed_on node h log ∙ ap (λ b. passes_of 0 0 p.fed.batches ++ end_of (length p.fed.batches) b) ended ∙ all_steps p.fed.batches;
-    through = λ client lt. ap (λ rs. next_event client lines rs) (p.made client lt).same ∙ through client;
+    through = λ client lt. ap (λ rs. next_event client script rs) (p.made client lt).same ∙ through client;
   }
 
-  whole : ((client : ℕ) → next_event client lines (replies_of client r) ≡ None) → r.has_ended ≡ true → IsAccountedRun lines batch packets r
+  whole : ((client : ℕ) → next_event client script (replies_of client r) ≡ None) → r.has_ended ≡ true → IsAccountedRun script batch packets r
   unfolding so_far done
   whole through ended =
-      let k = runs_end feeder lines batch packets (histories_in r) so_far (over through ended) in
-      record { run = k.0; replies = λ client lt. ap replies (k.2 client lt) ∙ (p.made client lt).same; accounted = are_accounted lines batch packets (histories_in r) k.0 }
+      let k = runs_end feeder script batch packets (histories_in r) so_far (over through ended) in
+      record { run = k.0; replies = λ client lt. ap replies (k.2 client lt) ∙ (p.made client lt).same; accounted = are_accounted script batch packets (histories_in r) k.0 }
 
 pub within_budget : IsWithinBudget
 within_budget = record {
-  moments = λ lines batch packets r ranges one are moment client.
-      let few = few_in_all lines ranges in
-      bound lines batch packets few ranges r (moment_come lines batch packets (clients_in lines) few ranges one r (all_below lines) moment) are client;
-  runs = λ lines batch packets r ranges one are run client.
-      let few = few_in_all lines ranges in
-      bound lines batch packets few ranges r (run_come lines batch packets (clients_in lines) few ranges one r (all_below lines) run) are client;
+  moments = λ script batch packets r ranges one are moment client.
+      let few = few_in_all script ranges in
+      bound script batch packets few ranges r (moment_come script batch packets (clients_in script) few ranges one r (all_below script) moment) are client;
+  runs = λ script batch packets r ranges one are run client.
+      let few = few_in_all script ranges in
+      bound script batch packets few ranges r (run_come script batch packets (clients_in script) few ranges one r (all_below script) run) are client;
 }
 
 pub are_runs : SerialRunsAreRuns
-are_runs lines batch packets r ranges one run =
-    let few = few_in_all lines ranges in
-    whole lines batch packets few ranges r (run_come lines batch packets (clients_in lines) few ranges one r (all_below lines) run)
-    (λ client. ap (λ s. next_event client lines (replies_of client s)) run.2 ∙ none_stands lines batch packets run.0 run.1 client)
+are_runs script batch packets r ranges one run =
+    let few = few_in_all script ranges in
+    whole script batch packets few ranges r (run_come script batch packets (clients_in script) few ranges one r (all_below script) run)
+    (λ client. ap (λ s. next_event client script (replies_of client s)) run.2 ∙ none_stands script batch packets run.0 run.1 client)
     (ap (λ s. s.has_ended) run.2 ∙ ended_over (all_passed batch (length run.0.left) run.0))

@@ -4,13 +4,14 @@ use Rattle.std.specs.Prelude.{if◌then◌else◌, slice_index_or, slice_set, op
 use Rattle.std.proofs.lemmas.Bool.Decides.{nat_tests}
 use Rattle.std.proofs.lemmas.Grind.{flat_map-append}
 use Rattle.dmx_calls.specs.Response.{Response}
+use Rattle.client_script.specs.Script.{Scripted}
 use Rattle.client_script.specs.declared.line.Line.{Line}
 use Rattle.client_script.specs.declared.line.Line.TheVariants.{Feed, Tick, Command}
 use Rattle.client_script.specs.declared.line.Target.{Target}
 use Rattle.client_script.specs.declared.line.Verb.{Verb}
 use Rattle.client_core.specs.declared.command.Command.{Command as ClientCommand}
 use Rattle.client_core.specs.declared.event.Event.{Event}
-use Rattle.client_core.specs.Commands.{commands_in, commands_of}
+use Rattle.client_core.specs.Commands.{commands_in, commands_among, commands_of}
 use Rattle.client_core.specs.Events.{progress, progress_from, no_slots, next_event, next_of_line, standing_at}
 use Rattle.client_core.proofs.Numbering.{AreThrough, through_more, through_next}
 use Rattle.serial_core.specs.SerialRun.{Run, begun, fed, ticked, replies_of, reply_to, called, after_waiting, IsWorked, through, calls, AreDone, finished}
@@ -19,7 +20,7 @@ use Rattle.serial_core.proofs.Keeping.{fed_replies, finished_replies, waiting_re
 
 -- these lines of a client are through
 abbrev pub IsThrough : (client : ℕ) → List Line → List Response → Type 0
-IsThrough client before rs = AreThrough no_slots 0 (commands_of client before) rs
+IsThrough client before rs = AreThrough no_slots 0 (commands_among client before) rs
 
 -- one call more of any client
 through_called : (client : ℕ) (before : List Line) (who : ℕ) (e : Event) (r : Run) → IsThrough client before (replies_of client r) → IsThrough client before (replies_of client (called who e r))
@@ -30,41 +31,41 @@ through_called client before who e r is = go (index_set r.replies who client (re
   go (inl same) = subst (λ rs. IsThrough client before rs) (sym same) is
   go (inr mine) =
       let his : IsThrough client before (replies_of who r) = subst (λ c. IsThrough client before (replies_of c r)) mine.0 is in
-      subst (λ rs. IsThrough client before rs) (sym mine.1) (through_more no_slots 0 (commands_of client before) (replies_of who r) (reply_to who e r) his)
+      subst (λ rs. IsThrough client before rs) (sym mine.1) (through_more no_slots 0 (commands_among client before) (replies_of who r) (reply_to who e r) his)
 
-none_next : (client : ℕ) (lines : List Line) (rs : List Response) → IsThrough client lines rs → next_event client lines rs ≡ None
+none_next : (client : ℕ) (script : Scripted) (rs : List Response) → IsThrough client script.lines rs → next_event client script rs ≡ None
 unfolding progress
-none_next client lines rs is = ap (λ o. option_map (λ s. s.event) o) is
+none_next client script rs is = ap (λ o. option_map (λ s. s.event) o) is
 
 -- a line that has no command of this client
-no_command : (client : ℕ) (before : List Line) (line : Line) → commands_in client line ≡ [] → commands_of client (before ++ line ∷ []) ≡ commands_of client before
+no_command : (client : ℕ) (before : List Line) (line : Line) → commands_in client line ≡ [] → commands_among client (before ++ line ∷ []) ≡ commands_among client before
 no_command client before line none =
-    flat_map-append (commands_in client) before (line ∷ []) ∙ ap (λ cs. commands_of client before ++ (cs ++ [])) none ∙ append-nil (commands_of client before)
+    flat_map-append (commands_in client) before (line ∷ []) ∙ ap (λ cs. commands_among client before ++ (cs ++ [])) none ∙ append-nil (commands_among client before)
 
 -- the command of a line, if it is this client's
 abbrev in_line : (line : ℕ) → Target → Verb → Bool → List ClientCommand
 in_line line target verb b = if b then record { line = line; target = target; verb = verb } ∷ [] else []
 
-module _ (lines : List Line) (batch : ℕ) where
-  through_worked : (client : ℕ) (before : List Line) (who line : ℕ) (r s : Run) → IsWorked lines batch who line r s → IsThrough client before (replies_of client r) → IsThrough client before (replies_of client s)
+module _ (script : Scripted) (batch : ℕ) where
+  through_worked : (client : ℕ) (before : List Line) (who line : ℕ) (r s : Run) → IsWorked script batch who line r s → IsThrough client before (replies_of client r) → IsThrough client before (replies_of client s)
   through_worked client before who line r s (through _ none) is = is
   through_worked client before who line r s (calls _ _ e at w) is =
       through_worked client before who line _ s w
-      (through_called client before who e (after_waiting lines batch who r) (subst (λ rs. IsThrough client before (slice_index_or rs client [])) (sym (waiting_replies lines batch who r)) is))
+      (through_called client before who e (after_waiting script batch who r) (subst (λ rs. IsThrough client before (slice_index_or rs client [])) (sym (waiting_replies script batch who r)) is))
 
-  worked_none : (who line : ℕ) (r s : Run) → IsWorked lines batch who line r s → next_of_line who lines line (replies_of who s) ≡ None
+  worked_none : (who line : ℕ) (r s : Run) → IsWorked script batch who line r s → next_of_line who script line (replies_of who s) ≡ None
   worked_none who line r s (through _ none) = none
   worked_none who line r s (calls _ _ e at w) = worked_none who line _ s w
 
   -- the command of a line is through
-  command_through : (client : ℕ) (before more : List Line) (line : ℕ) (c : ClientCommand) (rs : List Response) → c.line ≡ line → commands_of client lines ≡ commands_of client before ++ c ∷ commands_of client more
-      → next_of_line client lines line rs ≡ None → IsThrough client before rs → AreThrough no_slots 0 (commands_of client before ++ c ∷ []) rs
+  command_through : (client : ℕ) (before more : List Line) (line : ℕ) (c : ClientCommand) (rs : List Response) → c.line ≡ line → commands_of client script ≡ commands_among client before ++ c ∷ commands_among client more
+      → next_of_line client script line rs ≡ None → IsThrough client before rs → AreThrough no_slots 0 (commands_among client before ++ c ∷ []) rs
   unfolding progress
   command_through client before more line c rs is whole none at =
-      through_next no_slots 0 (commands_of client before) c (commands_of client more) rs at
-      (subst (λ cs. standing_at c.line (progress_from no_slots 0 cs rs).standing ≡ None) whole (subst (λ l. standing_at l (progress_from no_slots 0 (commands_of client lines) rs).standing ≡ None) (sym is) none))
+      through_next no_slots 0 (commands_among client before) c (commands_among client more) rs at
+      (subst (λ cs. standing_at c.line (progress_from no_slots 0 cs rs).standing ≡ None) whole (subst (λ l. standing_at l (progress_from no_slots 0 (commands_of client script) rs).standing ≡ None) (sym is) none))
 
-  all_through : (before more : List Line) (r t : Run) → before ++ more ≡ lines → AreDone lines batch more r t → ((client : ℕ) → IsThrough client before (replies_of client r)) → (client : ℕ) → IsThrough client lines (replies_of client t)
+  all_through : (before more : List Line) (r t : Run) → before ++ more ≡ script.lines → AreDone script batch more r t → ((client : ℕ) → IsThrough client before (replies_of client r)) → (client : ℕ) → IsThrough client script.lines (replies_of client t)
   all_through before [] r t whole same is client =
       subst (λ ls. IsThrough client ls (replies_of client t)) (sym (append-nil before) ∙ whole) (subst (λ s. IsThrough client before (replies_of client s)) (sym same) (is client))
   all_through before (Feed count ∷ more) r t whole d is client =
@@ -82,16 +83,16 @@ module _ (lines : List Line) (batch : ℕ) where
         go c true yea =
             let same : who ≡ c = grind (arith, nat_tests, yea) in
             let here : commands_in c (Command line who target verb) ≡ record { line = line; target = target; verb = verb } ∷ [] = ap (in_line line target verb) yea in
-            let up : commands_of c (before ++ Command line who target verb ∷ []) ≡ commands_of c before ++ record { line = line; target = target; verb = verb } ∷ [] =
-            flat_map-append (commands_in c) before (Command line who target verb ∷ []) ∙ ap (λ cs. commands_of c before ++ (cs ++ [])) here in
-            let all : commands_of c lines ≡ commands_of c before ++ record { line = line; target = target; verb = verb } ∷ commands_of c more =
-            ap (commands_of c) (sym whole) ∙ flat_map-append (commands_in c) before (Command line who target verb ∷ more) ∙ ap (λ cs. commands_of c before ++ (cs ++ commands_of c more)) here in
-            let none : next_of_line c lines line (replies_of c d.0) ≡ None = subst (λ k. next_of_line k lines line (replies_of k d.0) ≡ None) same (worked_none who line r d.0 d.1) in
+            let up : commands_among c (before ++ Command line who target verb ∷ []) ≡ commands_among c before ++ record { line = line; target = target; verb = verb } ∷ [] =
+            flat_map-append (commands_in c) before (Command line who target verb ∷ []) ∙ ap (λ cs. commands_among c before ++ (cs ++ [])) here in
+            let all : commands_of c script ≡ commands_among c before ++ record { line = line; target = target; verb = verb } ∷ commands_among c more =
+            ap (commands_among c) (sym whole) ∙ flat_map-append (commands_in c) before (Command line who target verb ∷ more) ∙ ap (λ cs. commands_among c before ++ (cs ++ commands_among c more)) here in
+            let none : next_of_line c script line (replies_of c d.0) ≡ None = subst (λ k. next_of_line k script line (replies_of k d.0) ≡ None) same (worked_none who line r d.0 d.1) in
             subst (λ cs. AreThrough no_slots 0 cs (replies_of c d.0)) (sym up)
             (command_through c before more line (record { line = line; target = target; verb = verb }) (replies_of c d.0) refl all none (through_worked c before who line r d.0 d.1 (is c)))
 
   -- At the end no client has a next call.
-  pub none_stands : (packets : List (List ℕ)) (r : Run) → AreDone lines batch lines (begun packets) r → (client : ℕ) → next_event client lines (replies_of client (finished batch r)) ≡ None
+  pub none_stands : (packets : List (List ℕ)) (r : Run) → AreDone script batch script.lines (begun packets) r → (client : ℕ) → next_event client script (replies_of client (finished batch r)) ≡ None
   none_stands packets r d client =
       let same : (finished batch r).replies ≡ r.replies = finished_replies batch r in
-      subst (λ rs. next_event client lines (slice_index_or rs client []) ≡ None) (sym same) (none_next client lines (replies_of client r) (all_through [] lines (begun packets) r refl d (λ c. refl) client))
+      subst (λ rs. next_event client script (slice_index_or rs client []) ≡ None) (sym same) (none_next client script (replies_of client r) (all_through [] script.lines (begun packets) r refl d (λ c. refl) client))

@@ -2,6 +2,7 @@
 use Rattle.std.specs.Prelude.{ℕ, ◌≡◌, ◌≤◌, ◌*◌, List, ◌∷◌, ◌++◌, length, Some, All}
 use Rattle.ts_packet.specs.Fields.{IsPacket}
 use Rattle.client_script.specs.Grammar.{IsInRange}
+use Rattle.client_script.specs.Script.{Scripted}
 use Rattle.client_script.specs.declared.line.Line.{Line}
 use Rattle.client_script.specs.declared.line.Line.TheVariants.{Command}
 use Rattle.client_core.specs.Commands.{commands_of}
@@ -10,12 +11,12 @@ use Rattle.client_core.specs.Events.{next_of_line}
 use Rattle.script_run.specs.Budget.{most_calls}
 use Rattle.serial_core.specs.SerialRun.{Run, begun, replies_of, called, after_waiting, AreDone, IsSerialRun}
 
-module _ (lines : List Line) (batch : ℕ) where
+module _ (script : Scripted) (batch : ℕ) where
   -- some calls of a command are made
   pub data IsBegun (client line : ℕ) : Run → Run → Type 0 where
     no_call : (r : Run) → IsBegun client line r r
-    one_call : (r s : Run) (e : Event) → next_of_line client lines line (replies_of client r) ≡ Some e
-        → IsBegun client line (called client e (after_waiting lines batch client r)) s → IsBegun client line r s
+    one_call : (r s : Run) (e : Event) → next_of_line client script line (replies_of client r) ≡ Some e
+        → IsBegun client line (called client e (after_waiting script batch client r)) s → IsBegun client line r s
 
   -- some calls of the next line are made, where it is a command
   abbrev pub AreBegun : List Line → Run → Run → Type 0
@@ -26,20 +27,20 @@ module _ (lines : List Line) (batch : ℕ) where
   abbrev pub IsOnTheWay : List Line → Run → Run → Type 0
   IsOnTheWay all first s =
       (before : List Line) × (more : List Line) × (before ++ more ≡ all) × (r : Run)
-      × AreDone lines batch before first r × AreBegun more r s
+      × AreDone script batch before first r × AreBegun more r s
 
   -- A moment of the serial run: some lines are done, and of the next line some calls are made.
   abbrev pub IsMoment : (packets : List (List ℕ)) → Run → Type 0
-  IsMoment packets s = IsOnTheWay lines (begun packets) s
+  IsMoment packets s = IsOnTheWay script.lines (begun packets) s
 
 -- At each moment of the serial run of a script's lines, and at its end, a client has made no more calls than its
 -- commands and the bytes of the packets allow, where a batch has at least one packet.
 pub record IsWithinBudget : Type 0 where
-  pub moments : (lines : List Line) (batch : ℕ) (packets : List (List ℕ)) (r : Run) → All IsInRange lines → 1 ≤ batch
-      → All IsPacket packets → IsMoment lines batch packets r
+  pub moments : (script : Scripted) (batch : ℕ) (packets : List (List ℕ)) (r : Run) → All IsInRange script.lines → 1 ≤ batch
+      → All IsPacket packets → IsMoment script batch packets r
       → (client : ℕ) → length (replies_of client r)
-      ≤ most_calls (length (commands_of client lines)) (188 * length packets)
-  pub runs : (lines : List Line) (batch : ℕ) (packets : List (List ℕ)) (r : Run) → All IsInRange lines → 1 ≤ batch
-      → All IsPacket packets → IsSerialRun lines batch packets r
+      ≤ most_calls (length (commands_of client script)) (188 * length packets)
+  pub runs : (script : Scripted) (batch : ℕ) (packets : List (List ℕ)) (r : Run) → All IsInRange script.lines → 1 ≤ batch
+      → All IsPacket packets → IsSerialRun script batch packets r
       → (client : ℕ) → length (replies_of client r)
-      ≤ most_calls (length (commands_of client lines)) (188 * length packets)
+      ≤ most_calls (length (commands_of client script)) (188 * length packets)

@@ -6,8 +6,7 @@ use Rattle.ts_packet.specs.declared.size.PacketSize.{PacketSize}
 use Rattle.dmx_calls.specs.declared.outcome.Outcome.{Outcome}
 use Rattle.ts_watch.specs.Head.{told_head, head_of}
 use Rattle.dmx_calls.specs.Log.{LogEntry}
-use Rattle.client_script.specs.declared.line.Line.{Line}
-use Rattle.client_script.specs.Script.{clients_in}
+use Rattle.client_script.specs.Script.{clients_in, Scripted}
 use Rattle.client_core.specs.Outcomes.{outcomes}
 use Rattle.client_core.specs.Inside.Core.{Core, IsAfter}
 use Rattle.serial_core.specs.declared.run.Left.{Left}
@@ -21,16 +20,16 @@ abbrev pub histories_in : Run → List (List LogEntry)
 histories_in r = map (λ node. (log_of node).entries) r.nodes
 
 -- what became of the commands of each client of the script
-abbrev pub outcomes_in : List Line → Run → List (List Outcome)
-outcomes_in lines r = map (λ client. outcomes client lines (replies_of client r)) (range_with_len 0 (clients_in lines))
+abbrev pub outcomes_in : Scripted → Run → List (List Outcome)
+outcomes_in script r = map (λ client. outcomes client script (replies_of client r)) (range_with_len 0 (clients_in script))
 
 -- These are the histories, the outcomes and the head of the serial run of a script over a stream of these
 -- bytes, whose packets take up so many each, and in which the source failed or not.
-pub record IsLeftBy (lines : List Line) (batch : ℕ) (size : PacketSize) (stream : List ℕ) (left : Left) : Type 0 where
+pub record IsLeftBy (script : Scripted) (batch : ℕ) (size : PacketSize) (stream : List ℕ) (left : Left) : Type 0 where
   pub run : Run
-  pub serial : IsSerialRun lines batch (cut size stream).packets run
+  pub serial : IsSerialRun script batch (cut size stream).packets run
   pub histories : left.histories ≡ histories_in run
-  pub outcomes : map (λ those. those.items) left.outcomes.items ≡ outcomes_in lines run
+  pub outcomes : map (λ those. those.items) left.outcomes.items ≡ outcomes_in script run
   pub head : told_head left.head ≡ head_of size stream left.head.read_fault
 
 -- ------ before the first line
@@ -45,8 +44,8 @@ pub record IsFreshRunner (v : Runner) : Type 0 where
   pub counted : AreCounted v.nodes
 
 -- a core for each client of the script, which has taken no reply
-pub record AreFreshCores (lines : List Line) (cores : List Core) : Type 0 where
-  pub count : length cores ≡ clients_in lines
+pub record AreFreshCores (script : Scripted) (cores : List Core) : Type 0 where
+  pub count : length cores ≡ clients_in script
   pub few : length cores ≤ 8
-  pub after : (c : ℕ) (d : Core) → c < length cores → IsAfter c lines [] (slice_index_or cores c d)
+  pub after : (c : ℕ) (d : Core) → c < length cores → IsAfter c script [] (slice_index_or cores c d)
   pub fresh : All (λ core. core.step ≡ 0) cores

@@ -5,27 +5,26 @@ use Rattle.dmx_calls.specs.Log.{LogEntry, filled}
 use Rattle.dmx_calls.specs.Rules.{rules_at}
 use Rattle.dmx_calls.specs.Accounted.{IsAccounted}
 use Rattle.client_script.specs.Grammar.{IsInRange}
-use Rattle.client_script.specs.Script.{clients_in}
-use Rattle.client_script.specs.declared.line.Line.{Line}
+use Rattle.client_script.specs.Script.{clients_in, Scripted}
 use Rattle.script_run.specs.IsRun.{IsRun, replies}
 use Rattle.serial_core.specs.Left.{histories_in}
 use Rattle.serial_core.specs.SerialRun.{Run, replies_of, IsSerialRun}
 
 -- The histories of the nodes are those of a run of the script, and each is accounted. A client's replies are
 -- those that its calls in the histories got.
-pub record IsAccountedRun (lines : List Line) (batch : ℕ) (packets : List (List ℕ)) (r : Run) : Type 0 where
-  pub run : IsRun lines batch packets (histories_in r)
-  pub replies : (client : ℕ) (is : client < clients_in lines)
+pub record IsAccountedRun (script : Scripted) (batch : ℕ) (packets : List (List ℕ)) (r : Run) : Type 0 where
+  pub run : IsRun script batch packets (histories_in r)
+  pub replies : (client : ℕ) (is : client < clients_in script)
       → replies (run.clients_done client is).made ≡ replies_of client r
   pub accounted : (node : ℕ) (h : List LogEntry) → slice_get (histories_in r) node ≡ Some h
       → IsAccounted (rules_at node) (filled packets h)
 
 -- The serial run of a script is a run of it, where a batch has at least one packet.
 abbrev pub SerialRunsAreRuns : Type 0
-SerialRunsAreRuns = (lines : List Line) (batch : ℕ) (packets : List (List ℕ)) (r : Run) → All IsInRange lines
-    → 1 ≤ batch → IsSerialRun lines batch packets r → IsAccountedRun lines batch packets r
+SerialRunsAreRuns = (script : Scripted) (batch : ℕ) (packets : List (List ℕ)) (r : Run) → All IsInRange script.lines
+    → 1 ≤ batch → IsSerialRun script batch packets r → IsAccountedRun script batch packets r
 
 -- A script and a stream have a serial run, where a batch has at least one packet: each command ends.
 abbrev pub HaveSerialRuns : Type 0
-HaveSerialRuns = (lines : List Line) (batch : ℕ) (packets : List (List ℕ)) → All IsInRange lines → All IsPacket packets
-    → 1 ≤ batch → (r : Run) × IsSerialRun lines batch packets r
+HaveSerialRuns = (script : Scripted) (batch : ℕ) (packets : List (List ℕ)) → All IsInRange script.lines → All IsPacket packets
+    → 1 ≤ batch → (r : Run) × IsSerialRun script batch packets r

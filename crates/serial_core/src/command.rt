@@ -1,7 +1,7 @@
 // A command of a client, done to its end.
 ghost use Rattle.std.specs.Prelude.{◌≡◌, ℕ, ◌+◌, ◌-◌, ◌<◌, ◌≤◌, ◌^◌, List, [], ◌∷◌, ◌++◌, length, IsSome, OnOk, OnErr, IsErrOf};
 ghost use Rattle.dmx_calls.specs.declared.limits.TheConstants.{DEMUX_NODES as nodes};
-ghost use Rattle.client_script.specs.declared.line.Line.{Line as ScriptLine};
+ghost use Rattle.client_script.specs.Script.{Scripted};
 ghost use Rattle.client_core.specs.Commands.{IsRequestInRange};
 ghost use Rattle.client_core.specs.Inside.Core.{IsAfter};
 ghost use Rattle.serial_core.specs.Inside.Moving.{ComesBy, HasDrawn, MadeAtMost, IsDoneBy, IsReady, Moves};
@@ -26,7 +26,7 @@ impl Runner {
         requires ready { IsReady batch (S.end source.old) self.old }
         requires made { MadeAtMost self.old (2 ^ 43) }
         ensures moves { OnOk result (Moves (S.end source.old) (S.end source.new) self.old self.new
-            (λ r s. (client : ℕ) (lines : List ScriptLine) → IsAfter client lines (replies_of client r) core.now → s ≡ after_waiting lines batch client r)) }
+            (λ r s. (client : ℕ) (script : Scripted) → IsAfter client script (replies_of client r) core.now → s ≡ after_waiting script batch client r)) }
         ensures draws { OnErr result (HasDrawn (S.end source.old) (S.end source.new) self.old.puller self.new.puller) }
         ensures moment { OnOk result (self.new.moment ≡ self.old.moment) }
         ensures made { OnOk result ((calls : ℕ) → MadeAtMost self.old calls → MadeAtMost self.new calls) }
@@ -55,8 +55,8 @@ impl Runner {
         requires begun { IsSome core.old.current }
         requires taken { core.old.step < 2 ^ 46 }
         ensures moves { OnOk result (Moves (S.end source.old) (S.end source.new) self.old self.new
-            (λ r s. (lines : List ScriptLine) → IsAfter client lines (replies_of client r) core.old → (s ≡ called client event (after_waiting lines batch client r))
-            × IsAfter client lines (replies_of client r ++ reply_to client event (after_waiting lines batch client r) ∷ []) core.new)) }
+            (λ r s. (script : Scripted) → IsAfter client script (replies_of client r) core.old → (s ≡ called client event (after_waiting script batch client r))
+            × IsAfter client script (replies_of client r ++ reply_to client event (after_waiting script batch client r) ∷ []) core.new)) }
         ensures draws { OnErr result (HasDrawn (S.end source.old) (S.end source.new) self.old.puller self.new.puller) }
         ensures moment { OnOk result (self.new.moment ≡ self.old.moment) }
         ensures made { OnOk result ((calls : ℕ) → MadeAtMost self.old calls → MadeAtMost self.new (calls + 1)) }

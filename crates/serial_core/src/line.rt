@@ -2,7 +2,7 @@
 ghost use Rattle.std.specs.Prelude.{◌≡◌, true, ℕ, ◌+◌, ◌*◌, ◌-◌, ◌<◌, ◌≤◌, ◌^◌, List, length, All, OnOk, OnErr, IsErrOf};
 ghost use Rattle.client_script.specs.Script.{clients_of};
 ghost use Rattle.client_script.specs.declared.line.Line.{Line as ScriptLine};
-ghost use Rattle.serial_core.specs.Inside.Lines.{AreAfter, AreInBudget, IsFrontBy, IsLineBy, IsWholeBy, MayBegin, Overruns, OverrunsBy, calls_by};
+ghost use Rattle.serial_core.specs.Inside.Lines.{AllOverrunBy, AreInBudget, IsFrontBy, IsLineBy, IsWholeBy, MayBegin, OverrunsBy, calls_by};
 ghost use Rattle.serial_core.specs.Inside.Moving.{HasDrawn, MadeAtMost, IsReady, Moves};
 
 use crate::runner::Runner;
@@ -67,7 +67,7 @@ impl Runner {
         ensures moves { OnOk result (Moves (S.end source.old) (S.end source.new) self.old self.new (IsFrontBy batch lines.now (length lines.now) cores.old cores.new)) }
         ensures draws { OnErr result (HasDrawn (S.end source.old) (S.end source.new) self.old.puller self.new.puller) }
         ensures too_long { (turns : ℕ) → IsErrOf result (Stop.TooLong turns) → (turns ≡ 2 ^ 39)
-            × Moves (S.end source.old) (S.end source.new) self.old self.new (λ r s. length r.replies ≡ 8 → AreAfter lines.now r cores.old → Overruns lines.now batch lines.now r s) }
+            × Moves (S.end source.old) (S.end source.new) self.old self.new (AllOverrunBy batch lines.now cores.old) }
         ensures made { OnOk result (MadeAtMost self.new (2 ^ 42)) }
     {
         'lines: for line in lines {
@@ -90,7 +90,7 @@ impl Runner {
         ensures moves { OnOk result (Moves (S.end source.old) (S.end source.new) self.old self.new (IsWholeBy batch lines.now cores.old cores.new)) }
         ensures draws { OnErr result (HasDrawn (S.end source.old) (S.end source.new) self.old.puller self.new.puller) }
         ensures too_long { (turns : ℕ) → IsErrOf result (Stop.TooLong turns) → (turns ≡ 2 ^ 39)
-            × Moves (S.end source.old) (S.end source.new) self.old self.new (λ r s. length r.replies ≡ 8 → AreAfter lines.now r cores.old → Overruns lines.now batch lines.now r s) }
+            × Moves (S.end source.old) (S.end source.new) self.old self.new (AllOverrunBy batch lines.now cores.old) }
         ensures ended { OnOk result (self.new.nodes.has_ended ≡ true) }
     {
         self.lines(source, batch, cores, lines, steps)?;

@@ -7,7 +7,7 @@ ghost use Rattle.dmx_calls.specs.Histories.{histories_of};
 ghost use Rattle.dmx_calls.specs.Invocation as asks;
 ghost use Rattle.dmx_calls.specs.declared.log.Act.{Act as ToldAct};
 ghost use Rattle.dmx_calls.specs.declared.log.Act.TheVariants.{End as EndAct, Pass as PassAct};
-ghost use Rattle.client_script.specs.declared.line.Line.{Line as ScriptLine};
+ghost use Rattle.client_script.specs.Script.{Scripted};
 ghost use Rattle.client_core.specs.Commands.{IsRequestInRange};
 ghost use Rattle.client_core.specs.Inside.Core.{IsAfter};
 ghost use Rattle.dmx_calls.specs.Response.{Response};
@@ -167,8 +167,8 @@ impl Nodes {
         requires some { IsSome core.old.current }
         requires taken { core.old.step < 2 ^ 46 }
         ensures at { OnOk result ((r : Run) → now ≡ r.moment → IsNodes self.old r → IsNodes self.new (made client event r)) }
-        ensures core { OnOk result ((r : Run) (lines : List ScriptLine) (replies : List Response) → now ≡ r.moment → IsNodes self.old r
-            → IsAfter client lines replies core.old → IsAfter client lines (replies ++ reply_to client event r ∷ []) core.new) }
+        ensures core { OnOk result ((r : Run) (script : Scripted) (replies : List Response) → now ≡ r.moment → IsNodes self.old r
+            → IsAfter client script replies core.old → IsAfter client script (replies ++ reply_to client event r ∷ []) core.new) }
         ensures step { OnOk result (core.new.step ≡ core.old.step + 1) }
         ensures counted { OnOk result (AreCounted self.new) }
         ensures made { OnOk result (self.new.made ≡ self.old.made + 1) }

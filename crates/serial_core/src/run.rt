@@ -1,13 +1,12 @@
 // The serial run of a script.
 ghost use Rattle.std.specs.Prelude.{◌≡◌, ◌≢◌, true, false, ℕ, ◌+◌, ◌-◌, ◌<◌, ◌≤◌, ◌^◌, ◌↔◌, List, [], ◌∷◌, ◌++◌, length, map, All, IfOk, OnOk, OnErr, IsErrOf, IsTrue, slice_index_or};
 ghost use Rattle.std.specs.Io.KnownBytes.{IsAtEnd};
-ghost use Rattle.client_script.specs.Script.{clients_in};
+ghost use Rattle.client_script.specs.Script.{clients_in, Scripted};
 ghost use Rattle.client_core.specs.Inside.Core.{Core as CoreValue, IsAfter};
 ghost use Rattle.ts_watch.specs.Head.{head_of, told_head};
 ghost use Rattle.feed_pull.specs.Pulling.{Pulling, Pulls, has_failed};
 ghost use Rattle.feed_pull.specs.declared.fault.Reading.TheVariants.{Going, TooMany};
 ghost use Rattle.client_core.specs.Outcomes.{outcomes};
-ghost use Rattle.client_script.specs.declared.line.Line.{Line as ScriptLine};
 ghost use Rattle.std.specs.List.{range_with_len};
 ghost use Rattle.serial_core.specs.Inside.Lines.{AreAfter};
 ghost use Rattle.serial_core.specs.Inside.Moving.{IsSound};
@@ -55,8 +54,8 @@ fn cores_of(alloc: Global, script: &Script) -> Result<Vec<ClientCore>, NoMemory>
 
 // What became of the commands of each client.
 fn outcomes_of(alloc: Global, cores: &[ClientCore]) -> Result<Vec<Vec<Outcome>>, NoMemory>
-    ensures { IfOk result (λ all. (lines : List ScriptLine) (r : Run) → AreAfter lines r cores.now
-        → map (λ those. those.items) all.items ≡ map (λ client. outcomes client lines (replies_of client r)) (range_with_len 0 (length cores.now))) }
+    ensures { IfOk result (λ all. (script : Scripted) (r : Run) → AreAfter script r cores.now
+        → map (λ those. those.items) all.items ≡ map (λ client. outcomes client script (replies_of client r)) (range_with_len 0 (length cores.now))) }
 {
     let mut all = Vec::new(alloc);
     'cores: for core in cores {
@@ -70,8 +69,8 @@ fn left_by(alloc: Global, runner: Runner, cores: &[ClientCore]) -> Result<Left, 
     requires sound { IsSound runner }
     requires ended { runner.nodes.has_ended ≡ true }
     ensures histories { IfOk result (λ left. (r : Run) → IsNodes runner.nodes r → AreLegal r → left.histories ≡ histories_in r) }
-    ensures outcomes { IfOk result (λ left. (lines : List ScriptLine) (r : Run) → AreAfter lines r cores.now
-        → map (λ those. those.items) left.outcomes.items ≡ map (λ client. outcomes client lines (replies_of client r)) (range_with_len 0 (length cores.now))) }
+    ensures outcomes { IfOk result (λ left. (script : Scripted) (r : Run) → AreAfter script r cores.now
+        → map (λ those. those.items) left.outcomes.items ≡ map (λ client. outcomes client script (replies_of client r)) (range_with_len 0 (length cores.now))) }
     ensures head { IfOk result (λ left. (ahead taken : List ℕ) (given : List (List ℕ)) → Pulls ahead taken given runner.puller → told_head left.head ≡ head_of runner.puller.cutting.size (ahead ++ taken) left.head.read_fault) }
     ensures fault { IfOk result (λ left. left.head.read_fault ≡ has_failed runner.puller.reading) }
     ensures well { IfOk result (λ left. runner.puller.reading ≢ TooMany) }

@@ -7,7 +7,7 @@ ghost use Rattle.dmx_calls.specs.declared.log.Act.TheVariants.{End as EndAct, Pa
 ghost use Rattle.dmx_calls.specs.declared.params.Input.TheVariants.{Frontend};
 ghost use Rattle.dmx_calls.specs.Invocation as asks;
 ghost use Rattle.dmx_calls.specs.Response.{Response};
-ghost use Rattle.client_script.specs.declared.line.Line.{Line as ScriptLine};
+ghost use Rattle.client_script.specs.Script.{Scripted};
 ghost use Rattle.client_core.specs.Inside.Core.{IsAfter};
 ghost use Rattle.serial_core.specs.Nodes.{Node as RunNode, answer_by, answered, history_of};
 ghost use Rattle.serial_core.specs.Inside.Standing.{IsSeat, StandsAt, entries_in};
@@ -102,9 +102,9 @@ impl Seat {
         requires taken { client.old.step < 2 ^ 46 }
         ensures at { OnOk result ((acts : List ToldAct) (n : RunNode) → IsSeat acts self.old n
             → IsSeat acts self.new (answered who nth (invocation_of call) n)) }
-        ensures client { OnOk result ((acts : List ToldAct) (n : RunNode) (c : ℕ) (lines : List ScriptLine) (replies : List Response)
-            → IsSeat acts self.old n → IsAfter c lines replies client.old
-            → IsAfter c lines (replies ++ answer_by who (invocation_of call) n ∷ []) client.new) }
+        ensures client { OnOk result ((acts : List ToldAct) (n : RunNode) (c : ℕ) (script : Scripted) (replies : List Response)
+            → IsSeat acts self.old n → IsAfter c script replies client.old
+            → IsAfter c script (replies ++ answer_by who (invocation_of call) n ∷ []) client.new) }
         ensures step { OnOk result (client.new.step ≡ client.old.step + 1) }
         ensures rises { entries_in self.new.core ≡ entries_in self.old.core + 1 }
     {

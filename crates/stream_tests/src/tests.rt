@@ -6,6 +6,7 @@ mod cutting;
 mod ends;
 mod making;
 mod pid_sets;
+mod plays;
 mod pulling;
 mod watching;
 

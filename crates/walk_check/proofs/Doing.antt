@@ -5,7 +5,7 @@ use Rattle.std.proofs.lemmas.Option.{slice_get-map}
 use Rattle.std.specs.Prelude.{Some, None, filter, slice_get, slice_set, option_map, ◌⊎◌}
 use Rattle.dmx_calls.specs.Log.{LogEntry}
 use Rattle.dmx_calls.specs.Response.{Response}
-use Rattle.client_script.specs.declared.line.Line.{Line}
+use Rattle.client_script.specs.Script.{Scripted}
 use Rattle.client_core.specs.Events.{next_event}
 use Rattle.script_run.specs.IsRun.{IsEvent, StandsIn, HasDone, replies}
 use Rattle.walk_check.specs.Walk.{IsRest, of_client, queues_in}
@@ -148,19 +148,19 @@ by_node P qs n old later at node q now here there = by (nat_eq node n) refl
 more_replies : (done : List Response) (e : LogEntry) (made : List LogEntry) → (done ++ e.response ∷ []) ++ replies made ≡ done ++ replies (e ∷ made)
 more_replies done e made = append_assoc done (e.response ∷ []) (replies made)
 
-record Walked (client : ℕ) (lines : List Line) (done : List Response) (qs : List (List LogEntry)) (made : List LogEntry) : Type 0 where
+record Walked (client : ℕ) (script : Scripted) (done : List Response) (qs : List (List LogEntry)) (made : List LogEntry) : Type 0 where
   steps : (i : ℕ) (e : LogEntry) → slice_get made i ≡ Some e
-      → (e.step ≡ length done + i) × IsEvent (next_event client lines (done ++ replies (take i made))) e × ((q : List LogEntry) × (slice_get qs e.node ≡ Some q) × In e q)
-  ends : next_event client lines (done ++ replies made) ≡ None
+      → (e.step ≡ length done + i) × IsEvent (next_event client script (done ++ replies (take i made))) e × ((q : List LogEntry) × (slice_get qs e.node ≡ Some q) × In e q)
+  ends : next_event client script (done ++ replies made) ≡ None
   only : (node : ℕ) (q : List LogEntry) (e : LogEntry) → slice_get qs node ≡ Some q → In e q → In e made
   in_order : (i j : ℕ) (e f : LogEntry) → i < j → slice_get made i ≡ Some e → slice_get made j ≡ Some f → e.node ≡ f.node → e.place < f.place
 
-module _ (client : ℕ) (lines : List Line) where
+module _ (client : ℕ) (script : Scripted) where
   walked : (made : List LogEntry) (done : List Response) (qs : List (List LogEntry)) → ((node : ℕ) (q : List LogEntry) → slice_get qs node ≡ Some q → Rising q)
-      → IsRest client lines done qs made → Walked client lines done qs made
+      → IsRest client script done qs made → Walked client script done qs made
   walked [] done qs rising rest = record {
     steps = λ i e at. absurd (cc at);
-    ends = subst (λ (rs : List Response). next_event client lines rs ≡ None) (sym (append-nil done)) rest.0;
+    ends = subst (λ (rs : List Response). next_event client script rs ≡ None) (sym (append-nil done)) rest.0;
     only = λ node q e at m. let none : q ≡ [] = rest.1 node q at in let n = subst (λ (es : List LogEntry). In e es) none m in let no = n.at in absurd (cc no);
     in_order = λ i j e f less at at' same. absurd (cc at);
   }
@@ -168,37 +168,37 @@ module _ (client : ℕ) (lines : List Line) where
       let later : List LogEntry = rest.2.0 in
       let at : slice_get qs e.node ≡ Some (e ∷ later) = rest.2.1 in
       let mine : Rising (e ∷ later) = rising e.node (e ∷ later) at in
-      let w : Walked client lines (done ++ e.response ∷ []) (slice_set qs e.node later) made =
+      let w : Walked client script (done ++ e.response ∷ []) (slice_set qs e.node later) made =
       walked made (done ++ e.response ∷ []) (slice_set qs e.node later)
       (λ node q now. by_node Rising qs e.node (e ∷ later) later at node q now (λ same. mine.1) (λ apart there. rising node q there)) rest.2.2 in
       record {
         steps = steps_of later at w;
-        ends = subst (λ (rs : List Response). next_event client lines rs ≡ None) (more_replies done e made) w.ends;
+        ends = subst (λ (rs : List Response). next_event client script rs ≡ None) (more_replies done e made) w.ends;
         only = only_of later at w;
         in_order = order_of later at mine w;
       }
     where
-      steps_of : (later : List LogEntry) → slice_get qs e.node ≡ Some (e ∷ later) → Walked client lines (done ++ e.response ∷ []) (slice_set qs e.node later) made → (i : ℕ) (f : LogEntry) → slice_get (e ∷ made) i ≡ Some f
-          → (f.step ≡ length done + i) × IsEvent (next_event client lines (done ++ replies (take i (e ∷ made)))) f × ((q : List LogEntry) × (slice_get qs f.node ≡ Some q) × In f q)
+      steps_of : (later : List LogEntry) → slice_get qs e.node ≡ Some (e ∷ later) → Walked client script (done ++ e.response ∷ []) (slice_set qs e.node later) made → (i : ℕ) (f : LogEntry) → slice_get (e ∷ made) i ≡ Some f
+          → (f.step ≡ length done + i) × IsEvent (next_event client script (done ++ replies (take i (e ∷ made)))) f × ((q : List LogEntry) × (slice_get qs f.node ≡ Some q) × In f q)
       steps_of later at w zero f here =
           let same : e ≡ f = cc in
           let step : e.step ≡ length done = rest.1 in
-          let event : IsEvent (next_event client lines (done ++ [])) e = subst (λ (rs : List Response). IsEvent (next_event client lines rs) e) (sym (append-nil done)) rest.0 in
+          let event : IsEvent (next_event client script (done ++ [])) e = subst (λ (rs : List Response). IsEvent (next_event client script rs) e) (sym (append-nil done)) rest.0 in
           let step' : e.step ≡ length done + 0 = omega arith in
-          subst (λ (g : LogEntry). (g.step ≡ length done + 0) × IsEvent (next_event client lines (done ++ [])) g × ((q : List LogEntry) × (slice_get qs g.node ≡ Some q) × In g q)) same
+          subst (λ (g : LogEntry). (g.step ≡ length done + 0) × IsEvent (next_event client script (done ++ [])) g × ((q : List LogEntry) × (slice_get qs g.node ≡ Some q) × In g q)) same
           (step', event, (e ∷ later, at, in_head e later))
       steps_of later at w (suc i) f here =
           let s = w.steps i f here in
           let step : f.step ≡ length (done ++ e.response ∷ []) + i = s.0 in
           let step' : f.step ≡ length done + suc i = omega (arith, length-append done (e.response ∷ [])) in
-          let event = subst (λ (rs : List Response). IsEvent (next_event client lines rs) f) (more_replies done e (take i made)) s.1 in (
+          let event = subst (λ (rs : List Response). IsEvent (next_event client script rs) f) (more_replies done e (take i made)) s.1 in (
             step',
             event,
             by_node (λ (q : List LogEntry). In f q → (p : List LogEntry) × (slice_get qs f.node ≡ Some p) × In f p) qs e.node (e ∷ later) later at f.node s.2.0 s.2.1
                 (λ same m. (e ∷ later, subst (λ (n : ℕ). slice_get qs n ≡ Some (e ∷ later)) (sym same) at, in_tail f e later m)) (λ apart there m. (s.2.0, there, m)) s.2.2,
           )
 
-      only_of : (later : List LogEntry) → slice_get qs e.node ≡ Some (e ∷ later) → Walked client lines (done ++ e.response ∷ []) (slice_set qs e.node later) made
+      only_of : (later : List LogEntry) → slice_get qs e.node ≡ Some (e ∷ later) → Walked client script (done ++ e.response ∷ []) (slice_set qs e.node later) made
           → (node : ℕ) (q : List LogEntry) (f : LogEntry) → slice_get qs node ≡ Some q → In f q → In f (e ∷ made)
       only_of later at w node q f here m = by (nat_eq node e.node) refl
         where
@@ -215,7 +215,7 @@ module _ (client : ℕ) (lines : List Line) where
               first (in_parts f e later m'.index m'.at)
           by false t = in_tail f e made (w.only node q f (set_other qs e.node node later t ∙ here) m)
 
-      order_of : (later : List LogEntry) → slice_get qs e.node ≡ Some (e ∷ later) → Rising (e ∷ later) → Walked client lines (done ++ e.response ∷ []) (slice_set qs e.node later) made
+      order_of : (later : List LogEntry) → slice_get qs e.node ≡ Some (e ∷ later) → Rising (e ∷ later) → Walked client script (done ++ e.response ∷ []) (slice_set qs e.node later) made
           → (i j : ℕ) (x f : LogEntry) → i < j → slice_get (e ∷ made) i ≡ Some x → slice_get (e ∷ made) j ≡ Some f → x.node ≡ f.node → x.place < f.place
       order_of later at mine w zero zero x f less a b same = absurd (omega arith)
       order_of later at mine w (suc i) zero x f less a b same = absurd (omega arith)
@@ -270,9 +270,9 @@ stands client hs places e node q at m same =
     let place : slice_get k.history e.place ≡ Some e = subst (λ (i : ℕ). slice_get k.history i ≡ Some e) (sym p.1) n.0.at in
     (whose e.who (client + 1) n.1, (k.history, there, place))
 
-pub walked_is_done : (client : ℕ) (lines : List Line) (hs : List (List LogEntry)) → AreInPlace hs → (made : List LogEntry) → IsRest client lines [] (queues_in client hs) made → (done : HasDone lines client hs) × (done.made ≡ made)
-walked_is_done client lines hs places made rest =
-    let w = walked client lines made [] (queues_in client hs) (rising_queue client hs places) rest in (
+pub walked_is_done : (client : ℕ) (script : Scripted) (hs : List (List LogEntry)) → AreInPlace hs → (made : List LogEntry) → IsRest client script [] (queues_in client hs) made → (done : HasDone script client hs) × (done.made ≡ made)
+walked_is_done client script hs places made rest =
+    let w = walked client script made [] (queues_in client hs) (rising_queue client hs places) rest in (
       record {
         made = made;
         steps = λ i e at.
@@ -313,17 +313,17 @@ rising_order node (e ∷ made) order =
 on : (node : ℕ) → List LogEntry → List LogEntry
 on node es = filter (λ e. nat_eq e.node node) es
 
-module _ (client : ℕ) (lines : List Line) where
+module _ (client : ℕ) (script : Scripted) where
   rest_of : (made : List LogEntry) (done : List Response) (qs : List (List LogEntry))
-      → ((i : ℕ) (e : LogEntry) → slice_get made i ≡ Some e → (e.step ≡ length done + i) × IsEvent (next_event client lines (done ++ replies (take i made))) e × ((q : List LogEntry) × (slice_get qs e.node ≡ Some q)))
-      → next_event client lines (done ++ replies made) ≡ None
+      → ((i : ℕ) (e : LogEntry) → slice_get made i ≡ Some e → (e.step ≡ length done + i) × IsEvent (next_event client script (done ++ replies (take i made))) e × ((q : List LogEntry) × (slice_get qs e.node ≡ Some q)))
+      → next_event client script (done ++ replies made) ≡ None
       → ((node : ℕ) (q : List LogEntry) → slice_get qs node ≡ Some q → on node made ≡ q)
-      → IsRest client lines done qs made
+      → IsRest client script done qs made
   unfolding on
-  rest_of [] done qs steps ends each = (subst (λ (rs : List Response). next_event client lines rs ≡ None) (append-nil done) ends, λ node q at. sym (each node q at))
+  rest_of [] done qs steps ends each = (subst (λ (rs : List Response). next_event client script rs ≡ None) (append-nil done) ends, λ node q at. sym (each node q at))
   rest_of (e ∷ made) done qs steps ends each =
       let s = steps 0 e refl in
-      let event : IsEvent (next_event client lines done) e = subst (λ (rs : List Response). IsEvent (next_event client lines rs) e) (append-nil done) s.1 in
+      let event : IsEvent (next_event client script done) e = subst (λ (rs : List Response). IsEvent (next_event client script rs) e) (append-nil done) s.1 in
       let step : e.step ≡ length done = omega (arith, s.0) in
       let mine : nat_eq e.node e.node ≡ true = grind (arith, nat_tests) in
       let front : on e.node (e ∷ made) ≡ e ∷ on e.node made = rw mine refl in
@@ -339,10 +339,10 @@ module _ (client : ℕ) (lines : List Line) where
               let t = steps (suc i) f here in
               let long : length (done ++ e.response ∷ []) ≡ length done + 1 = length-append done (e.response ∷ []) in (
                 omega (arith, t.0, long),
-                subst (λ (rs : List Response). IsEvent (next_event client lines rs) f) (sym (more_replies done e (take i made))) t.1,
+                subst (λ (rs : List Response). IsEvent (next_event client script rs) f) (sym (more_replies done e (take i made))) t.1,
                 still f.node t.2.0 t.2.1 at,
               ))
-              (subst (λ (rs : List Response). next_event client lines rs ≡ None) (sym (more_replies done e made)) ends)
+              (subst (λ (rs : List Response). next_event client script rs ≡ None) (sym (more_replies done e made)) ends)
               (λ node q now. by_node (λ (p : List LogEntry). on node made ≡ p) qs e.node (e ∷ on e.node made) (on e.node made) at node q now
               (λ same. ap (λ (n : ℕ). on n made) same)
               (λ apart there. others node q apart (each node q there))),
@@ -364,10 +364,10 @@ module _ (client : ℕ) (lines : List Line) where
           let same : on node (e ∷ made) ≡ on node made = rw other refl in
           sym same ∙ whole
 
-pub done_is_walked : (client : ℕ) (lines : List Line) (hs : List (List LogEntry)) → AreInPlace hs → (d : HasDone lines client hs) → IsRest client lines [] (queues_in client hs) d.made
+pub done_is_walked : (client : ℕ) (script : Scripted) (hs : List (List LogEntry)) → AreInPlace hs → (d : HasDone script client hs) → IsRest client script [] (queues_in client hs) d.made
 unfolding on
-done_is_walked client lines hs places d =
-    rest_of client lines d.made [] (queues_in client hs)
+done_is_walked client script hs places d =
+    rest_of client script d.made [] (queues_in client hs)
     (λ i e at.
     let s = d.steps i e at in
     let h = s.2.0 in

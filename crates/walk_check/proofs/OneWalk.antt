@@ -3,7 +3,7 @@ use Rattle.std.proofs.Common.{◌≡◌, refl, sym, ap, subst, ◌∙◌, ℕ, L
 use Rattle.std.specs.Prelude.{Option, Some, None, slice_get, slice_set}
 use Rattle.dmx_calls.specs.Log.{LogEntry}
 use Rattle.dmx_calls.specs.Response.{Response}
-use Rattle.client_script.specs.declared.line.Line.{Line}
+use Rattle.client_script.specs.Script.{Scripted}
 use Rattle.client_core.specs.declared.event.Event.{Event}
 use Rattle.client_core.specs.Events.{next_event}
 use Rattle.script_run.specs.IsRun.{IsEvent}
@@ -14,23 +14,23 @@ same_node : (o : Option Event) (e f : LogEntry) → IsEvent o e → IsEvent o f 
 same_node None e f a b = absurd a
 same_node (Some event) e f a b = a.0 ∙ sym b.0
 
-module _ (client : ℕ) (lines : List Line) where
-  pub one_walk_from : (made others : List LogEntry) (done : List Response) (queues : List (List LogEntry)) → IsRest client lines done queues made → IsRest client lines done queues others → made ≡ others
+module _ (client : ℕ) (script : Scripted) where
+  pub one_walk_from : (made others : List LogEntry) (done : List Response) (queues : List (List LogEntry)) → IsRest client script done queues made → IsRest client script done queues others → made ≡ others
   one_walk_from [] [] done queues a b = refl
   one_walk_from [] (f ∷ others) done queues a b = absurd (subst (λ (o : Option Event). IsEvent o f) a.0 b.0)
   one_walk_from (e ∷ made) [] done queues a b = absurd (subst (λ (o : Option Event). IsEvent o e) b.0 a.0)
   one_walk_from (e ∷ made) (f ∷ others) done queues a b =
-      let node : e.node ≡ f.node = same_node (next_event client lines done) e f a.0 b.0 in
+      let node : e.node ≡ f.node = same_node (next_event client script done) e f a.0 b.0 in
       let here : slice_get queues e.node ≡ Some (e ∷ a.2.0) = a.2.1 in
       let there : slice_get queues e.node ≡ Some (f ∷ b.2.0) = subst (λ (n : ℕ). slice_get queues n ≡ Some (f ∷ b.2.0)) (sym node) b.2.1 in
       let both : Some (e ∷ a.2.0) ≡ Some (f ∷ b.2.0) = sym here ∙ there in
       let same : e ≡ f = cc in
       let later : a.2.0 ≡ b.2.0 = cc in
       let queues' : slice_set queues f.node b.2.0 ≡ slice_set queues e.node a.2.0 = ap (λ (n : ℕ). slice_set queues n b.2.0) (sym node) ∙ ap (λ (q : List LogEntry). slice_set queues e.node q) (sym later) in
-      let on : IsRest client lines (done ++ f.response ∷ []) (slice_set queues e.node a.2.0) others = subst (λ (qs : List (List LogEntry)). IsRest client lines (done ++ f.response ∷ []) qs others) queues' b.2.2 in
-      let on' : IsRest client lines (done ++ e.response ∷ []) (slice_set queues e.node a.2.0) others = subst (λ (g : LogEntry). IsRest client lines (done ++ g.response ∷ []) (slice_set queues e.node a.2.0) others) (sym same) on in
+      let on : IsRest client script (done ++ f.response ∷ []) (slice_set queues e.node a.2.0) others = subst (λ (qs : List (List LogEntry)). IsRest client script (done ++ f.response ∷ []) qs others) queues' b.2.2 in
+      let on' : IsRest client script (done ++ e.response ∷ []) (slice_set queues e.node a.2.0) others = subst (λ (g : LogEntry). IsRest client script (done ++ g.response ∷ []) (slice_set queues e.node a.2.0) others) (sym same) on in
       let rest : made ≡ others = one_walk_from made others (done ++ e.response ∷ []) (slice_set queues e.node a.2.0) a.2.2 on' in
       ap (λ (g : LogEntry). g ∷ made) same ∙ ap (λ (es : List LogEntry). f ∷ es) rest
 
-pub one_walk : (client : ℕ) (lines : List Line) (done : List Response) (queues : List (List LogEntry)) (made others : List LogEntry) → IsRest client lines done queues made → IsRest client lines done queues others → made ≡ others
-one_walk client lines done queues made others a b = one_walk_from client lines made others done queues a b
+pub one_walk : (client : ℕ) (script : Scripted) (done : List Response) (queues : List (List LogEntry)) (made others : List LogEntry) → IsRest client script done queues made → IsRest client script done queues others → made ≡ others
+one_walk client script done queues made others a b = one_walk_from client script made others done queues a b

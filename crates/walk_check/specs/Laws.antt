@@ -2,7 +2,7 @@
 use Rattle.std.specs.Prelude.{◌≡◌, ℕ, List, [], slice_get, Some}
 use Rattle.dmx_calls.specs.Log.{LogEntry}
 use Rattle.dmx_calls.specs.Response.{Response}
-use Rattle.client_script.specs.declared.line.Line.{Line}
+use Rattle.client_script.specs.Script.{Scripted}
 use Rattle.script_run.specs.IsRun.{HasDone}
 use Rattle.walk_check.specs.Walk.{IsRest, queues_in}
 
@@ -13,17 +13,17 @@ AreInPlace hs = (node place : ℕ) (h : List LogEntry) (e : LogEntry) → slice_
 
 -- a client whose queues can be walked has done what its commands ask
 abbrev pub WalkedIsDone : Type 0
-WalkedIsDone = (client : ℕ) (lines : List Line) (hs : List (List LogEntry)) → AreInPlace hs
-    → (made : List LogEntry) → IsRest client lines [] (queues_in client hs) made
-    → (done : HasDone lines client hs) × (done.made ≡ made)
+WalkedIsDone = (client : ℕ) (script : Scripted) (hs : List (List LogEntry)) → AreInPlace hs
+    → (made : List LogEntry) → IsRest client script [] (queues_in client hs) made
+    → (done : HasDone script client hs) × (done.made ≡ made)
 
 -- the queues of a client that has done what its commands ask can be walked, in the order in which it called
 abbrev pub DoneIsWalked : Type 0
-DoneIsWalked = (client : ℕ) (lines : List Line) (hs : List (List LogEntry)) → AreInPlace hs
-    → (done : HasDone lines client hs) → IsRest client lines [] (queues_in client hs) done.made
+DoneIsWalked = (client : ℕ) (script : Scripted) (hs : List (List LogEntry)) → AreInPlace hs
+    → (done : HasDone script client hs) → IsRest client script [] (queues_in client hs) done.made
 
 -- queues can be walked in one way only
 abbrev pub WalksAreOne : Type 0
-WalksAreOne = (client : ℕ) (lines : List Line) (done : List Response) (queues : List (List LogEntry))
-    (made others : List LogEntry) → IsRest client lines done queues made → IsRest client lines done queues others
+WalksAreOne = (client : ℕ) (script : Scripted) (done : List Response) (queues : List (List LogEntry))
+    (made others : List LogEntry) → IsRest client script done queues made → IsRest client script done queues others
     → made ≡ others

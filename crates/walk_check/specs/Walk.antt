@@ -2,7 +2,7 @@
 use Rattle.std.specs.Prelude.{◌≡◌, ℕ, ◌+◌, List, [], ◌∷◌, ◌++◌, length, map, filter, nat_eq, slice_get, slice_set, Some, None}
 use Rattle.dmx_calls.specs.Log.{LogEntry}
 use Rattle.dmx_calls.specs.Response.{Response}
-use Rattle.client_script.specs.declared.line.Line.{Line}
+use Rattle.client_script.specs.Script.{Scripted}
 use Rattle.client_core.specs.Events.{next_event}
 use Rattle.client_core.specs.Inside.Core.{Core, IsAfter}
 use Rattle.script_run.specs.IsRun.{IsEvent, replies}
@@ -21,21 +21,21 @@ queues_in client hs = map (of_client client) hs
 
 -- The entries of the queues, taken one by one, are what the client calls after these replies, to the end of its
 -- commands: each is the first of its node's queue, and is the call that the client's commands ask for next.
-abbrev pub IsRest : (client : ℕ) → List Line → (done : List Response) → (queues : List (List LogEntry)) → (made : List LogEntry)
+abbrev pub IsRest : (client : ℕ) → Scripted → (done : List Response) → (queues : List (List LogEntry)) → (made : List LogEntry)
     → Type 0
-IsRest client lines done queues [] =
-    (next_event client lines done ≡ None) × ((node : ℕ) (q : List LogEntry) → slice_get queues node ≡ Some q → q ≡ [])
-IsRest client lines done queues (e ∷ made) =
-    IsEvent (next_event client lines done) e × (e.step ≡ length done)
+IsRest client script done queues [] =
+    (next_event client script done ≡ None) × ((node : ℕ) (q : List LogEntry) → slice_get queues node ≡ Some q → q ≡ [])
+IsRest client script done queues (e ∷ made) =
+    IsEvent (next_event client script done) e × (e.step ≡ length done)
     × ((later : List LogEntry) × (slice_get queues e.node ≡ Some (e ∷ later))
-    × IsRest client lines (done ++ e.response ∷ []) (slice_set queues e.node later) made)
+    × IsRest client script (done ++ e.response ∷ []) (slice_set queues e.node later) made)
 
 -- the entries in the queues are what the client calls after these replies, in some order of the nodes
-abbrev pub CanRest : (client : ℕ) → List Line → (done : List Response) → (queues : List (List LogEntry)) → Type 0
-CanRest client lines done queues = (made : List LogEntry) × IsRest client lines done queues made
+abbrev pub CanRest : (client : ℕ) → Scripted → (done : List Response) → (queues : List (List LogEntry)) → Type 0
+CanRest client script done queues = (made : List LogEntry) × IsRest client script done queues made
 
 -- the whole walk of a client, after which its core stands: `made` is its calls in their order
-pub record HasWalked (client : ℕ) (lines : List Line) (queues : List (List LogEntry)) (core : Core) : Type 0 where
+pub record HasWalked (client : ℕ) (script : Scripted) (queues : List (List LogEntry)) (core : Core) : Type 0 where
   pub made : List LogEntry
-  pub walk : IsRest client lines [] queues made
-  pub after : IsAfter client lines (replies made) core
+  pub walk : IsRest client script [] queues made
+  pub after : IsAfter client script (replies made) core

@@ -2,7 +2,7 @@
 ghost use Rattle.std.specs.Prelude.{◌≡◌, ◌+◌, ◌<◌, ◌^◌, [], List, length, map, true, false};
 ghost use Rattle.dmx_calls.specs.declared.limits.TheConstants.{DEMUX_NODES};
 ghost use Rattle.dmx_calls.specs.Calls.{told_entry};
-ghost use Rattle.client_script.specs.declared.line.Line.{Line};
+ghost use Rattle.client_script.specs.Script.{Scripted};
 ghost use Rattle.client_core.specs.Inside.Core.{IsAfter};
 ghost use Rattle.walk_check.specs.Walk.{CanRest, HasWalked, queues_in};
 ghost use Rattle.walk_check.specs.Inside.Steps.{left_on};
@@ -18,10 +18,10 @@ pub fn is_walked(core: &mut ClientCore, client: u32, nodes: &mut Vec<&[Entry]>) 
     requires client { client < 4294967295 }
     requires nodes { length nodes.old.items ≡ DEMUX_NODES + 1 }
     requires few { core.old.step + left_on (map (λ h. map told_entry h.now) nodes.old.items) < 2 ^ 46 }
-    ensures walked { result ≡ true → (lines : List Line) → IsAfter client lines [] core.old
-        → HasWalked client lines (queues_in client (map (λ h. map told_entry h.now) nodes.old.items)) core.new }
-    ensures other { result ≡ false → (lines : List Line) → IsAfter client lines [] core.old
-        → CanRest client lines [] (queues_in client (map (λ h. map told_entry h.now) nodes.old.items)) → ⊥ }
+    ensures walked { result ≡ true → (script : Scripted) → IsAfter client script [] core.old
+        → HasWalked client script (queues_in client (map (λ h. map told_entry h.now) nodes.old.items)) core.new }
+    ensures other { result ≡ false → (script : Scripted) → IsAfter client script [] core.old
+        → CanRest client script [] (queues_in client (map (λ h. map told_entry h.now) nodes.old.items)) → ⊥ }
     ensures nodes { length nodes.new.items ≡ length nodes.old.items }
 {
     'walk: while let Some(event) = core.next() {

@@ -12,7 +12,7 @@ use Rattle.dmx_calls.specs.Log.{LogEntry}
 use Rattle.dmx_calls.specs.Response.{NoMemory}
 use Rattle.dmx_calls.specs.declared.histories.Fed.{Fed}
 use Rattle.dmx_calls.specs.declared.log.Entry.{Entry as ToldEntry}
-use Rattle.client_script.specs.declared.line.Line.{Line}
+use Rattle.client_script.specs.Script.{Scripted}
 use Rattle.client_core.specs.declared.stop.TheConstants.{MOST_CALLS}
 use Rattle.client_core.specs.Inside.Core.{IsAfter}
 use Rattle.script_run.specs.IsRun.{replies}
@@ -46,8 +46,8 @@ module _ (locks : List TableId) (callers who left : ℕ) (c : Caller) (f : IsFre
     just = λ node p at. (fresh_pass node p at).1;
   }
 
-  pub called_none : (lines : List Line) (client : ℕ) (may : ℕ → Bool) → who ≡ client + 1 → HasCalled lines client may c []
-  called_none lines client may is = record {
+  pub called_none : (script : Scripted) (client : ℕ) (may : ℕ → Bool) → who ≡ client + 1 → HasCalled script client may c []
+  called_none script client may is = record {
     who = f.number ∙ is;
     logged = logged_none;
     events = λ i e at. absurd (cc at);
@@ -67,9 +67,9 @@ module _ (locks : List TableId) (callers who left : ℕ) (c : Caller) (f : IsFre
     either true p m = m
     either false p m = m
 
-module _ (lines : List Line) (locks : List TableId) (n : ℕ) (feeder : Caller) (clients : List Caller) (fresh : AreFreshCallers locks n feeder clients) (all : AreAllCallers locks (clients ++ feeder ∷ [])) where
+module _ (script : Scripted) (locks : List TableId) (n : ℕ) (feeder : Caller) (clients : List Caller) (fresh : AreFreshCallers locks n feeder clients) (all : AreAllCallers locks (clients ++ feeder ∷ [])) where
   -- a client's worker before its first call
-  module _ (workers : List ClientWorker) (b : AreFreshWorkers lines clients workers) (c : ℕ) (w : ClientWorker) (at : slice_get workers c ≡ Some w) where
+  module _ (workers : List ClientWorker) (b : AreFreshWorkers script clients workers) (c : ℕ) (w : ClientWorker) (at : slice_get workers c ≡ Some w) where
     its_client : slice_get clients c ≡ Some w.client
     its_client = ap (λ (l : List Caller). slice_get l c) (sym b.are) ∙ (slice_get-map (λ (v : ClientWorker). v.client) workers c ∙ ap (λ o. option_map (λ (v : ClientWorker). v.client) o) at)
 
@@ -82,10 +82,10 @@ module _ (lines : List Line) (locks : List TableId) (n : ℕ) (feeder : Caller) 
       nodes = subst AreOnNodes (sym k.log) (All-nil (λ (e : ToldEntry). e.node ≤ 32));
     }
 
-    pub begun_works : (may : ℕ → Bool) → IsWorking lines c may w
+    pub begun_works : (may : ℕ → Bool) → IsWorking script c may w
     begun_works may = let f = fresh.each c w.client its_client in let k = b.each c w at in record {
-      called = subst (λ (es : List ToldEntry). HasCalled lines c may w.client (map told_entry es)) (sym k.log) (called_none locks (n + 1) (c + 1) (2 ^ 40) w.client f lines c may refl);
-      after = subst (λ (es : List ToldEntry). IsAfter c lines (replies (map told_entry es)) w.core) (sym k.log) k.core;
+      called = subst (λ (es : List ToldEntry). HasCalled script c may w.client (map told_entry es)) (sym k.log) (called_none locks (n + 1) (c + 1) (2 ^ 40) w.client f script c may refl);
+      after = subst (λ (es : List ToldEntry). IsAfter c script (replies (map told_entry es)) w.core) (sym k.log) k.core;
     }
 
     pub begun_few : w.core.step ≤ MOST_CALLS

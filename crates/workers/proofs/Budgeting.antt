@@ -7,8 +7,7 @@ use Rattle.dmx_calls.specs.declared.histories.Fed.{Fed}
 use Rattle.dmx_calls.specs.declared.limits.TheConstants.{DEMUX_NODES}
 use Rattle.dmx_calls.specs.History.{Entry}
 use Rattle.dmx_calls.specs.Log.{LogEntry}
-use Rattle.client_script.specs.declared.line.Line.{Line}
-use Rattle.client_script.specs.Script.{clients_in}
+use Rattle.client_script.specs.Script.{clients_in, Scripted}
 use Rattle.script_run.specs.Budget.{all_commands, most_calls}
 use Rattle.script_run.specs.SoFar.{others as Others}
 use Rattle.script_run.proofs.Paying.{calls_are_paid}
@@ -35,8 +34,8 @@ over_or_not : (behind : List Entry) → (behind ≡ []) ⊎ (behind ≡ ended �
 over_or_not behind (inl is) = (false, is)
 over_or_not behind (inr is) = (true, is)
 
-module _ (lines : List Line) (among : ℕ → Bool) (most : ℕ) (may : ℕ → Bool) (packets : List (List ℕ)) (behind : List Entry) (feeder : Caller) (fs : List Fed) (others : List Caller) (books : List (List LogEntry))
-    (r : IsRunning lines among most may packets behind feeder fs others books) where
+module _ (script : Scripted) (among : ℕ → Bool) (most : ℕ) (may : ℕ → Bool) (packets : List (List ℕ)) (behind : List Entry) (feeder : Caller) (fs : List Fed) (others : List Caller) (books : List (List LogEntry))
+    (r : IsRunning script among most may packets behind feeder fs others books) where
   abbrev over : Bool
   over = (over_or_not behind r.end).0
 
@@ -46,10 +45,10 @@ module _ (lines : List Line) (among : ℕ → Bool) (most : ℕ) (may : ℕ → 
   named_in : (e : LogEntry) → IsLoggedIn books e → among e.node ≡ true
   named_in e (c, log, i, book, at) =
       let client = at_place others c (omega (arith, slice_get_within books c log book, r.logs, r.clients)) in
-      r.named e.node (named_call lines c (replies (take i log)) e ((r.called c client.0 log client.1 book).events i e at))
+      r.named e.node (named_call script c (replies (take i log)) e ((r.called c client.0 log client.1 book).events i e at))
 
   logged_each : (c : ℕ) (client : Caller) (log : List LogEntry) → slice_get others c ≡ Some client → slice_get books c ≡ Some log → HasLogged c client log
-  logged_each c client log at book = has_logged lines c may client log (r.called c client log at book)
+  logged_each c client log at book = has_logged script c may client log (r.called c client log at book)
 
   histories : HaveHistories (others ++ whole among (made_by over packets fs) feeder ∷ [])
   histories = whole_have among (made_by over packets fs) feeder others (feeders_calls over packets fs) made (idle_there among others books (r.logs ∙ sym r.clients) logged_each named_in) r.histories
@@ -66,28 +65,28 @@ module _ (lines : List Line) (among : ℕ → Bool) (most : ℕ) (may : ℕ → 
     each = logged_each;
   }
 
-  of_script : IsOfScript lines most may over fs m
+  of_script : IsOfScript script most may over fs m
   of_script = record { acts = refl; tiles = r.fed.tiles; count = r.logs; calls = r.called }
 
   low : (e : LogEntry) → IsLoggedIn books e → e.node ≤ DEMUX_NODES
   low e (c, log, i, book, at) = has_all (λ (e : LogEntry). e.node ≤ DEMUX_NODES) log (r.nodes c log book) e (has_at log e i at)
 
-  within : (c : ℕ) (log : List LogEntry) → slice_get books c ≡ Some log → length log ≤ most_calls (all_commands lines) (188 * length packets)
+  within : (c : ℕ) (log : List LogEntry) → slice_get books c ≡ Some log → length log ≤ most_calls (all_commands script.lines) (188 * length packets)
   unfolding so_far done
   within c log book =
       let hs = are_woven m histories in
-      let is : c < clients_in lines = omega (arith, slice_get_within books c log book, r.logs) in
-      let here = log_at lines most may over fs m of_script histories low hs.0 hs.1 c is in
-      let bound = calls_are_paid Others lines most packets hs.0 (so_far lines most may over fs m of_script histories low hs.0 hs.1) r.are_packets c is in
-      subst (λ l. length l ≤ most_calls (all_commands lines) (188 * length packets)) (one_value books c here.0 log here.1 book) bound
+      let is : c < clients_in script = omega (arith, slice_get_within books c log book, r.logs) in
+      let here = log_at script most may over fs m of_script histories low hs.0 hs.1 c is in
+      let bound = calls_are_paid Others script most packets hs.0 (so_far script most may over fs m of_script histories low hs.0 hs.1) r.are_packets c is in
+      subst (λ l. length l ≤ most_calls (all_commands script.lines) (188 * length packets)) (one_value books c here.0 log here.1 book) bound
 
 pub calls_within : CallsAreWithinBudget
-calls_within lines among most may packets behind feeder fs others books r c log book = within lines among most may packets behind feeder fs others books r c log book
+calls_within script among most may packets behind feeder fs others books r c log book = within script among most may packets behind feeder fs others books r c log book
 
 pub few_calls : FewBytesAreFewCalls
-few_calls lines among most may packets behind feeder feeding others books r few c log book =
-    omega (arith, few, calls_within lines among most may packets behind feeder feeding others books r c log book)
+few_calls script among most may packets behind feeder feeding others books r few c log book =
+    omega (arith, few, calls_within script among most may packets behind feeder feeding others books r c log book)
 
 pub many_calls : ManyCallsAreTooLong
-many_calls lines among most may packets behind feeder feeding others books r start ahead taken fits c log book is =
-    inr (is, omega (arith, is, fits, calls_within lines among most may packets behind feeder feeding others books r c log book))
+many_calls script among most may packets behind feeder feeding others books r start ahead taken fits c log book is =
+    inr (is, omega (arith, is, fits, calls_within script among most may packets behind feeder feeding others books r c log book))

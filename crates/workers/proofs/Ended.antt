@@ -8,8 +8,7 @@ use Rattle.dmx_calls.specs.declared.limits.TheConstants.{DEMUX_NODES}
 use Rattle.dmx_calls.specs.declared.outcome.Outcome.{Outcome}
 use Rattle.dmx_calls.specs.History.{Entry}
 use Rattle.dmx_calls.specs.Log.{LogEntry}
-use Rattle.client_script.specs.declared.line.Line.{Line}
-use Rattle.client_script.specs.Script.{clients_in}
+use Rattle.client_script.specs.Script.{clients_in, Scripted}
 use Rattle.client_core.specs.Events.{next_event}
 use Rattle.client_core.specs.Outcomes.{outcomes}
 use Rattle.script_run.specs.IsRun.{Batch, replies}
@@ -31,55 +30,55 @@ use Rattle.workers.proofs.Merged.{AreWoven, have_whole, there, node_low}
 use Rattle.workers.proofs.SoFar.{has_logged, IsOfScript, log_at, moment_at, done, fed, so_far}
 
 -- what became of a client
-became : (lines : List Line) (among : ℕ → Bool) (most : ℕ) (may : ℕ → Bool) (stream : List (List ℕ)) (feeder : Caller) (fs : List Fed) (others : List Caller) (books : List (List LogEntry)) (told : List (List Outcome))
-    → AreWorked lines among most may stream feeder fs others books told → (c : ℕ) (client : Caller) (log : List LogEntry) → slice_get others c ≡ Some client → slice_get books c ≡ Some log
-    → (out : List Outcome) × (slice_get told c ≡ Some out) × HasWorked lines c may client log out
-became lines among most may stream feeder fs others books told w c client log at book =
+became : (script : Scripted) (among : ℕ → Bool) (most : ℕ) (may : ℕ → Bool) (stream : List (List ℕ)) (feeder : Caller) (fs : List Fed) (others : List Caller) (books : List (List LogEntry)) (told : List (List Outcome))
+    → AreWorked script among most may stream feeder fs others books told → (c : ℕ) (client : Caller) (log : List LogEntry) → slice_get others c ≡ Some client → slice_get books c ≡ Some log
+    → (out : List Outcome) × (slice_get told c ≡ Some out) × HasWorked script c may client log out
+became script among most may stream feeder fs others books told w c client log at book =
     let out = at_place told c (omega (arith, slice_get_within books c log book, w.logs, w.outcomes)) in
     (out.0, out.1, w.each c client log out.0 at book out.1)
 
 -- what the threads leave was called so
 pub have_called : WorkersHaveCalled
-have_called lines among most may stream feeder fs others books told w = record {
+have_called script among most may stream feeder fs others books told w = record {
   fed = w.fed.fed.made;
   logs = w.logs ∙ sym w.clients;
-  each = λ c client log at book. has_logged lines c may client log (became lines among most may stream feeder fs others books told w c client log at book).2.called;
+  each = λ c client log at book. has_logged script c may client log (became script among most may stream feeder fs others books told w c client log at book).2.called;
   named = named_in;
 } where
   named_in : (e : LogEntry) → IsLoggedIn books e → among e.node ≡ true
   named_in e (c, log, i, book, at) =
       let client = at_place others c (omega (arith, slice_get_within books c log book, w.logs, w.clients)) in
-      w.named e.node (named_call lines c (replies (take i log)) e ((became lines among most may stream feeder fs others books told w c client.0 log client.1 book).2.called.events i e at))
+      w.named e.node (named_call script c (replies (take i log)) e ((became script among most may stream feeder fs others books told w c client.0 log client.1 book).2.called.events i e at))
 
-module _ (lines : List Line) (among : ℕ → Bool) (most : ℕ) (may : ℕ → Bool) (stream : List (List ℕ)) (feeder : Caller) (fs : List Fed) (others : List Caller) (books : List (List LogEntry)) (told : List (List Outcome))
-    (w : AreWorked lines among most may stream feeder fs others books told) (full_row : (node : ℕ) → node ≤ DEMUX_NODES → (p : TableId × View Entry) × (slice_get feeder.passes node ≡ Some p))
+module _ (script : Scripted) (among : ℕ → Bool) (most : ℕ) (may : ℕ → Bool) (stream : List (List ℕ)) (feeder : Caller) (fs : List Fed) (others : List Caller) (books : List (List LogEntry)) (told : List (List Outcome))
+    (w : AreWorked script among most may stream feeder fs others books told) (full_row : (node : ℕ) → node ≤ DEMUX_NODES → (p : TableId × View Entry) × (slice_get feeder.passes node ≡ Some p))
     (had : HaveHistories (others ++ feeder ∷ [])) (low : (e : LogEntry) → IsLoggedIn books e → e.node ≤ DEMUX_NODES) where
   abbrev pub m : Moment
-  m = at_end among stream feeder fs others books (have_called lines among most may stream feeder fs others books told w)
+  m = at_end among stream feeder fs others books (have_called script among most may stream feeder fs others books told w)
 
   have : HaveHistories (others ++ whole among (made_by true stream fs) feeder ∷ [])
-  have = have_whole among stream feeder fs others books (have_called lines among most may stream feeder fs others books told w) had
+  have = have_whole among stream feeder fs others books (have_called script among most may stream feeder fs others books told w) had
 
   full : (node : ℕ) → node ≤ DEMUX_NODES → (p : TableId × View Entry) × (slice_get (whole among (made_by true stream fs) feeder).passes node ≡ Some p)
   full = whole_full among (made_by true stream fs) feeder full_row
 
-  of_script : IsOfScript lines most may true fs m
+  of_script : IsOfScript script most may true fs m
   of_script = record {
     acts = refl;
     tiles = w.fed.fed.tiles;
     count = w.logs;
-    calls = λ c client log at book. (became lines among most may stream feeder fs others books told w c client log at book).2.called;
+    calls = λ c client log at book. (became script among most may stream feeder fs others books told w c client log at book).2.called;
   }
 
   module _ (hs : List (List LogEntry)) (woven : AreWoven m hs) where
-    now : IsSoFar Others lines most stream hs
-    now = so_far lines most may true fs m of_script have low hs woven
+    now : IsSoFar Others script most stream hs
+    now = so_far script most may true fs m of_script have low hs woven
 
     -- what became of the client of a log
-    out_of : (c : ℕ) (log : List LogEntry) → slice_get books c ≡ Some log → (out : List Outcome) × (slice_get told c ≡ Some out) × (next_event c lines (replies log) ≡ None) × (out ≡ outcomes c lines (replies log))
+    out_of : (c : ℕ) (log : List LogEntry) → slice_get books c ≡ Some log → (out : List Outcome) × (slice_get told c ≡ Some out) × (next_event c script (replies log) ≡ None) × (out ≡ outcomes c script (replies log))
     out_of c log book =
         let client = at_place others c (omega (arith, slice_get_within books c log book, w.logs, w.clients)) in
-        let b = became lines among most may stream feeder fs others books told w c client.0 log client.1 book in
+        let b = became script among most may stream feeder fs others books told w c client.0 log client.1 book in
         (b.0, b.1, b.2.ends, b.2.outcomes)
 
     whole_is : sum (map (λ (b : Batch). b.size) (map batch_of fs)) ≡ length stream
@@ -92,24 +91,24 @@ module _ (lines : List Line) (among : ℕ → Bool) (most : ℕ) (may : ℕ → 
       ended = λ node h at.
           (there m have low hs woven node h at).2.steps ∙ ap (λ o. steps_from 0 (acts_by m o)) (full node (node_low m have low hs woven node h at)).1
           ∙ steps_tile most 0 (length stream) 0 fs w.fed.fed.tiles;
-      through = λ c is. let log = log_at lines most may true fs m of_script have low hs woven c is in (out_of c log.0 log.1).2;
+      through = λ c is. let log = log_at script most may true fs m of_script have low hs woven c is in (out_of c log.0 log.1).2;
     }
 
-    pub whole_run : IsWholeRun lines most may stream told hs
+    pub whole_run : IsWholeRun script most may stream told hs
     unfolding now so_far done fed
     whole_run =
-        let ends = runs_end Others lines most stream hs now over in
+        let ends = runs_end Others script most stream hs now over in
         record {
           run = ends.0;
-          accounted = are_accounted lines most stream hs ends.0;
+          accounted = are_accounted script most stream hs ends.0;
           full = subst (AreFull most) (sym ends.1) w.fed.full;
-          moments = moment_at lines most may true fs m of_script have low hs woven w.fed.fed.moments;
+          moments = moment_at script most may true fs m of_script have low hs woven w.fed.fed.moments;
           clients = w.outcomes;
           outcomes = λ c is. told_of c is (ends.2 c is);
         } where
-          told_of : (c : ℕ) (is : c < clients_in lines) → ((runs_end Others lines most stream hs now over).0.clients_done c is).made ≡ (now.clients c is).made
-              → slice_get told c ≡ Some (outcomes c lines (replies ((runs_end Others lines most stream hs now over).0.clients_done c is).made))
+          told_of : (c : ℕ) (is : c < clients_in script) → ((runs_end Others script most stream hs now over).0.clients_done c is).made ≡ (now.clients c is).made
+              → slice_get told c ≡ Some (outcomes c script (replies ((runs_end Others script most stream hs now over).0.clients_done c is).made))
           told_of c is same =
-              let log = log_at lines most may true fs m of_script have low hs woven c is in
+              let log = log_at script most may true fs m of_script have low hs woven c is in
               let o = out_of c log.0 log.1 in
-              o.1 ∙ ap (λ z. Some z) (o.3 ∙ ap (λ made. outcomes c lines (replies made)) (sym same))
+              o.1 ∙ ap (λ z. Some z) (o.3 ∙ ap (λ made. outcomes c script (replies made)) (sym same))

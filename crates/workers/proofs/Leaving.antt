@@ -10,8 +10,7 @@ use Rattle.dmx_calls.specs.Log.{LogEntry}
 use Rattle.dmx_calls.specs.declared.log.Entry.{Entry as ToldEntry}
 use Rattle.dmx_calls.specs.declared.histories.Fed.{Fed}
 use Rattle.dmx_calls.specs.declared.outcome.Outcome.{Outcome}
-use Rattle.client_script.specs.declared.line.Line.{Line}
-use Rattle.client_script.specs.Script.{clients_in}
+use Rattle.client_script.specs.Script.{clients_in, Scripted}
 use Rattle.script_run.specs.IsRun.{replies}
 use Rattle.client_core.specs.declared.stop.TheConstants.{MOST_CALLS}
 use Rattle.client_core.specs.declared.stop.Stop.{Stop}
@@ -62,12 +61,12 @@ module _ (may : ℕ → Bool) (locks : List TableId) where
       let come = h.each k w (omega arith) in
       (v.0, v.1, subst (λ (z : ClientWorker). HasCome may locks z w) (get_or_from_slice_get old k v.0 w v.1) (subst (λ (z : ClientWorker). HasCome may locks (slice_index_or old k w) z) (get_or_from_slice_get new k w w at) come))
 
-  worked_one : (lines : List Line) (c : ℕ) (v w : ClientWorker) (told : List Outcome) → IsWorking lines c may v → HasCome may locks v w → w.stop ≡ None → AreOutcomesOf w.core told → HasWorked lines c may w.client (log_of w) told
-  worked_one lines c v w told is come none outcomes =
-      let g = come.goes_on (no_stop w.stop none) lines c is in record {
+  worked_one : (script : Scripted) (c : ℕ) (v w : ClientWorker) (told : List Outcome) → IsWorking script c may v → HasCome may locks v w → w.stop ≡ None → AreOutcomesOf w.core told → HasWorked script c may w.client (log_of w) told
+  worked_one script c v w told is come none outcomes =
+      let g = come.goes_on (no_stop w.stop none) script c is in record {
         called = g.called;
-        ends = next_is lines c (replies (log_of w)) w.core g.after ∙ come.ends none;
-        outcomes = outcomes c lines (replies (log_of w)) g.after;
+        ends = next_is script c (replies (log_of w)) w.core g.after ∙ come.ends none;
+        outcomes = outcomes c script (replies (log_of w)) g.after;
       }
 
 -- ------ the feeder
@@ -96,8 +95,8 @@ books_are logs ws e = out logs ∙ (ap (map (map told_entry)) e ∙ back ws) whe
   back [] = refl
   back (w ∷ ws) = ap (λ l. log_of w ∷ l) (back ws)
 
-module _ (lines : List Line) (locks : List TableId) (n : ℕ) (feeder : Caller) (clients : List Caller) (fresh : AreFreshCallers locks n feeder clients) (all : AreAllCallers locks (clients ++ feeder ∷ []))
-    (may : ℕ → Bool) (old new : List ClientWorker) (b : AreFreshWorkers lines clients old) (h : HaveCome may locks old new) where
+module _ (script : Scripted) (locks : List TableId) (n : ℕ) (feeder : Caller) (clients : List Caller) (fresh : AreFreshCallers locks n feeder clients) (all : AreAllCallers locks (clients ++ feeder ∷ []))
+    (may : ℕ → Bool) (old new : List ClientWorker) (b : AreFreshWorkers script clients old) (h : HaveCome may locks old new) where
   pub many : length new ≡ n
   many = h.long ∙ (sym (length-map old (λ (v : ClientWorker). v.client)) ∙ (ap length b.are ∙ fresh.long))
 
@@ -130,18 +129,18 @@ module _ (lines : List Line) (locks : List TableId) (n : ℕ) (feeder : Caller) 
   module _ (f : FeederWorker) (w : Left) (left : IsLeftByWorkers f new w) (none : (k : ℕ) (v : ClientWorker) → slice_get new k ≡ Some v → v.stop ≡ None) where
     -- each client has done its commands
     pub worked_each : (c : ℕ) (client : Caller) (log : List LogEntry) (told : List Outcome) → slice_get w.clients.items c ≡ Some client → slice_get (map (λ (log : Vec ToldEntry Global). map told_entry log.items) w.logs.items) c ≡ Some log → slice_get (map (λ (those : Vec Outcome Global). those.items) w.outcomes.items) c ≡ Some told
-        → HasWorked lines c may client log told
+        → HasWorked script c may client log told
     worked_each c client log told at_client at_log at_told =
         let v = mapped (λ (x : ClientWorker). x.client) new c client (ap (λ (l : List Caller). slice_get l c) (sym left.clients) ∙ at_client) in
         let u = come_at may locks old new h c v.0 v.1 in
         let one : log_of v.0 ≡ log = one_value (map log_of new) c (log_of v.0) log (slice_get-map log_of new c ∙ ap (option_map log_of) v.1) (ap (λ (l : List (List LogEntry)). slice_get l c) (sym (books_are w.logs.items new left.logs)) ∙ at_log) in
-        subst (λ (x : Caller). HasWorked lines c may x log told) v.2 (subst (λ (x : List LogEntry). HasWorked lines c may v.0.client x told) one
-        (worked_one may locks lines c u.0 v.0 told (begun_works lines locks n feeder clients fresh all old b c u.0 u.1 may) u.2 (none c v.0 v.1) (left.each c v.0 told v.1 at_told)))
+        subst (λ (x : Caller). HasWorked script c may x log told) v.2 (subst (λ (x : List LogEntry). HasWorked script c may v.0.client x told) one
+        (worked_one may locks script c u.0 v.0 told (begun_works script locks n feeder clients fresh all old b c u.0 u.1 may) u.2 (none c v.0 v.1) (left.each c v.0 told v.1 at_told)))
 
-    pub all_worked : (most : ℕ) (stream : List (List ℕ)) → n ≡ clients_in lines → HasFedAll (is_named lines) most may stream f.feeder f.feeding.items
-        → AreWorked lines (is_named lines) most may stream w.feeder w.feeding.items w.clients.items (map (λ (log : Vec ToldEntry Global). map told_entry log.items) w.logs.items) (map (λ (those : Vec Outcome Global). those.items) w.outcomes.items)
+    pub all_worked : (most : ℕ) (stream : List (List ℕ)) → n ≡ clients_in script → HasFedAll (is_named script.lines) most may stream f.feeder f.feeding.items
+        → AreWorked script (is_named script.lines) most may stream w.feeder w.feeding.items w.clients.items (map (λ (log : Vec ToldEntry Global). map told_entry log.items) w.logs.items) (map (λ (those : Vec Outcome Global). those.items) w.outcomes.items)
     all_worked most stream is fed = record {
-      fed = subst (λ (es : Vec Fed Global). HasFedAll (is_named lines) most may stream w.feeder es.items) (sym left.feeding) (subst (λ (x : Caller). HasFedAll (is_named lines) most may stream x f.feeding.items) (sym left.feeder) fed);
+      fed = subst (λ (es : Vec Fed Global). HasFedAll (is_named script.lines) most may stream w.feeder es.items) (sym left.feeding) (subst (λ (x : Caller). HasFedAll (is_named script.lines) most may stream x f.feeding.items) (sym left.feeder) fed);
       named = λ node is. is;
       clients = ap length left.clients ∙ (length-map new (λ (v : ClientWorker). v.client) ∙ (many ∙ is));
       logs = ap length (books_are w.logs.items new left.logs) ∙ (length-map new log_of ∙ (many ∙ is));

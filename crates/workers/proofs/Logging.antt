@@ -18,7 +18,7 @@ use Rattle.dmx_calls.specs.History.{Entry}
 use Rattle.dmx_calls.specs.Log.{LogEntry}
 use Rattle.dmx_calls.specs.Response.{NoMemory}
 use Rattle.dmx_calls.specs.Entries.{caller_of}
-use Rattle.client_script.specs.declared.line.Line.{Line}
+use Rattle.client_script.specs.Script.{Scripted}
 use Rattle.client_core.specs.Events.{next_event, waits_on}
 use Rattle.script_run.specs.IsRun.{IsEvent, replies}
 use Rattle.script_run.specs.WholeRun.{IsGiven}
@@ -113,25 +113,25 @@ module _ (c d : Caller) (S : List Entry → Type 0) (node place : ℕ) (x : Entr
       }
 
   -- one call of a client of a script
-  module _ (lines : List Line) (client : ℕ) (may : ℕ → Bool) (log : List LogEntry) (e : LogEntry) where
-    pub called_more : HasCalled lines client may c log → e.node ≡ node → e.place ≡ place → e.step ≡ length log → e.who ≡ c.who → Tells e x
-        → IsEvent (next_event client lines (replies log)) e → e.response ≢ NoMemory → IsGiven may e.act
-        → (IsSome (waits_on client lines (replies log)) → (last : LogEntry) (i : ℕ) → slice_get log i ≡ Some last → i + 1 ≡ length log → last.place + 1 < place)
-        → HasCalled lines client may d (log ++ e ∷ [])
+  module _ (script : Scripted) (client : ℕ) (may : ℕ → Bool) (log : List LogEntry) (e : LogEntry) where
+    pub called_more : HasCalled script client may c log → e.node ≡ node → e.place ≡ place → e.step ≡ length log → e.who ≡ c.who → Tells e x
+        → IsEvent (next_event client script (replies log)) e → e.response ≢ NoMemory → IsGiven may e.act
+        → (IsSome (waits_on client script (replies log)) → (last : LogEntry) (i : ℕ) → slice_get log i ≡ Some last → i + 1 ≡ length log → last.place + 1 < place)
+        → HasCalled script client may d (log ++ e ∷ [])
     called_more l node_is place_is step_is who_is tells event found given turn = record {
       who = who ∙ l.who;
       logged = logged_more log e l.logged node_is place_is step_is who_is tells;
       events = λ i f at. ⊎_elim
-          (λ old. subst (λ (m : List LogEntry). IsEvent (next_event client lines (replies m)) f) (sym (front i (below i f old))) (l.events i f old))
-          (λ last. subst (λ (m : List LogEntry). IsEvent (next_event client lines (replies m)) f) (sym (all i last.0)) (subst (IsEvent (next_event client lines (replies log))) last.1 event))
+          (λ old. subst (λ (m : List LogEntry). IsEvent (next_event client script (replies m)) f) (sym (front i (below i f old))) (l.events i f old))
+          (λ last. subst (λ (m : List LogEntry). IsEvent (next_event client script (replies m)) f) (sym (all i last.0)) (subst (IsEvent (next_event client script (replies log))) last.1 event))
           (at_end log e f i at);
       found = All-push (λ (z : LogEntry). z.response ≢ NoMemory) log e l.found found;
       moments = All-push (λ (z : LogEntry). IsGiven may z.act) log e l.moments given;
       paid = λ i f g at next waits. ⊎_elim
           (λ old. let low = slice_get_within log (i + 1) g old in
-          l.paid i f g (inside i f (omega arith) at) old (subst (λ (m : List LogEntry). IsSome (waits_on client lines (replies m))) (front (i + 1) (omega arith)) waits))
+          l.paid i f g (inside i f (omega arith) at) old (subst (λ (m : List LogEntry). IsSome (waits_on client script (replies m))) (front (i + 1) (omega arith)) waits))
           (λ last. let long : i + 1 ≡ length log = last.0 in
-          let w = subst (λ (m : List LogEntry). IsSome (waits_on client lines (replies m))) (all (i + 1) long) waits in
+          let w = subst (λ (m : List LogEntry). IsSome (waits_on client script (replies m))) (all (i + 1) long) waits in
           let t = turn w f i (inside i f (omega arith) at) long in
           let g_is : g.place ≡ place = ap (λ (z : LogEntry). z.place) (sym last.1) ∙ place_is in omega arith)
           (at_end log e g (i + 1) next);
@@ -160,8 +160,8 @@ module _ (c d : Caller) (S : List Entry → Type 0) (node len : ℕ) (o : OneLoo
     just = still_each c.passes d.passes node o.first o.then o.was o.is o.looked.seen (λ i (p : TableId × View Entry). p.1.own ≡ calls_on i log) (o.looked.own ∙ l.just node o.first o.was) l.just;
   }
 
-  pub called_looked : (lines : List Line) (client : ℕ) (may : ℕ → Bool) (log : List LogEntry) → HasCalled lines client may c log → HasCalled lines client may d log
-  called_looked lines client may log l = record { who = who ∙ l.who; logged = logged_looked log l.logged; events = l.events; found = l.found; moments = l.moments; paid = l.paid }
+  pub called_looked : (script : Scripted) (client : ℕ) (may : ℕ → Bool) (log : List LogEntry) → HasCalled script client may c log → HasCalled script client may d log
+  called_looked script client may log l = record { who = who ∙ l.who; logged = logged_looked log l.logged; events = l.events; found = l.found; moments = l.moments; paid = l.paid }
 
   -- how many entries the pass has seen there
   pub seen_there : (p : TableId × View Entry) → slice_get d.passes node ≡ Some p → length p.1.seen ≡ len

@@ -19,8 +19,7 @@ use Rattle.dmx_calls.specs.Legal.{IsLegalFor}
 use Rattle.dmx_calls.specs.Log.{LogEntry}
 use Rattle.dmx_calls.specs.Histories.{feeder_acts, feeder_entry, pass_act}
 use Rattle.dmx_calls.proofs.Weaving.{in_place-at}
-use Rattle.client_script.specs.declared.line.Line.{Line}
-use Rattle.client_script.specs.Script.{clients_in}
+use Rattle.client_script.specs.Script.{clients_in, Scripted}
 use Rattle.client_core.specs.Events.{next_event, waits_on}
 use Rattle.script_run.specs.IsRun.{Step, feeding, replies, steps_of}
 use Rattle.script_run.specs.WholeRun.{IsGiven}
@@ -40,11 +39,11 @@ use Rattle.workers.proofs.Owning.{Moment, acts_by, called}
 use Rattle.workers.proofs.Merged.{AreWoven, there, stands}
 
 -- a client of a script has made just the calls of its log
-pub has_logged : (lines : List Line) (c : ℕ) (may : ℕ → Bool) (client : Caller) (log : List LogEntry) → HasCalled lines c may client log → HasLogged c client log
-has_logged lines c may client log k = record {
+pub has_logged : (script : Scripted) (c : ℕ) (may : ℕ → Bool) (client : Caller) (log : List LogEntry) → HasCalled script c may client log → HasLogged c client log
+has_logged script c may client log k = record {
   who = k.who;
   logged = k.logged;
-  passes = all_has (λ (e : LogEntry). PassesNone e.act) log (λ e has. let i = at_has log e has in event_passes_none (next_event c lines (replies (take i.0 log))) e (k.events i.0 e i.1));
+  passes = all_has (λ (e : LogEntry). PassesNone e.act) log (λ e has. let i = at_has log e has in event_passes_none (next_event c script (replies (take i.0 log))) e (k.events i.0 e i.1));
 }
 
 -- the steps of the first calls begin those of all
@@ -67,25 +66,25 @@ all_given may true fs times a has = given_has may (feeder_acts fs) (given may fs
 all_given may false fs times a has = given_has may (feeder_acts fs) (given may fs times) a (has_left (map pass_act fs) (EndAct ∷ []) a (subst (λ acts. Has acts a) (append-nil (map pass_act fs)) has))
 
 -- what was called at a moment is what a script asks for, and the feeder has passed these batches, and the end or not yet
-pub record IsOfScript (lines : List Line) (most : ℕ) (may : ℕ → Bool) (over : Bool) (fs : List Fed) (m : Moment) : Type 0 where
+pub record IsOfScript (script : Scripted) (most : ℕ) (may : ℕ → Bool) (over : Bool) (fs : List Fed) (m : Moment) : Type 0 where
   pub acts : m.acts ≡ acts_of over fs
   pub tiles : Tiles most 0 (length m.stream) fs
-  pub count : length m.books ≡ clients_in lines
-  pub calls : (c : ℕ) (client : Caller) (log : List LogEntry) → slice_get m.others c ≡ Some client → slice_get m.books c ≡ Some log → HasCalled lines c may client log
+  pub count : length m.books ≡ clients_in script
+  pub calls : (c : ℕ) (client : Caller) (log : List LogEntry) → slice_get m.others c ≡ Some client → slice_get m.books c ≡ Some log → HasCalled script c may client log
 
-module _ (lines : List Line) (most : ℕ) (may : ℕ → Bool) (over : Bool) (fs : List Fed) (m : Moment) (s : IsOfScript lines most may over fs m)
+module _ (script : Scripted) (most : ℕ) (may : ℕ → Bool) (over : Bool) (fs : List Fed) (m : Moment) (s : IsOfScript script most may over fs m)
     (have : HaveHistories (m.others ++ m.feeder ∷ [])) (low : (e : LogEntry) → IsLoggedIn m.books e → e.node ≤ DEMUX_NODES) (hs : List (List LogEntry)) (w : AreWoven m hs) where
   -- the caller of a log
-  pub client_of : (c : ℕ) (log : List LogEntry) → slice_get m.books c ≡ Some log → (client : Caller) × HasCalled lines c may client log
+  pub client_of : (c : ℕ) (log : List LogEntry) → slice_get m.books c ≡ Some log → (client : Caller) × HasCalled script c may client log
   client_of c log at = let client = at_place m.others c (omega (arith, slice_get_within m.books c log at, m.logs)) in (client.0, s.calls c client.0 log client.1 at)
 
-  pub log_at : (c : ℕ) → c < clients_in lines → (log : List LogEntry) × (slice_get m.books c ≡ Some log)
+  pub log_at : (c : ℕ) → c < clients_in script → (log : List LogEntry) × (slice_get m.books c ≡ Some log)
   log_at c lt = at_place m.books c (omega (arith, lt, s.count))
 
   -- what is said of each entry of the histories
   pub record IsOfRun (node : ℕ) (e : LogEntry) : Type 0 where
     pub on : e.node ≡ node
-    pub by : e.who ≤ clients_in lines
+    pub by : e.who ≤ clients_in script
     pub found : e.response ≢ NoMemory
     pub logged : (c : ℕ) (log : List LogEntry) → slice_get m.books c ≡ Some log → e.who ≡ c + 1 → slice_get log e.step ≡ Some e
 
@@ -158,12 +157,12 @@ module _ (lines : List Line) (most : ℕ) (may : ℕ → Bool) (over : Bool) (fs
     go false nay false past false never = omega (arith, one i e (grind (arith, nat_tests, nay, never)) at, above)
 
   pub paid : (c : ℕ) (log : List LogEntry) (i : ℕ) (e f : LogEntry) → slice_get m.books c ≡ Some log → slice_get log i ≡ Some e → slice_get log (suc i) ≡ Some f → f.node ≡ e.node
-      → IsSome (waits_on c lines (replies (take (suc i) log))) → IsPaidBehind Others c hs e
+      → IsSome (waits_on c script (replies (take (suc i) log))) → IsPaidBehind Others c hs e
   paid c log i e f book at next same waits =
       let k = (client_of c log book).1 in
       let on : i + 1 ≡ suc i = omega arith in
       let gap : e.place + 1 < f.place =
-      k.paid i e f at (subst (λ n. slice_get log n ≡ Some f) (sym on) next) (subst (λ n. IsSome (waits_on c lines (replies (take n log)))) (sym on) waits) in
+      k.paid i e f at (subst (λ n. slice_get log n ≡ Some f) (sym on) next) (subst (λ n. IsSome (waits_on c script (replies (take n log)))) (sym on) waits) in
       let last = stands m have low hs w f (c, log, suc i, book, next) in
       let x = at_place last.0 (e.place + 1) (omega (arith, gap, slice_get_within last.0 f.place f last.2)) in
       let r = entry_at f.node (e.place + 1) last.0 x.0 last.1 x.1 in (
@@ -174,7 +173,7 @@ module _ (lines : List Line) (most : ℕ) (may : ℕ → Bool) (over : Bool) (fs
         λ mine. none_between c log i x.0.step e f x.0 book at next (r.1.logged c log book mine) same (r.1.on ∙ same) (omega (arith, r.0)) (omega (arith, r.0, gap)),
       )
 
-  unfoldable pub done : (c : ℕ) → c < clients_in lines → HasDoneSoFar Others lines c hs
+  unfoldable pub done : (c : ℕ) → c < clients_in script → HasDoneSoFar Others script c hs
   done c lt =
       let log = log_at c lt in
       let k = (client_of c log.0 log.1).1 in
@@ -187,7 +186,7 @@ module _ (lines : List Line) (most : ℕ) (may : ℕ → Bool) (over : Bool) (fs
       }
 
   -- They are the histories of a run so far.
-  unfoldable pub so_far : IsSoFar Others lines most m.stream hs
+  unfoldable pub so_far : IsSoFar Others script most m.stream hs
   so_far = record {
     nodes = w.many;
     places = λ node place h e at here. let r = entry_at node place h e at here in (r.1.on, r.0, r.1.by, r.1.found);

@@ -11,8 +11,7 @@ use Rattle.dmx_calls.specs.Calls.{told_entry}
 use Rattle.dmx_calls.specs.Log.{LogEntry}
 use Rattle.dmx_calls.specs.declared.limits.TheConstants.{DEMUX_NODES}
 use Rattle.dmx_calls.specs.declared.log.Entry.{Entry as ToldEntry}
-use Rattle.client_script.specs.declared.line.Line.{Line}
-use Rattle.client_script.specs.Script.{clients_in}
+use Rattle.client_script.specs.Script.{clients_in, Scripted}
 use Rattle.script_run.specs.Budget.{IsTooLong}
 use Rattle.client_core.specs.declared.stop.TheConstants.{MOST_CALLS}
 use Rattle.client_core.specs.declared.stop.Stop.TheVariants.{NoMemory}
@@ -39,21 +38,21 @@ use Rattle.workers.proofs.Leaving.{come_at, many}
 
 -- ------ the moment at which the workers have come to their ends
 
-module _ (lines : List Line) (locks : List TableId) (n : ℕ) (feeder : Caller) (clients : List Caller) (fresh : AreFreshCallers locks n feeder clients) (all : AreAllCallers locks (clients ++ feeder ∷ []))
-    (may : ℕ → Bool) (old new : List ClientWorker) (b : AreFreshWorkers lines clients old) (h : HaveCome may locks old new)
-    (most : ℕ) (x y : SourceEnd) (first : Pulling) (f : FeederWorker) (k : HasPassedAll (is_named lines) most may x y first f)
-    (found : (i : ℕ) (w : ClientWorker) → slice_get new i ≡ Some w → w.stop ≢ Some NoMemory) (is : n ≡ clients_in lines) (histories : HaveHistories (map (λ (w : ClientWorker). w.client) new ++ f.feeder ∷ [])) where
+module _ (script : Scripted) (locks : List TableId) (n : ℕ) (feeder : Caller) (clients : List Caller) (fresh : AreFreshCallers locks n feeder clients) (all : AreAllCallers locks (clients ++ feeder ∷ []))
+    (may : ℕ → Bool) (old new : List ClientWorker) (b : AreFreshWorkers script clients old) (h : HaveCome may locks old new)
+    (most : ℕ) (x y : SourceEnd) (first : Pulling) (f : FeederWorker) (k : HasPassedAll (is_named script.lines) most may x y first f)
+    (found : (i : ℕ) (w : ClientWorker) → slice_get new i ≡ Some w → w.stop ≢ Some NoMemory) (is : n ≡ clients_in script) (histories : HaveHistories (map (λ (w : ClientWorker). w.client) new ++ f.feeder ∷ [])) where
   now_pulls : (ahead : List ℕ) → Pulls ahead [] [] first → Pulls ahead k.draws.carries.more k.packets f.puller
   now_pulls ahead pulls = k.draws.carries.pulls ahead [] [] pulls
 
-  count : length new ≡ clients_in lines
-  count = many lines locks n feeder clients fresh all may old new b h ∙ is
+  count : length new ≡ clients_in script
+  count = many script locks n feeder clients fresh all may old new b h ∙ is
 
   told_nodes : (es : List ToldEntry) → AreOnNodes es → All (λ (e : LogEntry). e.node ≤ DEMUX_NODES) (map told_entry es)
   told_nodes [] on = All-nil (λ (e : LogEntry). e.node ≤ DEMUX_NODES)
   told_nodes (e ∷ es) on = All-cons (λ (e : LogEntry). e.node ≤ DEMUX_NODES) (told_entry e) (map told_entry es) (on 0 e (omega arith)) (told_nodes es (All-tail (λ (e : ToldEntry). e.node ≤ DEMUX_NODES) e es on))
 
-  running : (ahead : List ℕ) → Pulls ahead [] [] first → IsRunning lines (is_named lines) most may k.packets (ended ∷ []) f.feeder f.feeding.items (map (λ (w : ClientWorker). w.client) new) (map log_of new)
+  running : (ahead : List ℕ) → Pulls ahead [] [] first → IsRunning script (is_named script.lines) most may k.packets (ended ∷ []) f.feeder f.feeding.items (map (λ (w : ClientWorker). w.client) new) (map log_of new)
   running ahead pulls = record {
     are_packets = subst (All IsPacket) (Pulls-done ahead k.draws.carries.more k.packets f.puller (now_pulls ahead pulls) k.done).packets (are_packets f.puller.cutting.size (ahead ++ k.draws.carries.more));
     end = inr refl;
@@ -65,8 +64,8 @@ module _ (lines : List Line) (locks : List TableId) (n : ℕ) (feeder : Caller) 
         let v = mapped (λ (w : ClientWorker). w.client) new c client at_client in
         let u = come_at may locks old new h c v.0 v.1 in
         let one : log_of v.0 ≡ log = one_value (map log_of new) c (log_of v.0) log (slice_get-map log_of new c ∙ ap (option_map log_of) v.1) at_log in
-        let w = u.2.goes_on (found c v.0 v.1) lines c (begun_works lines locks n feeder clients fresh all old b c u.0 u.1 may) in
-        subst (λ (z : Caller). HasCalled lines c may z log) v.2 (subst (λ (z : List LogEntry). HasCalled lines c may v.0.client z) one w.called);
+        let w = u.2.goes_on (found c v.0 v.1) script c (begun_works script locks n feeder clients fresh all old b c u.0 u.1 may) in
+        subst (λ (z : Caller). HasCalled script c may z log) v.2 (subst (λ (z : List LogEntry). HasCalled script c may v.0.client z) one w.called);
     nodes = λ c log at_log.
         let v = mapped log_of new c log at_log in
         let u = come_at may locks old new h c v.0 v.1 in
@@ -75,13 +74,13 @@ module _ (lines : List Line) (locks : List TableId) (n : ℕ) (feeder : Caller) 
   }
 
   -- a client has made so many calls
-  pub calls_by : ManyCallsAreTooLong → (turns i : ℕ) (w : ClientWorker) → slice_get new i ≡ Some w → w.core.step ≡ MOST_CALLS → turns ≡ MOST_CALLS → OfStream x y first (IsTooLong lines first.start turns)
+  pub calls_by : ManyCallsAreTooLong → (turns i : ℕ) (w : ClientWorker) → slice_get new i ≡ Some w → w.core.step ≡ MOST_CALLS → turns ≡ MOST_CALLS → OfStream x y first (IsTooLong script first.start turns)
   calls_by law turns i w at calls turns_is =
       let u = come_at may locks old new h i w at in
       let size : length (log_of w) ≡ MOST_CALLS = length-map w.log.items told_entry ∙ (sym (u.2.fit (found i w at)).steps ∙ calls) in (
         k.draws.carries.more,
         k.draws.carries.consumes,
-        λ ahead pulls. subst (λ (t : ℕ). IsTooLong lines first.start t ahead k.draws.carries.more) (size ∙ sym turns_is)
-            (law lines (is_named lines) most may k.packets (ended ∷ []) f.feeder f.feeding.items (map (λ (z : ClientWorker). z.client) new) (map log_of new) (running ahead pulls) first.start ahead k.draws.carries.more
+        λ ahead pulls. subst (λ (t : ℕ). IsTooLong script first.start t ahead k.draws.carries.more) (size ∙ sym turns_is)
+            (law script (is_named script.lines) most may k.packets (ended ∷ []) f.feeder f.feeding.items (map (λ (z : ClientWorker). z.client) new) (map log_of new) (running ahead pulls) first.start ahead k.draws.carries.more
             (Pulls-size ahead k.draws.carries.more k.packets f.puller (now_pulls ahead pulls)) i (log_of w) (slice_get-map log_of new i ∙ ap (option_map log_of) at) size),
       )

@@ -19,19 +19,19 @@ use Rattle.dmx_calls.specs.Calls.{told_entry}
 use Rattle.dmx_calls.specs.declared.log.Entry.{Entry as ToldEntry}
 use Rattle.dmx_calls.specs.Log.{LogEntry}
 use Rattle.dmx_calls.specs.Response.{Response}
-use Rattle.client_script.specs.declared.line.Line.{Line}
+use Rattle.client_script.specs.Script.{Scripted}
 use Rattle.client_core.specs.declared.event.Event.{Event}
 use Rattle.client_core.specs.Inside.Core.{Core, IsAfter, next_of, coming, behind}
 use Rattle.client_core.specs.Events.{next_event, progress, Progress}
 
 -- the next call of a core that stands after these replies is the one that the script asks for
-pub next_is : (lines : List Line) (client : ℕ) (rs : List Response) (c : Core) → IsAfter client lines rs c → next_event client lines rs ≡ next_of c
-next_is lines client rs c after =
-    let same : progress client lines rs ≡ behind after.ended (coming c []) = ap (progress client lines) (sym (append-nil rs)) ∙ after.goes_on [] in
+pub next_is : (script : Scripted) (client : ℕ) (rs : List Response) (c : Core) → IsAfter client script rs c → next_event client script rs ≡ next_of c
+next_is script client rs c after =
+    let same : progress client script rs ≡ behind after.ended (coming c []) = ap (progress client script) (sym (append-nil rs)) ∙ after.goes_on [] in
     ap (λ (p : Progress). option_map (λ s. s.event) p.standing) same
 
-pub event_now : (lines : List Line) (client : ℕ) (rs : List Response) (c : Core) (e : Event) → IsAfter client lines rs c → next_of c ≡ Some e → next_event client lines rs ≡ Some e
-event_now lines client rs c e after is = next_is lines client rs c after ∙ is
+pub event_now : (script : Scripted) (client : ℕ) (rs : List Response) (c : Core) (e : Event) → IsAfter client script rs c → next_of c ≡ Some e → next_event client script rs ≡ Some e
+event_now script client rs c e after is = next_is script client rs c after ∙ is
 
 pub logs_one : (es : List ToldEntry) (e : ToldEntry) (now : List ToldEntry) → now ≡ es ++ e ∷ [] → map told_entry now ≡ map told_entry es ++ told_entry e ∷ []
 logs_one es e now is = ap (map told_entry) is ∙ map-append told_entry es (e ∷ [])
@@ -42,7 +42,7 @@ same_self c = (refl, (refl, λ i p q a b. subst (λ (z : TableId × View Entry).
 -- ------ looks
 
 pub looked_none : (locks : List TableId) (w : ClientWorker) → HasLooked locks w w
-looked_none locks w = record { same = same_self w.client; fit = λ f. f; core = refl; log = refl; goes_on = λ may lines client h. h }
+looked_none locks w = record { same = same_self w.client; fit = λ f. f; core = refl; log = refl; goes_on = λ may script client h. h }
 
 -- one look more
 pub looked_on : (locks : List TableId) (v w : ClientWorker) (d : Caller) (S : List Entry → Type 0) (node len : ℕ) → HasLooked locks v w → OneLooks caller_of S node len w.client.passes d.passes → d.left ≡ w.client.left → IsSameCaller w.client d → Fits locks d.passes
@@ -52,8 +52,8 @@ looked_on locks v w d S node len h o left same fits = record {
   fit = λ f. let k = h.fit f in record { fits = fits; who = k.who ∙ sym same.0; left = let now = k.left in omega arith; steps = k.steps; nodes = k.nodes };
   core = h.core;
   log = h.log;
-  goes_on = λ may lines client is. let k = h.goes_on may lines client is in
-      record { called = called_looked w.client d S node len o same.0 lines client may (log_of w) k.called; after = k.after };
+  goes_on = λ may script client is. let k = h.goes_on may script client is in
+      record { called = called_looked w.client d S node len o same.0 script client may (log_of w) k.called; after = k.after };
 }
 
 -- the last of a list

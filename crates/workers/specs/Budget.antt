@@ -5,8 +5,7 @@ use Rattle.dmx_calls.specs.declared.histories.Fed.{Fed}
 use Rattle.dmx_calls.specs.declared.limits.TheConstants.{DEMUX_NODES}
 use Rattle.dmx_calls.specs.History.{Entry}
 use Rattle.dmx_calls.specs.Log.{LogEntry}
-use Rattle.client_script.specs.declared.line.Line.{Line}
-use Rattle.client_script.specs.Script.{clients_in}
+use Rattle.client_script.specs.Script.{clients_in, Scripted}
 use Rattle.client_core.specs.declared.stop.TheConstants.{MOST_CALLS}
 use Rattle.script_run.specs.Budget.{most_calls, all_commands, IsTooLong}
 use Rattle.adapter.specs.Callers.{Caller}
@@ -19,16 +18,16 @@ use Rattle.workers.specs.Feeding.{HasFed}
 -- A moment of a run by threads, or its end: the feeder has passed these packets through the nodes that are among these, with all
 -- that the script can name, and the end of the stream or not yet; each client has made the calls of its log; and each node has a
 -- legal history of just the calls of all of them.
-pub record IsRunning (lines : List Line) (among : ℕ → Bool) (most : ℕ) (may : ℕ → Bool) (packets : List (List ℕ)) (behind : List Entry)
+pub record IsRunning (script : Scripted) (among : ℕ → Bool) (most : ℕ) (may : ℕ → Bool) (packets : List (List ℕ)) (behind : List Entry)
     (feeder : Caller) (feeding : List Fed) (others : List Caller) (books : List (List LogEntry)) : Type 0 where
   pub are_packets : All IsPacket packets
   pub end : (behind ≡ []) ⊎ (behind ≡ ended ∷ [])
   pub fed : HasFed among most may packets behind feeder feeding
-  pub named : (node : ℕ) → is_named lines node ≡ true → among node ≡ true
-  pub clients : length others ≡ clients_in lines
-  pub logs : length books ≡ clients_in lines
+  pub named : (node : ℕ) → is_named script.lines node ≡ true → among node ≡ true
+  pub clients : length others ≡ clients_in script
+  pub logs : length books ≡ clients_in script
   pub called : (c : ℕ) (client : Caller) (log : List LogEntry) → slice_get others c ≡ Some client
-      → slice_get books c ≡ Some log → HasCalled lines c may client log
+      → slice_get books c ≡ Some log → HasCalled script c may client log
   pub nodes : (c : ℕ) (log : List LogEntry) → slice_get books c ≡ Some log → All (λ e. e.node ≤ DEMUX_NODES) log
   pub histories : HaveHistories (others ++ feeder ∷ [])
 
@@ -36,28 +35,28 @@ pub record IsRunning (lines : List Line) (among : ℕ → Bool) (most : ℕ) (ma
 -- commands of all clients and the bytes of the packets allow.
 abbrev pub CallsAreWithinBudget : Type 0
 CallsAreWithinBudget =
-    (lines : List Line) (among : ℕ → Bool) (most : ℕ) (may : ℕ → Bool) (packets : List (List ℕ)) (behind : List Entry)
+    (script : Scripted) (among : ℕ → Bool) (most : ℕ) (may : ℕ → Bool) (packets : List (List ℕ)) (behind : List Entry)
     (feeder : Caller) (feeding : List Fed) (others : List Caller) (books : List (List LogEntry))
-    → IsRunning lines among most may packets behind feeder feeding others books
+    → IsRunning script among most may packets behind feeder feeding others books
     → (c : ℕ) (log : List LogEntry) → slice_get books c ≡ Some log
-    → length log ≤ most_calls (all_commands lines) (188 * length packets)
+    → length log ≤ most_calls (all_commands script.lines) (188 * length packets)
 
 -- Where commands and bytes are fewer than 2^32 together, no client comes to 549,755,813,888 calls.
 abbrev pub FewBytesAreFewCalls : Type 0
 FewBytesAreFewCalls =
-    (lines : List Line) (among : ℕ → Bool) (most : ℕ) (may : ℕ → Bool) (packets : List (List ℕ)) (behind : List Entry)
+    (script : Scripted) (among : ℕ → Bool) (most : ℕ) (may : ℕ → Bool) (packets : List (List ℕ)) (behind : List Entry)
     (feeder : Caller) (feeding : List Fed) (others : List Caller) (books : List (List LogEntry))
-    → IsRunning lines among most may packets behind feeder feeding others books
-    → all_commands lines + 188 * length packets < 2 ^ 32
+    → IsRunning script among most may packets behind feeder feeding others books
+    → all_commands script.lines + 188 * length packets < 2 ^ 32
     → (c : ℕ) (log : List LogEntry) → slice_get books c ≡ Some log → length log < MOST_CALLS
 
 -- Where a client comes to 549,755,813,888 calls, the run is too long: its cause is in the commands and in
 -- the bytes of which the packets were cut.
 abbrev pub ManyCallsAreTooLong : Type 0
 ManyCallsAreTooLong =
-    (lines : List Line) (among : ℕ → Bool) (most : ℕ) (may : ℕ → Bool) (packets : List (List ℕ)) (behind : List Entry)
+    (script : Scripted) (among : ℕ → Bool) (most : ℕ) (may : ℕ → Bool) (packets : List (List ℕ)) (behind : List Entry)
     (feeder : Caller) (feeding : List Fed) (others : List Caller) (books : List (List LogEntry))
-    → IsRunning lines among most may packets behind feeder feeding others books
+    → IsRunning script among most may packets behind feeder feeding others books
     → (start : ℕ) (ahead taken : List ℕ) → 188 * length packets ≤ length ahead + length taken
     → (c : ℕ) (log : List LogEntry) → slice_get books c ≡ Some log → length log ≡ MOST_CALLS
-    → IsTooLong lines start (length log) ahead taken
+    → IsTooLong script start (length log) ahead taken

@@ -7,8 +7,7 @@ use Rattle.dmx_calls.specs.declared.histories.Fed.{Fed}
 use Rattle.dmx_calls.specs.declared.outcome.Outcome.{Outcome}
 use Rattle.dmx_calls.specs.Calls.{told_entry}
 use Rattle.dmx_calls.specs.Log.{LogEntry}
-use Rattle.client_script.specs.declared.line.Line.{Line}
-use Rattle.client_script.specs.Script.{clients_in}
+use Rattle.client_script.specs.Script.{clients_in, Scripted}
 use Rattle.client_core.specs.Events.{next_event}
 use Rattle.client_core.specs.Outcomes.{outcomes}
 use Rattle.script_run.specs.IsRun.{replies}
@@ -19,30 +18,30 @@ use Rattle.workers.specs.Logged.{HasCalled}
 use Rattle.workers.specs.Feeding.{HasFedAll}
 
 -- A client of a script has made these calls, and its commands are through, with these outcomes.
-pub record HasWorked (lines : List Line) (client : ℕ) (may : ℕ → Bool) (c : Caller) (log : List LogEntry)
+pub record HasWorked (script : Scripted) (client : ℕ) (may : ℕ → Bool) (c : Caller) (log : List LogEntry)
     (told : List Outcome) : Type 0 where
-  pub called : HasCalled lines client may c log
-  pub ends : next_event client lines (replies log) ≡ None
-  pub outcomes : told ≡ outcomes client lines (replies log)
+  pub called : HasCalled script client may c log
+  pub ends : next_event client script (replies log) ≡ None
+  pub outcomes : told ≡ outcomes client script (replies log)
 
 -- The feeder has passed the whole stream through the nodes that are among these, and called no other; all that the script can
 -- name are among them. Each client of the script has done its commands to their end.
-pub record AreWorked (lines : List Line) (among : ℕ → Bool) (most : ℕ) (may : ℕ → Bool) (stream : List (List ℕ)) (feeder : Caller)
+pub record AreWorked (script : Scripted) (among : ℕ → Bool) (most : ℕ) (may : ℕ → Bool) (stream : List (List ℕ)) (feeder : Caller)
     (feeding : List Fed) (others : List Caller) (books : List (List LogEntry))
     (told : List (List Outcome)) : Type 0 where
   pub fed : HasFedAll among most may stream feeder feeding
-  pub named : (node : ℕ) → is_named lines node ≡ true → among node ≡ true
-  pub clients : length others ≡ clients_in lines
-  pub logs : length books ≡ clients_in lines
-  pub outcomes : length told ≡ clients_in lines
+  pub named : (node : ℕ) → is_named script.lines node ≡ true → among node ≡ true
+  pub clients : length others ≡ clients_in script
+  pub logs : length books ≡ clients_in script
+  pub outcomes : length told ≡ clients_in script
   pub each : (c : ℕ) (client : Caller) (log : List LogEntry) (became : List Outcome) → slice_get others c ≡ Some client
       → slice_get books c ≡ Some log → slice_get told c ≡ Some became
-      → HasWorked lines c may client log became
+      → HasWorked script c may client log became
 
 -- This is what the threads of a run of a script leave over a stream of these bytes, whose packets take up so many each,
 -- and in which the source failed or not; the feeder has called just the nodes that the script can name.
-pub record IsLeftBy (lines : List Line) (most : ℕ) (may : ℕ → Bool) (size : PacketSize) (stream : List ℕ)
+pub record IsLeftBy (script : Scripted) (most : ℕ) (may : ℕ → Bool) (size : PacketSize) (stream : List ℕ)
     (left : Left) : Type 0 where
-  pub worked : AreWorked lines (is_named lines) most may (cut size stream).packets left.feeder left.feeding.items left.clients.items
+  pub worked : AreWorked script (is_named script.lines) most may (cut size stream).packets left.feeder left.feeding.items left.clients.items
       (map (λ log. map told_entry log.items) left.logs.items) (map (λ those. those.items) left.outcomes.items)
   pub head : told_head left.head ≡ head_of size stream left.head.read_fault

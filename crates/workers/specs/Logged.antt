@@ -8,7 +8,7 @@ use Rattle.node_lock.specs.declared.view.View.{View}
 use Rattle.dmx_calls.specs.History.{Entry}
 use Rattle.dmx_calls.specs.Log.{LogEntry, act_of}
 use Rattle.dmx_calls.specs.Response.{NoMemory}
-use Rattle.client_script.specs.declared.line.Line.{Line}
+use Rattle.client_script.specs.Script.{Scripted}
 use Rattle.client_core.specs.Events.{next_event, waits_on}
 use Rattle.script_run.specs.IsRun.{IsEvent, replies}
 use Rattle.script_run.specs.WholeRun.{IsGiven}
@@ -42,13 +42,13 @@ pub record IsLogged (c : Caller) (log : List LogEntry) : Type 0 where
 
 -- The calls so far of a client of a script: each is the one that its commands ask for after the replies before it, at a
 -- moment that the clock may give, and memory was found.
-pub record HasCalled (lines : List Line) (client : ℕ) (may : ℕ → Bool) (c : Caller) (log : List LogEntry) : Type 0 where
+pub record HasCalled (script : Scripted) (client : ℕ) (may : ℕ → Bool) (c : Caller) (log : List LogEntry) : Type 0 where
   pub who : c.who ≡ client + 1
   pub logged : IsLogged c log
   pub events : (i : ℕ) (e : LogEntry) → slice_get log i ≡ Some e
-      → IsEvent (next_event client lines (replies (take i log))) e
+      → IsEvent (next_event client script (replies (take i log))) e
   pub found : All (λ e. e.response ≢ NoMemory) log
   pub moments : All (λ e. IsGiven may e.act) log
   -- where a read is repeated, another caller's entry stands between: it pays for the repeat
   pub paid : (i : ℕ) (e f : LogEntry) → slice_get log i ≡ Some e → slice_get log (i + 1) ≡ Some f
-      → IsSome (waits_on client lines (replies (take (i + 1) log))) → e.place + 1 < f.place
+      → IsSome (waits_on client script (replies (take (i + 1) log))) → e.place + 1 < f.place

@@ -11,7 +11,7 @@ use Rattle.dmx_calls.specs.History.{Entry}
 use Rattle.dmx_calls.specs.Log.{LogEntry, filled_entry}
 use Rattle.script_run.specs.IsRun.{Step, StandsIn, steps_of}
 use Rattle.script_run.specs.SoFar.{PassesNone}
-use Rattle.client_script.specs.declared.line.Line.{Line}
+use Rattle.client_script.specs.Script.{Scripted}
 use Rattle.adapter.specs.Rows.{column}
 use Rattle.adapter.specs.Callers.{Caller}
 use Rattle.adapter.specs.Ends.{IsHistory, rows_of}
@@ -48,9 +48,9 @@ pub record HaveCalled (among : ℕ → Bool) (stream : List (List ℕ)) (feeder 
 -- What the threads of a run of a script leave was called so.
 abbrev pub WorkersHaveCalled : Type 0
 WorkersHaveCalled =
-    (lines : List Line) (among : ℕ → Bool) (most : ℕ) (may : ℕ → Bool) (stream : List (List ℕ)) (feeder : Caller)
+    (script : Scripted) (among : ℕ → Bool) (most : ℕ) (may : ℕ → Bool) (stream : List (List ℕ)) (feeder : Caller)
     (feeding : List Fed) (clients : List Caller) (books : List (List LogEntry)) (told : List (List Outcome))
-    → AreWorked lines among most may stream feeder feeding clients books told
+    → AreWorked script among most may stream feeder feeding clients books told
     → HaveCalled among stream feeder feeding clients books
 
 -- ------ what is told

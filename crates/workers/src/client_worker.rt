@@ -5,7 +5,7 @@ ghost use Rattle.node_lock.specs.declared.view.View.{View};
 ghost use Rattle.dmx_calls.specs.History.{Entry as HistoryEntry};
 ghost use Rattle.dmx_calls.specs.Log.{act_of};
 ghost use Rattle.dmx_calls.specs.declared.limits.TheConstants.{DEMUX_NODES as nodes};
-ghost use Rattle.client_script.specs.declared.line.Line.{Line};
+ghost use Rattle.client_script.specs.Script.{Scripted};
 ghost use Rattle.client_core.specs.declared.stop.TheConstants.{MOST_CALLS as most_calls};
 ghost use Rattle.client_core.specs.Commands.{IsRequestInRange, call_of as call_at};
 ghost use Rattle.client_core.specs.Inside.Core.{next_of};
@@ -73,8 +73,8 @@ impl ClientWorker {
         requires range { IsRequestInRange event.want }
         ensures same { IsSameCaller self.old.client self.new.client }
         ensures fit { OnOk result (IsFit adapter.now self.new) }
-        ensures works { OnOk result ((may : ℕ → Bool) (lines : List Line) (client : ℕ) → IsGiven may (act_of (call_at event.want now)) → MayCallNow lines client event.node self.old
-            → IsWorking lines client may self.old → IsWorking lines client may self.new) }
+        ensures works { OnOk result ((may : ℕ → Bool) (script : Scripted) (client : ℕ) → IsGiven may (act_of (call_at event.want now)) → MayCallNow script client event.node self.old
+            → IsWorking script client may self.old → IsWorking script client may self.new) }
         ensures step { OnOk result (self.new.core.step ≡ self.old.core.step + 1) }
     {
         self.log.reserve(1)?;
@@ -122,7 +122,7 @@ impl ClientWorker {
         requires fit { IsFit adapter.now self.old }
         requires node { node ≤ nodes }
         ensures looked { HasLooked adapter.now self.old self.new }
-        ensures may { (may : ℕ → Bool) (lines : List Line) (client : ℕ) → IsWorking lines client may self.old → MayCallNow lines client node self.new }
+        ensures may { (may : ℕ → Bool) (script : Scripted) (client : ℕ) → IsWorking script client may self.old → MayCallNow script client node self.new }
     {
         if self.core.waits().is_none() {
             return;

@@ -2,7 +2,7 @@
 ghost use Rattle.std.specs.Prelude.{◌≡◌, ◌++◌, ◌∷◌, [], ℕ, Bool, List, map, All, IfOk};
 ghost use Rattle.dmx_calls.specs.Calls.{told_entry};
 ghost use Rattle.dmx_calls.specs.declared.outcome.Outcome.{Outcome};
-ghost use Rattle.client_script.specs.declared.line.Line.{Line};
+ghost use Rattle.client_script.specs.Script.{Scripted};
 ghost use Rattle.script_run.specs.WholeRun.{IsWholeRun};
 ghost use Rattle.adapter.specs.Callers.{AreAllCallers};
 ghost use Rattle.trace_merge.specs.Merging.{AreOnNodes};
@@ -36,9 +36,9 @@ pub fn histories_of_run(
     // They tell what was called, and nothing else; it needs no script.
     ensures tells { IfOk result (λ hs. (among : ℕ → Bool) (stream : List (List ℕ)) → HaveCalled among stream feeder feeding.items clients.items (map (λ log. map told_entry log.items) logs.items)
         → TellWhatWasCalled among stream feeder feeding.items clients.items (map (λ log. map told_entry log.items) logs.items) hs) }
-    ensures run { IfOk result (λ hs. (lines : List Line) (among : ℕ → Bool) (most : ℕ) (may : ℕ → Bool) (stream : List (List ℕ)) (told : List (List Outcome))
-        → AreWorked lines among most may stream feeder feeding.items clients.items (map (λ log. map told_entry log.items) logs.items) told
-        → IsWholeRun lines most may stream told hs) }
+    ensures run { IfOk result (λ hs. (script : Scripted) (among : ℕ → Bool) (most : ℕ) (may : ℕ → Bool) (stream : List (List ℕ)) (told : List (List Outcome))
+        → AreWorked script among most may stream feeder feeding.items clients.items (map (λ log. map told_entry log.items) logs.items) told
+        → IsWholeRun script most may stream told hs) }
 {
     adapter.gather(feeder, clients);
     histories(alloc, feeding, logs)

@@ -2,7 +2,7 @@
 use Rattle.std.specs.Prelude.{ℕ, false, ◌≡◌, ◌≤◌, ◌*◌, ◌⊎◌, List, [], ◌∷◌, ◌++◌, length, map, Option, Some, None, option_map, All, IfSome, IfNone}
 use Rattle.dmx_calls.specs.Response.{Response, Again}
 use Rattle.client_script.specs.Grammar.{IsVerbInRange, IsTargetInRange}
-use Rattle.client_script.specs.declared.line.Line.{Line}
+use Rattle.client_script.specs.Script.{Scripted}
 use Rattle.client_core.specs.declared.command.Command.{Command}
 use Rattle.dmx_calls.specs.declared.outcome.Outcome.{Outcome}
 use Rattle.client_core.specs.declared.event.Event.{Event}
@@ -71,15 +71,15 @@ pub record IsSound (c : Core) : Type 0 where
 
 -- The core stands after these replies to a client of a script: whatever replies come, it goes on as the script says; its
 -- outcomes are those of the commands that are through, and its clocks have followed the calls.
-pub record IsAfter (client : ℕ) (lines : List Line) (replies : List Response) (c : Core) : Type 0 where
+pub record IsAfter (client : ℕ) (script : Scripted) (replies : List Response) (c : Core) : Type 0 where
   pub ended : List Ended
-  pub goes_on : (more : List Response) → progress client lines (replies ++ more) ≡ behind ended (coming c more)
-  pub outcomes : c.outcomes ≡ map (outcome_of client lines replies) ended
+  pub goes_on : (more : List Response) → progress client script (replies ++ more) ≡ behind ended (coming c more)
+  pub outcomes : c.outcomes ≡ map (outcome_of client script replies) ended
   -- none began later
   pub early : All (λ e. e.from ≤ length replies) ended
-  pub followed : HaveFollowed (exchanges client lines replies) c.clocks
+  pub followed : HaveFollowed (exchanges client script replies) c.clocks
   pub steps : c.step ≡ length replies
-  pub waits : c.waits ≡ waits_on client lines replies
+  pub waits : c.waits ≡ waits_on client script replies
 
 -- the call before which it stands
 abbrev pub next_of : Core → Option Event

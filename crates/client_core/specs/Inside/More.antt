@@ -1,7 +1,7 @@
 -- What one reply more adds to the reads that a client repeats (this project's own).
 use Rattle.std.specs.Prelude.{ℕ, ◌≡◌, ◌≤◌, ◌+◌, List, [], ◌∷◌, ◌++◌, Some, None, false, if◌then◌else◌}
 use Rattle.dmx_calls.specs.Response.{Response, Again}
-use Rattle.client_script.specs.declared.line.Line.{Line}
+use Rattle.client_script.specs.Script.{Scripted}
 use Rattle.client_core.specs.declared.event.Event.{Event}
 use Rattle.client_script.specs.declared.line.Want.TheVariants.{Read}
 use Rattle.client_core.specs.declared.event.Request.{Request}
@@ -17,8 +17,8 @@ added_by _ reply = 0
 
 -- One reply more adds at most one repeat; and none after Again, unless the client waits.
 abbrev pub OneReplyMore : Type 0
-OneReplyMore = (client : ℕ) (lines : List Line) (replies : List Response) (reply : Response) (e : Event)
-    → next_event client lines replies ≡ Some e
-    → (repeats client lines (replies ++ reply ∷ []) ≤ repeats client lines replies + added_by e.want reply)
-    × (reply ≡ Again false → waits_on client lines (replies ++ reply ∷ []) ≡ None
-    → repeats client lines (replies ++ reply ∷ []) ≤ repeats client lines replies)
+OneReplyMore = (client : ℕ) (script : Scripted) (replies : List Response) (reply : Response) (e : Event)
+    → next_event client script replies ≡ Some e
+    → (repeats client script (replies ++ reply ∷ []) ≤ repeats client script replies + added_by e.want reply)
+    × (reply ≡ Again false → waits_on client script (replies ++ reply ∷ []) ≡ None
+    → repeats client script (replies ++ reply ∷ []) ≤ repeats client script replies)

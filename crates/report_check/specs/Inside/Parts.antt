@@ -12,8 +12,7 @@ use Rattle.dmx_calls.specs.Legal.{IsLegalFor}
 use Rattle.dmx_calls.specs.Log.{LogEntry, filled}
 use Rattle.dmx_calls.specs.Response.{NoMemory}
 use Rattle.dmx_calls.specs.Rules.{rules_at}
-use Rattle.client_script.specs.declared.line.Line.{Line}
-use Rattle.client_script.specs.Script.{clients_in}
+use Rattle.client_script.specs.Script.{clients_in, Scripted}
 use Rattle.client_core.specs.Outcomes.{outcomes}
 use Rattle.script_run.specs.IsRun.{replies, steps_of}
 use Rattle.report_text.specs.Told.{ToldNode, Told}
@@ -68,21 +67,21 @@ abbrev pub dealt : List ToldNode → List (List LogEntry)
 dealt nodes = complete (DEMUX_NODES + 1) 0 [] nodes
 
 -- the client's entries are just what its commands ask for, and this is what became of them
-pub record IsDoneAs (lines : List Line) (hs : List (List LogEntry)) (client : ℕ) (told : List Outcome) : Type 0 where
+pub record IsDoneAs (script : Scripted) (hs : List (List LogEntry)) (client : ℕ) (told : List Outcome) : Type 0 where
   pub made : List LogEntry
-  pub rest : IsRest client lines [] (queues_in client hs) made
-  pub outcomes : told ≡ outcomes client lines (replies made)
+  pub rest : IsRest client script [] (queues_in client hs) made
+  pub outcomes : told ≡ outcomes client script (replies made)
 
 -- so are those of the clients from this one on
-abbrev pub AreDoneAs : (lines : List Line) → (hs : List (List LogEntry)) → (client : ℕ) → List (List Outcome) → Type 0
-AreDoneAs lines hs client [] = Unit {0}
-AreDoneAs lines hs client (told ∷ more) = IsDoneAs lines hs client told × AreDoneAs lines hs (client + 1) more
+abbrev pub AreDoneAs : (script : Scripted) → (hs : List (List LogEntry)) → (client : ℕ) → List (List Outcome) → Type 0
+AreDoneAs script hs client [] = Unit {0}
+AreDoneAs script hs client (told ∷ more) = IsDoneAs script hs client told × AreDoneAs script hs (client + 1) more
 
 -- ------ the whole
 
 -- all that is asked of what a report tells
-pub record HasPassed (lines : List Line) (packets : List (List ℕ)) (t : Told) : Type 0 where
-  pub clients : length t.outcomes ≡ clients_in lines
-  pub nodes : AreSoundNodes (clients_in lines) (length packets) t.nodes
-  pub done : AreDoneAs lines (dealt t.nodes) 0 t.outcomes
+pub record HasPassed (script : Scripted) (packets : List (List ℕ)) (t : Told) : Type 0 where
+  pub clients : length t.outcomes ≡ clients_in script
+  pub nodes : AreSoundNodes (clients_in script) (length packets) t.nodes
+  pub done : AreDoneAs script (dealt t.nodes) 0 t.outcomes
   pub played : All (IsPlayed packets) t.nodes

@@ -1,6 +1,6 @@
 -- How the lines of a script bring the code and the run further.
 use Rattle.std.specs.Prelude.{◌^◌, ◌≡◌, ℕ, ◌≤◌, ◌<◌, List, ◌∷◌, length, drop, sum_by, slice_index_or, All}
-use Rattle.client_script.specs.Script.{clients_of, most_bytes}
+use Rattle.client_script.specs.Script.{clients_of, most_bytes, Scripted}
 use Rattle.client_script.specs.declared.line.Line.{Line}
 use Rattle.client_core.specs.Inside.Core.{Core, IsAfter}
 use Rattle.serial_core.specs.SerialRun.{Run, replies_of, finished, AreDone}
@@ -9,9 +9,9 @@ use Rattle.serial_core.specs.Budget.{IsOnTheWay}
 use Rattle.serial_core.specs.Inside.Moving.{MadeAtMost}
 
 -- each core stands after the replies of its client
-abbrev pub AreAfter : List Line → Run → List Core → Type 0
-AreAfter lines r cores =
-    (c : ℕ) (d : Core) → c < length cores → IsAfter c lines (replies_of c r) (slice_index_or cores c d)
+abbrev pub AreAfter : Scripted → Run → List Core → Type 0
+AreAfter script r cores =
+    (c : ℕ) (d : Core) → c < length cores → IsAfter c script (replies_of c r) (slice_index_or cores c d)
 
 -- how many calls they have made
 abbrev pub calls_by : List Core → ℕ
@@ -32,40 +32,47 @@ pub record MayBegin (lines : List Line) (cores : List Core) (v : Runner) : Type 
   pub made : MadeAtMost v (calls_by cores)
 
 -- The run has come from `first` by lines: what those behind them do, all of them do.
-pub record ComesByLines (lines : List Line) (batch : ℕ) (behind all : List Line) (first now : Run)
+pub record ComesByLines (script : Scripted) (batch : ℕ) (behind all : List Line) (first now : Run)
     (cores : List Core) : Type 0 where
   pub clients : length now.replies ≡ 8
-  pub after : AreAfter lines now cores
-  pub way : (t : Run) → IsOnTheWay lines batch behind now t → IsOnTheWay lines batch all first t
-  pub done : (t : Run) → AreDone lines batch behind now t → AreDone lines batch all first t
+  pub after : AreAfter script now cores
+  pub way : (t : Run) → IsOnTheWay script batch behind now t → IsOnTheWay script batch all first t
+  pub done : (t : Run) → AreDone script batch behind now t → AreDone script batch all first t
 
 -- this line is done
 abbrev pub IsLineBy : (batch : ℕ) (line : Line) (old new : List Core) → Run → Run → Type 0
 IsLineBy batch line old new r s =
-    (lines rest : List Line) → length r.replies ≡ 8 → AreAfter lines r old
-    → ComesByLines lines batch rest (line ∷ rest) r s new
+    (script : Scripted) (rest : List Line) → length r.replies ≡ 8 → AreAfter script r old
+    → ComesByLines script batch rest (line ∷ rest) r s new
 
 -- the first so many lines are done
 abbrev pub IsFrontBy : (batch : ℕ) (lines : List Line) (count : ℕ) (old new : List Core) → Run → Run → Type 0
 IsFrontBy batch lines count old new r s =
-    length r.replies ≡ 8 → AreAfter lines r old → ComesByLines lines batch (drop count lines) lines r s new
+    (script : Scripted) → length r.replies ≡ 8 → AreAfter script r old
+    → ComesByLines script batch (drop count lines) lines r s new
 
 -- on the way through these lines a client has made as many calls as it may
-pub record Overruns (lines : List Line) (batch : ℕ) (all : List Line) (first now : Run) : Type 0 where
+pub record Overruns (script : Scripted) (batch : ℕ) (all : List Line) (first now : Run) : Type 0 where
   pub client : ℕ
   pub calls : 2 ^ 39 ≤ length (replies_of client now)
-  pub way : IsOnTheWay lines batch all first now
+  pub way : IsOnTheWay script batch all first now
 
 abbrev pub OverrunsBy : (batch : ℕ) (line : Line) → List Core → Run → Run → Type 0
 OverrunsBy batch line old r s =
-    (lines rest : List Line) → length r.replies ≡ 8 → AreAfter lines r old → Overruns lines batch (line ∷ rest) r s
+    (script : Scripted) (rest : List Line) → length r.replies ≡ 8 → AreAfter script r old
+    → Overruns script batch (line ∷ rest) r s
+
+abbrev pub AllOverrunBy : (batch : ℕ) (lines : List Line) → List Core → Run → Run → Type 0
+AllOverrunBy batch lines old r s =
+    (script : Scripted) → length r.replies ≡ 8 → AreAfter script r old → Overruns script batch lines r s
 
 -- All lines are done, and the rest of the stream has passed.
-pub record IsWhole (lines : List Line) (batch : ℕ) (r s : Run) (cores : List Core) : Type 0 where
+pub record IsWhole (script : Scripted) (batch : ℕ) (lines : List Line) (r s : Run) (cores : List Core) : Type 0 where
   pub before : Run
-  pub done : AreDone lines batch lines r before
+  pub done : AreDone script batch lines r before
   pub ends : s ≡ finished batch before
-  pub after : AreAfter lines s cores
+  pub after : AreAfter script s cores
 
 abbrev pub IsWholeBy : (batch : ℕ) (lines : List Line) (old new : List Core) → Run → Run → Type 0
-IsWholeBy batch lines old new r s = length r.replies ≡ 8 → AreAfter lines r old → IsWhole lines batch r s new
+IsWholeBy batch lines old new r s =
+    (script : Scripted) → length r.replies ≡ 8 → AreAfter script r old → IsWhole script batch lines r s new

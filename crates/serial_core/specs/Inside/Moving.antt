@@ -1,7 +1,7 @@
 -- How the code goes on with the run, while the stream is pulled as it is wanted.
 use Rattle.std.specs.Prelude.{◌≡◌, ◌≢◌, ℕ, ◌+◌, ◌-◌, ◌^◌, ◌<◌, ◌≤◌, Bool, true, false, List, [], ◌++◌, length, None}
 use Rattle.emu_io.specs.Ends.{SourceEnd}
-use Rattle.client_script.specs.declared.line.Line.{Line}
+use Rattle.client_script.specs.Script.{Scripted}
 use Rattle.client_core.specs.Inside.Core.{Core, IsAfter}
 use Rattle.client_core.specs.Events.{next_of_line}
 use Rattle.feed_pull.specs.declared.fault.Reading.TheVariants.{Going}
@@ -68,21 +68,21 @@ MadeAtMost v calls = v.nodes.made ≤ turns_of v + calls
 -- ------ commands
 
 -- The run has come from `first` by calls of this command, and the core stands after the client's replies.
-pub record ComesByCalls (lines : List Line) (batch client line : ℕ) (first now : Run) (core : Core) : Type 0 where
-  pub after : IsAfter client lines (replies_of client now) core
+pub record ComesByCalls (script : Scripted) (batch client line : ℕ) (first now : Run) (core : Core) : Type 0 where
+  pub after : IsAfter client script (replies_of client now) core
   pub clients : length now.replies ≡ 8
   pub others : (other : ℕ) → other ≢ client → replies_of other now ≡ replies_of other first
-  pub worked : (s : Run) → IsWorked lines batch client line now s → IsWorked lines batch client line first s
-  pub begun : IsBegun lines batch client line first now
+  pub worked : (s : Run) → IsWorked script batch client line now s → IsWorked script batch client line first s
+  pub begun : IsBegun script batch client line first now
 
 -- so it comes from each run after which the old core stood
 abbrev pub ComesBy : (batch client line : ℕ) → (old new : Core) → Run → Run → Type 0
 ComesBy batch client line old new r s =
-    (lines : List Line) → length r.replies ≡ 8 → IsAfter client lines (replies_of client r) old
-    → ComesByCalls lines batch client line r s new
+    (script : Scripted) → length r.replies ≡ 8 → IsAfter client script (replies_of client r) old
+    → ComesByCalls script batch client line r s new
 
 -- and the command is through
 abbrev pub IsDoneBy : (batch client line : ℕ) → (old new : Core) → Run → Run → Type 0
 IsDoneBy batch client line old new r s =
-    (lines : List Line) → length r.replies ≡ 8 → IsAfter client lines (replies_of client r) old
-    → ComesByCalls lines batch client line r s new × (next_of_line client lines line (replies_of client s) ≡ None)
+    (script : Scripted) → length r.replies ≡ 8 → IsAfter client script (replies_of client r) old
+    → ComesByCalls script batch client line r s new × (next_of_line client script line (replies_of client s) ≡ None)

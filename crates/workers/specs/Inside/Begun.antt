@@ -3,7 +3,7 @@ use Rattle.std.specs.Prelude.{◌≡◌, ◌+◌, ◌<◌, ℕ, Bool, List, [], 
 use Rattle.atomic_table.specs.Seated.{TableId}
 use Rattle.dmx_calls.specs.declared.outcome.Outcome.{Outcome}
 use Rattle.dmx_calls.specs.Response.{Response}
-use Rattle.client_script.specs.declared.line.Line.{Line}
+use Rattle.client_script.specs.Script.{Scripted}
 use Rattle.client_core.specs.Inside.Core.{Core, IsAfter}
 use Rattle.client_core.specs.Outcomes.{outcomes}
 use Rattle.adapter.specs.Callers.{Caller}
@@ -12,15 +12,15 @@ use Rattle.workers.specs.declared.clients.ClientsLeft.{ClientsLeft}
 use Rattle.workers.specs.Inside.Working.{HasCome}
 
 -- the worker of a client of a script that has made no call
-pub record IsFreshWorker (lines : List Line) (client : ℕ) (w : ClientWorker) : Type 0 where
+pub record IsFreshWorker (script : Scripted) (client : ℕ) (w : ClientWorker) : Type 0 where
   pub who : w.who ≡ client + 1
-  pub core : IsAfter client lines [] w.core
+  pub core : IsAfter client script [] w.core
   pub log : w.log.items ≡ []
 
 -- a worker for each of these clients, which has made no call
-pub record AreFreshWorkers (lines : List Line) (clients : List Caller) (workers : List ClientWorker) : Type 0 where
+pub record AreFreshWorkers (script : Scripted) (clients : List Caller) (workers : List ClientWorker) : Type 0 where
   pub are : map (λ w. w.client) workers ≡ clients
-  pub each : (c : ℕ) (w : ClientWorker) → slice_get workers c ≡ Some w → IsFreshWorker lines c w
+  pub each : (c : ℕ) (w : ClientWorker) → slice_get workers c ≡ Some w → IsFreshWorker script c w
 
 -- each of the workers has worked to its end
 pub record HaveCome (may : ℕ → Bool) (locks : List TableId) (old new : List ClientWorker) : Type 0 where
@@ -30,8 +30,8 @@ pub record HaveCome (may : ℕ → Bool) (locks : List TableId) (old new : List 
 
 -- these are the outcomes of a core's commands that are through, whatever script it stands for
 abbrev pub AreOutcomesOf : Core → List Outcome → Type 0
-AreOutcomesOf core told = (client : ℕ) (lines : List Line) (replies : List Response) → IsAfter client lines replies core
-    → told ≡ outcomes client lines replies
+AreOutcomesOf core told = (client : ℕ) (script : Scripted) (replies : List Response) → IsAfter client script replies core
+    → told ≡ outcomes client script replies
 
 -- what is left of the workers: the clients, their logs and the outcomes of their commands, in their order
 pub record IsLeftByClients (workers : List ClientWorker) (left : ClientsLeft) : Type 0 where

@@ -5,7 +5,7 @@ use Rattle.node_lock.specs.declared.view.View.{View}
 use Rattle.dmx_calls.specs.Calls.{told_entry}
 use Rattle.dmx_calls.specs.History.{Entry}
 use Rattle.dmx_calls.specs.Log.{LogEntry}
-use Rattle.client_script.specs.declared.line.Line.{Line}
+use Rattle.client_script.specs.Script.{Scripted}
 use Rattle.client_core.specs.declared.stop.TheConstants.{MOST_CALLS}
 use Rattle.client_core.specs.Inside.Core.{IsAfter, next_of}
 use Rattle.client_core.specs.declared.stop.Stop.TheVariants.{NoMemory, TooLong}
@@ -36,19 +36,19 @@ pub record MayWork (locks : List TableId) (w : ClientWorker) : Type 0 where
   pub few : w.core.step ≤ MOST_CALLS
 
 -- Its log has the calls so far of this client of a script, and its core stands after their replies.
-pub record IsWorking (lines : List Line) (client : ℕ) (may : ℕ → Bool) (w : ClientWorker) : Type 0 where
-  pub called : HasCalled lines client may w.client (log_of w)
-  pub after : IsAfter client lines (replies (log_of w)) w.core
+pub record IsWorking (script : Scripted) (client : ℕ) (may : ℕ → Bool) (w : ClientWorker) : Type 0 where
+  pub called : HasCalled script client may w.client (log_of w)
+  pub after : IsAfter client script (replies (log_of w)) w.core
 
 -- where the client waits, it has seen an entry of another on this node behind its own last one
-abbrev pub MayCallNow : (lines : List Line) (client node : ℕ) → ClientWorker → Type 0
-MayCallNow lines client node w = IsSome (waits_on client lines (replies (log_of w)))
+abbrev pub MayCallNow : (script : Scripted) (client node : ℕ) → ClientWorker → Type 0
+MayCallNow script client node w = IsSome (waits_on client script (replies (log_of w)))
     → (last : LogEntry) (i : ℕ) (p : TableId × View Entry) → slice_get (log_of w) i ≡ Some last
     → i + 1 ≡ length w.log.items → slice_get w.client.passes node ≡ Some p → last.place + 1 < length p.1.seen
 
 -- it goes on with the same script, whatever it is
 abbrev pub GoesOn : (may : ℕ → Bool) → (old new : ClientWorker) → Type 0
-GoesOn may old new = (lines : List Line) (client : ℕ) → IsWorking lines client may old → IsWorking lines client may new
+GoesOn may old new = (script : Scripted) (client : ℕ) → IsWorking script client may old → IsWorking script client may new
 
 -- it has looked at nodes, and made no call
 pub record HasLooked (locks : List TableId) (old new : ClientWorker) : Type 0 where

@@ -1,7 +1,6 @@
 use Rattle.std.proofs.Common.{◌≡◌, ◌<◌, ◌^◌, List, ℕ, length, sym, subst}
 use Rattle.ts_watch.specs.Head.{told_head}
 use Rattle.std.specs.List.{All}
-use Rattle.client_script.specs.declared.line.Line.{Line}
 use Rattle.client_script.specs.Grammar.{IsInRange}
 use Rattle.report_read.specs.Report.{told_of, IsNoReport, IsReport}
 use Rattle.report_check.specs.Inside.Parts.{HasPassed}
@@ -41,5 +40,5 @@ returns c r =
     let report : IsReport (told_of c.in-Some.told) c.args.bytes.now = rw c.in-Some.is at c.in_ok-told.ensures in
     let Passed : Type 0 = HasPassed c.args.script.now c.args.packets.now (told_of c.in-Some.told) in
     let never : HasPassed c.args.script.now c.args.packets.now (told_of c.in-Some.told) → ⊥ = at_some c.in_ok-odd_part.field-0 c.in-Some-2.odd Passed (Passed → ⊥) c.in_ok-odd_part.ensures c.in-Some-2.is in
-    let ranges : All IsInRange c.args.script.now = subst (λ (lines : List Line). All IsInRange lines) c.lines-lines.ensures.lines c.lines-lines.ensures.known.ranges in
+    let ranges : All IsInRange c.args.script.now.lines = c.lines-lines.ensures.known.ranges in
     not_passed c.args.script.now c.args.packets.now (told_head c.args.head.now) c.args.bytes.now (told_of c.in-Some.told) report ranges never r

@@ -4,18 +4,18 @@ use Rattle.std.proofs.lemmas.Bool.{cases_lt}
 use Rattle.std.proofs.lemmas.List.{get_or_append_left}
 use Rattle.std.proofs.Math.Seq.{get_or-append_seam}
 use Rattle.std.proofs.lemmas.List.Elements.{All-push, All-nil}
-use Rattle.client_script.specs.declared.line.Line.{Line}
+use Rattle.client_script.specs.Script.{Scripted}
 use Rattle.client_core.specs.Inside.Core.{Core, IsAfter}
 use Rattle.serial_core.proofs.run.cores_of.Goals as goal
 
-after_push : (lines : List Line) (cores : List Core) (core : Core) (n : ℕ) → length cores ≡ n → ((c : ℕ) (d : Core) → c < length cores → IsAfter c lines [] (slice_index_or cores c d))
-    → IsAfter n lines [] core → (c : ℕ) (d : Core) → c < length (cores ++ core ∷ []) → IsAfter c lines [] (slice_index_or (cores ++ core ∷ []) c d)
-after_push lines cores core n count before one c d lt = elim (cases_lt c (length cores)) [
-  | inl old ↦ subst (λ x. IsAfter c lines [] x) (sym (get_or_append_left cores (core ∷ []) d c old)) (before c d old)
+after_push : (script : Scripted) (cores : List Core) (core : Core) (n : ℕ) → length cores ≡ n → ((c : ℕ) (d : Core) → c < length cores → IsAfter c script [] (slice_index_or cores c d))
+    → IsAfter n script [] core → (c : ℕ) (d : Core) → c < length (cores ++ core ∷ []) → IsAfter c script [] (slice_index_or (cores ++ core ∷ []) c d)
+after_push script cores core n count before one c d lt = elim (cases_lt c (length cores)) [
+  | inl old ↦ subst (λ x. IsAfter c script [] x) (sym (get_or_append_left cores (core ∷ []) d c old)) (before c d old)
   | inr new ↦
       let last : length cores ≡ c = omega (arith, new, lt, length-append cores (core ∷ [])) in
-      subst (λ i. IsAfter i lines [] (slice_index_or (cores ++ core ∷ []) i d)) last
-      (subst (λ x. IsAfter (length cores) lines [] x) (sym (get_or-append_seam cores core [] d)) (subst (λ i. IsAfter i lines [] core) (sym count) one))
+      subst (λ i. IsAfter i script [] (slice_index_or (cores ++ core ∷ []) i d)) last
+      (subst (λ x. IsAfter (length cores) script [] x) (sym (get_or-append_seam cores core [] d)) (subst (λ i. IsAfter i script [] core) (sym count) one))
 ]
 
 pub clients-init : goal.clients-init

@@ -1,11 +1,11 @@
 use Rattle.std.proofs.Common.{◌≡◌, List, map}
 use Rattle.std.specs.List.{range_with_len}
-use Rattle.client_script.specs.declared.line.Line.{Line}
+use Rattle.client_script.specs.Script.{Scripted}
 use Rattle.client_core.specs.Outcomes.{outcomes}
 use Rattle.serial_core.specs.Inside.Lines.{AreAfter}
 use Rattle.serial_core.specs.SerialRun.{Run, replies_of}
 use Rattle.serial_core.proofs.run.outcomes_of.Given as goal
 
 abbrev pub invariant-cores : goal.invariant-cores
-invariant-cores l = (lines : List Line) (r : Run) → AreAfter lines r l.cores
-    → map (λ those. those.items) l.all.items ≡ map (λ client. outcomes client lines (replies_of client r)) (range_with_len 0 l.core-index)
+invariant-cores l = (script : Scripted) (r : Run) → AreAfter script r l.cores
+    → map (λ those. those.items) l.all.items ≡ map (λ client. outcomes client script (replies_of client r)) (range_with_len 0 l.core-index)

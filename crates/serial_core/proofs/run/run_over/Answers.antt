@@ -1,6 +1,6 @@
 use Rattle.std.proofs.Common.{◌^◌, ◌≡◌, ◌≢◌, sym, ap, ◌∙◌, ℕ, ◌+◌, ◌≤◌, List, ◌++◌, length, map, Err, inl, inr, true, false, arith}
 use Rattle.std.specs.List.{range_with_len}
-use Rattle.client_script.specs.declared.line.Line.{Line}
+use Rattle.client_script.specs.Script.{Scripted}
 use Rattle.client_core.specs.Outcomes.{outcomes}
 use Rattle.feed_pull.specs.Pulling.{Pulls, has_failed}
 use Rattle.ts_watch.specs.Head.{told_head, head_of}
@@ -24,7 +24,7 @@ returns-in-Ok-clause-left g c =
     let done = w.moves.sound.ended w.ended in
     ok_by c.left_by.result _ _ _ _
     (λ (left : Left) (a : (r : Run) → IsNodes c.whole.new.self.nodes r → AreLegal r → left.histories ≡ histories_in r)
-    (b : (ls : List Line) (r : Run) → AreAfter ls r c.whole.new.cores → map (λ those. those.items) left.outcomes.items ≡ map (λ client. outcomes client ls (replies_of client r)) (range_with_len 0 (length c.whole.new.cores)))
+    (b : (ls : Scripted) (r : Run) → AreAfter ls r c.whole.new.cores → map (λ those. those.items) left.outcomes.items ≡ map (λ client. outcomes client ls (replies_of client r)) (range_with_len 0 (length c.whole.new.cores)))
     (h : (ahead taken : List ℕ) (given : List (List ℕ)) → Pulls ahead taken given c.whole.new.self.puller → told_head left.head ≡ head_of c.whole.new.self.puller.cutting.size (ahead ++ taken) left.head.read_fault).
     left_is c.args.script.now c.args.batch _ _ c.args.runner c.whole.new.self c.args.cores.now c.requires.begun c.requires.fresh c.whole.new.cores left c.whole.auto.cores (rw c.lines.ensures.lines at w.moves) done w.ended a b h)
     c.left_by.ensures.histories c.left_by.ensures.outcomes c.left_by.ensures.head
@@ -60,8 +60,8 @@ pub returns-clause-too_long : goal.returns-clause-too_long
 returns-clause-too_long g c turns is =
     let same : c.in-Err.stop ≡ TooLong turns = cc in
     let k = c.whole.ensures.too_long turns (c.in-Err.is ∙ ap Err same) in
-    of_stream (g.S.Source.end c.args.source.now) (g.S.Source.end c.whole.new.source) c.args.runner.puller _ (IsTooLong c.args.script.now c.args.runner.puller.start turns) (λ ahead taken (q : 2 ^ 39 ≤ most_calls (all_commands c.args.script.now) (length ahead + length taken)). inr (k.0, q))
-    (overrun_is c.args.script.now c.args.batch _ _ c.args.runner c.whole.new.self c.args.cores.now c.requires.begun c.requires.fresh (rw c.lines.ensures.lines at c.lines.ensures.known.ranges) c.requires.some (rw c.lines.ensures.lines at k.1))
+    of_stream (g.S.Source.end c.args.source.now) (g.S.Source.end c.whole.new.source) c.args.runner.puller _ (IsTooLong c.args.script.now c.args.runner.puller.start turns) (λ ahead taken (q : 2 ^ 39 ≤ most_calls (all_commands c.args.script.now.lines) (length ahead + length taken)). inr (k.0, q))
+    (overrun_is c.args.script.now c.args.batch _ _ c.args.runner c.whole.new.self c.args.cores.now c.requires.begun c.requires.fresh c.lines.ensures.known.ranges c.requires.some (rw c.lines.ensures.lines at k.1))
 
 pub returns-clause-draws : goal.returns-clause-draws
 returns-clause-draws g c = let d = c.in-Err.ensures.draws in (d.0, (c.whole.new.self.puller, d.1))
@@ -81,7 +81,7 @@ whole-requires-clause-ready g c = record {
 pub whole-requires-clause-begins : goal.whole-requires-clause-begins
 whole-requires-clause-begins g c = record {
   moment = c.requires.begun.moment;
-  short = c.lines.ensures.known.few;
+  short = rw c.lines.ensures.lines c.lines.ensures.known.few;
   clients = c.requires.fresh.few;
   named = rw (c.lines.ensures.lines, c.requires.fresh.count) (clients_within c.args.script.now);
   calls = λ k d lt. let none = c.requires.fresh.fresh k d lt in omega (arith, none);

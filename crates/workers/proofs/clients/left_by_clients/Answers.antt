@@ -21,7 +21,7 @@ workers-preserved c =
       logs = maps_more (λ (log : Vec Entry Global). log.items) (λ (v : ClientWorker). v.log.items) c.workers.logs.items c.push-in-workers-2.new.self.items w.log c.workers.yielded w logs i.logs refl;
       outcomes = ap length outcomes ∙ (length-append c.workers.outcomes.items (those ∷ []) ∙ (ap (λ (n : ℕ). n + 1) i.outcomes ∙ sym (length-append c.workers.yielded (w ∷ []))));
       each = outcomes_more c.workers.yielded w c.workers.outcomes.items c.push.new.self.items those outcomes i.outcomes i.each
-          (λ client lines replies after. c.in_ok-copied_outcomes.ensures.tied client lines replies after);
+          (λ client script replies after. c.in_ok-copied_outcomes.ensures.tied client script replies after);
     }
 
 pub returns : goal.returns

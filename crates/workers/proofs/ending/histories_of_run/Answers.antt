@@ -26,12 +26,12 @@ returns-clause-tells c = IfOk-weaker c.histories.result _ _ (λ hs m among strea
     (histories_of feeding m.0) (merged_woven among stream feeder feeding clients logs was all m.0 m.1 c.gather.ensures.histories)))) c.histories.ensures
 
 pub returns-clause-run : goal.returns-clause-run
-returns-clause-run c = IfOk-weaker c.histories.result _ _ (λ hs m lines among most may stream told w.
+returns-clause-run c = IfOk-weaker c.histories.result _ _ (λ hs m script among most may stream told w.
     let logs = map (λ log. log.items) c.args.logs.items in
     let feeder = c.args.feeder in let feeding = c.args.feeding.items in let clients = c.args.clients.items in
     let all = full c.args.adapter clients feeder c.requires.all c.gather.ensures.locks in
-    let were : AreWorked lines among most may stream feeder feeding clients (books_of logs) told =
-    subst (λ books. AreWorked lines among most may stream feeder feeding clients books told) (sym (map-map (λ (log : List ToldEntry). map told_entry log) (λ log. log.items) c.args.logs.items)) w in
-    subst (λ h. IsWholeRun lines most may stream told h) (sym m.2)
-    (whole_run lines among most may stream feeder feeding clients (books_of logs) told were all c.gather.ensures.histories (nodes_low logs (All-map AreOnNodes (λ log. log.items) c.args.logs.items c.requires.nodes))
-    (histories_of feeding m.0) (merged_woven among stream feeder feeding clients logs (have_called lines among most may stream feeder feeding clients (books_of logs) told were) all m.0 m.1 c.gather.ensures.histories))) c.histories.ensures
+    let were : AreWorked script among most may stream feeder feeding clients (books_of logs) told =
+    subst (λ books. AreWorked script among most may stream feeder feeding clients books told) (sym (map-map (λ (log : List ToldEntry). map told_entry log) (λ log. log.items) c.args.logs.items)) w in
+    subst (λ h. IsWholeRun script most may stream told h) (sym m.2)
+    (whole_run script among most may stream feeder feeding clients (books_of logs) told were all c.gather.ensures.histories (nodes_low logs (All-map AreOnNodes (λ log. log.items) c.args.logs.items c.requires.nodes))
+    (histories_of feeding m.0) (merged_woven among stream feeder feeding clients logs (have_called script among most may stream feeder feeding clients (books_of logs) told were) all m.0 m.1 c.gather.ensures.histories))) c.histories.ensures

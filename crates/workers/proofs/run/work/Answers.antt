@@ -60,13 +60,13 @@ returns-in_ok-left_by-in-None-clause-left g c =
     let s : StopsBy f.stop vs c.stop_of.result = rw (← c.deref.ensures.value) c.stop_of.ensures in
     let none = s.none stop in
     let left : IsLeftByWorkers f vs c.in_ok-left_by-in-None.field-0 = c.in_ok-left_by-in-None.ensures in
-    let all = as_named (is_in c.named.result) (is_named c.args.script.now) c.args.batch may _ _ c.args.puller f (λ node low. c.named.ensures node low) fed.nodes (fed.all (no_stop f.stop none.0)) in
+    let all = as_named (is_in c.named.result) (is_named c.args.script.now.lines) c.args.batch may _ _ c.args.puller f (λ node low. c.named.ensures node low) fed.nodes (fed.all (no_stop f.stop none.0)) in
     let more = all.draws.carries.more in (
       more,
       all.draws.carries.consumes,
       λ ahead pulls. record {
         worked = all_worked c.args.script.now c.args.adapter.now _ c.args.feeder c.args.clients.items r.fresh r.all may ws vs b c.work_all.ensures.clients f c.in_ok-left_by-in-None.field-0 left none.1
-            c.args.batch _ refl (worked_feeder (is_named c.args.script.now) c.args.batch may _ _ c.args.puller f all ahead pulls);
+            c.args.batch _ refl (worked_feeder (is_named c.args.script.now.lines) c.args.batch may _ _ c.args.puller f all ahead pulls);
         head = left.head ahead more all.packets (all.draws.carries.pulls ahead [] [] pulls) ∙ ap (λ size. head_of size (ahead ++ more) c.in_ok-left_by-in-None.field-0.head.read_fault) all.draws.carries.size;
       },
     )
@@ -104,7 +104,7 @@ returns-in_ok-gather-in-Some-clause-too_long g c turns is =
     let s : StopsBy f.stop vs c.stop_of.result = rw (← c.deref.ensures.value) c.stop_of.ensures in
     let found : c.stop_of.result ≢ Some NoMemory = λ e. absurd (cc (stop, e)) in
     let memory = s.memory found in
-    let all = as_named (is_in c.named.result) (is_named c.args.script.now) c.args.batch may _ _ c.args.puller f (λ node low. c.named.ensures node low) fed.nodes (fed.all memory.0) in
+    let all = as_named (is_in c.named.result) (is_named c.args.script.now.lines) c.args.batch may _ _ c.args.puller f (λ node low. c.named.ensures node low) fed.nodes (fed.all memory.0) in
     ⊎_elim
     (λ first. let k = fed.too_long turns first in of_stream (g.S.Source.end c.args.source.now) (g.S.Source.end c.work_all.new.source) c.args.puller _ (IsTooLong c.args.script.now c.args.puller.start turns) (λ ahead taken (q : 2 ^ 32 ≤ c.args.puller.start + length taken). inl (k.0, q))
     (many_reads _ _ c.args.puller f.puller fed.draws.0 fed.draws.1 k.1))

@@ -34,15 +34,15 @@ returns-clause-at g c r moment at =
     nodes_called old _ r _ (set_pair (IsSeat (acts_on old)) node old.seats.items r.nodes _ _ after at.seats) refl refl at
 
 pub returns-clause-core : goal.returns-clause-core
-returns-clause-core g c r lines replies moment at after =
+returns-clause-core g c r script replies moment at after =
     let old = c.args.self.now in
     let node = c.args.event.node in
     let count : length old.seats.items ≡ DEMUX_NODES + 1 = seats_count old.seats.items old.made c.requires.counted in
     let there : node < length old.seats.items = omega (arith, count, c.requires.node) in
     let before : IsSeat (acts_on old) c.index_mut.result.now (node_at node r) = rw c.index_mut.ensures.value (pair_at (IsSeat (acts_on old)) node old.seats.items r.nodes c.index_mut.result.now (uncalled node) there at.seats) in
     let same = c.in_ok-call.ensures.call ∙ ap (λ now. call_of c.args.event.want now) moment in
-    subst (λ v. IsAfter c.args.client lines (replies ++ answer_by (c.args.client + 1) v (node_at node r) ∷ []) c.call.new.client) same
-    (c.in_ok-call-2.ensures.client (acts_on old) (node_at node r) c.args.client lines replies before after)
+    subst (λ v. IsAfter c.args.client script (replies ++ answer_by (c.args.client + 1) v (node_at node r) ∷ []) c.call.new.client) same
+    (c.in_ok-call-2.ensures.client (acts_on old) (node_at node r) c.args.client script replies before after)
 
 pub returns-clause-counted : goal.returns-clause-counted
 returns-clause-counted g c =

@@ -1,6 +1,6 @@
 use Rattle.std.proofs.Common.{◌^◌, ◌≡◌, ap, subst, ◌∙◌, ℕ, List, [], ◌∷◌, ◌++◌, arith}
 use Rattle.dmx_calls.specs.Response.{Response}
-use Rattle.client_script.specs.declared.line.Line.{Line}
+use Rattle.client_script.specs.Script.{Scripted}
 use Rattle.client_core.specs.Inside.Core.{IsAfter}
 use Rattle.serial_core.specs.SerialRun.{Run, called, replies_of, reply_to, after_waiting}
 use Rattle.serial_core.proofs.Moving.{moves_then}
@@ -15,14 +15,14 @@ returns-clause-moves g c =
     let batch = c.args.batch in
     let old = c.args.core.now in
     let new = c.call.new.core in
-    let P : Run → Type 0 = λ r. (lines : List Line) (replies : List Response) → IsAfter client lines replies old → IsAfter client lines (replies ++ reply_to client e r ∷ []) new in
+    let P : Run → Type 0 = λ r. (script : Scripted) (replies : List Response) → IsAfter client script replies old → IsAfter client script (replies ++ reply_to client e r ∷ []) new in
     let k = c.in_ok-call.ensures in
     moves_then _ _ _ _ _ _ _ _ _
-    (λ (r s t : Run) (a : (who : ℕ) (lines : List Line) → IsAfter who lines (replies_of who r) old → s ≡ after_waiting lines batch who r) (b : (t ≡ called client e s) × P s) (lines : List Line) (after : IsAfter client lines (replies_of client r) old).
-    let w = a client lines after in
-    (b.0 ∙ ap (called client e) w, subst (λ x. IsAfter client lines (replies_of client r ++ reply_to client e x ∷ []) new) w (b.1 lines (replies_of client r) after)))
+    (λ (r s t : Run) (a : (who : ℕ) (script : Scripted) → IsAfter who script (replies_of who r) old → s ≡ after_waiting script batch who r) (b : (t ≡ called client e s) × P s) (script : Scripted) (after : IsAfter client script (replies_of client r) old).
+    let w = a client script after in
+    (b.0 ∙ ap (called client e) w, subst (λ x. IsAfter client script (replies_of client r ++ reply_to client e x ∷ []) new) w (b.1 script (replies_of client r) after)))
     c.in_ok-wait.ensures.moves
-    (moves_called _ c.wait.new.self c.call.new.self client e P c.in_ok-wait.ensures.moves.sound k.counted k.same k.at (λ r moment at lines replies after. k.core r lines replies moment at after))
+    (moves_called _ c.wait.new.self c.call.new.self client e P c.in_ok-wait.ensures.moves.sound k.counted k.same k.at (λ r moment at script replies after. k.core r script replies moment at after))
 
 pub call-requires-clause-few : goal.call-requires-clause-few
 call-requires-clause-few g c =

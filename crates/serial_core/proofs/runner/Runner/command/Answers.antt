@@ -1,5 +1,5 @@
 use Rattle.std.proofs.Common.{◌^◌, ◌≡◌, refl, sym, ◌∙◌, ◌+◌, List, [], ◌∷◌, ◌++◌, length, arith}
-use Rattle.client_script.specs.declared.line.Line.{Line}
+use Rattle.client_script.specs.Script.{Scripted}
 use Rattle.client_core.specs.Inside.Core.{IsAfter}
 use Rattle.serial_core.specs.SerialRun.{Run, called, replies_of, reply_to, after_waiting}
 use Rattle.serial_core.specs.Inside.Moving.{ComesBy}
@@ -9,7 +9,7 @@ use Rattle.serial_core.proofs.runner.Runner.command.Goals as goal
 
 pub calls-init : goal.calls-init
 calls-init g c = record {
-  moves = moves_none _ c.args.self.now _ c.requires.ready.sound (λ r lines clients after. comes_none lines c.args.batch c.args.client c.args.line r c.args.core.now clients after);
+  moves = moves_none _ c.args.self.now _ c.requires.ready.sound (λ r script clients after. comes_none script c.args.batch c.args.client c.args.line r c.args.core.now clients after);
   moment = refl;
   made = λ calls made. made;
   few = c.requires.calls;
@@ -27,11 +27,11 @@ calls-preserved g c =
     record {
       moves = moves_then _ _ _ _ _ _ _ _ _
           (λ (r s t : Run) (a : ComesBy batch client line c.args.core.now core r s)
-          (b : (lines : List Line) → IsAfter client lines (replies_of client s) core → (t ≡ called client e (after_waiting lines batch client s)) × IsAfter client lines (replies_of client s ++ reply_to client e (after_waiting lines batch client s) ∷ []) next)
-          (lines : List Line) (clients : length r.replies ≡ 8) (after : IsAfter client lines (replies_of client r) c.args.core.now).
-          let come = a lines clients after in
-          let n = b lines come.after in
-          comes_on lines batch client line r s t core next e c.requires.client come (sym (c.next_at.ensures.tied client lines _ come.after) ∙ c.in-Some.is) n.0 n.1)
+          (b : (script : Scripted) → IsAfter client script (replies_of client s) core → (t ≡ called client e (after_waiting script batch client s)) × IsAfter client script (replies_of client s ++ reply_to client e (after_waiting script batch client s) ∷ []) next)
+          (script : Scripted) (clients : length r.replies ≡ 8) (after : IsAfter client script (replies_of client r) c.args.core.now).
+          let come = a script clients after in
+          let n = b script come.after in
+          comes_on script batch client line r s t core next e c.requires.client come (sym (c.next_at.ensures.tied client script _ come.after) ∙ c.in-Some.is) n.0 n.1)
           c.calls.invariant.moves k.moves;
       moment = k.moment ∙ c.calls.invariant.moment;
       made = λ calls made. let m = k.made (core.step + calls) (c.calls.invariant.made calls made) in omega (arith, m, k.step);
@@ -48,9 +48,9 @@ pub returns-clause-moves : goal.returns-clause-moves
 returns-clause-moves g c =
     moves_by _ _ _ _ _ _
     (λ (r s : Run) (a : ComesBy c.args.batch c.args.client c.args.line c.args.core.now c.calls.core r s)
-    (lines : List Line) (clients : length r.replies ≡ 8) (after : IsAfter c.args.client lines (replies_of c.args.client r) c.args.core.now).
-    let come = a lines clients after in
-    (come, sym (c.next_at.ensures.tied c.args.client lines _ come.after) ∙ none_by c.next_at.result c.in_default.not-Some))
+    (script : Scripted) (clients : length r.replies ≡ 8) (after : IsAfter c.args.client script (replies_of c.args.client r) c.args.core.now).
+    let come = a script clients after in
+    (come, sym (c.next_at.ensures.tied c.args.client script _ come.after) ∙ none_by c.next_at.result c.in_default.not-Some))
     c.calls.invariant.moves
 
 pub returns-in_err-advance-clause-draws : goal.returns-in_err-advance-clause-draws

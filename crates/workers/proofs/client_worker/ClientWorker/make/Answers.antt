@@ -18,7 +18,7 @@ use Rattle.workers.proofs.Working.{event_now, logs_one}
 use Rattle.workers.proofs.client_worker.ClientWorker.make.Goals as goal
 
 pub returns-clause-works : goal.returns-clause-works
-returns-clause-works g c may lines client given turn works =
+returns-clause-works g c may script client given turn works =
     let w = c.args.self.now in let k = w.client in let d = c.call-place.new.self in
     let event = c.args.event in let node = event.node in
     let e = c.call-place.ensures in let place = c.call-place.result.0 in let answer = c.call-place.result.1 in
@@ -28,15 +28,15 @@ returns-clause-works g c may lines client given turn works =
     let items : c.push_reserved.new.self.items ≡ w.log.items ++ entry ∷ [] = search rules in
     let logs = logs_one w.log.items entry c.push_reserved.new.self.items items in
     let told_act_is = c.in_ok-act.ensures ∙ c.of-asked.ensures in
-    let is_next = event_now lines client (replies (log_of w)) w.core event works.after c.requires.next in
-    let after : IsAfter client lines (replies (log_of w) ++ response_of c.in_ok-kept.kept ∷ []) c.take.new.self =
-    subst (λ r. IsAfter client lines (replies (log_of w) ++ response_of r ∷ []) c.take.new.self) c.told.ensures (c.take.ensures.after client lines (replies (log_of w)) works.after) in
+    let is_next = event_now script client (replies (log_of w)) w.core event works.after c.requires.next in
+    let after : IsAfter client script (replies (log_of w) ++ response_of c.in_ok-kept.kept ∷ []) c.take.new.self =
+    subst (λ r. IsAfter client script (replies (log_of w) ++ response_of r ∷ []) c.take.new.self) c.told.ensures (c.take.ensures.after client script (replies (log_of w)) works.after) in
     let act_is : c.in_ok-act.act ≡ act_of (call_at event.want c.args.now) = told_act_is ∙ ap act_of c.in_ok-call.ensures.call in
     let kept : response_of c.in_ok-kept.kept ≡ response_of c.in_ok-reply.reply = c.in_ok-kept.ensures ∙ c.in_ok-fitting.ensures in
     let one : replies (log_of w ++ told_entry entry ∷ []) ≡ replies (log_of w) ++ response_of c.in_ok-kept.kept ∷ [] =
     map-append (λ (x : LogEntry). x.response) (log_of w) (told_entry entry ∷ []) in
     record {
-      called = rw logs (called_more k d (IsLegalAt node) node place (told k.who call answer) e.entry e.same.0 lines client may (log_of w) (told_entry entry)
+      called = rw logs (called_more k d (IsLegalAt node) node place (told k.who call answer) e.entry e.same.0 script client may (log_of w) (told_entry entry)
           works.called refl refl
           (c.requires.step ∙ (c.requires.fit.steps ∙ sym (length-map w.log.items told_entry)))
           c.requires.fit.who

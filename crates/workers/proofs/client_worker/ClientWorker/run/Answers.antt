@@ -11,8 +11,8 @@ calls-preserved g c =
       same = same_trans c.args.self.now.client c.wait.new.self.client c.make.new.self.client waited c.make.ensures.same;
       fit = c.in_ok-make.ensures.fit;
       few = search rules;
-      goes_on = λ lines client works. let k = i.goes_on lines client works in
-          c.in_ok-make.ensures.works may lines client c.moment_of-now.ensures (c.wait.ensures.may may lines client k) (c.wait.ensures.looked.goes_on may lines client k);
+      goes_on = λ script client works. let k = i.goes_on script client works in
+          c.in_ok-make.ensures.works may script client c.moment_of-now.ensures (c.wait.ensures.may may script client k) (c.wait.ensures.looked.goes_on may script client k);
     }
 
 pub returns-in_err-make-clause-same : goal.returns-in_err-make-clause-same

@@ -6,7 +6,7 @@ use Rattle.workers.proofs.Working.{last_of}
 use Rattle.workers.proofs.client_worker.ClientWorker.wait.Goals as goal
 
 pub returns-in-Some-clause-may : goal.returns-in-Some-clause-may
-returns-in-Some-clause-may g c may lines client works waits last i p at long is =
+returns-in-Some-clause-may g c may script client works waits last i p at long is =
     let same = c.look_past.ensures.looked.log in
     let es = c.args.self.now.log.items in
     let now = subst (λ (l : Vec Entry Global). slice_get (map told_entry l.items) i ≡ Some last) same at in
