@@ -8,6 +8,7 @@ use Rattle.atomic_table.specs.Seated.{TableId}
 use Rattle.dmx_calls.specs.declared.histories.Fed.{Fed}
 use Rattle.dmx_calls.specs.declared.limits.TheConstants.{DEMUX_NODES}
 use Rattle.dmx_calls.specs.Log.{LogEntry}
+use Rattle.client_script.specs.Script.{plain}
 use Rattle.script_run.specs.SoFar.{PassesNone}
 use Rattle.adapter.specs.Callers.{Caller, IsSameCaller, AreFreshCallers, AreAllCallers}
 use Rattle.adapter.proofs.Everybody.{still_all}
@@ -72,7 +73,7 @@ module _ {T : Type 0} (left written : T → Option (List ℕ)) (locks : List Tab
         record {
           who = client_same.0 ∙ f.number;
           logged = subst (IsLogged d.seat.client) (sym log_is) (logged_calls 0 b.seat.client [] goes.calls d.seat.client refl
-              (called_none locks (n + 1) (k + 1) (2 ^ 40) b.seat.client f [] k (λ (m : ℕ). true) refl).logged made);
+              (called_none locks (n + 1) (k + 1) (2 ^ 40) b.seat.client f (plain []) k (λ (m : ℕ). true) refl).logged made);
           passes = subst (All (λ (e : LogEntry). PassesNone e.act)) (sym log_is) (passes_calls 0 b.seat.client [] goes.calls d.seat.client (All-nil (λ (e : LogEntry). PassesNone e.act)) made);
         }
 
