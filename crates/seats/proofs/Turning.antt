@@ -17,21 +17,21 @@ use Rattle.seats.specs.Told.{reply_bytes}
 use Rattle.seats.specs.Turns.{Turn, calls_of, IsAsked, IsTold, AreTold, IsLast, HasTurned, HasAnsweredAll}
 use Rattle.seats.proofs.Doing.{log_more}
 
-module _ {T : Type 0} (left written : T → Option (List ℕ)) where
+module _ {T : Type 0} (unread replied : T → Option (List ℕ)) where
   -- no whole request was read
-  pub turned_none : (before after : T) (log : List LogEntry) → HasTurned left written false before after log log
+  pub turned_none : (before after : T) (log : List LogEntry) → HasTurned unread replied false before after log log
   turned_none before after log = ([], tt, sym (append-nil log))
 
   module _ (ask : Ask) (now : ℕ) (old new : Seat) (request : List ℕ) (t : Tell) (bytes : List ℕ) (before asked after : T) (is : ask ≡ ask_of request) (long : length request ≡ REQUEST_LEN)
-      (taken : Consumes (left before) (left asked) request) (a : HasAnswered ask now old new t bytes) where
+      (taken : Consumes (unread before) (unread asked) request) (a : HasAnswered ask now old new t bytes) where
     turn : Turn
     turn = record { request = request; now = now; calls = a.calls; told = t; bytes = bytes }
 
-    its_ask : IsAsked left written turn before asked
+    its_ask : IsAsked unread replied turn before asked
     its_ask = record { turn = record { long = long; is = subst (λ (k : Ask). IsAnswered k now a.calls t bytes) is a.is }; taken = taken }
 
     -- its reply was written whole, or not
-    pub turned_one : (on : Bool) → (on ≡ true → Appends (written asked) (written after) (reply_bytes t bytes)) → HasTurned left written on before after (log_of old) (log_of new)
+    pub turned_one : (on : Bool) → (on ≡ true → Appends (replied asked) (replied after) (reply_bytes t bytes)) → HasTurned unread replied on before after (log_of old) (log_of new)
     turned_one true whole = (turn, record { asked = asked; is = its_ask; told = whole refl }, a.log)
     turned_one false whole = (turn ∷ [], (asked, its_ask), a.log ∙ ap (λ (l : List LogEntry). log_of old ++ l) (sym (append-nil a.calls)))
 
@@ -40,20 +40,20 @@ module _ {T : Type 0} (left written : T → Option (List ℕ)) where
   -- these were answered, and told whole
   pub record HaveTold (line at : T) (old new : List LogEntry) : Type 0 where
     pub turns : List Turn
-    pub told : AreTold left written line turns at
+    pub told : AreTold unread replied line turns at
     pub log : new ≡ old ++ calls_of turns
 
   pub told_none : (line : T) (log : List LogEntry) → HaveTold line line log log
   told_none line log = record { turns = []; told = refl; log = sym (append-nil log) }
 
-  told_last : (line at next : T) (ts : List Turn) (t : Turn) → AreTold left written line ts at → IsTold left written t at next → AreTold left written line (ts ++ t ∷ []) next
-  told_last line at next [] t is one = (next, subst (λ (l : T). IsTold left written t l next) is one, refl)
+  told_last : (line at next : T) (ts : List Turn) (t : Turn) → AreTold unread replied line ts at → IsTold unread replied t at next → AreTold unread replied line (ts ++ t ∷ []) next
+  told_last line at next [] t is one = (next, subst (λ (l : T). IsTold unread replied t l next) is one, refl)
   told_last line at next (u ∷ us) t is one = (is.0, is.1, told_last is.0 at next us t is.2 one)
 
   calls_more : (ts us : List Turn) → calls_of (ts ++ us) ≡ calls_of ts ++ calls_of us
   calls_more ts us = flat_map-append (λ (t : Turn). t.calls) ts us
 
-  pub told_more : (line at next : T) (a b c : List LogEntry) (on : Bool) → HaveTold line at a b → HasTurned left written on at next b c → on ≡ true → HaveTold line next a c
+  pub told_more : (line at next : T) (a b c : List LogEntry) (on : Bool) → HaveTold line at a b → HasTurned unread replied on at next b c → on ≡ true → HaveTold line next a c
   told_more line at next a b c true h one is = record {
     turns = h.turns ++ one.0 ∷ [];
     told = told_last line at next h.turns one.0 h.told one.1;
@@ -62,8 +62,8 @@ module _ {T : Type 0} (left written : T → Option (List ℕ)) where
   }
   told_more line at next a b c false h one is = absurd (cc is)
 
-  pub answered_all : (line at next : T) (old mid new last : Seat) (on : Bool) → HaveTold line at (log_of old) (log_of mid) → HasTurned left written on at next (log_of mid) (log_of new) → on ≡ false
-      → Does (AreClosings (DEMUX_NODES + 1)) new last → HasAnsweredAll left written line (log_of old) (log_of last)
+  pub answered_all : (line at next : T) (old mid new last : Seat) (on : Bool) → HaveTold line at (log_of old) (log_of mid) → HasTurned unread replied on at next (log_of mid) (log_of new) → on ≡ false
+      → Does (AreClosings (DEMUX_NODES + 1)) new last → HasAnsweredAll unread replied line (log_of old) (log_of last)
   answered_all line at next old mid new last true h one is d = absurd (cc is)
   answered_all line at next old mid new last false h one is d = record {
     turns = h.turns;

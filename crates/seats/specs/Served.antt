@@ -8,15 +8,15 @@ use Rattle.seats.specs.Holding.{HasLeft}
 use Rattle.seats.specs.Seated.{log_of, IsFit, GoesOn}
 use Rattle.seats.specs.Turns.{HasAnsweredAll}
 
--- What is left of a line, and what was written to it, where it tells these.
-module _ {T : Type 0} (left written : T → Option (List ℕ)) where
+-- Of a line, `unread` is what is left to be read, and `replied` what was written to it, where it tells these.
+module _ {T : Type 0} (unread replied : T → Option (List ℕ)) where
   -- A seat has served its line: its log has grown by just its calls, which are those that the requests of the line ask for and
   -- those by which all nodes were closed; and behind them it owns no node.
   pub record HasServed (locks : List TableId) (line : T) (old new : Seat) : Type 0 where
     pub fit : IsFit locks new
     pub goes : GoesOn old new
-    pub answers : HasAnsweredAll left written line (log_of old) (log_of new)
-    pub left_nodes : (node : ℕ) → node ≤ DEMUX_NODES → HasLeft node new.client
+    pub answers : HasAnsweredAll unread replied line (log_of old) (log_of new)
+    pub left : (node : ℕ) → node ≤ DEMUX_NODES → HasLeft node new.client
 
   -- each of the seats has served its line
   pub record HaveServed (locks : List TableId) (old new : List (Desk T)) : Type 0 where

@@ -27,17 +27,17 @@ pub record IsTurn (t : Turn) : Type 0 where
 abbrev pub calls_of : List Turn → List LogEntry
 calls_of turns = flat_map (λ t. t.calls) turns
 
-module _ {T : Type 0} (left written : T → Option (List ℕ)) where
+module _ {T : Type 0} (unread replied : T → Option (List ℕ)) where
   -- the request is taken from the line
   pub record IsAsked (t : Turn) (before asked : T) : Type 0 where
     pub turn : IsTurn t
-    pub taken : Consumes (left before) (left asked) t.request
+    pub taken : Consumes (unread before) (unread asked) t.request
 
   -- and its reply is written to it, whole
   pub record IsTold (t : Turn) (before after : T) : Type 0 where
     pub asked : T
     pub is : IsAsked t before asked
-    pub told : Appends (written asked) (written after) (reply_bytes t.told t.bytes)
+    pub told : Appends (replied asked) (replied after) (reply_bytes t.told t.bytes)
 
   -- each of these, one after another
   abbrev pub AreTold : T → List Turn → T → Type 0

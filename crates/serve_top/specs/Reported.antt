@@ -27,9 +27,9 @@ use Rattle.serve_top.specs.declared.left.Left.{Left}
 abbrev pub every : (node : ℕ) → Bool
 every node = true
 
--- What was read of the stream, what was called by whom and why, and the report that tells just this. Of a line, `left` is what is
--- left to be read, and `written` what was written to it, where it tells these.
-pub record HasReported {T : Type 0} (left written : T → Option (List ℕ)) (lines : List T) (may : ℕ → Bool)
+-- What was read of the stream, what was called by whom and why, and the report that tells just this. Of a line, `unread` is what
+-- is left to be read, and `replied` what was written to it, where it tells these.
+pub record HasReported {T : Type 0} (unread replied : T → Option (List ℕ)) (lines : List T) (may : ℕ → Bool)
     (before after : SourceEnd) (was now : Option (List ℕ)) : Type 0 where
   -- the bytes that were read, and whether a read has failed
   pub taken : List ℕ
@@ -46,9 +46,9 @@ pub record HasReported {T : Type 0} (left written : T → Option (List ℕ)) (li
   -- these are the calls that the requests of its line ask for, one after another, each told in its reply, and then those by which
   -- all nodes were closed
   pub asked : (c : ℕ) (book : List LogEntry) → slice_get books c ≡ Some book
-      → (line : T) × (slice_get (reverse lines) c ≡ Some line) × HasAnsweredAll left written line [] book
+      → (line : T) × (slice_get (reverse lines) c ≡ Some line) × HasAnsweredAll unread replied line [] book
   -- and behind them it owns no node
-  pub owned : (c : ℕ) (client : Caller) → slice_get clients c ≡ Some client → (node : ℕ) → node ≤ DEMUX_NODES
+  pub left : (c : ℕ) (client : Caller) → slice_get clients c ≡ Some client → (node : ℕ) → node ≤ DEMUX_NODES
       → HasLeft node client
   -- the report tells these calls and no others, as the locks of the nodes have them
   pub histories : List (List LogEntry)

@@ -28,5 +28,5 @@ returns-in-requests g c =
       fit = c.leave.ensures.fit;
       goes = goes_trans c.args.self.now c.turn.new.self c.leave.new.self (goes_trans c.args.self.now c.requests.self c.turn.new.self v.goes e.goes) c.leave.ensures.goes;
       answers = answered_all (λ at. (g.T.Source.end at).left) (λ at. (g.T.Sink.end at).written) c.args.line.now c.requests.line c.turn.new.line c.args.self.now c.requests.self c.turn.new.self c.leave.new.self c.turn.result v.told e.turned ? c.leave.ensures.did;
-      left_nodes = c.leave.ensures.left;
+      left = c.leave.ensures.left;
     }
