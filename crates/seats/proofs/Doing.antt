@@ -15,12 +15,12 @@ use Rattle.client_core.specs.Commands.{own_call}
 use Rattle.client_script.specs.declared.line.Want.{Want}
 use Rattle.serve_frames.specs.declared.ask.Ask.{Ask}
 use Rattle.serve_frames.specs.declared.ask.Ask.TheVariants.{OpenDemux, Call, Leave, Refused as RefusedAsk}
-use Rattle.serve_frames.specs.declared.numbers.TheConstants.{EMFILE}
+use Rattle.serve_frames.specs.declared.numbers.TheConstants.{EMFILE, ENOMEM}
 use Rattle.serve_frames.specs.declared.tell.Tell.{Tell}
 use Rattle.serve_frames.specs.Tells.{told_of, data_of}
 use Rattle.seats.specs.declared.made.Made.{Made}
 use Rattle.seats.specs.declared.seat.Seat.{Seat}
-use Rattle.seats.specs.Answered.{act_behind, IsBehind, IsCommand, is_busy, AreBusy, IsClosing, AreClosings, refusal, IsRefusal, IsReplyOf, IsOpened, IsFull, IsAnsweredBy, IsAnswered}
+use Rattle.seats.specs.Answered.{act_behind, IsBehind, IsCommand, is_busy, AreBusy, IsClosing, AreClosings, refusal, told_opened, IsRefusal, IsReplyOf, IsOpened, IsFull, IsAnsweredBy, IsAnswered}
 use Rattle.seats.specs.Doing.{HasMade, Does, MakesOne, DoesCommand, HasAnswered}
 use Rattle.seats.specs.Seated.{log_of, told_made}
 use Rattle.seats.specs.Told.{data_read, call_at}
@@ -195,55 +195,31 @@ module _ (node at : ℕ) (old mid new : Seat) (b : Does (HaveTried node) old mid
     either i e (inr last) = subst (λ (z : LogEntry). (z.node ≡ i) × (z.act ≡ OpenAct) × (is_busy z.response ≡ true)) last.1 (d.node ∙ (sym b.is.1 ∙ sym last.0), d.act, own_busy true busy)
 
   -- this one is free
-  pub opened : (then : Seat) (t s : Tell) (o : Option ℕ) → node < DEMUX_NODES → is_busy (response_of x.reply) ≡ false
+  pub opened : (then : Seat) (t : Tell) (o : Option ℕ) → node < DEMUX_NODES → is_busy (response_of x.reply) ≡ false
       → then.made.items ≡ new.made.items → then.log.items ≡ new.log.items → then.who ≡ new.who
-      → o ≡ Some at → ((m : Made) → slice_get then.made.items at ≡ Some m → s ≡ told_of (response_of m.reply) m.place) → t ≡ record { code = s.code; value = node; place = s.place }
+      → o ≡ Some at → ((m : Made) → slice_get then.made.items at ≡ Some m → t ≡ told_opened node (response_of m.reply) m.place)
       → Does (λ calls. IsOpened calls t (data_read (call_at then.made.items o)) ⊎ IsFull calls t (data_read (call_at then.made.items o))) old then
-  opened then t s o low free km kl kw at_is told value = record {
+  opened then t o low free km kl kw at_is told = record {
     more = b.more ++ (d.own ∷ d.behind);
     has = made_kept old new then (b.more ++ (d.own ∷ d.behind)) (made_trans old mid new b.more (d.own ∷ d.behind) b.has d.has) km kl kw;
     is = inl (record {
-      busy = front;
-      own = mine;
+      busy = map (told_made old.who) b.more;
+      own = told_made old.who d.own;
       mine = map (told_made old.who) (d.own ∷ d.behind);
       calls = map-append (told_made old.who) b.more (d.own ∷ d.behind);
       few = subst (λ (k : ℕ). k < DEMUX_NODES) (sym b.is.1) low;
       tried = b.is.0;
-      command = subst (λ (k : ℕ). IsCommand k OpenAct mine (map (told_made old.who) (d.own ∷ d.behind))) (sym b.is.1) own_command;
+      command = subst (λ (k : ℕ). IsCommand k OpenAct (told_made old.who d.own) (map (told_made old.who) (d.own ∷ d.behind))) (sym b.is.1) own_command;
       free = own_busy false free;
-      told = value ∙ (ap (λ (z : Tell). make_tell z.code node z.place) reply ∙ ap (λ (k : ℕ). make_tell (told_of (response_of d.own.reply) d.own.place).code k (told_of (response_of d.own.reply) d.own.place).place) (sym b.is.1) ∙ placed (response_of d.own.reply));
-      read = data_at node OpenAct at mid then kept o at_is;
+      told = told d.own own_there ∙ ap (λ (k : ℕ). told_opened k (response_of d.own.reply) d.own.place) (sym b.is.1);
+      read = ap (λ (z : Option ℕ). data_read (call_at then.made.items z)) at_is ∙ ap data_read own_there;
     });
   } where
-    front : List LogEntry
-    front = map (told_made old.who) b.more
+    own_there : slice_get then.made.items at ≡ Some d.own
+    own_there = ap (λ (l : List Made). slice_get l at) km ∙ d.at
 
-    mine : LogEntry
-    mine = told_made old.who d.own
-
-    kept : DoesCommand node OpenAct at mid then
-    kept = command_kept node OpenAct at mid new then d km kl kw
-
-    own_command : IsCommand node OpenAct mine (map (told_made old.who) (d.own ∷ d.behind))
+    own_command : IsCommand node OpenAct (told_made old.who d.own) (map (told_made old.who) (d.own ∷ d.behind))
     own_command = record { node = d.node; act = d.act; behind = map (told_made old.who) d.behind; calls = refl; is = subst (λ (w : ℕ). IsBehind (act_behind node (response_of d.own.reply)) (map (told_made w) d.behind)) b.has.who d.is }
-
-    make_tell : (code value place : ℕ) → Tell
-    make_tell code value place = record { code = code; value = value; place = place }
-
-    reply : s ≡ told_of (response_of d.own.reply) d.own.place
-    reply = told d.own kept.at
-
-    placed : (r : Response) → make_tell (told_of r d.own.place).code (length front) (told_of r d.own.place).place ≡ make_tell (told_of r d.own.place).code (length front) d.own.place
-    placed (Done from to tap) = refl
-    placed (Busy owner) = refl
-    placed (Refused errno) = refl
-    placed NoMemory = refl
-    placed (Data bytes) = refl
-    placed (Again ended) = refl
-    placed (Overflow from to item need room) = refl
-    placed (TimedOut started now timeout) = refl
-    placed (Ready readable error a ended) = refl
-    placed Passed = refl
 
 -- all are busy
 pub full : (n : ℕ) (old mid new : Seat) (t : Tell) (o : Option ℕ) → Does (HaveTried n) old mid → n ≡ DEMUX_NODES → new.made.items ≡ mid.made.items → new.log.items ≡ mid.log.items → new.who ≡ mid.who
@@ -256,33 +232,35 @@ full n old mid new t o b all km kl kw told = record {
 
 -- ------ requests
 
-pub answered_open : (now : ℕ) (old new : Seat) (t : Tell) (bytes : List ℕ) → Does (λ calls. IsOpened calls t bytes ⊎ IsFull calls t bytes) old new → Does (λ calls. IsAnswered OpenDemux now calls t bytes) old new
-answered_open now old new t bytes d = record { more = d.more; has = d.has; is = inl d.is }
+module _ (ask : Ask) (now : ℕ) where
+  pub answered_open : (old new : Seat) (t : Tell) (bytes : List ℕ) → ask ≡ OpenDemux → Does (λ calls. IsOpened calls t bytes ⊎ IsFull calls t bytes) old new → Does (λ calls. IsAnswered ask now calls t bytes) old new
+  answered_open old new t bytes is d = record { more = d.more; has = d.has; is = inl (subst (λ (k : Ask). IsAnsweredBy k now (map (told_made old.who) d.more) t bytes) (sym is) d.is) }
 
-pub answered_call : (node : ℕ) (want : Want) (now at : ℕ) (act : Act) (old new : Seat) (t : Tell) (o : Option ℕ) (d : DoesCommand node act at old new) → act ≡ act_of (own_call want now)
-    → o ≡ Some at → ((m : Made) → slice_get new.made.items at ≡ Some m → t ≡ told_of (response_of m.reply) m.place)
-    → Does (λ calls. IsAnswered (Call node want) now calls t (data_read (call_at new.made.items o))) old new
-answered_call node want now at act old new t o d asked at_is told = record {
-  more = d.own ∷ d.behind;
-  has = d.has;
-  is = inl (told_made old.who d.own, subst (λ (a : Act). IsCommand node a (told_made old.who d.own) (map (told_made old.who) (d.own ∷ d.behind))) asked (is_command node act at old new d), (told d.own d.at, data_at node act at old new d o at_is));
-}
+  pub answered_call : (node : ℕ) (want : Want) (at : ℕ) (act : Act) (old new : Seat) (t : Tell) (o : Option ℕ) (d : DoesCommand node act at old new) → ask ≡ Call node want → act ≡ act_of (own_call want now)
+      → o ≡ Some at → ((m : Made) → slice_get new.made.items at ≡ Some m → t ≡ told_of (response_of m.reply) m.place)
+      → Does (λ calls. IsAnswered ask now calls t (data_read (call_at new.made.items o))) old new
+  answered_call node want at act old new t o d is asked at_is told = record {
+    more = d.own ∷ d.behind;
+    has = d.has;
+    is = inl (subst (λ (k : Ask). IsAnsweredBy k now (map (told_made old.who) (d.own ∷ d.behind)) t (data_read (call_at new.made.items o))) (sym is)
+        (told_made old.who d.own, subst (λ (a : Act). IsCommand node a (told_made old.who d.own) (map (told_made old.who) (d.own ∷ d.behind))) asked (is_command node act at old new d), (told d.own d.at, data_at node act at old new d o at_is)));
+  }
 
-nothing_read : (new : Seat) (o : Option ℕ) → o ≡ None → data_read (call_at new.made.items o) ≡ []
-nothing_read new o e = ap (λ (z : Option ℕ). data_read (call_at new.made.items z)) e
+  nothing_read : (new : Seat) (o : Option ℕ) → o ≡ None → data_read (call_at new.made.items o) ≡ []
+  nothing_read new o e = ap (λ (z : Option ℕ). data_read (call_at new.made.items z)) e
 
-pub answered_leave : (now : ℕ) (old new : Seat) (t : Tell) (o : Option ℕ) → Does (AreClosings (DEMUX_NODES + 1)) old new → (t ≡ refusal 0) × (o ≡ None)
-    → Does (λ calls. IsAnswered Leave now calls t (data_read (call_at new.made.items o))) old new
-answered_leave now old new t o d told = record { more = d.more; has = d.has; is = inl (d.is, (told.0, nothing_read new o told.1)) }
+  pub answered_leave : (old new : Seat) (t : Tell) (o : Option ℕ) → ask ≡ Leave → Does (AreClosings (DEMUX_NODES + 1)) old new → (t ≡ refusal 0) × (o ≡ None)
+      → Does (λ calls. IsAnswered ask now calls t (data_read (call_at new.made.items o))) old new
+  answered_leave old new t o is d told = record { more = d.more; has = d.has; is = inl (subst (λ (k : Ask). IsAnsweredBy k now (map (told_made old.who) d.more) t (data_read (call_at new.made.items o))) (sym is) (d.is, (told.0, nothing_read new o told.1))) }
 
-pub answered_refused : (code now : ℕ) (s : Seat) (t : Tell) (o : Option ℕ) → (t ≡ refusal code) × (o ≡ None)
-    → Does (λ calls. IsAnswered (RefusedAsk code) now calls t (data_read (call_at s.made.items o))) s s
-answered_refused code now s t o told = record { more = []; has = made_none s; is = inl (refl, (told.0, nothing_read s o told.1)) }
+  pub answered_refused : (code : ℕ) (s : Seat) (t : Tell) (o : Option ℕ) → ask ≡ RefusedAsk code → (t ≡ refusal code) × (o ≡ None)
+      → Does (λ calls. IsAnswered ask now calls t (data_read (call_at s.made.items o))) s s
+  answered_refused code s t o is told = record { more = []; has = made_none s; is = inl (subst (λ (k : Ask). IsAnsweredBy k now [] t (data_read (call_at s.made.items o))) (sym is) (refl, (told.0, nothing_read s o told.1))) }
 
--- for want of memory
-pub answered_wanting : (ask : Ask) (now : ℕ) (s : Seat) (t : Tell) (o : Option ℕ) → (t ≡ refusal 12) × (o ≡ None)
-    → Does (λ calls. IsAnswered ask now calls t (data_read (call_at s.made.items o))) s s
-answered_wanting ask now s t o told = record { more = []; has = made_none s; is = inr (refl, (told.0, nothing_read s o told.1)) }
+  -- for want of memory
+  pub answered_wanting : (s : Seat) (t : Tell) (o : Option ℕ) → (t ≡ refusal ENOMEM) × (o ≡ None)
+      → Does (λ calls. IsAnswered ask now calls t (data_read (call_at s.made.items o))) s s
+  answered_wanting s t o told = record { more = []; has = made_none s; is = inr (refl, (told.0, nothing_read s o told.1)) }
 
 pub has_answered : (ask : Ask) (now : ℕ) (old mid new : Seat) (t : Tell) (bytes : List ℕ) → log_of mid ≡ log_of old → Does (λ calls. IsAnswered ask now calls t bytes) mid new → HasAnswered ask now old new t bytes
 has_answered ask now old mid new t bytes same d = record {

@@ -45,24 +45,13 @@ log_long s =
     let a = length-append (map told_entry s.log.items) (map (told_made s.who) s.made.items) in
     let b = length-map s.log.items told_entry in let c = length-map s.made.items (told_made s.who) in omega (arith, a, b, c)
 
--- one call more
-pub log_one : (a b : Seat) (m : Made) → b.log.items ≡ a.log.items → b.made.items ≡ a.made.items ++ m ∷ [] → b.who ≡ a.who → log_of b ≡ log_of a ++ told_made a.who m ∷ []
-log_one a b m l is w =
-    ap (λ (k : List ToldEntry). map told_entry k ++ map (told_made b.who) b.made.items) l
-    ∙ (ap (λ (n : ℕ). map told_entry a.log.items ++ map (told_made n) b.made.items) w
-    ∙ (ap (λ (k : List Made). map told_entry a.log.items ++ map (told_made a.who) k) is
-    ∙ (ap (λ (k : List LogEntry). map told_entry a.log.items ++ k) (map-append (told_made a.who) a.made.items (m ∷ []))
-    ∙ sym (append_assoc (map told_entry a.log.items) (map (told_made a.who) a.made.items) (told_made a.who m ∷ [])))))
-
-pub goes_one : (a b : Seat) (m : Made) → log_of b ≡ log_of a ++ told_made a.who m ∷ [] → m.step ≡ length a.log.items + length a.made.items → MakesCall (told_made a.who m) a.client b.client → GoesOn a b
-goes_one a b m is step made = record {
-  calls = told_made a.who m ∷ [];
-  log = is;
-  made = (b.client, step ∙ sym (log_long a), made, refl);
-}
-
-pub nodes_one : (a b : Seat) (m : Made) → log_of b ≡ log_of a ++ told_made a.who m ∷ [] → m.node ≤ DEMUX_NODES → AreOnNodes (log_of a) → AreOnNodes (log_of b)
-nodes_one a b m is low all = subst AreOnNodes (sym is) (All-push (λ (e : LogEntry). e.node ≤ DEMUX_NODES) (log_of a) (told_made a.who m) all low)
+-- one call more, behind these
+pub log_one : (who : ℕ) (log : List ToldEntry) (made new : List Made) (m : Made) → new ≡ made ++ m ∷ []
+    → map told_entry log ++ map (told_made who) new ≡ (map told_entry log ++ map (told_made who) made) ++ told_made who m ∷ []
+log_one who log made new m is =
+    ap (λ (k : List Made). map told_entry log ++ map (told_made who) k) is
+    ∙ (ap (λ (k : List LogEntry). map told_entry log ++ k) (map-append (told_made who) made (m ∷ []))
+    ∙ sym (append_assoc (map told_entry log) (map (told_made who) made) (told_made who m ∷ [])))
 
 -- where it has made no call
 pub kept_goes : (a b : Seat) → b.client ≡ a.client → log_of b ≡ log_of a → GoesOn a b

@@ -12,15 +12,14 @@ use Rattle.dmx_calls.specs.Entries.{caller_of}
 use Rattle.dmx_calls.specs.Facts.{Facts, Ledger, facts}
 use Rattle.dmx_calls.specs.declared.node.NodeKind.{NodeKind}
 use Rattle.dmx_calls.specs.declared.node.NodeKind.TheVariants.{Demux, Dvr}
-use Rattle.dmx_calls.specs.declared.reply.Tap.{Tap as TapChange}
 use Rattle.dmx_calls.specs.History.{Entry, History, event, entry_of}
 use Rattle.dmx_calls.specs.Invocation.{Invocation, Open, Close, SetFilter, SetPes, AddPid, RemovePid, Start, Stop, SetSize, Read, Poll, Pass, End, Attach, Detach}
 use Rattle.dmx_calls.specs.Log.{act_of}
-use Rattle.dmx_calls.specs.Response.{Response, is_accepted}
+use Rattle.dmx_calls.specs.Response.{Response, TapChange, is_accepted}
 use Rattle.dmx_calls.specs.Rules.{Rules, rules_at}
 use Rattle.dmx_calls.specs.Answer.{answer, answer_by, with_call, done_dropping, tap_of_done, is_owned_by}
 use Rattle.dmx_calls.specs.Legal.{May, IsLegalFor}
-use Rattle.dmx_calls.specs.Tenure.{opens, closes, owner}
+use Rattle.dmx_calls.specs.Tenure.{opens, closes, tenure, owner}
 use Rattle.adapter.specs.Callers.{Caller, IsFreshCaller}
 use Rattle.adapter.specs.Nodes.{MakesEntry, IsLegalAt}
 use Rattle.adapter.proofs.Lists.{at_place, set_there, set_elsewhere, one_value}

@@ -24,23 +24,24 @@ who_of : Option Since → Option ℕ
 who_of t = option_map (λ (s : Since). s.by.entry.who) t
 
 also_who : (ev : Event) (t : Option Since) → who_of (also ev t) ≡ who_of t
+unfolding who_of
 also_who ev None = refl
 also_who ev (Some s) = refl
 
 pub owner_refused : (e : Entry) (h : History) → is_accepted e.response ≡ false → owner (e ∷ h) ≡ owner h
-unfolding owner
+unfolding owner tenure who_of
 owner_refused e h nay = ap who_of (tenure_refused e h nay)
 
 pub owner_opened : (e : Entry) (h : History) → is_accepted e.response ≡ true → opens (event e h) ≡ true → owner (e ∷ h) ≡ Some e.who
-unfolding owner
+unfolding owner tenure who_of
 owner_opened e h ok yea = ap who_of (tenure_opened e h ok yea)
 
 pub owner_closed : (e : Entry) (h : History) → is_accepted e.response ≡ true → opens (event e h) ≡ false → closes (event e h) ≡ true → owner (e ∷ h) ≡ None
-unfolding owner
+unfolding owner tenure who_of
 owner_closed e h ok nay yea = ap who_of (tenure_closed e h ok nay yea)
 
 pub owner_also : (e : Entry) (h : History) → is_accepted e.response ≡ true → opens (event e h) ≡ false → closes (event e h) ≡ false → owner (e ∷ h) ≡ owner h
-unfolding owner
+unfolding owner tenure who_of
 owner_also e h ok o c = ap who_of (tenure_also e h ok o c) ∙ also_who (event e h) (tenure h)
 
 -- By a call that is no Open of its own nobody becomes the owner.
@@ -87,12 +88,12 @@ module _ (who : ℕ) (S : List Entry → Type 0) (e : Entry) (place : ℕ) (p q 
   others j x low at is =
       let there : get_elem? q.1.seen j ≡ some x = subst (λ (l : List Entry). get_elem? l j ≡ some x) (sym more.now) (prefix_at more.before (more.before ++ e ∷ []) j x (e ∷ [], refl) at) in
       let mine : Has q.1.numbers (caller_of x) = subst (λ (ns : List ℕ). Has ns (caller_of x)) (sym still_own.numbers) (inl (sym is)) in
-      let told : Has (p.1.own ++ (p.1.number, place) ∷ []) (caller_of x, j) = subst (λ (l : List (ℕ × ℕ)). Has l (caller_of x, j)) more.told ((more.calls.only j x there).1 mine) in
+      let told : Has {A = ℕ × ℕ} (p.1.own ++ (p.1.number, place) ∷ []) (caller_of x, j) = subst (λ (l : List (ℕ × ℕ)). Has {A = ℕ × ℕ} l (caller_of x, j)) more.told ((more.calls.only j x there).1 mine) in
       ⊎_elim
       (λ old. let s = k.calls.there (caller_of x) j old in let below = at_below p.1.seen j s.0 s.1 in omega arith)
       (λ last. this_place last)
       (has_either p.1.own ((p.1.number, place) ∷ []) (caller_of x, j) told) where
-        this_place : Has ((p.1.number, place) ∷ []) (caller_of x, j) → ⊥
+        this_place : Has {A = ℕ × ℕ} ((p.1.number, place) ∷ []) (caller_of x, j) → ⊥
         this_place last = ⊎_elim
             (λ same. let here : place ≡ j = ap (λ (z : ℕ × ℕ). z.1) same in let below = at_below more.before j x at in let end = more.at in omega arith)
             (λ none. none)

@@ -1,8 +1,9 @@
 -- The turns of a line.
-use Rattle.std.proofs.Common.{◌≡◌, ◌+◌, ℕ, Bool, true, false, List, [], ◌∷◌, ◌++◌, length, map, Option, refl, ap, sym, ◌∙◌, subst}
+use Rattle.std.proofs.Common.{◌≡◌, ◌+◌, ℕ, Bool, true, false, List, [], ◌∷◌, ◌++◌, length, map, Option, Result, Ok, Err, is_ok, OnOk, refl, ap, sym, ◌∙◌, subst}
 use Rattle.std.proofs.lemmas.List.{append-nil, append_assoc}
 use Rattle.std.proofs.lemmas.List.Concat.{flat_map-append}
 use Rattle.std.specs.Io.KnownBytes.{Appends, Consumes}
+use Rattle.emu_io.specs.Ends.{SourceEnd, SinkEnd}
 use Rattle.dmx_calls.specs.declared.limits.TheConstants.{DEMUX_NODES}
 use Rattle.dmx_calls.specs.Log.{LogEntry}
 use Rattle.serve_frames.specs.Asks.{ask_of}
@@ -17,21 +18,28 @@ use Rattle.seats.specs.Told.{reply_bytes}
 use Rattle.seats.specs.Turns.{Turn, calls_of, IsAsked, IsTold, AreTold, IsLast, HasTurned, HasAnsweredAll}
 use Rattle.seats.proofs.Doing.{log_more}
 
-module _ {T : Type 0} (unread replied : T → Option (List ℕ)) where
+-- where it has succeeded
+pub by_ok : {A E : Type 0} (r : Result A E) (P : Type 0) (b : Bool) → b ≡ is_ok r → OnOk r P → b ≡ true → P
+by_ok (Ok x) P b is ok yea = ok
+by_ok (Err e) P b is ok yea = absurd (let both : false ≡ true = sym is ∙ yea in cc)
+
+module _ {T : Type 0} (source : T → SourceEnd) (sink : T → SinkEnd) where
   -- no whole request was read
-  pub turned_none : (before after : T) (log : List LogEntry) → HasTurned unread replied false before after log log
+  pub turned_none : (before after : T) (log : List LogEntry) → HasTurned source sink false before after log log
   turned_none before after log = ([], tt, sym (append-nil log))
 
   module _ (ask : Ask) (now : ℕ) (old new : Seat) (request : List ℕ) (t : Tell) (bytes : List ℕ) (before asked after : T) (is : ask ≡ ask_of request) (long : length request ≡ REQUEST_LEN)
-      (taken : Consumes (unread before) (unread asked) request) (a : HasAnswered ask now old new t bytes) where
+      (taken : Consumes (source before).left (source asked).left request) (a : HasAnswered ask now old new t bytes) where
     turn : Turn
     turn = record { request = request; now = now; calls = a.calls; told = t; bytes = bytes }
 
-    its_ask : IsAsked unread replied turn before asked
+    its_ask : IsAsked source sink turn before asked
+    unfolding turn
     its_ask = record { turn = record { long = long; is = subst (λ (k : Ask). IsAnswered k now a.calls t bytes) is a.is }; taken = taken }
 
     -- its reply was written whole, or not
-    pub turned_one : (on : Bool) → (on ≡ true → Appends (replied asked) (replied after) (reply_bytes t bytes)) → HasTurned unread replied on before after (log_of old) (log_of new)
+    pub turned_one : (on : Bool) → (on ≡ true → Appends (sink asked).written (sink after).written (reply_bytes t bytes)) → HasTurned source sink on before after (log_of old) (log_of new)
+    unfolding turn
     turned_one true whole = (turn, record { asked = asked; is = its_ask; told = whole refl }, a.log)
     turned_one false whole = (turn ∷ [], (asked, its_ask), a.log ∙ ap (λ (l : List LogEntry). log_of old ++ l) (sym (append-nil a.calls)))
 
@@ -40,20 +48,20 @@ module _ {T : Type 0} (unread replied : T → Option (List ℕ)) where
   -- these were answered, and told whole
   pub record HaveTold (line at : T) (old new : List LogEntry) : Type 0 where
     pub turns : List Turn
-    pub told : AreTold unread replied line turns at
+    pub told : AreTold source sink line turns at
     pub log : new ≡ old ++ calls_of turns
 
   pub told_none : (line : T) (log : List LogEntry) → HaveTold line line log log
   told_none line log = record { turns = []; told = refl; log = sym (append-nil log) }
 
-  told_last : (line at next : T) (ts : List Turn) (t : Turn) → AreTold unread replied line ts at → IsTold unread replied t at next → AreTold unread replied line (ts ++ t ∷ []) next
-  told_last line at next [] t is one = (next, subst (λ (l : T). IsTold unread replied t l next) is one, refl)
+  told_last : (line at next : T) (ts : List Turn) (t : Turn) → AreTold source sink line ts at → IsTold source sink t at next → AreTold source sink line (ts ++ t ∷ []) next
+  told_last line at next [] t is one = (next, subst (λ (l : T). IsTold source sink t l next) is one, refl)
   told_last line at next (u ∷ us) t is one = (is.0, is.1, told_last is.0 at next us t is.2 one)
 
   calls_more : (ts us : List Turn) → calls_of (ts ++ us) ≡ calls_of ts ++ calls_of us
   calls_more ts us = flat_map-append (λ (t : Turn). t.calls) ts us
 
-  pub told_more : (line at next : T) (a b c : List LogEntry) (on : Bool) → HaveTold line at a b → HasTurned unread replied on at next b c → on ≡ true → HaveTold line next a c
+  pub told_more : (line at next : T) (a b c : List LogEntry) (on : Bool) → HaveTold line at a b → HasTurned source sink on at next b c → on ≡ true → HaveTold line next a c
   told_more line at next a b c true h one is = record {
     turns = h.turns ++ one.0 ∷ [];
     told = told_last line at next h.turns one.0 h.told one.1;
@@ -62,8 +70,8 @@ module _ {T : Type 0} (unread replied : T → Option (List ℕ)) where
   }
   told_more line at next a b c false h one is = absurd (cc is)
 
-  pub answered_all : (line at next : T) (old mid new last : Seat) (on : Bool) → HaveTold line at (log_of old) (log_of mid) → HasTurned unread replied on at next (log_of mid) (log_of new) → on ≡ false
-      → Does (AreClosings (DEMUX_NODES + 1)) new last → HasAnsweredAll unread replied line (log_of old) (log_of last)
+  pub answered_all : (line at next : T) (old mid new last : Seat) (on : Bool) → HaveTold line at (log_of old) (log_of mid) → HasTurned source sink on at next (log_of mid) (log_of new) → on ≡ false
+      → Does (AreClosings (DEMUX_NODES + 1)) new last → HasAnsweredAll source sink line (log_of old) (log_of last)
   answered_all line at next old mid new last true h one is d = absurd (cc is)
   answered_all line at next old mid new last false h one is d = record {
     turns = h.turns;

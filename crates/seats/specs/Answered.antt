@@ -32,11 +32,11 @@ IsBehind None calls = calls ≡ []
 IsBehind (Some act) calls = (e : LogEntry) × (calls ≡ e ∷ []) × (e.node ≡ DEMUX_NODES) × (e.act ≡ act)
 
 -- A command: one call on a node, and behind it what its reply asks of the dvr node.
-pub record IsCommand (at : ℕ) (does : Act) (own : LogEntry) (calls : List LogEntry) : Type 0 where
+pub record IsCommand (at : ℕ) (does : Act) (own : LogEntry) (all : List LogEntry) : Type 0 where
   pub node : own.node ≡ at
   pub act : own.act ≡ does
   pub behind : List LogEntry
-  pub calls : calls ≡ own ∷ behind
+  pub calls : all ≡ own ∷ behind
   pub is : IsBehind (act_behind at own.response) behind
 
 abbrev pub is_busy : Response → Bool
@@ -71,17 +71,21 @@ refusal code = tell code 0 NO_PLACE
 abbrev pub IsRefusal : (code : ℕ) → Tell → (bytes : List ℕ) → Type 0
 IsRefusal code t bytes = (t ≡ refusal code) × (bytes ≡ [])
 
+-- what is told where this call has opened a node
+abbrev pub told_opened : (node : ℕ) → Response → (place : ℕ) → Tell
+told_opened node r place = tell (told_of r place).code node place
+
 -- the first demux node that is free is opened, and its number is told
-pub record IsOpened (calls : List LogEntry) (t : Tell) (bytes : List ℕ) : Type 0 where
+pub record IsOpened (all : List LogEntry) (t : Tell) (bytes : List ℕ) : Type 0 where
   pub busy : List LogEntry
   pub own : LogEntry
   pub mine : List LogEntry
-  pub calls : calls ≡ busy ++ mine
+  pub calls : all ≡ busy ++ mine
   pub few : length busy < DEMUX_NODES
   pub tried : AreBusy busy
   pub command : IsCommand (length busy) OpenAct own mine
   pub free : is_busy own.response ≡ false
-  pub told : t ≡ record { code = (told_of own.response own.place).code; value = length busy; place = own.place }
+  pub told : t ≡ told_opened (length busy) own.response own.place
   pub read : bytes ≡ data_of own.response
 
 -- all demux nodes are busy

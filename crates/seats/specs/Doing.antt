@@ -23,21 +23,21 @@ pub record Does (P : List LogEntry → Type 0) (old new : Seat) : Type 0 where
   pub is : P (map (told_made old.who) more)
 
 -- It has made one call on a node.
-pub record MakesOne (node : ℕ) (act : Act) (old new : Seat) : Type 0 where
+pub record MakesOne (on : ℕ) (does : Act) (old new : Seat) : Type 0 where
   pub own : Made
   pub has : HasMade (own ∷ []) old new
-  pub node : own.node ≡ node
-  pub act : own.act ≡ act
+  pub node : own.node ≡ on
+  pub act : own.act ≡ does
 
 -- It has made a call on a node, which stands in this place of its last calls, and behind it what the reply asks of the dvr node.
-pub record DoesCommand (node : ℕ) (act : Act) (at : ℕ) (old new : Seat) : Type 0 where
+pub record DoesCommand (on : ℕ) (does : Act) (place : ℕ) (old new : Seat) : Type 0 where
   pub own : Made
   pub behind : List Made
   pub has : HasMade (own ∷ behind) old new
-  pub at : slice_get new.made.items at ≡ Some own
-  pub node : own.node ≡ node
-  pub act : own.act ≡ act
-  pub is : IsBehind (act_behind node (response_of own.reply)) (map (told_made old.who) behind)
+  pub at : slice_get new.made.items place ≡ Some own
+  pub node : own.node ≡ on
+  pub act : own.act ≡ does
+  pub is : IsBehind (act_behind on (response_of own.reply)) (map (told_made old.who) behind)
 
 -- A request is answered by the calls by which its log has grown.
 pub record HasAnswered (ask : Ask) (now : ℕ) (old new : Seat) (t : Tell) (bytes : List ℕ) : Type 0 where

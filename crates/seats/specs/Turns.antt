@@ -2,6 +2,7 @@
 use Rattle.std.specs.Prelude.{◌≡◌, ◌++◌, ◌∷◌, [], ◌+◌, ℕ, Bool, true, false, List, length, Option}
 use Rattle.std.specs.List.{flat_map}
 use Rattle.std.specs.Io.KnownBytes.{Appends, Consumes}
+use Rattle.emu_io.specs.Ends.{SourceEnd, SinkEnd}
 use Rattle.dmx_calls.specs.declared.limits.TheConstants.{DEMUX_NODES}
 use Rattle.dmx_calls.specs.Log.{LogEntry}
 use Rattle.serve_frames.specs.Asks.{ask_of}
@@ -27,17 +28,17 @@ pub record IsTurn (t : Turn) : Type 0 where
 abbrev pub calls_of : List Turn → List LogEntry
 calls_of turns = flat_map (λ t. t.calls) turns
 
-module _ {T : Type 0} (unread replied : T → Option (List ℕ)) where
+module _ {T : Type 0} (source : T → SourceEnd) (sink : T → SinkEnd) where
   -- the request is taken from the line
   pub record IsAsked (t : Turn) (before asked : T) : Type 0 where
     pub turn : IsTurn t
-    pub taken : Consumes (unread before) (unread asked) t.request
+    pub taken : Consumes (source before).left (source asked).left t.request
 
   -- and its reply is written to it, whole
   pub record IsTold (t : Turn) (before after : T) : Type 0 where
     pub asked : T
     pub is : IsAsked t before asked
-    pub told : Appends (replied asked) (replied after) (reply_bytes t.told t.bytes)
+    pub told : Appends (sink asked).written (sink after).written (reply_bytes t.told t.bytes)
 
   -- each of these, one after another
   abbrev pub AreTold : T → List Turn → T → Type 0

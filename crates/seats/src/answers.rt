@@ -9,7 +9,7 @@ ghost use Rattle.script_run.specs.SoFar.{PassesNone};
 ghost use Rattle.serve_frames.specs.Asks.{IsAskInRange, IsWantInRange};
 ghost use Rattle.serve_frames.specs.Tells.{told_of};
 ghost use Rattle.seats.specs.declared.made.Made.{Made};
-ghost use Rattle.seats.specs.Answered.{is_busy as is_busy_by, refusal, AreClosings, IsAnswered, IsClosing, IsFull, IsOpened};
+ghost use Rattle.seats.specs.Answered.{is_busy as is_busy_by, refusal, told_opened, AreClosings, IsAnswered, IsClosing, IsFull, IsOpened};
 ghost use Rattle.seats.specs.Doing.{Does, DoesCommand, HasAnswered};
 ghost use Rattle.seats.specs.Holding.{HasLeft};
 ghost use Rattle.seats.specs.Seated.{IsFit, HasRoom, GoesOn};
@@ -78,6 +78,24 @@ impl Seat {
         }
     }
 
+    // The last call in this place, which has opened a node, as it is told.
+    fn told_open(&self, at: usize, node: u32) -> Answered
+        requires at { at < length self.now.made.items }
+        ensures at { result.at ≡ Some at }
+        ensures told { (m : Made) → slice_get self.now.made.items at ≡ Some m → result.tell ≡ told_opened node (response_of m.reply) m.place }
+    {
+        let call = &self.made[at];
+        let told = Tell::of(&call.reply, call.place);
+        Answered {
+            tell: Tell {
+                code: told.code,
+                value: node,
+                place: call.place,
+            },
+            at: Some(at),
+        }
+    }
+
     // Does one command on a node, for which there is room.
     fn command<L: Ledger, R: Wait>(
         &mut self,
@@ -129,9 +147,7 @@ impl Seat {
                 continue;
             }
             self.keep(from, OutcomeKind::Done);
-            let mut told = self.told_at(at);
-            told.tell.value = node;
-            return told;
+            return self.told_open(at, node);
         }
         self.keep(from, OutcomeKind::Emfile);
         refused(EMFILE)

@@ -44,7 +44,7 @@ pub struct Seat {
 // What the dvr node is to be told behind this reply of a node.
 fn told_dvr(node: u32, reply: &Reply) -> Option<Call>
     ensures bare { IfSome result (λ call. PassesNone (act_of (invocation_of call)) × (invocation_of call ≢ asks.Open)) }
-    ensures asks { option_map (λ call. act_of (invocation_of call)) result ≡ act_behind node (response_of reply.now) }
+    ensures acts { option_map (λ call. act_of (invocation_of call)) result ≡ act_behind node (response_of reply.now) }
 {
     if node == DEMUX_NODES {
         return None;
@@ -177,7 +177,7 @@ impl Seat {
     /// Keeps how a command ended, for which there is room; so many calls were made before its first.
     pub fn keep(&mut self, from: u64, kind: OutcomeKind)
         requires few { length self.old.log.items + length self.old.made.items ≤ 2 ^ 40 }
-        requires room { HasRoom 1 self.old }
+        requires room { length self.old.outcomes.items + 1 ≤ vec_capacity self.old.outcomes }
         ensures fit { (locks : List TableId) → IsFit locks self.old → IsFit locks self.new }
         ensures goes { GoesOn self.old self.new }
         ensures one { length self.new.outcomes.items ≡ length self.old.outcomes.items + 1 }

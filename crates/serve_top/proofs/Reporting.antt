@@ -6,7 +6,7 @@ use Rattle.std.proofs.lemmas.Option.{slice_get-map, slice_get-get_or}
 use Rattle.adapter.specs.Nodes.{is_in}
 use Rattle.dmx_calls.specs.declared.limits.TheConstants.{DEMUX_NODES}
 use Rattle.std.specs.Io.KnownBytes.{Appends}
-use Rattle.emu_io.specs.Ends.{SourceEnd}
+use Rattle.emu_io.specs.Ends.{SourceEnd, SinkEnd}
 use Rattle.atomic_table.specs.Seated.{TableId}
 use Rattle.ts_packet.specs.Cut.{cut}
 use Rattle.ts_packet.specs.declared.size.PacketSize.{PacketSize}
@@ -38,8 +38,8 @@ desks_ready locks clients desks ready k d low =
     let x = slice_index_or desks k d in
     (ready.each k x.seat (slice_get-map (λ (z : Desk _). z.seat) desks k ∙ ap (option_map (λ (z : Desk _). z.seat)) (slice_get-get_or desks k d low))).0
 
-module _ {T : Type 0} (unread replied : T → Option (List ℕ)) (lines : List T) (locks : List TableId) (n : ℕ) (feeder : Caller) (clients : List Caller) (fresh : AreFreshCallers locks n feeder clients) (all : AreAllCallers locks (clients ++ feeder ∷ []))
-    (old new : List (Desk T)) (ready : AreReady locks clients (map (λ (d : Desk T). d.seat) old)) (served : HaveServed unread replied locks old new) (are : map (λ (d : Desk T). d.line) old ≡ reverse lines)
+module _ {T : Type 0} (source : T → SourceEnd) (sink : T → SinkEnd) (lines : List T) (locks : List TableId) (n : ℕ) (feeder : Caller) (clients : List Caller) (fresh : AreFreshCallers locks n feeder clients) (all : AreAllCallers locks (clients ++ feeder ∷ []))
+    (old new : List (Desk T)) (ready : AreReady locks clients (map (λ (d : Desk T). d.seat) old)) (served : HaveServed source sink locks old new) (are : map (λ (d : Desk T). d.line) old ≡ reverse lines)
     (may : ℕ → Bool) (x y : SourceEnd) (first : Pulling) (size : first.cutting.size ≡ Of188) (pulls : Pulls [] [] [] first)
     (f : FeederWorker) (passed : HasPassedAll every 64 may x y first f) (what : Left) (is : IsLeftBy f new what) where
   taken : List ℕ
@@ -49,12 +49,12 @@ module _ {T : Type 0} (unread replied : T → Option (List ℕ)) (lines : List T
   fed = subst (λ (s : PacketSize). HasFedAll every 64 may (cut s taken).packets f.feeder f.feeding.items) size (worked_feeder every 64 may x y first f passed [] pulls)
 
   called : HaveCalled every (cut Of188 taken).packets f.feeder f.feeding.items (map (λ (d : Desk T). d.seat.client) new) (map (λ (d : Desk T). log_of d.seat) new)
-  called = have_called unread replied locks n feeder clients fresh all old new ready served 64 may (cut Of188 taken).packets f.feeder f.feeding.items fed
+  called = have_called source sink locks n feeder clients fresh all old new ready served 64 may (cut Of188 taken).packets f.feeder f.feeding.items fed
 
   head : told_head what.head ≡ head_of Of188 taken (has_failed f.puller.reading)
   head = is.head taken passed.packets (passed.draws.carries.pulls [] [] [] pulls) ∙ ap (λ (s : PacketSize). head_of s taken (has_failed f.puller.reading)) (passed.draws.carries.size ∙ size)
 
-  pub has_reported : (was now : Option (List ℕ)) (told : List (List Outcome)) → Appends was now (report_of (told_head what.head) told what.histories) → HasReported unread replied lines may x y was now
+  pub has_reported : (was now : Option (List ℕ)) (told : List (List Outcome)) → Appends was now (report_of (told_head what.head) told what.histories) → HasReported source sink lines may x y was now
   has_reported was now told written = record {
     taken = taken;
     consumes = passed.draws.carries.consumes;
@@ -65,8 +65,8 @@ module _ {T : Type 0} (unread replied : T → Option (List ℕ)) (lines : List T
     clients = map (λ (d : Desk T). d.seat.client) new;
     books = map (λ (d : Desk T). log_of d.seat) new;
     called = called;
-    asked = have_answered unread replied locks n feeder clients fresh all old new ready served lines are;
-    left = have_left unread replied locks n feeder clients fresh all old new ready served;
+    asked = have_answered source sink locks n feeder clients fresh all old new ready served lines are;
+    left = have_left source sink locks n feeder clients fresh all old new ready served;
     histories = what.histories;
     tells = is.tells every (cut Of188 taken).packets called;
     told = told;

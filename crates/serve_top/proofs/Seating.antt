@@ -5,6 +5,7 @@ use Rattle.std.proofs.lemmas.Option.{slice_get-map, get_or_from_slice_get, slice
 use Rattle.std.proofs.lemmas.List.{length-map}
 use Rattle.std.proofs.lemmas.List.Elements.{All-nil}
 use Rattle.atomic_table.specs.Seated.{TableId}
+use Rattle.emu_io.specs.Ends.{SourceEnd, SinkEnd}
 use Rattle.dmx_calls.specs.declared.histories.Fed.{Fed}
 use Rattle.dmx_calls.specs.declared.limits.TheConstants.{DEMUX_NODES}
 use Rattle.dmx_calls.specs.Log.{LogEntry}
@@ -28,14 +29,14 @@ use Rattle.seats.specs.Turns.{HasAnsweredAll}
 use Rattle.serve_top.specs.Reported.{every}
 use Rattle.serve_top.proofs.Logged.{same_calls, logged_calls, passes_calls}
 
-module _ {T : Type 0} (unread replied : T → Option (List ℕ)) (locks : List TableId) (n : ℕ) (feeder : Caller) (clients : List Caller) (fresh : AreFreshCallers locks n feeder clients) (all : AreAllCallers locks (clients ++ feeder ∷ []))
-    (old new : List (Desk T)) (ready : AreReady locks clients (map (λ (d : Desk T). d.seat) old)) (h : HaveServed unread replied locks old new) where
+module _ {T : Type 0} (source : T → SourceEnd) (sink : T → SinkEnd) (locks : List TableId) (n : ℕ) (feeder : Caller) (clients : List Caller) (fresh : AreFreshCallers locks n feeder clients) (all : AreAllCallers locks (clients ++ feeder ∷ []))
+    (old new : List (Desk T)) (ready : AreReady locks clients (map (λ (d : Desk T). d.seat) old)) (h : HaveServed source sink locks old new) where
   -- its seat before
-  served_at : (k : ℕ) (d : Desk T) → slice_get new k ≡ Some d → (b : Desk T) × (slice_get old k ≡ Some b) × HasServed unread replied locks b.line b.seat d.seat
+  served_at : (k : ℕ) (d : Desk T) → slice_get new k ≡ Some d → (b : Desk T) × (slice_get old k ≡ Some b) × HasServed source sink locks b.line b.seat d.seat
   served_at k d at =
       let low = slice_get_within new k d at in let long = h.long in let b = at_place old k (omega arith) in
       let s = h.each k d (omega arith) in
-      (b.0, b.1, subst (λ (z : Desk T). HasServed unread replied locks z.line z.seat d.seat) (get_or_from_slice_get old k b.0 d b.1) (subst (λ (z : Desk T). HasServed unread replied locks (slice_index_or old k d).line (slice_index_or old k d).seat z.seat) (get_or_from_slice_get new k d d at) s))
+      (b.0, b.1, subst (λ (z : Desk T). HasServed source sink locks z.line z.seat d.seat) (get_or_from_slice_get old k b.0 d b.1) (subst (λ (z : Desk T). HasServed source sink locks (slice_index_or old k d).line (slice_index_or old k d).seat z.seat) (get_or_from_slice_get new k d d at) s))
 
   seat_at : (k : ℕ) (b : Desk T) → slice_get old k ≡ Some b → slice_get (map (λ (d : Desk T). d.seat) old) k ≡ Some b.seat
   seat_at k b at = slice_get-map (λ (d : Desk T). d.seat) old k ∙ ap (option_map (λ (d : Desk T). d.seat)) at
@@ -129,10 +130,10 @@ module _ {T : Type 0} (unread replied : T → Option (List ℕ)) (locks : List T
 
   -- what each has called is what the requests of its line ask for
   pub have_answered : (lines : List T) → map (λ (d : Desk T). d.line) old ≡ reverse lines → (k : ℕ) (book : List LogEntry) → slice_get (map (λ (d : Desk T). log_of d.seat) new) k ≡ Some book
-      → (line : T) × (slice_get (reverse lines) k ≡ Some line) × HasAnsweredAll unread replied line [] book
+      → (line : T) × (slice_get (reverse lines) k ≡ Some line) × HasAnsweredAll source sink line [] book
   have_answered lines are k book at =
       let v = mapped (λ (x : Desk T). log_of x.seat) new k book at in
       let u = served_at k v.0 v.1 in
       let from : log_of u.0.seat ≡ [] = (ready.each k u.0.seat (seat_at k u.0 u.1)).1 in
       let there : slice_get (reverse lines) k ≡ Some u.0.line = ap (λ (l : List T). slice_get l k) (sym are) ∙ (slice_get-map (λ (d : Desk T). d.line) old k ∙ ap (option_map (λ (d : Desk T). d.line)) u.1) in
-      (u.0.line, there, subst (HasAnsweredAll unread replied u.0.line []) v.2 (subst (λ (l : List LogEntry). HasAnsweredAll unread replied u.0.line l (log_of v.0.seat)) from u.2.answers))
+      (u.0.line, there, subst (HasAnsweredAll source sink u.0.line []) v.2 (subst (λ (l : List LogEntry). HasAnsweredAll source sink u.0.line l (log_of v.0.seat)) from u.2.answers))

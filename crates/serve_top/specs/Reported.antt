@@ -1,7 +1,7 @@
 -- What a server has done where it has written its report.
 use Rattle.std.specs.Prelude.{◌≡◌, ◌≤◌, ℕ, Bool, true, List, [], map, reverse, slice_get, Some, Option}
 use Rattle.std.specs.Io.KnownBytes.{Appends, Consumes}
-use Rattle.emu_io.specs.Ends.{SourceEnd}
+use Rattle.emu_io.specs.Ends.{SourceEnd, SinkEnd}
 use Rattle.ts_packet.specs.Cut.{cut}
 use Rattle.ts_packet.specs.declared.size.PacketSize.TheVariants.{Of188}
 use Rattle.ts_watch.specs.Head.{told_head, head_of}
@@ -27,9 +27,8 @@ use Rattle.serve_top.specs.declared.left.Left.{Left}
 abbrev pub every : (node : ℕ) → Bool
 every node = true
 
--- What was read of the stream, what was called by whom and why, and the report that tells just this. Of a line, `unread` is what
--- is left to be read, and `replied` what was written to it, where it tells these.
-pub record HasReported {T : Type 0} (unread replied : T → Option (List ℕ)) (lines : List T) (may : ℕ → Bool)
+-- What was read of the stream, what was called by whom and why, and the report that tells just this.
+pub record HasReported {T : Type 0} (source : T → SourceEnd) (sink : T → SinkEnd) (lines : List T) (may : ℕ → Bool)
     (before after : SourceEnd) (was now : Option (List ℕ)) : Type 0 where
   -- the bytes that were read, and whether a read has failed
   pub taken : List ℕ
@@ -46,7 +45,7 @@ pub record HasReported {T : Type 0} (unread replied : T → Option (List ℕ)) (
   -- these are the calls that the requests of its line ask for, one after another, each told in its reply, and then those by which
   -- all nodes were closed
   pub asked : (c : ℕ) (book : List LogEntry) → slice_get books c ≡ Some book
-      → (line : T) × (slice_get (reverse lines) c ≡ Some line) × HasAnsweredAll unread replied line [] book
+      → (line : T) × (slice_get (reverse lines) c ≡ Some line) × HasAnsweredAll source sink line [] book
   -- and behind them it owns no node
   pub left : (c : ℕ) (client : Caller) → slice_get clients c ≡ Some client → (node : ℕ) → node ≤ DEMUX_NODES
       → HasLeft node client

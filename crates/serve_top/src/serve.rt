@@ -77,7 +77,7 @@ pub fn serve<
     requires few { vec_len lines ≤ 8 }
     requires faults { (S.end source.old).faults < 2 ^ 64 - 1 }
     // The report is that of the stream's bytes and of what was called, which is what the requests on the lines ask for.
-    ensures reported { OnOk result (HasReported (λ at. (T.Source.end at).left) (λ at. (T.Sink.end at).written) lines.items (C.may_give clock.now) (S.end source.old) (S.end source.new) (K.end sink.old).written (K.end sink.new).written) }
+    ensures reported { OnOk result (HasReported T.Source.end T.Sink.end lines.items (C.may_give clock.now) (S.end source.old) (S.end source.new) (K.end sink.old).written (K.end sink.new).written) }
     ensures memory { IsErrOf result NoReport.NoMemory → sink.new ≡ sink.old }
     ensures too_long { IsErrOf result NoReport.TooLong → sink.new ≡ sink.old }
     ensures failed { IsErrOf result NoReport.Failed → (K.end sink.new).faults ≡ raised (K.end sink.old).faults }

@@ -8,7 +8,7 @@ use Rattle.seats.proofs.Ranges.{in_range}
 use Rattle.seats.proofs.answers.own_call.Goals as goal
 
 pub call_of-requires : goal.call_of-requires
-call_of-requires c = in_range c.args.want c.requires
+call_of-requires c = record { range = in_range c.args.want c.requires }
 
 pub returns-clause-bare : goal.returns-clause-bare
 returns-clause-bare c = subst (λ (i : Invocation). PassesNone (act_of i)) (sym c.in_ok-call.ensures.call) (no_pass (Own c.args.want) c.args.now)

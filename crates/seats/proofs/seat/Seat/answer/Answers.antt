@@ -10,3 +10,6 @@ returns-in-Ok-clause-answered g c = has_answered c.args.ask c.args.now c.args.se
 
 pub returns-in-Err-clause-answered : goal.returns-in-Err-clause-answered
 returns-in-Err-clause-answered g c = has_answered c.args.ask c.args.now c.args.self.now c.reserve.new.self c.reserve.new.self _ _ c.reserve.ensures.same (answered_wanting c.args.ask c.args.now c.reserve.new.self _ _ c.refused.ensures)
+
+pub returns-in-Err-clause-room : goal.returns-in-Err-clause-room
+returns-in-Err-clause-room g c = c.reserve.ensures.still 66 c.requires.room

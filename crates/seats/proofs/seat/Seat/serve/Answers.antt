@@ -8,7 +8,7 @@ requests-init g c = record {
   fit = c.requires.ready.fit;
   room = c.requires.ready.room;
   goes = goes_self c.args.self.now;
-  told = told_none (λ at. (g.T.Source.end at).left) (λ at. (g.T.Sink.end at).written) c.args.line.now (log_of c.args.self.now);
+  told = told_none g.T.Source.end g.T.Sink.end c.args.line.now (log_of c.args.self.now);
 }
 
 pub requests-preserved : goal.requests-preserved
@@ -18,15 +18,15 @@ requests-preserved g c =
       fit = e.fit;
       room = e.room;
       goes = goes_trans c.args.self.now c.requests.self c.turn.new.self v.goes e.goes;
-      told = told_more (λ at. (g.T.Source.end at).left) (λ at. (g.T.Sink.end at).written) c.args.line.now c.requests.line c.turn.new.line _ _ _ c.turn.result v.told e.turned ?;
+      told = told_more g.T.Source.end g.T.Sink.end c.args.line.now c.requests.line c.turn.new.line _ _ _ c.turn.result v.told e.turned c.if-not-turn.false;
     }
 
-pub returns-in-requests : goal.returns-in-requests
-returns-in-requests g c =
+pub returns-then-not-turn : goal.returns-then-not-turn
+returns-then-not-turn g c =
     let v = c.requests.invariant in let e = c.turn.ensures in
     record {
       fit = c.leave.ensures.fit;
       goes = goes_trans c.args.self.now c.turn.new.self c.leave.new.self (goes_trans c.args.self.now c.requests.self c.turn.new.self v.goes e.goes) c.leave.ensures.goes;
-      answers = answered_all (λ at. (g.T.Source.end at).left) (λ at. (g.T.Sink.end at).written) c.args.line.now c.requests.line c.turn.new.line c.args.self.now c.requests.self c.turn.new.self c.leave.new.self c.turn.result v.told e.turned ? c.leave.ensures.did;
+      answers = answered_all g.T.Source.end g.T.Sink.end c.args.line.now c.requests.line c.turn.new.line c.args.self.now c.requests.self c.turn.new.self c.leave.new.self c.turn.result v.told e.turned c.if-not-turn.true c.leave.ensures.did;
       left = c.leave.ensures.left;
     }

@@ -10,4 +10,4 @@ returns g c =
     let bytes = data_read (call_at c.args.self.now.made.items c.args.answered.now.at) in
     let head : c.as_slice.result.now ≡ head_of c.args.answered.now.tell (length bytes) = search rules in
     let rest : c.data_at-data.result.now ≡ bytes = search rules in
-    on_ok_weaker c.write_whole-2.result (λ second. rw (← head, ← rest) (Appends-trans _ _ _ _ _ c.in_ok-write_whole.ensures.whole second)) c.write_whole-2.ensures.whole
+    record { whole = on_ok_weaker c.write_whole-2.result (λ second. rw (← head, ← rest) (Appends-trans _ _ _ _ _ c.in_ok-write_whole.ensures.whole second)) c.write_whole-2.ensures.whole }
