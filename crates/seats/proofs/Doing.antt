@@ -130,10 +130,10 @@ closings_more n m a b c e x y = record {
   more = x.more ++ y.more;
   has = made_trans a b c x.more y.more x.has y.has;
   is =
-    let mine : IsClosing n (map (told_made a.who) y.more) = subst (λ (w : ℕ). IsClosing n (map (told_made w) y.more)) x.has.who y.is in
-    let all : AreClosings (suc n) (map (told_made a.who) (x.more ++ y.more)) = (map (told_made a.who) x.more, map (told_made a.who) y.more, map-append (told_made a.who) x.more y.more, x.is, mine) in
-    let next : suc n ≡ m = omega (arith, e) in
-    subst (λ (k : ℕ). AreClosings k (map (told_made a.who) (x.more ++ y.more))) next all;
+      let mine : IsClosing n (map (told_made a.who) y.more) = subst (λ (w : ℕ). IsClosing n (map (told_made w) y.more)) x.has.who y.is in
+      let all : AreClosings (suc n) (map (told_made a.who) (x.more ++ y.more)) = (map (told_made a.who) x.more, map (told_made a.who) y.more, map-append (told_made a.who) x.more y.more, x.is, mine) in
+      let next : suc n ≡ m = omega (arith, e) in
+      subst (λ (k : ℕ). AreClosings k (map (told_made a.who) (x.more ++ y.more))) next all;
 }
 
 -- ------ opening

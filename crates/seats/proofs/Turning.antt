@@ -2,6 +2,8 @@
 use Rattle.std.proofs.Common.{◌≡◌, ◌+◌, ℕ, Bool, true, false, List, [], ◌∷◌, ◌++◌, length, map, Option, Result, Ok, Err, is_ok, OnOk, refl, ap, sym, ◌∙◌, subst}
 use Rattle.std.proofs.lemmas.List.{append-nil, append_assoc}
 use Rattle.std.proofs.lemmas.List.Concat.{flat_map-append}
+use Rattle.std.proofs.KnownBytes.{Appends-trans}
+use Rattle.std.proofs.lemmas.Result.{on_ok_weaker}
 use Rattle.std.specs.Io.KnownBytes.{Appends, Consumes}
 use Rattle.emu_io.specs.Ends.{SourceEnd, SinkEnd}
 use Rattle.dmx_calls.specs.declared.limits.TheConstants.{DEMUX_NODES}
@@ -22,6 +24,14 @@ use Rattle.seats.proofs.Doing.{log_more}
 pub by_ok : {A E : Type 0} (r : Result A E) (P : Type 0) (b : Bool) → b ≡ is_ok r → OnOk r P → b ≡ true → P
 by_ok (Ok x) P b is ok yea = ok
 by_ok (Err e) P b is ok yea = absurd (let both : false ≡ true = sym is ∙ yea in cc)
+
+appended : (a b c : Option (List ℕ)) (h d head bytes : List ℕ) → h ≡ head → d ≡ bytes → Appends a b h → Appends b c d → Appends a c (head ++ bytes)
+appended a b c h d head bytes e f x y =
+    subst (λ (l : List ℕ). Appends a c (l ++ bytes)) e (subst (λ (l : List ℕ). Appends a c (h ++ l)) f (Appends-trans a b c h d x y))
+
+-- a head and the bytes behind it
+pub told_whole : {E : Type 0} (r : Result (Unit {0}) E) (a b c : Option (List ℕ)) (h d head bytes : List ℕ) → h ≡ head → d ≡ bytes → Appends a b h → OnOk r (Appends b c d) → OnOk r (Appends a c (head ++ bytes))
+told_whole r a b c h d head bytes e f x o = on_ok_weaker {P = Appends b c d} {Q = Appends a c (head ++ bytes)} r (λ y. appended a b c h d head bytes e f x y) o
 
 module _ {T : Type 0} (source : T → SourceEnd) (sink : T → SinkEnd) where
   -- no whole request was read

@@ -57,6 +57,14 @@ pub record HasReported {T : Type 0} (source : T → SourceEnd) (sink : T → Sin
 
 -- ------ on the way
 
+-- It is the worker of this feeder, and has drawn and fed nothing yet.
+pub record IsNewFeeder (feeder : Caller) (f : FeederWorker) : Type 0 where
+  pub caller : f.feeder ≡ feeder
+  pub fed : f.feeding.items ≡ []
+  pub given : f.puller.given ≡ 0
+  pub pulls : Pulls [] [] [] f.puller
+  pub size : f.puller.cutting.size ≡ Of188
+
 module _ {T : Type 0} where
   -- these are the clients of the seats, their logs and what became of their commands
   pub record AreBooksOf (desks : List (Desk T)) (books : Books) : Type 0 where

@@ -1,22 +1,38 @@
 // The threads: one for the stream, and one for each seat.
-ghost use Rattle.std.specs.Prelude.{◌≡◌, ◌<◌, ◌≤◌, ◌^◌, ◌-◌, All};
+ghost use Rattle.std.specs.Prelude.{◌≡◌, ◌<◌, ◌≤◌, ◌^◌, ◌-◌, All, IfOk};
 ghost use denote.Param.Send.{IsSync, IsSend};
 ghost use Rattle.adapter.specs.Nodes.{is_in};
 ghost use Rattle.workers.specs.Inside.FeederWork.{MayPass, HasPassed, HasFedToEnd};
 ghost use Rattle.seats.specs.Seated.{IsReady};
 ghost use Rattle.seats.specs.Served.{HaveServed};
+ghost use Rattle.serve_top.specs.Reported.{IsNewFeeder};
 
-use adapter::Adapter;
+use adapter::{Adapter, Feeder};
 use dmx_calls::limits::NODES;
 use emu_io::{Clock, Gate, Sink, Source};
+use feed_pull::Puller;
 use seats::{Desk, sit_all};
-use std::alloc::Global;
+use std::alloc::{AllocError as NoMemory, Global};
 use std::sync::Wait;
 use std::thread::{Threads, join_mut};
+use ts_packet::PacketSize;
 use workers::FeederWorker;
 
 /// The most packets of a batch.
 pub const BATCH: u32 = 64;
+
+/// The worker of this feeder, before its first call, for a stream of packets of 188 bytes of which nothing was read.
+pub fn feeder_of(alloc: Global, feeder: Feeder) -> Result<FeederWorker, NoMemory>
+    ensures { IfOk result (IsNewFeeder feeder) }
+{
+    let puller = Puller::new(alloc, Vec::new(alloc), 0, PacketSize::Of188)?;
+    Ok(FeederWorker {
+        feeder,
+        puller,
+        feeding: Vec::new(alloc),
+        stop: None,
+    })
+}
 
 /// The stream passes these nodes in this thread, while each seat serves its line in another. Where no thread can be made for them, the seats
 /// come behind the stream.

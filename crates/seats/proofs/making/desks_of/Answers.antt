@@ -1,11 +1,17 @@
 use Rattle.std.proofs.Common.{rules, ◌≡◌, ◌+◌, ℕ, List, [], ◌∷◌, ◌++◌, length, map, reverse, refl, sym, ap, ◌∙◌, arith, length-append}
 use Rattle.std.proofs.lemmas.List.{map-append, append-nil, append_assoc, reverse-append}
+use Rattle.std.proofs.lemmas.Iterator.Consumers.{YieldsList-end}
+use Rattle.std.proofs.lemmas.Iterator.Adapters.{YieldsList-from_vec}
 use Rattle.adapter.specs.Callers.{Caller}
 use Rattle.seats.specs.declared.run.Desk.{Desk}
 use Rattle.seats.specs.Seated.{IsNew}
 use Rattle.seats.proofs.Going.{ready_desks}
 use Rattle.seats.proofs.Lists.{each_more}
 use Rattle.seats.proofs.making.desks_of.Goals as goal
+
+map_same : {A : Type 0} (xs : List A) → map (λ (y : A). y) xs ≡ xs
+map_same [] = refl
+map_same (x ∷ xs) = ap (λ l. x ∷ l) (map_same xs)
 
 no_more : {A : Type 0} (xs : List A) → length xs ≡ 0 → xs ≡ []
 no_more [] e = refl
@@ -30,8 +36,14 @@ clients-preserved g c =
 
 pub returns-clause-lines : goal.returns-clause-lines
 returns-clause-lines g c =
-    let none : c.clients.lines.items ≡ [] = no_more c.clients.lines.items (search rules) in
+    let b = c.into_iter-client-iterator.ensures.into_iter_gives in
+    let t = YieldsList-end (YieldsList-from_vec {s = c.into_iter-client-iterator.result} c.args.clients.items b.0 (b.1 ∙ c.args.clients.ok.0)) c.clients.yielded c.clients.client-iterator c.clients.yielded_by c.next.result c.next.new.self c.in-None.is c.next.ensures.steps in
+    let k = t.1 in let a = c.clients.invariant.lines in let r = c.requires.lines in
+    let none : c.clients.lines.items ≡ [] = no_more c.clients.lines.items (omega (arith, k, a, r)) in
     sym (append-nil (map (λ (d : Desk _). d.line) c.clients.desks.items)) ∙ (ap (λ (l : List _). map (λ (d : Desk _). d.line) c.clients.desks.items ++ reverse l) (sym none) ∙ c.clients.invariant.same)
 
 pub returns-clause-ready : goal.returns-clause-ready
-returns-clause-ready g c locks feeder fresh = ready_desks locks _ feeder c.args.clients.items fresh c.clients.desks.items (search rules) c.clients.invariant.each
+returns-clause-ready g c locks feeder fresh =
+    let b = c.into_iter-client-iterator.ensures.into_iter_gives in
+    let t = YieldsList-end (YieldsList-from_vec {s = c.into_iter-client-iterator.result} c.args.clients.items b.0 (b.1 ∙ c.args.clients.ok.0)) c.clients.yielded c.clients.client-iterator c.clients.yielded_by c.next.result c.next.new.self c.in-None.is c.next.ensures.steps in
+    ready_desks locks _ feeder c.args.clients.items fresh c.clients.desks.items (c.clients.invariant.are ∙ (sym (map_same c.clients.yielded) ∙ t.0)) c.clients.invariant.each

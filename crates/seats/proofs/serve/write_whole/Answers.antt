@@ -13,5 +13,5 @@ writing-preserved g c =
     let bound = c.in_ok-count.ensures.bound.1 in let same = ap length rest in
     record {
       within = omega (arith, size, bound, same);
-      bytes = rw (take-add d n bytes) (Appends-trans _ _ _ _ _ c.writing.invariant.bytes (subst (λ (l : List ℕ). Appends (g.K.Sink.end c.writing.sink).written (g.K.Sink.end c.write-count.new.self).written (take n l)) rest c.in_ok-count.ensures.bytes));
+      bytes = rw (take-add d n bytes) (Appends-trans _ _ _ _ _ c.writing.invariant.bytes (subst (λ (l : List ℕ). Appends (g.K.Sink.end c.writing.sink).written (g.K.Sink.end c.write.new.self).written (take n l)) rest c.in_ok-count.ensures.bytes));
     }

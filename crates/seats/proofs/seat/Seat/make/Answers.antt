@@ -37,16 +37,21 @@ returns-clause-goes g c =
     record {
       calls = told_made s.who m ∷ [];
       log = log_one s.who s.log.items s.made.items c.push_reserved.new.self.items m items;
-      made = (c.call-place.new.self, here ∙ sym (log_long s), record {
-        entry = told s.client.who c.args.call c.call-place.result.1;
-        made = e.entry;
-        who = (f.who, f.who);
-        act = c.of-act.ensures;
-        response = refl;
-        same = e.same;
-        left = e.left;
-        none = subst PassesNone (sym c.of-act.ensures) c.requires.bare;
-      }, refl);
+      made = (
+        c.call-place.new.self,
+        here ∙ sym (log_long s),
+        record {
+          entry = told s.client.who c.args.call c.call-place.result.1;
+          made = e.entry;
+          who = (f.who, f.who);
+          act = c.of-act.ensures;
+          response = refl;
+          same = e.same;
+          left = e.left;
+          none = subst PassesNone (sym c.of-act.ensures) c.requires.bare;
+        },
+        refl,
+      );
     }
 
 pub returns-clause-left : goal.returns-clause-left

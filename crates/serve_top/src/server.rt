@@ -4,19 +4,16 @@ ghost use Rattle.emu_io.specs.Causes.{raised};
 ghost use Rattle.serve_top.specs.Reported.{HasReported};
 
 use crate::left::left_by;
-use crate::threads::sit_and_feed;
+use crate::threads::{feeder_of, sit_and_feed};
 use adapter::Adapter;
 use client_core::Stop;
 use dmx_calls::limits::NODES;
 use emu_io::{Clock, Gate, Sink, Source};
-use feed_pull::Puller;
 use report_text::{ReportError, write_report};
 use seats::desks_of;
 use std::alloc::{AllocError as NoMemory, Global};
 use std::sync::Wait;
 use std::thread::Threads;
-use ts_packet::PacketSize;
-use workers::FeederWorker;
 
 /// Why a server has written no whole report.
 #[derive(Clone, Copy, Debug, PartialEq, Eq, Drop)]
@@ -31,7 +28,7 @@ pub enum NoReport {
 
 impl From<NoMemory> for NoReport {
     ghost use Rattle.std.specs.Prelude.{◌≡◌};
-    ghost use Rattle.serve_top.specs.declared.serve.NoReport.TheVariants.{NoMemory as WantOfMemory};
+    ghost use Rattle.serve_top.specs.declared.server.NoReport.TheVariants.{NoMemory as WantOfMemory};
 
     ghost from_gives = { λ _ e. e ≡ WantOfMemory };
 
@@ -84,12 +81,7 @@ pub fn serve<
 {
     let (adapter, feeder, clients) = Adapter::new(alloc, lines.len() as u32)?;
     let mut desks = desks_of(alloc, clients, lines)?;
-    let mut feeder = FeederWorker {
-        feeder,
-        puller: Puller::new(alloc, Vec::new(alloc), 0, PacketSize::Of188)?,
-        feeding: Vec::new(alloc),
-        stop: None,
-    };
+    let mut feeder = feeder_of(alloc, feeder)?;
     sit_and_feed(
         rt,
         alloc,
