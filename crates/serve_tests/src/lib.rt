@@ -1,7 +1,9 @@
-//! The tests of the server's frames (`serve_frames`), in a crate above them. It has nothing but tests.
+//! The tests of the server's frames and seats (`serve_frames`, `seats`), in a crate above them. It has nothing but tests.
 //!
-//! What is proved: that the tests are safe and end. What is only tested, against values worked out by hand: what requests ask and
-//! what replies tell, byte by byte, with the numbers of linux/dvb/dmx.h and of Linux's errors.
+//! What is proved: that the tests are safe, and, but for those that wait, that they end. What is only tested, against values worked
+//! out by hand: what requests ask and what replies tell, byte by byte, with the numbers of linux/dvb/dmx.h and of Linux's errors
+//! (`tests/frames`); what a seat tells to the requests by which a section is filtered and read (`tests/answers`); and what seats do
+//! with lines in memory that are cut within a request, take no reply, or ask for all nodes (`tests/lines`).
 #![tactic(auto)]
 
 #[cfg(test)]

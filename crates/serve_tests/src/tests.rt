@@ -1,7 +1,10 @@
 // What the tests share.
 ghost use Rattle.std.specs.Prelude.{◌≤◌, length};
 
+mod answers;
 mod frames;
+mod lines;
+mod reports;
 
 // A request: verb, node and number with the lowest byte first, and an argument with its length.
 fn request(verb: u8, node: u8, number: u32, argument: &[u8]) -> [u8; 76]

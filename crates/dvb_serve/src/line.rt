@@ -1,0 +1,278 @@
+// The line of a seat over named pipes: one program after another.
+ghost use Rattle.std.specs.Prelude.{◌≡◌, ◌<◌, ◌≤◌, length, None, IfOk, IfSome};
+ghost use Rattle.std.specs.Io.{ReadsAtMost};
+ghost use Rattle.std.specs.Io.KnownBytes.{ReadConsumes, WriteAppends};
+ghost use Rattle.emu_io.specs.Causes.{HasCause};
+
+use crate::bells::Bells;
+use emu_io::{Failed, Sink, Source};
+use serve_frames::numbers::{LEAVE, REQUEST_LEN};
+use std::fs::{File, OpenOptions};
+use std::io;
+use std::io::{ErrorKind, Read, Write};
+use std::marker::Model;
+use std::sync::Arc;
+
+// How often a call is made again where a signal interrupts it.
+const TRIES: u64 = u64::MAX;
+
+// How many bytes a name at the door has: digits, and zeros behind them.
+const NAME: usize = 64;
+
+// Reads, and again where a signal interrupts it; 0 at the end, and where it fails.
+fn read_again(input: &mut File, into: &mut [u8]) -> usize
+    ensures same { length into.new ≡ length into.old }
+    ensures few { result ≤ length into.new }
+{
+    'tries: for _ in 0..TRIES {
+        match input.read(into) {
+            Ok(count) => return count,
+            Err(error) if error.kind() == ErrorKind::Interrupted => {}
+            Err(_) => return 0,
+        }
+    }
+    0
+}
+
+// Writes at least one byte, and again where a signal interrupts it; None where it fails or nothing was written.
+fn write_again(output: &mut File, piece: &[u8]) -> Option<usize>
+    ensures { IfSome result (λ n. (1 ≤ n) × (n ≤ length piece.now)) }
+{
+    'tries: for _ in 0..TRIES {
+        match output.write(piece) {
+            Ok(0) => return None,
+            Ok(count) => return Some(count),
+            Err(error) if error.kind() == ErrorKind::Interrupted => {}
+            Err(_) => return None,
+        }
+    }
+    None
+}
+
+// Reads until the buffer is full. False where the file has ended before, or fails.
+fn fill(input: &mut File, into: &mut [u8; REQUEST_LEN]) -> bool {
+    let mut done = 0;
+    'pieces: while done < REQUEST_LEN {
+        let count = read_again(input, &mut into[done..]);
+        if count == 0 {
+            return false;
+        }
+        done += count;
+    }
+    true
+}
+
+// The request of a program that has gone: all its nodes are closed.
+fn leaving() -> [u8; REQUEST_LEN] {
+    let mut request = [0u8; REQUEST_LEN];
+    request[0] = LEAVE as u8;
+    request
+}
+
+// The two ends of a program.
+#[derive(Drop)]
+struct Program {
+    from: File,
+    to: File,
+}
+
+// How far a line is.
+#[derive(Drop)]
+enum At {
+    // It waits at the door.
+    Door,
+    // It has a program.
+    Program(Program),
+    // Its program takes no reply any more.
+    Gone,
+}
+
+/// The line of a seat: requests come from one program after another, which tells its name at the door, and replies go to it.
+///
+/// A program makes two named pipes, `NAME.ask` and `NAME.tell` with digits for NAME, and writes NAME, with zeros up to 64 bytes, to
+/// the pipe `door` of the same folder. Where it has gone the line gives the request that closes all its nodes, and what is told to
+/// that goes nowhere. A request is given once it is whole. The line ends where the door does.
+#[derive(Drop)]
+pub struct PipeLine {
+    rt: HostRuntime,
+    folder: String,
+    door: File,
+    bells: Arc<Bells>,
+    at: At,
+    // The nodes of whose filters the program has asked for packets: a bit each.
+    asked: u64,
+    request: [u8; REQUEST_LEN],
+    given: usize,
+    faults: u64,
+}
+
+impl Model for PipeLine {
+    ghost use Rattle.std.specs.Prelude.{ℕ, ◌≤◌};
+
+    ghost Value = { ℕ };
+
+    ghost view = { λ s. s.faults };
+
+    ghost invariant = { λ s. s.given ≤ 76 };
+}
+
+// The name in these bytes, if it is one: digits, and zeros behind them.
+fn name_in(bytes: &[u8; NAME]) -> Option<&str> {
+    let end = bytes.iter().position(|b| *b == 0).unwrap_or(NAME);
+    let name = bytes.get(..end)?;
+    if name.is_empty() || !name.iter().all(|b| b.is_ascii_digit()) {
+        return None;
+    }
+    match std::str::from_utf8(name) {
+        Ok(name) => Some(name),
+        Err(_) => None,
+    }
+}
+
+// The file of this name and this ending in a folder.
+fn path_of(rt: &HostRuntime, folder: &str, name: &str, ending: &str) -> io::Result<String> {
+    let mut path = String::from_str(rt.alloc(), folder)?;
+    path.push_str("/")?;
+    path.push_str(name)?;
+    path.push_str(ending)?;
+    Ok(path)
+}
+
+// The pipe of this path, to be read or to be written. It is held at both of its ends while it is opened, so that this waits for
+// nobody.
+fn end_of(rt: &HostRuntime, path: &str, reads: bool) -> io::Result<File> {
+    let _held = OpenOptions::new().read(true).write(true).open(rt, path)?;
+    OpenOptions::new().read(reads).write(!reads).open(rt, path)
+}
+
+// The two ends of the program of this name.
+fn program_of(rt: &HostRuntime, folder: &str, name: &str) -> io::Result<Program> {
+    let ask = path_of(rt, folder, name, ".ask")?;
+    let tell = path_of(rt, folder, name, ".tell")?;
+    Ok(Program {
+        from: end_of(rt, ask.as_str(), true)?,
+        to: end_of(rt, tell.as_str(), false)?,
+    })
+}
+
+impl PipeLine {
+    /// The line at the door of this folder.
+    pub fn new(rt: &HostRuntime, folder: &str, bells: &Arc<Bells>) -> io::Result<PipeLine> {
+        let path = path_of(rt, folder, "door", "")?;
+        Ok(PipeLine {
+            rt: *rt,
+            folder: String::from_str(rt.alloc(), folder)?,
+            door: end_of(rt, path.as_str(), true)?,
+            bells: bells.clone()?,
+            at: At::Door,
+            asked: 0,
+            request: [0; REQUEST_LEN],
+            given: REQUEST_LEN,
+            faults: 0,
+        })
+    }
+
+    // The next program at the door. What isn't a name there, or names no pipes, is passed over; None where the door has ended.
+    fn next_program(&mut self) -> Option<Program> {
+        'names: for _ in 0..TRIES {
+            let mut name = [0u8; NAME];
+            if read_again(&mut self.door, &mut name) == 0 {
+                return None;
+            }
+            let Some(name) = name_in(&name) else {
+                continue;
+            };
+            if let Ok(program) = program_of(&self.rt, self.folder.as_str(), name) {
+                return Some(program);
+            }
+        }
+        None
+    }
+
+    // The next request, once it is whole. False where no further program comes.
+    fn next_request(&mut self) -> bool {
+        if let At::Door = self.at {
+            let Some(program) = self.next_program() else {
+                return false;
+            };
+            self.at = At::Program(program);
+        }
+        let has = match &mut self.at {
+            At::Program(program) => fill(&mut program.from, &mut self.request),
+            _ => false,
+        };
+        if has {
+            self.note();
+        } else {
+            self.at = At::Door;
+            self.forget();
+            self.request = leaving();
+        }
+        self.given = 0;
+        true
+    }
+
+    // Tells the bells of the request.
+    fn note(&mut self) {
+        if let Some(node) = self.bells.note(&self.request)
+            && node < 64
+        {
+            self.asked |= 1 << node;
+        }
+    }
+
+    // Tells the bells that the program has gone.
+    fn forget(&mut self) {
+        'nodes: for node in 0..64 {
+            if self.asked >> node & 1 == 1 {
+                self.bells.forget(node);
+            }
+        }
+        self.asked = 0;
+    }
+}
+
+impl Source for PipeLine {
+    ghost end = { λ s. record { left = None; faults = s } };
+
+    /// No read fails: where a program has gone, or the door has, that is no fault of the line.
+    fn read(&mut self, into: &mut [u8]) -> Result<usize, Failed>
+        requires { 0 < length into.old }
+        ensures bound { ReadsAtMost result into.new }
+        ensures bytes { ReadConsumes None None result into.new }
+        ensures cause { HasCause self.old self.new result }
+    {
+        if self.given == REQUEST_LEN && !self.next_request() {
+            return Ok(0);
+        }
+        let rest = &self.request[self.given..];
+        let count = rest.len().min(into.len());
+        into[..count].copy_from_slice(&rest[..count]);
+        self.given += count;
+        Ok(count)
+    }
+}
+
+impl Sink for PipeLine {
+    ghost end = { λ s. record { written = None; faults = s } };
+
+    /// No write fails: what a program that has gone is told goes nowhere.
+    fn write(&mut self, piece: &[u8]) -> Result<usize, Failed>
+        requires { 0 < length piece.now }
+        ensures bound { IfOk result (λ n. (1 ≤ n) × (n ≤ length piece.now)) }
+        ensures bytes { WriteAppends None None result piece.now }
+        ensures cause { HasCause self.old self.new result }
+    {
+        let written = match &mut self.at {
+            At::Program(program) => write_again(&mut program.to, piece),
+            _ => Some(piece.len()),
+        };
+        match written {
+            Some(count) => Ok(count),
+            None => {
+                self.at = At::Gone;
+                Ok(piece.len())
+            }
+        }
+    }
+}

@@ -1,0 +1,128 @@
+-- A seat goes on, call by call.
+use Rattle.std.proofs.Common.{◌≡◌, ◌+◌, ◌≤◌, ◌^◌, ℕ, List, [], ◌∷◌, ◌++◌, length, map, Some, refl, ap, sym, ◌∙◌, subst, arith, length-append}
+use Rattle.std.proofs.lemmas.List.{map-append, append-nil, append_assoc, length-map}
+use Rattle.std.proofs.lemmas.List.Elements.{All-nil, All-push}
+use Rattle.std.proofs.lemmas.Option.{slice_get-map}
+use Rattle.std.specs.Prelude.{slice_get, option_map}
+use Rattle.atomic_table.specs.Seated.{TableId}
+use Rattle.dmx_calls.specs.Calls.{told_entry}
+use Rattle.dmx_calls.specs.Log.{LogEntry}
+use Rattle.dmx_calls.specs.declared.log.Entry.{Entry as ToldEntry}
+use Rattle.dmx_calls.specs.declared.limits.TheConstants.{DEMUX_NODES}
+use Rattle.adapter.specs.Callers.{Caller, AreFreshCallers}
+use Rattle.adapter.specs.Rows.{Fits}
+use Rattle.adapter.proofs.Pairs.{caller_fits}
+use Rattle.seats.specs.Calls.{MakesCall, MakesCalls}
+use Rattle.seats.specs.Holding.{KnowsItsNodes}
+use Rattle.seats.proofs.Holding.{knows_none}
+use Rattle.seats.proofs.Lists.{mapped}
+use Rattle.seats.specs.declared.run.Desk.{Desk}
+use Rattle.seats.specs.declared.made.Made.{Made}
+use Rattle.seats.specs.declared.seat.Seat.{Seat}
+use Rattle.seats.specs.Seated.{told_made, log_of, AreOnNodes, IsFit, IsNew, IsReady, AreReady, GoesOn}
+
+-- ------ calls
+
+pub calls_trans : (n m : ℕ) (b c d : Caller) (es fs : List LogEntry) → m ≡ n + length es → MakesCalls n b es c → MakesCalls m c fs d → MakesCalls n b (es ++ fs) d
+calls_trans n m b c d [] fs is x y = let here : m ≡ n = omega (arith, is) in subst (λ (k : Caller). MakesCalls n k fs d) x (subst (λ (i : ℕ). MakesCalls i c fs d) here y)
+calls_trans n m b c d (e ∷ es) fs is x y = let there : m ≡ (n + 1) + length es = omega (arith, is) in (x.0, x.1, x.2, calls_trans (n + 1) m x.0 c d es fs there x.3 y)
+
+-- ------ a seat
+
+pub goes_self : (s : Seat) → GoesOn s s
+goes_self s = record { calls = []; log = sym (append-nil (log_of s)); made = refl }
+
+pub goes_trans : (a b c : Seat) → GoesOn a b → GoesOn b c → GoesOn a c
+goes_trans a b c x y = record {
+  calls = x.calls ++ y.calls;
+  log = y.log ∙ (ap (λ l. l ++ y.calls) x.log ∙ append_assoc (log_of a) x.calls y.calls);
+  made = calls_trans (length (log_of a)) (length (log_of b)) a.client b.client c.client x.calls y.calls (ap length x.log ∙ length-append (log_of a) x.calls) x.made y.made;
+}
+
+-- how many calls it has made
+pub log_long : (s : Seat) → length (log_of s) ≡ length s.log.items + length s.made.items
+log_long s =
+    let a = length-append (map told_entry s.log.items) (map (told_made s.who) s.made.items) in
+    let b = length-map s.log.items told_entry in let c = length-map s.made.items (told_made s.who) in omega (arith, a, b, c)
+
+-- one call more, behind these
+pub log_one : (who : ℕ) (log : List ToldEntry) (made new : List Made) (m : Made) → new ≡ made ++ m ∷ []
+    → map told_entry log ++ map (told_made who) new ≡ (map told_entry log ++ map (told_made who) made) ++ told_made who m ∷ []
+log_one who log made new m is =
+    ap (λ (k : List Made). map told_entry log ++ map (told_made who) k) is
+    ∙ (ap (λ (k : List LogEntry). map told_entry log ++ k) (map-append (told_made who) made (m ∷ []))
+    ∙ sym (append_assoc (map told_entry log) (map (told_made who) made) (told_made who m ∷ [])))
+
+-- where it has made no call
+pub kept_goes : (a b : Seat) → b.client ≡ a.client → log_of b ≡ log_of a → GoesOn a b
+kept_goes a b c l = record {
+  calls = [];
+  log = l ∙ sym (append-nil (log_of a));
+  made = c;
+}
+
+pub kept_fit : (locks : List TableId) (a b : Seat) → b.client ≡ a.client → b.who ≡ a.who → log_of b ≡ log_of a → b.held ≡ a.held → IsFit locks a → IsFit locks b
+kept_fit locks a b c w l h f = record {
+  fits = subst (λ (k : Caller). Fits locks k.passes) (sym c) f.fits;
+  who = w ∙ (f.who ∙ ap (λ (k : Caller). k.who) (sym c));
+  left = let before = f.left in let same = ap length l in let x = log_long a in let y = log_long b in let k = ap (λ (k : Caller). k.left) c in omega (arith, before, same, x, y, k);
+  nodes = subst AreOnNodes (sym l) f.nodes;
+  knows = subst (KnowsItsNodes b.client) (sym h) (subst (λ (k : Caller). KnowsItsNodes k a.held) (sym c) f.knows);
+}
+
+-- where it has put calls into its log, and none is beside that
+pub log_settled : (a b : Seat) (rest : List ToldEntry) → b.log.items ≡ a.log.items ++ rest → map told_entry rest ≡ map (told_made a.who) a.made.items → b.made.items ≡ [] → log_of b ≡ log_of a
+log_settled a b rest l told none =
+    ap (λ (k : List ToldEntry). map told_entry k ++ map (told_made b.who) b.made.items) l
+    ∙ (ap (λ (k : List Made). map told_entry (a.log.items ++ rest) ++ map (told_made b.who) k) none
+    ∙ (append-nil (map told_entry (a.log.items ++ rest))
+    ∙ (map-append told_entry a.log.items rest ∙ ap (λ (k : List LogEntry). map told_entry a.log.items ++ k) told)))
+
+-- where its log and its last calls are the same
+pub log_same : (a b : Seat) → b.log.items ≡ a.log.items → b.made.items ≡ a.made.items → b.who ≡ a.who → log_of b ≡ log_of a
+log_same a b l m w =
+    ap (λ (k : List ToldEntry). map told_entry k ++ map (told_made b.who) b.made.items) l
+    ∙ (ap (λ (n : ℕ). map told_entry a.log.items ++ map (told_made n) b.made.items) w
+    ∙ ap (λ (k : List Made). map told_entry a.log.items ++ map (told_made a.who) k) m)
+
+-- before its first call
+pub log_none : (s : Seat) → s.log.items ≡ [] → s.made.items ≡ [] → log_of s ≡ []
+log_none s l m =
+    ap (λ (k : List ToldEntry). map told_entry k ++ map (told_made s.who) s.made.items) l
+    ∙ ap (λ (k : List Made). map (told_made s.who) k) m
+
+-- ------ new seats
+
+module _ (locks : List TableId) (n : ℕ) (feeder : Caller) (clients : List Caller) (fresh : AreFreshCallers locks n feeder clients) (c : ℕ) (s : Seat) (at : slice_get clients c ≡ Some s.client) (is : IsNew (c + 1) s) where
+  pub new_ready : IsReady locks s
+  new_ready = let f = fresh.each c s.client at in let size = ap length is.log.0 in let made = ap length is.log.1 in let told = ap length is.outcomes in let calls = f.calls in let room = is.room in record {
+    fit = record {
+      fits = caller_fits (n + 1) locks (c + 1) (2 ^ 40) s.client f;
+      who = is.who ∙ sym f.number;
+      left = omega (arith, size, made, calls);
+      nodes = subst AreOnNodes (sym (log_none s is.log.0 is.log.1)) (All-nil (λ (e : LogEntry). e.node ≤ DEMUX_NODES));
+      knows = knows_none locks (n + 1) (c + 1) (2 ^ 40) s.client f s.held;
+    };
+    room = record { made = omega (arith, made, room.0); outcomes = omega (arith, told, room.1); left = omega (arith, calls) };
+  }
+
+-- each of the seats
+pub all_ready : (locks : List TableId) (n : ℕ) (feeder : Caller) (clients : List Caller) → AreFreshCallers locks n feeder clients
+    → (seats : List Seat) → map (λ (s : Seat). s.client) seats ≡ clients → ((c : ℕ) (s : Seat) → slice_get seats c ≡ Some s → IsNew (c + 1) s) → AreReady locks clients seats
+all_ready locks n feeder clients fresh seats are each = record {
+  are = are;
+  each = λ c s at.
+      let there : slice_get clients c ≡ Some s.client = ap (λ (l : List Caller). slice_get l c) (sym are) ∙ (slice_get-map (λ (z : Seat). z.client) seats c ∙ ap (λ o. option_map (λ (z : Seat). z.client) o) at) in
+      (new_ready locks n feeder clients fresh c s there (each c s at), log_none s (each c s at).log.0 (each c s at).log.1);
+}
+
+-- the seats of desks
+module _ {T : Type 0} where
+  seats_of : (desks : List (Desk T)) → map (λ (s : Seat). s.client) (map (λ (d : Desk T). d.seat) desks) ≡ map (λ (d : Desk T). d.seat.client) desks
+  seats_of [] = refl
+  seats_of (d ∷ ds) = ap (λ l. d.seat.client ∷ l) (seats_of ds)
+
+  pub ready_desks : (locks : List TableId) (n : ℕ) (feeder : Caller) (clients : List Caller) → AreFreshCallers locks n feeder clients
+      → (desks : List (Desk T)) → map (λ (d : Desk T). d.seat.client) desks ≡ clients → ((c : ℕ) (d : Desk T) → slice_get desks c ≡ Some d → IsNew (c + 1) d.seat) → AreReady locks clients (map (λ (d : Desk T). d.seat) desks)
+  ready_desks locks n feeder clients fresh desks are each = all_ready locks n feeder clients fresh (map (λ (d : Desk T). d.seat) desks) (seats_of desks ∙ are)
+      (λ c s at. let d = mapped (λ (d : Desk T). d.seat) desks c s at in subst (IsNew (c + 1)) d.2 (each c d.0 d.1))

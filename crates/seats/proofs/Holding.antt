@@ -1,0 +1,193 @@
+-- Which nodes a caller has left, behind a call of its own.
+use Rattle.std.proofs.Common.{◌≡◌, ◌≢◌, ℕ, Bool, true, false, List, [], ◌∷◌, reverse, length, set, Option, Some, None, inl, inr, refl, ap, sym, ◌∙◌, subst, arith, eq-eqb}
+use Rattle.std.specs.Prelude.{slice_get, if◌then◌else◌}
+use Rattle.std.proofs.lemmas.Option.{slice_get_within}
+use mathlib.Core.Logic.{dite}
+use native.Mathlib.Decide.{ℕ_discrete}
+use Rattle.atomic_table.specs.Seated.{TableId}
+use Rattle.node_lock.specs.declared.view.View.{View}
+use Rattle.node_lock.specs.Passes.{KnowsItsCalls}
+use Rattle.node_lock.specs.Inside.Seats.{fresh}
+use Rattle.dmx_calls.specs.Entries.{caller_of}
+use Rattle.dmx_calls.specs.Facts.{Facts, Ledger, facts}
+use Rattle.dmx_calls.specs.declared.node.NodeKind.{NodeKind}
+use Rattle.dmx_calls.specs.declared.node.NodeKind.TheVariants.{Demux, Dvr}
+use Rattle.dmx_calls.specs.History.{Entry, History, event, entry_of}
+use Rattle.dmx_calls.specs.Invocation.{Invocation, Open, Close, SetFilter, SetPes, AddPid, RemovePid, Start, Stop, SetSize, Read, Poll, Pass, End, Attach, Detach}
+use Rattle.dmx_calls.specs.Log.{act_of}
+use Rattle.dmx_calls.specs.Response.{Response, TapChange, is_accepted}
+use Rattle.dmx_calls.specs.Rules.{Rules, rules_at}
+use Rattle.dmx_calls.specs.Answer.{answer, answer_by, with_call, done_dropping, tap_of_done, is_owned_by}
+use Rattle.dmx_calls.specs.Legal.{May, IsLegalFor}
+use Rattle.dmx_calls.specs.Tenure.{opens, closes, tenure, owner}
+use Rattle.adapter.specs.Callers.{Caller, IsFreshCaller}
+use Rattle.adapter.specs.Nodes.{MakesEntry, IsLegalAt}
+use Rattle.adapter.proofs.Lists.{at_place, set_there, set_elsewhere, one_value}
+use Rattle.seats.specs.Holding.{HasLeft, has_then, IsOwnPass, KnowsItsNodes}
+use Rattle.seats.proofs.Owning.{owner_refused, owner_closed, still_own, owned_before, behind, owned_still, turned}
+
+-- ------ calls
+
+no_open : (e : Entry) (h : History) (call : Invocation) → e.invocation ≡ call → opens (event (entry_of 0 call e.response) []) ≡ false → opens (event e h) ≡ false
+no_open e h call is nay = rw is nay
+
+not_open : (e : Entry) (h : History) (call : Invocation) → e.invocation ≡ call → call ≢ Open → opens (event e h) ≡ false
+not_open e h Open is other = absurd (other refl)
+not_open e h Close is other = no_open e h Close is refl
+not_open e h (SetFilter p now) is other = no_open e h (SetFilter p now) is refl
+not_open e h (SetPes p now) is other = no_open e h (SetPes p now) is refl
+not_open e h (AddPid n) is other = no_open e h (AddPid n) is refl
+not_open e h (RemovePid n) is other = no_open e h (RemovePid n) is refl
+not_open e h (Start now) is other = no_open e h (Start now) is refl
+not_open e h Stop is other = no_open e h Stop is refl
+not_open e h (SetSize n) is other = no_open e h (SetSize n) is refl
+not_open e h (Read now n) is other = no_open e h (Read now n) is refl
+not_open e h (Poll now) is other = no_open e h (Poll now) is refl
+not_open e h (Pass i f ps now) is other = no_open e h (Pass i f ps now) is refl
+not_open e h End is other = no_open e h End is refl
+not_open e h (Attach n ps) is other = no_open e h (Attach n ps) is refl
+not_open e h (Detach n) is other = no_open e h (Detach n) is refl
+
+is_close : (e : Entry) (h : History) → e.invocation ≡ Close → closes (event e h) ≡ true
+is_close e h is = rw is refl
+
+owner_of_none : owner [] ≡ None
+unfolding owner tenure
+owner_of_none = refl
+
+is_dropping : (l : Option Ledger) (t : TapChange) → is_accepted (done_dropping l t) ≡ true
+is_dropping None t = refl
+is_dropping (Some l) t = refl
+
+-- the owner's Close is done
+close_answered : (kind : NodeKind) (f g : Facts) (who : ℕ) → f.owner ≡ Some who → is_accepted (answer_by kind f g who Close) ≡ true
+close_answered Demux f g who is = rw (ap (is_owned_by who) is ∙ eq-eqb who who refl) (is_dropping f.ledger (tap_of_done f Close g))
+close_answered Dvr f g who is = rw (ap (is_owned_by who) is ∙ eq-eqb who who refl) (is_dropping f.ledger (tap_of_done f Close g))
+
+close_accepted : (node : Rules) (h : History) (who : ℕ) (r : Response) → owner h ≡ Some who → May node h who Close r → is_accepted r ≡ true
+unfolding answer facts
+close_accepted node h who r is (inl same) = ap is_accepted same ∙ close_answered node.kind (facts node h) (facts node (with_call h who Close)) who is
+close_accepted node h who r is (inr (none, done, takes)) = absurd (cc takes)
+
+-- ------ one call
+
+module _ (c d : Caller) (node place : ℕ) (e : Entry) (o : MakesEntry node e place c.passes d.passes) (who : d.who ≡ c.who) (own : (i : ℕ) (p : TableId × View Entry) → slice_get c.passes i ≡ Some p → IsOwnPass c.who p) where
+  its_pass : IsOwnPass c.who o.first
+  its_pass = own node o.first o.was
+
+  there : slice_get d.passes node ≡ Some o.then
+  there = ap (λ (l : List (TableId × View Entry)). slice_get l node) o.is ∙ set_there c.passes node o.then (slice_get_within c.passes node o.first o.was)
+
+  elsewhere : (i : ℕ) → i ≢ node → slice_get d.passes i ≡ slice_get c.passes i
+  elsewhere i n = ap (λ (l : List (TableId × View Entry)). slice_get l i) o.is ∙ set_elsewhere c.passes node i o.then n
+
+  pub own_then : (i : ℕ) (q : TableId × View Entry) → slice_get d.passes i ≡ Some q → IsOwnPass d.who q
+  own_then i q at = subst (λ (w : ℕ). IsOwnPass w q) (sym who) (dite (ℕ_discrete i node)
+      (λ here. let same : o.then ≡ q = one_value d.passes node o.then q there (ap (slice_get d.passes) (sym here) ∙ at) in
+      subst (IsOwnPass c.who) same (still_own c.who (IsLegalAt node) e place o.first o.then o.more its_pass))
+      (λ more. own i q (sym (elsewhere i more) ∙ at)))
+
+  -- where a fact holds of what the pass of this node has seen, it has left the node
+  left_here : owner (reverse o.then.1.seen) ≢ Some c.who → HasLeft node d
+  left_here differs q at is =
+      let same : o.then ≡ q = one_value d.passes node o.then q there at in
+      differs (subst (λ (z : TableId × View Entry). owner (reverse z.1.seen) ≡ Some c.who) (sym same) (is ∙ ap (λ (w : ℕ). Some w) who))
+
+  left_elsewhere : (i : ℕ) → i ≢ node → HasLeft i c → HasLeft i d
+  left_elsewhere i n l q at is = l q (sym (elsewhere i n) ∙ at) (is ∙ ap (λ (w : ℕ). Some w) who)
+
+  -- a node that it had left, by a call that is no Open
+  pub left_still : opens (event e (reverse o.more.before)) ≡ false → (i : ℕ) → HasLeft i c → HasLeft i d
+  left_still nay i l = dite (ℕ_discrete i node)
+      (λ here. subst (λ (n : ℕ). HasLeft n d) (sym here) (left_here (λ is. l o.first (ap (slice_get c.passes) here ∙ o.was) (owned_still c.who (IsLegalAt node) e place o.first o.then o.more its_pass nay is))))
+      (λ more. left_elsewhere i more l)
+
+  -- where the reply says that the call changed nothing
+  left_refused : is_accepted e.response ≡ false → HasLeft node c → HasLeft node d
+  left_refused nay l = left_here (λ is. l o.first o.was (owned_before c.who (IsLegalAt node) e place o.first o.then o.more its_pass
+      (sym (owner_refused e (reverse o.more.before) nay) ∙ behind c.who (IsLegalAt node) e place o.first o.then o.more its_pass (Some c.who) is)))
+
+  -- what the history allows to the newest entry
+  allowed : May (rules_at node) (reverse o.more.before) e.who e.invocation e.response
+  allowed = (subst (λ (h : History). IsLegalFor (rules_at node) h) (turned o.more.before e) (subst (λ (l : List Entry). IsLegalFor (rules_at node) (reverse l)) o.more.now o.more.meant)).1
+
+  -- behind a Close it has left the node, whatever the reply
+  module _ (mine : e.who ≡ c.who) where
+    pub left_closed : e.invocation ≡ Close → HasLeft node d
+    left_closed closing = left_here (λ is. by_reply (is_accepted e.response) refl (behind c.who (IsLegalAt node) e place o.first o.then o.more its_pass (Some c.who) is)) where
+      by_reply : (b : Bool) → is_accepted e.response ≡ b → owner (e ∷ reverse o.more.before) ≡ Some c.who → ⊥
+      by_reply true ok is =
+          let none : None ≡ Some c.who = sym (owner_closed e (reverse o.more.before) ok (no_open e (reverse o.more.before) Close closing refl) (is_close e (reverse o.more.before) closing)) ∙ is in cc
+      by_reply false nay is =
+          let owned : owner (reverse o.more.before) ≡ Some c.who = sym (owner_refused e (reverse o.more.before) nay) ∙ is in
+          let may : May (rules_at node) (reverse o.more.before) c.who Close e.response = subst (λ (call : Invocation). May (rules_at node) (reverse o.more.before) c.who call e.response) closing (subst (λ (w : ℕ). May (rules_at node) (reverse o.more.before) w e.invocation e.response) mine allowed) in
+          let yea : is_accepted e.response ≡ true = close_accepted (rules_at node) (reverse o.more.before) c.who e.response owned may in
+          let both : true ≡ false = sym yea ∙ nay in cc
+
+    -- a node that isn't marked as held behind the call
+    left_marked : (call : Invocation) → e.invocation ≡ call → (had : Bool) → (had ≡ false → HasLeft node c) → has_then had (act_of call) e.response ≡ false → HasLeft node d
+    left_marked Open is had l marked = by_reply (is_accepted e.response) refl where
+      by_reply : (b : Bool) → is_accepted e.response ≡ b → HasLeft node d
+      by_reply true ok = absurd (let both : true ≡ false = sym (ap (λ b. if b then true else had) ok) ∙ marked in cc)
+      by_reply false nay = left_refused nay (l (sym (ap (λ b. if b then true else had) nay) ∙ marked))
+    left_marked Close is had l marked = left_closed is
+    left_marked (SetFilter p now) is had l marked = left_still (no_open e (reverse o.more.before) (SetFilter p now) is refl) node (l marked)
+    left_marked (SetPes p now) is had l marked = left_still (no_open e (reverse o.more.before) (SetPes p now) is refl) node (l marked)
+    left_marked (AddPid n) is had l marked = left_still (no_open e (reverse o.more.before) (AddPid n) is refl) node (l marked)
+    left_marked (RemovePid n) is had l marked = left_still (no_open e (reverse o.more.before) (RemovePid n) is refl) node (l marked)
+    left_marked (Start now) is had l marked = left_still (no_open e (reverse o.more.before) (Start now) is refl) node (l marked)
+    left_marked Stop is had l marked = left_still (no_open e (reverse o.more.before) Stop is refl) node (l marked)
+    left_marked (SetSize n) is had l marked = left_still (no_open e (reverse o.more.before) (SetSize n) is refl) node (l marked)
+    left_marked (Read now n) is had l marked = left_still (no_open e (reverse o.more.before) (Read now n) is refl) node (l marked)
+    left_marked (Poll now) is had l marked = left_still (no_open e (reverse o.more.before) (Poll now) is refl) node (l marked)
+    left_marked (Pass i f ps now) is had l marked = left_still (no_open e (reverse o.more.before) (Pass i f ps now) is refl) node (l marked)
+    left_marked End is had l marked = left_still (no_open e (reverse o.more.before) End is refl) node (l marked)
+    left_marked (Attach n ps) is had l marked = left_still (no_open e (reverse o.more.before) (Attach n ps) is refl) node (l marked)
+    left_marked (Detach n) is had l marked = left_still (no_open e (reverse o.more.before) (Detach n) is refl) node (l marked)
+
+    pub knows_then : (held : List Bool) → KnowsItsNodes c held → (had : Bool) → slice_get held node ≡ Some had → KnowsItsNodes d (set held node (has_then had (act_of e.invocation) e.response))
+    knows_then held k had was = record {
+      own = own_then;
+      left = λ i at. dite (ℕ_discrete i node)
+          (λ here. let now = set_there held node (has_then had (act_of e.invocation) e.response) (slice_get_within held node had was) in
+          let both : Some (has_then had (act_of e.invocation) e.response) ≡ Some false = sym now ∙ (ap (slice_get (set held node (has_then had (act_of e.invocation) e.response))) (sym here) ∙ at) in
+          let marked : has_then had (act_of e.invocation) e.response ≡ false = cc in
+          subst (λ (n : ℕ). HasLeft n d) (sym here) (left_marked e.invocation refl had (λ none. k.left node (was ∙ ap (λ (b : Bool). Some b) none)) marked))
+          (λ more. left_elsewhere i more (k.left i (sym (set_elsewhere held node i (has_then had (act_of e.invocation) e.response) more) ∙ at)));
+    }
+
+-- ------ for a caller that is told only what it has called
+
+-- a call that is no Open
+pub left_call : (c d : Caller) (node place : ℕ) (e : Entry) (o : MakesEntry node e place c.passes d.passes) (who : d.who ≡ c.who) (own : (i : ℕ) (p : TableId × View Entry) → slice_get c.passes i ≡ Some p → IsOwnPass c.who p)
+    → e.invocation ≢ Open → (i : ℕ) → HasLeft i c → HasLeft i d
+left_call c d node place e o who own other = left_still c d node place e o who own (not_open e (reverse o.more.before) e.invocation refl other)
+
+-- a Close of its own
+pub closed_call : (c d : Caller) (node place : ℕ) (e : Entry) (o : MakesEntry node e place c.passes d.passes) (who : d.who ≡ c.who) (own : (i : ℕ) (p : TableId × View Entry) → slice_get c.passes i ≡ Some p → IsOwnPass c.who p)
+    → e.who ≡ c.who → e.invocation ≡ Close → HasLeft node d
+closed_call c d node place e o who own mine closing = left_closed c d node place e o who own mine closing
+
+-- what it knows of its nodes behind a call of its own
+pub knows_made : (c d : Caller) (node place : ℕ) (e : Entry) (o : MakesEntry node e place c.passes d.passes) (who : d.who ≡ c.who) → e.who ≡ c.who → (held now : List Bool) (had : Bool) → KnowsItsNodes c held
+    → slice_get held node ≡ Some had → now ≡ set held node (has_then had (act_of e.invocation) e.response) → KnowsItsNodes d now
+knows_made c d node place e o who mine held now had k was is = subst (KnowsItsNodes d) (sym is) (knows_then c d node place e o who k.own mine held k had was)
+
+-- ------ before the first call
+
+module _ (locks : List TableId) (callers who left : ℕ) (c : Caller) (f : IsFreshCaller locks callers who left c) where
+  fresh_pass : (i : ℕ) (p : TableId × View Entry) → slice_get c.passes i ≡ Some p → (l : TableId) × (p ≡ (l, fresh callers who))
+  fresh_pass i p at =
+      let low = slice_get_within c.passes i p at in let long = f.row.0 in let l = at_place locks i (omega arith) in
+      (l.0, f.row.1 i l.0 p l.1 at)
+
+  pub knows_none : (held : List Bool) → KnowsItsNodes c held
+  knows_none held = record {
+    own = λ i p at. let e = (fresh_pass i p at).1 in record {
+      number = ap (λ (z : TableId × View Entry). z.1.number) e ∙ sym f.number;
+      numbers = ap (λ (z : TableId × View Entry). z.1.numbers) e ∙ ap (λ (w : ℕ). w ∷ []) (sym f.number);
+      calls = subst (λ (z : TableId × View Entry). KnowsItsCalls caller_of z.1) (sym e) record { there = λ w q none. absurd none; once = tt; only = λ q x at. absurd (cc at) };
+    };
+    left = λ i none p at is. let e = (fresh_pass i p at).1 in
+        absurd (let nobody : owner [] ≡ Some c.who = subst (λ (z : TableId × View Entry). owner (reverse z.1.seen) ≡ Some c.who) e is in let both : None ≡ Some c.who = sym owner_of_none ∙ nobody in cc);
+  }

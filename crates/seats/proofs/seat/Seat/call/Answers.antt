@@ -1,0 +1,24 @@
+use Rattle.std.proofs.Common.{rules, ◌≡◌, length, Some, None, Option, ap, sym, ◌∙◌}
+use Rattle.std.specs.Prelude.{option_map}
+use Rattle.dmx_calls.specs.Calls.{invocation_of}
+use Rattle.dmx_calls.specs.Log.{act_of}
+use Rattle.dmx_calls.specs.declared.call.Call.{Call}
+use Rattle.seats.proofs.Doing.{does_one, does_two}
+use Rattle.seats.proofs.Going.{goes_trans}
+use Rattle.seats.proofs.seat.Seat.call.Goals as goal
+
+pub returns-in-Some-clause-goes : goal.returns-in-Some-clause-goes
+returns-in-Some-clause-goes g c = goes_trans c.args.self.now c.make.new.self c.make-in-Some.new.self c.make.ensures.goes c.make-in-Some.ensures.goes
+
+pub returns-in-Some-clause-did : goal.returns-in-Some-clause-did
+returns-in-Some-clause-did g c =
+    let place : c.len-at.result ≡ length c.args.self.now.made.items = search rules in
+    does_two c.args.node _ c.len-at.result c.args.self.now c.make.new.self c.make.ensures.did place c.index.result.now c.index.ensures
+    _ c.make-in-Some.new.self c.make-in-Some.ensures.did (sym (ap (option_map (λ (k : Call). act_of (invocation_of k))) c.in-Some.is) ∙ c.told_dvr.ensures.acts)
+
+pub returns-in_default-clause-did : goal.returns-in_default-clause-did
+returns-in_default-clause-did g c =
+    let place : c.len-at.result ≡ length c.args.self.now.made.items = search rules in
+    let none : c.told_dvr.result ≡ None = search rules in
+    does_one c.args.node _ c.len-at.result c.args.self.now c.make.new.self c.make.ensures.did place c.index.result.now c.index.ensures
+    (sym (ap (option_map (λ (k : Call). act_of (invocation_of k))) none) ∙ c.told_dvr.ensures.acts)

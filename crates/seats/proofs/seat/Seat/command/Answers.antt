@@ -1,0 +1,25 @@
+use Rattle.std.proofs.Common.{sym, subst, ap, Vec, Global}
+use Rattle.dmx_calls.specs.declared.log.Entry.{Entry}
+use Rattle.adapter.specs.Callers.{Caller}
+use Rattle.seats.specs.Holding.{HasLeft}
+use Rattle.seats.specs.declared.made.Made.{Made}
+use Rattle.seats.proofs.Doing.{command_kept}
+use Rattle.seats.proofs.Going.{goes_trans}
+use Rattle.seats.proofs.seat.Seat.command.Goals as goal
+
+pub returns-clause-fit : goal.returns-clause-fit
+returns-clause-fit g c = c.keep.ensures.fit c.args.adapter.now c.call-at.ensures.fit
+
+pub returns-clause-goes : goal.returns-clause-goes
+returns-clause-goes g c = goes_trans c.args.self.now c.call-at.new.self c.keep.new.self c.call-at.ensures.goes c.keep.ensures.goes
+
+pub returns-clause-left : goal.returns-clause-left
+returns-clause-left g c other i l = subst (λ (k : Caller). HasLeft i k) (sym c.keep.ensures.rest.0) (c.call-at.ensures.left other i l)
+
+pub returns-clause-closed : goal.returns-clause-closed
+returns-clause-closed g c closing = subst (λ (k : Caller). HasLeft c.args.node k) (sym c.keep.ensures.rest.0) (c.call-at.ensures.closed closing)
+
+pub returns-clause-did : goal.returns-clause-did
+returns-clause-did g c =
+    let r = c.keep.ensures.rest in
+    command_kept c.args.node _ c.call-at.result c.args.self.now c.call-at.new.self c.keep.new.self c.call-at.ensures.did (ap (λ (v : Vec Made Global). v.items) r.3) (ap (λ (v : Vec Entry Global). v.items) r.2) r.1

@@ -1,0 +1,26 @@
+use Rattle.std.proofs.Common.{ap}
+use Rattle.dmx_calls.specs.Invocation.{Invocation}
+use Rattle.dmx_calls.specs.Log.{act_of}
+use Rattle.seats.proofs.Doing.{answered_open, answered_call, answered_leave, answered_refused, answered_wanting}
+use Rattle.seats.proofs.Going.{goes_self}
+use Rattle.seats.proofs.seat.Seat.done.Goals as goal
+
+pub returns-in-Refused-clause-goes : goal.returns-in-Refused-clause-goes
+returns-in-Refused-clause-goes g c = goes_self c.args.self.now
+
+pub returns-in-OpenDemux-clause-did : goal.returns-in-OpenDemux-clause-did
+returns-in-OpenDemux-clause-did g c = answered_open c.args.ask c.args.now c.args.self.now c.open_demux.new.self _ _ c.in-OpenDemux.is c.open_demux.ensures.did
+
+pub returns-in-Ok-clause-did : goal.returns-in-Ok-clause-did
+returns-in-Ok-clause-did g c =
+    answered_call c.args.ask c.args.now c.in-Call.node c.in-Call.want c.command-at.result _ c.args.self.now c.command-at.new.self c.told_at.result.tell c.told_at.result.at c.command-at.ensures.did c.in-Call.is
+    (ap act_of c.in-Ok.ensures.value) c.told_at.ensures.at c.told_at.ensures.told
+
+pub returns-in_default-clause-did : goal.returns-in_default-clause-did
+returns-in_default-clause-did g c = answered_wanting c.args.ask c.args.now c.args.self.now _ _ c.refused.ensures
+
+pub returns-in-Leave-clause-did : goal.returns-in-Leave-clause-did
+returns-in-Leave-clause-did g c = answered_leave c.args.ask c.args.now c.args.self.now c.leave.new.self _ _ c.in-Leave.is c.leave.ensures.did c.refused-in-Leave.ensures
+
+pub returns-in-Refused-clause-did : goal.returns-in-Refused-clause-did
+returns-in-Refused-clause-did g c = answered_refused c.args.ask c.args.now c.in-Refused.code c.args.self.now _ _ c.in-Refused.is c.refused-in-Refused.ensures

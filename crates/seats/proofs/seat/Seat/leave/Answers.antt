@@ -1,0 +1,35 @@
+use Rattle.std.proofs.Common.{rules, arith, sym, subst, refl, ℕ}
+use mathlib.Core.Logic.{dite}
+use native.Mathlib.Decide.{ℕ_discrete}
+use Rattle.seats.specs.Holding.{HasLeft}
+use Rattle.seats.proofs.Doing.{closings_none, closings_more}
+use Rattle.seats.proofs.Going.{goes_self, goes_trans}
+use Rattle.seats.proofs.seat.Seat.leave.Goals as goal
+
+pub nodes-init : goal.nodes-init
+nodes-init g c = record {
+  fit = c.requires.fit;
+  goes = goes_self c.args.self.now;
+  made = search rules;
+  left = search rules;
+  told = search rules;
+  room = search rules;
+  did = closings_none c.args.self.now;
+  gone = λ i low. absurd (omega arith);
+}
+
+pub nodes-preserved : goal.nodes-preserved
+nodes-preserved g c =
+    let v = c.nodes.invariant in let e = c.let_go.ensures in
+    record {
+      fit = e.fit;
+      goes = goes_trans c.args.self.now c.nodes.self c.let_go.new.self v.goes e.goes;
+      made = let a = v.made in let b = e.few.0 in omega (arith, a, b);
+      left = let a = v.left in let b = e.few.1 in omega (arith, a, b);
+      told = let a = v.told in let b = e.told in omega (arith, a, b);
+      room = search rules;
+      did = closings_more c.nodes.node _ c.args.self.now c.nodes.self c.let_go.new.self refl v.did e.did;
+      gone = λ i low. dite (ℕ_discrete i c.nodes.node)
+          (λ here. subst (λ (n : ℕ). HasLeft n c.let_go.new.self.client) (sym here) e.left)
+          (λ more. e.still i (v.gone i (omega arith)));
+    }

@@ -1,0 +1,19 @@
+use Rattle.std.proofs.Common.{◌≡◌, ◌≤◌, ◌<◌, ◌+◌, ◌*◌, ℕ, length, vec_capacity}
+use Rattle.seats.specs.Answered.{AreClosings}
+use Rattle.seats.specs.Doing.{Does}
+use Rattle.seats.specs.Holding.{HasLeft}
+use Rattle.seats.specs.Seated.{IsFit, GoesOn}
+use Rattle.seats.proofs.seat.Seat.leave.Given as goal
+
+-- two calls for each node that was closed, and all of these are left
+abbrev pub invariant-nodes : goal.invariant-nodes
+invariant-nodes g l = record {
+  fit : IsFit l.adapter l.self;
+  goes : GoesOn l.fn.self l.self;
+  made : length l.self.made.items ≤ length l.fn.self.made.items + 2 * l.node;
+  left : l.fn.self.client.left ≤ l.self.client.left + 2 * l.node;
+  told : length l.self.outcomes.items ≤ length l.fn.self.outcomes.items + l.node;
+  room : (vec_capacity l.self.made ≡ vec_capacity l.fn.self.made) × (vec_capacity l.self.outcomes ≡ vec_capacity l.fn.self.outcomes);
+  did : Does (AreClosings l.node) l.fn.self l.self;
+  gone : (i : ℕ) → i < l.node → HasLeft i l.self.client;
+}

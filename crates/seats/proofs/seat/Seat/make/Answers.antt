@@ -1,0 +1,68 @@
+use Rattle.std.proofs.Common.{rules, ◌≡◌, ◌≤◌, ◌++◌, ◌∷◌, [], ◌+◌, length, map, refl, sym, ◌∙◌, subst, arith, false}
+use Rattle.std.specs.Prelude.{slice_index_or}
+use Rattle.std.proofs.lemmas.List.Elements.{All-push}
+use Rattle.std.proofs.lemmas.Option.{slice_get-get_or}
+use Rattle.dmx_calls.specs.Calls.{told_entry}
+use Rattle.dmx_calls.specs.Entries.{told}
+use Rattle.dmx_calls.specs.Log.{LogEntry}
+use Rattle.dmx_calls.specs.declared.limits.TheConstants.{DEMUX_NODES}
+use Rattle.script_run.specs.SoFar.{PassesNone}
+use Rattle.seats.specs.declared.made.Made.{Made}
+use Rattle.seats.specs.Seated.{told_made, log_of, AreOnNodes}
+use Rattle.seats.proofs.Going.{log_long, log_one}
+use Rattle.seats.proofs.Holding.{left_call, closed_call, knows_made}
+use Rattle.seats.proofs.seat.Seat.make.Goals as goal
+
+pub returns-clause-fit : goal.returns-clause-fit
+returns-clause-fit g c =
+    let s = c.args.self.now in let e = c.call-place.ensures in let f = c.requires.fit in
+    let m : Made = record { node = c.args.node; place = c.call-place.result.0; step = c.count-step.result; act = c.of-act.result; reply = c.call-place.result.1.reply } in
+    let items : c.push_reserved.new.self.items ≡ s.made.items ++ m ∷ [] = search rules in
+    let left = f.left in let less = e.left in let size : length c.push_reserved.new.self.items ≡ length s.made.items + 1 = search rules in
+    let log : map told_entry s.log.items ++ map (told_made s.who) c.push_reserved.new.self.items ≡ log_of s ++ told_made s.who m ∷ [] = log_one s.who s.log.items s.made.items c.push_reserved.new.self.items m items in
+    record {
+      fits = e.own;
+      who = f.who ∙ sym e.same.0;
+      left = omega (arith, left, less, size);
+      nodes = subst AreOnNodes (sym log) (All-push (λ (x : LogEntry). x.node ≤ DEMUX_NODES) (log_of s) (told_made s.who m) f.nodes c.requires.node);
+      knows = knows_made s.client c.call-place.new.self c.args.node c.call-place.result.0 (told s.client.who c.args.call c.call-place.result.1) e.entry e.same.0 refl s.held _ (slice_index_or s.held c.args.node false) f.knows (slice_get-get_or s.held c.args.node false (search rules)) (search rules);
+    }
+
+pub returns-clause-goes : goal.returns-clause-goes
+returns-clause-goes g c =
+    let s = c.args.self.now in let e = c.call-place.ensures in let f = c.requires.fit in
+    let m : Made = record { node = c.args.node; place = c.call-place.result.0; step = c.count-step.result; act = c.of-act.result; reply = c.call-place.result.1.reply } in
+    let items : c.push_reserved.new.self.items ≡ s.made.items ++ m ∷ [] = search rules in
+    let here : c.count-step.result ≡ length s.log.items + length s.made.items = search rules in
+    record {
+      calls = told_made s.who m ∷ [];
+      log = log_one s.who s.log.items s.made.items c.push_reserved.new.self.items m items;
+      made = (
+        c.call-place.new.self,
+        here ∙ sym (log_long s),
+        record {
+          entry = told s.client.who c.args.call c.call-place.result.1;
+          made = e.entry;
+          who = (f.who, f.who);
+          act = c.of-act.ensures;
+          response = refl;
+          same = e.same;
+          left = e.left;
+          none = subst PassesNone (sym c.of-act.ensures) c.requires.bare;
+        },
+        refl,
+      );
+    }
+
+pub returns-clause-left : goal.returns-clause-left
+returns-clause-left g c other = left_call c.args.self.now.client c.call-place.new.self c.args.node c.call-place.result.0 _ c.call-place.ensures.entry c.call-place.ensures.same.0 c.requires.fit.knows.own other
+
+pub returns-clause-closed : goal.returns-clause-closed
+returns-clause-closed g c closing = closed_call c.args.self.now.client c.call-place.new.self c.args.node c.call-place.result.0 _ c.call-place.ensures.entry c.call-place.ensures.same.0 c.requires.fit.knows.own refl closing
+
+pub returns-clause-did : goal.returns-clause-did
+returns-clause-did g c =
+    let s = c.args.self.now in
+    let m : Made = record { node = c.args.node; place = c.call-place.result.0; step = c.count-step.result; act = c.of-act.result; reply = c.call-place.result.1.reply } in
+    let items : c.push_reserved.new.self.items ≡ s.made.items ++ m ∷ [] = search rules in
+    record { own = m; has = record { made = items; log = refl; who = refl }; node = refl; act = c.of-act.ensures }

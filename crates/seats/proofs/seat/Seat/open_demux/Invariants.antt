@@ -1,0 +1,17 @@
+use Rattle.std.proofs.Common.{◌≡◌, ◌≤◌, ◌+◌, ◌*◌, length, vec_capacity}
+use Rattle.seats.specs.Doing.{Does}
+use Rattle.seats.specs.Seated.{IsFit, GoesOn}
+use Rattle.seats.proofs.Doing.{HaveTried}
+use Rattle.seats.proofs.seat.Seat.open_demux.Given as goal
+
+-- two calls for each node that was tried
+abbrev pub invariant-nodes : goal.invariant-nodes
+invariant-nodes g l = record {
+  fit : IsFit l.adapter l.self;
+  goes : GoesOn l.fn.self l.self;
+  tried : Does (HaveTried l.node) l.fn.self l.self;
+  made : length l.self.made.items ≤ length l.fn.self.made.items + 2 * l.node;
+  left : l.fn.self.client.left ≤ l.self.client.left + 2 * l.node;
+  room : vec_capacity l.self.made ≡ vec_capacity l.fn.self.made;
+  told : l.self.outcomes ≡ l.fn.self.outcomes;
+}

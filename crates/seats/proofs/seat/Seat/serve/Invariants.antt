@@ -1,0 +1,11 @@
+use Rattle.seats.specs.Seated.{log_of, IsFit, HasRoom, GoesOn}
+use Rattle.seats.proofs.Turning.{HaveTold}
+use Rattle.seats.proofs.seat.Seat.serve.Given as goal
+
+abbrev pub invariant-requests : goal.invariant-requests
+invariant-requests g l = record {
+  fit : IsFit l.adapter l.self;
+  room : HasRoom 66 l.self;
+  goes : GoesOn l.fn.self l.self;
+  told : HaveTold g.T.Source.end g.T.Sink.end l.fn.line l.line (log_of l.fn.self) (log_of l.self);
+}

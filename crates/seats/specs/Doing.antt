@@ -1,0 +1,46 @@
+-- What a seat does: the calls by which its last calls have grown.
+use Rattle.std.specs.Prelude.{◌≡◌, ◌++◌, ◌∷◌, [], ℕ, List, map, slice_get, Some}
+use Rattle.dmx_calls.specs.declared.log.Act.{Act}
+use Rattle.dmx_calls.specs.Calls.{response_of}
+use Rattle.dmx_calls.specs.Log.{LogEntry}
+use Rattle.serve_frames.specs.declared.ask.Ask.{Ask}
+use Rattle.serve_frames.specs.declared.tell.Tell.{Tell}
+use Rattle.seats.specs.declared.made.Made.{Made}
+use Rattle.seats.specs.declared.seat.Seat.{Seat}
+use Rattle.seats.specs.Answered.{act_behind, IsBehind, IsAnswered}
+use Rattle.seats.specs.Seated.{log_of, told_made}
+
+-- these were put behind its last calls, and its log is the same
+pub record HasMade (more : List Made) (old new : Seat) : Type 0 where
+  pub made : new.made.items ≡ old.made.items ++ more
+  pub log : new.log.items ≡ old.log.items
+  pub who : new.who ≡ old.who
+
+-- It has made calls of which this holds.
+pub record Does (P : List LogEntry → Type 0) (old new : Seat) : Type 0 where
+  pub more : List Made
+  pub has : HasMade more old new
+  pub is : P (map (told_made old.who) more)
+
+-- It has made one call on a node.
+pub record MakesOne (on : ℕ) (does : Act) (old new : Seat) : Type 0 where
+  pub own : Made
+  pub has : HasMade (own ∷ []) old new
+  pub node : own.node ≡ on
+  pub act : own.act ≡ does
+
+-- It has made a call on a node, which stands in this place of its last calls, and behind it what the reply asks of the dvr node.
+pub record DoesCommand (on : ℕ) (does : Act) (place : ℕ) (old new : Seat) : Type 0 where
+  pub own : Made
+  pub behind : List Made
+  pub has : HasMade (own ∷ behind) old new
+  pub at : slice_get new.made.items place ≡ Some own
+  pub node : own.node ≡ on
+  pub act : own.act ≡ does
+  pub is : IsBehind (act_behind on (response_of own.reply)) (map (told_made old.who) behind)
+
+-- A request is answered by the calls by which its log has grown.
+pub record HasAnswered (ask : Ask) (now : ℕ) (old new : Seat) (t : Tell) (bytes : List ℕ) : Type 0 where
+  pub calls : List LogEntry
+  pub log : log_of new ≡ log_of old ++ calls
+  pub is : IsAnswered ask now calls t bytes

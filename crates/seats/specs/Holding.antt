@@ -1,0 +1,34 @@
+-- Which nodes are a caller's, by what its passes have seen.
+use Rattle.std.specs.Prelude.{◌≡◌, ◌≢◌, ℕ, Bool, true, false, List, [], ◌∷◌, reverse, slice_get, Some, if◌then◌else◌}
+use Rattle.atomic_table.specs.Seated.{TableId}
+use Rattle.node_lock.specs.declared.view.View.{View}
+use Rattle.node_lock.specs.Passes.{KnowsItsCalls}
+use Rattle.dmx_calls.specs.declared.log.Act.{Act}
+use Rattle.dmx_calls.specs.declared.log.Act.TheVariants.{Open, Close}
+use Rattle.dmx_calls.specs.Entries.{caller_of}
+use Rattle.dmx_calls.specs.History.{Entry}
+use Rattle.dmx_calls.specs.Response.{Response, is_accepted}
+use Rattle.dmx_calls.specs.Tenure.{owner}
+use Rattle.adapter.specs.Callers.{Caller}
+
+-- By what its pass has seen of a node, a caller isn't the owner. What others call changes nothing of this.
+abbrev pub HasLeft : (node : ℕ) → Caller → Type 0
+HasLeft node c =
+    (p : TableId × View Entry) → slice_get c.passes node ≡ Some p → owner (reverse p.1.seen) ≢ Some c.who
+
+-- whether a caller is to be taken for the owner behind a call of its own, where it was so before or not
+abbrev pub has_then : (had : Bool) → Act → Response → Bool
+has_then had Open response = if is_accepted response then true else had
+has_then had Close response = if is_accepted response then false else had
+has_then had _ response = had
+
+-- a pass that is this caller's alone, and knows all of its calls
+pub record IsOwnPass (who : ℕ) (p : TableId × View Entry) : Type 0 where
+  pub number : p.1.number ≡ who
+  pub numbers : p.1.numbers ≡ who ∷ []
+  pub calls : KnowsItsCalls caller_of p.1
+
+-- Its passes are its own, and it has left each node that isn't marked as held.
+pub record KnowsItsNodes (c : Caller) (held : List Bool) : Type 0 where
+  pub own : (node : ℕ) (p : TableId × View Entry) → slice_get c.passes node ≡ Some p → IsOwnPass c.who p
+  pub left : (node : ℕ) → slice_get held node ≡ Some false → HasLeft node c

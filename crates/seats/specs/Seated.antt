@@ -1,0 +1,69 @@
+-- A seat, and how what it keeps is tied to the calls that its client has made.
+use Rattle.std.specs.Prelude.{◌≡◌, ◌≤◌, ◌+◌, ◌^◌, ℕ, List, [], ◌++◌, length, map, slice_get, Some, vec_capacity, All}
+use Rattle.atomic_table.specs.Seated.{TableId}
+use Rattle.dmx_calls.specs.declared.limits.TheConstants.{DEMUX_NODES}
+use Rattle.dmx_calls.specs.Calls.{response_of, told_entry}
+use Rattle.dmx_calls.specs.Log.{LogEntry}
+use Rattle.adapter.specs.Callers.{Caller}
+use Rattle.adapter.specs.Rows.{Fits}
+use Rattle.seats.specs.Calls.{MakesCalls}
+use Rattle.seats.specs.Holding.{KnowsItsNodes}
+use Rattle.seats.specs.declared.made.Made.{Made}
+use Rattle.seats.specs.declared.seat.Seat.{Seat}
+
+-- a call of this caller, as one of a log
+abbrev pub told_made : (who : ℕ) → Made → LogEntry
+told_made who m = record {
+  node = m.node;
+  place = m.place;
+  step = m.step;
+  who = who;
+  act = m.act;
+  response = response_of m.reply;
+}
+
+-- its calls: those of its log, and the last ones
+abbrev pub log_of : Seat → List LogEntry
+log_of s = map told_entry s.log.items ++ map (told_made s.who) s.made.items
+
+-- each call is on one of the 33 nodes
+abbrev pub AreOnNodes : List LogEntry → Type 0
+AreOnNodes calls = All (λ e. e.node ≤ DEMUX_NODES) calls
+
+-- It has memory for so many calls more and as many commands, and so many calls are left.
+pub record HasRoom (calls : ℕ) (s : Seat) : Type 0 where
+  pub made : length s.made.items + calls ≤ vec_capacity s.made
+  pub outcomes : length s.outcomes.items + calls ≤ vec_capacity s.outcomes
+  pub left : calls ≤ s.client.left
+
+-- It has a pass of each of these locks, and keeps so many calls as it has made, each on a node; and it has left each node that
+-- isn't marked as held.
+pub record IsFit (locks : List TableId) (s : Seat) : Type 0 where
+  pub fits : Fits locks s.client.passes
+  pub who : s.who ≡ s.client.who
+  pub left : s.client.left + (length s.log.items + length s.made.items) ≡ 2 ^ 40
+  pub nodes : AreOnNodes (log_of s)
+  pub knows : KnowsItsNodes s.client s.held
+
+-- It is fit, and has room for the calls that give back what it may hold.
+pub record IsReady (locks : List TableId) (s : Seat) : Type 0 where
+  pub fit : IsFit locks s
+  pub room : HasRoom 66 s
+
+-- It is the seat of this caller, and has done nothing yet.
+pub record IsNew (number : ℕ) (s : Seat) : Type 0 where
+  pub who : s.who ≡ number
+  pub log : (s.log.items ≡ []) × (s.made.items ≡ [])
+  pub outcomes : s.outcomes.items ≡ []
+  pub room : (66 ≤ vec_capacity s.made) × (66 ≤ vec_capacity s.outcomes)
+
+-- They are ready seats of these clients, which have done nothing yet.
+pub record AreReady (locks : List TableId) (clients : List Caller) (seats : List Seat) : Type 0 where
+  pub are : map (λ s. s.client) seats ≡ clients
+  pub each : (c : ℕ) (s : Seat) → slice_get seats c ≡ Some s → IsReady locks s × (log_of s ≡ [])
+
+-- The log has grown by just the calls that the client has made, in their order.
+pub record GoesOn (old new : Seat) : Type 0 where
+  pub calls : List LogEntry
+  pub log : log_of new ≡ log_of old ++ calls
+  pub made : MakesCalls (length (log_of old)) old.client calls new.client

@@ -1,0 +1,20 @@
+-- What a seat tells, as bytes.
+use Rattle.std.specs.Prelude.{ℕ, List, [], ◌++◌, length, slice_get, Option, Some, None}
+use Rattle.dmx_calls.specs.Calls.{response_of}
+use Rattle.serve_frames.specs.Tells.{head_of, data_of}
+use Rattle.serve_frames.specs.declared.tell.Tell.{Tell}
+use Rattle.seats.specs.declared.made.Made.{Made}
+
+-- the bytes of a reply: its head, and behind that those that were read
+abbrev pub reply_bytes : Tell → (bytes : List ℕ) → List ℕ
+reply_bytes t bytes = head_of t (length bytes) ++ bytes
+
+-- the bytes that were read by a call, if there is one
+abbrev pub data_read : Option Made → List ℕ
+data_read None = []
+data_read (Some m) = data_of (response_of m.reply)
+
+-- the call in this place of the last ones, if one is told
+abbrev pub call_at : List Made → (at : Option ℕ) → Option Made
+call_at made None = None
+call_at made (Some i) = slice_get made i

@@ -1,0 +1,69 @@
+-- The requests of a line, one after another, and how each is answered.
+use Rattle.std.specs.Prelude.{◌≡◌, ◌++◌, ◌∷◌, [], ◌+◌, ℕ, Bool, true, false, List, length, Option}
+use Rattle.std.specs.List.{flat_map}
+use Rattle.std.specs.Io.KnownBytes.{Appends, Consumes}
+use Rattle.emu_io.specs.Ends.{SourceEnd, SinkEnd}
+use Rattle.dmx_calls.specs.declared.limits.TheConstants.{DEMUX_NODES}
+use Rattle.dmx_calls.specs.Log.{LogEntry}
+use Rattle.serve_frames.specs.Asks.{ask_of}
+use Rattle.serve_frames.specs.declared.numbers.TheConstants.{REQUEST_LEN}
+use Rattle.serve_frames.specs.declared.tell.Tell.{Tell}
+use Rattle.seats.specs.Answered.{IsAnswered, AreClosings}
+use Rattle.seats.specs.Told.{reply_bytes}
+
+-- a request, the moment, the calls that were made for it, what was told, and the bytes that were read
+pub record Turn : Type 0 where
+  pub request : List ℕ
+  pub now : ℕ
+  pub calls : List LogEntry
+  pub told : Tell
+  pub bytes : List ℕ
+
+-- a whole request, and it is answered
+pub record IsTurn (t : Turn) : Type 0 where
+  pub long : length t.request ≡ REQUEST_LEN
+  pub is : IsAnswered (ask_of t.request) t.now t.calls t.told t.bytes
+
+-- the calls of these turns, one after another
+abbrev pub calls_of : List Turn → List LogEntry
+calls_of turns = flat_map (λ t. t.calls) turns
+
+module _ {T : Type 0} (source : T → SourceEnd) (sink : T → SinkEnd) where
+  -- the request is taken from the line
+  pub record IsAsked (t : Turn) (before asked : T) : Type 0 where
+    pub turn : IsTurn t
+    pub taken : Consumes (source before).left (source asked).left t.request
+
+  -- and its reply is written to it, whole
+  pub record IsTold (t : Turn) (before after : T) : Type 0 where
+    pub asked : T
+    pub is : IsAsked t before asked
+    pub told : Appends (sink asked).written (sink after).written (reply_bytes t.told t.bytes)
+
+  -- each of these, one after another
+  abbrev pub AreTold : T → List Turn → T → Type 0
+  AreTold line [] after = after ≡ line
+  AreTold line (t ∷ ts) after = (next : T) × IsTold t line next × AreTold next ts after
+
+  -- none; or one, whose reply couldn't be written whole
+  abbrev pub IsLast : T → List Turn → Type 0
+  IsLast line [] = Unit {0}
+  IsLast line (t ∷ []) = (asked : T) × IsAsked t line asked
+  IsLast line (t ∷ u ∷ ts) = ⊥
+
+  -- The next request is answered: by these calls the log has grown. Where that is the end, no call was made, or the reply wasn't
+  -- written whole.
+  abbrev pub HasTurned : (on : Bool) → (before after : T) → (old new : List LogEntry) → Type 0
+  HasTurned true before after old new = (t : Turn) × IsTold t before after × (new ≡ old ++ t.calls)
+  HasTurned false before after old new = (ts : List Turn) × IsLast before ts × (new ≡ old ++ calls_of ts)
+
+  -- The requests of a line were answered, one after another, and then all nodes closed: by the calls for these the log has grown.
+  pub record HasAnsweredAll (line : T) (old new : List LogEntry) : Type 0 where
+    pub turns : List Turn
+    pub after : T
+    pub told : AreTold line turns after
+    pub last : List Turn
+    pub is : IsLast after last
+    pub leaving : List LogEntry
+    pub closed : AreClosings (DEMUX_NODES + 1) leaving
+    pub log : new ≡ old ++ (calls_of turns ++ (calls_of last ++ leaving))

@@ -1,0 +1,43 @@
+//! Seats: each answers the requests of programs that come one after another, on the nodes of the adapter.
+//!
+//! A seat is a client of the adapter with its calls so far. It has a line, from which requests of 76 bytes come and to which the
+//! replies go (`serve_frames`). A request is answered by no call, by one, or, where a free demux node is looked for, by one for each
+//! node that is tried; where a demux node's reply changes its tap, the next call tells the dvr node of it. Where the line ends,
+//! maybe within a request, or a read or a write of it fails, the seat closes all nodes that its program has. `sit_all` gives each
+//! seat a thread.
+//!
+//! What a contract sees: a seat as its client, its log and what it keeps beside these. `MakesCalls` in `specs/Calls.antt` says that a
+//! caller has made just the calls of a list, one after another, each at the place and with the response that the list has; `GoesOn`
+//! in `specs/Seated.antt` that a seat's log has grown by just the calls that its client has made. `IsAnsweredBy` in
+//! `specs/Answered.antt` is the table of the requests: which calls are made for each, and what is told. `HasAnsweredAll` in
+//! `specs/Turns.antt` says it of a line.
+//!
+//! What is proved, whatever comes on the lines and however the threads fall: from `desks_of` to `sit_all` each seat goes on
+//! (`GoesOn`), so its log is just its calls: no call is left out of it, and nothing else stands in it. An entry of a log takes memory,
+//! so the last calls are kept beside it at first (`Made`), and a request comes to its calls only once there is memory for all that
+//! were made before. Room for the calls by which all nodes are closed is kept at any time, so want of memory keeps no node from being
+//! closed. A seat that has served its line owns no node (`HasServed`), by what its passes have seen; and what others call
+//! makes it no owner.
+//!
+//! Those calls are just the ones that the requests ask for, in the order in which these stand on the line: each request that was
+//! read whole is answered by the calls of the table, or, for want of memory, by none; and the bytes written for it are the reply of
+//! the call whose place they name. Only the last reply of a line may be cut off. Behind them each node is closed at most once.
+//!
+//! What is only tested, in `serve_tests`: that no Close is made on a node that the program hasn't opened.
+//!
+//! Limits: a seat makes at most 2^40 calls, of which 66 are kept for leaving. `desks_of` takes memory, and so does each request. Of
+//! a server no clause says that it answers, nor when.
+#![tactic(auto)]
+
+mod answers;
+mod made;
+mod making;
+mod run;
+mod seat;
+mod serve;
+
+pub use answers::Answered;
+pub use made::Made;
+pub use making::desks_of;
+pub use run::{Desk, sit_all};
+pub use seat::{Book, MOST_CALLS, Seat};

@@ -1,0 +1,120 @@
+// A seat at its line: requests come in, and replies go out.
+ghost use Rattle.std.specs.Prelude.{◌≡◌, ◌<◌, ◌≤◌, ◌+◌, ◌-◌, ℕ, true, length, OnOk, IfSome};
+ghost use Rattle.std.specs.Io.KnownBytes.{Appends, Consumes};
+ghost use Rattle.seats.specs.Seated.{log_of, IsFit, IsReady, HasRoom, GoesOn};
+ghost use Rattle.seats.specs.Served.{HasServed};
+ghost use Rattle.seats.specs.Told.{reply_bytes, data_read, call_at};
+ghost use Rattle.seats.specs.Turns.{HasTurned};
+
+use crate::answers::Answered;
+use crate::seat::Seat;
+use adapter::Adapter;
+use emu_io::{Clock, Failed, Sink, Source};
+use serve_frames::numbers::REQUEST_LEN;
+use serve_frames::{Ask, data_of};
+use std::alloc::Global;
+use std::sync::Wait;
+use std::sync::ledger::Ledger;
+use steps::Steps;
+
+// Fills the buffer. False where the source has ended or failed before.
+fn fill<S: Source>(source: &mut S, into: &mut [u8]) -> bool
+    ensures same { length into.new ≡ length into.old }
+    ensures whole { result ≡ true → Consumes (S.end source.old).left (S.end source.new).left into.new }
+{
+    let mut done = 0;
+    'reading: while done < into.len() {
+        match source.read(&mut into[done..]) {
+            Ok(count) if count > 0 => done += count,
+            _ => return false,
+        }
+    }
+    true
+}
+
+// Writes all the bytes.
+fn write_whole<K: Sink>(sink: &mut K, bytes: &[u8]) -> Result<(), Failed>
+    ensures whole { OnOk result (Appends (K.end sink.old).written (K.end sink.new).written bytes.now) }
+{
+    let mut done = 0;
+    'writing: while done < bytes.len() {
+        let count = sink.write(&bytes[done..])?;
+        done += count;
+    }
+    Ok(())
+}
+
+impl Seat {
+    // The bytes that were read by the call that is told.
+    fn data_at(&self, at: Option<usize>) -> &[u8]
+        requires { IfSome at (λ i. i < length self.now.made.items) }
+        ensures value { result.now ≡ data_read (call_at self.now.made.items at) }
+        ensures few { length result.now ≤ 65536 }
+    {
+        match at {
+            Some(at) => data_of(&self.made[at].reply),
+            None => &[],
+        }
+    }
+
+    // Writes a reply.
+    fn tell<K: Sink>(&self, sink: &mut K, answered: &Answered) -> Result<(), Failed>
+        requires at { IfSome answered.now.at (λ i. i < length self.now.made.items) }
+        ensures whole { OnOk result (Appends (K.end sink.old).written (K.end sink.new).written (reply_bytes answered.now.tell (data_read (call_at self.now.made.items answered.now.at)))) }
+    {
+        let data = self.data_at(answered.at);
+        let head = answered.tell.head(data.len() as u32);
+        write_whole(sink, head.as_slice())?;
+        write_whole(sink, data)
+    }
+
+    // Answers the next request. False where the program has gone.
+    fn turn<T: Source + Sink, C: Clock, L: Ledger, R: Wait>(
+        &mut self,
+        rt: &R,
+        alloc: Global,
+        adapter: &Adapter,
+        line: &mut T,
+        clock: &C,
+        steps: &mut Steps<L>,
+    ) -> bool
+        requires fit { IsFit adapter.now self.old }
+        requires room { HasRoom 66 self.old }
+        ensures fit { IsFit adapter.now self.new }
+        ensures room { HasRoom 66 self.new }
+        ensures goes { GoesOn self.old self.new }
+        ensures turned { HasTurned T.Source.end T.Sink.end result line.old line.new (log_of self.old) (log_of self.new) }
+    {
+        let mut bytes = [0u8; REQUEST_LEN];
+        if !fill(line, &mut bytes) {
+            return false;
+        }
+        let ask = Ask::of(&bytes);
+        let answered = self.answer(rt, alloc, adapter, ask, clock.now(), steps);
+        self.tell(line, &answered).is_ok()
+    }
+
+    /// Answers the requests of its line until that has ended or failed, and then closes what its program has.
+    ///
+    /// Where the line ends within a request, that isn't answered.
+    pub fn serve<T: Source + Sink, C: Clock, L: Ledger, R: Wait>(
+        &mut self,
+        rt: &R,
+        alloc: Global,
+        adapter: &Adapter,
+        line: &mut T,
+        clock: &C,
+        steps: &mut Steps<L>,
+    )
+        requires ready { IsReady adapter.now self.old }
+        ensures { HasServed T.Source.end T.Sink.end adapter.now line.old self.old self.new }
+    {
+        'requests: for _ in rt.forever() {
+            if !self.turn(rt, alloc, adapter, line, clock, steps) {
+                self.leave(rt, adapter, steps);
+                return;
+            }
+        }
+        unreachable!()
+    }
+}

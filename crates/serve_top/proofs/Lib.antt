@@ -1,0 +1,4 @@
+mod Books
+mod Logged
+mod Reporting
+mod Seating

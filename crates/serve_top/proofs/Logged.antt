@@ -1,0 +1,35 @@
+-- From the calls of a seat to what its passes know of them.
+use Rattle.std.proofs.Common.{◌≡◌, ℕ, ◌+◌, List, [], ◌∷◌, ◌++◌, length, refl, sym, ◌∙◌, subst, arith, length-append}
+use Rattle.std.specs.Prelude.{All}
+use Rattle.std.proofs.lemmas.List.{append-nil, append_assoc}
+use Rattle.std.proofs.lemmas.List.Elements.{All-push}
+use Rattle.dmx_calls.specs.Log.{LogEntry}
+use Rattle.script_run.specs.SoFar.{PassesNone}
+use Rattle.adapter.specs.Callers.{Caller, IsSameCaller}
+use Rattle.adapter.specs.Nodes.{IsLegalAt}
+use Rattle.adapter.proofs.Everybody.{same_trans}
+use Rattle.workers.specs.Logged.{IsLogged}
+use Rattle.workers.proofs.Logging.{logged_more}
+use Rattle.workers.proofs.Working.{same_self}
+use Rattle.seats.specs.Calls.{MakesCalls}
+
+-- it is the same caller
+pub same_calls : (n : ℕ) (c : Caller) (es : List LogEntry) (d : Caller) → MakesCalls n c es d → IsSameCaller c d
+same_calls n c [] d m = subst (IsSameCaller c) (sym m) (same_self c)
+same_calls n c (e ∷ es) d m = same_trans c m.0 d m.2.same (same_calls (n + 1) m.0 es d m.3)
+
+-- where its log was that of its calls before, it is so behind these calls
+pub logged_calls : (n : ℕ) (c : Caller) (log es : List LogEntry) (d : Caller) → n ≡ length log → IsLogged c log → MakesCalls n c es d → IsLogged d (log ++ es)
+logged_calls n c log [] d is l m = subst (λ (k : Caller). IsLogged k (log ++ [])) (sym m) (subst (IsLogged c) (sym (append-nil log)) l)
+logged_calls n c log (e ∷ es) d is l m =
+    let k = m.2 in
+    let here : IsLogged m.0 (log ++ e ∷ []) = logged_more c m.0 (IsLegalAt e.node) e.node e.place k.entry k.made k.same.0 log e l refl refl (m.1 ∙ is) k.who.0 (record { who = k.who.1; act = k.act; response = k.response }) in
+    let long : n + 1 ≡ length (log ++ e ∷ []) = omega (arith, is, length-append log (e ∷ [])) in
+    subst (IsLogged d) (append_assoc log (e ∷ []) es) (logged_calls (n + 1) m.0 (log ++ e ∷ []) es d long here m.3)
+
+-- by none of them packets pass
+pub passes_calls : (n : ℕ) (c : Caller) (log es : List LogEntry) (d : Caller) → All (λ (e : LogEntry). PassesNone e.act) log → MakesCalls n c es d → All (λ (e : LogEntry). PassesNone e.act) (log ++ es)
+passes_calls n c log [] d all m = subst (All (λ (e : LogEntry). PassesNone e.act)) (sym (append-nil log)) all
+passes_calls n c log (e ∷ es) d all m =
+    subst (All (λ (z : LogEntry). PassesNone z.act)) (append_assoc log (e ∷ []) es)
+    (passes_calls (n + 1) m.0 (log ++ e ∷ []) es d (All-push (λ (z : LogEntry). PassesNone z.act) log e all m.2.none) m.3)

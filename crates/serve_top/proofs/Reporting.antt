@@ -1,0 +1,109 @@
+-- From what the threads have left to what the report tells.
+use Rattle.std.proofs.Common.{◌≡◌, ◌≤◌, ◌<◌, ◌-◌, ◌^◌, ◌+◌, ℕ, length, None, sym, Bool, true, false, List, [], ◌∷◌, ◌++◌, map, replicate, reverse, Option, ap, ◌∙◌, subst, arith}
+use Rattle.std.specs.Prelude.{slice_index_or, option_map, All}
+use Rattle.std.proofs.lemmas.List.{get_or-replicate}
+use Rattle.std.proofs.lemmas.Option.{slice_get-map, slice_get-get_or}
+use Rattle.adapter.specs.Nodes.{is_in}
+use Rattle.dmx_calls.specs.declared.limits.TheConstants.{DEMUX_NODES}
+use Rattle.std.specs.Io.KnownBytes.{Appends}
+use Rattle.emu_io.specs.Ends.{SourceEnd, SinkEnd}
+use Rattle.atomic_table.specs.Seated.{TableId}
+use Rattle.ts_packet.specs.Cut.{cut}
+use Rattle.ts_packet.specs.declared.size.PacketSize.{PacketSize}
+use Rattle.ts_packet.specs.declared.size.PacketSize.TheVariants.{Of188}
+use Rattle.ts_watch.specs.Head.{told_head, head_of}
+use Rattle.feed_pull.specs.Pulling.{Pulling, Pulls, IsDone, has_failed}
+use Rattle.dmx_calls.specs.declared.outcome.Outcome.{Outcome}
+use Rattle.report_text.specs.Report.{report_of}
+use Rattle.adapter.specs.Callers.{Caller, IsSameCaller, AreFreshCallers, AreAllCallers}
+use Rattle.workers.specs.declared.feeder_worker.FeederWorker.{FeederWorker}
+use Rattle.workers.specs.Feeding.{HasFedAll}
+use Rattle.workers.specs.Telling.{HaveCalled}
+use Rattle.workers.specs.Inside.FeederWork.{IsFitFeeder, HasPassed, HasPassedAll, HasFedToEnd, MayPass}
+use Rattle.workers.proofs.Beginning.{begun_feeder, begun_passed}
+use Rattle.workers.proofs.FeederWork.{as_named}
+use Rattle.client_script.specs.Script.{plain}
+use Rattle.workers.proofs.Leaving.{worked_feeder, no_stop}
+use Rattle.seats.specs.declared.run.Desk.{Desk}
+use Rattle.seats.specs.Seated.{log_of, AreOnNodes, IsReady, AreReady}
+use Rattle.seats.specs.Served.{HaveServed}
+use Rattle.serve_top.specs.declared.left.Left.{Left}
+use Rattle.serve_top.specs.Reported.{every, HasReported, IsNewFeeder, IsLeftBy}
+use Rattle.serve_top.proofs.Seating.{have_called, have_left, have_answered, still_callers, all_nodes}
+
+-- a row that has all nodes
+pub all_in : (node : ℕ) → node ≤ DEMUX_NODES → is_in (replicate (DEMUX_NODES + 1) true) node ≡ every node
+all_in node low = get_or-replicate (DEMUX_NODES + 1) node true false (omega arith)
+
+-- the seats are ready
+pub desks_ready : {T : Type 0} (locks : List TableId) (clients : List Caller) (desks : List (Desk T)) → AreReady locks clients (map (λ (d : Desk T). d.seat) desks) → All (λ (d : Desk T). IsReady locks d.seat) desks
+desks_ready locks clients desks ready k d low =
+    let x = slice_index_or desks k d in
+    (ready.each k x.seat (slice_get-map (λ (z : Desk _). z.seat) desks k ∙ ap (option_map (λ (z : Desk _). z.seat)) (slice_get-get_or desks k d low))).0
+
+module _ {T : Type 0} (source : T → SourceEnd) (sink : T → SinkEnd) (lines : List T) (locks : List TableId) (n : ℕ) (feeder : Caller) (clients : List Caller) (fresh : AreFreshCallers locks n feeder clients) (all : AreAllCallers locks (clients ++ feeder ∷ []))
+    (old new : List (Desk T)) (ready : AreReady locks clients (map (λ (d : Desk T). d.seat) old)) (served : HaveServed source sink locks old new) (are : map (λ (d : Desk T). d.line) old ≡ reverse lines)
+    (may : ℕ → Bool) (x y : SourceEnd) (first : Pulling) (size : first.cutting.size ≡ Of188) (pulls : Pulls [] [] [] first)
+    (f : FeederWorker) (passed : HasPassedAll every 64 may x y first f) (what : Left) (is : IsLeftBy f new what) where
+  taken : List ℕ
+  taken = passed.draws.carries.more
+
+  fed : HasFedAll every 64 may (cut Of188 taken).packets f.feeder f.feeding.items
+  fed = subst (λ (s : PacketSize). HasFedAll every 64 may (cut s taken).packets f.feeder f.feeding.items) size (worked_feeder every 64 may x y first f passed [] pulls)
+
+  called : HaveCalled every (cut Of188 taken).packets f.feeder f.feeding.items (map (λ (d : Desk T). d.seat.client) new) (map (λ (d : Desk T). log_of d.seat) new)
+  called = have_called source sink locks n feeder clients fresh all old new ready served 64 may (cut Of188 taken).packets f.feeder f.feeding.items fed
+
+  head : told_head what.head ≡ head_of Of188 taken (has_failed f.puller.reading)
+  head = is.head taken passed.packets (passed.draws.carries.pulls [] [] [] pulls) ∙ ap (λ (s : PacketSize). head_of s taken (has_failed f.puller.reading)) (passed.draws.carries.size ∙ size)
+
+  pub has_reported : (was now : Option (List ℕ)) (told : List (List Outcome)) → Appends was now (report_of (told_head what.head) told what.histories) → HasReported source sink lines may x y was now
+  has_reported was now told written = record {
+    taken = taken;
+    consumes = passed.draws.carries.consumes;
+    failed = has_failed f.puller.reading;
+    feeder = f.feeder;
+    feeding = f.feeding.items;
+    fed = fed;
+    clients = map (λ (d : Desk T). d.seat.client) new;
+    books = map (λ (d : Desk T). log_of d.seat) new;
+    called = called;
+    asked = have_answered source sink locks n feeder clients fresh all old new ready served lines are;
+    left = have_left source sink locks n feeder clients fresh all old new ready served;
+    histories = what.histories;
+    tells = is.tells every (cut Of188 taken).packets called;
+    told = told;
+    written = subst (λ h. Appends was now (report_of h told what.histories)) head written;
+  }
+
+-- before the first call
+module _ (locks : List TableId) (n : ℕ) (feeder : Caller) (clients : List Caller) (fresh : AreFreshCallers locks n feeder clients) (all : AreAllCallers locks (clients ++ feeder ∷ []))
+    (f : FeederWorker) (is : IsNewFeeder feeder f) where
+  pub may_pass : (faults : ℕ) → faults < 2 ^ 64 - 1 → MayPass 64 faults locks f
+  may_pass faults few = record { some = omega arith; few = omega arith; faults = λ going. few; fit = begun_feeder (plain []) locks n feeder clients fresh all f is.caller is.fed is.given }
+
+  pub has_passed : (among : ℕ → Bool) (may : ℕ → Bool) (x : SourceEnd) → HasPassed among 64 may x x f.puller f
+  has_passed among may x = begun_passed (plain []) locks n feeder clients fresh all f is.caller is.fed is.given among 64 may x
+
+-- as many clients as lines
+pub counted : (locks : List TableId) (n : ℕ) (feeder : Caller) (clients : List Caller) → AreFreshCallers locks n feeder clients → AreFreshCallers locks (length clients) feeder clients
+counted locks n feeder clients fresh = subst (λ (k : ℕ). AreFreshCallers locks k feeder clients) (sym fresh.long) fresh
+
+-- behind the last call
+module _ {T : Type 0} (source : T → SourceEnd) (sink : T → SinkEnd) (lines : List T) (locks : List TableId) (n : ℕ) (feeder : Caller) (clients : List Caller) (fresh : AreFreshCallers locks n feeder clients) (all : AreAllCallers locks (clients ++ feeder ∷ []))
+    (old new : List (Desk T)) (ready : AreReady locks clients (map (λ (d : Desk T). d.seat) old)) (served : HaveServed source sink locks old new) (are : map (λ (d : Desk T). d.line) old ≡ reverse lines)
+    (may : ℕ → Bool) (x y : SourceEnd) (f g : FeederWorker) (is : IsNewFeeder feeder f) (row : List Bool) (whole : row ≡ replicate (DEMUX_NODES + 1) true) (fed : HasFedToEnd (is_in row) 64 may x y f g) (stop : g.stop ≡ None) where
+  passed : HasPassedAll every 64 may x y f.puller g
+  passed = as_named (is_in row) every 64 may x y f.puller g (λ node low. ap (λ (r : List Bool). is_in r node) whole ∙ all_in node low) fed.nodes (fed.all (no_stop g.stop stop))
+
+  pub is_done : IsDone g.puller
+  is_done = passed.done
+
+  pub are_all : AreAllCallers locks (map (λ (d : Desk T). d.seat.client) new ++ g.feeder ∷ [])
+  are_all = still_callers source sink locks n feeder clients fresh all old new ready served g.feeder (subst (λ (c : Caller). IsSameCaller c g.feeder) is.caller fed.same)
+
+  pub are_on_nodes : All (λ (d : Desk T). AreOnNodes (log_of d.seat)) new
+  are_on_nodes = all_nodes source sink locks n feeder clients fresh all old new ready served
+
+  pub is_reported : (what : Left) → IsLeftBy g new what → (was now : Option (List ℕ)) (told : List (List Outcome)) → Appends was now (report_of (told_head what.head) told what.histories) → HasReported source sink lines may x y was now
+  is_reported what left = has_reported source sink lines locks n feeder clients fresh all old new ready served are may x y f.puller is.size is.pulls g passed what left

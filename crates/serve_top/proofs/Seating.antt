@@ -1,0 +1,139 @@
+-- The seats at their end: what they have called, that they are still the adapter's callers, and that they own no node.
+use Rattle.std.proofs.Common.{◌≡◌, ⊎_elim, ℕ, Bool, true, ◌+◌, ◌<◌, ◌≤◌, ◌^◌, List, [], ◌∷◌, ◌++◌, length, map, Vec, Global, Some, refl, ap, sym, ◌∙◌, subst, arith, length-append}
+use Rattle.std.specs.Prelude.{slice_get, slice_index_or, option_map, reverse, All, Option}
+use Rattle.std.proofs.lemmas.Option.{slice_get-map, get_or_from_slice_get, slice_get_within}
+use Rattle.std.proofs.lemmas.List.{length-map}
+use Rattle.std.proofs.lemmas.List.Elements.{All-nil}
+use Rattle.atomic_table.specs.Seated.{TableId}
+use Rattle.emu_io.specs.Ends.{SourceEnd, SinkEnd}
+use Rattle.dmx_calls.specs.declared.histories.Fed.{Fed}
+use Rattle.dmx_calls.specs.declared.limits.TheConstants.{DEMUX_NODES}
+use Rattle.dmx_calls.specs.Log.{LogEntry}
+use Rattle.client_script.specs.Script.{plain}
+use Rattle.script_run.specs.SoFar.{PassesNone}
+use Rattle.adapter.specs.Callers.{Caller, IsSameCaller, AreFreshCallers, AreAllCallers}
+use Rattle.adapter.proofs.Everybody.{still_all}
+use Rattle.adapter.proofs.Lists.{at_place, at_end, one_value}
+use Rattle.workers.specs.Feeding.{HasFedAll}
+use Rattle.workers.specs.Logged.{IsLogged}
+use Rattle.workers.specs.Telling.{HasLogged, HaveCalled}
+use Rattle.workers.proofs.Beginning.{called_none}
+use Rattle.workers.proofs.Lists.{mapped}
+use Rattle.seats.specs.declared.run.Desk.{Desk}
+use Rattle.seats.specs.declared.seat.Seat.{Seat}
+use Rattle.seats.specs.Calls.{MakesCalls}
+use Rattle.seats.specs.Holding.{HasLeft}
+use Rattle.seats.specs.Seated.{log_of, AreOnNodes, IsReady, AreReady, GoesOn}
+use Rattle.seats.specs.Served.{HasServed, HaveServed}
+use Rattle.seats.specs.Turns.{HasAnsweredAll}
+use Rattle.serve_top.specs.Reported.{every}
+use Rattle.serve_top.proofs.Logged.{same_calls, logged_calls, passes_calls}
+
+module _ {T : Type 0} (source : T → SourceEnd) (sink : T → SinkEnd) (locks : List TableId) (n : ℕ) (feeder : Caller) (clients : List Caller) (fresh : AreFreshCallers locks n feeder clients) (all : AreAllCallers locks (clients ++ feeder ∷ []))
+    (old new : List (Desk T)) (ready : AreReady locks clients (map (λ (d : Desk T). d.seat) old)) (h : HaveServed source sink locks old new) where
+  -- its seat before
+  served_at : (k : ℕ) (d : Desk T) → slice_get new k ≡ Some d → (b : Desk T) × (slice_get old k ≡ Some b) × HasServed source sink locks b.line b.seat d.seat
+  served_at k d at =
+      let low = slice_get_within new k d at in let long = h.long in let b = at_place old k (omega arith) in
+      let s = h.each k d (omega arith) in
+      (b.0, b.1, subst (λ (z : Desk T). HasServed source sink locks z.line z.seat d.seat) (get_or_from_slice_get old k b.0 d b.1) (subst (λ (z : Desk T). HasServed source sink locks (slice_index_or old k d).line (slice_index_or old k d).seat z.seat) (get_or_from_slice_get new k d d at) s))
+
+  seat_at : (k : ℕ) (b : Desk T) → slice_get old k ≡ Some b → slice_get (map (λ (d : Desk T). d.seat) old) k ≡ Some b.seat
+  seat_at k b at = slice_get-map (λ (d : Desk T). d.seat) old k ∙ ap (option_map (λ (d : Desk T). d.seat)) at
+
+  client_at : (k : ℕ) (b : Desk T) → slice_get old k ≡ Some b → slice_get clients k ≡ Some b.seat.client
+  client_at k b at = ap (λ (l : List Caller). slice_get l k) (sym ready.are)
+      ∙ (slice_get-map (λ (s : Seat). s.client) (map (λ (d : Desk T). d.seat) old) k ∙ ap (option_map (λ (s : Seat). s.client)) (seat_at k b at))
+
+  count : length new ≡ length clients
+  count = h.long ∙ (sym (length-map old (λ (d : Desk T). d.seat)) ∙ (sym (length-map (map (λ (d : Desk T). d.seat) old) (λ (s : Seat). s.client)) ∙ ap length ready.are))
+
+  -- the calls that it has made, which are its log
+  module _ (k : ℕ) (d : Desk T) (at : slice_get new k ≡ Some d) where
+    b : Desk T
+    b = (served_at k d at).0
+
+    goes : GoesOn b.seat d.seat
+    goes = (served_at k d at).2.goes
+
+    none : log_of b.seat ≡ []
+    none = (ready.each k b.seat (seat_at k b (served_at k d at).1)).1
+
+    log_is : log_of d.seat ≡ goes.calls
+    log_is = goes.log ∙ ap (λ (l : List LogEntry). l ++ goes.calls) none
+
+    made : MakesCalls 0 b.seat.client goes.calls d.seat.client
+    made = subst (λ (l : List LogEntry). MakesCalls (length l) b.seat.client goes.calls d.seat.client) none goes.made
+
+    pub client_same : IsSameCaller b.seat.client d.seat.client
+    client_same = same_calls 0 b.seat.client goes.calls d.seat.client made
+
+    pub has_logged : HasLogged k d.seat.client (log_of d.seat)
+    has_logged =
+        let f = fresh.each k b.seat.client (client_at k b (served_at k d at).1) in
+        record {
+          who = client_same.0 ∙ f.number;
+          logged = subst (IsLogged d.seat.client) (sym log_is) (logged_calls 0 b.seat.client [] goes.calls d.seat.client refl
+              (called_none locks (n + 1) (k + 1) (2 ^ 40) b.seat.client f (plain []) k (λ (m : ℕ). true) refl).logged made);
+          passes = subst (All (λ (e : LogEntry). PassesNone e.act)) (sym log_is) (passes_calls 0 b.seat.client [] goes.calls d.seat.client (All-nil (λ (e : LogEntry). PassesNone e.act)) made);
+        }
+
+  its_clients : List Caller
+  its_clients = map (λ (d : Desk T). d.seat.client) new
+
+  -- they are the same callers
+  pub still_callers : (g : Caller) → IsSameCaller feeder g → AreAllCallers locks (map (λ (d : Desk T). d.seat.client) new ++ g ∷ [])
+  still_callers g same = still_all locks (clients ++ feeder ∷ []) (its_clients ++ g ∷ []) all (size, each) where
+    long : length its_clients ≡ length clients
+    long = length-map new (λ (d : Desk T). d.seat.client) ∙ count
+
+    size : length (its_clients ++ g ∷ []) ≡ length (clients ++ feeder ∷ [])
+    size = length-append its_clients (g ∷ []) ∙ (ap (λ (k : ℕ). k + 1) long ∙ sym (length-append clients (feeder ∷ [])))
+
+    one_same : (k : ℕ) (c d : Caller) → slice_get clients k ≡ Some c → slice_get its_clients k ≡ Some d → IsSameCaller c d
+    one_same k c d at there =
+        let v = mapped (λ (x : Desk T). x.seat.client) new k d there in
+        let u = served_at k v.0 v.1 in
+        let one : u.0.seat.client ≡ c = one_value clients k u.0.seat.client c (client_at k u.0 u.1) at in
+        subst (λ (x : Caller). IsSameCaller x d) one (subst (IsSameCaller u.0.seat.client) v.2 (client_same k v.0 v.1))
+
+    each : (k : ℕ) (c d : Caller) → slice_get (clients ++ feeder ∷ []) k ≡ Some c → slice_get (its_clients ++ g ∷ []) k ≡ Some d → IsSameCaller c d
+    each k c d at there = ⊎_elim
+        (λ before. ⊎_elim (λ after. one_same k c d before after) (λ last. let low = slice_get_within clients k c before in let e = last.0 in absurd (omega (arith, long))) (at_end its_clients g d k there))
+        (λ here. ⊎_elim (λ after. let low = slice_get_within its_clients k d after in let e = here.0 in absurd (omega (arith, long)))
+        (λ last. subst (λ (x : Caller). IsSameCaller x d) here.1 (subst (IsSameCaller feeder) last.1 same)) (at_end its_clients g d k there))
+        (at_end clients feeder c k at)
+
+  -- each entry is on a node
+  pub all_nodes : All (λ (d : Desk T). AreOnNodes (log_of d.seat)) new
+  all_nodes k d low = let long = h.long in (h.each k d (omega arith)).fit.nodes
+
+  -- what was called
+  pub have_called : (most : ℕ) (may : ℕ → Bool) (stream : List (List ℕ)) (g : Caller) (feeding : List Fed) → HasFedAll every most may stream g feeding
+      → HaveCalled every stream g feeding (map (λ (d : Desk T). d.seat.client) new) (map (λ (d : Desk T). log_of d.seat) new)
+  have_called most may stream g feeding fed = record {
+    fed = fed.fed.made;
+    logs = length-map new (λ (d : Desk T). log_of d.seat) ∙ sym (length-map new (λ (d : Desk T). d.seat.client));
+    each = λ k client log at there.
+        let v = mapped (λ (x : Desk T). x.seat.client) new k client at in
+        let w = mapped (λ (x : Desk T). log_of x.seat) new k log there in
+        let same : v.0 ≡ w.0 = one_value new k v.0 w.0 v.1 w.1 in
+        subst (λ (x : Caller). HasLogged k x log) v.2 (subst (HasLogged k v.0.seat.client) w.2 (subst (λ (x : Desk T). HasLogged k v.0.seat.client (log_of x.seat)) same (has_logged k v.0 v.1)));
+    named = λ e is. refl;
+  }
+
+  -- none of them owns a node
+  pub have_left : (k : ℕ) (client : Caller) → slice_get (map (λ (d : Desk T). d.seat.client) new) k ≡ Some client → (node : ℕ) → node ≤ DEMUX_NODES → HasLeft node client
+  have_left k client at node low =
+      let v = mapped (λ (x : Desk T). x.seat.client) new k client at in
+      subst (HasLeft node) v.2 ((served_at k v.0 v.1).2.left node low)
+
+  -- what each has called is what the requests of its line ask for
+  pub have_answered : (lines : List T) → map (λ (d : Desk T). d.line) old ≡ reverse lines → (k : ℕ) (book : List LogEntry) → slice_get (map (λ (d : Desk T). log_of d.seat) new) k ≡ Some book
+      → (line : T) × (slice_get (reverse lines) k ≡ Some line) × HasAnsweredAll source sink line [] book
+  have_answered lines are k book at =
+      let v = mapped (λ (x : Desk T). log_of x.seat) new k book at in
+      let u = served_at k v.0 v.1 in
+      let from : log_of u.0.seat ≡ [] = (ready.each k u.0.seat (seat_at k u.0 u.1)).1 in
+      let there : slice_get (reverse lines) k ≡ Some u.0.line = ap (λ (l : List T). slice_get l k) (sym are) ∙ (slice_get-map (λ (d : Desk T). d.line) old k ∙ ap (option_map (λ (d : Desk T). d.line)) u.1) in
+      (u.0.line, there, subst (HasAnsweredAll source sink u.0.line []) v.2 (subst (λ (l : List LogEntry). HasAnsweredAll source sink u.0.line l (log_of v.0.seat)) from u.2.answers))

@@ -1,0 +1,12 @@
+use Rattle.std.proofs.Common.{◌≡◌, map}
+use Rattle.dmx_calls.specs.Calls.{told_entry}
+use Rattle.seats.specs.declared.run.Desk.{Desk}
+use Rattle.seats.specs.Seated.{log_of}
+use Rattle.serve_top.proofs.left.books_of.Given as goal
+
+abbrev pub invariant-desks : goal.invariant-desks
+invariant-desks g l = record {
+  clients : l.clients.items ≡ map (λ (d : Desk _). d.seat.client) l.yielded;
+  logs : map (λ log. map told_entry log.items) l.logs.items ≡ map (λ (d : Desk _). log_of d.seat) l.yielded;
+  outcomes : map (λ those. those.items) l.outcomes.items ≡ map (λ (d : Desk _). d.seat.outcomes.items) l.yielded;
+}

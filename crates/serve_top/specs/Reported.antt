@@ -1,0 +1,81 @@
+-- What a server has done where it has written its report.
+use Rattle.std.specs.Prelude.{◌≡◌, ◌≤◌, ℕ, Bool, true, List, [], map, reverse, slice_get, Some, Option}
+use Rattle.std.specs.Io.KnownBytes.{Appends, Consumes}
+use Rattle.emu_io.specs.Ends.{SourceEnd, SinkEnd}
+use Rattle.ts_packet.specs.Cut.{cut}
+use Rattle.ts_packet.specs.declared.size.PacketSize.TheVariants.{Of188}
+use Rattle.ts_watch.specs.Head.{told_head, head_of}
+use Rattle.feed_pull.specs.Pulling.{Pulls, has_failed}
+use Rattle.dmx_calls.specs.declared.histories.Fed.{Fed}
+use Rattle.dmx_calls.specs.declared.limits.TheConstants.{DEMUX_NODES}
+use Rattle.dmx_calls.specs.declared.outcome.Outcome.{Outcome}
+use Rattle.dmx_calls.specs.Calls.{told_entry}
+use Rattle.dmx_calls.specs.Log.{LogEntry}
+use Rattle.report_text.specs.Report.{report_of}
+use Rattle.adapter.specs.Callers.{Caller}
+use Rattle.workers.specs.declared.feeder_worker.FeederWorker.{FeederWorker}
+use Rattle.workers.specs.Feeding.{HasFedAll}
+use Rattle.workers.specs.Telling.{HaveCalled, TellWhatWasCalled}
+use Rattle.seats.specs.declared.run.Desk.{Desk}
+use Rattle.seats.specs.Holding.{HasLeft}
+use Rattle.seats.specs.Seated.{log_of}
+use Rattle.seats.specs.Turns.{HasAnsweredAll}
+use Rattle.serve_top.specs.declared.left.Books.{Books}
+use Rattle.serve_top.specs.declared.left.Left.{Left}
+
+-- all nodes
+abbrev pub every : (node : ℕ) → Bool
+every node = true
+
+-- What was read of the stream, what was called by whom and why, and the report that tells just this.
+pub record HasReported {T : Type 0} (source : T → SourceEnd) (sink : T → SinkEnd) (lines : List T) (may : ℕ → Bool)
+    (before after : SourceEnd) (was now : Option (List ℕ)) : Type 0 where
+  -- the bytes that were read, and whether a read has failed
+  pub taken : List ℕ
+  pub consumes : Consumes before.left after.left taken
+  pub failed : Bool
+  -- the stream has passed all nodes, in batches of 64 packets
+  pub feeder : Caller
+  pub feeding : List Fed
+  pub fed : HasFedAll every 64 may (cut Of188 taken).packets feeder feeding
+  -- each client has made just the calls of its log
+  pub clients : List Caller
+  pub books : List (List LogEntry)
+  pub called : HaveCalled every (cut Of188 taken).packets feeder feeding clients books
+  -- these are the calls that the requests of its line ask for, one after another, each told in its reply, and then those by which
+  -- all nodes were closed
+  pub asked : (c : ℕ) (book : List LogEntry) → slice_get books c ≡ Some book
+      → (line : T) × (slice_get (reverse lines) c ≡ Some line) × HasAnsweredAll source sink line [] book
+  -- and behind them it owns no node
+  pub left : (c : ℕ) (client : Caller) → slice_get clients c ≡ Some client → (node : ℕ) → node ≤ DEMUX_NODES
+      → HasLeft node client
+  -- the report tells these calls and no others, as the locks of the nodes have them
+  pub histories : List (List LogEntry)
+  pub tells : TellWhatWasCalled every (cut Of188 taken).packets feeder feeding clients books histories
+  pub told : List (List Outcome)
+  pub written : Appends was now (report_of (head_of Of188 taken failed) told histories)
+
+-- ------ on the way
+
+-- It is the worker of this feeder, and has drawn and fed nothing yet.
+pub record IsNewFeeder (feeder : Caller) (f : FeederWorker) : Type 0 where
+  pub caller : f.feeder ≡ feeder
+  pub fed : f.feeding.items ≡ []
+  pub given : f.puller.given ≡ 0
+  pub pulls : Pulls [] [] [] f.puller
+  pub size : f.puller.cutting.size ≡ Of188
+
+module _ {T : Type 0} where
+  -- these are the clients of the seats, their logs and what became of their commands
+  pub record AreBooksOf (desks : List (Desk T)) (books : Books) : Type 0 where
+    pub clients : books.clients.items ≡ map (λ d. d.seat.client) desks
+    pub logs : map (λ log. map told_entry log.items) books.logs.items ≡ map (λ d. log_of d.seat) desks
+    pub outcomes : map (λ those. those.items) books.outcomes.items ≡ map (λ d. d.seat.outcomes.items) desks
+
+  -- this is left of a feeder and of seats
+  pub record IsLeftBy (feeder : FeederWorker) (desks : List (Desk T)) (left : Left) : Type 0 where
+    pub head : (taken : List ℕ) (given : List (List ℕ)) → Pulls [] taken given feeder.puller
+        → told_head left.head ≡ head_of feeder.puller.cutting.size taken (has_failed feeder.puller.reading)
+    pub tells : (among : ℕ → Bool) (stream : List (List ℕ))
+        → HaveCalled among stream feeder.feeder feeder.feeding.items (map (λ d. d.seat.client) desks) (map (λ d. log_of d.seat) desks)
+        → TellWhatWasCalled among stream feeder.feeder feeder.feeding.items (map (λ d. d.seat.client) desks) (map (λ d. log_of d.seat) desks) left.histories

@@ -1,0 +1,21 @@
+//! What the server does, from its first call to its report: a stream passes, and for each line a seat answers its requests.
+//!
+//! `serve` makes an adapter with a client for each line, passes the stream of a source through its 33 nodes, in batches of 64 packets
+//! and then its end, while `sit_all` of `seats` answers the lines; and writes the report of all calls. The threads of the seats come
+//! behind the stream where none can be made.
+//!
+//! What is proved, whatever comes on the lines and however the threads fall: a report that is written whole is that of the stream's
+//! bytes and of what was called (`HasReported` in `specs/Reported.antt`). Each seat's log is just the calls of its client, at the
+//! places and with the replies that it was told; these and the feeder's batches, and nothing else, are the histories of the
+//! adapter's locks, which the report tells; and behind its log a seat owns no node. The calls of a log are those that the requests
+//! on the seat's line ask for, in their order, and each reply on the line is that of the call that it names (`HasAnsweredAll` of
+//! `seats`). Nothing is written where there was no memory.
+//!
+//! What is only tested, in `serve_tests` and by `serve/check`: what the report tells of the commands, which stand beside the calls.
+#![tactic(auto)]
+
+mod left;
+mod server;
+mod threads;
+
+pub use server::{NoReport, serve};
