@@ -17,7 +17,7 @@ SERVE = os.path.join(TOP, "dvbemu-serve")
 CHECKER = os.path.join(TOP, "crates", "dvbemu", "out", "dvbemu")
 PACKET, BATCH = 188, 64
 # The packets a second, and the seconds that a run may take.
-RATE, MOST = "1500", 150
+RATE, MOST = "1500", 100
 
 
 class Room:
@@ -36,12 +36,14 @@ class Room:
     def run(self, *command, seats="8", rate=RATE):
         """What a command wrote, and its status."""
         words = [SERVE, "--packets", rate, "--seats", seats, "--report", self.report, self.stream, "--", *command]
-        try:
-            ran = subprocess.run(words, stdin=subprocess.DEVNULL, stdout=subprocess.PIPE, stderr=subprocess.STDOUT, text=True,
-                                 errors="replace", timeout=MOST, cwd=self.folder, check=False)  # fmt: skip
-            return ran.stdout, ran.returncode
-        except subprocess.TimeoutExpired as late:
-            return str(late.stdout), "no end"
+        with subprocess.Popen(words, stdin=subprocess.DEVNULL, stdout=subprocess.PIPE, stderr=subprocess.STDOUT, text=True,
+                              errors="replace", cwd=self.folder) as child:  # fmt: skip
+            try:
+                return child.communicate(timeout=MOST)[0], child.returncode
+            except subprocess.TimeoutExpired:
+                # (it ends then what it has started)
+                child.terminate()
+                return child.communicate()[0], "no end"
 
     def work(self, *command, rate=RATE):
         """The processor time that a run of the wrapper takes with all that it starts, and what it wrote."""
@@ -65,7 +67,9 @@ class Room:
         for path, words in (session, []), (told, ["--report"]):
             with open(path, "wb") as out:
                 tool = os.path.join(TOP, "tools", "session")
-                subprocess.run([tool, *words, self.report, self.stream], stdout=out, check=True)
+                made = subprocess.run([tool, *words, self.report, self.stream], stdout=out, stderr=subprocess.PIPE, check=False)
+            if made.returncode:
+                return made.stderr.decode()
         return judge.judge(bytes_of(session), BATCH, bytes_of(told)) or self.checked(bytes_of(session), bytes_of(told))
 
     @staticmethod
