@@ -11,13 +11,20 @@ sys.path[1:1] = [os.path.join(TOP, "tools"), os.path.join(TOP, "fuzz")]
 sys.dont_write_bytecode = True
 
 import judge  # noqa: E402
+import second  # noqa: E402
 from checks import EXAMPLES, Tally, asked_of, bytes_of  # noqa: E402, F401
 
 SERVE = os.path.join(TOP, "dvbemu-serve")
 CHECKER = os.path.join(TOP, "crates", "dvbemu", "out", "dvbemu")
 PACKET, BATCH = 188, 64
-# The packets a second, and the seconds that a run may take.
-RATE, MOST = "1500", 100
+# The packets a second, the seconds that a run may take, and the bytes of a session's script and stream up to which it is done again:
+# the second program is slow.
+RATE, MOST, AGAIN = "1500", 100, 300_000
+
+
+def plain(report):
+    """A report without its moments."""
+    return re.sub(r" at=\d+", "", report)
 
 
 class Room:
@@ -70,7 +77,15 @@ class Room:
                 made = subprocess.run([tool, *words, self.report, self.stream], stdout=out, stderr=subprocess.PIPE, check=False)
             if made.returncode:
                 return made.stderr.decode()
-        return judge.judge(bytes_of(session), BATCH, bytes_of(told)) or self.checked(bytes_of(session), bytes_of(told))
+        given, report = bytes_of(session), bytes_of(told)
+        return judge.judge(given, BATCH, report) or self.checked(given, report) or self.again(given, report, made.stderr)
+
+    @staticmethod
+    def again(session, told, errors):
+        """What is wrong where `steps` does a short session again, of whose calls all can be put into an order."""
+        if len(session) > AGAIN or errors:
+            return ""
+        return "" if plain(second.report(session, BATCH)) == plain(told.decode()) else "steps of its session gives another report"
 
     @staticmethod
     def checked(session, told):
