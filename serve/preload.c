@@ -43,7 +43,7 @@
 enum { OPEN_DEMUX = 1, OPEN_DVR, CLOSE, IOCTL, READ, POLL };
 enum { READABLE = 1, OVERFLOW = 2, TIMED_OUT = 4, SOMETHING = READABLE | OVERFLOW | TIMED_OUT };
 enum { NONE, FRONTEND, DEMUX, DVR };
-enum { MOST_FILES = 4096, FIRST_OWN = 900, ARGUMENT = 60, NAME = 64, PATH = 4200, MOST_READ = 65536, MOST_WATCHED = 2048 };
+enum { MOST_FILES = 4096, FIRST_OWN = 900, ARGUMENT = 60, NAME = 64, FOLDER = 4096, PATH = FOLDER + 104, MOST_READ = 65536, MOST_WATCHED = 2048 };
 enum { SEAT_MS = 5000, FRONTEND_MS = 100, PAUSE_MS = 10, DVR_NODE = 32 };
 /* of which epoll set a device is: none, several, or that of this descriptor */
 enum { NO_SET = -1, SEVERAL_SETS = -2 };
@@ -89,12 +89,24 @@ OWN(readv);
 OWN(ioctl);
 OWN(fcntl);
 OWN(poll);
+OWN(ppoll);
 OWN(select);
-OWN(epoll_wait);
+OWN(pselect);
+OWN(epoll_pwait);
 OWN(epoll_ctl);
+
+/* the server's folder, and the process whose memory this is: a child of vfork has another number and its parent's memory */
+static char folder[FOLDER];
+static pid_t self;
+
+static void forked(void) { self = getpid(); }
 
 static void find(void)
 {
+	const char *there = getenv("DVBEMU_DIR");
+	snprintf(folder, sizeof folder, "%s", there ? there : "");
+	forked();
+	pthread_atfork(NULL, NULL, forked);
 #define FIND(name) real_##name = (__typeof__(&name))dlsym(RTLD_NEXT, #name)
 	FIND(open);
 	FIND(openat);
@@ -105,8 +117,10 @@ static void find(void)
 	FIND(ioctl);
 	FIND(fcntl);
 	FIND(poll);
+	FIND(ppoll);
 	FIND(select);
-	FIND(epoll_wait);
+	FIND(pselect);
+	FIND(epoll_pwait);
 	FIND(epoll_ctl);
 }
 
@@ -203,11 +217,10 @@ static int make_mutex(void)
 /* makes the two pipes and tells their name at the door */
 static int come_in(char *ask, char *tell)
 {
-	const char *folder = getenv("DVBEMU_DIR");
 	char door[PATH], name[NAME] = "";
-	if (!folder || make_mutex())
+	if (!*folder || make_mutex())
 		return -1;
-	snprintf(name, sizeof name, "%d", (int)getpid());
+	snprintf(name, sizeof name, "%d", (int)self);
 	snprintf(door, PATH, "%s/door", folder);
 	snprintf(ask, PATH, "%s/%s.ask", folder, name);
 	snprintf(tell, PATH, "%s/%s.tell", folder, name);
@@ -257,20 +270,32 @@ static int exchange(const struct request *request, struct reply *reply, void *in
 	return bad ? -EIO : -(int)reply->code;
 }
 
-/* one request and its reply, with at most as many bytes as a read asks for: 0 or a negative error */
+/*
+ * One request and its reply, with at most as many bytes as a read asks for: 0 or a negative error. No signal and no end of a thread comes
+ * between them; where a forked child was killed there, nobody knows any more what the line would tell next, and it is given up.
+ */
 static int request(uint32_t verb, uint32_t node, uint32_t number, const void *argument, uint32_t length,
 		   struct reply *reply, void *into)
 {
 	uint32_t room = verb == READ ? number : 0;
 	struct request asked = { verb, node, number, length, { 0 } };
+	sigset_t all, before;
+	int state;
 	if (length)
 		memcpy(asked.argument, argument, length);
 	if (make_mutex())
 		return -ENOMEM;
-	if (pthread_mutex_lock(line.one) == EOWNERDEAD)
+	sigfillset(&all);
+	pthread_sigmask(SIG_SETMASK, &all, &before);
+	pthread_setcancelstate(PTHREAD_CANCEL_DISABLE, &state);
+	if (pthread_mutex_lock(line.one) == EOWNERDEAD) {
 		pthread_mutex_consistent(line.one);
+		leave();
+	}
 	int result = exchange(&asked, reply, into, room);
 	pthread_mutex_unlock(line.one);
+	pthread_setcancelstate(state, NULL);
+	pthread_sigmask(SIG_SETMASK, &before, NULL);
 	return result;
 }
 
@@ -298,7 +323,7 @@ static int bell_of(uint32_t node)
 {
 	char path[PATH];
 	int fd = inotify_init1(IN_NONBLOCK | IN_CLOEXEC);
-	snprintf(path, PATH, "%s/bell.%u", getenv("DVBEMU_DIR"), node);
+	snprintf(path, PATH, "%s/bell.%u", folder, node);
 	if (fd >= 0 && inotify_add_watch(fd, path, IN_MODIFY) < 0) {
 		real_close(fd);
 		return -1;
@@ -325,7 +350,7 @@ static int open_device(int kind, int flags)
 	}
 	uint32_t node = kind == DVR ? DVR_NODE : reply.value;
 	int bell = kind == FRONTEND ? -1 : bell_of(node);
-	files[fd] = (struct file){ .kind = kind, .nonblock = !!(flags & O_NONBLOCK), .bell = bell, .in_set = NO_SET, .node = node, .pid = getpid() };
+	files[fd] = (struct file){ .kind = kind, .nonblock = !!(flags & O_NONBLOCK), .bell = bell, .in_set = NO_SET, .node = node, .pid = self };
 	if (fd >= files_end)
 		files_end = fd + 1;
 	return fd;
@@ -352,8 +377,11 @@ static int open_path(const char *path, int flags)
 /* whether the server has gone while somebody waited */
 static int is_gone;
 
+/* the signals that are blocked while this thread sleeps; none: as they are */
+static __thread const sigset_t *asleep;
+
 /* the bell; -1 in a forked child, which would take what its parent is told */
-static int bell_in(const struct file *file) { return file->pid == getpid() ? file->bell : -1; }
+static int bell_in(const struct file *file) { return file->pid == self ? file->bell : -1; }
 
 /* takes what the bell has told: whether it rang */
 static int has_rung(const struct file *file)
@@ -382,11 +410,23 @@ static int nap_of(const struct file *file, int time)
 /* Sleeps so long, or until one of these has something; the last of them is the server's end. */
 static int doze(struct pollfd *all, nfds_t count, int time)
 {
+	struct timespec most = { time / 1000, time % 1000 * 1000000L };
 	all[count] = (struct pollfd){ line.tell, 0, 0 };
-	int n = real_poll(all, count + 1, time);
+	int n = real_ppoll(all, count + 1, time < 0 ? NULL : &most, asleep);
 	if (n > 0 && all[count].revents)
 		is_gone = 1;
 	return n;
+}
+
+/* Whether a signal's handler ends what waits. The system's poll doesn't say, since it is ended by each. */
+static int may_end(void)
+{
+	for (int i = 1; i < NSIG; i++) {
+		struct sigaction now;
+		if (!sigaction(i, NULL, &now) && now.sa_handler != SIG_DFL && now.sa_handler != SIG_IGN && !(now.sa_flags & SA_RESTART))
+			return 1;
+	}
+	return 0;
 }
 
 /* A section filter gives one section; any other node is read until all bytes are there, where the read blocks. */
@@ -405,8 +445,9 @@ static ssize_t read_device(struct file *file, void *into, size_t count)
 		int error = request(READ, file->node, most, NULL, 0, &reply, (char *)into + done);
 		file->quiet = error == -EAGAIN;
 		if (error == -EAGAIN && !file->nonblock) {
-			doze(bell, 1, nap_of(file, -1));
-			continue;
+			if (doze(bell, 1, nap_of(file, -1)) >= 0 || !may_end())
+				continue;
+			error = -EINTR;
 		}
 		if (error && !done) {
 			errno = -error;
@@ -517,8 +558,10 @@ int close(int fd)
 {
 	struct reply reply;
 	init();
+	if (getpid() != self)
+		return real_close(fd);
 	struct file *file = file_of(fd);
-	if (file && file->pid == getpid() && file->kind != FRONTEND)
+	if (file && file->pid == self && file->kind != FRONTEND)
 		request(CLOSE, file->node, 0, NULL, 0, &reply, NULL);
 	if (file) {
 		file->kind = NONE;
@@ -643,13 +686,18 @@ static int poll_others(struct pollfd *all, nfds_t count, int time)
 	return ready;
 }
 
+static int has_ours(const struct pollfd *all, nfds_t count)
+{
+	for (nfds_t i = 0; i < count && count <= MOST_WATCHED; i++)
+		if (file_of(all[i].fd))
+			return 1;
+	return 0;
+}
+
 int poll(struct pollfd *all, nfds_t count, int time)
 {
-	int ours = 0;
 	init();
-	for (nfds_t i = 0; i < count; i++)
-		ours |= file_of(all[i].fd) != NULL;
-	if (!ours || count > MOST_WATCHED)
+	if (!has_ours(all, count))
 		return real_poll(all, count, time);
 	long since = milliseconds();
 	for (;;) {
@@ -663,11 +711,27 @@ int poll(struct pollfd *all, nfds_t count, int time)
 int __poll_chk(struct pollfd *all, nfds_t count, int time, size_t room);
 int __poll_chk(struct pollfd *all, nfds_t count, int time, size_t room) { return (void)room, poll(all, count, time); }
 
-/* the signals stay as they are */
+/* a time in milliseconds, rounded up; a very long one is some days */
+static int milliseconds_in(long seconds, long nanoseconds)
+{
+	return seconds > 1000000 ? 1000000000 : (int)(seconds * 1000 + (nanoseconds + 999999) / 1000000);
+}
+
 int ppoll(struct pollfd *all, nfds_t count, const struct timespec *time, const sigset_t *signals)
 {
-	(void)signals;
-	return poll(all, count, time ? (int)(time->tv_sec * 1000 + time->tv_nsec / 1000000) : -1);
+	init();
+	if (!has_ours(all, count))
+		return real_ppoll(all, count, time, signals);
+	asleep = signals;
+	int n = poll(all, count, time ? milliseconds_in(time->tv_sec, time->tv_nsec) : -1);
+	asleep = NULL;
+	return n;
+}
+
+int __ppoll_chk(struct pollfd *all, nfds_t count, const struct timespec *time, const sigset_t *signals, size_t room);
+int __ppoll_chk(struct pollfd *all, nfds_t count, const struct timespec *time, const sigset_t *signals, size_t room)
+{
+	return (void)room, ppoll(all, count, time, signals);
 }
 
 static int is_in(int fd, const fd_set *set) { return set && FD_ISSET(fd, set); }
@@ -676,6 +740,14 @@ static int is_in(int fd, const fd_set *set) { return set && FD_ISSET(fd, set); }
 static struct file *asked(int fd, const fd_set *reads, const fd_set *others)
 {
 	return is_in(fd, reads) || is_in(fd, others) ? file_of(fd) : NULL;
+}
+
+static int asks_ours(int count, const fd_set *reads, const fd_set *others)
+{
+	for (int i = 0; i < count; i++)
+		if (asked(i, reads, others))
+			return 1;
+	return 0;
 }
 
 /* sleeps until one of these may have something; negative where a signal comes */
@@ -697,12 +769,10 @@ static int sleep_for(int count, const fd_set *reads, const fd_set *writes, const
 
 int select(int count, fd_set *reads, fd_set *writes, fd_set *others, struct timeval *time)
 {
-	int ours = 0, most = time ? (int)(time->tv_sec * 1000 + (time->tv_usec + 999) / 1000) : -1;
 	init();
-	for (int i = 0; i < count; i++)
-		ours |= asked(i, reads, others) != NULL;
-	if (!ours)
+	if (!asks_ours(count, reads, others))
 		return real_select(count, reads, writes, others, time);
+	int most = time ? milliseconds_in(time->tv_sec, time->tv_usec * 1000) : -1;
 	long since = milliseconds();
 	for (;;) {
 		fd_set r = reads ? *reads : (fd_set){ 0 }, w = writes ? *writes : (fd_set){ 0 }, o = others ? *others : (fd_set){ 0 };
@@ -726,12 +796,16 @@ int select(int count, fd_set *reads, fd_set *writes, fd_set *others, struct time
 	}
 }
 
-/* the signals stay as they are */
 int pselect(int count, fd_set *reads, fd_set *writes, fd_set *others, const struct timespec *time, const sigset_t *signals)
 {
-	struct timeval most = { time ? time->tv_sec : 0, time ? time->tv_nsec / 1000 : 0 };
-	(void)signals;
-	return select(count, reads, writes, others, time ? &most : NULL);
+	struct timeval most = { time ? time->tv_sec : 0, time ? (time->tv_nsec + 999) / 1000 : 0 };
+	init();
+	if (!asks_ours(count, reads, others))
+		return real_pselect(count, reads, writes, others, time, signals);
+	asleep = signals;
+	int n = select(count, reads, writes, others, time ? &most : NULL);
+	asleep = NULL;
+	return n;
 }
 
 /* ------ epoll: a set has the eventfds of devices, which are kept right while the program waits */
@@ -772,7 +846,7 @@ int epoll_wait(int set, struct epoll_event *events, int most, int time)
 			watched[used++] = (struct pollfd){ bell_in(file), POLLIN, 0 };
 			nap = nap_of(file, nap);
 		}
-		int n = real_epoll_wait(set, events, most, used == 1 ? left : 0);
+		int n = real_epoll_pwait(set, events, most, used == 1 ? left : 0, asleep);
 		if (n || !left || used == 1)
 			return n;
 		if (doze(watched, used, nap) < 0)
@@ -782,6 +856,8 @@ int epoll_wait(int set, struct epoll_event *events, int most, int time)
 
 int epoll_pwait(int set, struct epoll_event *events, int most, int time, const sigset_t *signals)
 {
-	(void)signals;
-	return epoll_wait(set, events, most, time);
+	asleep = signals;
+	int n = epoll_wait(set, events, most, time);
+	asleep = NULL;
+	return n;
 }
