@@ -15,7 +15,7 @@ pub fit_stopped : (locks : List TableId) (w : ClientWorker) (stop : Option Stop)
 fit_stopped locks w stop f = record { fits = f.fits; who = f.who; left = f.left; steps = f.steps; nodes = f.nodes }
 
 pub goes_stopped : (may : ℕ → Bool) (old w : ClientWorker) (stop : Option Stop) → GoesOn may old w → GoesOn may old (record w { stop = stop })
-goes_stopped may old w stop goes lines client is = let k = goes lines client is in record { called = k.called; after = k.after }
+goes_stopped may old w stop goes script client is = let k = goes script client is in record { called = k.called; after = k.after }
 
 -- it has come to its end as its calls ended
 pub has_come : (may : ℕ → Bool) (locks : List TableId) (old w : ClientWorker) (r : Result Unit Stop) → IsSameCaller old.client w.client
