@@ -1,4 +1,5 @@
-use Rattle.std.proofs.Common.{arith, refl}
+use Rattle.std.proofs.Common.{◌≡◌, arith, refl}
+use Rattle.serve_top.specs.declared.server.NoReport.TheVariants.{Failed}
 use Rattle.serve_top.proofs.Reporting.{desks_ready, may_pass, has_passed, counted, is_done, are_all, are_on_nodes, is_reported}
 use Rattle.serve_top.proofs.server.serve.Goals as goal
 
@@ -9,22 +10,22 @@ pub desks_of-requires-clause-lines : goal.desks_of-requires-clause-lines
 desks_of-requires-clause-lines g c = let long = c.in_ok-adapter.ensures.fresh.long in let few = c.requires.few in let n = c.len.ensures in omega (arith, long, few, n)
 
 pub sit_and_feed-requires-clause-feeder : goal.sit_and_feed-requires-clause-feeder
-sit_and_feed-requires-clause-feeder g c =
+sit_and_feed-requires-clause-feeder g c κs within =
     let a = c.in_ok-adapter in
     may_pass a.adapter _ a.feeder a.clients.items a.ensures.fresh a.ensures.all c.in_ok-feeder.feeder c.in_ok-feeder.ensures _ c.requires.faults
 
 pub sit_and_feed-requires-clause-begun : goal.sit_and_feed-requires-clause-begun
-sit_and_feed-requires-clause-begun g c =
+sit_and_feed-requires-clause-begun g c κs within =
     let a = c.in_ok-adapter in
     has_passed a.adapter _ a.feeder a.clients.items a.ensures.fresh a.ensures.all c.in_ok-feeder.feeder c.in_ok-feeder.ensures _ _ _
 
 pub sit_and_feed-requires-clause-desks : goal.sit_and_feed-requires-clause-desks
-sit_and_feed-requires-clause-desks g c =
+sit_and_feed-requires-clause-desks g c κs within =
     let a = c.in_ok-adapter in
     desks_ready a.adapter a.clients.items c.in_ok-desks.desks.items (c.in_ok-desks.ensures.ready a.adapter a.feeder (counted a.adapter _ a.feeder a.clients.items a.ensures.fresh))
 
 pub returns-in-Some-clause-failed : goal.returns-in-Some-clause-failed
-returns-in-Some-clause-failed g c h = absurd (c.no_report.ensures h)
+returns-in-Some-clause-failed g c h = let same : c.no_report.result ≡ Failed = cc in absurd (c.no_report.ensures same)
 
 pub left_by-requires-clause-done : goal.left_by-requires-clause-done
 left_by-requires-clause-done g c =
