@@ -134,8 +134,8 @@ fn file_of(rt: &HostRuntime, folder: &str, node: usize) -> io::Result<File> {
         .open(rt, path.as_str())
 }
 
-// The number in four bytes of a request.
-fn number_at(request: &[u8; REQUEST_LEN], at: usize) -> u32
+/// The number in four bytes of a request.
+pub fn number_at(request: &[u8; REQUEST_LEN], at: usize) -> u32
     requires { at ≤ 72 }
 {
     u32::from_le_bytes([
@@ -163,8 +163,25 @@ impl Bells {
         Ok(bells)
     }
 
-    // What an ioctl asks a node for.
-    fn note_ioctl(&self, wanted: &Wanted, request: &[u8; REQUEST_LEN]) {
+    /// A program's request is about to be done.
+    pub fn note(&self, request: &[u8; REQUEST_LEN]) {
+        let verb = number_at(request, 0);
+        let node = number_at(request, 4) as usize;
+        if verb == READ || verb == POLL {
+            if let Some(looked) = self.looked.get(node) {
+                looked.store(1, Ordering::SeqCst);
+            }
+        }
+    }
+
+    /// A program's request was done, and not refused; it isn't told so yet. So what passes before its next look is found by that look.
+    pub fn note_done(&self, request: &[u8; REQUEST_LEN]) {
+        if number_at(request, 0) != IOCTL {
+            return;
+        }
+        let Some(wanted) = self.wanted.get(number_at(request, 4) as usize) else {
+            return;
+        };
         let pid = u16::from_le_bytes([request[ARGUMENT_AT], request[ARGUMENT_AT + 1]]);
         match number_at(request, 8) {
             SET_FILTER | SET_PES => {
@@ -176,25 +193,7 @@ impl Bells {
         }
     }
 
-    /// A program's request is about to be done. It answers the node of an ioctl.
-    pub fn note(&self, request: &[u8; REQUEST_LEN]) -> Option<u32> {
-        let verb = number_at(request, 0);
-        let node = number_at(request, 4);
-        let at = node as usize;
-        if verb == READ || verb == POLL {
-            if let Some(looked) = self.looked.get(at) {
-                looked.store(1, Ordering::SeqCst);
-            }
-        }
-        if verb != IOCTL {
-            return None;
-        }
-        let wanted = self.wanted.get(at)?;
-        self.note_ioctl(wanted, request);
-        Some(node)
-    }
-
-    /// The program of a node has gone.
+    /// The node's program closes it, or has gone; nobody else has it yet.
     pub fn forget(&self, node: u32) {
         if let Some(wanted) = self.wanted.get(node as usize) {
             wanted.clear();

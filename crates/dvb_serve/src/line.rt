@@ -4,9 +4,9 @@ ghost use Rattle.std.specs.Io.{ReadsAtMost};
 ghost use Rattle.std.specs.Io.KnownBytes.{ReadConsumes, WriteAppends};
 ghost use Rattle.emu_io.specs.Causes.{HasCause};
 
-use crate::bells::Bells;
+use crate::bells::{Bells, number_at};
 use emu_io::{Failed, Sink, Source};
-use serve_frames::numbers::{LEAVE, REQUEST_LEN};
+use serve_frames::numbers::{CLOSE, LEAVE, OPEN_DEMUX, OPEN_DVR, REQUEST_LEN};
 use std::fs::{File, OpenOptions};
 use std::io;
 use std::io::{ErrorKind, Read, Write};
@@ -15,6 +15,9 @@ use std::sync::Arc;
 
 // How often a call is made again where a signal interrupts it.
 const TRIES: u64 = u64::MAX;
+
+// The dvr node.
+const DVR: u32 = 32;
 
 // How many bytes a name at the door has: digits, and zeros behind them.
 const NAME: usize = 64;
@@ -99,10 +102,12 @@ pub struct PipeLine {
     door: File,
     bells: Arc<Bells>,
     at: At,
-    // The nodes of whose filters the program has asked for packets: a bit each.
-    asked: u64,
+    // The nodes that the program has, and has not asked to close: a bit each.
+    held: u64,
     request: [u8; REQUEST_LEN],
     given: usize,
+    // Whether a part of the reply was written.
+    told: bool,
     faults: u64,
 }
 
@@ -165,9 +170,10 @@ impl PipeLine {
             door: end_of(rt, path.as_str(), true)?,
             bells: bells.clone()?,
             at: At::Door,
-            asked: 0,
+            held: 0,
             request: [0; REQUEST_LEN],
             given: REQUEST_LEN,
+            told: true,
             faults: 0,
         })
     }
@@ -209,26 +215,48 @@ impl PipeLine {
             self.request = leaving();
         }
         self.given = 0;
+        self.told = false;
         true
     }
 
     // Tells the bells of the request.
     fn note(&mut self) {
-        if let Some(node) = self.bells.note(&self.request)
-            && node < 64
-        {
-            self.asked |= 1 << node;
+        self.bells.note(&self.request);
+        match number_at(&self.request, 0) {
+            CLOSE => self.let_go(number_at(&self.request, 4)),
+            LEAVE => self.forget(),
+            _ => {}
+        }
+    }
+
+    // Tells the bells what the head of the reply says of the request.
+    fn note_told(&mut self, head: &[u8]) {
+        if head.len() < 12 || head[0] != 0 || head[1] != 0 {
+            return;
+        }
+        self.bells.note_done(&self.request);
+        let node = match number_at(&self.request, 0) {
+            OPEN_DEMUX => u32::from(head[8]),
+            OPEN_DVR => DVR,
+            _ => return,
+        };
+        self.bells.forget(node);
+        self.held |= 1 << (node % 64);
+    }
+
+    // Tells the bells that the program has done with a node, if it has it.
+    fn let_go(&mut self, node: u32) {
+        if node < 64 && self.held >> node & 1 == 1 {
+            self.bells.forget(node);
+            self.held &= !(1 << node);
         }
     }
 
     // Tells the bells that the program has gone.
     fn forget(&mut self) {
         'nodes: for node in 0..64 {
-            if self.asked >> node & 1 == 1 {
-                self.bells.forget(node);
-            }
+            self.let_go(node);
         }
-        self.asked = 0;
     }
 }
 
@@ -263,6 +291,10 @@ impl Sink for PipeLine {
         ensures bytes { WriteAppends None None result piece.now }
         ensures cause { HasCause self.old self.new result }
     {
+        if !self.told {
+            self.told = true;
+            self.note_told(piece);
+        }
         let written = match &mut self.at {
             At::Program(program) => write_again(&mut program.to, piece),
             _ => Some(piece.len()),

@@ -49,15 +49,18 @@ module _ {T : Type 0} (source : T → SourceEnd) (sink : T → SinkEnd) (lines :
   taken = passed.draws.carries.more
 
   fed : HasFedAll every 64 may (cut Of188 taken).packets f.feeder f.feeding.items
+  unfolding taken
   fed = subst (λ (s : PacketSize). HasFedAll every 64 may (cut s taken).packets f.feeder f.feeding.items) size (worked_feeder every 64 may x y first f passed [] pulls)
 
   called : HaveCalled every (cut Of188 taken).packets f.feeder f.feeding.items (map (λ (d : Desk T). d.seat.client) new) (map (λ (d : Desk T). log_of d.seat) new)
   called = have_called source sink locks n feeder clients fresh all old new ready served 64 may (cut Of188 taken).packets f.feeder f.feeding.items fed
 
   head : told_head what.head ≡ head_of Of188 taken (has_failed f.puller.reading)
+  unfolding taken
   head = is.head taken passed.packets (passed.draws.carries.pulls [] [] [] pulls) ∙ ap (λ (s : PacketSize). head_of s taken (has_failed f.puller.reading)) (passed.draws.carries.size ∙ size)
 
   pub has_reported : (was now : Option (List ℕ)) (told : List (List Outcome)) → Appends was now (report_of (told_head what.head) told what.histories) → HasReported source sink lines may x y was now
+  unfolding taken
   has_reported was now told written = record {
     taken = taken;
     consumes = passed.draws.carries.consumes;

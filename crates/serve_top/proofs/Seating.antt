@@ -32,7 +32,7 @@ use Rattle.serve_top.proofs.Logged.{same_calls, logged_calls, passes_calls}
 module _ {T : Type 0} (source : T → SourceEnd) (sink : T → SinkEnd) (locks : List TableId) (n : ℕ) (feeder : Caller) (clients : List Caller) (fresh : AreFreshCallers locks n feeder clients) (all : AreAllCallers locks (clients ++ feeder ∷ []))
     (old new : List (Desk T)) (ready : AreReady locks clients (map (λ (d : Desk T). d.seat) old)) (h : HaveServed source sink locks old new) where
   -- its seat before
-  served_at : (k : ℕ) (d : Desk T) → slice_get new k ≡ Some d → (b : Desk T) × (slice_get old k ≡ Some b) × HasServed source sink locks b.line b.seat d.seat
+  pub served_at : (k : ℕ) (d : Desk T) → slice_get new k ≡ Some d → (b : Desk T) × (slice_get old k ≡ Some b) × HasServed source sink locks b.line b.seat d.seat
   served_at k d at =
       let low = slice_get_within new k d at in let long = h.long in let b = at_place old k (omega arith) in
       let s = h.each k d (omega arith) in
@@ -50,13 +50,15 @@ module _ {T : Type 0} (source : T → SourceEnd) (sink : T → SinkEnd) (locks :
 
   -- the calls that it has made, which are its log
   module _ (k : ℕ) (d : Desk T) (at : slice_get new k ≡ Some d) where
-    b : Desk T
+    pub b : Desk T
     b = (served_at k d at).0
 
     goes : GoesOn b.seat d.seat
+    unfolding b served_at
     goes = (served_at k d at).2.goes
 
     none : log_of b.seat ≡ []
+    unfolding b served_at
     none = (ready.each k b.seat (seat_at k b (served_at k d at).1)).1
 
     log_is : log_of d.seat ≡ goes.calls
@@ -69,6 +71,7 @@ module _ {T : Type 0} (source : T → SourceEnd) (sink : T → SinkEnd) (locks :
     client_same = same_calls 0 b.seat.client goes.calls d.seat.client made
 
     pub has_logged : HasLogged k d.seat.client (log_of d.seat)
+    unfolding b served_at
     has_logged =
         let f = fresh.each k b.seat.client (client_at k b (served_at k d at).1) in
         record {
@@ -83,6 +86,7 @@ module _ {T : Type 0} (source : T → SourceEnd) (sink : T → SinkEnd) (locks :
 
   -- they are the same callers
   pub still_callers : (g : Caller) → IsSameCaller feeder g → AreAllCallers locks (map (λ (d : Desk T). d.seat.client) new ++ g ∷ [])
+  unfolding its_clients b served_at
   still_callers g same = still_all locks (clients ++ feeder ∷ []) (its_clients ++ g ∷ []) all (size, each) where
     long : length its_clients ≡ length clients
     long = length-map new (λ (d : Desk T). d.seat.client) ∙ count

@@ -76,11 +76,12 @@ pub fn left_by<T: Drop>(
         feeding,
         ..
     } = feeder;
+    let books = books_of(alloc, desks)?;
     let Books {
         clients,
         logs,
         outcomes,
-    } = books_of(alloc, desks)?;
+    } = books;
     let head = puller.head(alloc)?;
     Ok(Left {
         head,

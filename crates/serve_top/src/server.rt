@@ -1,5 +1,5 @@
 // What a server does from its first call to its report.
-ghost use Rattle.std.specs.Prelude.{◌≡◌, ◌<◌, ◌≤◌, ◌+◌, ◌^◌, ◌-◌, vec_len, All, OnOk, IsErrOf};
+ghost use Rattle.std.specs.Prelude.{◌≡◌, ◌≢◌, ◌<◌, ◌≤◌, ◌+◌, ◌^◌, ◌-◌, vec_len, All, OnOk, IsErrOf};
 ghost use Rattle.emu_io.specs.Causes.{raised};
 ghost use Rattle.serve_top.specs.Reported.{HasReported};
 
@@ -41,7 +41,9 @@ impl From<NoMemory> for NoReport {
 const ALL: [bool; NODES as usize] = [true; NODES as usize];
 
 // Why there is no report where the feeder stopped for this reason.
-fn no_report(stop: Stop) -> NoReport {
+fn no_report(stop: Stop) -> NoReport
+    ensures { result ≢ NoReport.Failed }
+{
     match stop {
         Stop::NoMemory => NoReport::NoMemory,
         Stop::TooLong { .. } => NoReport::TooLong,

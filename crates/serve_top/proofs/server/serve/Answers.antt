@@ -1,32 +1,57 @@
-use Rattle.std.proofs.Common.{rules, ◌≡◌, None, ap, ◌∙◌, sym}
-use Rattle.std.proofs.lemmas.Result.{on_ok_weaker}
-use Rattle.adapter.specs.Nodes.{is_in}
+use Rattle.std.proofs.Common.{◌≡◌, arith, refl}
+use Rattle.serve_top.specs.declared.server.NoReport.TheVariants.{Failed}
 use Rattle.serve_top.proofs.Reporting.{desks_ready, may_pass, has_passed, counted, is_done, are_all, are_on_nodes, is_reported}
 use Rattle.serve_top.proofs.server.serve.Goals as goal
 
 pub desks_of-requires-clause-few : goal.desks_of-requires-clause-few
-desks_of-requires-clause-few g c = ?
+desks_of-requires-clause-few g c = let long = c.in_ok-adapter.ensures.fresh.long in let few = c.requires.few in let n = c.len.ensures in omega (arith, long, few, n)
 
 pub desks_of-requires-clause-lines : goal.desks_of-requires-clause-lines
-desks_of-requires-clause-lines g c = ?
+desks_of-requires-clause-lines g c = let long = c.in_ok-adapter.ensures.fresh.long in let few = c.requires.few in let n = c.len.ensures in omega (arith, long, few, n)
 
 pub sit_and_feed-requires-clause-feeder : goal.sit_and_feed-requires-clause-feeder
-sit_and_feed-requires-clause-feeder g c = ?
+sit_and_feed-requires-clause-feeder g c κs within =
+    let a = c.in_ok-adapter in
+    may_pass a.adapter _ a.feeder a.clients.items a.ensures.fresh a.ensures.all c.in_ok-feeder.feeder c.in_ok-feeder.ensures _ c.requires.faults
 
 pub sit_and_feed-requires-clause-begun : goal.sit_and_feed-requires-clause-begun
-sit_and_feed-requires-clause-begun g c = ?
+sit_and_feed-requires-clause-begun g c κs within =
+    let a = c.in_ok-adapter in
+    has_passed a.adapter _ a.feeder a.clients.items a.ensures.fresh a.ensures.all c.in_ok-feeder.feeder c.in_ok-feeder.ensures _ _ _
 
 pub sit_and_feed-requires-clause-desks : goal.sit_and_feed-requires-clause-desks
-sit_and_feed-requires-clause-desks g c = ?
+sit_and_feed-requires-clause-desks g c κs within =
+    let a = c.in_ok-adapter in
+    desks_ready a.adapter a.clients.items c.in_ok-desks.desks.items (c.in_ok-desks.ensures.ready a.adapter a.feeder (counted a.adapter _ a.feeder a.clients.items a.ensures.fresh))
+
+pub returns-in-Some-clause-failed : goal.returns-in-Some-clause-failed
+returns-in-Some-clause-failed g c h = let same : c.no_report.result ≡ Failed = cc in absurd (c.no_report.ensures same)
 
 pub left_by-requires-clause-done : goal.left_by-requires-clause-done
-left_by-requires-clause-done g c = ?
+left_by-requires-clause-done g c =
+    let a = c.in_ok-adapter in let e = c.sit_and_feed.ensures in
+    is_done g.T.Source.end g.T.Sink.end c.args.lines.items a.adapter _ a.feeder a.clients.items a.ensures.fresh a.ensures.all c.in_ok-desks.desks.items c.sit_and_feed.new.desks.items
+    (c.in_ok-desks.ensures.ready a.adapter a.feeder (counted a.adapter _ a.feeder a.clients.items a.ensures.fresh)) e.desks c.in_ok-desks.ensures.lines
+    _ _ _ c.in_ok-feeder.feeder c.sit_and_feed.new.feeder c.in_ok-feeder.ensures _ refl e.feeder c.in_default.is
 
 pub left_by-requires-clause-all : goal.left_by-requires-clause-all
-left_by-requires-clause-all g c = ?
+left_by-requires-clause-all g c =
+    let a = c.in_ok-adapter in let e = c.sit_and_feed.ensures in
+    are_all g.T.Source.end g.T.Sink.end c.args.lines.items a.adapter _ a.feeder a.clients.items a.ensures.fresh a.ensures.all c.in_ok-desks.desks.items c.sit_and_feed.new.desks.items
+    (c.in_ok-desks.ensures.ready a.adapter a.feeder (counted a.adapter _ a.feeder a.clients.items a.ensures.fresh)) e.desks c.in_ok-desks.ensures.lines
+    _ _ _ c.in_ok-feeder.feeder c.sit_and_feed.new.feeder c.in_ok-feeder.ensures _ refl e.feeder c.in_default.is
 
 pub left_by-requires-clause-nodes : goal.left_by-requires-clause-nodes
-left_by-requires-clause-nodes g c = ?
+left_by-requires-clause-nodes g c =
+    let a = c.in_ok-adapter in let e = c.sit_and_feed.ensures in
+    are_on_nodes g.T.Source.end g.T.Sink.end c.args.lines.items a.adapter _ a.feeder a.clients.items a.ensures.fresh a.ensures.all c.in_ok-desks.desks.items c.sit_and_feed.new.desks.items
+    (c.in_ok-desks.ensures.ready a.adapter a.feeder (counted a.adapter _ a.feeder a.clients.items a.ensures.fresh)) e.desks c.in_ok-desks.ensures.lines
+    _ _ _ c.in_ok-feeder.feeder c.sit_and_feed.new.feeder c.in_ok-feeder.ensures _ refl e.feeder c.in_default.is
 
 pub returns-in-Ok-clause-reported : goal.returns-in-Ok-clause-reported
-returns-in-Ok-clause-reported g c = ?
+returns-in-Ok-clause-reported g c =
+    let a = c.in_ok-adapter in let e = c.sit_and_feed.ensures in
+    is_reported g.T.Source.end g.T.Sink.end c.args.lines.items a.adapter _ a.feeder a.clients.items a.ensures.fresh a.ensures.all c.in_ok-desks.desks.items c.sit_and_feed.new.desks.items
+    (c.in_ok-desks.ensures.ready a.adapter a.feeder (counted a.adapter _ a.feeder a.clients.items a.ensures.fresh)) e.desks c.in_ok-desks.ensures.lines
+    _ _ _ c.in_ok-feeder.feeder c.sit_and_feed.new.feeder c.in_ok-feeder.ensures _ refl e.feeder c.in_default.is
+    c.in_ok-left.left c.in_ok-left.ensures _ _ _ c.in-Ok.ensures.whole
