@@ -92,7 +92,11 @@ static void read_sections(double seconds)
 
 static void record(double seconds)
 {
-	struct dmx_pes_filter_params params = { .pid = ALL, .input = DMX_IN_FRONTEND, .output = DMX_OUT_TS_TAP, .pes_type = DMX_PES_OTHER, .flags = DMX_IMMEDIATE_START };
+	struct dmx_pes_filter_params params = { .pid = ALL,
+						.input = DMX_IN_FRONTEND,
+						.output = DMX_OUT_TS_TAP,
+						.pes_type = DMX_PES_OTHER,
+						.flags = DMX_IMMEDIATE_START };
 	int all = open(dvr, O_RDONLY), fd = open(demux, O_RDWR), lost = 0;
 	long got = 0;
 	if (all < 0 || fd < 0 || ioctl(all, DMX_SET_BUFFER_SIZE, BUFFER) || ioctl(fd, DMX_SET_PES_FILTER, &params))

@@ -8,6 +8,7 @@
     flood   requests as long as there is room for them, of which it reads no answer
 """
 import errno
+import fcntl
 import os
 import signal
 import struct
@@ -59,7 +60,9 @@ class Line:
 
 
 def flood(line):
-    """Asks until there is no room for more."""
+    """Asks until there is no room for more, in pipes that have little."""
+    for pipe in line.ask, line.tell:
+        fcntl.fcntl(pipe, fcntl.F_SETPIPE_SZ, 4096)
     os.set_blocking(line.ask, False)
     quiet = time.monotonic() + 1
     while time.monotonic() < quiet:
