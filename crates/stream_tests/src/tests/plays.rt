@@ -17,13 +17,13 @@ type Wanted = Option<(u64, u32, u8)>;
 // Four writes of one client, and the batch of each.
 struct Row {
     name: &'static str,
-    writes: [(&'static [Part], Wanted); 4],
+    writes: &'static [(&'static [Part], Wanted)],
 }
 
 static ROWS: [Row; 5] = [
     Row {
         name: "a packet in three writes, and one in one",
-        writes: [
+        writes: &[
             (&[(&[0x47, 0x01, 0x00, 0x10], 96, 1)], None),
             (&[(&[], 87, 1)], None),
             (&[(&[], 1, 2)], Some((0, 1, 2))),
@@ -32,7 +32,7 @@ static ROWS: [Row; 5] = [
     },
     Row {
         name: "bytes that are in no packet, nothing, a packet behind two such bytes, and a packet but for its last byte",
-        writes: [
+        writes: &[
             (&[(&[], 300, 0)], None),
             (&[], None),
             (&[(&[0x00, 0x01], 0, 0), (&[0x47], 187, 4)], Some((0, 1, 4))),
@@ -41,7 +41,7 @@ static ROWS: [Row; 5] = [
     },
     Row {
         name: "two packets and half a third, which the next write completes, with one more",
-        writes: [
+        writes: &[
             (
                 &[(&[0x47], 187, 1), (&[0x47], 187, 2), (&[0x47], 99, 3)],
                 Some((0, 2, 1)),
@@ -53,7 +53,7 @@ static ROWS: [Row; 5] = [
     },
     Row {
         name: "as many packets as a write can complete, with a byte less than one left",
-        writes: [
+        writes: &[
             (&[(&[], 187, 0x47)], None),
             (&[(&[], 12_032, 0x47)], Some((0, 64, 0x47))),
             (&[(&[], 1, 7)], Some((64, 1, 7))),
@@ -62,7 +62,7 @@ static ROWS: [Row; 5] = [
     },
     Row {
         name: "bytes without a sync byte behind a packet that has begun, which are of it",
-        writes: [
+        writes: &[
             (&[(&[0x47], 9, 0)], None),
             (&[(&[], 177, 0)], None),
             (&[(&[], 300, 8)], Some((0, 1, 8))),
@@ -102,22 +102,28 @@ fn is_batch<L: Ledger>(batch: Option<&Arc<Batch>>, wanted: Wanted, blank: Blank)
     }
 }
 
+// Whether the write at this place has this batch.
+fn has_batch(plays: &Plays, write: u32, wanted: Wanted) -> bool
+    requires few { length plays.now.batches ≤ 4 }
+{
+    write < plays.len() && is_batch::<Brand>(plays.batch(write), wanted, Blank::new(1))
+}
+
 // The first write of the row that is another, if there is one.
 fn odd_write(alloc: Global, row: &Row) -> Result<Option<u32>, NoMemory> {
     let mut plays = Plays::new(alloc);
-    let [a, b, c, d] = &row.writes;
+    let [a, b, c, d] = row.writes else {
+        return Ok(Some(0));
+    };
     let counts = [
         is_written(alloc, &mut plays, a)?,
         is_written(alloc, &mut plays, b)?,
         is_written(alloc, &mut plays, c)?,
         is_written(alloc, &mut plays, d)?,
     ];
+    let wanted = [a.1, b.1, c.1, d.1];
     for write in 0..4u32 {
-        let wanted = row.writes[write as usize].1;
-        if write >= plays.len()
-            || !counts[write as usize]
-            || !is_batch::<Brand>(plays.batch(write), wanted, Blank::new(1))
-        {
+        if !counts[write as usize] || !has_batch(&plays, write, wanted[write as usize]) {
             return Ok(Some(write));
         }
     }
