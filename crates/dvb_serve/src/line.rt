@@ -90,13 +90,9 @@ enum At {
     Gone,
 }
 
-/// The line of a seat: requests come from one program after another, which tells its name at the door, and replies go to it.
-///
-/// A program makes two named pipes, `NAME.ask` and `NAME.tell` with digits for NAME, and writes NAME, with zeros up to 64 bytes, to
-/// the pipe `door` of the same folder. Where it has gone the line gives the request that closes all its nodes, and what is told to
-/// that goes nowhere. A request is given once it is whole. The line ends where the door does.
+// The programs of a seat, which come one after another.
 #[derive(Drop)]
-pub struct PipeLine {
+struct Programs {
     rt: HostRuntime,
     folder: String,
     door: File,
@@ -104,7 +100,19 @@ pub struct PipeLine {
     at: At,
     // The nodes that the program has, and has not asked to close: a bit each.
     held: u64,
+    // Its last request.
     request: [u8; REQUEST_LEN],
+}
+
+/// The line of a seat: requests come from one program after another, which tells its name at the door, and replies go to it.
+///
+/// A program makes two named pipes, `NAME.ask` and `NAME.tell` with digits for NAME, and writes NAME, with zeros up to 64 bytes, to
+/// the pipe `door` of the same folder. Where it has gone the line gives the request that closes all its nodes, and what is told to
+/// that goes nowhere. A request is given once it is whole. The line ends where the door does.
+#[derive(Drop)]
+pub struct PipeLine {
+    programs: Programs,
+    // How many bytes of the request were given.
     given: usize,
     // Whether a part of the reply was written.
     told: bool,
@@ -160,24 +168,7 @@ fn program_of(rt: &HostRuntime, folder: &str, name: &str) -> io::Result<Program>
     })
 }
 
-impl PipeLine {
-    /// The line at the door of this folder.
-    pub fn new(rt: &HostRuntime, folder: &str, bells: &Arc<Bells>) -> io::Result<PipeLine> {
-        let path = path_of(rt, folder, "door", "")?;
-        Ok(PipeLine {
-            rt: *rt,
-            folder: String::from_str(rt.alloc(), folder)?,
-            door: end_of(rt, path.as_str(), true)?,
-            bells: bells.clone()?,
-            at: At::Door,
-            held: 0,
-            request: [0; REQUEST_LEN],
-            given: REQUEST_LEN,
-            told: true,
-            faults: 0,
-        })
-    }
-
+impl Programs {
     // The next program at the door. What isn't a name there, or names no pipes, is passed over; None where the door has ended.
     fn next_program(&mut self) -> Option<Program> {
         'names: for _ in 0..TRIES {
@@ -214,16 +205,15 @@ impl PipeLine {
             self.forget();
             self.request = leaving();
         }
-        self.given = 0;
-        self.told = false;
         true
     }
 
     // Tells the bells of the request.
     fn note(&mut self) {
         self.bells.note(&self.request);
+        let node = number_at(&self.request, 4);
         match number_at(&self.request, 0) {
-            CLOSE => self.let_go(number_at(&self.request, 4)),
+            CLOSE => self.let_go(node),
             LEAVE => self.forget(),
             _ => {}
         }
@@ -258,6 +248,43 @@ impl PipeLine {
             self.let_go(node);
         }
     }
+
+    // Writes to the program at least one byte, and says how many. Where it takes none any more, all of them go nowhere.
+    fn write(&mut self, piece: &[u8]) -> usize
+        requires { 0 < length piece.now }
+        ensures { (1 ≤ result) × (result ≤ length piece.now) }
+    {
+        let At::Program(program) = &mut self.at else {
+            return piece.len();
+        };
+        if let Some(count) = write_again(&mut program.to, piece) {
+            return count;
+        }
+        self.at = At::Gone;
+        piece.len()
+    }
+}
+
+impl PipeLine {
+    /// The line at the door of this folder.
+    pub fn new(rt: &HostRuntime, folder: &str, bells: &Arc<Bells>) -> io::Result<PipeLine> {
+        let path = path_of(rt, folder, "door", "")?;
+        let programs = Programs {
+            rt: *rt,
+            folder: String::from_str(rt.alloc(), folder)?,
+            door: end_of(rt, path.as_str(), true)?,
+            bells: bells.clone()?,
+            at: At::Door,
+            held: 0,
+            request: [0; REQUEST_LEN],
+        };
+        Ok(PipeLine {
+            programs,
+            given: REQUEST_LEN,
+            told: true,
+            faults: 0,
+        })
+    }
 }
 
 impl Source for PipeLine {
@@ -270,13 +297,18 @@ impl Source for PipeLine {
         ensures bytes { ReadConsumes None None result into.new }
         ensures cause { HasCause self.old self.new result }
     {
-        if self.given == REQUEST_LEN && !self.next_request() {
-            return Ok(0);
+        if self.given == REQUEST_LEN {
+            if !self.programs.next_request() {
+                return Ok(0);
+            }
+            self.given = 0;
+            self.told = false;
         }
-        let rest = &self.request[self.given..];
+        let given = self.given;
+        let rest = &self.programs.request[given..];
         let count = rest.len().min(into.len());
         into[..count].copy_from_slice(&rest[..count]);
-        self.given += count;
+        self.given = given + count;
         Ok(count)
     }
 }
@@ -293,18 +325,8 @@ impl Sink for PipeLine {
     {
         if !self.told {
             self.told = true;
-            self.note_told(piece);
+            self.programs.note_told(piece);
         }
-        let written = match &mut self.at {
-            At::Program(program) => write_again(&mut program.to, piece),
-            _ => Some(piece.len()),
-        };
-        match written {
-            Some(count) => Ok(count),
-            None => {
-                self.at = At::Gone;
-                Ok(piece.len())
-            }
-        }
+        Ok(self.programs.write(piece))
     }
 }

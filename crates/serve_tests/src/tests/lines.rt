@@ -165,6 +165,20 @@ fn a_program_that_leaves_has_no_node_any_more(rt: HostRuntime) {
 }
 
 #[test]
+fn a_poll_has_the_moment_of_the_clock(rt: HostRuntime) {
+    let Some(whole) = joined(rt.alloc(), &[open(), request(6, 0, 0, &[])]) else {
+        panic!(rt; "no memory");
+    };
+    let Some(left) = sat(&rt, rt.alloc(), &whole, 1000) else {
+        panic!(rt; "no memory");
+    };
+    let Some(poll) = left.log.get(1) else {
+        panic!(rt; "no poll");
+    };
+    assert!(rt; poll.act.act() == Act::Poll { now: 7 });
+}
+
+#[test]
 fn behind_32_nodes_an_open_is_emfile(rt: HostRuntime) {
     let Some(whole) = joined(rt.alloc(), &[open(); 33]) else {
         panic!(rt; "no memory");
