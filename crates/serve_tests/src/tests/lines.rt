@@ -107,7 +107,7 @@ fn is_cut<R: Wait>(rt: &R, alloc: Global, whole: &[u8], cut: usize) -> bool {
         return false;
     };
     match sat(rt, alloc, requests, 1000) {
-        Some(left) => left.written == [0; 24].as_slice()
+        Some(left) => left.written.as_slice() == [0; 24].as_slice()
             && left.log.len() == 2
             && closes(&left.log) == 1,
         None => false,
@@ -145,7 +145,7 @@ fn where_a_reply_finds_no_room_the_node_is_closed(rt: HostRuntime) {
     let Some(left) = sat(&rt, rt.alloc(), &whole, 10) else {
         panic!(rt; "no memory");
     };
-    assert!(rt; left.written == [0; 10].as_slice());
+    assert!(rt; left.written.as_slice() == [0; 10].as_slice());
     assert!(rt; left.log.len() == 2 && closes(&left.log) == 1);
 }
 

@@ -80,5 +80,5 @@ fn where_the_report_finds_no_room_its_front_is_written(rt: HostRuntime) {
         panic!(rt; "no memory");
     };
     assert!(rt; ended == Err(NoReport::Failed));
-    assert!(rt; report == b"dvbem".as_slice());
+    assert!(rt; report.as_slice() == b"dvbem".as_slice());
 }
