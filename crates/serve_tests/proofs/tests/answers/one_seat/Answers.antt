@@ -27,7 +27,7 @@ pub returns-clause-ready : goal.returns-clause-ready
 returns-clause-ready c =
     let locks = c.args.adapter.now in let clients = c.args.clients.items in let desks = c.in_ok-desks.desks in
     let ready = if_some (λ (v : Vec (Desk ℕ) Global). (ls : List TableId) (f : Caller) → AreFreshCallers ls (length clients) f clients → AreReady ls clients (map (λ (d : Desk ℕ). d.seat) v.items))
-        c.desks_of.result desks c.in_ok-desks.ensures.value c.desks_of.ensures.ready in
+    c.desks_of.result desks c.in_ok-desks.ensures.value c.desks_of.ensures.ready in
     let all = all_ready locks clients desks.items (ready locks c.args.feeder.now (counted locks 1 c.args.feeder.now clients c.requires)) in
     (All-pop (λ (d : Desk ℕ). IsReady locks d.seat) desks.items c.pop.new.self.items (Some c.in_ok-seat.field-0) c.in_ok-seat.ensures.items all).1
 
