@@ -1,5 +1,5 @@
 // What a server writes at its end, over a stream and lines in memory.
-ghost use Rattle.std.specs.Prelude.{◌≡◌, ◌<◌, ◌≤◌, ◌^◌, ◌-◌};
+ghost use Rattle.std.specs.Prelude.{◌≡◌, ◌<◌, ◌≤◌, ◌^◌, ◌-◌, length};
 
 use super::lines::{MemLine, joined};
 use super::request;
@@ -47,7 +47,9 @@ fn served<R: Threads + Wait + Sync>(
 }
 
 // Whether these bytes stand in those.
-fn has(bytes: &[u8], part: &[u8]) -> bool {
+fn has(bytes: &[u8], part: &[u8]) -> bool
+    requires { 0 < length part.now }
+{
     bytes.windows(part.len()).any(|window| window == part)
 }
 
