@@ -66,7 +66,7 @@ can_ask_all _ = tt
 
 all_can_begin : (cs : List Command) → All (CanBegin 33) cs
 all_can_begin [] = All-nil (CanBegin 33)
-all_can_begin (c ∷ cs) = All-cons (CanBegin 33) c cs (can_ask_all c.verb) (all_can_begin cs)
+all_can_begin (c ∷ cs) = All-cons (CanBegin 33) c cs (can_ask_all c.deed) (all_can_begin cs)
 
 pub can_begin : (asked : Bool) (cs : List Command) → (asked ≡ false → All (CanBegin 0) cs) → All (CanBegin (length (fresh_clocks asked))) cs
 can_begin true cs none = all_can_begin cs

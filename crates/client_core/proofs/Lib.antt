@@ -4,3 +4,4 @@ pub mod Following
 pub mod More
 pub mod Numbering
 pub mod Ended
+pub mod Playing

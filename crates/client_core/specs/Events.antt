@@ -40,7 +40,7 @@ with_ended command p = record { ended = command ∷ p.ended; standing = p.standi
 -- replies and leaves the rest to the next.
 abbrev pub progress_from : Slots → (step : ℕ) → List Command → List Response → Progress
 progress_from slots step [] replies = record { ended = []; standing = None }
-progress_from slots step (c ∷ cs) replies = elim (done slots c.target c.verb step replies) [
+progress_from slots step (c ∷ cs) replies = elim (done slots c.target c.deed step replies) [
   | stands event ↦ record { ended = []; standing = Some (record { line = c.line; from = step; event = event }) }
   | through ending next left ↦
       with_ended (record { line = c.line; from = step; to = next; ending = ending })

@@ -34,6 +34,7 @@ mod call;
 mod client;
 mod clocks;
 mod command;
+mod deed;
 mod event;
 pub mod examples;
 mod laws;

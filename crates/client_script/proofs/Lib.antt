@@ -8,3 +8,4 @@ pub mod RequestsAgain
 pub mod Scripts
 pub mod Searching
 pub mod Splitting
+pub mod Taking

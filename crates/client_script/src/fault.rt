@@ -3,7 +3,7 @@ ghost use Rattle.std.specs.Prelude.{◌≡◌};
 ghost use Rattle.client_script.specs.FaultNames.{fault_text};
 ghost use Rattle.client_script.specs.declared.fault.ScriptError.TheVariants.{NoMemory as WantOfMemory};
 
-use std::alloc::AllocFailed;
+use std::alloc::{AllocError, AllocFailed};
 
 /// What a script's first fault is.
 #[derive(Clone, Copy, Debug, PartialEq, Eq, Drop)]
@@ -61,6 +61,14 @@ pub enum ScriptError {
     Fault(ScriptFault),
     /// Memory was refused.
     NoMemory,
+}
+
+impl From<AllocError> for ScriptError {
+    ghost from_gives = { λ _ e. e ≡ WantOfMemory };
+
+    fn from(_e: AllocError) -> ScriptError {
+        ScriptError::NoMemory
+    }
 }
 
 impl<T: Drop> From<AllocFailed<T>> for ScriptError {

@@ -48,10 +48,12 @@ mod part;
 mod pieces;
 mod places;
 mod requests;
+mod said;
 mod script;
 mod spelling;
 mod verbs;
 mod words;
+mod writes;
 
 pub use fault::{FaultKind, ScriptError, ScriptFault};
 pub use laws::{
@@ -61,5 +63,6 @@ pub use laws::{
 pub use line::{Line, Target, Verb, Want};
 pub use part::ScriptPart;
 pub use requests::{Argument, argument_named, request_number, verb_of, want_of};
+pub use said::{MOST_WRITTEN, Written, written_named};
 pub use script::{MOST_BYTES, Script};
 pub use spelling::print;

@@ -1,15 +1,18 @@
 // The lines of a whole script.
-ghost use Rattle.std.specs.Prelude.{◌≡◌, ◌+◌, ◌≤◌, ◌∷◌, ◌++◌, [], length, map, IfOk, IfSome, OnOk, MatchOption};
+ghost use Rattle.std.specs.Prelude.{◌≡◌, ◌+◌, ◌≤◌, ◌∷◌, ◌++◌, [], length, slice_set, IfOk, IfErr, IfSome, OnOk, MatchOption};
 ghost use Rattle.std.specs.List.{All};
-ghost use Rattle.client_script.specs.Grammar.{line_of as line_by_grammar, meaning as meaning_of, is_passed_over, IsInRange};
-ghost use Rattle.client_script.specs.Script.{whole_lines, grammar, most_bytes, clients_of, clients_in, lines_of, IsScript, IsRead};
+ghost use Rattle.client_script.specs.Grammar.{line_of as line_by_grammar, meaning as meaning_of, is_passed_over, IsInRange, IsSaidInRange};
+ghost use Rattle.client_script.specs.Writes.{IsWritten};
+ghost use Rattle.client_script.specs.Script.{whole_lines, grammar, most_bytes, clients_of, clients_in, plain, writes_of, written_by, with_said, HasWrite, IsOnDvr, IsScript, IsRead};
 
 use crate::fault::{FaultKind, ScriptError, ScriptFault};
-use crate::line::Line;
+use crate::line::{Line, Target, Verb};
 use crate::pieces::cut_at;
+use crate::said::Said;
 use crate::verbs::read_words;
 use crate::words::Words;
-use std::alloc::{AllocFailed, Global};
+use crate::writes::ClientWrites;
+use std::alloc::Global;
 use std::marker::Model;
 use text_forms::is_word;
 
@@ -20,16 +23,17 @@ pub const MOST_BYTES: usize = 1_048_576;
 #[derive(Debug, Drop)]
 pub struct Script {
     lines: Vec<Line>,
+    writes: [ClientWrites; 8],
 }
 
 impl Model for Script {
-    ghost use Rattle.client_script.specs.Script.{IsScript, Scripted, plain};
+    ghost use Rattle.client_script.specs.Script.{IsScript, Scripted};
 
     ghost Value = { Scripted };
 
-    ghost view = { λ s. plain s.lines.items };
+    ghost view = { λ s. record { lines = s.lines.items; writes = s.writes } };
 
-    ghost invariant = { λ s. IsScript (plain s.lines.items) };
+    ghost invariant = { λ s. IsScript (record { lines = s.lines.items; writes = s.writes }) };
 }
 
 // Whether a line is empty or a comment.
@@ -42,33 +46,33 @@ fn passes_over(line: &[u8]) -> bool
     }
 }
 
-// What a line asks for.
+// What a line says.
 #[tactic(auto, unfolding(crate::specs::Grammar::line_of))]
-fn read_line(number: u32, line: &[u8]) -> Result<Line, FaultKind>
+fn read_line(number: u32, line: &[u8]) -> Result<Said<'_>, FaultKind>
     requires { (1 ≤ number) × (number ≤ 1048576) }
     ensures value { result ≡ line_by_grammar number line.now }
-    ensures range { IfOk result IsInRange }
+    ensures range { IfOk result IsSaidInRange }
 {
     let mut words = Words::of(line);
-    let asked = read_words(number, &mut words)?;
+    let said = read_words(number, &mut words)?;
     match words.next() {
-        None => Ok(asked),
+        None => Ok(said),
         Some(_) => Err(FaultKind::Count),
     }
 }
 
-// What a line means: nothing, or what it asks for.
+// What a line means: nothing, or what it says.
 #[tactic(auto, unfolding(crate::specs::Grammar::meaning))]
-fn meaning(number: u32, line: &[u8]) -> Result<Option<Line>, FaultKind>
+fn meaning(number: u32, line: &[u8]) -> Result<Option<Said<'_>>, FaultKind>
     requires { (1 ≤ number) × (number ≤ 1048576) }
     ensures value { result ≡ meaning_of number line.now }
-    ensures range { IfOk result (λ asked. IfSome asked IsInRange) }
+    ensures range { IfOk result (λ said. IfSome said IsSaidInRange) }
 {
     if passes_over(line) {
         return Ok(None);
     }
-    let asked = read_line(number, line)?;
-    Ok(Some(asked))
+    let said = read_line(number, line)?;
+    Ok(Some(said))
 }
 
 // The first whole line without its line feed, and the bytes behind it; None where there is no line feed.
@@ -78,20 +82,6 @@ fn next_line(bytes: &[u8]) -> Option<(&[u8], &[u8])>
 {
     let (line, behind) = cut_at(b'\n', bytes);
     Some((line, behind?))
-}
-
-// Puts what a line asks for, if anything, behind the lines.
-fn add_line(lines: &mut Vec<Line>, asked: Option<Line>) -> Result<(), AllocFailed<Line>>
-    requires ranges { All IsInRange lines.old.items }
-    requires range { IfSome asked IsInRange }
-    ensures added { OnOk result (lines.new.items ≡ lines.old.items ++ lines_of asked) }
-    ensures ranges { OnOk result (All IsInRange lines.new.items) }
-    ensures longer { OnOk result (length lines.new.items ≤ length lines.old.items + 1) }
-{
-    if let Some(asked) = asked {
-        lines.push(asked)?;
-    }
-    Ok(())
 }
 
 // The fault of this kind in this line.
@@ -114,6 +104,83 @@ fn clients_named(line: &Line) -> u32
 }
 
 impl Script {
+    // Without a line. No memory is taken.
+    fn empty(alloc: Global) -> Script
+        ensures { result ≡ plain [] }
+    {
+        Script {
+            lines: Vec::new(alloc),
+            writes: [
+                ClientWrites::new(alloc),
+                ClientWrites::new(alloc),
+                ClientWrites::new(alloc),
+                ClientWrites::new(alloc),
+                ClientWrites::new(alloc),
+                ClientWrites::new(alloc),
+                ClientWrites::new(alloc),
+                ClientWrites::new(alloc),
+            ],
+        }
+    }
+
+    // Takes a line that asks for something.
+    fn add_line(&mut self, line: Line) -> Result<(), ScriptError>
+        requires few { length self.old.lines < most_bytes }
+        requires range { IsInRange line }
+        requires on_dvr { IsOnDvr line }
+        requires named { HasWrite self.old.writes line }
+        ensures added { OnOk result (self.new ≡ record self.old { lines = self.old.lines ++ line ∷ [] }) }
+        ensures refused { IfErr result (λ error. error ≡ ScriptError.NoMemory) }
+    {
+        self.lines.push(line)?;
+        Ok(())
+    }
+
+    // Takes the bytes of a client's next write.
+    fn add_bytes(&mut self, client: u32, bytes: Vec<u8>) -> Result<u32, ScriptError>
+        requires client { client ≤ 7 }
+        requires few { length (writes_of client self.old.writes) < most_bytes }
+        requires range { IsWritten bytes.items }
+        ensures added { OnOk result (self.new ≡ record self.old { writes = slice_set self.old.writes client (writes_of client self.old.writes ++ bytes.items ∷ []) }) }
+        ensures number { IfOk result (λ write. write ≡ length (writes_of client self.old.writes)) }
+        ensures refused { IfErr result (λ error. error ≡ ScriptError.NoMemory) }
+    {
+        let writes = &mut self.writes[client as usize];
+        let write = writes.len() as u32;
+        writes.push(bytes)?;
+        Ok(write)
+    }
+
+    // Takes what a line says.
+    fn add(&mut self, alloc: Global, said: Option<Said<'_>>) -> Result<(), ScriptError>
+        requires lines { length self.old.lines < most_bytes }
+        requires writes { All (λ writes. length writes < most_bytes) self.old.writes }
+        requires range { IfSome said IsSaidInRange }
+        ensures added { OnOk result (self.new ≡ with_said said self.old) }
+        ensures refused { IfErr result (λ error. error ≡ ScriptError.NoMemory) }
+    {
+        match said {
+            None => Ok(()),
+            Some(Said::Asks(line)) => self.add_line(line),
+            Some(
+                Said::Writes {
+                    line,
+                    client,
+                    bytes,
+                },
+            ) => {
+                let bytes = bytes.copied(alloc)?;
+                let write = self.add_bytes(client, bytes)?;
+                self.add_line(Line::Command {
+                    line,
+                    client,
+                    target: Target::Dvr,
+                    verb: Verb::Write(write),
+                })
+            }
+        }
+    }
+
     /// Reads a script: the bytes up to and with its line `stream`, or all bytes that were searched for that line.
     ///
     /// # Errors
@@ -123,21 +190,39 @@ impl Script {
         requires { length bytes.now ≤ most_bytes }
         ensures { IsRead result (grammar bytes.now) }
     {
-        let mut lines = Vec::new(alloc);
+        let mut script = Script::empty(alloc);
         let mut number: u32 = 1;
         let mut rest = bytes;
         'lines: while let Some((line, behind)) = next_line(rest) {
             if is_word(line, "stream") {
-                return Ok(Script { lines });
+                return Ok(script);
             }
             match meaning(number, line) {
-                Ok(asked) => add_line(&mut lines, asked)?,
+                Ok(said) => script.add(alloc, said)?,
                 Err(kind) => return Err(fault(number, kind)),
             }
             number += 1;
             rest = behind;
         }
         Err(fault(number, FaultKind::NoStream))
+    }
+
+    /// How many writes a client makes.
+    pub fn writes(&self, client: u32) -> u32
+        requires { client ≤ 7 }
+        ensures count { result ≡ length (writes_of client self.now.writes) }
+        ensures bound { result ≤ most_bytes }
+    {
+        self.writes[client as usize].len() as u32
+    }
+
+    /// The bytes of a write of a client, which makes more writes than this.
+    pub fn written(&self, client: u32, write: u32) -> &[u8]
+        requires { write < length (writes_of client self.now.writes) }
+        ensures bytes { result.now ≡ written_by client self.now.writes write }
+        ensures known { IsWritten result.now }
+    {
+        self.writes[client as usize].get(write as usize)
     }
 
     /// The lines, in their order.

@@ -16,7 +16,7 @@ use Rattle.filter_match.specs.Places.{with_place}
 use Rattle.text_forms.specs.Places.{place_with, place_named}
 use Rattle.client_script.specs.Words.{word_in}
 use Rattle.client_script.specs.Places.{places_in, filter_in}
-use Rattle.client_script.specs.Grammar.{number_in, numbered_target, target_of, name_of, section_in, pes_in, verb_in, command_in, line_in, line_of, meaning}
+use Rattle.client_script.specs.Grammar.{number_in, numbered_target, target_of, name_of, section_in, pes_in, verb_in, command_in, asked_in, line_in, line_of, meaning}
 use Rattle.client_script.specs.Script.{split, grammar, script_len, whole_lines, lines_from, Parsed, Scripted}
 use Rattle.client_script.proofs.Splitting.{split-found}
 use Rattle.report_text.specs.Summary.{summary_of}
@@ -44,7 +44,7 @@ says_if (Ok says) e = (says, refl)
 says_if (Err fault) e = absurd (cc)
 
 has_script : is_ok (grammar script) ≡ true
-unfolding script value_after hex_digit hex_byte word_in place_with place_named places_in with_place filter_in number_in input_named output_named numbered numbered_target target_of name_of section_in pes_in verb_in command_in line_in line_of meaning lines_from grammar
+unfolding script value_after hex_digit hex_byte word_in place_with place_named places_in with_place filter_in number_in input_named output_named numbered numbered_target target_of name_of section_in pes_in verb_in command_in asked_in line_in line_of meaning lines_from grammar
 has_script = refl
 
 parts : (number : ℕ) → split (made number) ≡ record { script = take 656 script; stream = Some (drop 656 script ++ packets number 65536) }

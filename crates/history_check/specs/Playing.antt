@@ -8,7 +8,7 @@ use Rattle.dmx_calls.specs.declared.log.Act.TheVariants.{Read as ReadAct, Pass a
 use Rattle.dmx_calls.specs.Entries.{told}
 use Rattle.dmx_calls.specs.History.{Entry}
 use Rattle.dmx_calls.specs.Legal.{IsLegalFor}
-use Rattle.dmx_calls.specs.Log.{LogEntry, filled_entry}
+use Rattle.dmx_calls.specs.Log.{LogEntry, filled_entry, from_stream}
 use Rattle.dmx_calls.specs.Rules.{Rules}
 
 -- a call that can be made again: a read is no longer than a read may be, and a pass's packets are 1 to 64 of the stream
@@ -19,7 +19,7 @@ IsCallable packets _ = Unit {0}
 
 -- the told entries as those of a machine, the oldest first
 abbrev pub played : (packets : List (List ℕ)) → List LogEntry → List Entry
-played packets entries = map (filled_entry packets) entries
+played packets entries = map (filled_entry (from_stream packets)) entries
 
 -- the entries of a machine are the calls of a node
 abbrev pub IsToldBy : (entry_of : ℕ → Call → Answer → Entry) → Type 0

@@ -37,7 +37,7 @@ pub fn call_told(alloc: Global, packets: &[Packet], act: &KeptAct) -> Result<Cal
     requires callable { IsCallable packets.now act.now }
     requires packets { All IsPacket packets.now }
     requires long { length packets.now < 2 ^ 63 }
-    ensures { IfOk result (λ call. invocation_of call ≡ filled_act packets.now act.now) }
+    ensures { IfOk result (λ call. invocation_of call ≡ filled_act (λ input. packets.now) act.now) }
 {
     Ok(match act.act() {
         Act::Open => Call::Open,

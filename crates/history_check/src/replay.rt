@@ -4,7 +4,7 @@ ghost use Rattle.ts_packet.specs.Fields.{IsPacket};
 ghost use Rattle.dmx_calls.specs.Calls.{invocation_of, response_of, told_entry};
 ghost use Rattle.dmx_calls.specs.History.{Entry as HistoryEntry, entry_of};
 ghost use Rattle.dmx_calls.specs.Legal.{May, IsLegalFor};
-ghost use Rattle.dmx_calls.specs.Log.{filled};
+ghost use Rattle.dmx_calls.specs.Log.{filled, from_stream};
 ghost use Rattle.dmx_calls.specs.Response as response;
 ghost use Rattle.dmx_calls.specs.Rules.{Rules};
 ghost use Rattle.history_check.specs.Playing.{IsCallable, IsToldBy, PlaysBy, played};
@@ -58,11 +58,11 @@ pub fn is_played<M: Machine<Call = Call, Answer = Answer, Entry = Told>, L: Ledg
     requires packets { All IsPacket packets.now }
     requires long { length packets.now < 2 ^ 63 }
     requires few { length entries.now < 2 ^ 50 }
-    ensures legal { IfOk result (λ b. b ≡ true → (rules : Rules) → PlaysBy rules M.stands_for → IsLegalFor rules (filled packets.now (map told_entry entries.now))) }
+    ensures legal { IfOk result (λ b. b ≡ true → (rules : Rules) → PlaysBy rules M.stands_for → IsLegalFor rules (filled (from_stream packets.now) (map told_entry entries.now))) }
     ensures found { IfOk result (λ b. b ≡ true → All (λ e. e.response ≢ response.NoMemory) (map told_entry entries.now)) }
     ensures stands { IfOk result (λ b. b ≡ true → M.stands_for core.new (played packets.now (map told_entry entries.now))) }
     ensures other { IfOk result (λ b. b ≡ false → (rules : Rules) → PlaysBy rules M.stands_for
-        → IsLegalFor rules (filled packets.now (map told_entry entries.now))
+        → IsLegalFor rules (filled (from_stream packets.now) (map told_entry entries.now))
         → All (λ e. e.response ≢ response.NoMemory) (map told_entry entries.now) → ⊥) }
 {
     'entries: for entry in entries {

@@ -9,7 +9,7 @@ use Rattle.dmx_calls.specs.declared.limits.TheConstants.{DEMUX_NODES}
 use Rattle.dmx_calls.specs.declared.outcome.Outcome.{Outcome}
 use Rattle.dmx_calls.specs.History.{History}
 use Rattle.dmx_calls.specs.Legal.{IsLegalFor}
-use Rattle.dmx_calls.specs.Log.{LogEntry, filled}
+use Rattle.dmx_calls.specs.Log.{LogEntry, filled, from_stream}
 use Rattle.dmx_calls.specs.Response.{Response, NoMemory, Passed}
 use Rattle.dmx_calls.specs.Rules.{rules_at}
 use Rattle.client_script.specs.Script.{clients_in, Scripted}
@@ -99,16 +99,16 @@ module _ (script : Scripted) (packets : List (List ℕ)) (t : Told) (nodes : All
       → (e.node ≡ node) × (e.place ≡ place) × (e.who ≤ clients_in script) × (e.response ≢ NoMemory)
   places node place h e at here = places_by node place h e (there node h at) here
 
-  legal_by : (node : ℕ) (h : List LogEntry) → TellsOrNot t.nodes (feeder_of t.head.tally.packets t.nodes) node h → IsLegalFor (rules_at node) (filled packets h)
+  legal_by : (node : ℕ) (h : List LogEntry) → TellsOrNot t.nodes (feeder_of t.head.tally.packets t.nodes) node h → IsLegalFor (rules_at node) (filled (from_stream packets) h)
   legal_by node h (inl is) =
       let played = all_at (IsPlayed packets) t.nodes p.played is.index is.node is.at in
-      let mine : IsLegalFor (rules_at node) (filled packets is.node.entries) = subst (λ (k : ℕ). IsLegalFor (rules_at k) (filled packets is.node.entries)) is.number played.0 in
-      subst (λ (es : List LogEntry). IsLegalFor (rules_at node) (filled packets es)) (sym is.entries) mine
+      let mine : IsLegalFor (rules_at node) (filled (from_stream packets) is.node.entries) = subst (λ (k : ℕ). IsLegalFor (rules_at k) (filled (from_stream packets) is.node.entries)) is.number played.0 in
+      subst (λ (es : List LogEntry). IsLegalFor (rules_at node) (filled (from_stream packets) es)) (sym is.entries) mine
   legal_by node h (inr same) =
       let legal = legal_on (rules_at node) packets node 0 (feeder_of t.head.tally.packets t.nodes) [] tt feeder.plain in
-      let mine : IsLegalFor (rules_at node) (filled packets (renumbered node 0 (feeder_of t.head.tally.packets t.nodes))) =
-      subst (λ (g : History). IsLegalFor (rules_at node) g) (append-nil (filled packets (renumbered node 0 (feeder_of t.head.tally.packets t.nodes)))) legal in
-      subst (λ (es : List LogEntry). IsLegalFor (rules_at node) (filled packets es)) (sym same) mine
+      let mine : IsLegalFor (rules_at node) (filled (from_stream packets) (renumbered node 0 (feeder_of t.head.tally.packets t.nodes))) =
+      subst (λ (g : History). IsLegalFor (rules_at node) g) (append-nil (filled (from_stream packets) (renumbered node 0 (feeder_of t.head.tally.packets t.nodes)))) legal in
+      subst (λ (es : List LogEntry). IsLegalFor (rules_at node) (filled (from_stream packets) es)) (sym same) mine
 
   steps_by : (node : ℕ) (h : List LogEntry) → TellsOrNot t.nodes (feeder_of t.head.tally.packets t.nodes) node h → steps_of 0 h ≡ feeding 0 0 feeder.fed.batches
   steps_by node h (inl is) =

@@ -2,7 +2,7 @@
 use Rattle.std.proofs.Common.{◌≡◌, ◌<◌, ◌≤◌, ◌+◌, refl, sym, ap, subst, ◌∙◌, ℕ, List, [], ◌∷◌, length, map, sum, arith}
 use Rattle.std.specs.Prelude.{Some, slice_get}
 use Rattle.dmx_calls.specs.Legal.{IsLegalFor}
-use Rattle.dmx_calls.specs.Log.{LogEntry, filled}
+use Rattle.dmx_calls.specs.Log.{LogEntry, filled, from_stream}
 use Rattle.dmx_calls.specs.Rules.{rules_at}
 use Rattle.script_run.specs.IsRun.{Step, feeding, steps_of}
 use Rattle.report_runs.specs.Completed.{of_feeder, tiled}
@@ -22,7 +22,7 @@ plain_zip [] a b = tt
 plain_zip (e ∷ es) a b = (a.0, a.1, b.0, plain_zip es a.2 b.1)
 
 -- on a node whose history is legal
-pub node_feeder : (node : ℕ) (packets : List (List ℕ)) (h : List LogEntry) → IsLegalFor (rules_at node) (filled packets h)
+pub node_feeder : (node : ℕ) (packets : List (List ℕ)) (h : List LogEntry) → IsLegalFor (rules_at node) (filled (from_stream packets) h)
     → IsFeedingFrom (length packets) 0 0 (steps_of 0 h) → IsFeeder (length packets) (of_feeder h)
 node_feeder node packets h legal f =
     let feeds : AllFeed (map step_of (of_feeder h)) = subst AllFeed (sym f.same) (feeding_feeds 0 0 f.batches) in

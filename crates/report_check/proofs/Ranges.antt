@@ -5,24 +5,27 @@ use Rattle.std.specs.Prelude.{nat_lt, if◌then◌else◌, slice_index_or, optio
 use Rattle.std.specs.List.{All}
 use Rattle.dmx_calls.specs.declared.limits.TheConstants.{DEMUX_NODES}
 use Rattle.dmx_calls.specs.declared.reply.Tap.TheVariants.{Keep as KeepTap, Attach as AttachTap, Detach as DetachTap}
-use Rattle.dmx_calls.specs.Response.{Response, Done, Busy, TapChange}
+use Rattle.dmx_calls.specs.Response.{Response, Done, Busy, Ready, TapChange}
 use Rattle.client_script.specs.Script.{Scripted}
 use Rattle.client_script.specs.declared.line.Line.{Line}
 use Rattle.client_script.specs.declared.line.Line.TheVariants.{Command as CommandLine}
 use Rattle.client_script.specs.declared.line.Target.{Target}
 use Rattle.client_script.specs.declared.line.Target.TheVariants.{Node, Slot, Dvr}
 use Rattle.client_script.specs.declared.line.Verb.{Verb}
-use Rattle.client_script.specs.declared.line.Verb.TheVariants.{Once, ReadWait, Drain, GetStc}
+use Rattle.client_script.specs.declared.line.Verb.TheVariants as verb
 use Rattle.client_script.specs.declared.line.Want.{Want}
 use Rattle.client_script.specs.declared.line.Want.TheVariants.{Open, Read}
 use Rattle.client_script.specs.Grammar.{IsWantInRange, IsVerbInRange, IsInRange}
+use Rattle.client_core.specs.Deeds.{Batches, deed_of, IsDeedInRange}
 use Rattle.client_core.specs.declared.command.Command.{Command}
+use Rattle.client_core.specs.declared.deed.Deed.{Deed}
+use Rattle.client_core.specs.declared.deed.Deed.TheVariants.{Once, ReadWait, Drain, GetStc, Write}
 use Rattle.client_core.specs.declared.event.Event.{Event}
 use Rattle.client_core.specs.declared.event.Request.{Request}
 use Rattle.client_core.specs.declared.event.Request.TheVariants.{Own}
 use Rattle.client_core.specs.declared.task.Ending.{Ending}
 use Rattle.client_core.specs.declared.task.Ending.TheVariants.{Made, Bound, AllBusy}
-use Rattle.client_core.specs.Commands.{commands_in, commands_among, commands_of, Slots, Doing, stands, through, once, told, called, opened, read_until, done_on, done_at, done_by_slot, done, ends_wait, ends_drain, IsRequestInRange}
+use Rattle.client_core.specs.Commands.{commands_in, commands_among, commands_of, plays_of, Slots, Doing, stands, through, once, told, called, opened, read_until, passed, written, done_on, done_at, done_by_slot, done, ends_wait, ends_drain, IsRequestInRange}
 use Rattle.client_core.proofs.GoesOn.{progress_of}
 use Rattle.client_core.specs.Events.{Standing, slots_after, progress_from, progress, no_slots, next_event}
 
@@ -63,21 +66,31 @@ read_in : (ends : Response → Bool) (node count step : ℕ) (rs : List Response
 read_in ends node count step [] is = is
 read_in ends node count step (r ∷ rs) is = if_in (ends r) (through Made (step + 1) rs) (read_until ends node count (step + 1) rs) tt (read_in ends node count (step + 1) rs is)
 
-on_in : (node : ℕ) (v : Verb) (step : ℕ) (rs : List Response) → IsVerbInRange v → AsksInRange (done_on node v step rs)
+passed_in : (write node step : ℕ) (rs : List Response) → AsksInRange (passed write node step rs)
+passed_in write node step [] = tt
+passed_in write node step (r ∷ rs) = if_in (nat_lt (node + 1) DEMUX_NODES) (passed write (node + 1) (step + 1) rs) (through Made (step + 1) rs) (passed_in write (node + 1) (step + 1) rs) tt
+
+written_in : (node write : ℕ) (has_batch : Bool) (step : ℕ) (rs : List Response) → AsksInRange (written node write has_batch step rs)
+written_in node write has_batch step [] = tt
+written_in node write has_batch step (Ready readable error at ended ∷ rs) = if_in has_batch (passed write 0 (step + 1) rs) (through Made (step + 1) rs) (passed_in write 0 (step + 1) rs) tt
+written_in node write has_batch step (_ ∷ rs) = tt
+
+on_in : (node : ℕ) (v : Deed) (step : ℕ) (rs : List Response) → IsDeedInRange v → AsksInRange (done_on node v step rs)
 on_in node (ReadWait count) step rs is = read_in ends_wait node count step rs is
 on_in node (Drain count) step rs is = read_in ends_drain node count step rs is
 on_in node (Once w) step rs is = called_in node w step rs is
 on_in node (GetStc num) step rs is = tt
+on_in node (Write write has_batch) step rs is = written_in node write has_batch step rs
 
-at_in : (o : Option ℕ) (v : Verb) (step : ℕ) (rs : List Response) → IsVerbInRange v → AsksInRange (done_at o v step rs)
+at_in : (o : Option ℕ) (v : Deed) (step : ℕ) (rs : List Response) → IsDeedInRange v → AsksInRange (done_at o v step rs)
 at_in None v step rs is = tt
 at_in (Some node) v step rs is = on_in node v step rs is
 
-slot_in : (slot : ℕ) (slots : Slots) (v : Verb) (step : ℕ) (rs : List Response) → IsVerbInRange v → AsksInRange (done_by_slot slot slots v step rs)
+slot_in : (slot : ℕ) (slots : Slots) (v : Deed) (step : ℕ) (rs : List Response) → IsDeedInRange v → AsksInRange (done_by_slot slot slots v step rs)
 slot_in slot slots (Once Open) step rs is = opened_in slot 0 step rs
 slot_in slot slots v step rs is = at_in (slice_index_or slots slot None) v step rs is
 
-done_in : (slots : Slots) (t : Target) (v : Verb) (step : ℕ) (rs : List Response) → IsVerbInRange v → AsksInRange (done slots t v step rs)
+done_in : (slots : Slots) (t : Target) (v : Deed) (step : ℕ) (rs : List Response) → IsDeedInRange v → AsksInRange (done slots t v step rs)
 done_in slots (Node node) v step rs is = on_in node v step rs is
 done_in slots (Slot slot) v step rs is = slot_in slot slots v step rs is
 done_in slots Dvr v step rs is = on_in DEMUX_NODES v step rs is
@@ -85,7 +98,7 @@ done_in slots Dvr v step rs is = on_in DEMUX_NODES v step rs is
 -- ------ a client
 
 abbrev HasRange : Command → Type 0
-HasRange c = IsVerbInRange c.verb
+HasRange c = IsDeedInRange c.deed
 
 -- where a client stands, what it asks for is in range
 abbrev StandsInRange : Option Standing → Type 0
@@ -101,7 +114,7 @@ from_in slots step c cs (through ending next left) is later = later (slots_after
 progress_in : (slots : Slots) (step : ℕ) (cs : List Command) (rs : List Response) → All HasRange cs → StandsInRange (progress_from slots step cs rs).standing
 progress_in slots step [] rs all = tt
 progress_in slots step (c ∷ cs) rs all =
-    from_in slots step c cs (done slots c.target c.verb step rs) (done_in slots c.target c.verb step rs (All-head HasRange c cs all))
+    from_in slots step c cs (done slots c.target c.deed step rs) (done_in slots c.target c.deed step rs (All-head HasRange c cs all))
     (λ slots' next left. progress_in slots' next cs left (All-tail HasRange c cs all))
 
 -- ------ its commands
@@ -110,18 +123,26 @@ all_append : (xs ys : List Command) → All HasRange xs → All HasRange ys → 
 all_append [] ys a b = b
 all_append (x ∷ xs) ys a b = All-cons HasRange x (xs ++ ys) (All-head HasRange x xs a) (all_append xs ys (All-tail HasRange x xs a) b)
 
-line_in : (client : ℕ) (l : Line) → IsInRange l → All HasRange (commands_in client l)
-line_in client (CommandLine line who target verb) is = by (nat_eq who client)
-  where
-    by : (b : Bool) → All HasRange (if b then record { line = line; target = target; verb = verb } ∷ [] else [])
-    by true = All-cons HasRange (record { line = line; target = target; verb = verb }) [] is.4 (All-nil HasRange)
-    by false = All-nil HasRange
-line_in client _ is = All-nil HasRange
+deed_in : (batches : Batches) (v : Verb) → IsVerbInRange v → IsDeedInRange (deed_of batches v)
+deed_in batches (verb.Once want) is = is
+deed_in batches (verb.ReadWait count) is = is
+deed_in batches (verb.Drain count) is = is
+deed_in batches (verb.GetStc num) is = is
+deed_in batches (verb.Write write) is = is
 
-commands_range : (client : ℕ) (lines : List Line) → All IsInRange lines → All HasRange (commands_among client lines)
-commands_range client [] all = All-nil HasRange
-commands_range client (l ∷ lines) all =
-    all_append (commands_in client l) (commands_among client lines) (line_in client l (All-head IsInRange l lines all)) (commands_range client lines (All-tail IsInRange l lines all))
+line_in : (client : ℕ) (batches : Batches) (l : Line) → IsInRange l → All HasRange (commands_in client batches l)
+line_in client batches (CommandLine line who target asked) is = by (nat_eq who client)
+  where
+    by : (b : Bool) → All HasRange (if b then record { line = line; target = target; deed = deed_of batches asked } ∷ [] else [])
+    by true = All-cons HasRange (record { line = line; target = target; deed = deed_of batches asked }) [] (deed_in batches asked is.4) (All-nil HasRange)
+    by false = All-nil HasRange
+line_in client batches _ is = All-nil HasRange
+
+commands_range : (client : ℕ) (batches : Batches) (lines : List Line) → All IsInRange lines → All HasRange (commands_among client batches lines)
+commands_range client batches [] all = All-nil HasRange
+commands_range client batches (l ∷ lines) all =
+    all_append (commands_in client batches l) (commands_among client batches lines) (line_in client batches l (All-head IsInRange l lines all))
+    (commands_range client batches lines (All-tail IsInRange l lines all))
 
 event_by : (o : Option Standing) → StandsInRange o → (e : Event) → option_map (λ s. s.event) o ≡ Some e → IsRequestInRange e.want
 event_by None is e at = absurd (cc)
@@ -132,4 +153,4 @@ event_by (Some s) is e at =
 pub asks_in_range : (client : ℕ) (script : Scripted) (rs : List Response) → All IsInRange script.lines → (e : Event) → next_event client script rs ≡ Some e → IsRequestInRange e.want
 unfolding progress
 asks_in_range client script rs all e at =
-    event_by (progress client script rs).standing (progress_in no_slots 0 (commands_of client script) rs (commands_range client script.lines all)) e at
+    event_by (progress client script rs).standing (progress_in no_slots 0 (commands_of client script) rs (commands_range client (plays_of client script) script.lines all)) e at

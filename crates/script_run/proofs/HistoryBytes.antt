@@ -12,7 +12,7 @@ use Rattle.dmx_calls.specs.declared.log.Act.TheVariants as act
 use Rattle.dmx_calls.specs.declared.limits.TheConstants.{DEMUX_NODES}
 use Rattle.dmx_calls.specs.Invocation.{brought}
 use Rattle.dmx_calls.specs.History.{Entry, History, brought_by}
-use Rattle.dmx_calls.specs.Log.{LogEntry, filled_act, filled_entry, filled}
+use Rattle.dmx_calls.specs.Log.{LogEntry, filled, filled_act, filled_entry, from_stream}
 use Rattle.dmx_calls.specs.Rules.{demux, dvr, rules_at}
 use Rattle.dmx_calls.specs.Legal.{IsLegalFor}
 use Rattle.dmx_calls.specs.Bytes.{bytes_answered}
@@ -50,7 +50,7 @@ answers_fit node h legal are = go (nat_lt node DEMUX_NODES) legal where
 module _ (stream : List (List ℕ)) where
   -- the packets that a call brings
   abbrev act_packets : Act → ℕ
-  act_packets a = length (brought (filled_act stream a))
+  act_packets a = length (brought (filled_act (λ input. stream) a))
 
   abbrev step_packets : Step → ℕ
   step_packets s = act_packets s.act
@@ -76,7 +76,7 @@ module _ (stream : List (List ℕ)) where
     go deeper false nay = omega (arith, deeper, only.0 (λ is. grind (arith, nat_tests, nay, is)))
 
   module _ (are : All IsPacket stream) where
-    act_brings : (a : Act) → All IsPacket (brought (filled_act stream a))
+    act_brings : (a : Act) → All IsPacket (brought (filled_act (λ input. stream) a))
     act_brings (act.Pass input first count now) = All-take IsPacket count (drop first stream) (All-drop IsPacket first stream are)
     act_brings _ = All-nil IsPacket
 
@@ -89,29 +89,29 @@ module _ (stream : List (List ℕ)) where
     both_bring [] h a b = b
     both_bring (e ∷ g) h a b = (a.0, both_bring g h a.1 b)
 
-    filled_brings : (es : List LogEntry) → BringPackets (filled stream es)
+    filled_brings : (es : List LogEntry) → BringPackets (filled (from_stream stream) es)
     filled_brings [] = tt
     filled_brings (e ∷ es) =
-        subst BringPackets (sym (reverse-append (filled_entry stream e ∷ []) (map (filled_entry stream) es)))
-        (both_bring (filled stream es) (filled_entry stream e ∷ []) (filled_brings es) (act_brings e.act, tt))
+        subst BringPackets (sym (reverse-append (filled_entry (from_stream stream) e ∷ []) (map (filled_entry (from_stream stream)) es)))
+        (both_bring (filled (from_stream stream) es) (filled_entry (from_stream stream) e ∷ []) (filled_brings es) (act_brings e.act, tt))
 
     all_packets : (h : History) → BringPackets h → All IsPacket (brought_by h)
     all_packets [] bring = All-nil IsPacket
     all_packets (e ∷ h) bring = All-append IsPacket (brought_by h) (brought e.invocation) (all_packets h bring.1) bring.0
 
     -- The node is brought no more packets than the batches have, and answers no more bytes than they have.
-    pub bytes_fit : (node : ℕ) (es : List LogEntry) (bs : List Batch) (packets : ℕ) → IsLegalFor (rules_at node) (filled stream es) → OnlyFeederBrings es
+    pub bytes_fit : (node : ℕ) (es : List LogEntry) (bs : List Batch) (packets : ℕ) → IsLegalFor (rules_at node) (filled (from_stream stream) es) → OnlyFeederBrings es
         → (later : List Step) × (steps_of 0 es ++ later ≡ feeding 0 0 bs) → sum (map (λ b. b.size) bs) ≤ packets → sum_of (λ e. bytes_in e.response) es ≤ 188 * packets
     bytes_fit node es bs packets legal only fed le =
         omega (
           arith,
-          answers_fit node (filled stream es) legal (all_packets (filled stream es) (filled_brings es)),
-          count_bytes (filled stream es),
-          weigh_reverse answers_in (map (filled_entry stream) es),
-          weigh_map answers_in (filled_entry stream) (λ e. bytes_in e.response) (λ e. refl) es,
-          count_brought (filled stream es),
-          weigh_reverse packets_in (map (filled_entry stream) es),
-          weigh_map packets_in (filled_entry stream) packets_of (λ e. refl) es,
+          answers_fit node (filled (from_stream stream) es) legal (all_packets (filled (from_stream stream) es) (filled_brings es)),
+          count_bytes (filled (from_stream stream) es),
+          weigh_reverse answers_in (map (filled_entry (from_stream stream)) es),
+          weigh_map answers_in (filled_entry (from_stream stream)) (λ e. bytes_in e.response) (λ e. refl) es,
+          count_brought (filled (from_stream stream) es),
+          weigh_reverse packets_in (map (filled_entry (from_stream stream)) es),
+          weigh_map packets_in (filled_entry (from_stream stream)) packets_of (λ e. refl) es,
           by_feeder es only,
           weigh_append step_packets (steps_of 0 es) fed.0,
           ap (sum_of step_packets) fed.1,

@@ -11,7 +11,7 @@ use Rattle.lemmas.proofs.Lists.{at_place, one_value, has_at}
 use Rattle.ts_packet.specs.Fields.{IsPacket}
 use Rattle.dmx_calls.specs.declared.reply.Errno.TheVariants.{Ebadf}
 use Rattle.dmx_calls.specs.Invocation.{brought}
-use Rattle.dmx_calls.specs.Log.{LogEntry, filled_act, filled_entry}
+use Rattle.dmx_calls.specs.Log.{LogEntry, filled_act, filled_entry, from_stream}
 use Rattle.dmx_calls.specs.Owning.{HasRead}
 use Rattle.dmx_calls.specs.Response.{Response, Refused}
 use Rattle.client_script.specs.declared.line.Line.{Line}
@@ -20,7 +20,8 @@ use Rattle.client_script.specs.declared.line.Target.{Target}
 use Rattle.client_script.specs.declared.line.Verb.{Verb}
 use Rattle.client_script.specs.Script.{clients_in, Scripted}
 use Rattle.client_core.specs.declared.command.Command.{Command as ClientCommand}
-use Rattle.client_core.specs.Commands.{commands_among, ends_drain}
+use Rattle.client_core.specs.Deeds.{deed_of}
+use Rattle.client_core.specs.Commands.{commands_among, ends_drain, plays_of}
 use Rattle.client_core.specs.Events.{next_event}
 use Rattle.script_run.specs.Budget.{all_commands, most_calls, bytes_in}
 use Rattle.script_run.specs.IsRun.{IsEvent, StandsIn, replies}
@@ -34,36 +35,36 @@ use Rattle.script_run.proofs.Repeating.{adds, quiet, IsGoing, going, quiet_calls
 
 -- ------ the commands of all clients
 
-abbrev commands_by : (lines : List Line) → ℕ → ℕ
-commands_by lines c = length (commands_among c lines)
+abbrev commands_by : Scripted → (lines : List Line) → ℕ → ℕ
+commands_by script lines c = length (commands_among c (plays_of c script) lines)
 
 -- a line's command is one client's
-one_command : (line who : ℕ) (target : Target) (verb : Verb) (lines : List Line) (c : ℕ) → commands_by (Command line who target verb ∷ lines) c ≤ commands_by lines c + one_at who c
-one_command line who target verb lines c = go (nat_eq who c) refl where
+one_command : (script : Scripted) (line who : ℕ) (target : Target) (verb : Verb) (lines : List Line) (c : ℕ) → commands_by script (Command line who target verb ∷ lines) c ≤ commands_by script lines c + one_at who c
+one_command script line who target verb lines c = go (nat_eq who c) refl where
   one : ClientCommand
-  one = record { line = line; target = target; verb = verb }
+  one = record { line = line; target = target; deed = deed_of (plays_of c script) verb }
 
-  go : (b : Bool) → nat_eq who c ≡ b → length ((if b then one ∷ [] else []) ++ commands_among c lines) ≤ commands_by lines c + one_at who c
+  go : (b : Bool) → nat_eq who c ≡ b → length ((if b then one ∷ [] else []) ++ commands_among c (plays_of c script) lines) ≤ commands_by script lines c + one_at who c
   go true yea = let here : nat_eq c who ≡ true = grind (arith, nat_tests, yea) in rw here (omega arith)
   go false nay = omega arith
 
 -- all clients have no more commands than the script
-pub commands_shared : (lines : List Line) (n : ℕ) → total (commands_by lines) n ≤ all_commands lines
-commands_shared [] n = omega (arith, total_same 0 n)
-commands_shared (Feed count ∷ lines) n = commands_shared lines n
-commands_shared (Tick time ∷ lines) n = commands_shared lines n
-commands_shared (Command line who target verb ∷ lines) n =
+pub commands_shared : (script : Scripted) (lines : List Line) (n : ℕ) → total (commands_by script lines) n ≤ all_commands lines
+commands_shared script [] n = omega (arith, total_same 0 n)
+commands_shared script (Feed count ∷ lines) n = commands_shared script lines n
+commands_shared script (Tick time ∷ lines) n = commands_shared script lines n
+commands_shared script (Command line who target verb ∷ lines) n =
     omega (
       arith,
-      total_le (commands_by (Command line who target verb ∷ lines)) (λ c. commands_by lines c + one_at who c) n (λ c lt. one_command line who target verb lines c),
-      total_add (commands_by lines) (one_at who) n,
+      total_le (commands_by script (Command line who target verb ∷ lines)) (λ c. commands_by script lines c + one_at who c) n (λ c lt. one_command script line who target verb lines c),
+      total_add (commands_by script lines) (one_at who) n,
       total_one who n,
-      commands_shared lines n,
+      commands_shared script lines n,
     )
 
 -- the first calls of a client
-abbrev firsts : List Line → ℕ → ℕ
-firsts lines d = 33 * commands_by lines d
+abbrev firsts : Scripted → ℕ → ℕ
+firsts script d = 33 * commands_by script script.lines d
 
 -- ------ one call
 
@@ -71,8 +72,8 @@ firsts lines d = 33 * commands_by lines d
 not_refused : (r : Response) → ends_drain r ≡ false → r ≢ Refused Ebadf
 not_refused r goes_on is = (let k : ends_drain (Refused Ebadf) ≡ false = sym (ap ends_drain is) ∙ goes_on in absurd (cc k))
 
-reads_on : (stream : List (List ℕ)) (e : LogEntry) → IsGoing e.act e.response → HasRead e.who (filled_entry stream e)
-reads_on stream e g = record { by = refl; read = (g.now, g.count, ap (filled_act stream) g.read); response = not_refused e.response g.goes_on }
+reads_on : (stream : List (List ℕ)) (e : LogEntry) → IsGoing e.act e.response → HasRead e.who (filled_entry (from_stream stream) e)
+reads_on stream e g = record { by = refl; read = (g.now, g.count, ap (filled_act (λ input. stream)) g.read); response = not_refused e.response g.goes_on }
 
 pays_not_itself : (payers : Payers) (client who : ℕ) → MayPay payers client who → who ≢ client + 1
 pays_not_itself feeder client who is same = absurd (omega (arith, is, same))
@@ -97,7 +98,7 @@ module _ (payers : Payers) (script : Scripted) (most : ℕ) (stream : List (List
         let who : e.who ≡ d + 1 = omega (arith, is) in
         record { client = d; low = low; who = who; made = λ is. (s.clients d is).only e.node e.place h e log at who }
 
-  brings_none : (e : LogEntry) → StandsIn hs e → e.who ≢ 0 → length (brought (filled_act stream e.act)) ≡ 0
+  brings_none : (e : LogEntry) → StandsIn hs e → e.who ≢ 0 → length (brought (filled_act (λ input. stream) e.act)) ≡ 0
   brings_none e stands not =
       let m : IsMade e = made_by e stands not in
       event_brings_none stream (next_event m.client script (replies (take e.step (s.clients m.client m.low).made))) e ((s.clients m.client m.low).steps e.step e (m.made m.low)).3
@@ -183,10 +184,10 @@ module _ (payers : Payers) (script : Scripted) (most : ℕ) (stream : List (List
     abbrev OtherPays : LogEntry → Type 0
     OtherPays e = (d : ℕ) × (d < clients_in script) × ClientPays d e
 
-    events : (d : ℕ) (low : d < clients_in script) (i : ℕ) (e : LogEntry) → slice_get (s.clients d low).made i ≡ Some e → IsEvent (next_event d script (replies (take i (s.clients d low).made))) e
+    events : (d : ℕ) (low : d < clients_in script) (i : ℕ) (e : LogEntry) → slice_get (s.clients d low).made i ≡ Some e → IsEvent (plays_of d script) (next_event d script (replies (take i (s.clients d low).made))) e
     events d low i e at = ((s.clients d low).steps i e at).3
 
-    client_at : (d : ℕ) → d < clients_in script → (same : Bool) → nat_eq d c ≡ same → Pool quiet (ClientPays d) (if same then 0 else firsts script.lines d)
+    client_at : (d : ℕ) → d < clients_in script → (same : Bool) → nat_eq d c ≡ same → Pool quiet (ClientPays d) (if same then 0 else firsts script d)
     client_at d low true yea = record { tokens = []; within = omega arith; all = λ t pays. absurd (pays.0 (grind (arith, nat_tests, yea))) }
     client_at d low false nay = record {
       tokens = (s.clients d low).made;
@@ -194,8 +195,8 @@ module _ (payers : Payers) (script : Scripted) (most : ℕ) (stream : List (List
       all = λ t pays. pays.1 low;
     }
 
-    other_pool : Pool quiet OtherPays (total (but c (firsts script.lines)) (clients_in script))
-    other_pool = all_pools quiet ClientPays (but c (firsts script.lines)) (clients_in script) (λ d low. client_at d low (nat_eq d c) refl)
+    other_pool : Pool quiet OtherPays (total (but c (firsts script)) (clients_in script))
+    other_pool = all_pools quiet ClientPays (but c (firsts script)) (clients_in script) (λ d low. client_at d low (nat_eq d c) refl)
 
     -- ------ the entry behind a read
 
@@ -270,12 +271,12 @@ module _ (payers : Payers) (script : Scripted) (most : ℕ) (stream : List (List
 
       -- ------ the bound
 
-      within_to : firsts script.lines c + bound ≤ 33 * commands_for payers c script + 33 * (length stream + 1) → All IsPacket stream → (n : ℕ) → length me.made ≡ n
-          → length me.made ≤ firsts script.lines c + total (grows script c me.made (events c is)) (but_one script c me.made (events c is) n) → length me.made ≤ most_calls (commands_for payers c script) (188 * length stream)
+      within_to : firsts script c + bound ≤ 33 * commands_for payers c script + 33 * (length stream + 1) → All IsPacket stream → (n : ℕ) → length me.made ≡ n
+          → length me.made ≤ firsts script c + total (grows script c me.made (events c is)) (but_one script c me.made (events c is) n) → length me.made ≤ most_calls (commands_for payers c script) (188 * length stream)
       within_to enough are zero long few = omega (arith, long)
       within_to enough are (suc k) long few = omega (arith, few, both_kinds script c me.made (events c is) k, bytes_count are k (omega (arith, long)), again_count k (omega (arith, long)), enough)
 
-      pub within : firsts script.lines c + bound ≤ 33 * commands_for payers c script + 33 * (length stream + 1) → All IsPacket stream → length me.made ≤ most_calls (commands_for payers c script) (188 * length stream)
+      pub within : firsts script c + bound ≤ 33 * commands_for payers c script + 33 * (length stream + 1) → All IsPacket stream → length me.made ≤ most_calls (commands_for payers c script) (188 * length stream)
       within enough are = within_to enough are (length me.made) refl (calls_and_repeats script c me.made (events c is))
 
     feeders : (x : LogEntry) → StandsIn hs x → x.who ≡ 0 → FeederPays x
@@ -293,14 +294,14 @@ calls_are_paid feeder script most stream hs s are c is =
     (feeders feeder script most stream hs s c is) (omega (arith, total_same (length stream + 1) 33)) are
 calls_are_paid others script most stream hs s are c is =
     within others script most stream hs s c is (λ x. FeederPays others script most stream hs s x ⊎ OtherPays others script most stream hs s c is x)
-    (total (λ node. length stream + 1) 33 + total (but c (firsts script.lines)) (clients_in script))
-    (both quiet (FeederPays others script most stream hs s) (OtherPays others script most stream hs s c is) (total (λ node. length stream + 1) 33) (total (but c (firsts script.lines)) (clients_in script))
+    (total (λ node. length stream + 1) 33 + total (but c (firsts script)) (clients_in script))
+    (both quiet (FeederPays others script most stream hs s) (OtherPays others script most stream hs s c is) (total (λ node. length stream + 1) 33) (total (but c (firsts script)) (clients_in script))
     (feeder_pool others script most stream hs s) (other_pool others script most stream hs s c is))
     (λ x stands may. either others script most stream hs s c is x stands may (nat_eq x.who 0) refl)
     (omega (
       arith,
       total_same (length stream + 1) 33,
-      total_but c (firsts script.lines) (clients_in script) is,
-      total_33 (commands_by script.lines) (clients_in script),
-      commands_shared script.lines (clients_in script),
+      total_but c (firsts script) (clients_in script) is,
+      total_33 (commands_by script script.lines) (clients_in script),
+      commands_shared script script.lines (clients_in script),
     )) are

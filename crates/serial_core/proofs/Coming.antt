@@ -16,7 +16,7 @@ use Rattle.dmx_calls.specs.History.{entry_of}
 use Rattle.dmx_calls.specs.Tenure.{has_ended}
 use Rattle.dmx_calls.specs.Rules.{rules_at}
 use Rattle.dmx_calls.specs.declared.log.Act.TheVariants.{Pass as PassAct}
-use Rattle.dmx_calls.specs.Log.{LogEntry, IsOfStream, act_of}
+use Rattle.dmx_calls.specs.Log.{IsFrom, LogEntry, act_of}
 use Rattle.client_script.specs.Grammar.{IsInRange}
 use Rattle.client_script.specs.Script.{clients_of, clients_in, Scripted}
 use Rattle.client_script.specs.declared.line.Line.{Line}
@@ -88,7 +88,7 @@ module _ (script : Scripted) (batch : ℕ) (packets : List (List ℕ)) (clients 
   fed_entries : (node : ℕ) (c : Invocation) (r : Run) → length r.nodes ≡ DEMUX_NODES + 1 → node ≤ DEMUX_NODES → entries_at node (fed_to_all c r) ≡ entries_at node r ++ entry_for 0 r.turns c (node_at node r) ∷ []
   fed_entries node c r long le = ap entries_of (fed_at node c r long le) ∙ entries_answered 0 r.turns c (node_at node r)
 
-  fed_sound : (over : Bool) (node : ℕ) (c : Invocation) (r : Run) → length r.nodes ≡ DEMUX_NODES + 1 → node ≤ DEMUX_NODES → IsOfStream packets c
+  fed_sound : (over : Bool) (node : ℕ) (c : Invocation) (r : Run) → length r.nodes ≡ DEMUX_NODES + 1 → node ≤ DEMUX_NODES → IsFrom (λ input. packets) c
       → (has_ended (entry_of 0 c (answer_by 0 c (node_at node r)) ∷ history_of (node_at node r)) ≡ over) → IsSound packets clients r.has_ended node (node_at node r)
       → IsSound packets clients over node (node_at node (fed_to_all c r))
   fed_sound over node c r long le of is s =

@@ -111,7 +111,7 @@ module _ (script : Scripted) (batch : ℕ) (x y : SourceEnd) (old new : Runner) 
       let packets : All IsPacket ps = All-take_front ps front.0 (subst (λ qs. All IsPacket qs) front.1 (are_packets new.puller.cutting.size (ahead ++ taken))) in
       let o = goes script refl (fresh_after script ps cores fresh) in
       let few = within_budget.moments script batch ps r ranges one packets o.way o.client in
-      omega (arith, few, o.calls, commands_shared script.lines (suc o.client), Pulls-size ahead taken ps new.puller p))
+      omega (arith, few, o.calls, commands_shared script script.lines (suc o.client), Pulls-size ahead taken ps new.puller p))
     where
       All-take_front : (xs ys : List (List ℕ)) → All IsPacket (xs ++ ys) → All IsPacket xs
       All-take_front xs ys all k d lt = subst IsPacket (get_or_append_left xs ys d k lt) (all k d (omega (arith, lt, length-append xs ys)))

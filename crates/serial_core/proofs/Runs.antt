@@ -8,7 +8,7 @@ use Rattle.std.proofs.lemmas.Option.{slice_get_within}
 use Rattle.ts_packet.specs.Fields.{IsPacket}
 use Rattle.dmx_calls.specs.Rules.{rules_at}
 use Rattle.dmx_calls.specs.Legal.{IsLegalFor}
-use Rattle.dmx_calls.specs.Log.{LogEntry, filled}
+use Rattle.dmx_calls.specs.Log.{LogEntry, filled, from_stream}
 use Rattle.client_script.specs.Grammar.{IsInRange}
 use Rattle.client_script.specs.Script.{clients_in, Scripted}
 use Rattle.client_core.specs.Commands.{commands_of}
@@ -37,11 +37,11 @@ module _ (script : Scripted) (batch : ℕ) (packets : List (List ℕ)) (few : cl
       let w = histories_is r node h p.nodes log in
       sound_placed packets (clients_in script) r.has_ended node (node_at node r) (p.sound node w.0) place e (subst (λ l. slice_get l place ≡ Some e) (sym w.1) is)
 
-  legal : (node : ℕ) (h : List LogEntry) → slice_get (histories_in r) node ≡ Some h → IsLegalFor (rules_at node) (filled packets h)
+  legal : (node : ℕ) (h : List LogEntry) → slice_get (histories_in r) node ≡ Some h → IsLegalFor (rules_at node) (filled (from_stream packets) h)
   legal node h log =
       let w = histories_is r node h p.nodes log in
       let s = p.sound node w.0 in
-      subst (λ l. IsLegalFor (rules_at node) (filled packets l)) w.1
+      subst (λ l. IsLegalFor (rules_at node) (filled (from_stream packets) l)) w.1
       (subst (IsLegalFor (rules_at node)) (sym (sound_filled packets (clients_in script) r.has_ended node (node_at node r) s)) (subst (λ n. IsLegalFor (rules_at n) (history_of (node_at node r))) s.number s.legal))
 
   -- ------ the feeder

@@ -12,7 +12,7 @@ use Rattle.dmx_calls.specs.Rules.{Rules, rules_at}
 use Rattle.dmx_calls.specs.Facts.{Ledger, Facts, facts}
 use Rattle.dmx_calls.specs.Answer.{ReadTerms, read_terms, answer, with_call, response_unless, refusal_to, response_to, response_of_read, expired_of, open_response, done_dropping}
 use Rattle.dmx_calls.specs.Legal.{IsLegalFor}
-use Rattle.dmx_calls.specs.Log.{LogEntry, IsOfStream, act_of, filled_entry, filled}
+use Rattle.dmx_calls.specs.Log.{IsFrom, LogEntry, act_of, filled, filled_entry, from_stream}
 use Rattle.dmx_calls.proofs.Reading.{read_each}
 use Rattle.dmx_calls.proofs.Telling.{fills}
 use Rattle.serial_core.specs.Nodes.{Told, Node, history_in, history_of, answer_by, answered, log_in}
@@ -82,7 +82,7 @@ module _ (packets : List (List ℕ)) (clients : ℕ) where
   -- callers are the feeder and the clients, memory was found, and the packets are the stream's
   abbrev pub AreGood : List Told → Type 0
   AreGood [] = Unit {0}
-  AreGood (told ∷ calls) = AreGood calls × (told.entry.who ≤ clients) × (told.entry.response ≢ NoMemory) × IsOfStream packets told.entry.invocation
+  AreGood (told ∷ calls) = AreGood calls × (told.entry.who ≤ clients) × (told.entry.response ≢ NoMemory) × IsFrom (λ input. packets) told.entry.invocation
 
   pub record IsSound (over : Bool) (node : ℕ) (n : Node) : Type 0 where
     pub number : n.number ≡ node
@@ -90,7 +90,7 @@ module _ (packets : List (List ℕ)) (clients : ℕ) where
     pub good : AreGood n.calls
     pub ended : has_ended (history_of n) ≡ over
 
-  pub sound_answered : (ended over : Bool) (node : ℕ) (n : Node) (who step : ℕ) (c : Invocation) → who ≤ clients → IsOfStream packets c
+  pub sound_answered : (ended over : Bool) (node : ℕ) (n : Node) (who step : ℕ) (c : Invocation) → who ≤ clients → IsFrom (λ input. packets) c
       → has_ended (entry_of who c (answer_by who c n) ∷ history_of n) ≡ over → IsSound ended node n → IsSound over node (answered who step c n)
   sound_answered ended over node n who step c le of is s = record {
     number = s.number;
@@ -125,14 +125,14 @@ module _ (packets : List (List ℕ)) (clients : ℕ) where
   sound_placed ended node n s place e is = subst (λ k. IsPlaced k place e) s.number (placed n.number n.calls s.good place e is)
 
   -- filled with the packets of the stream, a log is the history
-  fills_log : (number : ℕ) (calls : List Told) → AreGood calls → filled packets (log_in number calls).entries ≡ history_in calls
+  fills_log : (number : ℕ) (calls : List Told) → AreGood calls → filled (from_stream packets) (log_in number calls).entries ≡ history_in calls
   fills_log number [] good = refl
   fills_log number (told ∷ calls) good =
       let x : LogEntry = last_in number told calls in
-      ap reverse (map-append (filled_entry packets) (log_in number calls).entries (x ∷ []))
-      ∙ reverse-append (map (filled_entry packets) (log_in number calls).entries) (filled_entry packets x ∷ [])
-      ∙ ap (λ h. filled_entry packets x ∷ h) (fills_log number calls good.0)
-      ∙ ap (λ c. record { who = told.entry.who; invocation = c; response = told.entry.response } ∷ history_in calls) (fills packets told.entry.invocation good.3)
+      ap reverse (map-append (filled_entry (from_stream packets)) (log_in number calls).entries (x ∷ []))
+      ∙ reverse-append (map (filled_entry (from_stream packets)) (log_in number calls).entries) (filled_entry (from_stream packets) x ∷ [])
+      ∙ ap (λ h. filled_entry (from_stream packets) x ∷ h) (fills_log number calls good.0)
+      ∙ ap (λ c. record { who = told.entry.who; invocation = c; response = told.entry.response } ∷ history_in calls) (fills (λ input. packets) told.entry.invocation good.3)
 
-  pub sound_filled : (ended : Bool) (node : ℕ) (n : Node) → IsSound ended node n → filled packets (entries_of n) ≡ history_of n
+  pub sound_filled : (ended : Bool) (node : ℕ) (n : Node) → IsSound ended node n → filled (from_stream packets) (entries_of n) ≡ history_of n
   sound_filled ended node n s = fills_log n.number n.calls s.good

@@ -16,7 +16,7 @@ module _ (script : Scripted) (batch : ℕ) where
   pub data IsBegun (client line : ℕ) : Run → Run → Type 0 where
     no_call : (r : Run) → IsBegun client line r r
     one_call : (r s : Run) (e : Event) → next_of_line client script line (replies_of client r) ≡ Some e
-        → IsBegun client line (called client e (after_waiting script batch client r)) s → IsBegun client line r s
+        → IsBegun client line (called client (plays_of client script) e (after_waiting script batch client r)) s → IsBegun client line r s
 
   -- some calls of the next line are made, where it is a command
   abbrev pub AreBegun : List Line → Run → Run → Type 0

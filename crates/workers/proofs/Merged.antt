@@ -13,7 +13,7 @@ use Rattle.dmx_calls.specs.declared.log.Act.{Act}
 use Rattle.dmx_calls.specs.declared.log.Entry.{Entry as ToldEntry}
 use Rattle.dmx_calls.specs.Calls.{told_entry}
 use Rattle.dmx_calls.specs.History.{Entry}
-use Rattle.dmx_calls.specs.Log.{LogEntry, filled_entry}
+use Rattle.dmx_calls.specs.Log.{LogEntry, filled_entry, from_stream}
 use Rattle.dmx_calls.specs.Histories.{feeder_acts, feeder_entry, histories_of, woven, AreInPlace}
 use Rattle.dmx_calls.proofs.Weaving.{in_place-at, woven_nodes-at, woven_nodes-length}
 use Rattle.script_run.specs.IsRun.{StandsIn, steps_of}
@@ -50,7 +50,7 @@ module _ (m : Moment) where
   -- this list tells the history of a node: each entry stands at its place, and is one of a log or of the feeder's calls
   pub record TellsNode (acts : List Act) (node : ℕ) (l : List LogEntry) (h : List Entry) : Type 0 where
     pub place : AreInPlace 0 l
-    pub is : map (filled_entry m.stream) l ≡ h
+    pub is : map (filled_entry (from_stream m.stream)) l ≡ h
     pub told : (i : ℕ) (e : LogEntry) → slice_get l i ≡ Some e → IsToldBy node acts e
     pub logged : (e : LogEntry) → IsLoggedIn m.books e → e.node ≡ node → slice_get l e.place ≡ Some e
     pub steps : steps_of 0 l ≡ steps_from 0 acts
@@ -113,7 +113,7 @@ module _ (m : Moment) where
     one_entry e f (c, a, i, at_c, at) (d, b, j, at_d, bt) on on_f same =
         let x = logged_there m node h is c a i e at_c at on in
         let y = logged_there m node h is d b j f at_d bt on_f in
-        let one : filled_entry m.stream e ≡ filled_entry m.stream f = one_value h f.place (filled_entry m.stream e) (filled_entry m.stream f) (subst (λ n. slice_get h n ≡ Some (filled_entry m.stream e)) same x) y in
+        let one : filled_entry (from_stream m.stream) e ≡ filled_entry (from_stream m.stream) f = one_value h f.place (filled_entry (from_stream m.stream) e) (filled_entry (from_stream m.stream) f) (subst (λ n. slice_get h n ≡ Some (filled_entry (from_stream m.stream) e)) same x) y in
         let client : c ≡ d = omega (arith, ap (λ (z : Entry). z.who) one, (called m c a i e at_c at).1, (called m d b j f at_d bt).1) in
         let log : b ≡ a = one_value m.books d b a at_d (subst (λ n. slice_get m.books n ≡ Some a) client at_c) in
         in_log (subst (λ l. slice_get l j ≡ Some f) log bt) (nat_lt i j) refl (nat_lt j i) refl where
@@ -130,7 +130,7 @@ module _ (m : Moment) where
           found : (f : CallsFrom 0 h) (c : ℕ) (log : List LogEntry) (i : ℕ) (e : LogEntry) → slice_get m.books c ≡ Some log → slice_get log i ≡ Some e → e.node ≡ node → (j : ℕ) × (slice_get f.calls j ≡ Some e)
           found f c log i e at there on =
               let who = (called m c log i e at there).1 in
-              let g = f.all e.place (filled_entry m.stream e) (logged_there m node h is c log i e at there on) (λ none. absurd (omega (arith, who, none))) in
+              let g = f.all e.place (filled_entry (from_stream m.stream) e) (logged_there m node h is c log i e at there on) (λ none. absurd (omega (arith, who, none))) in
               let o = f.of_some g.0 g.1 g.2 in
               (g.0, g.2 ∙ ap (λ z. Some z) (one_entry g.1 e o.1 (c, log, i, at, there) o.0 on (omega (arith, g.3))))
 

@@ -13,7 +13,7 @@ use Rattle.node_lock.proofs.Views.{prefix_at}
 use Rattle.dmx_calls.specs.declared.histories.Fed.{Fed}
 use Rattle.dmx_calls.specs.declared.log.Act.{Act}
 use Rattle.dmx_calls.specs.History.{Entry, entry_of}
-use Rattle.dmx_calls.specs.Log.{LogEntry, filled_act, filled_entry}
+use Rattle.dmx_calls.specs.Log.{LogEntry, filled_act, filled_entry, from_stream}
 use Rattle.dmx_calls.proofs.Telling.{fills}
 use Rattle.script_run.proofs.Events.{of_stream}
 use Rattle.adapter.specs.Rows.{column}
@@ -32,10 +32,10 @@ use Rattle.workers.proofs.Feeders.{got, got_back, ups_from, picked, stand_picks,
 use Rattle.workers.proofs.Completing.{whole, whole_made}
 
 -- an entry of a client, filled with the stream, is the one that it tells
-fills_entry : (stream : List (List ℕ)) (e : LogEntry) (x : Entry) → Tells e x → PassesNone e.act → filled_entry stream e ≡ x
+fills_entry : (stream : List (List ℕ)) (e : LogEntry) (x : Entry) → Tells e x → PassesNone e.act → filled_entry (from_stream stream) e ≡ x
 fills_entry stream e x t bare =
-    ap (λ w. entry_of w (filled_act stream e.act) e.response) t.who ∙ ap (λ a. entry_of x.who (filled_act stream a) e.response) t.act
-    ∙ ap (λ c. entry_of x.who c e.response) (fills stream x.invocation (of_stream stream x.invocation (subst PassesNone t.act bare))) ∙ ap (entry_of x.who x.invocation) t.response
+    ap (λ w. entry_of w (filled_act (λ input. stream) e.act) e.response) t.who ∙ ap (λ a. entry_of x.who (filled_act (λ input. stream) a) e.response) t.act
+    ∙ ap (λ c. entry_of x.who c e.response) (fills (λ input. stream) x.invocation (of_stream stream x.invocation (subst PassesNone t.act bare))) ∙ ap (entry_of x.who x.invocation) t.response
 
 -- ------ the entries of logs
 
@@ -142,7 +142,7 @@ module _ (m : Moment) where
     begins k c p at there = let j = of_column node (m.others ++ m.feeder ∷ []) k c p at there in is.begins j.0 p j.1
 
     -- the entry of a log stands at its place
-    pub logged_there : (c : ℕ) (log : List LogEntry) (i : ℕ) (e : LogEntry) → slice_get m.books c ≡ Some log → slice_get log i ≡ Some e → e.node ≡ node → slice_get h e.place ≡ Some (filled_entry m.stream e)
+    pub logged_there : (c : ℕ) (log : List LogEntry) (i : ℕ) (e : LogEntry) → slice_get m.books c ≡ Some log → slice_get log i ≡ Some e → e.node ≡ node → slice_get h e.place ≡ Some (filled_entry (from_stream m.stream) e)
     logged_there c log i e at there on =
         let k = client_of c log at in let t = k.2.logged.tells i e there in
         let begun = begins c k.0 t.0 (at_before m.others (m.feeder ∷ []) c k.0 k.1) (subst (λ n. slice_get k.0.passes n ≡ Some t.0) on t.1) in

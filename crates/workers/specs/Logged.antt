@@ -9,6 +9,7 @@ use Rattle.dmx_calls.specs.History.{Entry}
 use Rattle.dmx_calls.specs.Log.{LogEntry, act_of}
 use Rattle.dmx_calls.specs.Response.{NoMemory}
 use Rattle.client_script.specs.Script.{Scripted}
+use Rattle.client_core.specs.Commands.{plays_of}
 use Rattle.client_core.specs.Events.{next_event, waits_on}
 use Rattle.script_run.specs.IsRun.{IsEvent, replies}
 use Rattle.script_run.specs.WholeRun.{IsGiven}
@@ -46,7 +47,7 @@ pub record HasCalled (script : Scripted) (client : ℕ) (may : ℕ → Bool) (c 
   pub who : c.who ≡ client + 1
   pub logged : IsLogged c log
   pub events : (i : ℕ) (e : LogEntry) → slice_get log i ≡ Some e
-      → IsEvent (next_event client script (replies (take i log))) e
+      → IsEvent (plays_of client script) (next_event client script (replies (take i log))) e
   pub found : All (λ e. e.response ≢ NoMemory) log
   pub moments : All (λ e. IsGiven may e.act) log
   -- where a read is repeated, another caller's entry stands between: it pays for the repeat

@@ -8,7 +8,7 @@ use Rattle.dmx_calls.specs.declared.log.Act.{Act}
 use Rattle.dmx_calls.specs.declared.outcome.Outcome.{Outcome}
 use Rattle.dmx_calls.specs.Histories.{feeder_acts, feeder_entry}
 use Rattle.dmx_calls.specs.History.{Entry}
-use Rattle.dmx_calls.specs.Log.{LogEntry, filled_entry}
+use Rattle.dmx_calls.specs.Log.{LogEntry, filled_entry, from_stream}
 use Rattle.script_run.specs.IsRun.{Step, StandsIn, steps_of}
 use Rattle.script_run.specs.SoFar.{PassesNone}
 use Rattle.client_script.specs.Script.{Scripted}
@@ -81,8 +81,8 @@ pub record TellWhatWasCalled (among : ℕ → Bool) (stream : List (List ℕ)) (
       → steps_of 0 h ≡ steps_from 0 (feeder_acts feeding)
   -- the list of each node that is among these, with the packets of the stream, is the history of its lock, entry by entry
   pub locks : (node : ℕ) (h : List LogEntry) → slice_get hs node ≡ Some h → among node ≡ true
-      → IsTheHistory node (column node (rows_of (clients ++ feeder ∷ []))) (map (filled_entry stream) h)
+      → IsTheHistory node (column node (rows_of (clients ++ feeder ∷ []))) (map (filled_entry (from_stream stream)) h)
   -- the lock of another node has had no call of anybody; its list is legal, and has the feeder's calls alone
   pub idle : (node : ℕ) (h : List LogEntry) → slice_get hs node ≡ Some h → among node ≡ false
       → IsTheHistory node (column node (rows_of (clients ++ feeder ∷ []))) []
-      × IsLegalAt node (map (filled_entry stream) h) × All (λ e. e.who ≡ 0) h
+      × IsLegalAt node (map (filled_entry (from_stream stream)) h) × All (λ e. e.who ≡ 0) h

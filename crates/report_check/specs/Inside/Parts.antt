@@ -9,7 +9,7 @@ use Rattle.dmx_calls.specs.declared.log.Entry.{Entry as ToldEntry}
 use Rattle.dmx_calls.specs.declared.log.Act.TheVariants.{Read as ReadAct, Pass as PassAct}
 use Rattle.dmx_calls.specs.Calls.{told_entry}
 use Rattle.dmx_calls.specs.Legal.{IsLegalFor}
-use Rattle.dmx_calls.specs.Log.{LogEntry, filled}
+use Rattle.dmx_calls.specs.Log.{LogEntry, filled, from_stream}
 use Rattle.dmx_calls.specs.Response.{NoMemory}
 use Rattle.dmx_calls.specs.Rules.{rules_at}
 use Rattle.client_script.specs.Script.{clients_in, Scripted}
@@ -58,7 +58,7 @@ AreSoundNodes clients packets (n ∷ ns) =
 -- each reply on the node is the one that the entries before it give, and memory was found
 abbrev pub IsPlayed : (packets : List (List ℕ)) → ToldNode → Type 0
 IsPlayed packets n =
-    IsLegalFor (rules_at n.node) (filled packets n.entries) × All (λ e. e.response ≢ NoMemory) n.entries
+    IsLegalFor (rules_at n.node) (filled (from_stream packets) n.entries) × All (λ e. e.response ≢ NoMemory) n.entries
 
 -- ------ clients
 

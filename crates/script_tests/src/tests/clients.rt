@@ -11,7 +11,7 @@ use std::process::Abort;
 
 // A client of the script of these bytes, before its first call.
 fn client_of(rt: &impl Abort, alloc: Global, script: &[u8], client: u32) -> ClientCore {
-    assert!(rt; script.len() <= MOST_BYTES);
+    assert!(rt; script.len() <= MOST_BYTES && client < 8);
     let Ok(script) = Script::read(alloc, script) else {
         panic!(rt; "a fault, or no memory");
     };
@@ -315,7 +315,8 @@ fn is_empty_read(call: &Call, moment: u64, count: u32) -> bool {
 
 #[test]
 fn a_read_comes_with_an_empty_buffer(rt: HostRuntime) -> Result<(), Stop> {
-    let call = call_of(rt.alloc(), &Request::Own(Want::Read(65_536)), 9)?;
+    let core = client_of(&rt, rt.alloc(), b"stream\n", 0);
+    let call = call_of(rt.alloc(), &core, &Request::Own(Want::Read(65_536)), 9)?;
     assert!(rt; is_empty_read(&call, 9, 65_536));
     Ok(())
 }

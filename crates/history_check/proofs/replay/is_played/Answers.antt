@@ -5,7 +5,7 @@ use Rattle.dmx_calls.specs.Calls.{response_of, told_entry}
 use Rattle.dmx_calls.specs.History.{Entry, entry_of}
 use Rattle.dmx_calls.specs.Invocation.{Invocation}
 use Rattle.dmx_calls.specs.Legal.{May}
-use Rattle.dmx_calls.specs.Log.{LogEntry, filled}
+use Rattle.dmx_calls.specs.Log.{LogEntry, filled, from_stream}
 use Rattle.dmx_calls.specs.Response.{NoMemory}
 use Rattle.history_check.specs.Playing.{IsCallable, played}
 use Rattle.history_check.proofs.Played.{IsAt, at_told, taken_next, may_there, played_more}
@@ -22,7 +22,7 @@ returns-then-not-branch-clause-other g c f rules plays legal answered =
     let may = may_there rules c.args.packets.now c.args.entries.now c.entries.entry-index c.entry-item.result at legal in
     let some = at_told (λ e. e.response ≢ NoMemory) c.args.entries.now c.entries.entry-index c.entry-item.result at answered in
     c.in_ok-agrees.ensures.differs c.if-not-branch.true some rules plays (played c.args.packets.now (map told_entry (take c.entries.entry-index c.args.entries.now))) c.entries.invariant.stands
-    (subst (λ (i : Invocation). May rules (filled c.args.packets.now (map told_entry (take c.entries.entry-index c.args.entries.now))) c.entry-item.result.who i (response_of c.entry-item.result.reply)) (sym c.in_ok-call.ensures) may)
+    (subst (λ (i : Invocation). May rules (filled (from_stream c.args.packets.now) (map told_entry (take c.entries.entry-index c.args.entries.now))) c.entry-item.result.who i (response_of c.entry-item.result.reply)) (sym c.in_ok-call.ensures) may)
 
 pub entries-preserved : goal.entries-preserved
 entries-preserved g c =

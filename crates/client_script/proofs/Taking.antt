@@ -1,0 +1,94 @@
+-- How many lines and writes a script has with what one line more says.
+use Rattle.std.proofs.Common.{◌≡◌, ◌≢◌, ◌<◌, ◌≤◌, ◌+◌, ◌⊎◌, inl, inr, sym, subst, ap, ◌∙◌, ℕ, List, [], ◌∷◌, ◌++◌, length, arith, length-append}
+use Rattle.std.specs.Prelude.{Option, Some, None, slice_index_or, slice_set, replicate}
+use Rattle.std.specs.List.{All}
+use Rattle.std.proofs.lemmas.Bool.{cases_eq, cases_lt}
+use Rattle.std.proofs.lemmas.List.Elements.{All-push, All-weaker}
+use Rattle.std.proofs.lemmas.List.{length-set, get_or-set_same, get_or-set_other, get_or_past, get_or-replicate}
+use Rattle.client_script.specs.Grammar.{IsInRange}
+use Rattle.client_script.specs.Writes.{IsWritten}
+use Rattle.client_script.specs.Script.{Scripted, no_writes, most_bytes, writes_of, with_said, IsScript, AreWritten, HasWrite, IsOnDvr}
+use Rattle.client_script.specs.declared.line.Line.{Line}
+use Rattle.client_script.specs.declared.line.Line.TheVariants.{Feed, Tick, Command}
+use Rattle.client_script.specs.declared.line.Verb.TheVariants.{Once, ReadWait, Drain, GetStc, Write}
+use Rattle.client_script.specs.declared.said.Said.{Said}
+use Rattle.client_script.specs.declared.said.Said.TheVariants.{Asks, Writes}
+
+-- so many writes of each client are fewer than this number
+abbrev pub Below : (number : ℕ) → List (List (List ℕ)) → Type 0
+Below number writes = All (λ writes. 1 + length writes ≤ number) writes
+
+pub no_writes_below : (number : ℕ) → 1 ≤ number → Below number no_writes
+no_writes_below number one k d lt = let none : slice_index_or (replicate 8 []) k d ≡ [] = get_or-replicate 8 k [] d lt in rw none (omega (arith, one))
+
+pub lines_more : (said : Option Said) (s : Scripted) (number : ℕ) → 1 + length s.lines ≤ number → 1 + length (with_said said s).lines ≤ number + 1
+lines_more None s number few = omega (arith, few)
+lines_more (Some (Asks line)) s number few = omega (arith, few, length-append s.lines (line ∷ []))
+lines_more (Some (Writes line client bytes)) s number few = let k = length-append s.lines (_ ∷ []) in omega (arith, few, k)
+
+-- each element of a list with another one in a place
+pub set_all : (P : List (List ℕ) → Type 0) (xs : List (List (List ℕ))) (i : ℕ) (x : List (List ℕ)) → All P xs → (i < length xs → P x) → All P (slice_set xs i x)
+set_all P xs i x all here k d lt = go (cases_eq k i) where
+  go : (k ≡ i) ⊎ (k ≢ i) → P (slice_index_or (slice_set xs i x) k d)
+  go (inl same) = let long : i < length xs = omega (arith, lt, length-set xs i x, same) in subst (λ j. P (slice_index_or (slice_set xs i x) j d)) (sym same) (subst P (sym (get_or-set_same xs i x d long)) (here long))
+  go (inr other) = subst P (sym (get_or-set_other xs i k x d other)) (all k d (omega (arith, lt, length-set xs i x)))
+
+pub writes_below : (number most : ℕ) (writes : List (List (List ℕ))) → number ≤ most → Below number writes → All (λ writes. length writes < most) writes
+writes_below number most writes le all k d lt = let h = all k d lt in omega (arith, h, le)
+
+pub writes_more : (said : Option Said) (s : Scripted) (number : ℕ) → Below number s.writes → Below (number + 1) (with_said said s).writes
+writes_more None s number all k d lt = let h = all k d lt in omega (arith, h)
+writes_more (Some (Asks line)) s number all k d lt = let h = all k d lt in omega (arith, h)
+writes_more (Some (Writes line client bytes)) s number all =
+    set_all (λ writes. 1 + length writes ≤ number + 1) s.writes client (writes_of client s.writes ++ bytes ∷ []) (λ k d lt. let h = all k d lt in omega (arith, h))
+    (λ there. let h = all client [] there in omega (arith, h, length-append (writes_of client s.writes) (bytes ∷ [])))
+
+-- ------ what is known of a script stays
+
+-- a line more
+pub script_line : (s : Scripted) (line : Line) → IsScript s → length s.lines < most_bytes → IsInRange line → IsOnDvr line → HasWrite s.writes line → IsScript (record s { lines = s.lines ++ line ∷ [] })
+script_line s line is few range on has = record {
+  few = omega (arith, few, length-append s.lines (line ∷ []));
+  ranges = All-push IsInRange s.lines line is.ranges range;
+  clients = is.clients;
+  writes = is.writes;
+  on_dvr = All-push IsOnDvr s.lines line is.on_dvr on;
+  named = All-push (HasWrite s.writes) s.lines line is.named has;
+}
+
+-- what a line names is there also with a write more
+still_has : (writes : List (List (List ℕ))) (client : ℕ) (bytes : List ℕ) (line : Line) → HasWrite writes line → HasWrite (slice_set writes client (writes_of client writes ++ bytes ∷ [])) line
+still_has writes client bytes (Feed n) has = tt
+still_has writes client bytes (Tick n) has = tt
+still_has writes client bytes (Command line who target (Once want)) has = tt
+still_has writes client bytes (Command line who target (ReadWait n)) has = tt
+still_has writes client bytes (Command line who target (Drain n)) has = tt
+still_has writes client bytes (Command line who target (GetStc num)) has = tt
+still_has writes client bytes (Command line who target (Write write)) has = go (cases_eq who client) where
+  more : List (List ℕ)
+  more = writes_of client writes ++ bytes ∷ []
+
+  go : (who ≡ client) ⊎ (who ≢ client) → write < length (writes_of who (slice_set writes client more))
+  go (inr other) = subst (λ ws. write < length ws) (sym (get_or-set_other writes client who more [] other)) has
+  go (inl same) = own (cases_lt client (length writes)) where
+    own : (client < length writes) ⊎ (length writes ≤ client) → write < length (writes_of who (slice_set writes client more))
+    own (inl there) =
+        subst (λ ws. write < length ws) (sym (ap (λ c. writes_of c (slice_set writes client more)) same ∙ get_or-set_same writes client more [] there))
+        (let long = length-append (writes_of client writes) (bytes ∷ []) in let mine : write < length (writes_of client writes) = subst (λ c. write < length (writes_of c writes)) same has in omega (arith, long, mine))
+    own (inr past) = absurd (let none : writes_of client writes ≡ [] = get_or_past writes client [] past in let n = ap length none in
+      let mine : write < length (writes_of client writes) = subst (λ c. write < length (writes_of c writes)) same has in omega (arith, n, mine))
+
+-- a write more
+pub script_write : (s : Scripted) (client : ℕ) (bytes : List ℕ) → IsScript s → length (writes_of client s.writes) < most_bytes → IsWritten bytes
+    → IsScript (record s { writes = slice_set s.writes client (writes_of client s.writes ++ bytes ∷ []) })
+script_write s client bytes is few range = record {
+  few = is.few;
+  ranges = is.ranges;
+  clients = length-set s.writes client (writes_of client s.writes ++ bytes ∷ []) ∙ is.clients;
+  writes = set_all AreWritten s.writes client (writes_of client s.writes ++ bytes ∷ []) is.writes (λ there. let h = is.writes client [] there in record {
+    few = omega (arith, few, length-append (writes_of client s.writes) (bytes ∷ []));
+    each = All-push IsWritten (writes_of client s.writes) bytes h.each range;
+  });
+  on_dvr = is.on_dvr;
+  named = All-weaker (HasWrite s.writes) (HasWrite (slice_set s.writes client (writes_of client s.writes ++ bytes ∷ []))) (still_has s.writes client bytes) s.lines is.named;
+}
