@@ -10,13 +10,13 @@ pub mod Batches
 pub mod Merged
 pub mod SoFar
 pub mod Ended
-mod Beginning
+pub mod Beginning
 mod Feeding
-mod FeederWork
-mod Leaving
-mod Lists
-mod Logging
+pub mod FeederWork
+pub mod Leaving
+pub mod Lists
+pub mod Logging
 mod Coming
 mod TooLong
-mod Working
+pub mod Working
 pub mod Budgeting

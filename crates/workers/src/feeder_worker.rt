@@ -28,9 +28,13 @@ const FEEDER: u32 = 0;
 /// The feeder with the stream that it passes, its batches so far, and why it stopped, if it did.
 #[derive(Drop)]
 pub struct FeederWorker {
+    /// The feeder of the adapter.
     pub feeder: Feeder,
+    /// What cuts the stream into batches.
     pub puller: Puller,
+    /// The batches that it has passed, in their order.
     pub feeding: Vec<Fed>,
+    /// Why it has stopped before the stream's end, if it has.
     pub stop: Option<Stop>,
 }
 

@@ -4,7 +4,8 @@
 //! can name (`script_nodes`) on another, in batches, and then its end. Each of them keeps what it has called. A client that waits
 //! repeats its read when another caller has called that node since. Before each event, and once more behind its last, a worker
 //! calls the gate, never under a lock.
-//! `histories_of_run` ends the adapter, and brings all calls together in the order of their places.
+//! `histories_of_run` ends the adapter, and brings all calls together in the order of their places. `FeederWorker` is the feeder
+//! alone, for who has threads of its own.
 //!
 //! What a contract sees: a client's log as the list of its calls. `IsLogged` ties it to what the client's passes know: they
 //! have just these calls, each at the place that it was told. `HasCalled` says of a log that its calls are those that the
@@ -50,6 +51,7 @@ mod run;
 mod threads;
 
 pub use ending::histories_of_run;
+pub use feeder_worker::FeederWorker;
 pub use laws::{
     calls_are_within_budget, few_bytes_are_few_calls, many_calls_are_too_long, workers_have_called,
 };
