@@ -11,8 +11,8 @@
 //! `IsAfter client script replies core` says that it stands after these replies to this client of the script. The
 //! definitions are functions of the script and of the replies alone: `done` says what a command does
 //! (`specs/Commands.antt`), and `progress`, `next_event` and `waits_on` how far a client is (`specs/Events.antt`); `stc` is
-//! the counter that it finds (`specs/Stc.antt`), `outcomes` what became of its commands (`specs/Outcomes.antt`), and
-//! `repeats` how often it repeats a read (`specs/Repeats.antt`).
+//! the counter that it finds (`specs/Stc.antt`), `outcomes` what became of its commands (`specs/Outcomes.antt`), `played_writes`
+//! which of its writes pass (`specs/Passes.antt`), and `repeats` how often it repeats a read (`specs/Repeats.antt`).
 //!
 //! What is proved: `new` stands after no replies; `take` carries a core that stands after some replies to one that stands after
 //! one more, and leaves nothing else open (`HasTaken`); `next`, `next_at`, `line`, `waits` and `outcomes` are what the
@@ -20,7 +20,8 @@
 //! for, a Read with an empty buffer, and only a Read can find that memory is wanting. `unless_no_memory` keeps a reply that isn't
 //! want of memory, and `fitted` the reply with no more room than its bytes take. Laws of the definitions: a client makes at most
 //! 33 calls a command, beside the reads that it repeats (`calls_are_few`); one reply more repeats at most one read more
-//! (`one_reply_repeats_once`). The worked examples of `examples` are computed by the check.
+//! (`one_reply_repeats_once`); and the passes of a client on a demux node are, in order and each once, those of its writes whose
+//! poll was Ready and which complete a packet (`writes_pass_their_batches`). The worked examples of `examples` are computed by the check.
 //!
 //! What is only tested, in `script_tests`: that memory isn't refused where there is enough.
 //!
@@ -46,6 +47,6 @@ mod task;
 pub use call::call_of;
 pub use client::ClientCore;
 pub use event::{Event, Request};
-pub use laws::{calls_are_few, one_reply_repeats_once};
+pub use laws::{calls_are_few, one_reply_repeats_once, writes_pass_their_batches};
 pub use reply::{fitted, unless_no_memory};
 pub use stop::{MOST_CALLS, Stop};
