@@ -156,16 +156,16 @@ done_uses node slots Dvr v step rs low is = on_uses node DEMUX_NODES v step rs l
 
 -- ------ all commands
 
-abbrev pass_by : (node : ℕ) → Option Event → List ℕ
+abbrev pub pass_by : (node : ℕ) → Option Event → List ℕ
 pass_by node None = []
 pass_by node (Some e) = pass_at node e
 
 -- the passes of calls of which each depends on the replies before it
-abbrev passes_by : (node : ℕ) → (List Response → Option Event) → List Response → List ℕ
+abbrev pub passes_by : (node : ℕ) → (List Response → Option Event) → List Response → List ℕ
 passes_by node next [] = []
 passes_by node next (r ∷ rs) = pass_by node (next []) ++ passes_by node (λ m. next (r ∷ m)) rs
 
-same_passes : (node : ℕ) (f g : List Response → Option Event) → ((m : List Response) → f m ≡ g m) → (rs : List Response) → passes_by node f rs ≡ passes_by node g rs
+pub same_passes : (node : ℕ) (f g : List Response → Option Event) → ((m : List Response) → f m ≡ g m) → (rs : List Response) → passes_by node f rs ≡ passes_by node g rs
 same_passes node f g is [] = refl
 same_passes node f g is (r ∷ rs) =
     ap (λ o. pass_by node o ++ passes_by node (λ m. f (r ∷ m)) rs) (is [])
@@ -253,3 +253,131 @@ unfolding progress played_writes
 writes_pass client script replies node through low =
     by_calls node client script [] [] replies
     ∙ all_pass node no_slots 0 (commands_of client script) replies low (no_event (progress client script replies).standing through)
+
+-- ------ what passes weighs no more than the writes that the commands name
+
+-- the sum of these over writes
+abbrev pub weight : (ℕ → ℕ) → List ℕ → ℕ
+weight f [] = 0
+weight f (w ∷ ws) = f w + weight f ws
+
+pub weight_append : (f : ℕ → ℕ) (xs ys : List ℕ) → weight f (xs ++ ys) ≡ weight f xs + weight f ys
+weight_append f [] ys = omega arith
+weight_append f (x ∷ xs) ys = let deeper = weight_append f xs ys in omega (arith, deeper)
+
+-- the write of a command, if it is one
+abbrev pub write_in : Deed → List ℕ
+write_in (Write write has) = write ∷ []
+write_in _ = []
+
+abbrev pub writes_in : List Command → List ℕ
+writes_in [] = []
+writes_in (c ∷ cs) = write_in c.deed ++ writes_in cs
+
+pub writes_append : (xs ys : List Command) → writes_in (xs ++ ys) ≡ writes_in xs ++ writes_in ys
+writes_append [] ys = refl
+writes_append (x ∷ xs) ys = ap (λ ws. write_in x.deed ++ ws) (writes_append xs ys) ∙ sym (append_assoc (write_in x.deed) (writes_in xs) (writes_in ys))
+
+-- the passes of these replies weigh no more than this
+record Light (f : ℕ → ℕ) (node : ℕ) (d : List Response → Doing) (rs : List Response) (bound : ℕ) : Type 0 where
+  ws : List ℕ
+  uses : Uses node d rs ws
+  few : weight f ws ≤ bound
+
+none_light : (f : ℕ → ℕ) (node : ℕ) (d : List Response → Doing) (rs : List Response) (bound : ℕ) → Uses node d rs [] → Light f node d rs bound
+none_light f node d rs bound uses = record { ws = []; uses = uses; few = omega arith }
+
+-- the pass on a node, and those on the nodes behind it
+one_light : (f : ℕ → ℕ) (write k node n : ℕ) (here b c : Bool) → nat_eq k node ≡ here → nat_lt node k ≡ b → nat_lt node (k + 1) ≡ c → n ≤ (if c then 0 else f write)
+    → weight f (if here then write ∷ [] else []) + n ≤ (if b then 0 else f write)
+one_light f write k node n true true c is before behind le = absurd (grind (arith, nat_tests, is, before))
+one_light f write k node n true false true is before behind le = omega (arith, le)
+one_light f write k node n true false false is before behind le = absurd (grind (arith, nat_tests, is, behind))
+one_light f write k node n false true true is before behind le = omega (arith, le)
+one_light f write k node n false true false is before behind le = absurd (grind (arith, nat_tests, before, behind))
+one_light f write k node n false false true is before behind le = omega (arith, le)
+one_light f write k node n false false false is before behind le = omega (arith, le)
+
+passed_light : (f : ℕ → ℕ) (node write k step : ℕ) (rs : List Response) → k < 32 → Light f node (passed write k step) rs (if nat_lt node k then 0 else f write)
+passed_light f node write k step [] at = record { ws = []; uses = (refl, inr (_, refl)); few = omega arith }
+passed_light f node write k step (r ∷ rs) at = whole (next (nat_lt (k + 1) DEMUX_NODES) refl (λ more. passed_light f node write (k + 1) (step + 1) rs more)) where
+  next : (b : Bool) → nat_lt (k + 1) DEMUX_NODES ≡ b → (k + 1 < 32 → Light f node (passed write (k + 1) (step + 1)) rs (if nat_lt node (k + 1) then 0 else f write))
+      → Light f node (λ m. if b then passed write (k + 1) (step + 1) m else through Made (step + 1) m) rs (if nat_lt node (k + 1) then 0 else f write)
+  next true yea deeper = deeper (grind (arith, nat_tests, yea))
+  next false nay deeper = none_light f node (through Made (step + 1)) rs (if nat_lt node (k + 1) then 0 else f write) (at_once node Made (step + 1) rs)
+
+  own : List ℕ
+  own = if nat_eq k node then write ∷ [] else []
+
+  whole : Light f node (λ m. if nat_lt (k + 1) DEMUX_NODES then passed write (k + 1) (step + 1) m else through Made (step + 1) m) rs (if nat_lt node (k + 1) then 0 else f write)
+      → Light f node (passed write k step) (r ∷ rs) (if nat_lt node k then 0 else f write)
+  whole l = record {
+    ws = own ++ l.ws;
+    uses = inr (_, refl, (l.ws, refl, l.uses));
+    few = omega (arith, weight_append f own l.ws, one_light f write k node (weight f l.ws) (nat_eq k node) (nat_lt node k) (nat_lt node (k + 1)) refl refl refl l.few);
+  }
+
+written_light : (f : ℕ → ℕ) (node n write : ℕ) (has : Bool) (step : ℕ) (rs : List Response) → Light f node (written n write has step) rs (f write)
+written_light f node n write has step [] = record { ws = []; uses = (refl, inr (_, refl)); few = omega arith }
+written_light f node n write true step (Ready a b c d ∷ rs) = whole (passed_light f node write 0 (step + 1) rs (omega arith)) where
+  skipped : (b : Bool) (ws : List ℕ) → ws ≡ (if b then [] else []) ++ ws
+  skipped true ws = refl
+  skipped false ws = refl
+
+  below : (b : Bool) (k : ℕ) → k ≤ (if b then 0 else f write) → k ≤ f write
+  below true k le = omega (arith, le)
+  below false k le = le
+
+  whole : Light f node (passed write 0 (step + 1)) rs (if nat_lt node 0 then 0 else f write) → Light f node (written n write true step) (Ready a b c d ∷ rs) (f write)
+  whole l = record { ws = l.ws; uses = inr (_, refl, (l.ws, skipped (nat_eq n node) l.ws, l.uses)); few = below (nat_lt node 0) (weight f l.ws) l.few }
+written_light f node n write true step (_ ∷ rs) = record { ws = []; uses = inr (_, refl, ([], other (nat_eq n node), at_once node Made (step + 1) rs)); few = omega arith }
+written_light f node n write false step (Ready a b c d ∷ rs) = record { ws = []; uses = inr (_, refl, ([], other (nat_eq n node), at_once node Made (step + 1) rs)); few = omega arith }
+written_light f node n write false step (_ ∷ rs) = record { ws = []; uses = inr (_, refl, ([], other (nat_eq n node), at_once node Made (step + 1) rs)); few = omega arith }
+
+more_light : (f : ℕ → ℕ) (node : ℕ) (d : List Response → Doing) (rs : List Response) (m n : ℕ) → m ≤ n → Light f node d rs m → Light f node d rs n
+more_light f node d rs m n le l = record { ws = l.ws; uses = l.uses; few = omega (arith, le, l.few) }
+
+on_light : (f : ℕ → ℕ) (node n : ℕ) (v : Deed) (step : ℕ) (rs : List Response) → Light f node (done_on n v step) rs (weight f (write_in v))
+on_light f node n (Once w) step rs = none_light f node (called n w step) rs 0 (called_uses node n w step rs)
+on_light f node n (ReadWait count) step rs = none_light f node (read_until ends_wait n count step) rs 0 (read_uses node ends_wait n count step rs)
+on_light f node n (Drain count) step rs = none_light f node (read_until ends_drain n count step) rs 0 (read_uses node ends_drain n count step rs)
+on_light f node n (GetStc num) step rs = none_light f node (through (Asked n num) step) rs 0 (at_once node (Asked n num) step rs)
+on_light f node n (Write write has) step rs = more_light f node (written n write has step) rs (f write) (f write + 0) (omega arith) (written_light f node n write has step rs)
+
+at_light : (f : ℕ → ℕ) (node : ℕ) (o : Option ℕ) (v : Deed) (step : ℕ) (rs : List Response) → Light f node (done_at o v step) rs (weight f (write_in v))
+at_light f node None v step rs = none_light f node (through NoNode step) rs (weight f (write_in v)) (at_once node NoNode step rs)
+at_light f node (Some n) v step rs = on_light f node n v step rs
+
+slot_light : (f : ℕ → ℕ) (node slot : ℕ) (slots : Slots) (v : Deed) (step : ℕ) (rs : List Response) → Light f node (done_by_slot slot slots v step) rs (weight f (write_in v))
+slot_light f node slot slots (Once Open) step rs = none_light f node (opened slot 0 step) rs 0 (opened_uses node slot 0 step rs)
+slot_light f node slot slots v step rs = at_light f node (slice_index_or slots slot None) v step rs
+
+done_light : (f : ℕ → ℕ) (node : ℕ) (slots : Slots) (t : Target) (v : Deed) (step : ℕ) (rs : List Response) → Light f node (done slots t v step) rs (weight f (write_in v))
+done_light f node slots (Node n) v step rs = on_light f node n v step rs
+done_light f node slots (Slot slot) v step rs = slot_light f node slot slots v step rs
+done_light f node slots Dvr v step rs = on_light f node DEMUX_NODES v step rs
+
+all_light : (f : ℕ → ℕ) (node : ℕ) (slots : Slots) (step : ℕ) (cs : List Command) (rs : List Response)
+    → weight f (passes_by node (λ m. event_in (progress_from slots step cs m)) rs) ≤ weight f (writes_in cs)
+all_light f node slots step [] rs = omega (arith, ap (weight f) (no_passes node rs))
+all_light f node slots step (c ∷ cs) rs =
+    let l = done_light f node slots c.target c.deed step rs in
+    let behind : List ℕ = passes_behind node slots cs (done slots c.target c.deed step rs) in
+    omega (
+      arith,
+      ap (weight f) (one_command node slots step c cs (done slots c.target c.deed step) rs l.ws l.uses),
+      weight_append f l.ws behind,
+      l.few,
+      go (λ ending next left. all_light f node (slots_after ending slots) next cs left) (done slots c.target c.deed step rs),
+      weight_append f (write_in c.deed) (writes_in cs),
+    ) where
+      go : ((ending : Ending) (next : ℕ) (left : List Response) → weight f (passes_by node (λ m. event_in (progress_from (slots_after ending slots) next cs m)) left) ≤ weight f (writes_in cs))
+          → (d : Doing) → weight f (passes_behind node slots cs d) ≤ weight f (writes_in cs)
+      go deeper (stands e) = omega arith
+      go deeper (through ending next left) = deeper ending next left
+
+-- Whatever replies a client has got, on a node it has passed each of the writes that its commands name once at most.
+pub passes_light : (f : ℕ → ℕ) (node client : ℕ) (script : Scripted) (rs : List Response)
+    → weight f (passes_by node (λ m. next_event client script m) rs) ≤ weight f (writes_in (commands_of client script))
+unfolding progress
+passes_light f node client script rs = all_light f node no_slots 0 (commands_of client script) rs
