@@ -17,7 +17,7 @@ use Rattle.client_core.specs.declared.deed.Deed.TheVariants.{Once, ReadWait, Dra
 use Rattle.client_core.specs.declared.command.Command.{Command}
 use Rattle.client_core.specs.declared.event.Event.{Event}
 use Rattle.client_core.specs.declared.event.Request.{Request}
-use Rattle.client_core.specs.declared.event.Request.TheVariants.{Pass}
+use Rattle.client_core.specs.declared.event.Request.TheVariants.{Attach, Detach, Pass}
 use Rattle.client_core.specs.declared.task.Ending.{Ending}
 use Rattle.client_core.specs.declared.task.Ending.TheVariants.{Made, Bound, AllBusy, NoNode, Asked}
 use Rattle.client_core.specs.Commands.{Slots, Doing, stands, through, once, told, called, opened, passed, written, read_until, done_on, done_at, done_by_slot, done, ends_wait, ends_drain, commands_of}
@@ -39,8 +39,8 @@ Uses node d (r ∷ rs) ws =
     (AtOnce d × (ws ≡ [])) ⊎ ((e : Event) × (d [] ≡ stands e) × ((later : List ℕ) × (ws ≡ pass_at node e ++ later) × Uses node (λ m. d (r ∷ m)) rs later))
 
 at_once : (node : ℕ) (ending : Ending) (next : ℕ) (rs : List Response) → Uses node (through ending next) rs []
-at_once node ending next [] = (refl, inl (ending, next, λ more. refl))
-at_once node ending next (r ∷ rs) = inl ((ending, next, λ more. refl), refl)
+at_once node ending next [] = (refl, inl (ending, (next, λ more. refl)))
+at_once node ending next (r ∷ rs) = inl ((ending, (next, λ more. refl)), refl)
 
 if_uses : (b : Bool) (node : ℕ) (d f : List Response → Doing) (rs : List Response) (ws : List ℕ) → Uses node d rs ws → Uses node f rs ws → Uses node (λ m. if b then d m else f m) rs ws
 if_uses true node d f rs ws x y = x
@@ -60,8 +60,8 @@ once_uses node ending n w step (r ∷ rs) free = inr (_, refl, ([], skipped (nat
 
 told_uses : (node : ℕ) (ending : Ending) (n : ℕ) (tap : TapChange) (step : ℕ) (rs : List Response) → Uses node (told ending n tap step) rs []
 told_uses node ending n KeepTap step rs = at_once node ending step rs
-told_uses node ending n (AttachTap pids) step rs = once_uses node ending DEMUX_NODES _ step rs refl
-told_uses node ending n DetachTap step rs = once_uses node ending DEMUX_NODES _ step rs refl
+told_uses node ending n (AttachTap pids) step rs = once_uses node ending DEMUX_NODES (Attach n pids) step rs refl
+told_uses node ending n DetachTap step rs = once_uses node ending DEMUX_NODES (Detach n) step rs refl
 
 called_uses : (node n : ℕ) (w : Want) (step : ℕ) (rs : List Response) → Uses node (called n w step) rs []
 called_uses node n w step [] = (refl, inr (_, refl))
@@ -250,9 +250,9 @@ no_event (Some s) is = absurd (none-some s.event (sym is))
 
 pub writes_pass : WritesPass
 unfolding progress played_writes
-writes_pass client script replies node through low =
+writes_pass client script replies node none low =
     by_calls node client script [] [] replies
-    ∙ all_pass node no_slots 0 (commands_of client script) replies low (no_event (progress client script replies).standing through)
+    ∙ all_pass node no_slots 0 (commands_of client script) replies low (no_event (progress client script replies).standing none)
 
 -- ------ what passes weighs no more than the writes that the commands name
 
@@ -306,15 +306,12 @@ passed_light f node write k step (r ∷ rs) at = whole (next (nat_lt (k + 1) DEM
   next true yea deeper = deeper (grind (arith, nat_tests, yea))
   next false nay deeper = none_light f node (through Made (step + 1)) rs (if nat_lt node (k + 1) then 0 else f write) (at_once node Made (step + 1) rs)
 
-  own : List ℕ
-  own = if nat_eq k node then write ∷ [] else []
-
   whole : Light f node (λ m. if nat_lt (k + 1) DEMUX_NODES then passed write (k + 1) (step + 1) m else through Made (step + 1) m) rs (if nat_lt node (k + 1) then 0 else f write)
       → Light f node (passed write k step) (r ∷ rs) (if nat_lt node k then 0 else f write)
   whole l = record {
-    ws = own ++ l.ws;
+    ws = (if nat_eq k node then write ∷ [] else []) ++ l.ws;
     uses = inr (_, refl, (l.ws, refl, l.uses));
-    few = omega (arith, weight_append f own l.ws, one_light f write k node (weight f l.ws) (nat_eq k node) (nat_lt node k) (nat_lt node (k + 1)) refl refl refl l.few);
+    few = omega (arith, weight_append f (if nat_eq k node then write ∷ [] else []) l.ws, one_light f write k node (weight f l.ws) (nat_eq k node) (nat_lt node k) (nat_lt node (k + 1)) refl refl refl l.few);
   }
 
 written_light : (f : ℕ → ℕ) (node n write : ℕ) (has : Bool) (step : ℕ) (rs : List Response) → Light f node (written n write has step) rs (f write)
@@ -363,9 +360,11 @@ all_light f node slots step [] rs = omega (arith, ap (weight f) (no_passes node 
 all_light f node slots step (c ∷ cs) rs =
     let l = done_light f node slots c.target c.deed step rs in
     let behind : List ℕ = passes_behind node slots cs (done slots c.target c.deed step rs) in
+    let same : weight f (passes_by node (λ m. event_in (progress_from slots step (c ∷ cs) m)) rs) ≡ weight f (l.ws ++ behind) =
+    ap (weight f) (one_command node slots step c cs (done slots c.target c.deed step) rs l.ws l.uses) in
     omega (
       arith,
-      ap (weight f) (one_command node slots step c cs (done slots c.target c.deed step) rs l.ws l.uses),
+      same,
       weight_append f l.ws behind,
       l.few,
       go (λ ending next left. all_light f node (slots_after ending slots) next cs left) (done slots c.target c.deed step rs),

@@ -75,7 +75,9 @@ from_place before (b ∷ bs) =
     let behind : weight (packets_at (before ++ b ∷ bs)) (range_with_len (length before + 1) (length bs)) ≡ length (flat_map packets_in bs) =
     subst (λ n. weight (packets_at (before ++ b ∷ bs)) (range_with_len n (length bs)) ≡ length (flat_map packets_in bs)) long
     (subst (λ xs. weight (packets_at xs) (range_with_len (length (before ++ b ∷ [])) (length bs)) ≡ length (flat_map packets_in bs)) (append_assoc before (b ∷ []) bs) later) in
-    omega (arith, here, behind, length-append (packets_in b) (flat_map packets_in bs))
+    let first : weight (packets_at (before ++ b ∷ bs)) (range_with_len (length before) (length (b ∷ bs)))
+    ≡ packets_at (before ++ b ∷ bs) (length before) + weight (packets_at (before ++ b ∷ bs)) (range_with_len (length before + 1) (length bs)) = refl in
+    omega (arith, first, here, behind, length-append (packets_in b) (flat_map packets_in bs))
 
 all_played : (ws : List (List ℕ)) → weight (packets_at (plays ws)) (range_with_len 0 (length ws)) ≡ length (cut_of ws).packets
 all_played ws =
@@ -136,9 +138,10 @@ module _ (script : Scripted) (client : ℕ) (node : ℕ) (packets : Input → Li
       → ((i : ℕ) (e : LogEntry) → slice_get log i ≡ Some e → IsEvent own (next_event client script (replies (take i log))) e)
       → sum_of (brings_to node packets) log ≤ length (played client script)
   client_brings numbered log each =
+      let walked : sum_of (brings_to node packets) log ≤ weight (packets_at own) (passes_by node (λ m. next_event client script m) (replies log)) = along [] log each in
       omega (
         arith,
-        along [] log each,
+        walked,
         passes_light (packets_at own) node client script (replies log),
         ap (weight (packets_at own)) (writes_named client own script.lines ∙ numbered),
         all_played (writes_of client script.writes),
