@@ -10,3 +10,4 @@ pub mod Scripts
 pub mod Searching
 pub mod Splitting
 pub mod Taking
+pub mod Writing

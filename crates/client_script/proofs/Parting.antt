@@ -9,7 +9,7 @@ use Rattle.std.proofs.Math.Seq.{drop-cons, take-append-add}
 use Rattle.std.specs.Option.{option_map}
 use Rattle.std.specs.Prelude.{◌==◌, Result, Ok, Err, if◌then◌else◌}
 use Rattle.std.specs.List.{All, slice_split, position}
-use Rattle.client_script.specs.Script.{without_last, whole_lines, is_stream, Scripted, plain, with_said, lines_from, grammar, script_len, parted, split, most_bytes}
+use Rattle.client_script.specs.Script.{without_last, whole_lines, is_stream, Parsed, Scripted, plain, with_said, lines_from, grammar, script_len, parted, split, most_bytes}
 use Rattle.client_script.specs.Grammar.{meaning}
 use Rattle.client_script.specs.declared.fault.FaultKind.{FaultKind}
 use Rattle.client_script.specs.declared.fault.ScriptFault.{ScriptFault}
@@ -83,8 +83,8 @@ at_stream xs line more n f is e =
 
 -- behind a line, where what follows it is the same
 on_line : (k : ℕ) (m m' : ScriptFault) (s : Scripted) (lines others : List (List ℕ)) → ((t : Scripted) → lines_from m (k + 1) t lines ≡ lines_from m' (k + 1) t others) → (r : Result (Option Said) FaultKind)
-    → (elim r [ Err kind ↦ Err (record { line = k; kind = kind }) | Ok said ↦ lines_from m (k + 1) (with_said said s) lines ])
-    ≡ (elim r [ Err kind ↦ Err (record { line = k; kind = kind }) | Ok said ↦ lines_from m' (k + 1) (with_said said s) others ])
+    → ◌≡◌ {A = Parsed} (elim r [ Err kind ↦ Err (record { line = k; kind = kind }) | Ok said ↦ lines_from m (k + 1) (with_said said s) lines ])
+    (elim r [ Err kind ↦ Err (record { line = k; kind = kind }) | Ok said ↦ lines_from m' (k + 1) (with_said said s) others ])
 on_line k m m' s lines others same (Err kind) = refl
 on_line k m m' s lines others same (Ok said) = same (with_said said s)
 

@@ -19,7 +19,7 @@ use Rattle.text_forms.proofs.Decimals.{number_between-decimal}
 use Rattle.text_forms.proofs.NamesRead.{client_named-client_text}
 use Rattle.text_forms.proofs.WordsRead.{input_named-input_text, output_named-output_text}
 use Rattle.text_forms.proofs.FiltersRead.{places_named-filter_words, filter_with-filter_places, length-filter_words}
-use Rattle.client_script.specs.Words.{words_of, word_in}
+use Rattle.client_script.specs.Words.{Reading, mapped, words_of, word_in}
 use Rattle.client_script.specs.Places.{places_in, filter_in}
 use Rattle.client_script.specs.Grammar.{number_in, numbered_target, target_of, name_of, section_in, pes_in, verb_in, command_in, dvr_named, write_in, asked_in, line_in, line_of, is_passed_over, meaning, IsTargetInRange, IsVerbInRange, IsPlainVerb, IsInRange}
 use Rattle.client_script.specs.Writes.{written_named, IsWritten}
@@ -148,7 +148,7 @@ unfolding written_named
 written_named-hex_text [] is = absurd (omega (arith, is.some))
 written_named-hex_text (byte ∷ bytes) is =
     ap (λ b. if b then None else hex_bytes 12032 (hex_text (byte ∷ bytes))) (some_digits (digit_text (byte / 16)) (digit_text (byte % 16)) (hex_text bytes))
-    ∙ hex_bytes-hex_text 12032 (byte ∷ bytes) is.few is.bytes
+    ∙ hex_bytes-hex_text 12032 (byte ∷ bytes) is.few is.each
 
 -- a write that is there
 pub written_there : (writes : List (List (List ℕ))) (client write : ℕ) → All AreWritten writes → write < length (writes_of client writes) → IsWritten (written_by client writes write)
@@ -179,7 +179,7 @@ asked_again number client writes target (ReadWait n) line all can =
 asked_again number client writes target (Drain n) line all can =
     rw (not_write (Drain n) tt, command_in-words number client (written_by client writes) target (Drain n) can.range.3 can.range.4 tt) refl
 asked_again number client writes target (GetStc num) line all can =
-    rw (not_write (GetStc num) tt, command_in-words number client (written_by client writes) target (GetStc num) can.range.3 can.range.4 tt) refl
+    ap (λ (r : Reading Line). mapped Asks r) (command_in-words number client (written_by client writes) target (GetStc num) can.range.3 can.range.4 tt)
 
 line_in-words : (number : ℕ) (writes : List (List (List ℕ))) (line : Line) → All AreWritten writes → CanPrint writes line
     → line_in number (first_word line ∷ more_words writes line) ≡ Ok (said_again number writes line, [])

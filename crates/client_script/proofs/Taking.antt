@@ -8,6 +8,7 @@ use Rattle.std.proofs.lemmas.List.{length-set, get_or-set_same, get_or-set_other
 use Rattle.client_script.specs.Grammar.{IsInRange}
 use Rattle.client_script.specs.Writes.{IsWritten}
 use Rattle.client_script.specs.Script.{Scripted, no_writes, most_bytes, writes_of, with_said, IsScript, AreWritten, HasWrite, IsOnDvr}
+use Rattle.client_script.specs.declared.line.Target.TheVariants.{Dvr}
 use Rattle.client_script.specs.declared.line.Line.{Line}
 use Rattle.client_script.specs.declared.line.Line.TheVariants.{Feed, Tick, Command}
 use Rattle.client_script.specs.declared.line.Verb.TheVariants.{Once, ReadWait, Drain, GetStc, Write}
@@ -24,7 +25,9 @@ no_writes_below number one k d lt = let none : slice_index_or (replicate 8 []) k
 pub lines_more : (said : Option Said) (s : Scripted) (number : ℕ) → 1 + length s.lines ≤ number → 1 + length (with_said said s).lines ≤ number + 1
 lines_more None s number few = omega (arith, few)
 lines_more (Some (Asks line)) s number few = omega (arith, few, length-append s.lines (line ∷ []))
-lines_more (Some (Writes line client bytes)) s number few = let k = length-append s.lines (_ ∷ []) in omega (arith, few, k)
+lines_more (Some (Writes line client bytes)) s number few =
+    let asked : Line = Command line client Dvr (Write (length (writes_of client s.writes))) in
+    omega (arith, few, length-append s.lines (asked ∷ []))
 
 -- each element of a list with another one in a place
 pub set_all : (P : List (List ℕ) → Type 0) (xs : List (List (List ℕ))) (i : ℕ) (x : List (List ℕ)) → All P xs → (i < length xs → P x) → All P (slice_set xs i x)
@@ -37,8 +40,8 @@ pub writes_below : (number most : ℕ) (writes : List (List (List ℕ))) → num
 writes_below number most writes le all k d lt = let h = all k d lt in omega (arith, h, le)
 
 pub writes_more : (said : Option Said) (s : Scripted) (number : ℕ) → Below number s.writes → Below (number + 1) (with_said said s).writes
-writes_more None s number all k d lt = let h = all k d lt in omega (arith, h)
-writes_more (Some (Asks line)) s number all k d lt = let h = all k d lt in omega (arith, h)
+writes_more None s number all = λ k d lt. let h = all k d lt in omega (arith, h)
+writes_more (Some (Asks line)) s number all = λ k d lt. let h = all k d lt in omega (arith, h)
 writes_more (Some (Writes line client bytes)) s number all =
     set_all (λ writes. 1 + length writes ≤ number + 1) s.writes client (writes_of client s.writes ++ bytes ∷ []) (λ k d lt. let h = all k d lt in omega (arith, h))
     (λ there. let h = all client [] there in omega (arith, h, length-append (writes_of client s.writes) (bytes ∷ [])))

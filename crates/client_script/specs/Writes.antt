@@ -15,4 +15,4 @@ written_named word = if length word == 0 then None else hex_bytes most_written w
 pub record IsWritten (bytes : List ℕ) : Type 0 where
   pub some : 1 ≤ length bytes
   pub few : length bytes ≤ most_written
-  pub bytes : All (λ byte. byte < 256) bytes
+  pub each : All (λ byte. byte < 256) bytes

@@ -57,14 +57,16 @@ pub fn written_named(word: &[u8]) -> Option<Written<'_>>
 
 impl<'a> Written<'a> {
     /// A copy of the bytes.
+    #[tactic(auto, using(crate::proofs::Writing::spelled, crate::proofs::Writing::never_none, crate::proofs::Writing::written_is))]
     pub fn copied(&self, alloc: Global) -> Result<Vec<u8>, NoMemory>
         ensures value { IfOk result (λ bytes. bytes.items ≡ self.now) }
         ensures range { IfOk result (λ bytes. IsWritten bytes.items) }
     {
+        let Some(bytes) = hex_bytes::<MOST_WRITTEN>(self.word) else {
+            unreachable!();
+        };
         let mut copy = Vec::new(alloc);
-        if let Some(bytes) = hex_bytes::<MOST_WRITTEN>(self.word) {
-            copy.extend_from_slice(bytes.as_slice())?;
-        }
+        copy.extend_from_slice(bytes.as_slice())?;
         Ok(copy)
     }
 }

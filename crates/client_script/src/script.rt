@@ -1,5 +1,5 @@
 // The lines of a whole script.
-ghost use Rattle.std.specs.Prelude.{◌≡◌, ◌+◌, ◌≤◌, ◌∷◌, ◌++◌, [], length, slice_set, IfOk, IfErr, IfSome, OnOk, MatchOption};
+ghost use Rattle.std.specs.Prelude.{◌≡◌, ◌+◌, ◌<◌, ◌≤◌, ◌∷◌, ◌++◌, [], length, slice_set, IfOk, IfErr, IfSome, OnOk, MatchOption};
 ghost use Rattle.std.specs.List.{All};
 ghost use Rattle.client_script.specs.Grammar.{line_of as line_by_grammar, meaning as meaning_of, is_passed_over, IsInRange, IsSaidInRange};
 ghost use Rattle.client_script.specs.Writes.{IsWritten};
@@ -156,7 +156,7 @@ impl Script {
         requires lines { length self.old.lines < most_bytes }
         requires writes { All (λ writes. length writes < most_bytes) self.old.writes }
         requires range { IfSome said IsSaidInRange }
-        ensures added { OnOk result (self.new ≡ with_said said self.old) }
+        ensures added { OnOk result (self.new ≡ with_said said.entry self.old) }
         ensures refused { IfErr result (λ error. error ≡ ScriptError.NoMemory) }
     {
         match said {

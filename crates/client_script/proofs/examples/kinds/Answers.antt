@@ -47,4 +47,4 @@ returns-clause-requests c = (refl, refl, refl, refl, refl, refl)
 
 pub returns-clause-writes : goal.returns-clause-writes
 unfolding value_after hex_digit hex_byte hex_bytes word_in request_number argument_named request_number_in request_in ioctl_in numbered numbered_target target_of name_of verb_in command_in asked_in write_in dvr_named written_named line_in line_of meaning
-returns-clause-writes c = refl
+returns-clause-writes c = (refl, refl, refl)
