@@ -1,7 +1,8 @@
 -- At each moment of a run, the commands and the bytes pay for the calls of a client: a repeat that follows bytes is paid for by
 -- them, and a repeat that follows Again by the entry right behind the read, which is the feeder's or adds no repeat to its own client's.
-use Rattle.std.proofs.Common.{◌≡◌, ◌≢◌, refl, sym, ap, subst, ◌∙◌, ℕ, zero, suc, ◌+◌, ◌*◌, ◌<◌, ◌≤◌, Bool, true, false, nat_eq, List, [], ◌∷◌, ◌++◌, Some, length, filter, take, slice_get, inl, inr, arith}
-use Rattle.std.specs.Prelude.{◌⊎◌, if◌then◌else◌}
+use Rattle.std.proofs.Common.{◌≡◌, ◌≢◌, refl, sym, ap, subst, ◌∙◌, ℕ, zero, suc, ◌+◌, ◌*◌, ◌<◌, ◌≤◌, Bool, true, false, nat_eq, List, [], ◌∷◌, ◌++◌, Option, Some, None, length, filter, take, slice_get, inl, inr, arith}
+use Rattle.std.specs.Prelude.{◌⊎◌, if◌then◌else◌, map, sum}
+use Rattle.std.proofs.lemmas.List.Sums.{sum_by-cons}
 use Rattle.std.specs.List.{All}
 use Rattle.std.proofs.lemmas.Bool.Decides.{nat_tests}
 use Rattle.std.proofs.lemmas.List.Elements.{All-weaker}
@@ -10,8 +11,7 @@ use Rattle.lemmas.specs.Lists.{Has}
 use Rattle.lemmas.proofs.Lists.{at_place, one_value, has_at}
 use Rattle.ts_packet.specs.Fields.{IsPacket}
 use Rattle.dmx_calls.specs.declared.reply.Errno.TheVariants.{Ebadf}
-use Rattle.dmx_calls.specs.Invocation.{brought}
-use Rattle.dmx_calls.specs.Log.{LogEntry, filled_act, filled_entry, from_stream}
+use Rattle.dmx_calls.specs.Log.{LogEntry, Sources, act_of, filled_act, filled_entry}
 use Rattle.dmx_calls.specs.Owning.{HasRead}
 use Rattle.dmx_calls.specs.Response.{Response, Refused}
 use Rattle.client_script.specs.declared.line.Line.{Line}
@@ -20,17 +20,25 @@ use Rattle.client_script.specs.declared.line.Target.{Target}
 use Rattle.client_script.specs.declared.line.Verb.{Verb}
 use Rattle.client_script.specs.Script.{clients_in, Scripted}
 use Rattle.client_core.specs.declared.command.Command.{Command as ClientCommand}
-use Rattle.client_core.specs.Deeds.{deed_of}
-use Rattle.client_core.specs.Commands.{commands_among, ends_drain, plays_of}
-use Rattle.client_core.specs.Events.{next_event}
-use Rattle.script_run.specs.Budget.{all_commands, most_calls, bytes_in}
-use Rattle.script_run.specs.IsRun.{IsEvent, StandsIn, replies}
+use Rattle.client_core.specs.declared.event.Event.{Event}
+use Rattle.client_core.specs.declared.event.Request.{Request}
+use Rattle.client_core.specs.declared.event.Request.TheVariants.{Own, Pass}
+use Rattle.client_script.specs.declared.line.Want.TheVariants.{Open}
+use Rattle.client_script.specs.declared.line.Verb.TheVariants.{Once, ReadWait, Drain, GetStc, Write}
+use Rattle.ts_batch.specs.Batch.{Packets}
+use Rattle.dvr_play.specs.Laws.{packets_in}
+use Rattle.client_core.specs.Deeds.{Batches, batch_at, deed_of}
+use Rattle.client_core.specs.Commands.{call_of, commands_among, commands_of, ends_drain, pass_of, plays_of}
+use Rattle.client_core.specs.Events.{next_event, no_slots}
+use Rattle.script_run.specs.Budget.{all_commands, bytes_in, bytes_played, most_calls, packets_played}
+use Rattle.script_run.specs.IsRun.{IsEvent, StandsIn, replies, sources}
 use Rattle.script_run.specs.SoFar.{Payers, feeder, others, MayPay, IsPaidBehind, HasDoneSoFar, IsSoFar, commands_for, CallsArePaid}
 use Rattle.script_run.proofs.Lists.{has_filter}
-use Rattle.script_run.proofs.Counting.{total, total_le, total_add, total_same, total_33, total_but, total_one, one_at, but, sum_of, Pool, both, all_pools, HaveTokens, counts_fit}
+use Rattle.script_run.proofs.Counting.{total, total_le, total_add, total_same, total_33, total_but, total_one, one_at, but, sum_of, Pool, both, all_pools, HaveTokens, counts_fit, weigh_places, weight_at, weight_got}
 use Rattle.script_run.proofs.ReadReplies.{read_there, next_is_refused}
-use Rattle.script_run.proofs.HistoryBytes.{OnlyFeederBrings, bytes_fit, feeder_long}
-use Rattle.script_run.proofs.Events.{event_brings_none}
+use Rattle.script_run.proofs.HistoryBytes.{bytes_fit, feeder_brings, feeder_long, packets_of}
+use Rattle.script_run.proofs.Events.{all_packets, count_of}
+use Rattle.script_run.proofs.Passing.{asked_to, from_worth, passed_of, passes_by, worth_all, worth_of}
 use Rattle.script_run.proofs.Repeating.{adds, quiet, IsGoing, going, quiet_calls, grows, but_one, calls_and_repeats, by_bytes, by_again, both_kinds, bytes_pay, IsWaiting, waiting}
 
 -- ------ the commands of all clients
@@ -66,14 +74,133 @@ commands_shared script (Command line who target verb ∷ lines) n =
 abbrev firsts : Scripted → ℕ → ℕ
 firsts script d = 33 * commands_by script script.lines d
 
+-- ------ the packets that clients play
+
+-- how many packets a write of a client has
+abbrev write_size : Batches → (write : ℕ) → ℕ
+write_size batches write = length (packets_in (batch_at batches write))
+
+-- how many packets a client's writes in these lines have
+abbrev plays_by : Scripted → (lines : List Line) → ℕ → ℕ
+plays_by script lines c = sum_of (λ (x : ClientCommand). worth_of (write_size (plays_of c script)) x.deed) (commands_among c (plays_of c script) lines)
+
+-- how many packets the writes of these lines have
+abbrev played_in : Scripted → (lines : List Line) → ℕ
+played_in script [] = 0
+played_in script (line ∷ lines) = packets_played script line + played_in script lines
+
+played_sum : (script : Scripted) (lines : List Line) → sum (map (packets_played script) lines) ≡ played_in script lines
+played_sum script [] = refl
+played_sum script (line ∷ lines) = omega (arith, sum_by-cons (λ n. n) (packets_played script line) (map (packets_played script) lines), played_sum script lines)
+
+-- a number for one of them
+abbrev number_at : (c size : ℕ) → ℕ → ℕ
+number_at c size i = if nat_eq i c then size else 0
+
+number_times : (c size i : ℕ) → number_at c size i ≡ one_at c i * size
+number_times c size i = go (nat_eq i c) where
+  go : (b : Bool) → (if b then size else 0) ≡ (if b then 1 else 0) * size
+  go true = omega arith
+  go false = omega arith
+
+total_number : (c size n : ℕ) → total (number_at c size) n ≡ total (one_at c) n * size
+total_number c size zero = refl
+total_number c size (suc n) = let deeper = total_number c size n in grind (arith, deeper, number_times c size n)
+
+number_once : (c size n : ℕ) → total (number_at c size) n ≤ size
+number_once c size n = go (total (one_at c) n) (total_number c size n) (total_one c n) where
+  go : (k : ℕ) → total (number_at c size) n ≡ k * size → k ≤ 1 → total (number_at c size) n ≤ size
+  go zero is le = omega (arith, is)
+  go (suc zero) is le = omega (arith, is)
+  go (suc (suc k)) is le = absurd (omega (arith, le))
+
+verb_size : (script : Scripted) (line who : ℕ) (target : Target) (verb : Verb) → worth_of (write_size (plays_of who script)) (deed_of (plays_of who script) verb) ≡ packets_played script (Command line who target verb)
+verb_size script line who target (Once want) = refl
+verb_size script line who target (ReadWait count) = refl
+verb_size script line who target (Drain count) = refl
+verb_size script line who target (GetStc num) = refl
+verb_size script line who target (Write write) = refl
+
+one_line : (script : Scripted) (line who : ℕ) (target : Target) (verb : Verb) (lines : List Line) (c : ℕ)
+    → plays_by script (Command line who target verb ∷ lines) c ≤ plays_by script lines c + number_at who (packets_played script (Command line who target verb)) c
+one_line script line who target verb lines c = go (nat_eq who c) refl where
+  abbrev size : ClientCommand → ℕ
+  size x = worth_of (write_size (plays_of c script)) x.deed
+
+  one : ClientCommand
+  one = record { line = line; target = target; deed = deed_of (plays_of c script) verb }
+
+  go : (b : Bool) → nat_eq who c ≡ b
+      → sum_of size ((if b then record { line = line; target = target; deed = deed_of (plays_of c script) verb } ∷ [] else []) ++ commands_among c (plays_of c script) lines)
+      ≤ plays_by script lines c + number_at who (packets_played script (Command line who target verb)) c
+  go true yea =
+      let here : nat_eq c who ≡ true = grind (arith, nat_tests, yea) in
+      let same : who ≡ c = grind (arith, nat_tests, yea) in
+      let mine : number_at who (packets_played script (Command line who target verb)) c ≡ packets_played script (Command line who target verb) =
+      ap (λ b. if b then packets_played script (Command line who target verb) else 0) here in
+      let size_is : worth_of (write_size (plays_of c script)) (deed_of (plays_of c script) verb) ≡ packets_played script (Command line who target verb) =
+      subst (λ k. worth_of (write_size (plays_of k script)) (deed_of (plays_of k script) verb) ≡ packets_played script (Command line who target verb)) same (verb_size script line who target verb) in
+      omega (arith, mine, size_is)
+  go false nay = omega arith
+
+-- the writes of all clients are those of the lines
+pub plays_shared : (script : Scripted) (lines : List Line) (n : ℕ) → total (plays_by script lines) n ≤ played_in script lines
+plays_shared script [] n = omega (arith, total_same 0 n)
+plays_shared script (Feed count ∷ lines) n = omega (arith, plays_shared script lines n)
+plays_shared script (Tick time ∷ lines) n = omega (arith, plays_shared script lines n)
+plays_shared script (Command line who target verb ∷ lines) n =
+    omega (
+      arith,
+      total_le (plays_by script (Command line who target verb ∷ lines)) (λ c. plays_by script lines c + number_at who (packets_played script (Command line who target verb)) c) n
+      (λ c lt. one_line script line who target verb lines c),
+      total_add (plays_by script lines) (number_at who (packets_played script (Command line who target verb))) n,
+      number_once who (packets_played script (Command line who target verb)) n,
+      plays_shared script lines n,
+    )
+
+-- how many packets a call on a node brings
+abbrev brings_on : (node : ℕ) → LogEntry → ℕ
+brings_on node e = if nat_eq e.node node then packets_of e else 0
+
+brings_less : (node : ℕ) (e : LogEntry) → brings_on node e ≤ packets_of e
+brings_less node e = go (nat_eq e.node node) where
+  go : (b : Bool) → (if b then packets_of e else 0) ≤ packets_of e
+  go true = omega arith
+  go false = omega arith
+
+pass_size : (o : Option Packets) (moment : ℕ) → count_of (act_of (pass_of o moment)) ≡ length (packets_in o)
+pass_size None moment = refl
+pass_size (Some batch) moment = refl
+
+zero_either : (b : Bool) → (if b then 0 else 0) ≤ 0
+zero_either true = omega arith
+zero_either false = omega arith
+
+asked_size : (batches : Batches) (node at moment : ℕ) (w : Request) → (if nat_eq at node then count_of (act_of (call_of batches w moment)) else 0) ≤ sum_of (write_size batches) (asked_to node at w)
+asked_size batches node at moment (Pass write) = go (nat_eq at node) where
+  go : (b : Bool) → (if b then count_of (act_of (pass_of (batch_at batches write) moment)) else 0) ≤ sum_of (write_size batches) (if b then write ∷ [] else [])
+  go true = omega (arith, pass_size (batch_at batches write) moment)
+  go false = omega arith
+asked_size batches node at moment (Own Open) = zero_either (nat_eq at node)
+asked_size batches node at moment _ = zero_either (nat_eq at node)
+
+event_size : (batches : Batches) (node : ℕ) (e : LogEntry) (w : Event) (moment : ℕ) → e.node ≡ w.node → e.act ≡ act_of (call_of batches w.want moment) → brings_on node e ≤ sum_of (write_size batches) (passes_by node w)
+event_size batches node e w moment on is =
+    omega (
+      arith,
+      asked_size batches node w.node moment w.want,
+      ap (λ k. if nat_eq k node then count_of e.act else 0) on,
+      ap (λ a. if nat_eq w.node node then count_of a else 0) is,
+    )
+
 -- ------ one call
 
 -- a refused read ends a drain
 not_refused : (r : Response) → ends_drain r ≡ false → r ≢ Refused Ebadf
 not_refused r goes_on is = (let k : ends_drain (Refused Ebadf) ≡ false = sym (ap ends_drain is) ∙ goes_on in absurd (cc k))
 
-reads_on : (stream : List (List ℕ)) (e : LogEntry) → IsGoing e.act e.response → HasRead e.who (filled_entry (from_stream stream) e)
-reads_on stream e g = record { by = refl; read = (g.now, g.count, ap (filled_act (λ input. stream)) g.read); response = not_refused e.response g.goes_on }
+reads_on : (packets : Sources) (e : LogEntry) → IsGoing e.act e.response → HasRead e.who (filled_entry packets e)
+reads_on packets e g = record { by = refl; read = (g.now, g.count, ap (filled_act (packets e.who)) g.read); response = not_refused e.response g.goes_on }
 
 pays_not_itself : (payers : Payers) (client who : ℕ) → MayPay payers client who → who ≢ client + 1
 pays_not_itself feeder client who is same = absurd (omega (arith, is, same))
@@ -98,15 +225,6 @@ module _ (payers : Payers) (script : Scripted) (most : ℕ) (stream : List (List
         let who : e.who ≡ d + 1 = omega (arith, is) in
         record { client = d; low = low; who = who; made = λ is. (s.clients d is).only e.node e.place h e log at who }
 
-  brings_none : (e : LogEntry) → StandsIn hs e → e.who ≢ 0 → length (brought (filled_act (λ input. stream) e.act)) ≡ 0
-  brings_none e stands not =
-      let m : IsMade e = made_by e stands not in
-      event_brings_none stream (next_event m.client script (replies (take e.step (s.clients m.client m.low).made))) e ((s.clients m.client m.low).steps e.step e (m.made m.low)).3
-
-  only_feeder : (es : List LogEntry) → ((i : ℕ) (e : LogEntry) → slice_get es i ≡ Some e → StandsIn hs e) → OnlyFeederBrings stream es
-  only_feeder [] each = tt
-  only_feeder (e ∷ es) each = (λ not. brings_none e (each 0 e refl) not, only_feeder es (λ i x at. each (suc i) x at))
-
   -- the entry at a place of a node's history stands in the histories
   stands_at : (node : ℕ) (h : List LogEntry) → slice_get hs node ≡ Some h → (i : ℕ) (e : LogEntry) → slice_get h i ≡ Some e → StandsIn hs e
   stands_at node h log i e at =
@@ -128,18 +246,92 @@ module _ (payers : Payers) (script : Scripted) (most : ℕ) (stream : List (List
   abbrev bytes_of : LogEntry → ℕ
   bytes_of e = bytes_in e.response
 
+  -- ------ what clients play
+
+  -- an entry of a client
+  abbrev IsClients : (client : ℕ) → LogEntry → Type 0
+  IsClients client e = (low : client < clients_in script) → Has (s.clients client low).made e
+
+  -- no more packets stand behind a client's entries on a node than its writes have
+  client_brings : (node client : ℕ) → client < clients_in script → Pool (brings_on node) (IsClients client) (plays_by script script.lines client)
+  client_brings node client low =
+      let batches : Batches = plays_of client script in
+      let made : List LogEntry = (s.clients client low).made in
+      record {
+        tokens = made;
+        within = omega (
+          arith,
+          worth_all script client made (λ i e at. ((s.clients client low).steps i e at).3) node (brings_on node) (write_size batches) (event_size batches node),
+          from_worth node (write_size batches) no_slots 0 (commands_of client script) (replies made),
+        );
+        all = λ t is. is low;
+      }
+
+  abbrev SomeClients : LogEntry → Type 0
+  SomeClients e = (client : ℕ) × (client < clients_in script) × IsClients client e
+
+  clients_bring : (node : ℕ) → Pool (brings_on node) SomeClients (total (plays_by script script.lines) (clients_in script))
+  clients_bring node = all_pools (brings_on node) IsClients (plays_by script script.lines) (clients_in script) (client_brings node)
+
+  -- those of the feeder
+  feeders_bring : (node : ℕ) (h : List LogEntry) → slice_get hs node ≡ Some h → Pool (brings_on node) (λ e. Has h e × (e.who ≡ 0)) (length stream)
+  feeders_bring node h log = record {
+    tokens = filter (λ e. nat_eq e.who 0) h;
+    within = omega (arith, all_less node (filter (λ e. nat_eq e.who 0) h), feeder_brings h s.fed.batches (s.fed.on_each node h log), s.fed.within);
+    all = λ t is. has_filter (λ e. nat_eq e.who 0) h t (grind (arith, nat_tests, is.1)) is.0;
+  } where
+    all_less : (node : ℕ) (es : List LogEntry) → sum_of (brings_on node) es ≤ sum_of packets_of es
+    all_less node [] = omega arith
+    all_less node (e ∷ es) = omega (arith, brings_less node e, all_less node es)
+
+  -- the packets that pass a node
+  abbrev pub most_packets : ℕ
+  most_packets = length stream + total (plays_by script script.lines) (clients_in script)
+
+  node_brings : (node : ℕ) (h : List LogEntry) → slice_get hs node ≡ Some h → sum_of packets_of h ≤ most_packets
+  node_brings node h log = omega (arith, on_node h (λ i e at. (s.places node i h e log at).0), weigh_places (brings_on node) h, counts_fit (brings_on node) (length h) (weight_at (brings_on node) h) (λ i t. slice_get h i ≡ Some t) pool.tokens tokens, pool.within) where
+    abbrev Either : LogEntry → Type 0
+    Either e = (Has h e × (e.who ≡ 0)) ⊎ SomeClients e
+
+    pool : Pool (brings_on node) Either most_packets
+    pool = both (brings_on node) (λ e. Has h e × (e.who ≡ 0)) SomeClients (length stream) (total (plays_by script script.lines) (clients_in script)) (feeders_bring node h log) (clients_bring node)
+
+    on_node : (es : List LogEntry) → ((i : ℕ) (e : LogEntry) → slice_get es i ≡ Some e → e.node ≡ node) → sum_of packets_of es ≤ sum_of (brings_on node) es
+    on_node [] each = omega arith
+    on_node (e ∷ es) each =
+        let here : nat_eq e.node node ≡ true = (let same : e.node ≡ node = each 0 e refl in grind (arith, nat_tests, same)) in
+        let one : brings_on node e ≡ packets_of e = ap (λ b. if b then packets_of e else 0) here in
+        omega (arith, one, on_node es (λ i x at. each (suc i) x at))
+
+    kind : (e : LogEntry) → StandsIn hs e → Has h e → (b : Bool) → nat_eq e.who 0 ≡ b → Either e
+    kind e stands has true yea = inl (has, grind (arith, nat_tests, yea))
+    kind e stands has false nay =
+        let m : IsMade e = made_by e stands (λ none. grind (arith, nat_tests, nay, none)) in
+        inr (m.client, m.low, (λ low. has_at (s.clients m.client low).made e e.step (m.made low)))
+
+    there : (i : ℕ) → i < length h → (t : LogEntry) × Has pool.tokens t × (weight_at (brings_on node) h i ≤ brings_on node t) × (slice_get h i ≡ Some t)
+    there i lt =
+        let x = at_place h i lt in
+        (x.0, pool.all x.0 (kind x.0 (stands_at node h log i x.0 x.1) (has_at h x.0 i x.1) (nat_eq x.0.who 0) refl), omega (arith, weight_got (brings_on node) h i x.0 x.1), x.1)
+
+    twice : (i j : ℕ) (t : LogEntry) → i < j → slice_get h i ≡ Some t → slice_get h j ≡ Some t → ⊥
+    twice i j t less a b = omega (arith, less, (s.places node i h t log a).1, (s.places node j h t log b).1)
+
+    tokens : HaveTokens (brings_on node) (length h) (weight_at (brings_on node) h) (λ i t. slice_get h i ≡ Some t) pool.tokens
+    tokens = record { differ = λ i j t less lt a b. twice i j t less a b; has = λ i lt more. there i lt }
+
   module _ (are : All IsPacket stream) where
-    bytes_at : (node : ℕ) → node < 33 → Pool bytes_of (StandsOn node) (188 * length stream)
+    bytes_at : (node : ℕ) → node < 33 → Pool bytes_of (StandsOn node) (188 * most_packets)
     bytes_at node lt =
         let h = at_place hs node (omega (arith, lt, s.nodes)) in
         record {
           tokens = h.0;
-          within = bytes_fit stream are node h.0 s.fed.batches (length stream) (s.legal node h.0 h.1) (only_feeder h.0 (stands_at node h.0 h.1)) (s.fed.on_each node h.0 h.1) s.fed.within;
+          within = bytes_fit (sources script stream) (all_packets script stream are) node h.0 most_packets (s.legal node h.0 h.1) (node_brings node h.0 h.1);
           all = λ t is. subst (λ l. Has l t) (one_value hs node is.0 h.0 is.1 h.1) is.2;
         }
 
-    all_bytes : Pool bytes_of (λ t. (node : ℕ) × (node < 33) × StandsOn node t) (total (λ node. 188 * length stream) 33)
-    all_bytes = all_pools bytes_of StandsOn (λ node. 188 * length stream) 33 bytes_at
+    all_bytes : Pool bytes_of (λ t. (node : ℕ) × (node < 33) × StandsOn node t) (total (λ node. 188 * most_packets) 33)
+    all_bytes = all_pools bytes_of StandsOn (λ node. 188 * most_packets) 33 bytes_at
 
   abbrev is_feeder : LogEntry → Bool
   is_feeder e = nat_eq e.who 0
@@ -208,8 +400,8 @@ module _ (payers : Payers) (script : Scripted) (most : ℕ) (stream : List (List
         let one : xs.0 ≡ es.0 = one_value hs e.node xs.0 es.0 there es.1 in
         let next : x.place ≡ suc e.place = omega (arith, place) in
         absurd (
-        next_is_refused e.node stream es.0 (s.legal e.node es.0 es.1) e.place e x es.2 (subst (λ l. slice_get l (suc e.place) ≡ Some x) one (ap (λ k. slice_get xs.0 k) (sym next) ∙ xs.2)) differ
-        (reads_on stream e on) (reads_on stream x (going x.act x.response (omega (arith, more))))
+        next_is_refused e.node (sources script stream) es.0 (s.legal e.node es.0 es.1) e.place e x es.2 (subst (λ l. slice_get l (suc e.place) ≡ Some x) one (ap (λ k. slice_get xs.0 k) (sym next) ∙ xs.2)) differ
+        (reads_on (sources script stream) e on) (reads_on (sources script stream) x (going x.act x.response (omega (arith, more))))
         )
 
     abbrev my_bytes : ℕ → ℕ
@@ -220,8 +412,8 @@ module _ (payers : Payers) (script : Scripted) (most : ℕ) (stream : List (List
 
     -- ------ bytes
 
-    bytes_count : All IsPacket stream → (k : ℕ) → k ≤ length me.made → total my_bytes k ≤ 33 * (188 * length stream)
-    bytes_count are k le = omega (arith, counts_fit bytes_of k my_bytes (λ i t. slice_get me.made i ≡ Some t) (all_bytes are).tokens tokens, (all_bytes are).within, total_same (188 * length stream) 33) where
+    bytes_count : All IsPacket stream → (k : ℕ) → k ≤ length me.made → total my_bytes k ≤ 33 * (188 * most_packets)
+    bytes_count are k le = omega (arith, counts_fit bytes_of k my_bytes (λ i t. slice_get me.made i ≡ Some t) (all_bytes are).tokens tokens, (all_bytes are).within, total_same (188 * most_packets) 33) where
       twice : (i j : ℕ) (t : LogEntry) → i < j → slice_get me.made i ≡ Some t → slice_get me.made j ≡ Some t → ⊥
       twice i j t less a b = let up = me.in_order i j t t less a b refl in omega (arith, up)
 
@@ -230,7 +422,7 @@ module _ (payers : Payers) (script : Scripted) (most : ℕ) (stream : List (List
           let stands = (me.steps i e at).2 in (
             e,
             (all_bytes are).all e (stands_on e stands),
-            bytes_pay script c me.made (events c is) i e at (λ now count read. read_there e.node stream stands.0 (s.legal e.node stands.0 stands.1) e.place e now count stands.2 read) more,
+            bytes_pay script c me.made (events c is) i e at (λ now count read. read_there e.node (sources script stream) stands.0 (s.legal e.node stands.0 stands.1) e.place e now count stands.2 read) more,
             at,
           )
 
@@ -272,11 +464,11 @@ module _ (payers : Payers) (script : Scripted) (most : ℕ) (stream : List (List
       -- ------ the bound
 
       within_to : firsts script c + bound ≤ 33 * commands_for payers c script + 33 * (length stream + 1) → All IsPacket stream → (n : ℕ) → length me.made ≡ n
-          → length me.made ≤ firsts script c + total (grows script c me.made (events c is)) (but_one script c me.made (events c is) n) → length me.made ≤ most_calls (commands_for payers c script) (188 * length stream)
+          → length me.made ≤ firsts script c + total (grows script c me.made (events c is)) (but_one script c me.made (events c is) n) → length me.made ≤ most_calls (commands_for payers c script) (188 * length stream + bytes_played script)
       within_to enough are zero long few = omega (arith, long)
-      within_to enough are (suc k) long few = omega (arith, few, both_kinds script c me.made (events c is) k, bytes_count are k (omega (arith, long)), again_count k (omega (arith, long)), enough)
+      within_to enough are (suc k) long few = omega (arith, few, both_kinds script c me.made (events c is) k, bytes_count are k (omega (arith, long)), again_count k (omega (arith, long)), enough, plays_shared script script.lines (clients_in script), played_sum script script.lines)
 
-      pub within : firsts script c + bound ≤ 33 * commands_for payers c script + 33 * (length stream + 1) → All IsPacket stream → length me.made ≤ most_calls (commands_for payers c script) (188 * length stream)
+      pub within : firsts script c + bound ≤ 33 * commands_for payers c script + 33 * (length stream + 1) → All IsPacket stream → length me.made ≤ most_calls (commands_for payers c script) (188 * length stream + bytes_played script)
       within enough are = within_to enough are (length me.made) refl (calls_and_repeats script c me.made (events c is))
 
     feeders : (x : LogEntry) → StandsIn hs x → x.who ≡ 0 → FeederPays x

@@ -11,7 +11,7 @@ use Rattle.dmx_calls.specs.Rules.{rules_at}
 use Rattle.client_script.specs.Script.{clients_in, Scripted}
 use Rattle.client_core.specs.Commands.{commands_of, plays_of}
 use Rattle.client_core.specs.Events.{next_event, waits_on}
-use Rattle.script_run.specs.Budget.{all_commands, bytes_written, most_calls}
+use Rattle.script_run.specs.Budget.{all_commands, bytes_played, most_calls}
 use Rattle.script_run.specs.IsRun.{ArePlaced, Batch, Step, IsEvent, IsRun, StandsIn, feeding, replies, sources, steps_of}
 
 -- ------ the feeder
@@ -99,14 +99,14 @@ abbrev pub commands_for : Payers → (client : ℕ) → Scripted → ℕ
 commands_for feeder client script = length (commands_of client script)
 commands_for others client script = all_commands script.lines
 
--- At each moment of a run a client has made no more calls than these commands, the bytes of the packets and those of all writes
--- allow.
+-- At each moment of a run a client has made no more calls than these commands, the bytes of the packets and those that clients
+-- play allow.
 abbrev pub CallsArePaid : Type 0
 CallsArePaid =
     (payers : Payers) (script : Scripted) (most : ℕ) (stream : List (List ℕ)) (hs : List (List LogEntry))
     (s : IsSoFar payers script most stream hs) → All IsPacket stream
     → (c : ℕ) (is : c < clients_in script)
-    → length (s.clients c is).made ≤ most_calls (commands_for payers c script) (188 * length stream + bytes_written script)
+    → length (s.clients c is).made ≤ most_calls (commands_for payers c script) (188 * length stream + bytes_played script)
 
 -- Each history of a run is accounted.
 abbrev pub RunsAreAccounted : Type 0
