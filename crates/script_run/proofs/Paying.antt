@@ -124,14 +124,8 @@ verb_size script line who target (Write write) = refl
 one_line : (script : Scripted) (line who : ℕ) (target : Target) (verb : Verb) (lines : List Line) (c : ℕ)
     → plays_by script (Command line who target verb ∷ lines) c ≤ plays_by script lines c + number_at who (packets_played script (Command line who target verb)) c
 one_line script line who target verb lines c = go (nat_eq who c) refl where
-  abbrev size : ClientCommand → ℕ
-  size x = worth_of (write_size (plays_of c script)) x.deed
-
-  one : ClientCommand
-  one = record { line = line; target = target; deed = deed_of (plays_of c script) verb }
-
   go : (b : Bool) → nat_eq who c ≡ b
-      → sum_of size ((if b then record { line = line; target = target; deed = deed_of (plays_of c script) verb } ∷ [] else []) ++ commands_among c (plays_of c script) lines)
+      → sum_of (λ (x : ClientCommand). worth_of (write_size (plays_of c script)) x.deed) ((if b then record { line = line; target = target; deed = deed_of (plays_of c script) verb } ∷ [] else []) ++ commands_among c (plays_of c script) lines)
       ≤ plays_by script lines c + number_at who (packets_played script (Command line who target verb)) c
   go true yea =
       let here : nat_eq c who ≡ true = grind (arith, nat_tests, yea) in
@@ -288,12 +282,12 @@ module _ (payers : Payers) (script : Scripted) (most : ℕ) (stream : List (List
   abbrev pub most_packets : ℕ
   most_packets = length stream + total (plays_by script script.lines) (clients_in script)
 
+  abbrev IsOfEither : List LogEntry → LogEntry → Type 0
+  IsOfEither h e = (Has h e × (e.who ≡ 0)) ⊎ SomeClients e
+
   node_brings : (node : ℕ) (h : List LogEntry) → slice_get hs node ≡ Some h → sum_of packets_of h ≤ most_packets
   node_brings node h log = omega (arith, on_node h (λ i e at. (s.places node i h e log at).0), weigh_places (brings_on node) h, counts_fit (brings_on node) (length h) (weight_at (brings_on node) h) (λ i t. slice_get h i ≡ Some t) pool.tokens tokens, pool.within) where
-    abbrev Either : LogEntry → Type 0
-    Either e = (Has h e × (e.who ≡ 0)) ⊎ SomeClients e
-
-    pool : Pool (brings_on node) Either most_packets
+    pool : Pool (brings_on node) (IsOfEither h) most_packets
     pool = both (brings_on node) (λ e. Has h e × (e.who ≡ 0)) SomeClients (length stream) (total (plays_by script script.lines) (clients_in script)) (feeders_bring node h log) (clients_bring node)
 
     on_node : (es : List LogEntry) → ((i : ℕ) (e : LogEntry) → slice_get es i ≡ Some e → e.node ≡ node) → sum_of packets_of es ≤ sum_of (brings_on node) es
@@ -303,7 +297,7 @@ module _ (payers : Payers) (script : Scripted) (most : ℕ) (stream : List (List
         let one : brings_on node e ≡ packets_of e = ap (λ b. if b then packets_of e else 0) here in
         omega (arith, one, on_node es (λ i x at. each (suc i) x at))
 
-    kind : (e : LogEntry) → StandsIn hs e → Has h e → (b : Bool) → nat_eq e.who 0 ≡ b → Either e
+    kind : (e : LogEntry) → StandsIn hs e → Has h e → (b : Bool) → nat_eq e.who 0 ≡ b → IsOfEither h e
     kind e stands has true yea = inl (has, grind (arith, nat_tests, yea))
     kind e stands has false nay =
         let m : IsMade e = made_by e stands (λ none. grind (arith, nat_tests, nay, none)) in
