@@ -146,7 +146,7 @@ plays_shared script (Command line who target verb ∷ lines) n =
     omega (
       arith,
       total_le (plays_by script (Command line who target verb ∷ lines)) (λ c. plays_by script lines c + number_at who (packets_played script (Command line who target verb)) c) n
-      (λ c lt. one_line script line who target verb lines c),
+          (λ c lt. one_line script line who target verb lines c),
       total_add (plays_by script lines) (number_at who (packets_played script (Command line who target verb))) n,
       number_once who (packets_played script (Command line who target verb)) n,
       plays_shared script lines n,
