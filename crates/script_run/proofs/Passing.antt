@@ -75,7 +75,7 @@ rest_of node slots cs d = elim d [ stands event ↦ [] | through ending next lef
 
 -- ------ the write whose batch passes a node by a call
 
-abbrev asked_to : (node at : ℕ) → Request → List ℕ
+abbrev pub asked_to : (node at : ℕ) → Request → List ℕ
 asked_to node at (Pass write) = if nat_eq at node then write ∷ [] else []
 asked_to node at _ = []
 

@@ -104,7 +104,7 @@ number_times c size i = go (nat_eq i c) where
   go false = omega arith
 
 total_number : (c size n : ℕ) → total (number_at c size) n ≡ total (one_at c) n * size
-total_number c size zero = refl
+total_number c size zero = omega arith
 total_number c size (suc n) = let deeper = total_number c size n in grind (arith, deeper, number_times c size n)
 
 number_once : (c size n : ℕ) → total (number_at c size) n ≤ size
