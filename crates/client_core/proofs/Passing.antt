@@ -252,11 +252,14 @@ no_event : (s : Option Standing) → option_map (λ x. x.event) s ≡ None → s
 no_event None is = refl
 no_event (Some s) is = absurd (none-some s.event (sym is))
 
-pub writes_pass : WritesPass
+-- the same of the replies themselves
+pub replies_pass : (client : ℕ) (script : Scripted) (replies : List Response) (node : ℕ) → next_event client script replies ≡ None → node < DEMUX_NODES
+    → passes_by node (λ m. next_event client script m) replies ≡ played_writes client script replies
 unfolding progress played_writes
-writes_pass client script replies node none low =
-    by_calls node client script [] [] replies
-    ∙ all_pass node no_slots 0 (commands_of client script) replies low (no_event (progress client script replies).standing none)
+replies_pass client script replies node none low = all_pass node no_slots 0 (commands_of client script) replies low (no_event (progress client script replies).standing none)
+
+pub writes_pass : WritesPass
+writes_pass client script replies node none low = by_calls node client script [] [] replies ∙ replies_pass client script replies node none low
 
 -- ------ what passes weighs no more than the writes that the commands name
 

@@ -1,9 +1,9 @@
 -- The lines of a client name its writes in their order, each once.
 use Rattle.std.proofs.Common.{◌≡◌, ◌≢◌, ◌<◌, ◌≤◌, ◌+◌, ◌⊎◌, inl, inr, refl, sym, ap, subst, ◌∙◌, ℕ, Bool, true, false, nat_eq, List, [], ◌∷◌, ◌++◌, length, map, codes, arith, length-append, append-nil}
-use Rattle.std.proofs.lemmas.Bool.{cases_eq, eq-eqb}
+use Rattle.std.proofs.lemmas.Bool.{cases_eq, cases_lt, eq-eqb}
 use Rattle.std.proofs.lemmas.Bool.Decides.{nat_tests}
 use Rattle.std.proofs.lemmas.Grind.{flat_map-append}
-use Rattle.std.proofs.lemmas.List.{map-id, length-set, get_or-set_same, get_or-set_other, get_or-replicate}
+use Rattle.std.proofs.lemmas.List.{map-id, length-set, get_or-set_same, get_or-set_other, get_or_past, get_or-replicate}
 use Rattle.std.proofs.lemmas.List.FromFn.{map-range_with_len_more}
 use Rattle.std.specs.Prelude.{Option, Some, None, Result, Ok, Err, if◌then◌else◌, slice_index_or, slice_set, replicate}
 use Rattle.std.specs.List.{flat_map, range_with_len}
@@ -17,7 +17,7 @@ use Rattle.client_script.specs.Words.{Reading, and_then, mapped, or_fault, next_
 use Rattle.client_script.specs.Requests.{want_of, verb_of, request_number_in, request_in, ioctl_in}
 use Rattle.client_script.specs.Writes.{written_named}
 use Rattle.client_script.specs.Grammar.{number_in, pid_in, count_in, target_of, name_of, section_in, pes_in, verb_in, command_in, dvr_named, write_in, asked_in, line_in, line_of, whole, alone, is_passed_over, some_said, meaning, IsPlainVerb, IsPlain}
-use Rattle.client_script.specs.Script.{Parsed, Scripted, plain, with_said, writes_of, named_by, named_in, named_among, whole_lines, is_stream, lines_from, grammar}
+use Rattle.client_script.specs.Script.{AreNumbered, Parsed, Scripted, plain, with_said, with_write, writes_of, named_by, named_in, named_among, whole_lines, is_stream, lines_from, grammar}
 use Rattle.client_script.specs.declared.fault.FaultKind.{FaultKind}
 use Rattle.client_script.specs.declared.fault.FaultKind.TheVariants.{Client, Command as NoCommand, Target as NoTarget, Name, Bytes}
 use Rattle.client_script.specs.declared.fault.ScriptFault.{ScriptFault}
@@ -164,10 +164,6 @@ meaning_plain line bytes = go (is_passed_over bytes) where
 
 -- ------ one line more
 
-record InOrder (s : Scripted) : Type 0 where
-  eight : length s.writes ≡ 8
-  order : (client : ℕ) → client ≤ 7 → named_among client s.lines ≡ range_with_len 0 (length (writes_of client s.writes))
-
 either_way : (b : Bool) (ns : List ℕ) → (if b then ns else ns) ≡ ns
 either_way true ns = refl
 either_way false ns = refl
@@ -187,38 +183,66 @@ named_more client lines line = flat_map-append (named_in client) lines (line ∷
 one_more : (n : ℕ) → range_with_len 0 (n + 1) ≡ range_with_len 0 n ++ n ∷ []
 one_more n = sym (map-id (range_with_len 0 (n + 1))) ∙ (map-range_with_len_more (λ (k : ℕ). k) 0 n n (omega arith) ∙ ap (λ ns. ns ++ n ∷ []) (map-id (range_with_len 0 n)))
 
-in_order_more : (said : Option Said) (s : Scripted) → IsPlainMeaning (Ok said) → InOrder s → InOrder (with_said said s)
-in_order_more None s only is = is
-in_order_more (Some (Asks line)) s only is = record {
-  eight = is.eight;
-  order = λ client few. named_more client s.lines line ∙ (ap (λ ns. named_among client s.lines ++ ns) (names_none client line only) ∙ (append-nil (named_among client s.lines) ∙ is.order client few));
-}
-in_order_more (Some (Writes line who bytes)) s only is = record {
-  eight = length-set s.writes who more ∙ is.eight;
-  order = λ client few. named_more client s.lines asked ∙ go client few (cases_eq client who);
-} where
+-- the lines of this client name its writes in their order
+abbrev IsNumbered : Scripted → (client : ℕ) → Type 0
+IsNumbered s client = named_among client s.lines ≡ range_with_len 0 (length (writes_of client s.writes))
+
+-- with another line than `write`
+plain_more : (s : Scripted) (line : Line) (client : ℕ) → IsPlain line → IsNumbered s client → IsNumbered (record s { lines = s.lines ++ line ∷ [] }) client
+plain_more s line client only is =
+    named_more client s.lines line ∙ (ap (λ ns. named_among client s.lines ++ ns) (names_none client line only) ∙ (append-nil (named_among client s.lines) ∙ is))
+
+-- with a write
+write_more : (s : Scripted) (line who : ℕ) (bytes : List ℕ) (client : ℕ) → (client ≡ who → who < length s.writes) → IsNumbered s client → IsNumbered (with_write line who bytes s) client
+write_more s line who bytes client there is = named_more client s.lines asked ∙ go (cases_eq client who) where
   more : List (List ℕ)
   more = writes_of who s.writes ++ bytes ∷ []
 
   asked : Line
   asked = Command line who Dvr (Write (length (writes_of who s.writes)))
 
-  go : (client : ℕ) → client ≤ 7 → (client ≡ who) ⊎ (client ≢ who) → named_among client s.lines ++ named_in client asked ≡ range_with_len 0 (length (writes_of client (slice_set s.writes who more)))
-  go client few (inl same) =
+  go : (client ≡ who) ⊎ (client ≢ who) → named_among client s.lines ++ named_in client asked ≡ range_with_len 0 (length (writes_of client (slice_set s.writes who more)))
+  go (inl same) =
       let mine : ℕ = length (writes_of who s.writes) in
       let count : ℕ = length (writes_of client s.writes) in
       let here : nat_eq who client ≡ true = eq-eqb who client (sym same) in
       let names : named_in client asked ≡ mine ∷ [] = ap (λ (b : Bool). if b then mine ∷ [] else []) here in
-      let now : writes_of client (slice_set s.writes who more) ≡ more = ap (λ c. writes_of c (slice_set s.writes who more)) same ∙ get_or-set_same s.writes who more [] (omega (arith, is.eight, same, few)) in
+      let now : writes_of client (slice_set s.writes who more) ≡ more = ap (λ c. writes_of c (slice_set s.writes who more)) same ∙ get_or-set_same s.writes who more [] (there same) in
       let long : length more ≡ count + 1 = length-append (writes_of who s.writes) (bytes ∷ []) ∙ ap (λ c. length (writes_of c s.writes) + 1) (sym same) in
-      ap (λ ns. named_among client s.lines ++ ns) names ∙ (ap (λ ns. ns ++ mine ∷ []) (is.order client few)
+      ap (λ ns. named_among client s.lines ++ ns) names ∙ (ap (λ ns. ns ++ mine ∷ []) is
       ∙ (ap (λ k. range_with_len 0 count ++ k ∷ []) (ap (λ c. length (writes_of c s.writes)) (sym same))
       ∙ sym (ap (λ ws. range_with_len 0 (length ws)) now ∙ (ap (λ k. range_with_len 0 k) long ∙ one_more count))))
-  go client few (inr other) =
+  go (inr other) =
       let elsewhere : nat_eq who client ≡ false = grind (arith, nat_tests) in
       let names : named_in client asked ≡ [] = ap (λ (b : Bool). if b then length (writes_of who s.writes) ∷ [] else []) elsewhere in
       let stays : writes_of client (slice_set s.writes who more) ≡ writes_of client s.writes = get_or-set_other s.writes who client more [] other in
-      ap (λ ns. named_among client s.lines ++ ns) names ∙ (append-nil (named_among client s.lines) ∙ (is.order client few ∙ ap (λ ws. range_with_len 0 (length ws)) (sym stays)))
+      ap (λ ns. named_among client s.lines ++ ns) names ∙ (append-nil (named_among client s.lines) ∙ (is ∙ ap (λ ws. range_with_len 0 (length ws)) (sym stays)))
+
+-- of all clients
+pub numbered_line : (s : Scripted) (line : Line) → IsPlain line → AreNumbered s → AreNumbered (record s { lines = s.lines ++ line ∷ [] })
+numbered_line s line only are = λ client. plain_more s line client only (are client)
+
+pub numbered_write : (s : Scripted) (line who : ℕ) (bytes : List ℕ) → who < length s.writes → AreNumbered s → AreNumbered (with_write line who bytes s)
+numbered_write s line who bytes there are = λ client. write_more s line who bytes client (λ same. there) (are client)
+
+-- of a script without lines
+pub numbered_none : AreNumbered (plain [])
+numbered_none = λ client. ap (λ (ws : List (List ℕ)). range_with_len 0 (length ws)) (sym (none client (cases_lt client 8))) where
+  none : (client : ℕ) → (client < 8) ⊎ (8 ≤ client) → slice_index_or (replicate 8 []) client [] ≡ []
+  none client (inl there) = get_or-replicate 8 client [] [] there
+  none client (inr past) = get_or_past (replicate 8 []) client [] past
+
+record InOrder (s : Scripted) : Type 0 where
+  eight : length s.writes ≡ 8
+  order : (client : ℕ) → client ≤ 7 → IsNumbered s client
+
+in_order_more : (said : Option Said) (s : Scripted) → IsPlainMeaning (Ok said) → InOrder s → InOrder (with_said said s)
+in_order_more None s only is = is
+in_order_more (Some (Asks line)) s only is = record { eight = is.eight; order = λ client few. plain_more s line client only (is.order client few) }
+in_order_more (Some (Writes line who bytes)) s only is = record {
+  eight = length-set s.writes who (writes_of who s.writes ++ bytes ∷ []) ∙ is.eight;
+  order = λ client few. write_more s line who bytes client (λ same. omega (arith, is.eight, same, few)) (is.order client few);
+}
 
 -- ------ whole scripts
 
@@ -246,7 +270,4 @@ pub named_in_order : (bytes : List ℕ) (s : Scripted) (client : ℕ) → client
 unfolding grammar
 named_in_order bytes s client few e = (in_order_from _ 1 (plain []) s (whole_lines bytes) start e).order client few where
   start : InOrder (plain [])
-  start = record {
-    eight = refl;
-    order = λ client few. ap (λ ws. range_with_len 0 (length ws)) (sym (get_or-replicate 8 client [] [] (omega (arith, few))));
-  }
+  start = record { eight = refl; order = λ client few. numbered_none client }

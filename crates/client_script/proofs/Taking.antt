@@ -1,13 +1,14 @@
 -- How many lines and writes a script has with what one line more says.
-use Rattle.std.proofs.Common.{◌≡◌, ◌≢◌, ◌<◌, ◌≤◌, ◌+◌, ◌⊎◌, inl, inr, sym, subst, ap, ◌∙◌, ℕ, List, [], ◌∷◌, ◌++◌, length, arith, length-append}
+use Rattle.std.proofs.Common.{◌≡◌, ◌≢◌, ◌<◌, ◌≤◌, ◌+◌, ◌⊎◌, inl, inr, refl, sym, subst, ap, ◌∙◌, ℕ, List, [], ◌∷◌, ◌++◌, length, arith, length-append}
 use Rattle.std.specs.Prelude.{Option, Some, None, slice_index_or, slice_set, replicate}
 use Rattle.std.specs.List.{All}
 use Rattle.std.proofs.lemmas.Bool.{cases_eq, cases_lt}
-use Rattle.std.proofs.lemmas.List.Elements.{All-push, All-weaker}
+use Rattle.std.proofs.lemmas.List.Elements.{All-nil, All-push, All-weaker}
 use Rattle.std.proofs.lemmas.List.{length-set, get_or-set_same, get_or-set_other, get_or_past, get_or-replicate}
-use Rattle.client_script.specs.Grammar.{IsInRange}
+use Rattle.client_script.specs.Grammar.{IsInRange, IsPlain}
 use Rattle.client_script.specs.Writes.{IsWritten}
-use Rattle.client_script.specs.Script.{Scripted, no_writes, most_bytes, writes_of, with_said, IsScript, AreWritten, HasWrite, IsOnDvr}
+use Rattle.client_script.specs.Script.{Scripted, plain, no_writes, most_bytes, writes_of, with_said, with_write, IsScript, AreWritten, HasWrite, IsOnDvr}
+use Rattle.client_script.proofs.Numbering.{numbered_line, numbered_none, numbered_write}
 use Rattle.client_script.specs.declared.line.Target.TheVariants.{Dvr}
 use Rattle.client_script.specs.declared.line.Line.{Line}
 use Rattle.client_script.specs.declared.line.Line.TheVariants.{Feed, Tick, Command}
@@ -48,15 +49,50 @@ writes_more (Some (Writes line client bytes)) s number all =
 
 -- ------ what is known of a script stays
 
--- a line more
-pub script_line : (s : Scripted) (line : Line) → IsScript s → length s.lines < most_bytes → IsInRange line → IsOnDvr line → HasWrite s.writes line → IsScript (record s { lines = s.lines ++ line ∷ [] })
-script_line s line is few range on has = record {
+-- a script without lines
+none_written : All AreWritten no_writes
+none_written k d lt = let none : slice_index_or (replicate 8 []) k d ≡ [] = get_or-replicate 8 k [] d lt in rw none (record { few = omega arith; each = All-nil IsWritten })
+
+pub script_none : IsScript (plain [])
+script_none = record {
+  few = omega arith;
+  ranges = All-nil IsInRange;
+  clients = refl;
+  writes = none_written;
+  on_dvr = All-nil IsOnDvr;
+  named = All-nil (HasWrite no_writes);
+  numbered = numbered_none;
+}
+
+-- another line than `write`
+plain_on_dvr : (line : Line) → IsPlain line → IsOnDvr line
+plain_on_dvr (Feed n) is = tt
+plain_on_dvr (Tick n) is = tt
+plain_on_dvr (Command line who target (Once want)) is = tt
+plain_on_dvr (Command line who target (ReadWait n)) is = tt
+plain_on_dvr (Command line who target (Drain n)) is = tt
+plain_on_dvr (Command line who target (GetStc num)) is = tt
+plain_on_dvr (Command line who target (Write write)) is = absurd is
+
+plain_has : (writes : List (List (List ℕ))) (line : Line) → IsPlain line → HasWrite writes line
+plain_has writes (Feed n) is = tt
+plain_has writes (Tick n) is = tt
+plain_has writes (Command line who target (Once want)) is = tt
+plain_has writes (Command line who target (ReadWait n)) is = tt
+plain_has writes (Command line who target (Drain n)) is = tt
+plain_has writes (Command line who target (GetStc num)) is = tt
+plain_has writes (Command line who target (Write write)) is = absurd is
+
+-- such a line more
+pub script_line : (s : Scripted) (line : Line) → IsScript s → length s.lines < most_bytes → IsInRange line → IsPlain line → IsScript (record s { lines = s.lines ++ line ∷ [] })
+script_line s line is few range only = record {
   few = omega (arith, few, length-append s.lines (line ∷ []));
   ranges = All-push IsInRange s.lines line is.ranges range;
   clients = is.clients;
   writes = is.writes;
-  on_dvr = All-push IsOnDvr s.lines line is.on_dvr on;
-  named = All-push (HasWrite s.writes) s.lines line is.named has;
+  on_dvr = All-push IsOnDvr s.lines line is.on_dvr (plain_on_dvr line only);
+  named = All-push (HasWrite s.writes) s.lines line is.named (plain_has s.writes line only);
+  numbered = numbered_line s line only is.numbered;
 }
 
 -- what a line names is there also with a write more
@@ -82,16 +118,31 @@ still_has writes client bytes (Command line who target (Write write)) has = go (
       let mine : write < length (writes_of client writes) = subst (λ c. write < length (writes_of c writes)) same has in omega (arith, n, mine))
 
 -- a write more
-pub script_write : (s : Scripted) (client : ℕ) (bytes : List ℕ) → IsScript s → length (writes_of client s.writes) < most_bytes → IsWritten bytes
-    → IsScript (record s { writes = slice_set s.writes client (writes_of client s.writes ++ bytes ∷ []) })
-script_write s client bytes is few range = record {
-  few = is.few;
-  ranges = is.ranges;
-  clients = length-set s.writes client (writes_of client s.writes ++ bytes ∷ []) ∙ is.clients;
-  writes = set_all AreWritten s.writes client (writes_of client s.writes ++ bytes ∷ []) is.writes (λ there. let h = is.writes client [] there in record {
-    few = omega (arith, few, length-append (writes_of client s.writes) (bytes ∷ []));
+pub script_write : (s : Scripted) (line client : ℕ) (bytes : List ℕ) → IsScript s → length s.lines < most_bytes → length (writes_of client s.writes) < most_bytes
+    → (1 ≤ line) × (line ≤ 1048576) → client ≤ 7 → IsWritten bytes → IsScript (with_write line client bytes s)
+script_write s line client bytes is few fewer number low range = record {
+  few = omega (arith, few, length-append s.lines (asked ∷ []));
+  ranges = All-push IsInRange s.lines asked is.ranges (number.0, number.1, low, tt, omega (arith, fewer));
+  clients = length-set s.writes client more ∙ is.clients;
+  writes = set_all AreWritten s.writes client more is.writes (λ there. let h = is.writes client [] there in record {
+    few = omega (arith, fewer, length-append (writes_of client s.writes) (bytes ∷ []));
     each = All-push IsWritten (writes_of client s.writes) bytes h.each range;
   });
-  on_dvr = is.on_dvr;
-  named = All-weaker (HasWrite s.writes) (HasWrite (slice_set s.writes client (writes_of client s.writes ++ bytes ∷ []))) (still_has s.writes client bytes) s.lines is.named;
-}
+  on_dvr = All-push IsOnDvr s.lines asked is.on_dvr refl;
+  named = All-push (HasWrite (slice_set s.writes client more)) s.lines asked
+      (All-weaker (HasWrite s.writes) (HasWrite (slice_set s.writes client more)) (still_has s.writes client bytes) s.lines is.named) next;
+  numbered = numbered_write s line client bytes here is.numbered;
+} where
+  asked : Line
+  asked = Command line client Dvr (Write (length (writes_of client s.writes)))
+
+  more : List (List ℕ)
+  more = writes_of client s.writes ++ bytes ∷ []
+
+  here : client < length s.writes
+  here = omega (arith, low, is.clients)
+
+  next : length (writes_of client s.writes) < length (writes_of client (slice_set s.writes client more))
+  next =
+      subst (λ ws. length (writes_of client s.writes) < length ws) (sym (get_or-set_same s.writes client more [] here))
+      (omega (arith, length-append (writes_of client s.writes) (bytes ∷ [])))

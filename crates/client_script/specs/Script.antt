@@ -1,6 +1,6 @@
 -- What a script says, and how a session's input falls into a script and a stream (this project's own).
 use Rattle.std.specs.Prelude.{◌≡◌, ℕ, ◌+◌, ◌≤◌, ◌<◌, ◌==◌, Bool, List, [], ◌∷◌, ◌++◌, length, take, drop, max, fold, replicate, nat_eq, slice_index_or, slice_set, Option, Some, None, Result, Ok, Err, if◌then◌else◌, codes}
-use Rattle.std.specs.List.{All, slice_split, count_by, flat_map}
+use Rattle.std.specs.List.{All, slice_split, count_by, flat_map, range_with_len}
 use Rattle.std.specs.Option.{option_map}
 use Rattle.text_forms.specs.Words.{is_word}
 use Rattle.client_script.specs.Grammar.{meaning, IsInRange}
@@ -65,14 +65,18 @@ plain lines = record { lines = lines; writes = no_writes }
 abbrev pub Parsed : Type 0
 Parsed = Result Scripted ScriptFault
 
--- A script with what one line more says. A write is the next of its client, by which its line names it.
-abbrev pub with_said : Option Said → Scripted → Scripted
-with_said None s = s
-with_said (Some (Asks line)) s = record s { lines = s.lines ++ line ∷ [] }
-with_said (Some (Writes line client bytes)) s = record {
+-- A script with a write more: it is the next of its client, by which its line names it.
+abbrev pub with_write : (line client : ℕ) → (bytes : List ℕ) → Scripted → Scripted
+with_write line client bytes s = record {
   lines = s.lines ++ Command line client Dvr (Write (length (writes_of client s.writes))) ∷ [];
   writes = slice_set s.writes client (writes_of client s.writes ++ bytes ∷ []);
 }
+
+-- a script with what one line more says
+abbrev pub with_said : Option Said → Scripted → Scripted
+with_said None s = s
+with_said (Some (Asks line)) s = record s { lines = s.lines ++ line ∷ [] }
+with_said (Some (Writes line client bytes)) s = with_write line client bytes s
 
 -- What whole lines mean behind this script, up to the line `stream`, where the first of them has this number; and
 -- `missing` where none of them is the line `stream` and none has a fault.
@@ -118,15 +122,6 @@ abbrev pub HasWrite : (writes : List (List (List ℕ))) → Line → Type 0
 HasWrite writes (Command line client target verb) = HasVerb (length (writes_of client writes)) verb
 HasWrite writes _ = Unit {0}
 
--- no more lines and writes than bytes are searched, each in the ranges of the grammar
-pub record IsScript (script : Scripted) : Type 0 where
-  pub few : length script.lines ≤ most_bytes
-  pub ranges : All IsInRange script.lines
-  pub clients : length script.writes ≡ 8
-  pub writes : All AreWritten script.writes
-  pub on_dvr : All IsOnDvr script.lines
-  pub named : All (HasWrite script.writes) script.lines
-
 -- the write that a verb names, if it names one
 abbrev pub named_by : Verb → List ℕ
 named_by (Write write) = write ∷ []
@@ -140,6 +135,20 @@ named_in client _ = []
 -- the writes that the lines of a client name, in the order of the lines
 abbrev pub named_among : (client : ℕ) → List Line → List ℕ
 named_among client lines = flat_map (named_in client) lines
+
+-- the lines of each client name its writes in their order, each once
+abbrev pub AreNumbered : Scripted → Type 0
+AreNumbered script = (client : ℕ) → named_among client script.lines ≡ range_with_len 0 (length (writes_of client script.writes))
+
+-- no more lines and writes than bytes are searched, each in the ranges of the grammar
+pub record IsScript (script : Scripted) : Type 0 where
+  pub few : length script.lines ≤ most_bytes
+  pub ranges : All IsInRange script.lines
+  pub clients : length script.writes ≡ 8
+  pub writes : All AreWritten script.writes
+  pub on_dvr : All IsOnDvr script.lines
+  pub named : All (HasWrite script.writes) script.lines
+  pub numbered : AreNumbered script
 
 -- how many clients there are up to the one that a line names, if it names one
 abbrev pub clients_of : Line → ℕ

@@ -18,7 +18,8 @@
 //!
 //! What is proved: `Script::read` answers just the lines or the fault that `grammar` gives, unless memory is refused. A script
 //! has at most 1,048,576 lines, each with its client, its target, its numbers and its filter's bytes in the ranges of the
-//! grammar (`IsScript`, which `Script::lines` tells), and a write has 1 to 12,032 bytes. `Script::written` gives the bytes of a
+//! grammar, the lines of a client name its writes in their order, each once (`IsScript`, which `Script::lines` tells), and a write
+//! has 1 to 12,032 bytes. `Script::written` gives the bytes of a
 //! client's write, and `Script::writes` how many there are. `Script::clients` is 1 plus the highest client that a line names, or
 //! 0. `print` appends the spelling of a line, a write with its bytes, and where memory is refused the bytes are as they were. A `ScriptPart` is the bytes
 //! that were added to it, and its `end` tells where the first whole line `stream` ends. `want_of` and `verb_of` are what a

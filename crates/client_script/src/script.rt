@@ -1,9 +1,9 @@
 // The lines of a whole script.
-ghost use Rattle.std.specs.Prelude.{◌≡◌, ◌+◌, ◌<◌, ◌≤◌, ◌∷◌, ◌++◌, [], length, slice_set, IfOk, IfErr, IfSome, OnOk, MatchOption};
+ghost use Rattle.std.specs.Prelude.{◌≡◌, ◌+◌, ◌<◌, ◌≤◌, ◌∷◌, ◌++◌, [], length, IfOk, IfErr, IfSome, OnOk, MatchOption};
 ghost use Rattle.std.specs.List.{All};
-ghost use Rattle.client_script.specs.Grammar.{line_of as line_by_grammar, meaning as meaning_of, is_passed_over, IsInRange, IsSaidInRange};
+ghost use Rattle.client_script.specs.Grammar.{line_of as line_by_grammar, meaning as meaning_of, is_passed_over, IsInRange, IsPlain, IsSaidInRange};
 ghost use Rattle.client_script.specs.Writes.{IsWritten};
-ghost use Rattle.client_script.specs.Script.{whole_lines, grammar, most_bytes, clients_of, clients_in, plain, writes_of, written_by, with_said, HasWrite, IsOnDvr, IsScript, IsRead};
+ghost use Rattle.client_script.specs.Script.{whole_lines, grammar, most_bytes, clients_of, clients_in, plain, writes_of, written_by, with_said, with_write, IsScript, IsRead};
 
 use crate::fault::{FaultKind, ScriptError, ScriptFault};
 use crate::line::{Line, Target, Verb};
@@ -105,6 +105,7 @@ fn clients_named(line: &Line) -> u32
 
 impl Script {
     // Without a line. No memory is taken.
+    #[tactic(auto, using(crate::proofs::Taking::script_none))]
     fn empty(alloc: Global) -> Script
         ensures { result ≡ plain [] }
     {
@@ -123,12 +124,12 @@ impl Script {
         }
     }
 
-    // Takes a line that asks for something.
+    // Takes a line that asks for something else than a write.
+    #[tactic(auto, using(crate::proofs::Taking::script_line))]
     fn add_line(&mut self, line: Line) -> Result<(), ScriptError>
         requires few { length self.old.lines < most_bytes }
         requires range { IsInRange line }
-        requires on_dvr { IsOnDvr line }
-        requires named { HasWrite self.old.writes line }
+        requires plain { IsPlain line }
         ensures added { OnOk result (self.new ≡ record self.old { lines = self.old.lines ++ line ∷ [] }) }
         ensures refused { IfErr result (λ error. error ≡ ScriptError.NoMemory) }
     {
@@ -136,19 +137,28 @@ impl Script {
         Ok(())
     }
 
-    // Takes the bytes of a client's next write.
-    fn add_bytes(&mut self, client: u32, bytes: Vec<u8>) -> Result<u32, ScriptError>
+    // Takes a line that writes these bytes, which are the client's next write.
+    #[tactic(auto, using(crate::proofs::Taking::script_write))]
+    fn add_write(&mut self, line: u32, client: u32, bytes: Vec<u8>) -> Result<(), ScriptError>
+        requires lines { length self.old.lines < most_bytes }
+        requires writes { length (writes_of client self.old.writes) < most_bytes }
+        requires number { (1 ≤ line) × (line ≤ 1048576) }
         requires client { client ≤ 7 }
-        requires few { length (writes_of client self.old.writes) < most_bytes }
         requires range { IsWritten bytes.items }
-        ensures added { OnOk result (self.new ≡ record self.old { writes = slice_set self.old.writes client (writes_of client self.old.writes ++ bytes.items ∷ []) }) }
-        ensures number { IfOk result (λ write. write ≡ length (writes_of client self.old.writes)) }
+        ensures added { OnOk result (self.new ≡ with_write line client bytes.items self.old) }
         ensures refused { IfErr result (λ error. error ≡ ScriptError.NoMemory) }
     {
+        self.lines.reserve(1)?;
         let writes = &mut self.writes[client as usize];
-        let write = writes.len() as u32;
+        let verb = Verb::Write(writes.len() as u32);
         writes.push(bytes)?;
-        Ok(write)
+        self.lines.push_reserved(Line::Command {
+            line,
+            client,
+            target: Target::Dvr,
+            verb,
+        });
+        Ok(())
     }
 
     // Takes what a line says.
@@ -170,13 +180,7 @@ impl Script {
                 },
             ) => {
                 let bytes = bytes.copied(alloc)?;
-                let write = self.add_bytes(client, bytes)?;
-                self.add_line(Line::Command {
-                    line,
-                    client,
-                    target: Target::Dvr,
-                    verb: Verb::Write(write),
-                })
+                self.add_write(line, client, bytes)
             }
         }
     }
@@ -209,11 +213,13 @@ impl Script {
 
     /// How many writes a client makes.
     pub fn writes(&self, client: u32) -> u32
-        requires { client ≤ 7 }
         ensures count { result ≡ length (writes_of client self.now.writes) }
         ensures bound { result ≤ most_bytes }
     {
-        self.writes[client as usize].len() as u32
+        match self.writes.get(client as usize) {
+            None => 0,
+            Some(writes) => writes.len() as u32,
+        }
     }
 
     /// The bytes of a write of a client, which makes more writes than this.

@@ -1,5 +1,5 @@
 -- The packets of a client's calls are those that it plays.
-use Rattle.std.proofs.Common.{◌≡◌, refl, ℕ, zero, suc, List, [], Option, Some, None, length, take, drop}
+use Rattle.std.proofs.Common.{◌≡◌, refl, sym, subst, ℕ, zero, suc, ◌+◌, List, [], Option, Some, None, add-one, length, take, drop}
 use Rattle.std.specs.Prelude.{slice_index_or, IfSome}
 use Rattle.std.specs.List.{All}
 use Rattle.std.proofs.lemmas.List.Elements.{All-head, All-tail}
@@ -34,3 +34,7 @@ is_from script stream client (Pass write) now =
     let ws = writes_of client script.writes in
     pass_from script stream client (batch_at (plays ws) write) now (at_write (cut_of ws).packets (plays ws) write (are_placed ws))
 is_from script stream client _ now = tt
+
+-- the same with its number among the callers as a sum
+pub from_client : (script : Scripted) (stream : List (List ℕ)) (client : ℕ) (w : Request) (now : ℕ) → IsFrom (sources script stream (client + 1)) (call_of (plays_of client script) w now)
+from_client script stream client w now = subst (λ n. IsFrom (sources script stream n) (call_of (plays_of client script) w now)) (sym (add-one client)) (is_from script stream client w now)

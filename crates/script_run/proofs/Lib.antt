@@ -6,5 +6,6 @@ pub mod ReadReplies
 pub mod HistoryBytes
 pub mod Repeating
 pub mod Played
+pub mod Passing
 pub mod Paying
 pub mod Ending

@@ -21,14 +21,14 @@ use Rattle.client_script.specs.declared.line.Line.{Line}
 use Rattle.client_script.specs.declared.line.Line.TheVariants.{Feed, Tick, Command}
 use Rattle.client_script.specs.declared.line.Target.{Target}
 use Rattle.client_script.specs.declared.line.Verb.{Verb}
-use Rattle.client_script.specs.Script.{clients_in, writes_of, Scripted}
+use Rattle.client_script.specs.Script.{AreNumbered, clients_in, writes_of, Scripted}
 use Rattle.client_core.specs.declared.command.Command.{Command as ClientCommand}
 use Rattle.client_core.specs.Deeds.{deed_of}
 use Rattle.client_core.specs.Commands.{commands_among, ends_drain, played, plays_of}
 use Rattle.client_core.specs.Events.{next_event}
 use Rattle.script_run.specs.Budget.{all_commands, bytes_written, most_calls, bytes_in}
 use Rattle.script_run.specs.IsRun.{IsEvent, StandsIn, replies, sources}
-use Rattle.script_run.specs.SoFar.{Payers, feeder, others, MayPay, IsPaidBehind, HasDoneSoFar, IsSoFar, AreNumbered, commands_for, CallsArePaid}
+use Rattle.script_run.specs.SoFar.{Payers, feeder, others, MayPay, IsPaidBehind, HasDoneSoFar, IsSoFar, commands_for, CallsArePaid}
 use Rattle.script_run.proofs.Lists.{has_filter, place_of}
 use Rattle.script_run.proofs.Counting.{total, total_le, total_add, total_same, total_33, total_but, total_one, one_at, but, sum_of, Pool, both, all_pools, HaveTokens, counts_fit, weigh_places, weight_at, weight_got}
 use Rattle.script_run.proofs.ReadReplies.{read_there, next_is_refused}
@@ -178,7 +178,7 @@ module _ (payers : Payers) (script : Scripted) (most : ℕ) (stream : List (List
       within = omega (
         arith,
         brings_own node d (s.clients d low).made (λ i e at. let who = ((s.clients d low).steps i e at).1 in omega (arith, who)),
-        client_brings script d node (given (suc d)) (numbered d low) (s.clients d low).made (λ i e at. ((s.clients d low).steps i e at).3),
+        client_brings script d node (given (suc d)) (numbered d) (s.clients d low).made (λ i e at. ((s.clients d low).steps i e at).3),
       );
       all = λ t is.
           let p = placed t is.0 in

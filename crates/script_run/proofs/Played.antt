@@ -110,40 +110,56 @@ entry_brings node packets batches (Some event) e is =
       go true = subst (λ a. brings packets a ≤ weight (packets_at batches) (pass_in event.want)) (sym is.1.1) (call_brings packets batches event.want is.1.0)
       go false = omega arith
 
-module _ (script : Scripted) (client : ℕ) (node : ℕ) (packets : Input → List (List ℕ)) where
-  abbrev own : Batches
+-- ------ along the calls of a client
+
+module _ (script : Scripted) (client : ℕ) where
+  abbrev pub own : Batches
   own = plays_of client script
 
-  along : (before log : List LogEntry) → ((i : ℕ) (e : LogEntry) → slice_get log i ≡ Some e → IsEvent own (next_event client script (replies (before ++ take i log))) e)
-      → sum_of (brings_to node packets) log ≤ weight (packets_at own) (passes_by node (λ m. next_event client script (replies before ++ m)) (replies log))
+  -- each call is the one that is asked for behind those before it
+  abbrev pub AreEvents : (before log : List LogEntry) → Type 0
+  AreEvents before log = (i : ℕ) (e : LogEntry) → slice_get log i ≡ Some e → IsEvent own (next_event client script (replies (before ++ take i log))) e
+
+  pub first_event : (before : List LogEntry) (e : LogEntry) (log : List LogEntry) → AreEvents before (e ∷ log) → IsEvent own (next_event client script (replies before ++ [])) e
+  first_event before e log each = subst (λ rs. IsEvent own (next_event client script rs) e) (ap replies (append-nil before) ∙ sym (append-nil (replies before))) (each 0 e refl)
+
+  pub events_behind : (before : List LogEntry) (e : LogEntry) (log : List LogEntry) → AreEvents before (e ∷ log) → AreEvents (before ++ e ∷ []) log
+  events_behind before e log each = λ i x at. subst (λ l. IsEvent own (next_event client script (replies l)) x) (sym (append_assoc before (e ∷ []) (take i log))) (each (suc i) x at)
+
+  pub same_behind : (node : ℕ) (before : List LogEntry) (e : LogEntry) (log : List LogEntry)
+      → passes_by node (λ m. next_event client script (replies (before ++ e ∷ []) ++ m)) (replies log) ≡ passes_by node (λ m. next_event client script (replies before ++ e.response ∷ m)) (replies log)
+  same_behind node before e log =
+      same_passes node (λ m. next_event client script (replies (before ++ e ∷ []) ++ m)) (λ m. next_event client script (replies before ++ e.response ∷ m))
+      (λ m. ap (λ rs. next_event client script rs) (ap (λ rs. rs ++ m) (map-append (λ (x : LogEntry). x.response) before (e ∷ [])) ∙ append_assoc (replies before) (e.response ∷ []) m)) (replies log)
+
+module _ (script : Scripted) (client : ℕ) (node : ℕ) (packets : Input → List (List ℕ)) where
+  abbrev batches : Batches
+  batches = plays_of client script
+
+  along : (before log : List LogEntry) → AreEvents script client before log
+      → sum_of (brings_to node packets) log ≤ weight (packets_at batches) (passes_by node (λ m. next_event client script (replies before ++ m)) (replies log))
   along before [] each = omega arith
   along before (e ∷ log) each =
-      let first : IsEvent own (next_event client script (replies before ++ [])) e =
-      subst (λ rs. IsEvent own (next_event client script rs) e) (ap replies (append-nil before) ∙ sym (append-nil (replies before))) (each 0 e refl) in
-      let moved : (m : List Response) → next_event client script (replies (before ++ e ∷ []) ++ m) ≡ next_event client script (replies before ++ e.response ∷ m) =
-      λ m. ap (λ rs. next_event client script rs) (ap (λ rs. rs ++ m) (map-append (λ (x : LogEntry). x.response) before (e ∷ [])) ∙ append_assoc (replies before) (e.response ∷ []) m) in
-      let later = along (before ++ e ∷ []) log
-      (λ i x at. subst (λ l. IsEvent own (next_event client script (replies l)) x) (sym (append_assoc before (e ∷ []) (take i log))) (each (suc i) x at)) in
-      let same = same_passes node (λ m. next_event client script (replies (before ++ e ∷ []) ++ m)) (λ m. next_event client script (replies before ++ e.response ∷ m)) moved (replies log) in
+      let later = along (before ++ e ∷ []) log (events_behind script client before e log each) in
       omega (
         arith,
-        entry_brings node packets own (next_event client script (replies before ++ [])) e first,
+        entry_brings node packets batches (next_event client script (replies before ++ [])) e (first_event script client before e log each),
         later,
-        ap (weight (packets_at own)) same,
-        weight_append (packets_at own) (pass_by node (next_event client script (replies before ++ []))) (passes_by node (λ m. next_event client script (replies before ++ e.response ∷ m)) (replies log)),
+        ap (weight (packets_at batches)) (same_behind script client node before e log),
+        weight_append (packets_at batches) (pass_by node (next_event client script (replies before ++ []))) (passes_by node (λ m. next_event client script (replies before ++ e.response ∷ m)) (replies log)),
       )
 
   -- A client that did what its commands ask has brought the node no more packets than it plays.
   pub client_brings : named_among client script.lines ≡ range_with_len 0 (length (writes_of client script.writes)) → (log : List LogEntry)
-      → ((i : ℕ) (e : LogEntry) → slice_get log i ≡ Some e → IsEvent own (next_event client script (replies (take i log))) e)
+      → ((i : ℕ) (e : LogEntry) → slice_get log i ≡ Some e → IsEvent batches (next_event client script (replies (take i log))) e)
       → sum_of (brings_to node packets) log ≤ length (played client script)
   client_brings numbered log each =
-      let walked : sum_of (brings_to node packets) log ≤ weight (packets_at own) (passes_by node (λ m. next_event client script m) (replies log)) = along [] log each in
+      let walked : sum_of (brings_to node packets) log ≤ weight (packets_at batches) (passes_by node (λ m. next_event client script m) (replies log)) = along [] log each in
       omega (
         arith,
         walked,
-        passes_light (packets_at own) node client script (replies log),
-        ap (weight (packets_at own)) (writes_named client own script.lines ∙ numbered),
+        passes_light (packets_at batches) node client script (replies log),
+        ap (weight (packets_at batches)) (writes_named client batches script.lines ∙ numbered),
         all_played (writes_of client script.writes),
       )
 

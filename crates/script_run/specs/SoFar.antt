@@ -8,8 +8,7 @@ use Rattle.dmx_calls.specs.Accounted.{IsAccounted}
 use Rattle.dmx_calls.specs.Legal.{IsLegalFor}
 use Rattle.dmx_calls.specs.Log.{LogEntry, filled}
 use Rattle.dmx_calls.specs.Rules.{rules_at}
-use Rattle.std.specs.List.{range_with_len}
-use Rattle.client_script.specs.Script.{clients_in, named_among, writes_of, Scripted}
+use Rattle.client_script.specs.Script.{AreNumbered, clients_in, Scripted}
 use Rattle.client_core.specs.Commands.{commands_of, plays_of}
 use Rattle.client_core.specs.Events.{next_event, waits_on}
 use Rattle.script_run.specs.Budget.{all_commands, bytes_written, most_calls}
@@ -100,13 +99,8 @@ abbrev pub commands_for : Payers → (client : ℕ) → Scripted → ℕ
 commands_for feeder client script = length (commands_of client script)
 commands_for others client script = all_commands script.lines
 
--- the lines of each client name its writes in their order, each once
-abbrev pub AreNumbered : Scripted → Type 0
-AreNumbered script =
-    (c : ℕ) → c < clients_in script → named_among c script.lines ≡ range_with_len 0 (length (writes_of c script.writes))
-
 -- At each moment of a run a client has made no more calls than these commands, the bytes of the packets and those of all writes
--- allow.
+-- allow, where the lines of each client name its writes in their order, each once.
 abbrev pub CallsArePaid : Type 0
 CallsArePaid =
     (payers : Payers) (script : Scripted) (most : ℕ) (stream : List (List ℕ)) (hs : List (List LogEntry))

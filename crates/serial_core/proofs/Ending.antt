@@ -18,7 +18,7 @@ use Rattle.serial_core.specs.declared.seat.Seat.{Seat}
 use Rattle.serial_core.specs.declared.nodes.Nodes.{Nodes}
 use Rattle.client_core.specs.Inside.Core.{Core, IsAfter}
 use Rattle.client_core.specs.Outcomes.{outcomes}
-use Rattle.script_run.specs.Budget.{most_calls, all_commands}
+use Rattle.script_run.specs.Budget.{all_commands, bytes_played, most_calls}
 use Rattle.ts_watch.specs.Head.{told_head, head_of}
 use Rattle.feed_pull.specs.Pulling.{Pulls, IsDone}
 use Rattle.feed_pull.proofs.PullLemmas.{Pulls-done, Pulls-front, Pulls-size}
@@ -103,9 +103,9 @@ module _ (script : Scripted) (batch : ℕ) (x y : SourceEnd) (old new : Runner) 
       })
 
   pub overrun_is : All IsInRange script.lines → 1 ≤ batch → Moves x y old new (AllOverrunBy batch script.lines cores)
-      → OfStream x y old.puller (λ ahead taken. 2 ^ 39 ≤ most_calls (all_commands script.lines) (length ahead + length taken))
+      → OfStream x y old.puller (λ ahead taken. 2 ^ 39 ≤ most_calls (all_commands script.lines) (length ahead + length taken + bytes_played script))
   overrun_is ranges one moves =
-      of_run (AllOverrunBy batch script.lines cores) (λ ahead taken. 2 ^ 39 ≤ most_calls (all_commands script.lines) (length ahead + length taken)) moves
+      of_run (AllOverrunBy batch script.lines cores) (λ ahead taken. 2 ^ 39 ≤ most_calls (all_commands script.lines) (length ahead + length taken + bytes_played script)) moves
       (λ ahead taken ps r p goes at.
       let front = Pulls-front ahead taken ps new.puller p in
       let packets : All IsPacket ps = All-take_front ps front.0 (subst (λ qs. All IsPacket qs) front.1 (are_packets new.puller.cutting.size (ahead ++ taken))) in

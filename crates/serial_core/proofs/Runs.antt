@@ -8,13 +8,13 @@ use Rattle.std.proofs.lemmas.Option.{slice_get_within}
 use Rattle.ts_packet.specs.Fields.{IsPacket}
 use Rattle.dmx_calls.specs.Rules.{rules_at}
 use Rattle.dmx_calls.specs.Legal.{IsLegalFor}
-use Rattle.dmx_calls.specs.Log.{LogEntry, filled, from_stream}
+use Rattle.dmx_calls.specs.Log.{LogEntry, filled}
 use Rattle.client_script.specs.Grammar.{IsInRange}
 use Rattle.client_script.specs.Script.{clients_in, Scripted}
 use Rattle.client_core.specs.Commands.{commands_of}
 use Rattle.client_core.specs.Events.{next_event}
-use Rattle.script_run.specs.Budget.{most_calls}
-use Rattle.script_run.specs.IsRun.{Batch, Step, feeding, replies, steps_of}
+use Rattle.script_run.specs.Budget.{bytes_played, most_calls}
+use Rattle.script_run.specs.IsRun.{Batch, Step, feeding, replies, sources, steps_of}
 use Rattle.script_run.specs.SoFar.{feeder, IsPaidBehind, IsFedSoFar, HasDoneSoFar, IsSoFar, IsOver}
 use Rattle.script_run.proofs.Ending.{runs_end, are_accounted}
 use Rattle.script_run.proofs.Paying.{calls_are_paid}
@@ -35,14 +35,14 @@ module _ (script : Scripted) (batch : ℕ) (packets : List (List ℕ)) (few : cl
   placed : (node place : ℕ) (h : List LogEntry) (e : LogEntry) → slice_get (histories_in r) node ≡ Some h → slice_get h place ≡ Some e → IsPlaced packets (clients_in script) node place e
   placed node place h e log is =
       let w = histories_is r node h p.nodes log in
-      sound_placed packets (clients_in script) r.has_ended node (node_at node r) (p.sound node w.0) place e (subst (λ l. slice_get l place ≡ Some e) (sym w.1) is)
+      sound_placed (sources script packets) (clients_in script) r.has_ended node (node_at node r) (p.sound node w.0) place e (subst (λ l. slice_get l place ≡ Some e) (sym w.1) is)
 
-  legal : (node : ℕ) (h : List LogEntry) → slice_get (histories_in r) node ≡ Some h → IsLegalFor (rules_at node) (filled (from_stream packets) h)
+  legal : (node : ℕ) (h : List LogEntry) → slice_get (histories_in r) node ≡ Some h → IsLegalFor (rules_at node) (filled (sources script packets) h)
   legal node h log =
       let w = histories_is r node h p.nodes log in
       let s = p.sound node w.0 in
-      subst (λ l. IsLegalFor (rules_at node) (filled (from_stream packets) l)) w.1
-      (subst (IsLegalFor (rules_at node)) (sym (sound_filled packets (clients_in script) r.has_ended node (node_at node r) s)) (subst (λ n. IsLegalFor (rules_at n) (history_of (node_at node r))) s.number s.legal))
+      subst (λ l. IsLegalFor (rules_at node) (filled (sources script packets) l)) w.1
+      (subst (IsLegalFor (rules_at node)) (sym (sound_filled (sources script packets) (clients_in script) r.has_ended node (node_at node r) s)) (subst (λ n. IsLegalFor (rules_at n) (history_of (node_at node r))) s.number s.legal))
 
   -- ------ the feeder
 
@@ -101,7 +101,7 @@ module _ (script : Scripted) (batch : ℕ) (packets : List (List ℕ)) (few : cl
   so_far = record { nodes = length-map r.nodes entries_of ∙ p.nodes; places = placed; legal = legal; fed = fed; clients = done }
 
   -- its calls are paid
-  bound : All IsPacket packets → (client : ℕ) → length (replies_of client r) ≤ most_calls (length (commands_of client script)) (188 * length packets)
+  bound : All IsPacket packets → (client : ℕ) → length (replies_of client r) ≤ most_calls (length (commands_of client script)) (188 * length packets + bytes_played script)
   unfolding so_far done
   bound are client = elim (cases_lt client (clients_in script)) [
     | inl lt ↦

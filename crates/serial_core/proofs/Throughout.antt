@@ -24,15 +24,15 @@ abbrev pub IsThrough : Scripted → (client : ℕ) → List Line → List Respon
 IsThrough script client before rs = AreThrough no_slots 0 (commands_among client (plays_of client script) before) rs
 
 -- one call more of any client
-through_called : (script : Scripted) (client : ℕ) (before : List Line) (who : ℕ) (e : Event) (r : Run) → IsThrough script client before (replies_of client r) → IsThrough script client before (replies_of client (called who e r))
-through_called script client before who e r is = go (index_set r.replies who client (replies_of who r ++ reply_to who e r ∷ [])) where
-  go : (slice_index_or (slice_set r.replies who (replies_of who r ++ reply_to who e r ∷ [])) client [] ≡ slice_index_or r.replies client [])
-      ⊎ (client ≡ who) × (slice_index_or (slice_set r.replies who (replies_of who r ++ reply_to who e r ∷ [])) client [] ≡ replies_of who r ++ reply_to who e r ∷ [])
-      → IsThrough script client before (replies_of client (called who e r))
+through_called : (script : Scripted) (client : ℕ) (before : List Line) (who : ℕ) (e : Event) (r : Run) → IsThrough script client before (replies_of client r) → IsThrough script client before (replies_of client (called who (plays_of who script) e r))
+through_called script client before who e r is = go (index_set r.replies who client (replies_of who r ++ reply_to who (plays_of who script) e r ∷ [])) where
+  go : (slice_index_or (slice_set r.replies who (replies_of who r ++ reply_to who (plays_of who script) e r ∷ [])) client [] ≡ slice_index_or r.replies client [])
+      ⊎ (client ≡ who) × (slice_index_or (slice_set r.replies who (replies_of who r ++ reply_to who (plays_of who script) e r ∷ [])) client [] ≡ replies_of who r ++ reply_to who (plays_of who script) e r ∷ [])
+      → IsThrough script client before (replies_of client (called who (plays_of who script) e r))
   go (inl same) = subst (λ rs. IsThrough script client before rs) (sym same) is
   go (inr mine) =
       let his : IsThrough script client before (replies_of who r) = subst (λ c. IsThrough script client before (replies_of c r)) mine.0 is in
-      subst (λ rs. IsThrough script client before rs) (sym mine.1) (through_more no_slots 0 (commands_among client (plays_of client script) before) (replies_of who r) (reply_to who e r) his)
+      subst (λ rs. IsThrough script client before rs) (sym mine.1) (through_more no_slots 0 (commands_among client (plays_of client script) before) (replies_of who r) (reply_to who (plays_of who script) e r) his)
 
 none_next : (client : ℕ) (script : Scripted) (rs : List Response) → IsThrough script client script.lines rs → next_event client script rs ≡ None
 unfolding progress
