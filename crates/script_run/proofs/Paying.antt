@@ -33,7 +33,7 @@ use Rattle.script_run.proofs.Lists.{has_filter, place_of}
 use Rattle.script_run.proofs.Counting.{total, total_le, total_add, total_same, total_33, total_but, total_one, one_at, but, sum_of, Pool, both, all_pools, HaveTokens, counts_fit, weigh_places, weight_at, weight_got}
 use Rattle.script_run.proofs.ReadReplies.{read_there, next_is_refused}
 use Rattle.script_run.proofs.HistoryBytes.{act_packets, packets_of, feeder_brings, bytes_fit, feeder_long}
-use Rattle.script_run.proofs.Played.{brings, brings_to, client_brings, all_few}
+use Rattle.script_run.proofs.Played.{brings, brings_to, client_brings, packets_named, named_once, all_few}
 use Rattle.script_run.proofs.Repeating.{adds, quiet, IsGoing, going, quiet_calls, grows, but_one, calls_and_repeats, by_bytes, by_again, both_kinds, bytes_pay, IsWaiting, waiting}
 
 -- ------ the commands of all clients
@@ -153,7 +153,11 @@ module _ (payers : Payers) (script : Scripted) (most : ℕ) (stream : List (List
     go deeper true = omega (arith, deeper, ap (λ who. act_packets given who e.act) (own 0 e refl))
     go deeper false = omega (arith, deeper)
 
-  module _ (numbered : AreNumbered script) (node : ℕ) (lt : node < 33) where
+  -- each client's calls bring each node at most so many packets
+  abbrev pub AreBrought : (ℕ → ℕ) → Type 0
+  AreBrought most_of = (d : ℕ) (low : d < clients_in script) (node : ℕ) → sum_of (brings_to node (given (suc d))) (s.clients d low).made ≤ most_of d
+
+  module _ (most_of : ℕ → ℕ) (few : AreBrought most_of) (node : ℕ) (lt : node < 33) where
     abbrev here : (h : List LogEntry) × (slice_get hs node ≡ Some h)
     here = at_place hs node (omega (arith, lt, s.nodes))
 
@@ -172,13 +176,13 @@ module _ (payers : Payers) (script : Scripted) (most : ℕ) (stream : List (List
     placed t (h, log, has) = (let p = place_of h t has in let q = s.places node p.0 h t log p.1 in
         ((h, ap (λ n. slice_get hs n) q.0 ∙ log, ap (λ n. slice_get h n) q.1 ∙ p.1), q.0))
 
-    client_packets : (d : ℕ) → d < clients_in script → Pool (packets_of given) (IsBy (suc d) node) (length (played d script))
+    client_packets : (d : ℕ) → d < clients_in script → Pool (packets_of given) (IsBy (suc d) node) (most_of d)
     client_packets d low = record {
       tokens = filter (on_node node) (s.clients d low).made;
       within = omega (
         arith,
         brings_own node d (s.clients d low).made (λ i e at. let who = ((s.clients d low).steps i e at).1 in omega (arith, who)),
-        client_brings script d node (given (suc d)) (numbered d) (s.clients d low).made (λ i e at. ((s.clients d low).steps i e at).3),
+        few d low node,
       );
       all = λ t is.
           let p = placed t is.0 in
@@ -187,10 +191,10 @@ module _ (payers : Payers) (script : Scripted) (most : ℕ) (stream : List (List
           (has_at (s.clients d low).made t t.step ((s.clients d low).only t.node t.place p.0.0 t p.0.1 p.0.2 who));
     }
 
-    all_packets : Pool (packets_of given) (λ t. IsBy 0 node t ⊎ ((d : ℕ) × (d < clients_in script) × IsBy (suc d) node t)) (length stream + total (λ d. length (played d script)) (clients_in script))
+    all_packets : Pool (packets_of given) (λ t. IsBy 0 node t ⊎ ((d : ℕ) × (d < clients_in script) × IsBy (suc d) node t)) (length stream + total most_of (clients_in script))
     all_packets =
-        both (packets_of given) (IsBy 0 node) (λ t. (d : ℕ) × (d < clients_in script) × IsBy (suc d) node t) (length stream) (total (λ d. length (played d script)) (clients_in script)) feeder_packets
-        (all_pools (packets_of given) (λ d. IsBy (suc d) node) (λ d. length (played d script)) (clients_in script) client_packets)
+        both (packets_of given) (IsBy 0 node) (λ t. (d : ℕ) × (d < clients_in script) × IsBy (suc d) node t) (length stream) (total most_of (clients_in script)) feeder_packets
+        (all_pools (packets_of given) (λ d. IsBy (suc d) node) most_of (clients_in script) client_packets)
 
     -- each entry of a history is the feeder's or a client's
     whose : (t : LogEntry) (i : ℕ) → slice_get here.0 i ≡ Some t → IsBy 0 node t ⊎ ((d : ℕ) × (d < clients_in script) × IsBy (suc d) node t)
@@ -202,8 +206,8 @@ module _ (payers : Payers) (script : Scripted) (most : ℕ) (stream : List (List
       go zero is = inl (on, is)
       go (suc d) is = inr (d, omega (arith, is, (s.places node i here.0 t here.1 at).2), (on, is))
 
-    -- the node is brought no more packets than the stream has and the clients play
-    brought_here : sum_of (packets_of given) here.0 ≤ length stream + total (λ d. length (played d script)) (clients_in script)
+    -- the node is brought no more packets than the stream has and the clients' calls bring
+    brought_here : sum_of (packets_of given) here.0 ≤ length stream + total most_of (clients_in script)
     brought_here = omega (
       arith,
       weigh_places (packets_of given) here.0,
@@ -217,21 +221,21 @@ module _ (payers : Payers) (script : Scripted) (most : ℕ) (stream : List (List
       }
 
   -- the most bytes that a node answers
-  abbrev most_bytes : ℕ
-  most_bytes = 188 * length stream + bytes_written script
+  abbrev most_bytes : (ℕ → ℕ) → ℕ
+  most_bytes most_of = 188 * (length stream + total most_of (clients_in script))
 
-  module _ (numbered : AreNumbered script) (are : All IsPacket stream) where
-    bytes_at : (node : ℕ) → node < 33 → Pool bytes_of (StandsOn node) most_bytes
+  module _ (most_of : ℕ → ℕ) (few : AreBrought most_of) (are : All IsPacket stream) where
+    bytes_at : (node : ℕ) → node < 33 → Pool bytes_of (StandsOn node) (most_bytes most_of)
     bytes_at node lt =
-        let h = here numbered node lt in
+        let h = here most_of few node lt in
         record {
           tokens = h.0;
-          within = omega (arith, bytes_fit given (are_all are) node h.0 (s.legal node h.0 h.1), brought_here numbered node lt, all_few script (clients_in script));
-          all = λ t is. own_history numbered node lt t is;
+          within = omega (arith, bytes_fit given (are_all are) node h.0 (s.legal node h.0 h.1), brought_here most_of few node lt);
+          all = λ t is. own_history most_of few node lt t is;
         }
 
-    all_bytes : Pool bytes_of (λ t. (node : ℕ) × (node < 33) × StandsOn node t) (total (λ node. most_bytes) 33)
-    all_bytes = all_pools bytes_of StandsOn (λ node. most_bytes) 33 bytes_at
+    all_bytes : Pool bytes_of (λ t. (node : ℕ) × (node < 33) × StandsOn node t) (total (λ node. most_bytes most_of) 33)
+    all_bytes = all_pools bytes_of StandsOn (λ node. most_bytes most_of) 33 bytes_at
 
   few_quiet : (es : List LogEntry) → sum_of quiet es ≤ length es
   few_quiet [] = omega arith
@@ -309,21 +313,21 @@ module _ (payers : Payers) (script : Scripted) (most : ℕ) (stream : List (List
 
     -- ------ bytes
 
-    bytes_count : AreNumbered script → All IsPacket stream → (k : ℕ) → k ≤ length me.made → total my_bytes k ≤ 33 * most_bytes
-    bytes_count numbered are k le = omega (arith, counts_fit bytes_of k my_bytes (λ i t. slice_get me.made i ≡ Some t) (all_bytes numbered are).tokens tokens, (all_bytes numbered are).within, total_same most_bytes 33) where
+    bytes_count : (most_of : ℕ → ℕ) → AreBrought most_of → All IsPacket stream → (k : ℕ) → k ≤ length me.made → total my_bytes k ≤ 33 * most_bytes most_of
+    bytes_count most_of few are k le = omega (arith, counts_fit bytes_of k my_bytes (λ i t. slice_get me.made i ≡ Some t) (all_bytes most_of few are).tokens tokens, (all_bytes most_of few are).within, total_same (most_bytes most_of) 33) where
       twice : (i j : ℕ) (t : LogEntry) → i < j → slice_get me.made i ≡ Some t → slice_get me.made j ≡ Some t → ⊥
       twice i j t less a b = let up = me.in_order i j t t less a b refl in omega (arith, up)
 
-      there : (i : ℕ) (e : LogEntry) → slice_get me.made i ≡ Some e → 0 < my_bytes i → (t : LogEntry) × Has (all_bytes numbered are).tokens t × (my_bytes i ≤ bytes_of t) × (slice_get me.made i ≡ Some t)
+      there : (i : ℕ) (e : LogEntry) → slice_get me.made i ≡ Some e → 0 < my_bytes i → (t : LogEntry) × Has (all_bytes most_of few are).tokens t × (my_bytes i ≤ bytes_of t) × (slice_get me.made i ≡ Some t)
       there i e at more =
           let stands = (me.steps i e at).2 in (
             e,
-            (all_bytes numbered are).all e (stands_on e stands),
+            (all_bytes most_of few are).all e (stands_on e stands),
             bytes_pay script c me.made (events c is) i e at (λ now count read. read_there e.node given stands.0 (s.legal e.node stands.0 stands.1) e.place e now count stands.2 read) more,
             at,
           )
 
-      tokens : HaveTokens bytes_of k my_bytes (λ i t. slice_get me.made i ≡ Some t) (all_bytes numbered are).tokens
+      tokens : HaveTokens bytes_of k my_bytes (λ i t. slice_get me.made i ≡ Some t) (all_bytes most_of few are).tokens
       tokens = record {
         differ = λ i j t less lt a b. twice i j t less a b;
         has = λ i lt more. (let e = at_place me.made i (omega (arith, lt, le)) in there i e.0 e.1 more);
@@ -360,13 +364,15 @@ module _ (payers : Payers) (script : Scripted) (most : ℕ) (stream : List (List
 
       -- ------ the bound
 
-      within_to : firsts script c + bound ≤ 33 * commands_for payers c script + 33 * (length stream + 1) → AreNumbered script → All IsPacket stream → (n : ℕ) → length me.made ≡ n
-          → length me.made ≤ firsts script c + total (grows script c me.made (events c is)) (but_one script c me.made (events c is) n) → length me.made ≤ most_calls (commands_for payers c script) most_bytes
-      within_to enough numbered are zero long few = omega (arith, long)
-      within_to enough numbered are (suc k) long few = omega (arith, few, both_kinds script c me.made (events c is) k, bytes_count numbered are k (omega (arith, long)), again_count k (omega (arith, long)), enough)
+      module _ (most_of : ℕ → ℕ) (few : AreBrought most_of) (are : All IsPacket stream) where
+        within_to : firsts script c + bound ≤ 33 * commands_for payers c script + 33 * (length stream + 1) → (n : ℕ) → length me.made ≡ n
+            → length me.made ≤ firsts script c + total (grows script c me.made (events c is)) (but_one script c me.made (events c is) n) → length me.made ≤ most_calls (commands_for payers c script) (most_bytes most_of)
+        within_to enough zero long calls = omega (arith, long)
+        within_to enough (suc k) long calls =
+            omega (arith, calls, both_kinds script c me.made (events c is) k, bytes_count most_of few are k (omega (arith, long)), again_count k (omega (arith, long)), enough)
 
-      pub within : firsts script c + bound ≤ 33 * commands_for payers c script + 33 * (length stream + 1) → AreNumbered script → All IsPacket stream → length me.made ≤ most_calls (commands_for payers c script) most_bytes
-      within enough numbered are = within_to enough numbered are (length me.made) refl (calls_and_repeats script c me.made (events c is))
+        pub within : firsts script c + bound ≤ 33 * commands_for payers c script + 33 * (length stream + 1) → length me.made ≤ most_calls (commands_for payers c script) (most_bytes most_of)
+        within enough = within_to enough (length me.made) refl (calls_and_repeats script c me.made (events c is))
 
     feeders : (x : LogEntry) → StandsIn hs x → x.who ≡ 0 → FeederPays x
     feeders x stands zero_is = let on = stands_on x stands in (on.0, on.1, (on.2, zero_is))
@@ -377,20 +383,37 @@ module _ (payers : Payers) (script : Scripted) (most : ℕ) (stream : List (List
         let m : IsMade x = made_by x stands (λ none. grind (arith, nat_tests, nay, none)) in
         inr (m.client, m.low, ((λ same. may (m.who ∙ ap (λ n. n + 1) same)), (λ low. has_at (s.clients m.client low).made x x.step (m.made low))))
 
-pub calls_are_paid : CallsArePaid
-calls_are_paid feeder script most stream hs s numbered are c is =
+-- Where each client's calls bring each node at most so many packets, these and the stream's pay.
+pub calls_paid_by : (payers : Payers) (script : Scripted) (most : ℕ) (stream : List (List ℕ)) (hs : List (List LogEntry)) (s : IsSoFar payers script most stream hs) (most_of : ℕ → ℕ)
+    → AreBrought payers script most stream hs s most_of → All IsPacket stream → (c : ℕ) (is : c < clients_in script)
+    → length (s.clients c is).made ≤ most_calls (commands_for payers c script) (188 * (length stream + total most_of (clients_in script)))
+calls_paid_by feeder script most stream hs s most_of few are c is =
     within feeder script most stream hs s c is (FeederPays feeder script most stream hs s) (total (λ node. length stream + 1) 33) (feeder_pool feeder script most stream hs s)
-    (feeders feeder script most stream hs s c is) (omega (arith, total_same (length stream + 1) 33)) numbered are
-calls_are_paid others script most stream hs s numbered are c is =
+    (feeders feeder script most stream hs s c is) most_of few are (omega (arith, total_same (length stream + 1) 33))
+calls_paid_by others script most stream hs s most_of few are c is =
     within others script most stream hs s c is (λ x. FeederPays others script most stream hs s x ⊎ OtherPays others script most stream hs s c is x)
     (total (λ node. length stream + 1) 33 + total (but c (firsts script)) (clients_in script))
     (both quiet (FeederPays others script most stream hs s) (OtherPays others script most stream hs s c is) (total (λ node. length stream + 1) 33) (total (but c (firsts script)) (clients_in script))
     (feeder_pool others script most stream hs s) (other_pool others script most stream hs s c is))
-    (λ x stands may. either others script most stream hs s c is x stands may (nat_eq x.who 0) refl)
+    (λ x stands may. either others script most stream hs s c is x stands may (nat_eq x.who 0) refl) most_of few are
     (omega (
       arith,
       total_same (length stream + 1) 33,
       total_but c (firsts script) (clients_in script) is,
       total_33 (commands_by script script.lines) (clients_in script),
       commands_shared script script.lines (clients_in script),
-    )) numbered are
+    ))
+
+-- Whatever writes the lines name, a client's calls bring the packets that they complete.
+pub calls_are_bounded : (payers : Payers) (script : Scripted) (most : ℕ) (stream : List (List ℕ)) (hs : List (List LogEntry)) (s : IsSoFar payers script most stream hs) → All IsPacket stream
+    → (c : ℕ) (is : c < clients_in script)
+    → length (s.clients c is).made ≤ most_calls (commands_for payers c script) (188 * (length stream + total (λ d. packets_named d script) (clients_in script)))
+calls_are_bounded payers script most stream hs s are c is =
+    calls_paid_by payers script most stream hs s (λ d. packets_named d script)
+    (λ d low node. client_brings script d node (sources script stream (suc d)) (s.clients d low).made (λ i e at. ((s.clients d low).steps i e at).3)) are c is
+
+pub calls_are_paid : CallsArePaid
+calls_are_paid payers script most stream hs s numbered are c is =
+    let paid = calls_paid_by payers script most stream hs s (λ d. length (played d script))
+    (λ d low node. omega (arith, client_brings script d node (sources script stream (suc d)) (s.clients d low).made (λ i e at. ((s.clients d low).steps i e at).3), named_once d script (numbered d))) are c is in
+    omega (arith, paid, all_few script (clients_in script))

@@ -83,6 +83,15 @@ all_played : (ws : List (List ℕ)) → weight (packets_at (plays ws)) (range_wi
 all_played ws =
     ap (λ n. weight (packets_at (plays ws)) (range_with_len 0 n)) (sym (are_counted ws)) ∙ from_place [] (plays ws) ∙ ap length (are_joined ws)
 
+-- how many packets the writes complete that a client's lines name, each as often as it is named
+abbrev pub packets_named : (client : ℕ) → Scripted → ℕ
+packets_named client script = weight (packets_at (plays_of client script)) (writes_in (commands_of client script))
+
+-- where each is named once they are those that the client plays
+pub named_once : (client : ℕ) (script : Scripted) → named_among client script.lines ≡ range_with_len 0 (length (writes_of client script.writes)) → packets_named client script ≡ length (played client script)
+named_once client script numbered =
+    ap (weight (packets_at (plays_of client script))) (writes_named client (plays_of client script) script.lines ∙ numbered) ∙ all_played (writes_of client script.writes)
+
 -- ------ the packets that a client's calls bring
 
 -- how many packets a call brings, where those of its input are these
@@ -149,19 +158,12 @@ module _ (script : Scripted) (client : ℕ) (node : ℕ) (packets : Input → Li
         weight_append (packets_at batches) (pass_by node (next_event client script (replies before ++ []))) (passes_by node (λ m. next_event client script (replies before ++ e.response ∷ m)) (replies log)),
       )
 
-  -- A client that did what its commands ask has brought the node no more packets than it plays.
-  pub client_brings : named_among client script.lines ≡ range_with_len 0 (length (writes_of client script.writes)) → (log : List LogEntry)
-      → ((i : ℕ) (e : LogEntry) → slice_get log i ≡ Some e → IsEvent batches (next_event client script (replies (take i log))) e)
-      → sum_of (brings_to node packets) log ≤ length (played client script)
-  client_brings numbered log each =
+  -- A client that did what its commands ask has brought the node no more packets than the writes complete that its lines name.
+  pub client_brings : (log : List LogEntry) → ((i : ℕ) (e : LogEntry) → slice_get log i ≡ Some e → IsEvent batches (next_event client script (replies (take i log))) e)
+      → sum_of (brings_to node packets) log ≤ packets_named client script
+  client_brings log each =
       let walked : sum_of (brings_to node packets) log ≤ weight (packets_at batches) (passes_by node (λ m. next_event client script m) (replies log)) = along [] log each in
-      omega (
-        arith,
-        walked,
-        passes_light (packets_at batches) node client script (replies log),
-        ap (weight (packets_at batches)) (writes_named client batches script.lines ∙ numbered),
-        all_played (writes_of client script.writes),
-      )
+      omega (arith, walked, passes_light (packets_at batches) node client script (replies log))
 
 -- ------ bytes
 

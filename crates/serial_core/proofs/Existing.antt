@@ -6,26 +6,28 @@ use Rattle.std.proofs.lemmas.List.{length-set, get_or-set_same}
 use Rattle.std.proofs.lemmas.List.Elements.{All-head, All-tail}
 use Rattle.ts_packet.specs.Fields.{IsPacket}
 use Rattle.client_script.specs.Grammar.{IsInRange}
-use Rattle.client_script.specs.Script.{Scripted}
+use Rattle.client_script.specs.Script.{clients_in, Scripted}
 use Rattle.client_script.specs.declared.line.Line.{Line}
 use Rattle.client_script.specs.declared.line.Line.TheVariants.{Feed, Tick, Command}
 use Rattle.client_core.specs.declared.event.Event.{Event}
 use Rattle.client_core.specs.Commands.{commands_of, plays_of}
 use Rattle.client_core.specs.Events.{next_of_line}
-use Rattle.script_run.specs.Budget.{bytes_played, most_calls}
+use Rattle.script_run.specs.Budget.{most_calls}
+use Rattle.script_run.proofs.Counting.{total}
+use Rattle.script_run.proofs.Played.{packets_named}
 use Rattle.serial_core.specs.SerialRun.{Run, begun, fed, ticked, replies_of, reply_to, called, after_waiting, IsWorked, through, calls, AreDone, finished}
 use Rattle.serial_core.specs.Budget.{IsBegun, no_call, one_call, IsOnTheWay, IsMoment}
 use Rattle.serial_core.specs.Runs.{HaveSerialRuns}
 use Rattle.serial_core.proofs.Keeping.{fed_replies, waiting_replies, way_fed, way_ticked, way_worked, way_begun}
-use Rattle.serial_core.proofs.Runs.{within_budget}
+use Rattle.serial_core.proofs.Runs.{moments_bounded}
 
 module _ (script : Scripted) (batch : ℕ) (packets : List (List ℕ)) (ranges : All IsInRange script.lines) (are : All IsPacket packets) (one : 1 ≤ batch) where
   -- the most calls of a client
   abbrev most : (client : ℕ) → ℕ
-  most client = most_calls (length (commands_of client script)) (188 * length packets + bytes_played script)
+  most client = most_calls (length (commands_of client script)) (188 * (length packets + total (λ d. packets_named d script) (clients_in script)))
 
   calls_most : (client : ℕ) (r : Run) → IsMoment script batch packets r → length (replies_of client r) ≤ most client
-  calls_most client r moment = within_budget.moments script batch packets r ranges one are moment client
+  calls_most client r moment = moments_bounded script batch packets r ranges one are moment client
 
   -- a call leaves eight clients, and gives the caller one reply
   call_clients : (client : ℕ) (e : Event) (r : Run) → length r.replies ≡ 8 → length (called client (plays_of client script) e (after_waiting script batch client r)).replies ≡ 8

@@ -14,7 +14,7 @@ pub fn what_is_tried_is_the_run()
 {}
 
 /// Each client of the serial run of a script's lines makes at most `most_calls` calls, for its own commands and the bytes
-/// of the packets, those of the stream and those that clients play.
+/// of the stream's packets and of all writes, where the lines of each client name its writes in their order, each once.
 pub fn clients_are_within_budget()
     ensures { IsWithinBudget }
 {}

@@ -17,7 +17,7 @@
 //! many reads were made, or where the commands and the bytes allow a client so many calls. Where the run stops early, what
 //! was taken of the source is told as the puller's pulls tell it. Laws of each serial run: its 33 histories are legal, and
 //! every packet of the stream passes each node once and in order. Of a script's lines it is a run as `script_run` says it, and each of its
-//! moments is a run so far: so no client makes more calls than its commands and the bytes, those played too, allow. Worked runs are computed by
+//! moments is a run so far: so no client makes more calls than its commands and the bytes, those of writes too, allow. Worked runs are computed by
 //! the check.
 //!
 //! What is only tested, in `run_tests`: that memory isn't refused where there is enough of it.
