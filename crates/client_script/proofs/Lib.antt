@@ -2,6 +2,7 @@ pub mod Cuts
 pub mod Filters
 pub mod Lengthening
 pub mod LineWords
+pub mod Numbering
 pub mod Parting
 pub mod ReadAgain
 pub mod RequestsAgain

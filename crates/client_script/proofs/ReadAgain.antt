@@ -21,8 +21,8 @@ use Rattle.text_forms.proofs.WordsRead.{input_named-input_text, output_named-out
 use Rattle.text_forms.proofs.FiltersRead.{places_named-filter_words, filter_with-filter_places, length-filter_words}
 use Rattle.client_script.specs.Words.{words_of, word_in}
 use Rattle.client_script.specs.Places.{places_in, filter_in}
-use Rattle.client_script.specs.Grammar.{number_in, numbered_target, target_of, name_of, section_in, pes_in, verb_in, command_in, asked_in, line_in, line_of, is_passed_over, meaning, IsTargetInRange, IsVerbInRange, IsPlainVerb, IsInRange}
-use Rattle.client_script.specs.Writes.{written_named, dvr_named, write_in, IsWritten}
+use Rattle.client_script.specs.Grammar.{number_in, numbered_target, target_of, name_of, section_in, pes_in, verb_in, command_in, dvr_named, write_in, asked_in, line_in, line_of, is_passed_over, meaning, IsTargetInRange, IsVerbInRange, IsPlainVerb, IsInRange}
+use Rattle.client_script.specs.Writes.{written_named, IsWritten}
 use Rattle.client_script.specs.Spelling.{want_text, name_text, target_text, line_text, command_text, spelling, said_again, with_all}
 use Rattle.client_script.specs.Script.{Scripted, AreWritten, HasWrite, IsOnDvr, whole_lines, writes_of, written_by, with_said, is_stream, lines_from, grammar, plain}
 use Rattle.client_script.specs.declared.fault.ScriptFault.{ScriptFault}
@@ -163,14 +163,15 @@ pub record CanPrint (writes : List (List (List ℕ))) (line : Line) : Type 0 whe
   pub on_dvr : IsOnDvr line
   pub has : HasWrite writes line
 
+write_in-words : (number client : ℕ) (target : Target) (bytes : List ℕ) → target ≡ Dvr → IsWritten bytes → write_in number client (target_text target ∷ hex_text bytes ∷ []) ≡ Ok (Writes number client bytes, [])
+unfolding write_in dvr_named word_in target_text
+write_in-words number client target bytes on is = rw (on, written_named-hex_text bytes is) refl
+
 -- what a client's line asks is read again
 asked_again : (number client : ℕ) (writes : List (List (List ℕ))) (target : Target) (verb : Verb) (line : ℕ) → All AreWritten writes → CanPrint writes (Command line client target verb)
     → asked_in number client (name_text verb ∷ target_text target ∷ argument_words (written_by client writes) verb) ≡ Ok (said_again number writes (Command line client target verb), [])
 unfolding asked_in word_in name_text
-asked_again number client writes target (Write write) line all can = as_write target (written_by client writes write) can.on_dvr (written_there writes client write all can.has) where
-  as_write : (target : Target) (bytes : List ℕ) → target ≡ Dvr → IsWritten bytes → write_in number client (target_text target ∷ hex_text bytes ∷ []) ≡ Ok (Writes number client bytes, [])
-  unfolding write_in dvr_named word_in target_text
-  as_write target bytes on is = rw (on, written_named-hex_text bytes is) refl
+asked_again number client writes target (Write write) line all can = write_in-words number client target (written_by client writes write) can.on_dvr (written_there writes client write all can.has)
 asked_again number client writes target (Once want) line all can =
     rw (not_write (Once want) tt, command_in-words number client (written_by client writes) target (Once want) can.range.3 can.range.4 tt) refl
 asked_again number client writes target (ReadWait n) line all can =

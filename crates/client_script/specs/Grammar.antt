@@ -10,10 +10,10 @@ use Rattle.client_script.specs.Words.{Reading, and_then, mapped, or_fault, next_
 use Rattle.client_script.specs.Places.{filter_in}
 use Rattle.client_script.specs.Requests.{ioctl_in}
 use Rattle.client_script.specs.declared.fault.FaultKind.{FaultKind}
-use Rattle.client_script.specs.declared.fault.FaultKind.TheVariants.{Client, Command as NoCommand, Target as NoTarget, Number, Name, Count}
+use Rattle.client_script.specs.declared.fault.FaultKind.TheVariants.{Client, Command as NoCommand, Target as NoTarget, Number, Name, Bytes, Count}
 use Rattle.client_script.specs.declared.names.CommandName.{CommandName}
 use Rattle.client_script.specs.declared.names.CommandName.TheVariants.{Open as OpenName, Close as CloseName, Section as SectionName, Pes as PesName, Add as AddName, Remove as RemoveName, Start as StartName, Stop as StopName, Size as SizeName, Read as ReadName, ReadWait as ReadWaitName, Drain as DrainName, Poll as PollName, Ioctl as IoctlName}
-use Rattle.client_script.specs.Writes.{write_in, IsWritten}
+use Rattle.client_script.specs.Writes.{written_named, IsWritten}
 use Rattle.client_script.specs.declared.said.Said.{Said}
 use Rattle.client_script.specs.declared.said.Said.TheVariants.{Asks, Writes}
 use Rattle.client_script.specs.declared.line.Verb.{Verb}
@@ -113,6 +113,16 @@ command_in line client name words =
     and_then (verb_in name words) (λ verb words.
     Ok (Command line client target verb, words))))
 
+-- the only target of a write
+unfoldable pub dvr_named : List ℕ → Option Target
+dvr_named word = if is_word word (codes "dvr") then Some Dvr else None
+
+-- `dvr HEX`
+unfoldable pub write_in : (line client : ℕ) → List (List ℕ) → Reading Said
+write_in line client words =
+    and_then (next_as NoTarget dvr_named words) (λ target words.
+    mapped (Writes line client) (next_as Bytes written_named words))
+
 -- what stands behind the client
 unfoldable pub asked_in : (line client : ℕ) → List (List ℕ) → Reading Said
 asked_in line client words =
@@ -184,6 +194,7 @@ abbrev pub IsPlainVerb : Verb → Type 0
 IsPlainVerb (Write write) = ⊥
 IsPlainVerb _ = Unit {0}
 
+-- another line than `write`
 abbrev pub IsPlain : Line → Type 0
 IsPlain (Command line client target verb) = IsPlainVerb verb
 IsPlain _ = Unit {0}

@@ -1,6 +1,6 @@
 -- What a script says, and how a session's input falls into a script and a stream (this project's own).
-use Rattle.std.specs.Prelude.{◌≡◌, ℕ, ◌+◌, ◌≤◌, ◌<◌, ◌==◌, Bool, List, [], ◌∷◌, ◌++◌, length, take, drop, max, fold, replicate, slice_index_or, slice_set, Option, Some, None, Result, Ok, Err, if◌then◌else◌, codes}
-use Rattle.std.specs.List.{All, slice_split, count_by}
+use Rattle.std.specs.Prelude.{◌≡◌, ℕ, ◌+◌, ◌≤◌, ◌<◌, ◌==◌, Bool, List, [], ◌∷◌, ◌++◌, length, take, drop, max, fold, replicate, nat_eq, slice_index_or, slice_set, Option, Some, None, Result, Ok, Err, if◌then◌else◌, codes}
+use Rattle.std.specs.List.{All, slice_split, count_by, flat_map}
 use Rattle.std.specs.Option.{option_map}
 use Rattle.text_forms.specs.Words.{is_word}
 use Rattle.client_script.specs.Grammar.{meaning, IsInRange}
@@ -113,6 +113,7 @@ abbrev pub IsOnDvr : Line → Type 0
 IsOnDvr (Command line client target (Write write)) = target ≡ Dvr
 IsOnDvr _ = Unit {0}
 
+-- the write that a line names, if it names one, is among those of its client
 abbrev pub HasWrite : (writes : List (List (List ℕ))) → Line → Type 0
 HasWrite writes (Command line client target verb) = HasVerb (length (writes_of client writes)) verb
 HasWrite writes _ = Unit {0}
@@ -125,6 +126,20 @@ pub record IsScript (script : Scripted) : Type 0 where
   pub writes : All AreWritten script.writes
   pub on_dvr : All IsOnDvr script.lines
   pub named : All (HasWrite script.writes) script.lines
+
+-- the write that a verb names, if it names one
+abbrev pub named_by : Verb → List ℕ
+named_by (Write write) = write ∷ []
+named_by _ = []
+
+-- the write that a line of this client names, if it names one
+abbrev pub named_in : (client : ℕ) → Line → List ℕ
+named_in client (Command line who target verb) = if nat_eq who client then named_by verb else []
+named_in client _ = []
+
+-- the writes that the lines of a client name, in the order of the lines
+abbrev pub named_among : (client : ℕ) → List Line → List ℕ
+named_among client lines = flat_map (named_in client) lines
 
 -- how many clients there are up to the one that a line names, if it names one
 abbrev pub clients_of : Line → ℕ

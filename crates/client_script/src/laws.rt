@@ -1,8 +1,8 @@
 // Laws of the definitions.
 ghost use Rattle.std.specs.Prelude.{◌≡◌, ◌<◌, ◌≤◌, ◌⊎◌, ◌++◌, ◌∷◌, [], ℕ, List, length, take, drop, codes, Some, None};
-ghost use Rattle.std.specs.List.{All, flat_map};
+ghost use Rattle.std.specs.List.{All, flat_map, range_with_len};
 ghost use Rattle.client_script.specs.Grammar.{IsInRange};
-ghost use Rattle.client_script.specs.Script.{grammar, plain, Scripted, with_said, AreWritten, HasWrite, IsOnDvr, split, most_bytes, script_len, whole_lines};
+ghost use Rattle.client_script.specs.Script.{grammar, plain, Scripted, with_said, writes_of, named_among, AreWritten, HasWrite, IsOnDvr, split, most_bytes, script_len, whole_lines};
 ghost use Rattle.client_script.specs.Spelling.{spelling, said_again, with_all};
 ghost use Rattle.client_script.specs.declared.line.Line.{Line};
 
@@ -10,6 +10,14 @@ ghost use Rattle.client_script.specs.declared.line.Line.{Line};
 /// line `stream` is never examined.
 pub fn nothing_behind_the_stream_is_examined()
     ensures { (input : List ℕ) → grammar (split input).script ≡ grammar (take most_bytes input) }
+{}
+
+/// The lines of a client name its writes in their order, from 0 on, each once: so a script has no other writes than those of
+/// its lines.
+#[tactic(auto, using(crate::proofs::Numbering::named_in_order))]
+pub fn each_write_has_its_line()
+    ensures { (bytes : List ℕ) (s : Scripted) (client : ℕ) → client ≤ 7 → grammar bytes ≡ Ok s
+        → named_among client s.lines ≡ range_with_len 0 (length (writes_of client s.writes)) }
 {}
 
 /// Reading the spellings of lines of a script, and the line `stream` behind them, gives what these lines say again, each with its

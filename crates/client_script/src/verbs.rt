@@ -2,8 +2,7 @@
 ghost use Rattle.std.specs.Prelude.{◌≡◌, ◌≤◌, IfOk};
 ghost use Rattle.text_forms.specs.Words.{input_named as input_of_word, output_named as output_of_word};
 ghost use Rattle.client_script.specs.Words.{Reads, next_as};
-ghost use Rattle.client_script.specs.Grammar.{number_in, pid_in, count_in, target_of, name_of, section_in, pes_in, verb_in, command_in, asked_in, line_in, IsWantInRange, IsVerbInRange, IsTargetInRange, IsInRange, IsSaidInRange};
-ghost use Rattle.client_script.specs.Writes.{dvr_named, write_in};
+ghost use Rattle.client_script.specs.Grammar.{number_in, pid_in, count_in, target_of, name_of, section_in, pes_in, verb_in, command_in, dvr_named, write_in, asked_in, line_in, IsWantInRange, IsVerbInRange, IsTargetInRange, IsInRange, IsSaidInRange};
 ghost use Rattle.client_script.specs.declared.fault.FaultKind.TheVariants.{Name as NoName, Target as NoTarget, Command as NoCommand};
 
 use crate::fault::FaultKind;
@@ -133,7 +132,7 @@ fn read_verb(name: CommandName, words: &mut Words<'_>) -> Result<Verb, FaultKind
 }
 
 // The target of a write.
-#[tactic(auto, unfolding(crate::specs::Writes::dvr_named))]
+#[tactic(auto, unfolding(crate::specs::Grammar::dvr_named))]
 fn read_dvr(words: &mut Words<'_>) -> Result<Target, FaultKind>
     ensures { Reads result words.new (next_as NoTarget dvr_named words.old) }
 {
@@ -146,7 +145,7 @@ fn read_dvr(words: &mut Words<'_>) -> Result<Target, FaultKind>
 }
 
 // What a client writes.
-#[tactic(auto, unfolding(crate::specs::Writes::write_in))]
+#[tactic(auto, unfolding(crate::specs::Grammar::write_in))]
 fn read_write<'a>(line: u32, client: u32, words: &mut Words<'a>) -> Result<Said<'a>, FaultKind>
     requires number { (1 ≤ line) × (line ≤ 1048576) }
     requires client { client ≤ 7 }

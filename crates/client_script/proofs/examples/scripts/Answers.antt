@@ -7,8 +7,8 @@ use Rattle.filter_match.specs.Places.{with_place}
 use Rattle.text_forms.specs.Places.{place_with, place_named}
 use Rattle.client_script.specs.Words.{word_in}
 use Rattle.client_script.specs.Places.{places_in, filter_in}
-use Rattle.client_script.specs.Grammar.{number_in, numbered_target, target_of, name_of, section_in, pes_in, verb_in, command_in, asked_in, line_in, line_of, meaning}
-use Rattle.client_script.specs.Writes.{written_named, dvr_named, write_in}
+use Rattle.client_script.specs.Grammar.{number_in, numbered_target, target_of, name_of, section_in, pes_in, verb_in, command_in, dvr_named, write_in, asked_in, line_in, line_of, meaning}
+use Rattle.client_script.specs.Writes.{written_named}
 use Rattle.client_script.specs.Script.{lines_from, grammar, split}
 use Rattle.client_script.proofs.examples.scripts.Goals as goal
 
