@@ -13,8 +13,8 @@ use Rattle.ts_packet.specs.Cut.{cut, cut_after}
 use Rattle.ts_packet.specs.Cutting.{bytes_counted}
 use Rattle.stc_clock.specs.Clock.{unset, last_pcr, HasFollowed}
 use Rattle.client_script.specs.Script.{Scripted}
-use Rattle.client_script.specs.declared.line.Verb.{Verb}
-use Rattle.client_script.specs.declared.line.Verb.TheVariants.{GetStc}
+use Rattle.client_core.specs.declared.deed.Deed.{Deed}
+use Rattle.client_core.specs.declared.deed.Deed.TheVariants.{GetStc}
 use Rattle.client_core.specs.declared.command.Command.{Command}
 use Rattle.client_core.specs.declared.task.Ending.{Ending}
 use Rattle.client_core.specs.declared.task.Ending.TheVariants.{Made, Bound, AllBusy, NoNode, Asked}
@@ -60,7 +60,7 @@ none_taken true = All-replicate (λ c. bytes_counted c.clock.cutting ≤ 0) 33 u
 none_taken false = All-nil (λ c. bytes_counted c.clock.cutting ≤ 0)
 
 -- where clocks are kept, each command can begin
-can_ask_all : (v : Verb) → CanAsk 33 v
+can_ask_all : (v : Deed) → CanAsk 33 v
 can_ask_all (GetStc num) = omega arith
 can_ask_all _ = tt
 

@@ -5,3 +5,4 @@ pub mod More
 pub mod Numbering
 pub mod Ended
 pub mod Playing
+pub mod Passing

@@ -209,7 +209,7 @@ through_next slots step [] c behind rs is at = go (done slots c.target c.deed st
   go (stands e) none = absurd (itself c.line e none)
   go (through ending next left) none = refl
 through_next slots step (p ∷ before) c behind rs is at =
-    go (λ ending next left there later. through_next (slots_after ending slots) next before c behind left there later) (done slots p.target p.verb step rs) is at where
+    go (λ ending next left there later. through_next (slots_after ending slots) next before c behind left there later) (done slots p.target p.deed step rs) is at where
       go : ((ending : Ending) (next : ℕ) (left : List Response) → AreThrough (slots_after ending slots) next before left
           → standing_at c.line (progress_from (slots_after ending slots) next (before ++ c ∷ behind) left).standing ≡ None → AreThrough (slots_after ending slots) next (before ++ c ∷ []) left)
           → (d : Doing) → (progress_of slots step p before d).standing ≡ None → standing_at c.line (progress_of slots step p (before ++ c ∷ behind) d).standing ≡ None

@@ -145,7 +145,7 @@ fn waits_after(task: &Task, reply: &LogReply) -> Option<u32>
 }
 
 impl ClientCore {
-    /// The client before its first call. All memory is taken here.
+    /// A client of the script, one of its eight, before its first call. All memory is taken here.
     pub fn new(alloc: Global, script: &Script, client: u32) -> Result<ClientCore, NoMemory>
         requires { client ≤ 7 }
         ensures after { IfOk result (λ core. IsAfter client script.now [] core) }

@@ -5,9 +5,10 @@ use Rattle.dmx_calls.specs.declared.limits.TheConstants.{DEMUX_NODES}
 use Rattle.dmx_calls.specs.Accounted.{IsAccounted}
 use Rattle.dmx_calls.specs.History.{History}
 use Rattle.dmx_calls.specs.Legal.{IsLegalFor}
-use Rattle.dmx_calls.specs.Log.{filled, from_stream}
+use Rattle.dmx_calls.specs.Log.{filled}
 use Rattle.dmx_calls.specs.Rules.{demux, dvr, rules_at}
 use Rattle.dmx_calls.proofs.LawsHold.{demux_accounted, dvr_accounted}
+use Rattle.script_run.specs.IsRun.{sources}
 use Rattle.script_run.specs.SoFar.{RunsEnd, RunsAreAccounted}
 
 pub runs_end : RunsEnd
@@ -43,4 +44,4 @@ accounted_at node h legal = go (nat_lt node DEMUX_NODES) legal where
   go false l = dvr_accounted h l
 
 pub are_accounted : RunsAreAccounted
-are_accounted script most stream hs run node h at = accounted_at node (filled (from_stream stream) h) (run.legal node h at)
+are_accounted script most stream hs run node h at = accounted_at node (filled (sources script stream) h) (run.legal node h at)

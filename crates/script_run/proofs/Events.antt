@@ -1,33 +1,36 @@
--- A client's calls bring no packets.
-use Rattle.std.proofs.Common.{◌≡◌, refl, sym, ap, subst, ℕ, List, [], length, Option, Some, None}
-use Rattle.dmx_calls.specs.declared.log.Act.{Act}
-use Rattle.dmx_calls.specs.declared.log.Act.TheVariants as act
-use Rattle.dmx_calls.specs.Invocation as call
-use Rattle.dmx_calls.specs.Invocation.{Invocation, brought}
-use Rattle.dmx_calls.specs.Log.{IsFrom, LogEntry, act_of, filled_act}
-use Rattle.client_core.specs.declared.event.Event.{Event}
-use Rattle.client_core.specs.declared.event.Request.{Request}
-use Rattle.client_core.specs.declared.event.Request.TheVariants.{Own}
+-- The packets of a client's calls are those that it plays.
+use Rattle.std.proofs.Common.{◌≡◌, refl, ℕ, zero, suc, List, [], Option, Some, None, length, take, drop}
+use Rattle.std.specs.Prelude.{slice_index_or, IfSome}
+use Rattle.std.specs.List.{All}
+use Rattle.std.proofs.lemmas.List.Elements.{All-head, All-tail}
+use Rattle.ts_batch.specs.Batch.{Packets}
+use Rattle.dvr_play.specs.Plays.{plays, cut_of}
+use Rattle.dvr_play.specs.Laws.{StandsAmong}
+use Rattle.dvr_play.proofs.Joining.{are_placed}
+use Rattle.dmx_calls.specs.Log.{IsFrom}
+use Rattle.client_script.specs.Script.{Scripted, writes_of}
 use Rattle.client_script.specs.declared.line.Want.TheVariants.{Open}
-use Rattle.client_core.specs.Commands.{call_of}
-use Rattle.script_run.specs.IsRun.{IsEvent}
-use Rattle.script_run.specs.SoFar.{PassesNone}
+use Rattle.client_core.specs.declared.event.Request.{Request}
+use Rattle.client_core.specs.declared.event.Request.TheVariants.{Own, Pass}
+use Rattle.client_core.specs.Deeds.{Batches, batch_at}
+use Rattle.client_core.specs.Commands.{call_of, pass_of, plays_of}
+use Rattle.script_run.specs.IsRun.{sources}
 
-pub no_pass : (w : Request) (now : ℕ) → PassesNone (act_of (call_of w now))
-no_pass (Own Open) now = tt
-no_pass _ now = tt
+-- the batch at a place stands among the packets, as each does
+at_write : (all : List (List ℕ)) (batches : Batches) (write : ℕ) → All (λ batch. IfSome batch (StandsAmong all)) batches → IfSome (batch_at batches write) (StandsAmong all)
+at_write all [] write are = tt
+at_write all (b ∷ bs) zero are = All-head (λ batch. IfSome batch (StandsAmong all)) b bs are
+at_write all (b ∷ bs) (suc write) are = at_write all bs write (All-tail (λ batch. IfSome batch (StandsAmong all)) b bs are)
 
-pub of_stream : (stream : List (List ℕ)) (c : Invocation) → PassesNone (act_of c) → IsFrom (λ input. stream) c
-of_stream stream (call.Pass i first ps now) bare = absurd bare
-of_stream stream _ bare = tt
+pass_from : (script : Scripted) (stream : List (List ℕ)) (client : ℕ) (o : Option Packets) (now : ℕ) → IfSome o (StandsAmong (cut_of (writes_of client script.writes)).packets)
+    → IsFrom (sources script stream (suc client)) (pass_of o now)
+pass_from script stream client None now stands = refl
+pass_from script stream client (Some batch) now stands = stands
 
-pub event_passes_none : (o : Option Event) (e : LogEntry) → IsEvent o e → PassesNone e.act
-event_passes_none None e is = absurd is
-event_passes_none (Some event) e is = subst PassesNone (sym is.1.1) (no_pass event.want is.1.0)
-
-none_brought : (stream : List (List ℕ)) (a : Act) → PassesNone a → brought (filled_act (λ input. stream) a) ≡ []
-none_brought stream (act.Pass i first n now) bare = absurd bare
-none_brought stream _ bare = refl
-
-pub event_brings_none : (stream : List (List ℕ)) (o : Option Event) (e : LogEntry) → IsEvent o e → length (brought (filled_act (λ input. stream) e.act)) ≡ 0
-event_brings_none stream o e is = ap (λ ps. length ps) (none_brought stream e.act (event_passes_none o e is))
+-- whatever is asked for by a client, its packets are those of the caller's sources
+pub is_from : (script : Scripted) (stream : List (List ℕ)) (client : ℕ) (w : Request) (now : ℕ) → IsFrom (sources script stream (suc client)) (call_of (plays_of client script) w now)
+is_from script stream client (Own Open) now = tt
+is_from script stream client (Pass write) now =
+    let ws = writes_of client script.writes in
+    pass_from script stream client (batch_at (plays ws) write) now (at_write (cut_of ws).packets (plays ws) write (are_placed ws))
+is_from script stream client _ now = tt

@@ -7,12 +7,14 @@ use Rattle.std.proofs.lemmas.List.{reverse-append, length-map}
 use Rattle.std.proofs.lemmas.List.Sums.{sum_by-cons}
 use Rattle.std.proofs.lemmas.List.Elements.{All-nil, All-append, All-take, All-drop, All-head, All-tail}
 use Rattle.ts_packet.specs.Fields.{IsPacket}
+use Rattle.dmx_calls.specs.declared.params.Input.{Input}
+use Rattle.dmx_calls.specs.declared.params.Input.TheVariants.{Frontend}
 use Rattle.dmx_calls.specs.declared.log.Act.{Act}
 use Rattle.dmx_calls.specs.declared.log.Act.TheVariants as act
 use Rattle.dmx_calls.specs.declared.limits.TheConstants.{DEMUX_NODES}
 use Rattle.dmx_calls.specs.Invocation.{brought}
 use Rattle.dmx_calls.specs.History.{Entry, History, brought_by}
-use Rattle.dmx_calls.specs.Log.{LogEntry, filled, filled_act, filled_entry, from_stream}
+use Rattle.dmx_calls.specs.Log.{LogEntry, Sources, filled, filled_act, filled_entry}
 use Rattle.dmx_calls.specs.Rules.{demux, dvr, rules_at}
 use Rattle.dmx_calls.specs.Legal.{IsLegalFor}
 use Rattle.dmx_calls.specs.Bytes.{bytes_answered}
@@ -45,40 +47,43 @@ answers_fit node h legal are = go (nat_lt node DEMUX_NODES) legal where
   go true l = demux_answers_fit h l are
   go false l = dvr_answers_fit h l are
 
--- ------ filled with the packets of the stream
+-- ------ filled with the packets that callers pass
 
-module _ (stream : List (List ℕ)) where
-  -- the packets that a call brings
-  abbrev act_packets : Act → ℕ
-  act_packets a = length (brought (filled_act (λ input. stream) a))
+module _ (packets : Sources) where
+  -- the packets that a call of this caller brings
+  abbrev pub act_packets : (who : ℕ) → Act → ℕ
+  act_packets who a = length (brought (filled_act (packets who) a))
 
   abbrev step_packets : Step → ℕ
-  step_packets s = act_packets s.act
+  step_packets s = act_packets 0 s.act
 
-  abbrev packets_of : LogEntry → ℕ
-  packets_of e = act_packets e.act
+  abbrev pub packets_of : LogEntry → ℕ
+  packets_of e = act_packets e.who e.act
 
   fed_packets : (first step : ℕ) (bs : List Batch) → sum_of step_packets (feeding first step bs) ≤ sum (map (λ b. b.size) bs)
   fed_packets first step [] = omega arith
-  fed_packets first step (b ∷ bs) = omega (arith, length-take b.size (drop first stream), sum_by-cons (λ n. n) b.size (map (λ b. b.size) bs), fed_packets (first + b.size) (suc step) bs)
+  fed_packets first step (b ∷ bs) = omega (arith, length-take b.size (drop first (packets 0 Frontend)), sum_by-cons (λ n. n) b.size (map (λ b. b.size) bs), fed_packets (first + b.size) (suc step) bs)
 
-  -- only the feeder brings packets
-  abbrev pub OnlyFeederBrings : List LogEntry → Type 0
-  OnlyFeederBrings [] = Unit {0}
-  OnlyFeederBrings (e ∷ es) = (e.who ≢ 0 → packets_of e ≡ 0) × OnlyFeederBrings es
+  by_feeder : (es : List LogEntry) → sum_of packets_of (filter (λ e. nat_eq e.who 0) es) ≤ sum_of step_packets (steps_of 0 es)
+  by_feeder [] = omega arith
+  by_feeder (e ∷ es) = go (by_feeder es) (nat_eq e.who 0) refl where
+    go : sum_of packets_of (filter (λ e. nat_eq e.who 0) es) ≤ sum_of step_packets (steps_of 0 es) → (b : Bool) → nat_eq e.who 0 ≡ b
+        → sum_of packets_of (if b then e ∷ filter (λ e. nat_eq e.who 0) es else filter (λ e. nat_eq e.who 0) es)
+        ≤ sum_of step_packets (map (λ e. record { step = e.step; act = e.act }) (if b then e ∷ filter (λ e. nat_eq e.who 0) es else filter (λ e. nat_eq e.who 0) es))
+    go deeper true yea =
+        let none : e.who ≡ 0 = grind (arith, nat_tests, yea) in
+        omega (arith, deeper, ap (λ who. act_packets who e.act) none)
+    go deeper false nay = deeper
 
-  by_feeder : (es : List LogEntry) → OnlyFeederBrings es → sum_of packets_of es ≤ sum_of step_packets (steps_of 0 es)
-  by_feeder [] only = omega arith
-  by_feeder (e ∷ es) only = go (by_feeder es only.1) (nat_eq e.who 0) refl where
-    go : sum_of packets_of es ≤ sum_of step_packets (steps_of 0 es) → (b : Bool) → nat_eq e.who 0 ≡ b
-        → packets_of e + sum_of packets_of es ≤ sum_of step_packets (map (λ e. record { step = e.step; act = e.act }) (if b then e ∷ filter (λ e. nat_eq e.who 0) es else filter (λ e. nat_eq e.who 0) es))
-    go deeper true yea = omega (arith, deeper)
-    go deeper false nay = omega (arith, deeper, only.0 (λ is. grind (arith, nat_tests, nay, is)))
+  -- The feeder brings no more packets than its batches have.
+  pub feeder_brings : (es : List LogEntry) (bs : List Batch) (most : ℕ) → (later : List Step) × (steps_of 0 es ++ later ≡ feeding 0 0 bs) → sum (map (λ b. b.size) bs) ≤ most
+      → sum_of packets_of (filter (λ e. nat_eq e.who 0) es) ≤ most
+  feeder_brings es bs most fed le = omega (arith, by_feeder es, weigh_append step_packets (steps_of 0 es) fed.0, ap (sum_of step_packets) fed.1, fed_packets 0 0 bs, le)
 
-  module _ (are : All IsPacket stream) where
-    act_brings : (a : Act) → All IsPacket (brought (filled_act (λ input. stream) a))
-    act_brings (act.Pass input first count now) = All-take IsPacket count (drop first stream) (All-drop IsPacket first stream are)
-    act_brings _ = All-nil IsPacket
+  module _ (are : (who : ℕ) (input : Input) → All IsPacket (packets who input)) where
+    act_brings : (who : ℕ) (a : Act) → All IsPacket (brought (filled_act (packets who) a))
+    act_brings who (act.Pass input first count now) = All-take IsPacket count (drop first (packets who input)) (All-drop IsPacket first (packets who input) (are who input))
+    act_brings who _ = All-nil IsPacket
 
     -- each entry brings packets
     abbrev BringPackets : History → Type 0
@@ -89,34 +94,28 @@ module _ (stream : List (List ℕ)) where
     both_bring [] h a b = b
     both_bring (e ∷ g) h a b = (a.0, both_bring g h a.1 b)
 
-    filled_brings : (es : List LogEntry) → BringPackets (filled (from_stream stream) es)
+    filled_brings : (es : List LogEntry) → BringPackets (filled packets es)
     filled_brings [] = tt
     filled_brings (e ∷ es) =
-        subst BringPackets (sym (reverse-append (filled_entry (from_stream stream) e ∷ []) (map (filled_entry (from_stream stream)) es)))
-        (both_bring (filled (from_stream stream) es) (filled_entry (from_stream stream) e ∷ []) (filled_brings es) (act_brings e.act, tt))
+        subst BringPackets (sym (reverse-append (filled_entry packets e ∷ []) (map (filled_entry packets) es)))
+        (both_bring (filled packets es) (filled_entry packets e ∷ []) (filled_brings es) (act_brings e.who e.act, tt))
 
     all_packets : (h : History) → BringPackets h → All IsPacket (brought_by h)
     all_packets [] bring = All-nil IsPacket
     all_packets (e ∷ h) bring = All-append IsPacket (brought_by h) (brought e.invocation) (all_packets h bring.1) bring.0
 
-    -- The node is brought no more packets than the batches have, and answers no more bytes than they have.
-    pub bytes_fit : (node : ℕ) (es : List LogEntry) (bs : List Batch) (packets : ℕ) → IsLegalFor (rules_at node) (filled (from_stream stream) es) → OnlyFeederBrings es
-        → (later : List Step) × (steps_of 0 es ++ later ≡ feeding 0 0 bs) → sum (map (λ b. b.size) bs) ≤ packets → sum_of (λ e. bytes_in e.response) es ≤ 188 * packets
-    bytes_fit node es bs packets legal only fed le =
+    -- The node answers no more bytes than it was brought.
+    pub bytes_fit : (node : ℕ) (es : List LogEntry) → IsLegalFor (rules_at node) (filled packets es) → sum_of (λ e. bytes_in e.response) es ≤ 188 * sum_of packets_of es
+    bytes_fit node es legal =
         omega (
           arith,
-          answers_fit node (filled (from_stream stream) es) legal (all_packets (filled (from_stream stream) es) (filled_brings es)),
-          count_bytes (filled (from_stream stream) es),
-          weigh_reverse answers_in (map (filled_entry (from_stream stream)) es),
-          weigh_map answers_in (filled_entry (from_stream stream)) (λ e. bytes_in e.response) (λ e. refl) es,
-          count_brought (filled (from_stream stream) es),
-          weigh_reverse packets_in (map (filled_entry (from_stream stream)) es),
-          weigh_map packets_in (filled_entry (from_stream stream)) packets_of (λ e. refl) es,
-          by_feeder es only,
-          weigh_append step_packets (steps_of 0 es) fed.0,
-          ap (sum_of step_packets) fed.1,
-          fed_packets 0 0 bs,
-          le,
+          answers_fit node (filled packets es) legal (all_packets (filled packets es) (filled_brings es)),
+          count_bytes (filled packets es),
+          weigh_reverse answers_in (map (filled_entry packets) es),
+          weigh_map answers_in (filled_entry packets) (λ e. bytes_in e.response) (λ e. refl) es,
+          count_brought (filled packets es),
+          weigh_reverse packets_in (map (filled_entry packets) es),
+          weigh_map packets_in (filled_entry packets) packets_of (λ e. refl) es,
         )
 
 -- ------ how many entries the feeder has made

@@ -4,33 +4,36 @@ use Rattle.std.proofs.Common.{◌≡◌, ◌≢◌, refl, sym, ap, subst, ◌∙
 use Rattle.std.specs.Prelude.{◌⊎◌, if◌then◌else◌}
 use Rattle.std.specs.List.{All}
 use Rattle.std.proofs.lemmas.Bool.Decides.{nat_tests}
-use Rattle.std.proofs.lemmas.List.Elements.{All-weaker}
+use Rattle.std.proofs.lemmas.List.Elements.{All-nil, All-weaker}
 use Rattle.std.proofs.lemmas.Option.{slice_get_within}
 use Rattle.lemmas.specs.Lists.{Has}
 use Rattle.lemmas.proofs.Lists.{at_place, one_value, has_at}
 use Rattle.ts_packet.specs.Fields.{IsPacket}
+use Rattle.dvr_play.specs.Plays.{joined}
+use Rattle.dvr_play.proofs.Joining.{are_packets}
+use Rattle.dmx_calls.specs.declared.params.Input.{Input}
+use Rattle.dmx_calls.specs.declared.params.Input.TheVariants.{Frontend, Dvr as FromDvr}
 use Rattle.dmx_calls.specs.declared.reply.Errno.TheVariants.{Ebadf}
-use Rattle.dmx_calls.specs.Invocation.{brought}
-use Rattle.dmx_calls.specs.Log.{LogEntry, filled_act, filled_entry, from_stream}
+use Rattle.dmx_calls.specs.Log.{LogEntry, Sources, filled_act, filled_entry}
 use Rattle.dmx_calls.specs.Owning.{HasRead}
 use Rattle.dmx_calls.specs.Response.{Response, Refused}
 use Rattle.client_script.specs.declared.line.Line.{Line}
 use Rattle.client_script.specs.declared.line.Line.TheVariants.{Feed, Tick, Command}
 use Rattle.client_script.specs.declared.line.Target.{Target}
 use Rattle.client_script.specs.declared.line.Verb.{Verb}
-use Rattle.client_script.specs.Script.{clients_in, Scripted}
+use Rattle.client_script.specs.Script.{clients_in, writes_of, Scripted}
 use Rattle.client_core.specs.declared.command.Command.{Command as ClientCommand}
 use Rattle.client_core.specs.Deeds.{deed_of}
-use Rattle.client_core.specs.Commands.{commands_among, ends_drain, plays_of}
+use Rattle.client_core.specs.Commands.{commands_among, ends_drain, played, plays_of}
 use Rattle.client_core.specs.Events.{next_event}
-use Rattle.script_run.specs.Budget.{all_commands, most_calls, bytes_in}
-use Rattle.script_run.specs.IsRun.{IsEvent, StandsIn, replies}
-use Rattle.script_run.specs.SoFar.{Payers, feeder, others, MayPay, IsPaidBehind, HasDoneSoFar, IsSoFar, commands_for, CallsArePaid}
-use Rattle.script_run.proofs.Lists.{has_filter}
-use Rattle.script_run.proofs.Counting.{total, total_le, total_add, total_same, total_33, total_but, total_one, one_at, but, sum_of, Pool, both, all_pools, HaveTokens, counts_fit}
+use Rattle.script_run.specs.Budget.{all_commands, bytes_written, most_calls, bytes_in}
+use Rattle.script_run.specs.IsRun.{IsEvent, StandsIn, replies, sources}
+use Rattle.script_run.specs.SoFar.{Payers, feeder, others, MayPay, IsPaidBehind, HasDoneSoFar, IsSoFar, AreNumbered, commands_for, CallsArePaid}
+use Rattle.script_run.proofs.Lists.{has_filter, place_of}
+use Rattle.script_run.proofs.Counting.{total, total_le, total_add, total_same, total_33, total_but, total_one, one_at, but, sum_of, Pool, both, all_pools, HaveTokens, counts_fit, weigh_places, weight_at, weight_got}
 use Rattle.script_run.proofs.ReadReplies.{read_there, next_is_refused}
-use Rattle.script_run.proofs.HistoryBytes.{OnlyFeederBrings, bytes_fit, feeder_long}
-use Rattle.script_run.proofs.Events.{event_brings_none}
+use Rattle.script_run.proofs.HistoryBytes.{act_packets, packets_of, feeder_brings, bytes_fit, feeder_long}
+use Rattle.script_run.proofs.Played.{brings, brings_to, client_brings, all_few}
 use Rattle.script_run.proofs.Repeating.{adds, quiet, IsGoing, going, quiet_calls, grows, but_one, calls_and_repeats, by_bytes, by_again, both_kinds, bytes_pay, IsWaiting, waiting}
 
 -- ------ the commands of all clients
@@ -72,8 +75,8 @@ firsts script d = 33 * commands_by script script.lines d
 not_refused : (r : Response) → ends_drain r ≡ false → r ≢ Refused Ebadf
 not_refused r goes_on is = (let k : ends_drain (Refused Ebadf) ≡ false = sym (ap ends_drain is) ∙ goes_on in absurd (cc k))
 
-reads_on : (stream : List (List ℕ)) (e : LogEntry) → IsGoing e.act e.response → HasRead e.who (filled_entry (from_stream stream) e)
-reads_on stream e g = record { by = refl; read = (g.now, g.count, ap (filled_act (λ input. stream)) g.read); response = not_refused e.response g.goes_on }
+reads_on : (packets : Sources) (e : LogEntry) → IsGoing e.act e.response → HasRead e.who (filled_entry packets e)
+reads_on packets e g = record { by = refl; read = (g.now, g.count, ap (filled_act (packets e.who)) g.read); response = not_refused e.response g.goes_on }
 
 pays_not_itself : (payers : Payers) (client who : ℕ) → MayPay payers client who → who ≢ client + 1
 pays_not_itself feeder client who is same = absurd (omega (arith, is, same))
@@ -98,15 +101,6 @@ module _ (payers : Payers) (script : Scripted) (most : ℕ) (stream : List (List
         let who : e.who ≡ d + 1 = omega (arith, is) in
         record { client = d; low = low; who = who; made = λ is. (s.clients d is).only e.node e.place h e log at who }
 
-  brings_none : (e : LogEntry) → StandsIn hs e → e.who ≢ 0 → length (brought (filled_act (λ input. stream) e.act)) ≡ 0
-  brings_none e stands not =
-      let m : IsMade e = made_by e stands not in
-      event_brings_none stream (next_event m.client script (replies (take e.step (s.clients m.client m.low).made))) e ((s.clients m.client m.low).steps e.step e (m.made m.low)).3
-
-  only_feeder : (es : List LogEntry) → ((i : ℕ) (e : LogEntry) → slice_get es i ≡ Some e → StandsIn hs e) → OnlyFeederBrings stream es
-  only_feeder [] each = tt
-  only_feeder (e ∷ es) each = (λ not. brings_none e (each 0 e refl) not, only_feeder es (λ i x at. each (suc i) x at))
-
   -- the entry at a place of a node's history stands in the histories
   stands_at : (node : ℕ) (h : List LogEntry) → slice_get hs node ≡ Some h → (i : ℕ) (e : LogEntry) → slice_get h i ≡ Some e → StandsIn hs e
   stands_at node h log i e at =
@@ -128,21 +122,116 @@ module _ (payers : Payers) (script : Scripted) (most : ℕ) (stream : List (List
   abbrev bytes_of : LogEntry → ℕ
   bytes_of e = bytes_in e.response
 
-  module _ (are : All IsPacket stream) where
-    bytes_at : (node : ℕ) → node < 33 → Pool bytes_of (StandsOn node) (188 * length stream)
-    bytes_at node lt =
-        let h = at_place hs node (omega (arith, lt, s.nodes)) in
-        record {
-          tokens = h.0;
-          within = bytes_fit stream are node h.0 s.fed.batches (length stream) (s.legal node h.0 h.1) (only_feeder h.0 (stands_at node h.0 h.1)) (s.fed.on_each node h.0 h.1) s.fed.within;
-          all = λ t is. subst (λ l. Has l t) (one_value hs node is.0 h.0 is.1 h.1) is.2;
-        }
+  -- the packets of all callers
+  abbrev given : Sources
+  given = sources script stream
 
-    all_bytes : Pool bytes_of (λ t. (node : ℕ) × (node < 33) × StandsOn node t) (total (λ node. 188 * length stream) 33)
-    all_bytes = all_pools bytes_of StandsOn (λ node. 188 * length stream) 33 bytes_at
+  are_all : All IsPacket stream → (who : ℕ) (input : Input) → All IsPacket (given who input)
+  are_all are zero Frontend = are
+  are_all are zero FromDvr = All-nil IsPacket
+  are_all are (suc c) Frontend = are
+  are_all are (suc c) FromDvr = are_packets (joined (writes_of c script.writes))
 
   abbrev is_feeder : LogEntry → Bool
   is_feeder e = nat_eq e.who 0
+
+  abbrev on_node : (node : ℕ) → LogEntry → Bool
+  on_node node e = nat_eq e.node node
+
+  -- an entry of the feeder on a node, or of this client
+  abbrev IsBy : (who node : ℕ) → LogEntry → Type 0
+  IsBy who node e = StandsOn node e × (e.who ≡ who)
+
+  -- the calls of a client on a node bring what is counted there
+  brings_own : (node d : ℕ) (log : List LogEntry) → ((i : ℕ) (e : LogEntry) → slice_get log i ≡ Some e → e.who ≡ suc d)
+      → sum_of (packets_of given) (filter (on_node node) log) ≤ sum_of (brings_to node (given (suc d))) log
+  brings_own node d [] own = omega arith
+  brings_own node d (e ∷ log) own = go (brings_own node d log (λ i x at. own (suc i) x at)) (nat_eq e.node node) where
+    go : sum_of (packets_of given) (filter (on_node node) log) ≤ sum_of (brings_to node (given (suc d))) log → (b : Bool)
+        → sum_of (packets_of given) (if b then e ∷ filter (on_node node) log else filter (on_node node) log)
+        ≤ (if b then brings (given (suc d)) e.act else 0) + sum_of (brings_to node (given (suc d))) log
+    go deeper true = omega (arith, deeper, ap (λ who. act_packets given who e.act) (own 0 e refl))
+    go deeper false = omega (arith, deeper)
+
+  module _ (numbered : AreNumbered script) (node : ℕ) (lt : node < 33) where
+    abbrev here : (h : List LogEntry) × (slice_get hs node ≡ Some h)
+    here = at_place hs node (omega (arith, lt, s.nodes))
+
+    own_history : (t : LogEntry) → StandsOn node t → Has here.0 t
+    own_history t is = subst (λ l. Has l t) (one_value hs node is.0 here.0 is.1 here.1) is.2
+
+    feeder_packets : Pool (packets_of given) (IsBy 0 node) (length stream)
+    feeder_packets = record {
+      tokens = filter is_feeder here.0;
+      within = feeder_brings given here.0 s.fed.batches (length stream) (s.fed.on_each node here.0 here.1) s.fed.within;
+      all = λ t is. has_filter is_feeder here.0 t (grind (arith, nat_tests, is.1)) (own_history t is.0);
+    }
+
+    -- where an entry of this history stands
+    placed : (t : LogEntry) → StandsOn node t → StandsIn hs t × (t.node ≡ node)
+    placed t (h, log, has) = (let p = place_of h t has in let q = s.places node p.0 h t log p.1 in
+        ((h, ap (λ n. slice_get hs n) q.0 ∙ log, ap (λ n. slice_get h n) q.1 ∙ p.1), q.0))
+
+    client_packets : (d : ℕ) → d < clients_in script → Pool (packets_of given) (IsBy (suc d) node) (length (played d script))
+    client_packets d low = record {
+      tokens = filter (on_node node) (s.clients d low).made;
+      within = omega (
+        arith,
+        brings_own node d (s.clients d low).made (λ i e at. let who = ((s.clients d low).steps i e at).1 in omega (arith, who)),
+        client_brings script d node (given (suc d)) (numbered d low) (s.clients d low).made (λ i e at. ((s.clients d low).steps i e at).3),
+      );
+      all = λ t is.
+          let p = placed t is.0 in
+          let who : t.who ≡ d + 1 = omega (arith, is.1) in
+          has_filter (on_node node) (s.clients d low).made t (grind (arith, nat_tests, p.1))
+          (has_at (s.clients d low).made t t.step ((s.clients d low).only t.node t.place p.0.0 t p.0.1 p.0.2 who));
+    }
+
+    all_packets : Pool (packets_of given) (λ t. IsBy 0 node t ⊎ ((d : ℕ) × (d < clients_in script) × IsBy (suc d) node t)) (length stream + total (λ d. length (played d script)) (clients_in script))
+    all_packets =
+        both (packets_of given) (IsBy 0 node) (λ t. (d : ℕ) × (d < clients_in script) × IsBy (suc d) node t) (length stream) (total (λ d. length (played d script)) (clients_in script)) feeder_packets
+        (all_pools (packets_of given) (λ d. IsBy (suc d) node) (λ d. length (played d script)) (clients_in script) client_packets)
+
+    -- each entry of a history is the feeder's or a client's
+    whose : (t : LogEntry) (i : ℕ) → slice_get here.0 i ≡ Some t → IsBy 0 node t ⊎ ((d : ℕ) × (d < clients_in script) × IsBy (suc d) node t)
+    whose t i at = go t.who refl where
+      on : StandsOn node t
+      on = (here.0, here.1, has_at here.0 t i at)
+
+      go : (n : ℕ) → t.who ≡ n → IsBy 0 node t ⊎ ((d : ℕ) × (d < clients_in script) × IsBy (suc d) node t)
+      go zero is = inl (on, is)
+      go (suc d) is = inr (d, omega (arith, is, (s.places node i here.0 t here.1 at).2), (on, is))
+
+    -- the node is brought no more packets than the stream has and the clients play
+    brought_here : sum_of (packets_of given) here.0 ≤ length stream + total (λ d. length (played d script)) (clients_in script)
+    brought_here = omega (
+      arith,
+      weigh_places (packets_of given) here.0,
+      counts_fit (packets_of given) (length here.0) (weight_at (packets_of given) here.0) (λ i t. slice_get here.0 i ≡ Some t) all_packets.tokens tokens,
+      all_packets.within,
+    ) where
+      tokens : HaveTokens (packets_of given) (length here.0) (weight_at (packets_of given) here.0) (λ i t. slice_get here.0 i ≡ Some t) all_packets.tokens
+      tokens = record {
+        differ = λ i j t less lt a b. (let p = (s.places node i here.0 t here.1 a).1 in let q = (s.places node j here.0 t here.1 b).1 in omega (arith, p, q, less));
+        has = λ i lt more. (let e = at_place here.0 i lt in (e.0, all_packets.all e.0 (whose e.0 i e.1), omega (arith, weight_got (packets_of given) here.0 i e.0 e.1), e.1));
+      }
+
+  -- the most bytes that a node answers
+  abbrev most_bytes : ℕ
+  most_bytes = 188 * length stream + bytes_written script
+
+  module _ (numbered : AreNumbered script) (are : All IsPacket stream) where
+    bytes_at : (node : ℕ) → node < 33 → Pool bytes_of (StandsOn node) most_bytes
+    bytes_at node lt =
+        let h = here numbered node lt in
+        record {
+          tokens = h.0;
+          within = omega (arith, bytes_fit given (are_all are) node h.0 (s.legal node h.0 h.1), brought_here numbered node lt, all_few script (clients_in script));
+          all = λ t is. own_history numbered node lt t is;
+        }
+
+    all_bytes : Pool bytes_of (λ t. (node : ℕ) × (node < 33) × StandsOn node t) (total (λ node. most_bytes) 33)
+    all_bytes = all_pools bytes_of StandsOn (λ node. most_bytes) 33 bytes_at
 
   few_quiet : (es : List LogEntry) → sum_of quiet es ≤ length es
   few_quiet [] = omega arith
@@ -208,8 +297,8 @@ module _ (payers : Payers) (script : Scripted) (most : ℕ) (stream : List (List
         let one : xs.0 ≡ es.0 = one_value hs e.node xs.0 es.0 there es.1 in
         let next : x.place ≡ suc e.place = omega (arith, place) in
         absurd (
-        next_is_refused e.node stream es.0 (s.legal e.node es.0 es.1) e.place e x es.2 (subst (λ l. slice_get l (suc e.place) ≡ Some x) one (ap (λ k. slice_get xs.0 k) (sym next) ∙ xs.2)) differ
-        (reads_on stream e on) (reads_on stream x (going x.act x.response (omega (arith, more))))
+        next_is_refused e.node given es.0 (s.legal e.node es.0 es.1) e.place e x es.2 (subst (λ l. slice_get l (suc e.place) ≡ Some x) one (ap (λ k. slice_get xs.0 k) (sym next) ∙ xs.2)) differ
+        (reads_on given e on) (reads_on given x (going x.act x.response (omega (arith, more))))
         )
 
     abbrev my_bytes : ℕ → ℕ
@@ -220,21 +309,21 @@ module _ (payers : Payers) (script : Scripted) (most : ℕ) (stream : List (List
 
     -- ------ bytes
 
-    bytes_count : All IsPacket stream → (k : ℕ) → k ≤ length me.made → total my_bytes k ≤ 33 * (188 * length stream)
-    bytes_count are k le = omega (arith, counts_fit bytes_of k my_bytes (λ i t. slice_get me.made i ≡ Some t) (all_bytes are).tokens tokens, (all_bytes are).within, total_same (188 * length stream) 33) where
+    bytes_count : AreNumbered script → All IsPacket stream → (k : ℕ) → k ≤ length me.made → total my_bytes k ≤ 33 * most_bytes
+    bytes_count numbered are k le = omega (arith, counts_fit bytes_of k my_bytes (λ i t. slice_get me.made i ≡ Some t) (all_bytes numbered are).tokens tokens, (all_bytes numbered are).within, total_same most_bytes 33) where
       twice : (i j : ℕ) (t : LogEntry) → i < j → slice_get me.made i ≡ Some t → slice_get me.made j ≡ Some t → ⊥
       twice i j t less a b = let up = me.in_order i j t t less a b refl in omega (arith, up)
 
-      there : (i : ℕ) (e : LogEntry) → slice_get me.made i ≡ Some e → 0 < my_bytes i → (t : LogEntry) × Has (all_bytes are).tokens t × (my_bytes i ≤ bytes_of t) × (slice_get me.made i ≡ Some t)
+      there : (i : ℕ) (e : LogEntry) → slice_get me.made i ≡ Some e → 0 < my_bytes i → (t : LogEntry) × Has (all_bytes numbered are).tokens t × (my_bytes i ≤ bytes_of t) × (slice_get me.made i ≡ Some t)
       there i e at more =
           let stands = (me.steps i e at).2 in (
             e,
-            (all_bytes are).all e (stands_on e stands),
-            bytes_pay script c me.made (events c is) i e at (λ now count read. read_there e.node stream stands.0 (s.legal e.node stands.0 stands.1) e.place e now count stands.2 read) more,
+            (all_bytes numbered are).all e (stands_on e stands),
+            bytes_pay script c me.made (events c is) i e at (λ now count read. read_there e.node given stands.0 (s.legal e.node stands.0 stands.1) e.place e now count stands.2 read) more,
             at,
           )
 
-      tokens : HaveTokens bytes_of k my_bytes (λ i t. slice_get me.made i ≡ Some t) (all_bytes are).tokens
+      tokens : HaveTokens bytes_of k my_bytes (λ i t. slice_get me.made i ≡ Some t) (all_bytes numbered are).tokens
       tokens = record {
         differ = λ i j t less lt a b. twice i j t less a b;
         has = λ i lt more. (let e = at_place me.made i (omega (arith, lt, le)) in there i e.0 e.1 more);
@@ -271,13 +360,13 @@ module _ (payers : Payers) (script : Scripted) (most : ℕ) (stream : List (List
 
       -- ------ the bound
 
-      within_to : firsts script c + bound ≤ 33 * commands_for payers c script + 33 * (length stream + 1) → All IsPacket stream → (n : ℕ) → length me.made ≡ n
-          → length me.made ≤ firsts script c + total (grows script c me.made (events c is)) (but_one script c me.made (events c is) n) → length me.made ≤ most_calls (commands_for payers c script) (188 * length stream)
-      within_to enough are zero long few = omega (arith, long)
-      within_to enough are (suc k) long few = omega (arith, few, both_kinds script c me.made (events c is) k, bytes_count are k (omega (arith, long)), again_count k (omega (arith, long)), enough)
+      within_to : firsts script c + bound ≤ 33 * commands_for payers c script + 33 * (length stream + 1) → AreNumbered script → All IsPacket stream → (n : ℕ) → length me.made ≡ n
+          → length me.made ≤ firsts script c + total (grows script c me.made (events c is)) (but_one script c me.made (events c is) n) → length me.made ≤ most_calls (commands_for payers c script) most_bytes
+      within_to enough numbered are zero long few = omega (arith, long)
+      within_to enough numbered are (suc k) long few = omega (arith, few, both_kinds script c me.made (events c is) k, bytes_count numbered are k (omega (arith, long)), again_count k (omega (arith, long)), enough)
 
-      pub within : firsts script c + bound ≤ 33 * commands_for payers c script + 33 * (length stream + 1) → All IsPacket stream → length me.made ≤ most_calls (commands_for payers c script) (188 * length stream)
-      within enough are = within_to enough are (length me.made) refl (calls_and_repeats script c me.made (events c is))
+      pub within : firsts script c + bound ≤ 33 * commands_for payers c script + 33 * (length stream + 1) → AreNumbered script → All IsPacket stream → length me.made ≤ most_calls (commands_for payers c script) most_bytes
+      within enough numbered are = within_to enough numbered are (length me.made) refl (calls_and_repeats script c me.made (events c is))
 
     feeders : (x : LogEntry) → StandsIn hs x → x.who ≡ 0 → FeederPays x
     feeders x stands zero_is = let on = stands_on x stands in (on.0, on.1, (on.2, zero_is))
@@ -289,10 +378,10 @@ module _ (payers : Payers) (script : Scripted) (most : ℕ) (stream : List (List
         inr (m.client, m.low, ((λ same. may (m.who ∙ ap (λ n. n + 1) same)), (λ low. has_at (s.clients m.client low).made x x.step (m.made low))))
 
 pub calls_are_paid : CallsArePaid
-calls_are_paid feeder script most stream hs s are c is =
+calls_are_paid feeder script most stream hs s numbered are c is =
     within feeder script most stream hs s c is (FeederPays feeder script most stream hs s) (total (λ node. length stream + 1) 33) (feeder_pool feeder script most stream hs s)
-    (feeders feeder script most stream hs s c is) (omega (arith, total_same (length stream + 1) 33)) are
-calls_are_paid others script most stream hs s are c is =
+    (feeders feeder script most stream hs s c is) (omega (arith, total_same (length stream + 1) 33)) numbered are
+calls_are_paid others script most stream hs s numbered are c is =
     within others script most stream hs s c is (λ x. FeederPays others script most stream hs s x ⊎ OtherPays others script most stream hs s c is x)
     (total (λ node. length stream + 1) 33 + total (but c (firsts script)) (clients_in script))
     (both quiet (FeederPays others script most stream hs s) (OtherPays others script most stream hs s c is) (total (λ node. length stream + 1) 33) (total (but c (firsts script)) (clients_in script))
@@ -304,4 +393,4 @@ calls_are_paid others script most stream hs s are c is =
       total_but c (firsts script) (clients_in script) is,
       total_33 (commands_by script script.lines) (clients_in script),
       commands_shared script script.lines (clients_in script),
-    )) are
+    )) numbered are

@@ -8,7 +8,8 @@ use Rattle.dmx_calls.specs.Accounted.{IsAccounted}
 use Rattle.dmx_calls.specs.Legal.{IsLegalFor}
 use Rattle.dmx_calls.specs.Log.{LogEntry, filled}
 use Rattle.dmx_calls.specs.Rules.{rules_at}
-use Rattle.client_script.specs.Script.{clients_in, Scripted}
+use Rattle.std.specs.List.{range_with_len}
+use Rattle.client_script.specs.Script.{clients_in, named_among, writes_of, Scripted}
 use Rattle.client_core.specs.Commands.{commands_of, plays_of}
 use Rattle.client_core.specs.Events.{next_event, waits_on}
 use Rattle.script_run.specs.Budget.{all_commands, bytes_written, most_calls}
@@ -99,12 +100,17 @@ abbrev pub commands_for : Payers → (client : ℕ) → Scripted → ℕ
 commands_for feeder client script = length (commands_of client script)
 commands_for others client script = all_commands script.lines
 
+-- the lines of each client name its writes in their order, each once
+abbrev pub AreNumbered : Scripted → Type 0
+AreNumbered script =
+    (c : ℕ) → c < clients_in script → named_among c script.lines ≡ range_with_len 0 (length (writes_of c script.writes))
+
 -- At each moment of a run a client has made no more calls than these commands, the bytes of the packets and those of all writes
 -- allow.
 abbrev pub CallsArePaid : Type 0
 CallsArePaid =
     (payers : Payers) (script : Scripted) (most : ℕ) (stream : List (List ℕ)) (hs : List (List LogEntry))
-    (s : IsSoFar payers script most stream hs) → All IsPacket stream
+    (s : IsSoFar payers script most stream hs) → AreNumbered script → All IsPacket stream
     → (c : ℕ) (is : c < clients_in script)
     → length (s.clients c is).made ≤ most_calls (commands_for payers c script) (188 * length stream + bytes_written script)
 

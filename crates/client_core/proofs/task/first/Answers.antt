@@ -16,11 +16,11 @@ not_open slot slots _ step more other = refl
 
 pub returns-in-Some-clause-done : goal.returns-in-Some-clause-done
 returns-in-Some-clause-done c step more =
-    ap (λ t. done c.args.slots.now t c.args.verb step more) c.in-Slot.is
-    ∙ not_open c.in-Slot.slot c.args.slots.now c.args.verb step more
+    ap (λ t. done c.args.slots.now t c.args.deed step more) c.in-Slot.is
+    ∙ not_open c.in-Slot.slot c.args.slots.now c.args.deed step more
     (λ e. elim c.in_default.branch [
       | in_default-via-in-Once+in_default w ↦ search rules
       | in_default-via-in_default w ↦ search rules
     ])
-    ∙ ap (λ o. done_at o c.args.verb step more) c.in-Some.is
+    ∙ ap (λ o. done_at o c.args.deed step more) c.in-Some.is
     ∙ c.first_on-in-Some.ensures.done step more
