@@ -77,7 +77,7 @@ module _ (script : Scripted) (among : ℕ → Bool) (most : ℕ) (may : ℕ → 
       let hs = are_woven m histories in
       let is : c < clients_in script = omega (arith, slice_get_within books c log book, r.logs) in
       let here = log_at script packets most may over fs m of_script histories low hs.0 hs.1 c is in
-      let bound = calls_are_paid Others script most packets hs.0 (so_far script packets most may over fs m of_script histories low hs.0 hs.1) r.are_packets c is in
+      let bound = calls_are_paid Others script most packets hs.0 (so_far script packets most may over fs m of_script histories low hs.0 hs.1) r.numbered r.are_packets c is in
       subst (λ l. length l ≤ most_calls (all_commands script.lines) (188 * length packets + bytes_written script)) (one_value books c here.0 log here.1 book) bound
 
 pub calls_within : CallsAreWithinBudget

@@ -8,6 +8,7 @@ use Rattle.dmx_calls.specs.Log.{LogEntry}
 use Rattle.client_script.specs.Script.{clients_in, Scripted}
 use Rattle.client_core.specs.declared.stop.TheConstants.{MOST_CALLS}
 use Rattle.script_run.specs.Budget.{IsTooLong, all_commands, bytes_written, most_calls}
+use Rattle.script_run.specs.SoFar.{AreNumbered}
 use Rattle.adapter.specs.Callers.{Caller}
 use Rattle.adapter.specs.Ends.{HaveHistories}
 use Rattle.adapter.specs.Nodes.{ended}
@@ -17,9 +18,10 @@ use Rattle.workers.specs.Feeding.{HasFed}
 
 -- A moment of a run by threads, or its end: the feeder has passed these packets through the nodes that are among these, with all
 -- that the script can name, and the end of the stream or not yet; each client has made the calls of its log; and each node has a
--- legal history of just the calls of all of them.
+-- legal history of just the calls of all of them. The script's lines name the writes of each client in their order.
 pub record IsRunning (script : Scripted) (among : ℕ → Bool) (most : ℕ) (may : ℕ → Bool) (packets : List (List ℕ)) (behind : List Entry)
     (feeder : Caller) (feeding : List Fed) (others : List Caller) (books : List (List LogEntry)) : Type 0 where
+  pub numbered : AreNumbered script
   pub are_packets : All IsPacket packets
   pub end : (behind ≡ []) ⊎ (behind ≡ ended ∷ [])
   pub fed : HasFed among most may packets behind feeder feeding

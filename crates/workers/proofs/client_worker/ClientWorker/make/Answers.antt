@@ -12,10 +12,10 @@ use Rattle.client_core.specs.Commands.{call_of as call_at, plays_of}
 use Rattle.client_core.specs.Inside.Core.{IsAfter}
 use Rattle.script_run.specs.IsRun.{IsEvent, replies, sources}
 use Rattle.script_run.specs.WholeRun.{IsGiven}
+use Rattle.script_run.proofs.Events.{is_from}
 use Rattle.adapter.specs.Nodes.{IsLegalAt}
 use Rattle.workers.specs.Inside.Working.{log_of}
 use Rattle.workers.proofs.Logging.{called_more, past}
-use Rattle.workers.proofs.Playing.{call_is_from}
 use Rattle.workers.proofs.Working.{event_now, logs_one}
 use Rattle.workers.proofs.client_worker.ClientWorker.make.Goals as goal
 
@@ -45,7 +45,7 @@ returns-clause-works g c may script client given turn works =
           c.requires.fit.who
           record { who = c.requires.fit.who; act = told_act_is; response = response }
           (subst (λ (o : Option Event). IsEvent (plays_of client script) o (told_entry entry)) (sym is_next) (refl, (c.args.now, act_is ∙ ap act_of played)))
-          (λ stream. subst (IsFrom (sources script stream (suc client))) (sym (c.in_ok-call.ensures.call ∙ played)) (call_is_from script stream client event.want c.args.now))
+          (λ stream. subst (IsFrom (sources script stream (suc client))) (sym (c.in_ok-call.ensures.call ∙ played)) (is_from script stream client event.want c.args.now))
           (λ none. c.in_ok-reply.ensures.some (sym kept ∙ none))
           (subst (IsGiven may) (sym act_is) given)
           (λ waits last i at long. past k d (IsLegalAt node) node place (told k.who call answer) e.entry e.same.0 (last.place + 1)
