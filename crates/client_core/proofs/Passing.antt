@@ -99,11 +99,15 @@ from_here write k node false false before next false here = refl
 passed_uses : (node write k step : ℕ) (rs : List Response) → node < 32 → k < 32 → IsThrough (passed write k step rs) → Uses node (passed write k step) rs (if nat_lt node k then [] else write ∷ [])
 passed_uses node write k step [] low at is = absurd is
 passed_uses node write k step (r ∷ rs) low at is =
-    inr (_, refl, (
-      (if nat_lt node (k + 1) then [] else write ∷ []),
-      from_here write k node (nat_lt node k) (nat_lt node (k + 1)) refl refl (nat_eq k node) refl,
-      next (nat_lt (k + 1) DEMUX_NODES) refl (λ more there. passed_uses node write (k + 1) (step + 1) rs low more there) is,
-    )) where
+    inr (
+      _,
+      refl,
+      (
+        (if nat_lt node (k + 1) then [] else write ∷ []),
+        from_here write k node (nat_lt node k) (nat_lt node (k + 1)) refl refl (nat_eq k node) refl,
+        next (nat_lt (k + 1) DEMUX_NODES) refl (λ more there. passed_uses node write (k + 1) (step + 1) rs low more there) is,
+      ),
+    ) where
       last : (b : Bool) → nat_lt node (k + 1) ≡ b → nat_lt (k + 1) DEMUX_NODES ≡ false → [] ≡ (if b then [] else write ∷ [])
       last true yea end = refl
       last false nay end = absurd (grind (arith, nat_tests, nay, end, low, at))

@@ -19,10 +19,7 @@ pub enum Deed {
     // A question for this system time counter.
     GetStc(u32),
     // A poll of the dvr node, and where it is the client's own, and there is a batch, a pass of it on each demux node.
-    Write {
-        write: u32,
-        has_batch: bool,
-    },
+    Write { write: u32, has_batch: bool },
 }
 
 /// What a command of a client that plays this does.

@@ -1,7 +1,7 @@
 // Laws of the definitions.
 ghost use Rattle.script_run.specs.SoFar.{CallsArePaid, RunsAreAccounted, RunsEnd};
 
-/// At each moment of a run a client has made no more calls than the commands and the bytes of the packets pay for: its own
+/// At each moment of a run a client has made no more calls than the commands, the bytes of the packets and those of writes pay for: its own
 /// commands where the feeder's entries alone pay for the reads that it repeats, those of all clients where others' entries may.
 pub fn calls_are_paid()
     ensures { CallsArePaid }
