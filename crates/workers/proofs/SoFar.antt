@@ -20,7 +20,7 @@ use Rattle.dmx_calls.specs.Log.{LogEntry, Sources, filled}
 use Rattle.dmx_calls.specs.Histories.{feeder_acts, feeder_entry, pass_act}
 use Rattle.dmx_calls.proofs.Weaving.{in_place-at}
 use Rattle.client_script.specs.Script.{clients_in, Scripted}
-use Rattle.client_core.specs.Events.{next_event, waits_on}
+use Rattle.client_core.specs.Events.{waits_on}
 use Rattle.script_run.specs.IsRun.{Step, feeding, replies, sources, steps_of}
 use Rattle.script_run.specs.WholeRun.{IsGiven}
 use Rattle.script_run.specs.SoFar.{others as Others, IsPaidBehind, IsFedSoFar, HasDoneSoFar, IsSoFar}
