@@ -1,5 +1,5 @@
 -- A client that has worked to its end.
-use Rattle.std.proofs.Common.{◌≡◌, ◌≢◌, ℕ, Bool, List, Result, Ok, Err, OnOk, IsErrOf, Option, Some, None, refl}
+use Rattle.std.proofs.Common.{◌≡◌, ℕ, Bool, List, Result, Ok, Err, OnOk, IsErrOf, Option, Some, None, refl}
 use Rattle.std.specs.Result.{result_err}
 use Rattle.atomic_table.specs.Seated.{TableId}
 use Rattle.client_core.specs.declared.stop.TheConstants.{MOST_CALLS}
@@ -8,14 +8,14 @@ use Rattle.client_core.specs.declared.stop.Stop.TheVariants.{NoMemory, TooLong}
 use Rattle.client_core.specs.Inside.Core.{next_of}
 use Rattle.adapter.specs.Callers.{IsSameCaller}
 use Rattle.workers.specs.declared.client_worker.ClientWorker.{ClientWorker}
-use Rattle.workers.specs.Inside.Working.{IsFit, IsWorking, GoesOn, HasCome}
+use Rattle.workers.specs.Inside.Working.{IsFit, GoesOn, HasCome}
 
 -- why a worker stopped changes nothing of its calls
 pub fit_stopped : (locks : List TableId) (w : ClientWorker) (stop : Option Stop) → IsFit locks w → IsFit locks (record w { stop = stop })
 fit_stopped locks w stop f = record { fits = f.fits; who = f.who; left = f.left; steps = f.steps; nodes = f.nodes }
 
 pub goes_stopped : (may : ℕ → Bool) (old w : ClientWorker) (stop : Option Stop) → GoesOn may old w → GoesOn may old (record w { stop = stop })
-goes_stopped may old w stop goes lines client is = let k = goes lines client is in record { called = k.called; after = k.after }
+goes_stopped may old w stop goes script client is = let k = goes script client is in record { called = k.called; after = k.after }
 
 -- it has come to its end as its calls ended
 pub has_come : (may : ℕ → Bool) (locks : List TableId) (old w : ClientWorker) (r : Result Unit Stop) → IsSameCaller old.client w.client

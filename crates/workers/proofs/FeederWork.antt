@@ -1,6 +1,6 @@
 -- The turns of the feeder.
 use Rattle.std.proofs.Common.{◌≡◌, ◌≢◌, inl, inr, ⊎_elim, refl, sym, ap, subst, ◌∙◌, ℕ, Bool, ◌+◌, ◌<◌, ◌≤◌, List, [], ◌∷◌, ◌++◌, length, length-append, append-nil, arith, Vec, Global, Result, Ok, Err, OnOk}
-use Rattle.std.specs.Prelude.{IsTrue, IsOk, All, slice_get, slice_index, Option, Some, None, true, false, if◌then◌else◌}
+use Rattle.std.specs.Prelude.{IsTrue, IsOk, All, slice_get, slice_index, Option, Some, None, true, if◌then◌else◌}
 use Rattle.std.proofs.lemmas.Option.{slice_get_within}
 use Rattle.std.proofs.lemmas.List.Elements.{All-push}
 use Rattle.std.proofs.lemmas.Bool.{cases_lt}

@@ -9,6 +9,7 @@ use client_script::Want;
 use emu_io::Clock;
 
 /// The moment at which a call is made. The clock is read where the call carries one, anew each time.
+#[tactic(auto, using(crate::proofs::Playing::pass_is_given))]
 pub fn moment_of<C: Clock>(clock: &C, request: &Request) -> u64
     ensures { (batches : Batches) → IsGiven (C.may_give clock.now) (act_of (call_of batches request.now result)) }
 {
