@@ -1,12 +1,11 @@
 -- Each entry of a run is one of its callers, and can be made again.
-use Rattle.std.proofs.Common.{◌≡◌, ◌<◌, ◌≤◌, ◌+◌, ◌-◌, refl, sym, ap, subst, ◌∙◌, ℕ, zero, suc, List, [], ◌∷◌, Bool, true, false, nat_eq, nat_lt, length, map, sum, take, arith}
+use Rattle.std.proofs.Common.{◌≡◌, ◌<◌, ◌≤◌, ◌+◌, refl, sym, subst, ℕ, zero, suc, List, [], ◌∷◌, Bool, true, false, nat_eq, nat_lt, length, map, sum, take, arith}
 use Rattle.std.proofs.lemmas.Bool.Decides.{nat_tests}
 use Rattle.std.proofs.lemmas.List.Elements.{All-head, All-tail, All-nil, All-cons}
 use Rattle.std.proofs.lemmas.List.Sums.{sum_by-cons}
-use Rattle.std.specs.Prelude.{Option, Some, None, slice_get, nat_le, ◌&&◌}
+use Rattle.std.specs.Prelude.{Option, Some, None, slice_get, nat_le}
 use Rattle.std.specs.List.{All}
 use Rattle.dmx_calls.specs.declared.limits.TheConstants.{LARGEST_READ}
-use Rattle.dmx_calls.specs.declared.log.Act.{Act}
 use Rattle.dmx_calls.specs.Log.{LogEntry, act_of}
 use Rattle.client_script.specs.declared.line.Want.{Want}
 use Rattle.client_script.specs.declared.line.Want.TheVariants.{Read}
@@ -17,9 +16,8 @@ use Rattle.client_core.specs.declared.event.Request.{Request}
 use Rattle.client_core.specs.declared.event.Request.TheVariants.{Own, Attach, Detach}
 use Rattle.client_core.specs.Commands.{call_of, own_call, IsRequestInRange}
 use Rattle.client_core.specs.Events.{next_event}
-use Rattle.script_run.specs.IsRun.{Batch, Step, feeding, steps_of, IsRun, HasDone, replies, IsEvent}
-use Rattle.report_check.specs.Inside.Parts.{is_callable, is_sound, are_sound}
-use Rattle.report_check.proofs.Lists.{all_at}
+use Rattle.script_run.specs.IsRun.{Batch, Step, feeding, steps_of, IsRun, replies, IsEvent}
+use Rattle.report_check.specs.Inside.Parts.{is_callable, are_sound}
 use Rattle.report_check.proofs.Feeding.{Fits, size_of}
 use Rattle.report_check.proofs.Ranges.{asks_in_range}
 

@@ -1,10 +1,9 @@
 -- The feeder's entries, on whatever node.
-use Rattle.std.proofs.Common.{◌≡◌, ◌<◌, ◌≤◌, ◌+◌, refl, sym, ap, subst, ◌∙◌, ℕ, List, [], ◌∷◌, length, map, sum, arith}
-use Rattle.std.specs.Prelude.{Some, slice_get}
+use Rattle.std.proofs.Common.{◌≡◌, ◌+◌, sym, subst, ℕ, List, [], ◌∷◌, length, map, sum, arith}
 use Rattle.dmx_calls.specs.Legal.{IsLegalFor}
 use Rattle.dmx_calls.specs.Log.{LogEntry, filled, from_stream}
 use Rattle.dmx_calls.specs.Rules.{rules_at}
-use Rattle.script_run.specs.IsRun.{Step, feeding, steps_of}
+use Rattle.script_run.specs.IsRun.{steps_of}
 use Rattle.report_runs.specs.Completed.{of_feeder, tiled}
 use Rattle.report_runs.proofs.Completing.{ArePassed}
 use Rattle.report_runs.proofs.Idle.{AllFeed, feeding_feeds, passed_from, passed_at}

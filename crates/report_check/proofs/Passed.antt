@@ -1,30 +1,28 @@
 -- What a report of a run tells passes each test.
-use Rattle.std.proofs.Common.{◌≡◌, ◌<◌, ◌≤◌, ◌+◌, refl, sym, ap, subst, ◌∙◌, ℕ, zero, suc, List, [], ◌∷◌, true, length, map, sum, arith}
-use Rattle.std.specs.Prelude.{Option, Some, slice_get, ◌≢◌}
+use Rattle.std.proofs.Common.{◌≡◌, ◌<◌, ◌+◌, refl, sym, subst, ◌∙◌, ℕ, zero, suc, List, [], ◌∷◌, true, length, arith}
+use Rattle.std.specs.Prelude.{Some, slice_get, ◌≢◌}
 use Rattle.std.proofs.lemmas.Option.{slice_get_within}
 use Rattle.std.specs.List.{All}
 use Rattle.dmx_calls.specs.declared.limits.TheConstants.{DEMUX_NODES}
 use Rattle.dmx_calls.specs.declared.outcome.Outcome.{Outcome}
-use Rattle.dmx_calls.specs.Legal.{IsLegalFor}
-use Rattle.dmx_calls.specs.Log.{LogEntry, filled}
+use Rattle.dmx_calls.specs.Log.{LogEntry}
 use Rattle.dmx_calls.specs.Response.{NoMemory}
-use Rattle.dmx_calls.specs.Rules.{rules_at}
 use Rattle.client_script.specs.Grammar.{IsInRange}
 use Rattle.client_script.specs.Script.{clients_in, Scripted}
 use Rattle.client_core.specs.Outcomes.{outcomes}
-use Rattle.script_run.specs.IsRun.{Step, feeding, steps_of, IsRun, replies}
+use Rattle.script_run.specs.IsRun.{Step, feeding, steps_of, replies}
 use Rattle.report_text.specs.Told.{ToldNode, Told}
 use Rattle.report_read.specs.Ranges.{IsNodeInRange}
 use Rattle.report_read.specs.Report.{are_nodes}
-use Rattle.report_runs.specs.Completed.{feeder_of, complete, completed}
+use Rattle.report_runs.specs.Completed.{feeder_of, completed}
 use Rattle.report_runs.specs.Right.{IsRunOf}
-use Rattle.report_runs.proofs.Right.{AreBelow, all_below, zero_fed}
+use Rattle.report_runs.proofs.Right.{all_below, zero_fed}
 use Rattle.walk_check.specs.Walk.{IsRest, queues_in}
 use Rattle.walk_check.proofs.Doing.{done_is_walked}
 use Rattle.report_check.specs.Inside.Feeding.{feeds}
 use Rattle.report_check.specs.Inside.Parts.{IsSoundNode, AreSoundNodes, IsPlayed, dealt, IsDoneAs, AreDoneAs, HasPassed}
-use Rattle.report_check.proofs.Lists.{all_at, at_all}
-use Rattle.report_check.proofs.Feeding.{size_of, is_feeds}
+use Rattle.report_check.proofs.Lists.{at_all}
+use Rattle.report_check.proofs.Feeding.{is_feeds}
 use Rattle.report_check.proofs.Nodes.{told_at, same_queues}
 use Rattle.report_check.proofs.Callable.{sound}
 

@@ -1,5 +1,5 @@
 -- A told node is played on the machine of its kind.
-use Rattle.std.proofs.Common.{◌≡◌, ◌<◌, sym, subst, ℕ, reverse}
+use Rattle.std.proofs.Common.{◌<◌, sym, subst, ℕ, reverse}
 use Rattle.dmx_calls.specs.declared.limits.TheConstants.{DEMUX_NODES}
 use Rattle.dmx_calls.specs.Legal.{IsLegalFor}
 use Rattle.dmx_calls.specs.Rules.{Rules, rules_at}

@@ -34,7 +34,7 @@ use Rattle.serial_core.proofs.Throughout.{none_stands}
 use Rattle.serial_core.proofs.Coming.{HasCome, few_in_all, ended_over, moment_come, run_come}
 
 module _ (script : Scripted) (batch : ℕ) (packets : List (List ℕ)) (few : clients_in script ≤ 8) (ranges : All IsInRange script.lines) (r : Run) (p : HasCome script batch packets (clients_in script) few ranges r) where
-  placed : (node place : ℕ) (h : List LogEntry) (e : LogEntry) → slice_get (histories_in r) node ≡ Some h → slice_get h place ≡ Some e → IsPlaced packets (clients_in script) node place e
+  placed : (node place : ℕ) (h : List LogEntry) (e : LogEntry) → slice_get (histories_in r) node ≡ Some h → slice_get h place ≡ Some e → IsPlaced (sources script packets) (clients_in script) node place e
   placed node place h e log is =
       let w = histories_is r node h p.nodes log in
       sound_placed (sources script packets) (clients_in script) r.has_ended node (node_at node r) (p.sound node w.0) place e (subst (λ l. slice_get l place ≡ Some e) (sym w.1) is)

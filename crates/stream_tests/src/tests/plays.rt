@@ -1,5 +1,5 @@
 // Writes of a client to the dvr device, and their batches.
-ghost use Rattle.std.specs.Prelude.{◌≡◌, ◌×◌, ◌+◌, ◌<◌, ◌≤◌, length};
+ghost use Rattle.std.specs.Prelude.{◌≡◌, ◌+◌, ◌<◌, ◌≤◌, length};
 
 use super::{NoMemory, Part, bytes_of};
 use dvr_play::{MOST_BYTES, Plays};

@@ -1,7 +1,6 @@
-use Rattle.std.proofs.Common.{◌≡◌, ◌∙◌, List, map, sym, subst, true}
+use Rattle.std.proofs.Common.{◌∙◌, List, sym, subst}
 use Rattle.std.proofs.lemmas.Bool.{false≢true}
 use Rattle.std.specs.List.{All}
-use Rattle.dmx_calls.specs.Calls.{told_entry}
 use Rattle.report_text.specs.Told.{ToldNode}
 use Rattle.report_check.specs.Inside.Parts.{told_node, told_nodes, IsSoundNode, AreSoundNodes}
 use Rattle.report_check.proofs.Lists.{behind, parted, none_left}

@@ -1,4 +1,4 @@
-use Rattle.std.proofs.Common.{◌≡◌, ◌<◌, ◌^◌, List, ℕ, length, sym, subst}
+use Rattle.std.proofs.Common.{◌<◌, ◌^◌, List, ℕ, length, subst}
 use Rattle.ts_watch.specs.Head.{told_head}
 use Rattle.std.specs.List.{All}
 use Rattle.client_script.specs.Grammar.{IsInRange}

@@ -2,11 +2,10 @@ use Rattle.std.proofs.Common.{◌≡◌, ◌<◌, ◌^◌, List, map, length, sy
 use Rattle.std.proofs.lemmas.List.{length-map}
 use Rattle.std.specs.Prelude.{IfOk, MatchOption, Vec}
 use Rattle.std.specs.declared.alloc.Global.{Global}
-use Rattle.dmx_calls.specs.declared.log.Entry.{Entry as ToldEntry}
 use Rattle.dmx_calls.specs.declared.outcome.Outcome.{Outcome}
 use Rattle.std.specs.List.{All}
 use Rattle.client_script.specs.Script.{clients_in}
-use Rattle.report_text.specs.Told.{ToldNode, Told}
+use Rattle.report_text.specs.Told.{ToldNode}
 use Rattle.report_read.specs.Report.{told_of}
 use Rattle.report_check.specs.Inside.Parts.{told_nodes, AreSoundNodes, IsPlayed, dealt, AreDoneAs, HasPassed}
 use Rattle.walk_check.specs.Inside.Steps.{left_on}
