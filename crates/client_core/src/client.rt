@@ -58,7 +58,6 @@ impl Model for ClientCore {
 
 // The writes of a client.
 fn plays_of(alloc: Global, script: &Script, client: u32) -> Result<Plays, NoMemory>
-    requires { client ≤ 7 }
     ensures played { IfOk result (λ plays. HasPlayed (writes_of client script.now.writes) plays) }
 {
     let mut plays = Plays::new(alloc);
@@ -145,9 +144,8 @@ fn waits_after(task: &Task, reply: &LogReply) -> Option<u32>
 }
 
 impl ClientCore {
-    /// A client of the script, one of its eight, before its first call. All memory is taken here.
+    /// A client of the script before its first call. All memory is taken here.
     pub fn new(alloc: Global, script: &Script, client: u32) -> Result<ClientCore, NoMemory>
-        requires { client ≤ 7 }
         ensures after { IfOk result (λ core. IsAfter client script.now [] core) }
         // Where no command asks for a counter, no clock is kept.
         ensures kept { IfOk result (λ core. All (CanBegin 0) (commands_of client script.now) → core.clocks ≡ []) }

@@ -243,6 +243,7 @@ impl Script {
     pub fn clients(&self) -> u32
         ensures count { result ≡ clients_in self.now }
         ensures bound { result ≤ 8 }
+        ensures known { IsScript self.now }
     {
         let mut most = 0;
         'lines: for line in &self.lines {

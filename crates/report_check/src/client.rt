@@ -56,7 +56,7 @@ fn odd_of(
     nodes: &[(u32, Vec<Entry>)],
     told: &[Outcome],
 ) -> Result<Option<Odd>, NoMemory>
-    requires client { client ≤ 7 }
+    requires client { client < 4294967295 }
     requires few { left_on (dealt_to (told_nodes nodes.now)) < 2 ^ 46 }
     ensures { IfOk result (λ odd. MatchOption odd
         (IsDoneAs script.now (dealt_to (told_nodes nodes.now)) client told.now)
@@ -81,7 +81,7 @@ pub fn odd_client(
     nodes: &[(u32, Vec<Entry>)],
     outcomes: &[Vec<Outcome>],
 ) -> Result<Option<Odd>, NoMemory>
-    requires clients { length outcomes.now ≤ 8 }
+    requires clients { length outcomes.now < 4294967295 }
     requires few { left_on (dealt_to (told_nodes nodes.now)) < 2 ^ 46 }
     ensures { IfOk result (λ odd. MatchOption odd
         (AreDoneAs script.now (dealt_to (told_nodes nodes.now)) 0 (map (λ o. o.items) outcomes.now))

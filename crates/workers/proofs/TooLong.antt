@@ -11,9 +11,8 @@ use Rattle.dmx_calls.specs.Calls.{told_entry}
 use Rattle.dmx_calls.specs.Log.{LogEntry}
 use Rattle.dmx_calls.specs.declared.limits.TheConstants.{DEMUX_NODES}
 use Rattle.dmx_calls.specs.declared.log.Entry.{Entry as ToldEntry}
-use Rattle.client_script.specs.Script.{clients_in, Scripted}
+use Rattle.client_script.specs.Script.{AreNumbered, clients_in, Scripted}
 use Rattle.script_run.specs.Budget.{IsTooLong}
-use Rattle.script_run.specs.SoFar.{AreNumbered}
 use Rattle.client_core.specs.declared.stop.TheConstants.{MOST_CALLS}
 use Rattle.client_core.specs.declared.stop.Stop.TheVariants.{NoMemory}
 use Rattle.feed_pull.specs.Pulling.{Pulling, Pulls}

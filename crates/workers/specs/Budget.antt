@@ -5,10 +5,9 @@ use Rattle.dmx_calls.specs.declared.histories.Fed.{Fed}
 use Rattle.dmx_calls.specs.declared.limits.TheConstants.{DEMUX_NODES}
 use Rattle.dmx_calls.specs.History.{Entry}
 use Rattle.dmx_calls.specs.Log.{LogEntry}
-use Rattle.client_script.specs.Script.{clients_in, Scripted}
+use Rattle.client_script.specs.Script.{AreNumbered, clients_in, Scripted}
 use Rattle.client_core.specs.declared.stop.TheConstants.{MOST_CALLS}
 use Rattle.script_run.specs.Budget.{IsTooLong, all_commands, bytes_written, most_calls}
-use Rattle.script_run.specs.SoFar.{AreNumbered}
 use Rattle.adapter.specs.Callers.{Caller}
 use Rattle.adapter.specs.Ends.{HaveHistories}
 use Rattle.adapter.specs.Nodes.{ended}

@@ -1,7 +1,6 @@
 // The clients' workers before their first calls, and what is left of them.
 ghost use Rattle.std.specs.Prelude.{◌≡◌, length, IfOk};
-ghost use Rattle.client_script.specs.Script.{clients_in};
-ghost use Rattle.script_run.specs.SoFar.{AreNumbered};
+ghost use Rattle.client_script.specs.Script.{AreNumbered, clients_in};
 ghost use Rattle.workers.specs.Inside.Begun.{AreFreshWorkers, IsLeftByClients};
 
 use crate::client_worker::ClientWorker;

@@ -16,7 +16,7 @@ type Told = (u32, u64, Row);
 
 // A client of the script before its first call; None of a script that can't be read.
 fn client_of(alloc: Global, script: &[u8], client: u32) -> Option<ClientCore> {
-    if script.len() > MOST_BYTES || client > 7 {
+    if script.len() > MOST_BYTES {
         return None;
     }
     let script = Script::read(alloc, script).ok()?;

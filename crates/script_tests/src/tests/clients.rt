@@ -11,7 +11,7 @@ use std::process::Abort;
 
 // A client of the script of these bytes, before its first call.
 fn client_of(rt: &impl Abort, alloc: Global, script: &[u8], client: u32) -> ClientCore {
-    assert!(rt; script.len() <= MOST_BYTES && client < 8);
+    assert!(rt; script.len() <= MOST_BYTES);
     let Ok(script) = Script::read(alloc, script) else {
         panic!(rt; "a fault, or no memory");
     };

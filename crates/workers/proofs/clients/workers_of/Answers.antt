@@ -18,15 +18,8 @@ overflow_add-number c =
     let size : length c.callers.workers.items ≡ length c.callers.yielded = sym (length-map c.callers.workers.items (λ (v : ClientWorker). v.client)) ∙ ap length i.are in
     omega (arith, below, size, i.number, c.requires, c.clients.ensures.count, c.clients.ensures.bound)
 
-pub new-requires : goal.new-requires
-new-requires c =
-    let i = c.callers.invariant in
-    let ds : List Caller = c.args.clients.items in
-    let b = c.into_iter-client-iterator.ensures.into_iter_gives in
-    let t = YieldsList-turn (YieldsList-from_vec {s = c.into_iter-client-iterator.result} ds b.0 (b.1 ∙ c.args.clients.ok.0)) c.callers.yielded c.callers.client-iterator c.callers.yielded_by c.next.result c.next.new.self c.in-Some.client c.in-Some.is c.next.ensures.steps in
-    let below = t.0 in
-    let size : length c.callers.workers.items ≡ length c.callers.yielded = sym (length-map c.callers.workers.items (λ (v : ClientWorker). v.client)) ∙ ap length i.are in
-    omega (arith, below, size, i.number, c.requires, c.clients.ensures.count, c.clients.ensures.bound)
+pub returns-clause-numbered : goal.returns-clause-numbered
+returns-clause-numbered c = c.clients.ensures.known.numbered
 
 pub callers-preserved : goal.callers-preserved
 callers-preserved c =
