@@ -10,11 +10,11 @@ use Rattle.client_core.specs.declared.command.Command.{Command}
 use Rattle.client_core.specs.declared.task.Ending.{Ending}
 use Rattle.client_core.specs.declared.task.Task.{Task}
 use Rattle.client_core.specs.Commands.{Doing, stands, through, Slots, done}
-use Rattle.client_core.specs.Events.{Standing, Ended, Progress, with_ended, slots_after, progress_from, progress, next_event, waits_after, standing_at}
+use Rattle.client_core.specs.Events.{Standing, Ended, Progress, with_ended, slots_after, progress_from, progress, next_event, reading_on, waits_after, standing_at}
 use Rattle.client_core.specs.Stc.{with_reply, exchanges}
 use Rattle.client_core.specs.Outcomes.{outcome_by, outcome_of}
 use Rattle.client_core.specs.Inside.Clocks.{counter_in, HaveFollowed}
-use Rattle.client_core.specs.Inside.Tasks.{resumed, node_in, IsTaskInRange}
+use Rattle.client_core.specs.Inside.Tasks.{resumed, reading_in, IsTaskInRange}
 use Rattle.client_script.specs.Script.{Scripted}
 use Rattle.std.specs.Option.{IfSome, IfNone}
 use Rattle.client_core.specs.declared.event.Event.{Event}
@@ -134,21 +134,21 @@ no_wait true = refl
 no_wait false = refl
 
 -- a client waits where the reply was Again, and what stands there isn't its command's first call
-waits_by : (s : Standing) (r : Response) → waits_after (Some s) (r ∷ []) ≡ (if nat_lt s.from s.event.step then waits_with r s.event.node else None)
+waits_by : (s : Standing) (r : Response) → waits_after (Some s) (r ∷ []) ≡ (if nat_lt s.from s.event.step then waits_with r (reading_on s.event) else None)
 waits_by s (Again false) = refl
 waits_by s _ = no_wait (nat_lt s.from s.event.step)
 
 -- a command that goes on waits where the reply was Again
-pub waits_still : (s : Standing) (r : Response) → s.from < s.event.step → waits_after (Some s) (r ∷ []) ≡ waits_with r s.event.node
+pub waits_still : (s : Standing) (r : Response) → s.from < s.event.step → waits_after (Some s) (r ∷ []) ≡ waits_with r (reading_on s.event)
 waits_still s r lt =
     let later : nat_lt s.from s.event.step ≡ true = grind (arith, nat_tests) in
-    waits_by s r ∙ ap (λ b. if b then waits_with r s.event.node else None) later
+    waits_by s r ∙ ap (λ b. if b then waits_with r (reading_on s.event) else None) later
 
 -- a command that has just begun waits for nothing
 pub waits_not : (s : Standing) (r : Response) → s.event.step ≤ s.from → waits_after (Some s) (r ∷ []) ≡ None
 waits_not s r le =
     let first : nat_lt s.from s.event.step ≡ false = grind (arith, nat_tests) in
-    waits_by s r ∙ ap (λ b. if b then waits_with r s.event.node else None) first
+    waits_by s r ∙ ap (λ b. if b then waits_with r (reading_on s.event) else None) first
 
 -- ------ what stands there
 
@@ -178,10 +178,10 @@ begun_waits_not (Some k) step slots left r ended at =
     sym (ap (λ d. waits_after (ahead k.line k.from slots left d).standing (r ∷ [])) there.1 ∙ waits_not (record { line = k.line; from = k.from; event = there.0 }) r (omega (arith, at.1, there.2)))
 
 pub still_waits : (k : Current) (t : Task) (step : ℕ) (slots : Slots) (left : List Command) (r : Response) → k.from < step
-    → waits_with r (node_in (resumed t step [])) ≡ waits_after (ahead k.line k.from slots left (resumed t step [])).standing (r ∷ [])
+    → waits_with r (reading_in (resumed t step [])) ≡ waits_after (ahead k.line k.from slots left (resumed t step [])).standing (r ∷ [])
 still_waits k t step slots left r lt =
     let there : StandsAt step (resumed t step []) = task_stands step t in
-    ap (λ d. waits_with r (node_in d)) there.1
+    ap (λ d. waits_with r (reading_in d)) there.1
     ∙ sym (ap (λ d. waits_after (ahead k.line k.from slots left d).standing (r ∷ [])) there.1 ∙ waits_still (record { line = k.line; from = k.from; event = there.0 }) r (omega (arith, lt, there.2)))
 
 pub none_waits : (s : Option Standing) → None ≡ waits_after s []

@@ -14,7 +14,7 @@ ghost use Rattle.client_core.specs.Events.{next_event, waits_on, next_of_line};
 ghost use Rattle.client_core.specs.Stc.{Exchange, with_reply};
 ghost use Rattle.client_core.specs.Outcomes.{outcomes as outcomes_of};
 ghost use Rattle.client_core.specs.Inside.Clocks.{HaveFollowed, AreFew};
-ghost use Rattle.client_core.specs.Inside.Tasks.{resumed, node_in, IsTaskInRange};
+ghost use Rattle.client_core.specs.Inside.Tasks.{resumed, reading_in, IsTaskInRange};
 ghost use Rattle.client_core.specs.Inside.Core.{coming, one_if_some, IsCommandInRange, IsCommandOf, IsMade, CanBegin, IsSound, IsAfter, HasTaken, next_of, waits_with};
 
 use crate::clocks::Clocks;
@@ -22,7 +22,7 @@ use crate::command::{Command, Commands};
 use crate::deed::{Deed, deed_of};
 use crate::event::Event;
 use crate::machine::{Current, add, begin, bind, kind_of};
-use crate::task::{Next, Task, after, event_of, node_of};
+use crate::task::{Next, Task, after, event_of, reading_of};
 use client_script::{Line, Script};
 use dmx_calls::{LogReply, Outcome, Reply};
 use dvr_play::Plays;
@@ -135,10 +135,10 @@ fn follow(clocks: &mut Clocks, task: &Task, step: u64, reply: &LogReply)
 
 // The node on which a client waits that goes on with this task after this reply.
 fn waits_after(task: &Task, reply: &LogReply) -> Option<u32>
-    ensures { (step : ℕ) → result ≡ waits_with (response_of reply.now) (node_in (resumed task.now step [])) }
+    ensures { (step : ℕ) → result ≡ waits_with (response_of reply.now) (reading_in (resumed task.now step [])) }
 {
     match reply {
-        Reply::Again { ended } => { if *ended { None } else { Some(node_of(task)) } }
+        Reply::Again { ended } => { if *ended { None } else { reading_of(task) } }
         _ => None,
     }
 }

@@ -118,10 +118,10 @@ pub record HasBegun (clocks : List NodeClock) (step : ℕ) (slots_before slots :
   pub told : outcomes ≡ outcomes_before ++ map (outcome_by (counter_in clocks)) passed
   pub late : All (IsLate (length clocks) step) passed
 
--- the node on which a client waits after this reply, where the read on this node is repeated
-abbrev pub waits_with : Response → (node : ℕ) → Option ℕ
-waits_with (Again false) node = Some node
-waits_with _ node = None
+-- the node on which a client waits after this reply, where its command goes on, by a read of this node if by one
+abbrev pub waits_with : Response → (read : Option ℕ) → Option ℕ
+waits_with (Again false) read = read
+waits_with _ read = None
 
 -- One reply is taken: whatever replies come, the new core goes on as the old one does where this reply comes first. The
 -- clocks have followed it, and the outcomes of the commands that are through by it are by these clocks.
