@@ -28,6 +28,7 @@ mod head;
 mod line;
 mod node;
 mod play;
+mod played;
 mod report;
 mod stop;
 

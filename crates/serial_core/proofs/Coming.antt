@@ -41,20 +41,6 @@ use Rattle.serial_core.proofs.Feeding.{AreFed, fed_pass, fed_end, fed_other, non
 use Rattle.serial_core.proofs.Keeping.{AreBelow, IsKept, OnlyWaits, kept, kept_moment, waiting_replies}
 use Rattle.serial_core.proofs.Replies.{none_said}
 
--- ------ clients
-
-few_in : (line : Line) → IsInRange line → clients_of line ≤ 8
-few_in (Feed k) is = omega arith
-few_in (Tick k) is = omega arith
-few_in (Command line client target verb) is = omega (arith, is.2)
-
-few_clients : (lines : List Line) (m : ℕ) → m ≤ 8 → All IsInRange lines → fold (λ most line. max most (clients_of line)) m lines ≤ 8
-few_clients [] m le ranges = le
-few_clients (line ∷ lines) m le ranges = few_clients lines (max m (clients_of line)) (omega (arith, le, few_in line (All-head IsInRange line lines ranges))) (All-tail IsInRange line lines ranges)
-
-pub few_in_all : (script : Scripted) → All IsInRange script.lines → clients_in script ≤ 8
-few_in_all script ranges = few_clients script.lines 0 (omega arith) ranges
-
 -- ------ the end of the stream
 
 -- after End the stream has ended

@@ -17,6 +17,7 @@ use Rattle.script_run.specs.Budget.{bytes_written, most_calls}
 use Rattle.script_run.specs.IsRun.{Batch, Step, feeding, replies, sources, steps_of}
 use Rattle.script_run.specs.SoFar.{feeder, IsPaidBehind, IsFedSoFar, HasDoneSoFar, IsSoFar, IsOver}
 use Rattle.script_run.proofs.Ending.{runs_end, are_accounted}
+use Rattle.script_run.proofs.Clients.{few_in_all}
 use Rattle.script_run.proofs.Counting.{total}
 use Rattle.script_run.proofs.Paying.{calls_are_bounded, calls_are_paid}
 use Rattle.script_run.proofs.Played.{packets_named}
@@ -31,7 +32,7 @@ use Rattle.serial_core.proofs.Making.{AreMade, IsFedBehind, IsOpenBehind}
 use Rattle.serial_core.proofs.Feeding.{all_fed, passes_of, end_of}
 use Rattle.serial_core.proofs.Keeping.{all_below}
 use Rattle.serial_core.proofs.Throughout.{none_stands}
-use Rattle.serial_core.proofs.Coming.{HasCome, few_in_all, ended_over, moment_come, run_come}
+use Rattle.serial_core.proofs.Coming.{HasCome, ended_over, moment_come, run_come}
 
 module _ (script : Scripted) (batch : ℕ) (packets : List (List ℕ)) (few : clients_in script ≤ 8) (ranges : All IsInRange script.lines) (r : Run) (p : HasCome script batch packets (clients_in script) few ranges r) where
   placed : (node place : ℕ) (h : List LogEntry) (e : LogEntry) → slice_get (histories_in r) node ≡ Some h → slice_get h place ≡ Some e → IsPlaced (sources script packets) (clients_in script) node place e
