@@ -8,6 +8,7 @@ pub mod ReadAgain
 pub mod RequestsAgain
 pub mod Scripts
 pub mod Searching
+pub mod Spelled
 pub mod Splitting
 pub mod Taking
 pub mod Writing

@@ -51,11 +51,11 @@ any_gives : {A B : Type 0} (Q : B → Type 0) (r : Reading A) (next : A → List
 any_gives Q (Ok r) next each = each r.0 r.1
 any_gives Q (Err kind) next each = tt
 
-under_a_name : {A B : Type 0} (Q : B → Type 0) (name : A → B) (r : Reading A) → ((x : A) → Q (name x)) → Gives Q (mapped name r)
+pub under_a_name : {A B : Type 0} (Q : B → Type 0) (name : A → B) (r : Reading A) → ((x : A) → Q (name x)) → Gives Q (mapped name r)
 under_a_name Q name (Ok r) each = each r.0
 under_a_name Q name (Err kind) each = tt
 
-if_gives : {A : Type 0} (Q : A → Type 0) (b : Bool) (r s : Reading A) → Gives Q r → Gives Q s → Gives Q (if b then r else s)
+pub if_gives : {A : Type 0} (Q : A → Type 0) (b : Bool) (r s : Reading A) → Gives Q r → Gives Q s → Gives Q (if b then r else s)
 if_gives Q true r s first second = first
 if_gives Q false r s first second = second
 

@@ -80,3 +80,26 @@ written_is (digit ∷ digits) bytes e =
     let read : hex_bytes 12032 (digit ∷ digits) ≡ Some bytes = rw (spells digit digits) at e in
     let known : AreFew 12032 bytes = bytes_few 12032 (digit ∷ digits) bytes read in
     record { some = some_bytes digit digits bytes read; few = known.few; each = known.each }
+
+-- ------ no more of them than digits
+
+short_more : (digits : List ℕ) (b : Option ℕ) (more : Option (List ℕ)) (bytes : List ℕ) → ((rest : List ℕ) → more ≡ Some rest → length rest ≤ length digits)
+    → option_and_then (λ byte. option_map (λ bytes. byte ∷ bytes) more) b ≡ Some bytes → length bytes ≤ 2 + length digits
+short_more digits None more bytes later e = absurd (cc)
+short_more digits (Some byte) None bytes later e = absurd (cc)
+short_more digits (Some byte) (Some rest) bytes later e =
+    let same : byte ∷ rest ≡ bytes = cc in
+    rw (← same) (omega (arith, later rest refl))
+
+hex_short : (most : ℕ) (word bytes : List ℕ) → hex_bytes most word ≡ Some bytes → length bytes ≤ length word
+unfolding hex_bytes
+hex_short most [] bytes e = let none : [] ≡ bytes = cc in rw (← none) (omega arith)
+hex_short zero (high ∷ digits) bytes e = absurd (cc)
+hex_short (suc left) (high ∷ []) bytes e = absurd (cc)
+hex_short (suc left) (high ∷ low ∷ digits) bytes e = omega (arith, short_more digits (hex_byte high low) (hex_bytes left digits) bytes (hex_short left digits) e)
+
+pub named_short : (word bytes : List ℕ) → written_named word ≡ Some bytes → length bytes ≤ length word
+named_short [] bytes e = let none = rw none_empty at e in absurd (cc)
+named_short (digit ∷ digits) bytes e =
+    let read : hex_bytes 12032 (digit ∷ digits) ≡ Some bytes = rw (spells digit digits) at e in
+    hex_short 12032 (digit ∷ digits) bytes read
