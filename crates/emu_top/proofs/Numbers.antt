@@ -18,12 +18,14 @@ use Rattle.client_script.specs.Words.{word_in}
 use Rattle.client_script.specs.Places.{places_in, filter_in}
 use Rattle.client_script.specs.Grammar.{number_in, numbered_target, target_of, name_of, section_in, pes_in, verb_in, command_in, asked_in, line_in, line_of, meaning}
 use Rattle.client_script.specs.Script.{split, grammar, script_len, whole_lines, lines_from, Parsed, Scripted}
+use Rattle.client_script.proofs.Spelled.{are_spelled}
 use Rattle.client_script.proofs.Splitting.{split-found}
 use Rattle.report_text.specs.Summary.{summary_of}
 use Rattle.serial_core.specs.declared.run.Left.{Left}
 use Rattle.ts_make.specs.declared.kind.Kind.{Kind}
 use Rattle.ts_make.specs.Made.{made, packets, packet_at, payload, carrying, section, section_front}
 use Rattle.ts_make.specs.Script.{script}
+use Rattle.script_run.specs.Budget.{bytes_written}
 use Rattle.emu_top.specs.Session.{Runs, Refuses, ReadsTo, IsSession, IsSums}
 use Rattle.emu_top.specs.declared.status.Status.{Status}
 use Rattle.emu_top.specs.declared.status.Status.TheVariants.{Usage, Script, TooLong, ReadFault, WriteFault, NoMemory, Ok as Done, Wrong}
@@ -112,7 +114,8 @@ refused number left Usage r = absurd r
 refused number left (Script line kind) r = absurd (let e : Ok (says_of number).0 ≡ Err (record { line = line; kind = kind }) = sym (says_of number).1 ∙ r.1 in cc)
 refused number left (TooLong turns) g =
     let t = by_taken (made number) left g.bytes g.taken in
-    let fits = (split_more g.bytes t.0 g.stream g.session.behind).1 in
+    let parts = (split_more g.bytes t.0 g.stream g.session.behind).1 in
+    let fits : length g.stream + bytes_written g.script ≤ length g.bytes = omega (arith, parts, are_spelled (split g.bytes).script g.script g.session.says) in
     absurd (not_too_long (made number) g.bytes t.0 g.stream g.script turns t.1 (short number) fits g.known g.cause)
 refused number left ReadFault r = absurd (steady 0 (omega arith) r.rose)
 refused number left WriteFault r = absurd r
