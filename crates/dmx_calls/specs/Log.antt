@@ -20,10 +20,6 @@ pub record LogEntry : Type 0 where
 abbrev pub Sources : Type 0
 Sources = (who : ℕ) → Input → List (List ℕ)
 
--- the packets of the stream, whoever passes them
-abbrev pub from_stream : List (List ℕ) → Sources
-from_stream stream who input = stream
-
 -- the call, where its caller's passes bring of these packets
 abbrev pub filled_act : (packets : Input → List (List ℕ)) → Act → Invocation
 filled_act packets OpenAct = Open

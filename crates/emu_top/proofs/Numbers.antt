@@ -1,5 +1,5 @@
 -- The session of a number: its script has no fault, and it is short.
-use Rattle.std.proofs.Common.{◌≡◌, ◌<◌, ◌+◌, ◌*◌, ◌%◌, refl, sym, ap, subst, ◌∙◌, ℕ, suc, zero, Bool, true, false, List, [], ◌∷◌, ◌++◌, length, take, drop, append-nil, arith, length-append}
+use Rattle.std.proofs.Common.{◌≡◌, ◌<◌, ◌≤◌, ◌+◌, ◌*◌, ◌%◌, refl, sym, ap, subst, ◌∙◌, ℕ, suc, zero, Bool, true, false, List, [], ◌∷◌, ◌++◌, length, take, drop, append-nil, arith, length-append}
 use Rattle.std.proofs.lemmas.List.{take_all, length-replicate}
 use Rattle.std.specs.Prelude.{Option, Some, None, Ok, Err, is_ok, replicate}
 use Rattle.std.specs.Io.KnownBytes.{Consumes, IsAtEnd}

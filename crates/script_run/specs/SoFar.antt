@@ -2,8 +2,6 @@
 use Rattle.std.specs.Prelude.{◌≡◌, ◌≢◌, ◌<◌, ◌≤◌, ◌+◌, ◌*◌, ℕ, suc, List, ◌++◌, length, map, sum, take, slice_get, Some, None, IsSome, All}
 use Rattle.ts_packet.specs.Fields.{IsPacket}
 use Rattle.dmx_calls.specs.declared.limits.TheConstants.{DEMUX_NODES}
-use Rattle.dmx_calls.specs.declared.log.Act.{Act}
-use Rattle.dmx_calls.specs.declared.log.Act.TheVariants.{Pass as PassAct}
 use Rattle.dmx_calls.specs.Accounted.{IsAccounted}
 use Rattle.dmx_calls.specs.Legal.{IsLegalFor}
 use Rattle.dmx_calls.specs.Log.{LogEntry, filled}
@@ -26,11 +24,6 @@ pub record IsFedSoFar (most packets : ℕ) (hs : List (List LogEntry)) : Type 0 
       → (later : List Step) × (steps_of 0 h ++ later ≡ feeding 0 0 batches)
 
 -- ------ a client
-
--- no packets pass by this call
-abbrev pub PassesNone : Act → Type 0
-PassesNone (PassAct input first count now) = ⊥
-PassesNone _ = Unit {0}
 
 -- whose entries pay for the reads that a client repeats: the feeder's alone, or those of all others
 pub data Payers : Type 0 where
