@@ -115,7 +115,7 @@ still_has writes client bytes (Command line who target (Write write)) has = go (
         subst (λ ws. write < length ws) (sym (ap (λ c. writes_of c (slice_set writes client more)) same ∙ get_or-set_same writes client more [] there))
         (let long = length-append (writes_of client writes) (bytes ∷ []) in let mine : write < length (writes_of client writes) = subst (λ c. write < length (writes_of c writes)) same has in omega (arith, long, mine))
     own (inr past) = absurd (let none : writes_of client writes ≡ [] = get_or_past writes client [] past in let n = ap length none in
-      let mine : write < length (writes_of client writes) = subst (λ c. write < length (writes_of c writes)) same has in omega (arith, n, mine))
+        let mine : write < length (writes_of client writes) = subst (λ c. write < length (writes_of c writes)) same has in omega (arith, n, mine))
 
 -- a write more
 pub script_write : (s : Scripted) (line client : ℕ) (bytes : List ℕ) → IsScript s → length s.lines < most_bytes → length (writes_of client s.writes) < most_bytes

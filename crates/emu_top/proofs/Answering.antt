@@ -116,11 +116,10 @@ split_by bytes rest (Some n) stream e is =
     let one : (split (front ++ behind)).script ≡ take n front = ap (λ p. p.script) (split-found front behind n few e) in
     let two : (split (front ++ (behind ++ rest))).script ≡ take n front = ap (λ p. p.script) (split-found front (behind ++ rest) n few e) in
     let size : drop n bytes ≡ stream = cc in
-    let mine : (split bytes).script ≡ take n front = ap (λ xs. (split xs).script) (sym whole) ∙ one in
-    (
+    let mine : (split bytes).script ≡ take n front = ap (λ xs. (split xs).script) (sym whole) ∙ one in (
       ap (λ xs. (split xs).script) (sym longer) ∙ (two ∙ (sym one ∙ ap (λ xs. (split xs).script) whole)),
       subst (λ s. length (split bytes).script + length s ≤ length bytes) size
-      (omega (arith, ap (λ xs. length xs) mine, length-take n front, length-take most_bytes bytes, length-drop n bytes)),
+          (omega (arith, ap (λ xs. length xs) mine, length-take n front, length-take most_bytes bytes, length-drop n bytes)),
     )
 
 pub split_more : (bytes rest stream : List ℕ) → (split bytes).stream ≡ Some stream

@@ -49,12 +49,7 @@ fn is_sound(entry: &Entry, clients: u32, packets: u64, played: &[Vec<Packet>]) -
 }
 
 // The place of the first entry that isn't sound.
-fn unsound(
-    entries: &[Entry],
-    clients: u32,
-    packets: u64,
-    played: &[Vec<Packet>],
-) -> Option<u64>
+fn unsound(entries: &[Entry], clients: u32, packets: u64, played: &[Vec<Packet>]) -> Option<u64>
     ensures { MatchOption result (are_sound clients packets (map (λ ps. length ps) (map (λ p. p.items) played.now)) (map told_entry entries.now) ≡ true)
         (λ _. are_sound clients packets (map (λ ps. length ps) (map (λ p. p.items) played.now)) (map told_entry entries.now) ≡ false) }
 {

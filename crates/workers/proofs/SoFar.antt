@@ -191,7 +191,7 @@ module _ (script : Scripted) (stream : List (List ℕ)) (most : ℕ) (may : ℕ 
     nodes = w.many;
     places = λ node place h e at here. let r = entry_at node place h e at here in (r.1.on, r.0, r.1.by, r.1.found);
     legal = λ node h at. let t = there m have low hs w node h at in
-      subst (λ (packets : Sources). IsLegalFor (rules_at node) (filled packets h)) s.packets (subst (λ g. IsLegalFor (rules_at node) (reverse g)) (sym t.2.is) t.1.legal);
+        subst (λ (packets : Sources). IsLegalFor (rules_at node) (filled packets h)) s.packets (subst (λ g. IsLegalFor (rules_at node) (reverse g)) (sym t.2.is) t.1.legal);
     fed = fed;
     clients = done;
   }
