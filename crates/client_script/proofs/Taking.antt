@@ -47,6 +47,13 @@ writes_more (Some (Writes line client bytes)) s number all =
     set_all (λ writes. 1 + length writes ≤ number + 1) s.writes client (writes_of client s.writes ++ bytes ∷ []) (λ k d lt. let h = all k d lt in omega (arith, h))
     (λ there. let h = all client [] there in omega (arith, h, length-append (writes_of client s.writes) (bytes ∷ [])))
 
+-- so one client has
+pub one_below : (writes : List (List (List ℕ))) (client : ℕ) → All (λ writes. length writes < most_bytes) writes → length (writes_of client writes) < most_bytes
+one_below writes client all = go (cases_lt client (length writes)) where
+  go : (client < length writes) ⊎ (length writes ≤ client) → length (writes_of client writes) < most_bytes
+  go (inl there) = all client [] there
+  go (inr past) = let none = ap length (get_or_past writes client [] past) in omega (arith, none)
+
 -- ------ what is known of a script stays
 
 -- a script without lines

@@ -162,6 +162,7 @@ impl Script {
     }
 
     // Takes what a line says.
+    #[tactic(auto, using(crate::proofs::Taking::one_below))]
     fn add(&mut self, alloc: Global, said: Option<Said<'_>>) -> Result<(), ScriptError>
         requires lines { length self.old.lines < most_bytes }
         requires writes { All (λ writes. length writes < most_bytes) self.old.writes }
