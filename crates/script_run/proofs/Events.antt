@@ -1,40 +1,66 @@
--- The packets of a client's calls are those that it plays.
-use Rattle.std.proofs.Common.{◌≡◌, refl, sym, subst, ℕ, zero, suc, ◌+◌, List, [], ◌∷◌, Option, Some, None, add-one, length, take, drop}
-use Rattle.std.specs.Prelude.{slice_index_or, IfSome}
+-- What the calls of a client bring: some of the packets that it plays.
+use Rattle.std.proofs.Common.{◌≡◌, refl, sym, ap, subst, ◌∙◌, ℕ, zero, suc, ◌+◌, ◌≤◌, List, [], ◌∷◌, length, take, drop, Option, Some, None, add-one, arith, length-take}
+use Rattle.std.specs.Prelude.{slice_index_or}
 use Rattle.std.specs.List.{All}
-use Rattle.std.proofs.lemmas.List.Elements.{All-head, All-tail}
+use Rattle.std.specs.Option.{IfSome}
+use Rattle.std.proofs.lemmas.List.Elements.{All-head, All-tail, All-nil}
+use Rattle.ts_packet.specs.Fields.{IsPacket}
 use Rattle.ts_batch.specs.Batch.{Packets}
-use Rattle.dvr_play.specs.Plays.{plays, cut_of}
 use Rattle.dvr_play.specs.Laws.{StandsAmong}
-use Rattle.dvr_play.proofs.Joining.{are_placed}
-use Rattle.dmx_calls.specs.Log.{IsFrom}
+use Rattle.dvr_play.specs.Plays.{cut_of, joined}
+use Rattle.dvr_play.proofs.Joining.{are_packets, are_placed}
+use Rattle.dmx_calls.specs.declared.params.Input.{Input}
+use Rattle.dmx_calls.specs.declared.params.Input.TheVariants.{Frontend, Dvr}
+use Rattle.dmx_calls.specs.declared.log.Act.{Act}
+use Rattle.dmx_calls.specs.declared.log.Act.TheVariants as act
+use Rattle.dmx_calls.specs.Invocation.{Invocation, brought}
+use Rattle.dmx_calls.specs.Log.{IsFrom, LogEntry, act_of, filled_act}
 use Rattle.client_script.specs.Script.{Scripted, writes_of}
 use Rattle.client_script.specs.declared.line.Want.TheVariants.{Open}
 use Rattle.client_core.specs.declared.event.Request.{Request}
 use Rattle.client_core.specs.declared.event.Request.TheVariants.{Own, Pass}
 use Rattle.client_core.specs.Deeds.{Batches, batch_at}
-use Rattle.client_core.specs.Commands.{call_of, pass_of, plays_of}
+use Rattle.client_core.specs.Commands.{call_of, pass_of, played, plays_of}
 use Rattle.script_run.specs.IsRun.{sources}
 
--- the batch at a place stands among the packets, as each does
-at_write : (all : List (List ℕ)) (batches : Batches) (write : ℕ) → All (λ batch. IfSome batch (StandsAmong all)) batches → IfSome (batch_at batches write) (StandsAmong all)
-at_write all [] write are = tt
-at_write all (b ∷ bs) zero are = All-head (λ batch. IfSome batch (StandsAmong all)) b bs are
-at_write all (b ∷ bs) (suc write) are = at_write all bs write (All-tail (λ batch. IfSome batch (StandsAmong all)) b bs are)
+-- ------ the packets
 
-pass_from : (script : Scripted) (stream : List (List ℕ)) (client : ℕ) (o : Option Packets) (now : ℕ) → IfSome o (StandsAmong (cut_of (writes_of client script.writes)).packets)
-    → IsFrom (sources script stream (suc client)) (pass_of o now)
-pass_from script stream client None now stands = refl
-pass_from script stream client (Some batch) now stands = stands
+-- what passes bring are packets
+pub all_packets : (script : Scripted) (stream : List (List ℕ)) → All IsPacket stream → (who : ℕ) (input : Input) → All IsPacket (sources script stream who input)
+all_packets script stream are who Frontend = are
+all_packets script stream are zero Dvr = All-nil IsPacket
+all_packets script stream are (suc client) Dvr = are_packets (joined (writes_of client script.writes))
 
--- whatever is asked for by a client, its packets are those of the caller's sources
-pub is_from : (script : Scripted) (stream : List (List ℕ)) (client : ℕ) (w : Request) (now : ℕ) → IsFrom (sources script stream (suc client)) (call_of (plays_of client script) w now)
-is_from script stream client (Own Open) now = tt
-is_from script stream client (Pass write) now =
-    let ws = writes_of client script.writes in
-    pass_from script stream client (batch_at (plays ws) write) now (at_write (cut_of ws).packets (plays ws) write (are_placed ws))
-is_from script stream client _ now = tt
+batch_stands : (all : List (List ℕ)) (batches : Batches) (write : ℕ) → All (λ batch. IfSome batch (StandsAmong all)) batches → IfSome (batch_at batches write) (StandsAmong all)
+batch_stands all [] write stand = tt
+batch_stands all (b ∷ bs) zero stand = All-head (λ batch. IfSome batch (StandsAmong all)) b bs stand
+batch_stands all (b ∷ bs) (suc write) stand = batch_stands all bs write (All-tail (λ batch. IfSome batch (StandsAmong all)) b bs stand)
 
--- the same with its number among the callers as a sum
-pub from_client : (script : Scripted) (stream : List (List ℕ)) (client : ℕ) (w : Request) (now : ℕ) → IsFrom (sources script stream (client + 1)) (call_of (plays_of client script) w now)
-from_client script stream client w now = subst (λ n. IsFrom (sources script stream n) (call_of (plays_of client script) w now)) (sym (add-one client)) (is_from script stream client w now)
+pass_from : (all : Input → List (List ℕ)) (o : Option Packets) (moment : ℕ) → IfSome o (StandsAmong (all Dvr)) → IsFrom all (pass_of o moment)
+pass_from all None moment stands = refl
+pass_from all (Some batch) moment stands = stands
+
+-- a client's call brings some of the packets that it plays
+pub from_client : (script : Scripted) (stream : List (List ℕ)) (client : ℕ) (w : Request) (moment : ℕ) → IsFrom (sources script stream (client + 1)) (call_of (plays_of client script) w moment)
+from_client script stream client w moment = subst (λ n. IsFrom (sources script stream n) (call_of (plays_of client script) w moment)) (sym (add-one client)) (go w) where
+  go : (w : Request) → IsFrom (sources script stream (suc client)) (call_of (plays_of client script) w moment)
+  go (Pass write) =
+      pass_from (sources script stream (suc client)) (batch_at (plays_of client script) write) moment
+      (batch_stands (played client script) (plays_of client script) write (are_placed (writes_of client script.writes)))
+  go (Own Open) = tt
+  go _ = tt
+
+-- the same with its number behind another
+pub is_from : (script : Scripted) (stream : List (List ℕ)) (client : ℕ) (w : Request) (moment : ℕ) → IsFrom (sources script stream (suc client)) (call_of (plays_of client script) w moment)
+is_from script stream client w moment = subst (λ n. IsFrom (sources script stream n) (call_of (plays_of client script) w moment)) (add-one client) (from_client script stream client w moment)
+
+-- ------ how many
+
+-- how many packets a call brings
+abbrev pub count_of : Act → ℕ
+count_of (act.Pass input first count now) = count
+count_of _ = 0
+
+pub brings_few : (packets : Input → List (List ℕ)) (a : Act) → length (brought (filled_act packets a)) ≤ count_of a
+brings_few packets (act.Pass input first count now) = omega (arith, length-take count (drop first (packets input)))
+brings_few packets _ = omega arith

@@ -21,9 +21,3 @@ pub length_taken : {A B : Type 0} (f : A → B) (xs : List A) (i : ℕ) (x : A) 
 length_taken f [] i x is = absurd (cc is)
 length_taken f (y ∷ xs) zero x is = refl
 length_taken f (y ∷ xs) (suc i) x is = ap suc (length_taken f xs i x is)
-
--- a member's place
-pub place_of : {A : Type 0} (xs : List A) (x : A) → Has xs x → (i : ℕ) × (slice_get xs i ≡ Some x)
-place_of [] x has = absurd has
-place_of (y ∷ xs) x (inl same) = (zero, ap Some same)
-place_of (y ∷ xs) x (inr more) = let p = place_of xs x more in (suc p.0, p.1)

@@ -1,39 +1,45 @@
 -- At each moment of a run, the commands and the bytes pay for the calls of a client: a repeat that follows bytes is paid for by
 -- them, and a repeat that follows Again by the entry right behind the read, which is the feeder's or adds no repeat to its own client's.
-use Rattle.std.proofs.Common.{◌≡◌, ◌≢◌, refl, sym, ap, subst, ◌∙◌, ℕ, zero, suc, ◌+◌, ◌*◌, ◌<◌, ◌≤◌, Bool, true, false, nat_eq, List, [], ◌∷◌, ◌++◌, Some, length, filter, take, slice_get, inl, inr, arith}
-use Rattle.std.specs.Prelude.{◌⊎◌, if◌then◌else◌}
+use Rattle.std.proofs.Common.{◌≡◌, ◌≢◌, refl, sym, ap, subst, ◌∙◌, ℕ, zero, suc, ◌+◌, ◌*◌, ◌<◌, ◌≤◌, Bool, true, false, nat_eq, List, [], ◌∷◌, ◌++◌, Option, Some, None, length, filter, take, slice_get, inl, inr, arith}
+use Rattle.std.specs.Prelude.{◌⊎◌, if◌then◌else◌, map, sum}
+use Rattle.std.proofs.lemmas.List.Sums.{sum_by-cons}
 use Rattle.std.specs.List.{All}
 use Rattle.std.proofs.lemmas.Bool.Decides.{nat_tests}
-use Rattle.std.proofs.lemmas.List.Elements.{All-nil, All-weaker}
+use Rattle.std.proofs.lemmas.List.Elements.{All-weaker}
 use Rattle.std.proofs.lemmas.Option.{slice_get_within}
 use Rattle.lemmas.specs.Lists.{Has}
 use Rattle.lemmas.proofs.Lists.{at_place, one_value, has_at}
 use Rattle.ts_packet.specs.Fields.{IsPacket}
-use Rattle.dvr_play.specs.Plays.{joined}
-use Rattle.dvr_play.proofs.Joining.{are_packets}
-use Rattle.dmx_calls.specs.declared.params.Input.{Input}
-use Rattle.dmx_calls.specs.declared.params.Input.TheVariants.{Frontend, Dvr as FromDvr}
 use Rattle.dmx_calls.specs.declared.reply.Errno.TheVariants.{Ebadf}
-use Rattle.dmx_calls.specs.Log.{LogEntry, Sources, filled_act, filled_entry}
+use Rattle.dmx_calls.specs.Log.{LogEntry, Sources, act_of, filled_act, filled_entry}
 use Rattle.dmx_calls.specs.Owning.{HasRead}
 use Rattle.dmx_calls.specs.Response.{Response, Refused}
 use Rattle.client_script.specs.declared.line.Line.{Line}
 use Rattle.client_script.specs.declared.line.Line.TheVariants.{Feed, Tick, Command}
 use Rattle.client_script.specs.declared.line.Target.{Target}
 use Rattle.client_script.specs.declared.line.Verb.{Verb}
-use Rattle.client_script.specs.Script.{AreNumbered, clients_in, writes_of, Scripted}
+use Rattle.client_script.specs.Script.{clients_in, Scripted}
 use Rattle.client_core.specs.declared.command.Command.{Command as ClientCommand}
-use Rattle.client_core.specs.Deeds.{deed_of}
-use Rattle.client_core.specs.Commands.{commands_among, ends_drain, played, plays_of}
-use Rattle.client_core.specs.Events.{next_event}
-use Rattle.script_run.specs.Budget.{all_commands, bytes_written, most_calls, bytes_in}
+use Rattle.client_core.specs.declared.event.Event.{Event}
+use Rattle.client_core.specs.declared.event.Request.{Request}
+use Rattle.client_core.specs.declared.event.Request.TheVariants.{Own, Pass}
+use Rattle.client_script.specs.declared.line.Want.TheVariants.{Open}
+use Rattle.client_script.specs.declared.line.Verb.TheVariants.{Once, ReadWait, Drain, GetStc, Write}
+use Rattle.ts_batch.specs.Batch.{Packets}
+use Rattle.dvr_play.specs.Laws.{packets_in}
+use Rattle.client_core.specs.Deeds.{Batches, batch_at, deed_of}
+use Rattle.client_core.specs.Commands.{call_of, commands_among, commands_of, ends_drain, pass_of, played, plays_of}
+use Rattle.client_core.specs.Events.{next_event, no_slots}
+use Rattle.script_run.specs.Budget.{all_commands, bytes_in, most_calls}
 use Rattle.script_run.specs.IsRun.{IsEvent, StandsIn, replies, sources}
 use Rattle.script_run.specs.SoFar.{Payers, feeder, others, MayPay, IsPaidBehind, HasDoneSoFar, IsSoFar, commands_for, CallsArePaid}
-use Rattle.script_run.proofs.Lists.{has_filter, place_of}
+use Rattle.script_run.proofs.Lists.{has_filter}
 use Rattle.script_run.proofs.Counting.{total, total_le, total_add, total_same, total_33, total_but, total_one, one_at, but, sum_of, Pool, both, all_pools, HaveTokens, counts_fit, weigh_places, weight_at, weight_got}
 use Rattle.script_run.proofs.ReadReplies.{read_there, next_is_refused}
-use Rattle.script_run.proofs.HistoryBytes.{act_packets, packets_of, feeder_brings, bytes_fit, feeder_long}
-use Rattle.script_run.proofs.Played.{brings, brings_to, client_brings, packets_named, named_once, all_few}
+use Rattle.script_run.proofs.HistoryBytes.{bytes_fit, feeder_brings, feeder_long, packets_of}
+use Rattle.script_run.proofs.Events.{all_packets, count_of}
+use Rattle.script_run.proofs.Played.{all_few, named_once}
+use Rattle.script_run.proofs.Passing.{asked_to, from_worth, passed_of, passes_by, worth_all, worth_of}
 use Rattle.script_run.proofs.Repeating.{adds, quiet, IsGoing, going, quiet_calls, grows, but_one, calls_and_repeats, by_bytes, by_again, both_kinds, bytes_pay, IsWaiting, waiting}
 
 -- ------ the commands of all clients
@@ -68,6 +74,51 @@ commands_shared script (Command line who target verb ∷ lines) n =
 -- the first calls of a client
 abbrev firsts : Scripted → ℕ → ℕ
 firsts script d = 33 * commands_by script script.lines d
+
+-- ------ the packets that clients play
+
+-- how many packets a write of a client has
+abbrev write_size : Batches → (write : ℕ) → ℕ
+write_size batches write = length (packets_in (batch_at batches write))
+
+-- how many packets a client's writes in these lines have
+abbrev pub plays_by : Scripted → (lines : List Line) → ℕ → ℕ
+plays_by script lines c = sum_of (λ (x : ClientCommand). worth_of (write_size (plays_of c script)) x.deed) (commands_among c (plays_of c script) lines)
+
+-- how many packets a call on a node brings
+abbrev brings_on : (node : ℕ) → LogEntry → ℕ
+brings_on node e = if nat_eq e.node node then packets_of e else 0
+
+brings_less : (node : ℕ) (e : LogEntry) → brings_on node e ≤ packets_of e
+brings_less node e = go (nat_eq e.node node) where
+  go : (b : Bool) → (if b then packets_of e else 0) ≤ packets_of e
+  go true = omega arith
+  go false = omega arith
+
+pass_size : (o : Option Packets) (moment : ℕ) → count_of (act_of (pass_of o moment)) ≡ length (packets_in o)
+pass_size None moment = refl
+pass_size (Some batch) moment = refl
+
+zero_either : (b : Bool) → (if b then 0 else 0) ≤ 0
+zero_either true = omega arith
+zero_either false = omega arith
+
+asked_size : (batches : Batches) (node at moment : ℕ) (w : Request) → (if nat_eq at node then count_of (act_of (call_of batches w moment)) else 0) ≤ sum_of (write_size batches) (asked_to node at w)
+asked_size batches node at moment (Pass write) = go (nat_eq at node) where
+  go : (b : Bool) → (if b then count_of (act_of (pass_of (batch_at batches write) moment)) else 0) ≤ sum_of (write_size batches) (if b then write ∷ [] else [])
+  go true = omega (arith, pass_size (batch_at batches write) moment)
+  go false = omega arith
+asked_size batches node at moment (Own Open) = zero_either (nat_eq at node)
+asked_size batches node at moment _ = zero_either (nat_eq at node)
+
+event_size : (batches : Batches) (node : ℕ) (e : LogEntry) (w : Event) (moment : ℕ) → e.node ≡ w.node → e.act ≡ act_of (call_of batches w.want moment) → brings_on node e ≤ sum_of (write_size batches) (passes_by node w)
+event_size batches node e w moment on is =
+    omega (
+      arith,
+      asked_size batches node w.node moment w.want,
+      ap (λ k. if nat_eq k node then count_of e.act else 0) on,
+      ap (λ a. if nat_eq w.node node then count_of a else 0) is,
+    )
 
 -- ------ one call
 
@@ -122,120 +173,95 @@ module _ (payers : Payers) (script : Scripted) (most : ℕ) (stream : List (List
   abbrev bytes_of : LogEntry → ℕ
   bytes_of e = bytes_in e.response
 
-  -- the packets of all callers
-  abbrev given : Sources
-  given = sources script stream
+  -- ------ what clients play
 
-  are_all : All IsPacket stream → (who : ℕ) (input : Input) → All IsPacket (given who input)
-  are_all are zero Frontend = are
-  are_all are zero FromDvr = All-nil IsPacket
-  are_all are (suc c) Frontend = are
-  are_all are (suc c) FromDvr = are_packets (joined (writes_of c script.writes))
+  -- an entry of a client
+  abbrev IsClients : (client : ℕ) → LogEntry → Type 0
+  IsClients client e = (low : client < clients_in script) → Has (s.clients client low).made e
+
+  -- no more packets stand behind a client's entries on a node than its writes have
+  client_brings : (node client : ℕ) → client < clients_in script → Pool (brings_on node) (IsClients client) (plays_by script script.lines client)
+  client_brings node client low =
+      let batches : Batches = plays_of client script in
+      let made : List LogEntry = (s.clients client low).made in
+      record {
+        tokens = made;
+        within = omega (
+          arith,
+          worth_all script client made (λ i e at. ((s.clients client low).steps i e at).3) node (brings_on node) (write_size batches) (event_size batches node),
+          from_worth node (write_size batches) no_slots 0 (commands_of client script) (replies made),
+        );
+        all = λ t is. is low;
+      }
+
+  abbrev SomeClients : LogEntry → Type 0
+  SomeClients e = (client : ℕ) × (client < clients_in script) × IsClients client e
+
+  clients_bring : (node : ℕ) → Pool (brings_on node) SomeClients (total (plays_by script script.lines) (clients_in script))
+  clients_bring node = all_pools (brings_on node) IsClients (plays_by script script.lines) (clients_in script) (client_brings node)
+
+  -- those of the feeder
+  feeders_bring : (node : ℕ) (h : List LogEntry) → slice_get hs node ≡ Some h → Pool (brings_on node) (λ e. Has h e × (e.who ≡ 0)) (length stream)
+  feeders_bring node h log = record {
+    tokens = filter (λ e. nat_eq e.who 0) h;
+    within = omega (arith, all_less node (filter (λ e. nat_eq e.who 0) h), feeder_brings h s.fed.batches (s.fed.on_each node h log), s.fed.within);
+    all = λ t is. has_filter (λ e. nat_eq e.who 0) h t (grind (arith, nat_tests, is.1)) is.0;
+  } where
+    all_less : (node : ℕ) (es : List LogEntry) → sum_of (brings_on node) es ≤ sum_of packets_of es
+    all_less node [] = omega arith
+    all_less node (e ∷ es) = omega (arith, brings_less node e, all_less node es)
+
+  -- the packets that pass a node
+  abbrev pub most_packets : ℕ
+  most_packets = length stream + total (plays_by script script.lines) (clients_in script)
+
+  abbrev IsOfEither : List LogEntry → LogEntry → Type 0
+  IsOfEither h e = (Has h e × (e.who ≡ 0)) ⊎ SomeClients e
+
+  node_brings : (node : ℕ) (h : List LogEntry) → slice_get hs node ≡ Some h → sum_of packets_of h ≤ most_packets
+  node_brings node h log = omega (arith, on_node h (λ i e at. (s.places node i h e log at).0), weigh_places (brings_on node) h, counts_fit (brings_on node) (length h) (weight_at (brings_on node) h) (λ i t. slice_get h i ≡ Some t) pool.tokens tokens, pool.within) where
+    pool : Pool (brings_on node) (IsOfEither h) most_packets
+    pool = both (brings_on node) (λ e. Has h e × (e.who ≡ 0)) SomeClients (length stream) (total (plays_by script script.lines) (clients_in script)) (feeders_bring node h log) (clients_bring node)
+
+    on_node : (es : List LogEntry) → ((i : ℕ) (e : LogEntry) → slice_get es i ≡ Some e → e.node ≡ node) → sum_of packets_of es ≤ sum_of (brings_on node) es
+    on_node [] each = omega arith
+    on_node (e ∷ es) each =
+        let here : nat_eq e.node node ≡ true = (let same : e.node ≡ node = each 0 e refl in grind (arith, nat_tests, same)) in
+        let one : brings_on node e ≡ packets_of e = ap (λ b. if b then packets_of e else 0) here in
+        omega (arith, one, on_node es (λ i x at. each (suc i) x at))
+
+    kind : (e : LogEntry) → StandsIn hs e → Has h e → (b : Bool) → nat_eq e.who 0 ≡ b → IsOfEither h e
+    kind e stands has true yea = inl (has, grind (arith, nat_tests, yea))
+    kind e stands has false nay =
+        let m : IsMade e = made_by e stands (λ none. grind (arith, nat_tests, nay, none)) in
+        inr (m.client, m.low, (λ low. has_at (s.clients m.client low).made e e.step (m.made low)))
+
+    there : (i : ℕ) → i < length h → (t : LogEntry) × Has pool.tokens t × (weight_at (brings_on node) h i ≤ brings_on node t) × (slice_get h i ≡ Some t)
+    there i lt =
+        let x = at_place h i lt in
+        (x.0, pool.all x.0 (kind x.0 (stands_at node h log i x.0 x.1) (has_at h x.0 i x.1) (nat_eq x.0.who 0) refl), omega (arith, weight_got (brings_on node) h i x.0 x.1), x.1)
+
+    twice : (i j : ℕ) (t : LogEntry) → i < j → slice_get h i ≡ Some t → slice_get h j ≡ Some t → ⊥
+    twice i j t less a b = omega (arith, less, (s.places node i h t log a).1, (s.places node j h t log b).1)
+
+    tokens : HaveTokens (brings_on node) (length h) (weight_at (brings_on node) h) (λ i t. slice_get h i ≡ Some t) pool.tokens
+    tokens = record { differ = λ i j t less lt a b. twice i j t less a b; has = λ i lt more. there i lt }
+
+  module _ (are : All IsPacket stream) where
+    bytes_at : (node : ℕ) → node < 33 → Pool bytes_of (StandsOn node) (188 * most_packets)
+    bytes_at node lt =
+        let h = at_place hs node (omega (arith, lt, s.nodes)) in
+        record {
+          tokens = h.0;
+          within = bytes_fit (sources script stream) (all_packets script stream are) node h.0 most_packets (s.legal node h.0 h.1) (node_brings node h.0 h.1);
+          all = λ t is. subst (λ l. Has l t) (one_value hs node is.0 h.0 is.1 h.1) is.2;
+        }
+
+    all_bytes : Pool bytes_of (λ t. (node : ℕ) × (node < 33) × StandsOn node t) (total (λ node. 188 * most_packets) 33)
+    all_bytes = all_pools bytes_of StandsOn (λ node. 188 * most_packets) 33 bytes_at
 
   abbrev is_feeder : LogEntry → Bool
   is_feeder e = nat_eq e.who 0
-
-  abbrev on_node : (node : ℕ) → LogEntry → Bool
-  on_node node e = nat_eq e.node node
-
-  -- an entry of the feeder on a node, or of this client
-  abbrev IsBy : (who node : ℕ) → LogEntry → Type 0
-  IsBy who node e = StandsOn node e × (e.who ≡ who)
-
-  -- the calls of a client on a node bring what is counted there
-  brings_own : (node d : ℕ) (log : List LogEntry) → ((i : ℕ) (e : LogEntry) → slice_get log i ≡ Some e → e.who ≡ suc d)
-      → sum_of (packets_of given) (filter (on_node node) log) ≤ sum_of (brings_to node (given (suc d))) log
-  brings_own node d [] own = omega arith
-  brings_own node d (e ∷ log) own = go (brings_own node d log (λ i x at. own (suc i) x at)) (nat_eq e.node node) where
-    go : sum_of (packets_of given) (filter (on_node node) log) ≤ sum_of (brings_to node (given (suc d))) log → (b : Bool)
-        → sum_of (packets_of given) (if b then e ∷ filter (on_node node) log else filter (on_node node) log)
-        ≤ (if b then brings (given (suc d)) e.act else 0) + sum_of (brings_to node (given (suc d))) log
-    go deeper true = omega (arith, deeper, ap (λ who. act_packets given who e.act) (own 0 e refl))
-    go deeper false = omega (arith, deeper)
-
-  -- each client's calls bring each node at most so many packets
-  abbrev pub AreBrought : (ℕ → ℕ) → Type 0
-  AreBrought most_of = (d : ℕ) (low : d < clients_in script) (node : ℕ) → sum_of (brings_to node (given (suc d))) (s.clients d low).made ≤ most_of d
-
-  module _ (most_of : ℕ → ℕ) (few : AreBrought most_of) (node : ℕ) (lt : node < 33) where
-    abbrev here : (h : List LogEntry) × (slice_get hs node ≡ Some h)
-    here = at_place hs node (omega (arith, lt, s.nodes))
-
-    own_history : (t : LogEntry) → StandsOn node t → Has here.0 t
-    own_history t is = subst (λ l. Has l t) (one_value hs node is.0 here.0 is.1 here.1) is.2
-
-    feeder_packets : Pool (packets_of given) (IsBy 0 node) (length stream)
-    feeder_packets = record {
-      tokens = filter is_feeder here.0;
-      within = feeder_brings given here.0 s.fed.batches (length stream) (s.fed.on_each node here.0 here.1) s.fed.within;
-      all = λ t is. has_filter is_feeder here.0 t (grind (arith, nat_tests, is.1)) (own_history t is.0);
-    }
-
-    -- where an entry of this history stands
-    placed : (t : LogEntry) → StandsOn node t → StandsIn hs t × (t.node ≡ node)
-    placed t (h, log, has) = (let p = place_of h t has in let q = s.places node p.0 h t log p.1 in
-        ((h, ap (λ n. slice_get hs n) q.0 ∙ log, ap (λ n. slice_get h n) q.1 ∙ p.1), q.0))
-
-    client_packets : (d : ℕ) → d < clients_in script → Pool (packets_of given) (IsBy (suc d) node) (most_of d)
-    client_packets d low = record {
-      tokens = filter (on_node node) (s.clients d low).made;
-      within = omega (
-        arith,
-        brings_own node d (s.clients d low).made (λ i e at. let who = ((s.clients d low).steps i e at).1 in omega (arith, who)),
-        few d low node,
-      );
-      all = λ t is.
-          let p = placed t is.0 in
-          let who : t.who ≡ d + 1 = omega (arith, is.1) in
-          has_filter (on_node node) (s.clients d low).made t (grind (arith, nat_tests, p.1))
-          (has_at (s.clients d low).made t t.step ((s.clients d low).only t.node t.place p.0.0 t p.0.1 p.0.2 who));
-    }
-
-    all_packets : Pool (packets_of given) (λ t. IsBy 0 node t ⊎ ((d : ℕ) × (d < clients_in script) × IsBy (suc d) node t)) (length stream + total most_of (clients_in script))
-    all_packets =
-        both (packets_of given) (IsBy 0 node) (λ t. (d : ℕ) × (d < clients_in script) × IsBy (suc d) node t) (length stream) (total most_of (clients_in script)) feeder_packets
-        (all_pools (packets_of given) (λ d. IsBy (suc d) node) most_of (clients_in script) client_packets)
-
-    -- each entry of a history is the feeder's or a client's
-    whose : (t : LogEntry) (i : ℕ) → slice_get here.0 i ≡ Some t → IsBy 0 node t ⊎ ((d : ℕ) × (d < clients_in script) × IsBy (suc d) node t)
-    whose t i at = go t.who refl where
-      on : StandsOn node t
-      on = (here.0, here.1, has_at here.0 t i at)
-
-      go : (n : ℕ) → t.who ≡ n → IsBy 0 node t ⊎ ((d : ℕ) × (d < clients_in script) × IsBy (suc d) node t)
-      go zero is = inl (on, is)
-      go (suc d) is = inr (d, omega (arith, is, (s.places node i here.0 t here.1 at).2), (on, is))
-
-    -- the node is brought no more packets than the stream has and the clients' calls bring
-    brought_here : sum_of (packets_of given) here.0 ≤ length stream + total most_of (clients_in script)
-    brought_here = omega (
-      arith,
-      weigh_places (packets_of given) here.0,
-      counts_fit (packets_of given) (length here.0) (weight_at (packets_of given) here.0) (λ i t. slice_get here.0 i ≡ Some t) all_packets.tokens tokens,
-      all_packets.within,
-    ) where
-      tokens : HaveTokens (packets_of given) (length here.0) (weight_at (packets_of given) here.0) (λ i t. slice_get here.0 i ≡ Some t) all_packets.tokens
-      tokens = record {
-        differ = λ i j t less lt a b. (let p = (s.places node i here.0 t here.1 a).1 in let q = (s.places node j here.0 t here.1 b).1 in omega (arith, p, q, less));
-        has = λ i lt more. (let e = at_place here.0 i lt in (e.0, all_packets.all e.0 (whose e.0 i e.1), omega (arith, weight_got (packets_of given) here.0 i e.0 e.1), e.1));
-      }
-
-  -- the most bytes that a node answers
-  abbrev most_bytes : (ℕ → ℕ) → ℕ
-  most_bytes most_of = 188 * (length stream + total most_of (clients_in script))
-
-  module _ (most_of : ℕ → ℕ) (few : AreBrought most_of) (are : All IsPacket stream) where
-    bytes_at : (node : ℕ) → node < 33 → Pool bytes_of (StandsOn node) (most_bytes most_of)
-    bytes_at node lt =
-        let h = here most_of few node lt in
-        record {
-          tokens = h.0;
-          within = omega (arith, bytes_fit given (are_all are) node h.0 (s.legal node h.0 h.1), brought_here most_of few node lt);
-          all = λ t is. own_history most_of few node lt t is;
-        }
-
-    all_bytes : Pool bytes_of (λ t. (node : ℕ) × (node < 33) × StandsOn node t) (total (λ node. most_bytes most_of) 33)
-    all_bytes = all_pools bytes_of StandsOn (λ node. most_bytes most_of) 33 bytes_at
 
   few_quiet : (es : List LogEntry) → sum_of quiet es ≤ length es
   few_quiet [] = omega arith
@@ -301,8 +327,8 @@ module _ (payers : Payers) (script : Scripted) (most : ℕ) (stream : List (List
         let one : xs.0 ≡ es.0 = one_value hs e.node xs.0 es.0 there es.1 in
         let next : x.place ≡ suc e.place = omega (arith, place) in
         absurd (
-        next_is_refused e.node given es.0 (s.legal e.node es.0 es.1) e.place e x es.2 (subst (λ l. slice_get l (suc e.place) ≡ Some x) one (ap (λ k. slice_get xs.0 k) (sym next) ∙ xs.2)) differ
-        (reads_on given e on) (reads_on given x (going x.act x.response (omega (arith, more))))
+        next_is_refused e.node (sources script stream) es.0 (s.legal e.node es.0 es.1) e.place e x es.2 (subst (λ l. slice_get l (suc e.place) ≡ Some x) one (ap (λ k. slice_get xs.0 k) (sym next) ∙ xs.2)) differ
+        (reads_on (sources script stream) e on) (reads_on (sources script stream) x (going x.act x.response (omega (arith, more))))
         )
 
     abbrev my_bytes : ℕ → ℕ
@@ -313,21 +339,21 @@ module _ (payers : Payers) (script : Scripted) (most : ℕ) (stream : List (List
 
     -- ------ bytes
 
-    bytes_count : (most_of : ℕ → ℕ) → AreBrought most_of → All IsPacket stream → (k : ℕ) → k ≤ length me.made → total my_bytes k ≤ 33 * most_bytes most_of
-    bytes_count most_of few are k le = omega (arith, counts_fit bytes_of k my_bytes (λ i t. slice_get me.made i ≡ Some t) (all_bytes most_of few are).tokens tokens, (all_bytes most_of few are).within, total_same (most_bytes most_of) 33) where
+    bytes_count : All IsPacket stream → (k : ℕ) → k ≤ length me.made → total my_bytes k ≤ 33 * (188 * most_packets)
+    bytes_count are k le = omega (arith, counts_fit bytes_of k my_bytes (λ i t. slice_get me.made i ≡ Some t) (all_bytes are).tokens tokens, (all_bytes are).within, total_same (188 * most_packets) 33) where
       twice : (i j : ℕ) (t : LogEntry) → i < j → slice_get me.made i ≡ Some t → slice_get me.made j ≡ Some t → ⊥
       twice i j t less a b = let up = me.in_order i j t t less a b refl in omega (arith, up)
 
-      there : (i : ℕ) (e : LogEntry) → slice_get me.made i ≡ Some e → 0 < my_bytes i → (t : LogEntry) × Has (all_bytes most_of few are).tokens t × (my_bytes i ≤ bytes_of t) × (slice_get me.made i ≡ Some t)
+      there : (i : ℕ) (e : LogEntry) → slice_get me.made i ≡ Some e → 0 < my_bytes i → (t : LogEntry) × Has (all_bytes are).tokens t × (my_bytes i ≤ bytes_of t) × (slice_get me.made i ≡ Some t)
       there i e at more =
           let stands = (me.steps i e at).2 in (
             e,
-            (all_bytes most_of few are).all e (stands_on e stands),
-            bytes_pay script c me.made (events c is) i e at (λ now count read. read_there e.node given stands.0 (s.legal e.node stands.0 stands.1) e.place e now count stands.2 read) more,
+            (all_bytes are).all e (stands_on e stands),
+            bytes_pay script c me.made (events c is) i e at (λ now count read. read_there e.node (sources script stream) stands.0 (s.legal e.node stands.0 stands.1) e.place e now count stands.2 read) more,
             at,
           )
 
-      tokens : HaveTokens bytes_of k my_bytes (λ i t. slice_get me.made i ≡ Some t) (all_bytes most_of few are).tokens
+      tokens : HaveTokens bytes_of k my_bytes (λ i t. slice_get me.made i ≡ Some t) (all_bytes are).tokens
       tokens = record {
         differ = λ i j t less lt a b. twice i j t less a b;
         has = λ i lt more. (let e = at_place me.made i (omega (arith, lt, le)) in there i e.0 e.1 more);
@@ -364,15 +390,13 @@ module _ (payers : Payers) (script : Scripted) (most : ℕ) (stream : List (List
 
       -- ------ the bound
 
-      module _ (most_of : ℕ → ℕ) (few : AreBrought most_of) (are : All IsPacket stream) where
-        within_to : firsts script c + bound ≤ 33 * commands_for payers c script + 33 * (length stream + 1) → (n : ℕ) → length me.made ≡ n
-            → length me.made ≤ firsts script c + total (grows script c me.made (events c is)) (but_one script c me.made (events c is) n) → length me.made ≤ most_calls (commands_for payers c script) (most_bytes most_of)
-        within_to enough zero long calls = omega (arith, long)
-        within_to enough (suc k) long calls =
-            omega (arith, calls, both_kinds script c me.made (events c is) k, bytes_count most_of few are k (omega (arith, long)), again_count k (omega (arith, long)), enough)
+      within_to : firsts script c + bound ≤ 33 * commands_for payers c script + 33 * (length stream + 1) → All IsPacket stream → (n : ℕ) → length me.made ≡ n
+          → length me.made ≤ firsts script c + total (grows script c me.made (events c is)) (but_one script c me.made (events c is) n) → length me.made ≤ most_calls (commands_for payers c script) (188 * most_packets)
+      within_to enough are zero long few = omega (arith, long)
+      within_to enough are (suc k) long few = omega (arith, few, both_kinds script c me.made (events c is) k, bytes_count are k (omega (arith, long)), again_count k (omega (arith, long)), enough)
 
-        pub within : firsts script c + bound ≤ 33 * commands_for payers c script + 33 * (length stream + 1) → length me.made ≤ most_calls (commands_for payers c script) (most_bytes most_of)
-        within enough = within_to enough (length me.made) refl (calls_and_repeats script c me.made (events c is))
+      pub within : firsts script c + bound ≤ 33 * commands_for payers c script + 33 * (length stream + 1) → All IsPacket stream → length me.made ≤ most_calls (commands_for payers c script) (188 * most_packets)
+      within enough are = within_to enough are (length me.made) refl (calls_and_repeats script c me.made (events c is))
 
     feeders : (x : LogEntry) → StandsIn hs x → x.who ≡ 0 → FeederPays x
     feeders x stands zero_is = let on = stands_on x stands in (on.0, on.1, (on.2, zero_is))
@@ -383,37 +407,32 @@ module _ (payers : Payers) (script : Scripted) (most : ℕ) (stream : List (List
         let m : IsMade x = made_by x stands (λ none. grind (arith, nat_tests, nay, none)) in
         inr (m.client, m.low, ((λ same. may (m.who ∙ ap (λ n. n + 1) same)), (λ low. has_at (s.clients m.client low).made x x.step (m.made low))))
 
--- Where each client's calls bring each node at most so many packets, these and the stream's pay.
-pub calls_paid_by : (payers : Payers) (script : Scripted) (most : ℕ) (stream : List (List ℕ)) (hs : List (List LogEntry)) (s : IsSoFar payers script most stream hs) (most_of : ℕ → ℕ)
-    → AreBrought payers script most stream hs s most_of → All IsPacket stream → (c : ℕ) (is : c < clients_in script)
-    → length (s.clients c is).made ≤ most_calls (commands_for payers c script) (188 * (length stream + total most_of (clients_in script)))
-calls_paid_by feeder script most stream hs s most_of few are c is =
+-- Whatever writes the lines name, the packets pay that they complete.
+pub calls_are_bounded : (payers : Payers) (script : Scripted) (most : ℕ) (stream : List (List ℕ)) (hs : List (List LogEntry)) (s : IsSoFar payers script most stream hs) → All IsPacket stream
+    → (c : ℕ) (is : c < clients_in script)
+    → length (s.clients c is).made ≤ most_calls (commands_for payers c script) (188 * (length stream + total (plays_by script script.lines) (clients_in script)))
+calls_are_bounded feeder script most stream hs s are c is =
     within feeder script most stream hs s c is (FeederPays feeder script most stream hs s) (total (λ node. length stream + 1) 33) (feeder_pool feeder script most stream hs s)
-    (feeders feeder script most stream hs s c is) most_of few are (omega (arith, total_same (length stream + 1) 33))
-calls_paid_by others script most stream hs s most_of few are c is =
+    (feeders feeder script most stream hs s c is) (omega (arith, total_same (length stream + 1) 33)) are
+calls_are_bounded others script most stream hs s are c is =
     within others script most stream hs s c is (λ x. FeederPays others script most stream hs s x ⊎ OtherPays others script most stream hs s c is x)
     (total (λ node. length stream + 1) 33 + total (but c (firsts script)) (clients_in script))
     (both quiet (FeederPays others script most stream hs s) (OtherPays others script most stream hs s c is) (total (λ node. length stream + 1) 33) (total (but c (firsts script)) (clients_in script))
     (feeder_pool others script most stream hs s) (other_pool others script most stream hs s c is))
-    (λ x stands may. either others script most stream hs s c is x stands may (nat_eq x.who 0) refl) most_of few are
+    (λ x stands may. either others script most stream hs s c is x stands may (nat_eq x.who 0) refl)
     (omega (
       arith,
       total_same (length stream + 1) 33,
       total_but c (firsts script) (clients_in script) is,
       total_33 (commands_by script script.lines) (clients_in script),
       commands_shared script script.lines (clients_in script),
-    ))
-
--- Whatever writes the lines name, a client's calls bring the packets that they complete.
-pub calls_are_bounded : (payers : Payers) (script : Scripted) (most : ℕ) (stream : List (List ℕ)) (hs : List (List LogEntry)) (s : IsSoFar payers script most stream hs) → All IsPacket stream
-    → (c : ℕ) (is : c < clients_in script)
-    → length (s.clients c is).made ≤ most_calls (commands_for payers c script) (188 * (length stream + total (λ d. packets_named d script) (clients_in script)))
-calls_are_bounded payers script most stream hs s are c is =
-    calls_paid_by payers script most stream hs s (λ d. packets_named d script)
-    (λ d low node. client_brings script d node (sources script stream (suc d)) (s.clients d low).made (λ i e at. ((s.clients d low).steps i e at).3)) are c is
+    )) are
 
 pub calls_are_paid : CallsArePaid
 calls_are_paid payers script most stream hs s numbered are c is =
-    let paid = calls_paid_by payers script most stream hs s (λ d. length (played d script))
-    (λ d low node. omega (arith, client_brings script d node (sources script stream (suc d)) (s.clients d low).made (λ i e at. ((s.clients d low).steps i e at).3), named_once d script (numbered d))) are c is in
-    omega (arith, paid, all_few script (clients_in script))
+    omega (
+      arith,
+      calls_are_bounded payers script most stream hs s are c is,
+      total_le (plays_by script script.lines) (λ d. length (played d script)) (clients_in script) (λ d lt. (let same : plays_by script script.lines d ≡ length (played d script) = named_once d script (numbered d) in omega (arith, same))),
+      all_few script (clients_in script),
+    )

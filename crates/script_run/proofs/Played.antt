@@ -1,42 +1,61 @@
--- The packets that a client's passes bring to a node are no more than those that it plays.
-use Rattle.std.proofs.Common.{◌≡◌, refl, sym, ap, subst, ◌∙◌, ℕ, zero, suc, ◌+◌, ◌*◌, ◌≤◌, Bool, true, false, nat_eq, List, [], ◌∷◌, ◌++◌, length, map, take, drop, slice_get, Option, Some, None, arith, length-append, length-take}
-use Rattle.std.specs.Prelude.{sum, slice_index_or, if◌then◌else◌}
+-- The packets that the writes complete which a script's lines name.
+use Rattle.std.proofs.Common.{◌≡◌, refl, sym, ap, subst, ◌∙◌, ℕ, zero, suc, ◌+◌, ◌*◌, ◌≤◌, Bool, true, false, nat_eq, List, [], ◌∷◌, ◌++◌, length, map, None, arith, length-append}
+use Rattle.std.specs.Prelude.{sum, if◌then◌else◌}
 use Rattle.std.specs.List.{flat_map, range_with_len}
 use Rattle.std.proofs.Math.Seq.{get_or-append_seam}
-use Rattle.std.proofs.lemmas.List.{append_assoc, append-nil, map-append}
+use Rattle.std.proofs.lemmas.List.{append_assoc}
 use Rattle.std.proofs.lemmas.List.Sums.{sum_by-cons}
-use Rattle.ts_packet.specs.Cut.{cut}
-use Rattle.ts_packet.specs.declared.size.PacketSize.TheVariants.{Of188}
-use Rattle.ts_batch.specs.Batch.{Packets}
 use Rattle.dvr_play.specs.Plays.{plays, joined, cut_of}
 use Rattle.dvr_play.specs.Laws.{packets_in}
 use Rattle.dvr_play.proofs.Joining.{few_in, are_joined, are_counted}
-use Rattle.dmx_calls.specs.declared.params.Input.{Input}
-use Rattle.dmx_calls.specs.declared.params.Input.TheVariants.{Dvr as FromDvr}
-use Rattle.dmx_calls.specs.declared.log.Act.{Act}
-use Rattle.dmx_calls.specs.Invocation.{brought}
-use Rattle.dmx_calls.specs.Log.{LogEntry, act_of, filled_act}
-use Rattle.dmx_calls.specs.Response.{Response}
 use Rattle.client_script.specs.declared.line.Line.{Line}
 use Rattle.client_script.specs.declared.line.Line.TheVariants.{Feed, Tick, Command as CommandLine}
 use Rattle.client_script.specs.declared.line.Verb.{Verb}
 use Rattle.client_script.specs.declared.line.Verb.TheVariants as verb
-use Rattle.client_script.specs.declared.line.Want.TheVariants.{Open}
 use Rattle.client_script.specs.Script.{Scripted, writes_of, named_by, named_in, named_among}
 use Rattle.client_core.specs.declared.command.Command.{Command}
-use Rattle.client_core.specs.declared.event.Event.{Event}
-use Rattle.client_core.specs.declared.event.Request.{Request}
-use Rattle.client_core.specs.declared.event.Request.TheVariants.{Own, Pass}
+use Rattle.client_core.specs.declared.deed.Deed.{Deed}
+use Rattle.client_core.specs.declared.deed.Deed.TheVariants.{Once, ReadWait, Drain, GetStc, Write}
 use Rattle.client_core.specs.Deeds.{Batches, batch_at, deed_of}
-use Rattle.client_core.specs.Commands.{call_of, pass_of, played, plays_of, commands_in, commands_among, commands_of}
-use Rattle.client_core.specs.Events.{next_event}
-use Rattle.client_core.specs.Passes.{pass_in, pass_at}
-use Rattle.client_core.proofs.Passing.{pass_by, passes_by, same_passes, weight, weight_append, write_in, writes_in, writes_append, passes_light}
+use Rattle.client_core.specs.Commands.{played, plays_of, commands_in, commands_among}
 use Rattle.script_run.specs.Budget.{bytes_written}
-use Rattle.script_run.specs.IsRun.{IsEvent, replies}
 use Rattle.script_run.proofs.Counting.{total, total_le, total_same, total_first, sum_of}
+use Rattle.script_run.proofs.Passing.{worth_of}
 
 -- ------ the writes that lines name
+
+-- the sum of these over writes
+abbrev weight : (ℕ → ℕ) → List ℕ → ℕ
+weight f [] = 0
+weight f (w ∷ ws) = f w + weight f ws
+
+weight_append : (f : ℕ → ℕ) (xs ys : List ℕ) → weight f (xs ++ ys) ≡ weight f xs + weight f ys
+weight_append f [] ys = omega arith
+weight_append f (x ∷ xs) ys = let deeper = weight_append f xs ys in omega (arith, deeper)
+
+-- the write of a command, if it is one
+abbrev write_in : Deed → List ℕ
+write_in (Write write has) = write ∷ []
+write_in _ = []
+
+abbrev writes_in : List Command → List ℕ
+writes_in [] = []
+writes_in (c ∷ cs) = write_in c.deed ++ writes_in cs
+
+writes_append : (xs ys : List Command) → writes_in (xs ++ ys) ≡ writes_in xs ++ writes_in ys
+writes_append [] ys = refl
+writes_append (x ∷ xs) ys = ap (λ ws. write_in x.deed ++ ws) (writes_append xs ys) ∙ sym (append_assoc (write_in x.deed) (writes_in xs) (writes_in ys))
+
+one_worth : (f : ℕ → ℕ) (v : Deed) → worth_of f v ≡ weight f (write_in v)
+one_worth f (Once want) = refl
+one_worth f (ReadWait count) = refl
+one_worth f (Drain count) = refl
+one_worth f (GetStc num) = refl
+one_worth f (Write write has) = omega arith
+
+all_worth : (f : ℕ → ℕ) (cs : List Command) → sum_of (λ (c : Command). worth_of f c.deed) cs ≡ weight f (writes_in cs)
+all_worth f [] = omega arith
+all_worth f (c ∷ cs) = omega (arith, one_worth f c.deed, weight_append f (write_in c.deed) (writes_in cs), all_worth f cs)
 
 named_deed : (batches : Batches) (v : Verb) → write_in (deed_of batches v) ++ [] ≡ named_by v
 named_deed batches (verb.Once want) = refl
@@ -83,87 +102,12 @@ all_played : (ws : List (List ℕ)) → weight (packets_at (plays ws)) (range_wi
 all_played ws =
     ap (λ n. weight (packets_at (plays ws)) (range_with_len 0 n)) (sym (are_counted ws)) ∙ from_place [] (plays ws) ∙ ap length (are_joined ws)
 
--- how many packets the writes complete that a client's lines name, each as often as it is named
-abbrev pub packets_named : (client : ℕ) → Scripted → ℕ
-packets_named client script = weight (packets_at (plays_of client script)) (writes_in (commands_of client script))
-
--- where each is named once they are those that the client plays
-pub named_once : (client : ℕ) (script : Scripted) → named_among client script.lines ≡ range_with_len 0 (length (writes_of client script.writes)) → packets_named client script ≡ length (played client script)
+-- Where the lines of a client name its writes each once, the packets that these complete are those that the client plays.
+pub named_once : (client : ℕ) (script : Scripted) → named_among client script.lines ≡ range_with_len 0 (length (writes_of client script.writes))
+    → sum_of (λ (c : Command). worth_of (packets_at (plays_of client script)) c.deed) (commands_among client (plays_of client script) script.lines) ≡ length (played client script)
 named_once client script numbered =
-    ap (weight (packets_at (plays_of client script))) (writes_named client (plays_of client script) script.lines ∙ numbered) ∙ all_played (writes_of client script.writes)
-
--- ------ the packets that a client's calls bring
-
--- how many packets a call brings, where those of its input are these
-abbrev pub brings : (Input → List (List ℕ)) → Act → ℕ
-brings packets a = length (brought (filled_act packets a))
-
-pass_brings : (packets : Input → List (List ℕ)) (o : Option Packets) (m : ℕ) → brings packets (act_of (pass_of o m)) ≤ length (packets_in o)
-pass_brings packets None m = omega arith
-pass_brings packets (Some b) m = omega (arith, length-take (length b.packets) (drop b.first (packets FromDvr)))
-
-call_brings : (packets : Input → List (List ℕ)) (batches : Batches) (w : Request) (m : ℕ) → brings packets (act_of (call_of batches w m)) ≤ weight (packets_at batches) (pass_in w)
-call_brings packets batches (Own Open) m = omega arith
-call_brings packets batches (Pass write) m = omega (arith, pass_brings packets (batch_at batches write) m)
-call_brings packets batches _ m = omega arith
-
--- how many packets an entry brings to this node
-abbrev pub brings_to : (node : ℕ) → (Input → List (List ℕ)) → LogEntry → ℕ
-brings_to node packets e = if nat_eq e.node node then brings packets e.act else 0
-
-entry_brings : (node : ℕ) (packets : Input → List (List ℕ)) (batches : Batches) (o : Option Event) (e : LogEntry) → IsEvent batches o e → brings_to node packets e ≤ weight (packets_at batches) (pass_by node o)
-entry_brings node packets batches None e is = absurd is
-entry_brings node packets batches (Some event) e is =
-    subst (λ n. (if nat_eq n node then brings packets e.act else 0) ≤ weight (packets_at batches) (pass_at node event)) (sym is.0) (go (nat_eq event.node node)) where
-      go : (b : Bool) → (if b then brings packets e.act else 0) ≤ weight (packets_at batches) (if b then pass_in event.want else [])
-      go true = subst (λ a. brings packets a ≤ weight (packets_at batches) (pass_in event.want)) (sym is.1.1) (call_brings packets batches event.want is.1.0)
-      go false = omega arith
-
--- ------ along the calls of a client
-
-module _ (script : Scripted) (client : ℕ) where
-  abbrev pub own : Batches
-  own = plays_of client script
-
-  -- each call is the one that is asked for behind those before it
-  abbrev pub AreEvents : (before log : List LogEntry) → Type 0
-  AreEvents before log = (i : ℕ) (e : LogEntry) → slice_get log i ≡ Some e → IsEvent own (next_event client script (replies (before ++ take i log))) e
-
-  pub first_event : (before : List LogEntry) (e : LogEntry) (log : List LogEntry) → AreEvents before (e ∷ log) → IsEvent own (next_event client script (replies before ++ [])) e
-  first_event before e log each = subst (λ rs. IsEvent own (next_event client script rs) e) (ap replies (append-nil before) ∙ sym (append-nil (replies before))) (each 0 e refl)
-
-  pub events_behind : (before : List LogEntry) (e : LogEntry) (log : List LogEntry) → AreEvents before (e ∷ log) → AreEvents (before ++ e ∷ []) log
-  events_behind before e log each = λ i x at. subst (λ l. IsEvent own (next_event client script (replies l)) x) (sym (append_assoc before (e ∷ []) (take i log))) (each (suc i) x at)
-
-  pub same_behind : (node : ℕ) (before : List LogEntry) (e : LogEntry) (log : List LogEntry)
-      → passes_by node (λ m. next_event client script (replies (before ++ e ∷ []) ++ m)) (replies log) ≡ passes_by node (λ m. next_event client script (replies before ++ e.response ∷ m)) (replies log)
-  same_behind node before e log =
-      same_passes node (λ m. next_event client script (replies (before ++ e ∷ []) ++ m)) (λ m. next_event client script (replies before ++ e.response ∷ m))
-      (λ m. ap (λ rs. next_event client script rs) (ap (λ rs. rs ++ m) (map-append (λ (x : LogEntry). x.response) before (e ∷ [])) ∙ append_assoc (replies before) (e.response ∷ []) m)) (replies log)
-
-module _ (script : Scripted) (client : ℕ) (node : ℕ) (packets : Input → List (List ℕ)) where
-  abbrev batches : Batches
-  batches = plays_of client script
-
-  along : (before log : List LogEntry) → AreEvents script client before log
-      → sum_of (brings_to node packets) log ≤ weight (packets_at batches) (passes_by node (λ m. next_event client script (replies before ++ m)) (replies log))
-  along before [] each = omega arith
-  along before (e ∷ log) each =
-      let later = along (before ++ e ∷ []) log (events_behind script client before e log each) in
-      omega (
-        arith,
-        entry_brings node packets batches (next_event client script (replies before ++ [])) e (first_event script client before e log each),
-        later,
-        ap (weight (packets_at batches)) (same_behind script client node before e log),
-        weight_append (packets_at batches) (pass_by node (next_event client script (replies before ++ []))) (passes_by node (λ m. next_event client script (replies before ++ e.response ∷ m)) (replies log)),
-      )
-
-  -- A client that did what its commands ask has brought the node no more packets than the writes complete that its lines name.
-  pub client_brings : (log : List LogEntry) → ((i : ℕ) (e : LogEntry) → slice_get log i ≡ Some e → IsEvent batches (next_event client script (replies (take i log))) e)
-      → sum_of (brings_to node packets) log ≤ packets_named client script
-  client_brings log each =
-      let walked : sum_of (brings_to node packets) log ≤ weight (packets_at batches) (passes_by node (λ m. next_event client script m) (replies log)) = along [] log each in
-      omega (arith, walked, passes_light (packets_at batches) node client script (replies log))
+    all_worth (packets_at (plays_of client script)) (commands_among client (plays_of client script) script.lines)
+    ∙ ap (weight (packets_at (plays_of client script))) (writes_named client (plays_of client script) script.lines ∙ numbered) ∙ all_played (writes_of client script.writes)
 
 -- ------ bytes
 
@@ -187,7 +131,7 @@ all_writes (w ∷ writes) (suc n) =
     omega (arith, total_first (λ d. bytes_of (writes_of d (w ∷ writes))) n, all_writes writes n, sum_by-cons (λ k. k) (bytes_of w) (map bytes_of writes))
 
 total_188 : (f : ℕ → ℕ) (n : ℕ) → total (λ i. 188 * f i) n ≡ 188 * total f n
-total_188 f zero = refl
+total_188 f zero = omega arith
 total_188 f (suc n) = let deeper = total_188 f n in omega (arith, deeper)
 
 -- what the clients play has no more bytes than they write

@@ -158,7 +158,7 @@ module _ (node : ℕ) where
       readers_call_between (rules_at node) (reverse s.front) [] one other e x
       (behind_it s.back s.front e x (subst (λ l. IsLegalFor (rules_at node) (reverse l)) s.whole legal) (s.next x there)) differ read again tt
 
-  -- ------ filled with the packets that callers pass
+  -- ------ filled with the packets that passes bring
 
   module _ (packets : Sources) (es : List LogEntry) (legal : IsLegalFor (rules_at node) (filled packets es)) where
     -- the response to a read

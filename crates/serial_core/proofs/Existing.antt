@@ -14,7 +14,7 @@ use Rattle.client_core.specs.Commands.{commands_of, plays_of}
 use Rattle.client_core.specs.Events.{next_of_line}
 use Rattle.script_run.specs.Budget.{most_calls}
 use Rattle.script_run.proofs.Counting.{total}
-use Rattle.script_run.proofs.Played.{packets_named}
+use Rattle.script_run.proofs.Paying.{plays_by}
 use Rattle.serial_core.specs.SerialRun.{Run, begun, fed, ticked, replies_of, reply_to, called, after_waiting, IsWorked, through, calls, AreDone, finished}
 use Rattle.serial_core.specs.Budget.{IsBegun, no_call, one_call, IsOnTheWay, IsMoment}
 use Rattle.serial_core.specs.Runs.{HaveSerialRuns}
@@ -24,7 +24,7 @@ use Rattle.serial_core.proofs.Runs.{moments_bounded}
 module _ (script : Scripted) (batch : ℕ) (packets : List (List ℕ)) (ranges : All IsInRange script.lines) (are : All IsPacket packets) (one : 1 ≤ batch) where
   -- the most calls of a client
   abbrev most : (client : ℕ) → ℕ
-  most client = most_calls (length (commands_of client script)) (188 * (length packets + total (λ d. packets_named d script) (clients_in script)))
+  most client = most_calls (length (commands_of client script)) (188 * (length packets + total (plays_by script script.lines) (clients_in script)))
 
   calls_most : (client : ℕ) (r : Run) → IsMoment script batch packets r → length (replies_of client r) ≤ most client
   calls_most client r moment = moments_bounded script batch packets r ranges one are moment client

@@ -19,8 +19,7 @@ use Rattle.script_run.specs.SoFar.{feeder, IsPaidBehind, IsFedSoFar, HasDoneSoFa
 use Rattle.script_run.proofs.Ending.{runs_end, are_accounted}
 use Rattle.script_run.proofs.Clients.{few_in_all}
 use Rattle.script_run.proofs.Counting.{total}
-use Rattle.script_run.proofs.Paying.{calls_are_bounded, calls_are_paid}
-use Rattle.script_run.proofs.Played.{packets_named}
+use Rattle.script_run.proofs.Paying.{calls_are_bounded, calls_are_paid, plays_by}
 use Rattle.serial_core.specs.Nodes.{history_of}
 use Rattle.serial_core.specs.SerialRun.{Run, all_passed, node_at, replies_of}
 use Rattle.serial_core.specs.Budget.{IsMoment, IsWithinBudget}
@@ -119,9 +118,9 @@ module _ (script : Scripted) (batch : ℕ) (packets : List (List ℕ)) (few : cl
 
   -- and they are bounded, whatever writes the lines name
   bounded : All IsPacket packets → (client : ℕ)
-      → length (replies_of client r) ≤ most_calls (length (commands_of client script)) (188 * (length packets + total (λ d. packets_named d script) (clients_in script)))
+      → length (replies_of client r) ≤ most_calls (length (commands_of client script)) (188 * (length packets + total (plays_by script script.lines) (clients_in script)))
   bounded are =
-      calls_within (188 * (length packets + total (λ d. packets_named d script) (clients_in script)))
+      calls_within (188 * (length packets + total (plays_by script script.lines) (clients_in script)))
       (λ client lt. calls_are_bounded feeder script batch packets (histories_in r) so_far are client lt)
 
   -- where it is over it is a run
@@ -151,7 +150,7 @@ within_budget = record {
 
 -- at each moment the calls of a client are bounded
 pub moments_bounded : (script : Scripted) (batch : ℕ) (packets : List (List ℕ)) (r : Run) → All IsInRange script.lines → 1 ≤ batch → All IsPacket packets → IsMoment script batch packets r → (client : ℕ)
-    → length (replies_of client r) ≤ most_calls (length (commands_of client script)) (188 * (length packets + total (λ d. packets_named d script) (clients_in script)))
+    → length (replies_of client r) ≤ most_calls (length (commands_of client script)) (188 * (length packets + total (plays_by script script.lines) (clients_in script)))
 moments_bounded script batch packets r ranges one are moment client =
     let few = few_in_all script ranges in
     bounded script batch packets few ranges r (moment_come script batch packets (clients_in script) few ranges one r (all_below script) moment) are client
