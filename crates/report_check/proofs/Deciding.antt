@@ -32,7 +32,7 @@ use Rattle.report_check.proofs.Feeding.{feeds_is}
 use Rattle.report_check.proofs.Nodes.{TellsOrNot, complete_at, complete_long, each_whole, in_place, same_queues}
 use Rattle.report_check.proofs.Fed.{IsFeeder, node_feeder, tiled_feeder}
 use Rattle.report_check.proofs.Passed.{done_at}
-use Rattle.report_check.proofs.Played.{same_filled, same_sources}
+use Rattle.report_check.proofs.Players.{same_filled, same_sources}
 use Rattle.history_check.specs.Playing.{brought_from}
 
 -- ------ entries

@@ -28,7 +28,7 @@ use Rattle.report_check.proofs.Feeding.{is_feeds}
 use Rattle.report_check.proofs.Nodes.{told_at, same_queues}
 use Rattle.history_check.specs.Playing.{brought_from}
 use Rattle.report_check.proofs.Callable.{sound}
-use Rattle.report_check.proofs.Played.{same_filled, same_sources}
+use Rattle.report_check.proofs.Players.{same_filled, same_sources}
 
 -- ------ clients
 

@@ -1,5 +1,5 @@
 use Rattle.std.proofs.Common.{◌≡◌, ◌∙◌, ap, sym, ◌++◌, ◌∷◌, [], append_assoc, take, rules}
-use Rattle.report_check.proofs.Played.{take_next}
+use Rattle.report_check.proofs.Players.{take_next}
 use Rattle.report_check.proofs.played.add_batch.Goals as goal
 
 pub packets-preserved : goal.packets-preserved

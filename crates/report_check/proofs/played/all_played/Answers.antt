@@ -4,7 +4,7 @@ use Rattle.std.proofs.lemmas.List.FromFn.{map-range_with_len_more}
 use Rattle.std.specs.List.{All, range_with_len}
 use Rattle.client_core.specs.Commands.{played}
 use Rattle.history_check.specs.Playing.{AreFewPackets}
-use Rattle.report_check.proofs.Played.{all_few}
+use Rattle.report_check.proofs.Players.{all_few}
 use Rattle.report_check.proofs.played.all_played.Goals as goal
 
 pub clients-preserved : goal.clients-preserved

@@ -5,7 +5,7 @@ use Rattle.client_script.specs.Script.{writes_of}
 use Rattle.dvr_play.specs.Laws.{packets_in}
 use Rattle.dvr_play.specs.Plays.{HasPlayed, cut_of}
 use Rattle.dvr_play.proofs.Joining.{are_counted, are_joined}
-use Rattle.report_check.proofs.Played.{batch_more}
+use Rattle.report_check.proofs.Players.{batch_more}
 use Rattle.report_check.proofs.played.played_with.Goals as goal
 
 pub push-requires-clause-room : goal.push-requires-clause-room
