@@ -321,7 +321,7 @@ class Demux(Node):
             elif self.filter[3] == "tap" and payload_of(packet) is not None:
                 self.arrive([payload_of(packet)])
 
-    # RULES: 509697ad Refusals
+    # RULES: f7055b3d Refusals
     def refused(self, who, act):
         """The refusals, in their order; act is a name and its arguments."""
         name, args = act[0], act[1:]
@@ -353,7 +353,7 @@ class Demux(Node):
                 return "EBUSY"
         return None
 
-    # RULES: c02034d9 Calls
+    # RULES: ecae27d0 Calls
     def call(self, who, act, moment):
         name, args = act[0], act[1:]
         if name == "open":
@@ -562,7 +562,7 @@ def read_arguments(command, words):
     return [args[0], places, args[1], args[2]]
 
 
-# RULES: 069d5251 The script
+# RULES: 66a35eca The script
 def read_line(line):
     words = line.split(b" ")
     first = words.pop(0)
@@ -630,6 +630,7 @@ def act_text(act, moment):
     return " ".join([kind, *map(str, args)])
 
 
+# RULES: e0aa2b6e What a client writes
 class Played:
     """What a client writes: the packets of the bytes of all its writes, and for each write the number of the first that it completes,
     and how many these are."""
@@ -761,7 +762,7 @@ class Run:
                 self.made(client, node, ("pass", "dvr", first, count))
         return "done"
 
-    # RULES: b792d560 What a client's commands do
+    # RULES: dbddc2bc What a client's commands do
     def command(self, asked):
         verb, client, on, args = asked
         if verb == "write":
