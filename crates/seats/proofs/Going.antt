@@ -113,7 +113,7 @@ all_ready locks n feeder clients fresh seats are each = record {
   are = are;
   each = λ c s at.
       let there : slice_get clients c ≡ Some s.client = ap (λ (l : List Caller). slice_get l c) (sym are) ∙ (slice_get-map (λ (z : Seat). z.client) seats c ∙ ap (λ o. option_map (λ (z : Seat). z.client) o) at) in
-      (new_ready locks n feeder clients fresh c s there (each c s at), log_none s (each c s at).log.0 (each c s at).log.1);
+      (new_ready locks n feeder clients fresh c s there (each c s at), log_none s (each c s at).log.0 (each c s at).log.1, (each c s at).outcomes);
 }
 
 -- the seats of desks

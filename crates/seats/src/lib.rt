@@ -31,6 +31,7 @@
 #![tactic(auto)]
 
 mod answers;
+mod laws;
 mod made;
 mod making;
 mod run;
@@ -38,6 +39,7 @@ mod seat;
 mod serve;
 
 pub use answers::Answered;
+pub use laws::lines_are_played;
 pub use made::Made;
 pub use making::desks_of;
 pub use run::{Desk, sit_all};
