@@ -66,7 +66,7 @@ tap_behind node Passed behind is = (KeepTap, is)
 
 -- no Close stands there
 not_close : (e : LogEntry) → is_close e.act ≡ false → closings (e ∷ []) ≡ record { before = e ∷ []; deeds = [] }
-not_close e no = ap (λ b. if b then record { before = []; deeds = deed (target_of e.node) Close (e ∷ []) WasDone ∷ [] } else record { before = e ∷ []; deeds = [] }) no
+not_close e nay = ap (λ b. if b then record { before = []; deeds = deed (target_of e.node) Close (e ∷ []) WasDone ∷ [] } else record { before = e ∷ []; deeds = [] }) nay
 
 none_closed : (node : ℕ) (tap : TapChange) (behind : List LogEntry) → IsBehind (act_by_tap node tap) behind → closings behind ≡ record { before = behind; deeds = [] }
 none_closed node KeepTap behind is = subst (λ (l : List LogEntry). closings l ≡ record { before = l; deeds = [] }) (sym is) refl
@@ -236,7 +236,9 @@ module _ (may : ℕ → Bool) where
 take_next : (l : List LogEntry) (i : ℕ) (e : LogEntry) → slice_get l i ≡ Some e → take (i + 1) l ≡ take i l ++ e ∷ []
 take_next [] i e at = absurd (cc at)
 take_next (x ∷ xs) zero e at = let same : x ≡ e = cc at in ap (λ (y : LogEntry). y ∷ []) same
-take_next (x ∷ xs) (suc i) e at = ap (λ (l : List LogEntry). x ∷ l) (take_next xs i e at)
+take_next (x ∷ xs) (suc i) e at =
+    let n : suc i + 1 ≡ suc (i + 1) = omega arith in
+    ap (λ k. take k (x ∷ xs)) n ∙ ap (λ (l : List LogEntry). x ∷ l) (take_next xs i e at)
 
 module _ (may : ℕ → Bool) (client : ℕ) (script : Scripted) (ds : List Deed) (done : AreDone may ds) (are : commands_of client script ≡ commands_by 0 ds) where
   how_far : (rs : List Response) → progress client script rs ≡ progress_from no_slots 0 (commands_by 0 ds) rs
