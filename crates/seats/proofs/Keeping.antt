@@ -23,7 +23,7 @@ use Rattle.seats.specs.Answered.{act_behind, IsCommand, is_busy, IsClosing, AreC
 use Rattle.seats.specs.Doing.{HasMade, Does, DoesCommand, Keeps, KeepsOne, KeepsBy, KeepsOpened, KeepsClosed}
 use Rattle.seats.specs.Seated.{log_of, told_made}
 use Rattle.seats.specs.Spelled.{Deed, deed, calls_in, target_of, deed_by, opened_kind, Closings, closings, deeds_of, outcome_at, outcomes_by, AreKept}
-use Rattle.seats.proofs.Doing.{log_more, is_command, made_kept, made_trans, read_at, HaveTried}
+use Rattle.seats.proofs.Doing.{log_more, made_kept, made_trans, read_at, HaveTried}
 use Rattle.seats.proofs.Going.{log_long, log_same}
 use Rattle.seats.proofs.Deeds.{kind_busy, kind_free}
 use Rattle.seats.proofs.Spelling.{one_closed, closings_both, closing_none, leaving_calls}
@@ -112,7 +112,8 @@ pub keeps_closed : (node at : ℕ) (old new : Seat) → DoesCommand node CloseAc
 keeps_closed node at old new d k calls is =
     let all = map (told_made old.who) (d.own ∷ d.behind) in
     let same : calls ≡ all = the_calls old new calls all is (log_more old new (d.own ∷ d.behind) d.has) in
-    let one = one_closed node (told_made old.who d.own) all (is_command node CloseAct at old new d) in
+    let command : IsCommand node CloseAct (told_made old.who d.own) all = record { node = d.node; act = d.act; behind = map (told_made old.who) d.behind; calls = refl; is = d.is } in
+    let one = one_closed node (told_made old.who d.own) all command in
     let ds : (closings calls).deeds ≡ deed (target_of d.own.node) Close all WasDone ∷ [] = ap (λ (l : List LogEntry). (closings l).deeds) same ∙ ap (λ (c : Closings). c.deeds) one in
     subst (λ (l : List Deed). AreKept (length (log_of old)) l old.outcomes.items new.outcomes.items) (sym ds)
     (k (target_of d.own.node) Close all (is ∙ ap (λ (l : List LogEntry). log_of old ++ l) same))
@@ -136,7 +137,7 @@ abbrev pub GrownBy : OutcomeKind → (old new : Seat) → Type 0
 GrownBy kind old new = (calls : List LogEntry) × (log_of new ≡ log_of old ++ calls) × (opened_kind calls ≡ kind) × ((e : LogEntry) × (es : List LogEntry) × (calls ≡ e ∷ es))
 
 pub keeps_opened : (kind : OutcomeKind) (old new : Seat) → GrownBy kind old new → KeepsSo kind old new → KeepsOpened old new
-keeps_opened kind old new (others, log, ended, e, es, first) k calls is =
+keeps_opened kind old new (others, log, ended, (e, es, first)) k calls is =
     let all : calls ≡ e ∷ es = the_calls old new calls others is log ∙ first in
     let so : opened_kind (e ∷ es) ≡ kind = ap opened_kind (sym first) ∙ ended in
     subst (λ (l : List LogEntry). AreKept (length (log_of old)) (deed_by (Slot 0) Open (opened_kind l) l) old.outcomes.items new.outcomes.items) (sym all)

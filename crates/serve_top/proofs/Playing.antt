@@ -42,7 +42,7 @@ has_worked may client script c log told l p found = record {
     events = p.events;
     found = every_member (λ (e : LogEntry). e.response ≢ NoMemory) log found;
     moments = every_member (λ (e : LogEntry). IsGiven may e.act) log p.moments;
-    paid = λ i e f at next waits. absurd (subst (λ (o : Option ℕ). IsSome o) (p.once i f next) waits);
+    paid = λ i e f at next waits. absurd (let some : IsSome {T = ℕ} None = subst (λ (o : Option ℕ). IsSome o) (p.once i f next) waits in cc some);
   };
   ends = p.ends;
   outcomes = p.outcomes;

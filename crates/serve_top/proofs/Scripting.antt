@@ -65,10 +65,10 @@ abbrev most_of : (most : ℕ) → List Line → ℕ
 most_of most lines = fold (λ most line. max most (clients_of line)) most lines
 
 max_grows : (a b : ℕ) → a ≤ max a b
-max_grows a b = grind (arith)
+max_grows a b = omega arith
 
 max_low : (a b n : ℕ) → a ≤ n → b ≤ n → max a b ≤ n
-max_low a b n x y = grind (arith, x, y)
+max_low a b n x y = omega (arith, x, y)
 
 most_both : (most : ℕ) (xs ys : List Line) → most_of most (xs ++ ys) ≡ most_of (most_of most xs) ys
 most_both most [] ys = refl
@@ -103,7 +103,7 @@ behind_none f (suc n) k low most = dite (ℕ_discrete n k)
   nothing [] most low = refl
   nothing (c ∷ cs) most low =
       let a = most_grows (max most (n + 1)) (map (line_of n) cs) in
-      let b : n + 1 ≤ max most (n + 1) = grind (arith) in
+      let b : n + 1 ≤ max most (n + 1) = omega arith in
       absurd (omega (arith, a, b, low))
 
 -- ------ a client that makes no call, at the end
@@ -129,7 +129,7 @@ pub asked_clients : (last : ℕ) (lines : List Line) → clients_in (plain lines
 asked_clients last lines low =
     most_both 0 lines (CommandLine 1 last Dvr (GetStc 0) ∷ []) ∙ is where
   is : max (clients_in (plain lines)) (last + 1) ≡ last + 1
-  is = grind (arith, low)
+  is = omega (arith, low)
 
 -- ------ by its commands alone
 

@@ -1,5 +1,5 @@
 -- The seats at their end: what they have called, that they are still the adapter's callers, and that they own no node.
-use Rattle.std.proofs.Common.{◌≡◌, ⊎_elim, ℕ, Bool, true, ◌+◌, ◌<◌, ◌≤◌, ◌^◌, List, [], ◌∷◌, ◌++◌, length, map, Vec, Global, Some, refl, ap, sym, ◌∙◌, subst, arith, length-append}
+use Rattle.std.proofs.Common.{◌≡◌, ⊎_elim, ℕ, Bool, true, ◌+◌, ◌<◌, ◌≤◌, ◌^◌, List, [], ◌∷◌, ◌++◌, length, map, Vec, Global, Some, refl, ap, sym, ◌∙◌, subst, arith, length-append, None}
 use Rattle.std.specs.Prelude.{slice_get, slice_index_or, option_map, reverse, All, Option}
 use Rattle.std.proofs.lemmas.Option.{slice_get-map, get_or_from_slice_get, slice_get_within}
 use Rattle.std.proofs.lemmas.List.{length-map}
@@ -160,7 +160,7 @@ module _ {T : Type 0} (source : T → SourceEnd) (sink : T → SinkEnd) (may : �
 
     -- the commands of the seat in this place, if there is one
     choose : (k : ℕ) (o : Option (Desk T)) → slice_get new k ≡ o → (cs : List Command) × ((d : Desk T) → o ≡ Some d → IsAt k lines d cs)
-    choose k None none = ([], λ d some. absurd (cc some))
+    choose k None at = ([], λ d some. absurd (cc some))
     choose k (Some d) at =
         let a = answers_at k d at in
         (commands_by 0 (spelled (a.2.turns ++ a.2.last) a.2.leaving),
