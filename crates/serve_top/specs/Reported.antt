@@ -33,10 +33,10 @@ use Rattle.serve_top.specs.declared.left.Left.{Left}
 abbrev pub every : (node : ℕ) → Bool
 every node = true
 
--- A seat has served its line: it has made just these calls, and told these of its commands; and the commands of the script's client
--- are those that the requests of the line spell, in their order.
-pub record IsServed {T : Type 0} (source : T → SourceEnd) (sink : T → SinkEnd) (may : ℕ → Bool) (script : Scripted) (client : ℕ) (line : T)
-    (book : List LogEntry) (told : List Outcome) : Type 0 where
+-- A seat has served its line: it has made just these calls, and told these of its commands; and the commands of the script's
+-- client are those that the requests of the line spell, in their order.
+pub record IsServed {T : Type 0} (source : T → SourceEnd) (sink : T → SinkEnd) (may : ℕ → Bool) (script : Scripted)
+    (client : ℕ) (line : T) (book : List LogEntry) (told : List Outcome) : Type 0 where
   pub answers : HasAnsweredAll source sink may line [] book [] told
   pub spells : commands_of client script ≡ commands_by 0 (spelled (answers.turns ++ answers.last) answers.leaving)
 
@@ -110,6 +110,8 @@ module _ {T : Type 0} where
         → HaveCalled among stream feeder.feeder feeder.feeding.items (map (λ d. d.seat.client) desks) (map (λ d. log_of d.seat) desks)
         → TellWhatWasCalled among stream feeder.feeder feeder.feeding.items (map (λ d. d.seat.client) desks) (map (λ d. log_of d.seat) desks) left.histories
     pub outcomes : map (λ those. those.items) left.outcomes.items ≡ map (λ d. d.seat.outcomes.items) desks
-    pub runs : (script : Scripted) (among : ℕ → Bool) (most : ℕ) (may : ℕ → Bool) (stream : List (List ℕ)) (told : List (List Outcome))
-        → AreWorked script among most may stream feeder.feeder feeder.feeding.items (map (λ d. d.seat.client) desks) (map (λ d. log_of d.seat) desks) told
+    pub runs : (script : Scripted) (among : ℕ → Bool) (most : ℕ) (may : ℕ → Bool) (stream : List (List ℕ))
+        (told : List (List Outcome))
+        → AreWorked script among most may stream feeder.feeder feeder.feeding.items (map (λ d. d.seat.client) desks)
+        (map (λ d. log_of d.seat) desks) told
         → IsWholeRun script most may stream told left.histories
