@@ -1,20 +1,16 @@
 -- Each command that a request spells is done by its calls, as a script's command is.
-use Rattle.std.proofs.Common.{◌≡◌, ◌≢◌, ◌⊎◌, ⊎_elim, ℕ, zero, suc, ◌+◌, ◌<◌, ◌≤◌, Bool, true, false, nat_eq, nat_lt, eq-eqb, ne_eqb, List, [], ◌∷◌, ◌++◌, length, map, take, Option, Some, None, IsTrue, inl, inr, refl, ap, sym, ◌∙◌, subst, arith}
+use Rattle.std.proofs.Common.{◌≡◌, ◌≢◌, ℕ, zero, suc, ◌+◌, ◌<◌, ◌≤◌, Bool, true, false, nat_lt, eq-eqb, ne_eqb, List, [], ◌∷◌, ◌++◌, length, take, Some, None, IsTrue, refl, ap, sym, ◌∙◌, subst, arith}
 use Rattle.std.specs.Prelude.{slice_get, if◌then◌else◌}
 use Rattle.std.proofs.lemmas.Bool.Decides.{nat_tests}
-use Rattle.std.proofs.lemmas.List.{append-nil, append_assoc}
 use mathlib.Core.Logic.{dite}
 use native.Mathlib.Decide.{ℕ_discrete}
 use Rattle.dmx_calls.specs.declared.limits.TheConstants.{DEMUX_NODES}
-use Rattle.dmx_calls.specs.declared.log.Act.{Act}
-use Rattle.dmx_calls.specs.declared.log.Act.TheVariants.{Open as OpenAct, Close as CloseAct}
-use Rattle.dmx_calls.specs.declared.outcome.OutcomeKind.{OutcomeKind}
+use Rattle.dmx_calls.specs.declared.log.Act.TheVariants.{Open as OpenAct}
 use Rattle.dmx_calls.specs.declared.outcome.OutcomeKind.TheVariants.{Done as WasDone, Emfile as WasEmfile}
 use Rattle.dmx_calls.specs.declared.reply.Tap.TheVariants.{Keep as KeepTap, Attach as AttachTap, Detach as DetachTap}
 use Rattle.dmx_calls.specs.Log.{LogEntry, act_of}
 use Rattle.dmx_calls.specs.Response.{Response, TapChange, Done, Busy, Refused, NoMemory, Data, Again, Overflow, TimedOut, Ready, Passed}
-use Rattle.client_script.specs.declared.line.Target.{Target}
-use Rattle.client_script.specs.declared.line.Target.TheVariants.{Node, Slot, Dvr}
+use Rattle.client_script.specs.declared.line.Target.TheVariants.{Node, Dvr}
 use Rattle.client_script.specs.declared.line.Verb.TheVariants.{Once}
 use Rattle.client_script.specs.declared.line.Want.{Want}
 use Rattle.client_script.specs.declared.line.Want.TheVariants.{Open, Close, Section, Pes, Add, Remove, Start, Stop, Size, Read, Poll}
@@ -27,7 +23,7 @@ use Rattle.client_core.specs.Commands.{Doing, stands, through, Slots, told, call
 use Rattle.client_core.specs.Outcomes.{Counters, kind_by}
 use Rattle.script_run.specs.IsRun.{IsEvent, replies}
 use Rattle.script_run.specs.WholeRun.{IsGiven}
-use Rattle.seats.specs.Answered.{act_by_tap, act_behind, IsBehind, IsCommand, is_busy, AreBusy}
+use Rattle.seats.specs.Answered.{act_by_tap, act_behind, IsBehind, is_busy}
 use Rattle.seats.specs.Spelled.{Deed, deed, target_of, opened_kind}
 
 -- ------ what a command does by the replies to these calls

@@ -1,7 +1,7 @@
 -- From what a seat has made to what it has done for a request.
-use Rattle.std.proofs.Common.{◌≡◌, ◌⊎◌, ℕ, zero, suc, ◌+◌, ◌<◌, Bool, true, false, List, [], ◌∷◌, ◌++◌, length, map, get_or, Option, Some, None, inl, inr, refl, ap, sym, ◌∙◌, subst, arith, add-one, length-append}
-use Rattle.std.specs.Prelude.{slice_get, option_map}
-use Rattle.std.proofs.lemmas.List.{map-append, append-nil, append_assoc, length-map}
+use Rattle.std.proofs.Common.{◌≡◌, ◌⊎◌, ℕ, suc, ◌+◌, ◌<◌, Bool, true, false, List, [], ◌∷◌, ◌++◌, length, map, get_or, Option, Some, None, inl, inr, refl, ap, sym, ◌∙◌, subst, arith, length-append}
+use Rattle.std.specs.Prelude.{slice_get}
+use Rattle.std.proofs.lemmas.List.{map-append, append-nil, append_assoc}
 use Rattle.std.proofs.lemmas.Option.{slice_get_within, slice_get_read}
 use Rattle.lemmas.proofs.Lists.{one_value, at_last, at_before, at_end}
 use Rattle.dmx_calls.specs.Calls.{response_of, told_entry}
@@ -21,12 +21,11 @@ use Rattle.serve_frames.specs.declared.tell.Tell.{Tell}
 use Rattle.serve_frames.specs.Tells.{told_of, data_of}
 use Rattle.seats.specs.declared.made.Made.{Made}
 use Rattle.seats.specs.declared.seat.Seat.{Seat}
-use Rattle.seats.specs.Answered.{act_behind, IsBehind, IsCommand, is_busy, AreBusy, IsClosing, AreClosings, refusal, told_opened, IsRefusal, IsReplyOf, IsOpened, IsFull, IsAnsweredBy, IsAnswered}
+use Rattle.seats.specs.Answered.{act_behind, IsBehind, IsCommand, is_busy, AreBusy, IsClosing, AreClosings, refusal, told_opened, IsOpened, IsFull, IsAnsweredBy, IsAnswered}
 use Rattle.seats.specs.Doing.{HasMade, Does, MakesOne, DoesCommand, HasAnswered, KeepsBy}
 use Rattle.seats.specs.Seated.{log_of, told_made}
 use Rattle.seats.specs.Spelled.{deeds_of, AreKept}
 use Rattle.seats.specs.Told.{data_read, call_at}
-use Rattle.seats.proofs.Lists.{each_more}
 
 -- ------ the last calls
 

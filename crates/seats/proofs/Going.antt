@@ -1,7 +1,7 @@
 -- A seat goes on, call by call.
 use Rattle.std.proofs.Common.{◌≡◌, ◌+◌, ◌≤◌, ◌^◌, ℕ, List, [], ◌∷◌, ◌++◌, length, map, Some, refl, ap, sym, ◌∙◌, subst, arith, length-append}
 use Rattle.std.proofs.lemmas.List.{map-append, append-nil, append_assoc, length-map}
-use Rattle.std.proofs.lemmas.List.Elements.{All-nil, All-push}
+use Rattle.std.proofs.lemmas.List.Elements.{All-nil}
 use Rattle.std.proofs.lemmas.Option.{slice_get-map}
 use Rattle.std.specs.Prelude.{slice_get, option_map}
 use Rattle.atomic_table.specs.Seated.{TableId}
@@ -12,7 +12,7 @@ use Rattle.dmx_calls.specs.declared.limits.TheConstants.{DEMUX_NODES}
 use Rattle.adapter.specs.Callers.{Caller, AreFreshCallers}
 use Rattle.adapter.specs.Rows.{Fits}
 use Rattle.adapter.proofs.Pairs.{caller_fits}
-use Rattle.seats.specs.Calls.{MakesCall, MakesCalls}
+use Rattle.seats.specs.Calls.{MakesCalls}
 use Rattle.seats.specs.Holding.{KnowsItsNodes}
 use Rattle.seats.proofs.Holding.{knows_none}
 use Rattle.seats.proofs.Lists.{mapped}

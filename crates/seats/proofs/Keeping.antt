@@ -1,12 +1,10 @@
 -- What a seat keeps of the commands that it has done.
-use Rattle.std.proofs.Common.{◌≡◌, ◌⊎◌, ℕ, zero, suc, ◌+◌, ◌<◌, Bool, true, false, List, [], ◌∷◌, ◌++◌, length, map, Option, Some, None, get_or, Vec, Global, inl, inr, refl, ap, sym, ◌∙◌, subst, arith, length-append}
-use Rattle.std.proofs.lemmas.List.{append-nil, append_assoc, append_cancel_left, map-append, length-map}
-use Rattle.std.proofs.lemmas.List.Concat.{flat_map-append}
+use Rattle.std.proofs.Common.{◌≡◌, ℕ, ◌+◌, ◌<◌, false, List, [], ◌∷◌, ◌++◌, length, map, get_or, refl, ap, sym, ◌∙◌, subst, arith, length-append}
+use Rattle.std.proofs.lemmas.List.{append-nil, append_assoc, append_cancel_left, map-append}
 use Rattle.dmx_calls.specs.Calls.{response_of}
-use Rattle.dmx_calls.specs.Log.{LogEntry, act_of}
+use Rattle.dmx_calls.specs.Log.{LogEntry}
 use Rattle.dmx_calls.specs.declared.log.Act.{Act}
 use Rattle.dmx_calls.specs.declared.log.Act.TheVariants.{Open as OpenAct, Close as CloseAct}
-use Rattle.dmx_calls.specs.declared.log.Entry.{Entry as ToldEntry}
 use Rattle.dmx_calls.specs.declared.limits.TheConstants.{DEMUX_NODES}
 use Rattle.dmx_calls.specs.declared.outcome.Outcome.{Outcome}
 use Rattle.dmx_calls.specs.declared.outcome.OutcomeKind.{OutcomeKind}
@@ -19,12 +17,12 @@ use Rattle.serve_frames.specs.declared.ask.Ask.{Ask}
 use Rattle.serve_frames.specs.declared.ask.Ask.TheVariants.{OpenDemux, Call, Leave, Refused}
 use Rattle.seats.specs.declared.made.Made.{Made}
 use Rattle.seats.specs.declared.seat.Seat.{Seat}
-use Rattle.seats.specs.Answered.{act_behind, IsCommand, is_busy, IsClosing, AreClosings}
-use Rattle.seats.specs.Doing.{HasMade, Does, DoesCommand, Keeps, KeepsOne, KeepsBy, KeepsOpened, KeepsClosed}
+use Rattle.seats.specs.Answered.{IsCommand, is_busy, IsClosing, AreClosings}
+use Rattle.seats.specs.Doing.{Does, DoesCommand, Keeps, KeepsOne, KeepsOpened, KeepsClosed}
 use Rattle.seats.specs.Seated.{log_of, told_made}
 use Rattle.seats.specs.Spelled.{Deed, deed, calls_in, target_of, deed_by, opened_kind, Closings, closings, deeds_of, outcome_at, outcomes_by, AreKept}
 use Rattle.seats.proofs.Doing.{log_more, made_kept, made_trans, read_at, HaveTried}
-use Rattle.seats.proofs.Going.{log_long, log_same}
+use Rattle.seats.proofs.Going.{log_long}
 use Rattle.seats.proofs.Deeds.{kind_busy, kind_free}
 use Rattle.seats.proofs.Spelling.{one_closed, closings_both, closing_none, leaving_calls}
 

@@ -1,5 +1,5 @@
 -- How far a client is whose commands were done one after another.
-use Rattle.std.proofs.Common.{◌≡◌, ◌≢◌, ◌⊎◌, ⊎_elim, ℕ, zero, suc, ◌+◌, ◌<◌, ◌≤◌, Bool, false, List, [], ◌∷◌, ◌++◌, length, map, take, Option, Some, None, inl, inr, refl, ap, sym, ◌∙◌, subst, arith}
+use Rattle.std.proofs.Common.{◌≡◌, ◌≢◌, ◌⊎◌, ⊎_elim, ℕ, zero, suc, ◌+◌, ◌<◌, ◌≤◌, Bool, false, List, [], ◌∷◌, ◌++◌, length, map, take, Some, None, inl, inr, refl, ap, sym, ◌∙◌, subst, arith}
 use Rattle.std.specs.Prelude.{slice_get}
 use Rattle.std.proofs.lemmas.List.{map-append, take-append-le}
 use Rattle.std.proofs.lemmas.Option.{slice_get_within}
@@ -11,7 +11,7 @@ use Rattle.dmx_calls.specs.Response.{Response, Again}
 use Rattle.client_script.specs.declared.line.Verb.TheVariants.{Once}
 use Rattle.client_core.specs.declared.command.Command.{Command}
 use Rattle.client_core.specs.declared.event.Event.{Event}
-use Rattle.client_core.specs.Commands.{Doing, stands, through, Slots, done}
+use Rattle.client_core.specs.Commands.{stands, Slots, done}
 use Rattle.client_core.specs.Events.{Standing, Ended, Progress, with_ended, slots_after, progress_from, waits_after}
 use Rattle.client_core.specs.Outcomes.{Counters, outcome_by}
 use Rattle.client_core.proofs.GoesOn.{progress_of, waits_not}

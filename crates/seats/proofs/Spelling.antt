@@ -1,17 +1,15 @@
 -- What was answered on a line is what the commands that it spells do.
-use Rattle.std.proofs.Common.{◌≡◌, ◌≢◌, ◌⊎◌, ⊎_elim, ℕ, zero, suc, ◌+◌, ◌<◌, ◌≤◌, Bool, true, false, eq-eqb, ne_eqb, List, [], ◌∷◌, ◌++◌, length, map, take, Option, Some, None, IsTrue, All, inl, inr, refl, ap, sym, ◌∙◌, subst, arith}
-use Rattle.std.specs.Prelude.{slice_get, option_map, if◌then◌else◌, nat_eq}
+use Rattle.std.proofs.Common.{◌≡◌, ℕ, zero, suc, ◌+◌, ◌≤◌, Bool, true, false, eq-eqb, ne_eqb, List, [], ◌∷◌, ◌++◌, length, map, take, Option, Some, None, IsTrue, All, inl, inr, refl, ap, sym, ◌∙◌, subst, arith}
+use Rattle.std.specs.Prelude.{slice_get, option_map, if◌then◌else◌}
 use Rattle.std.specs.List.{flat_map}
-use Rattle.std.proofs.lemmas.List.{append-nil, append_assoc, take_all, map-append}
+use Rattle.std.proofs.lemmas.List.{append-nil, map-append}
 use Rattle.std.proofs.lemmas.List.Concat.{flat_map-append}
 use Rattle.std.proofs.lemmas.Option.{slice_get_within}
 use mathlib.Core.Logic.{dite}
 use native.Mathlib.Decide.{ℕ_discrete}
 use Rattle.lemmas.proofs.Lists.{all_front, all_behind, at_place}
 use Rattle.dmx_calls.specs.declared.limits.TheConstants.{DEMUX_NODES}
-use Rattle.dmx_calls.specs.declared.log.Act.{Act}
-use Rattle.dmx_calls.specs.declared.log.Act.TheVariants.{Open as OpenAct, Close as CloseAct}
-use Rattle.dmx_calls.specs.declared.outcome.Outcome.{Outcome}
+use Rattle.dmx_calls.specs.declared.log.Act.TheVariants.{Close as CloseAct}
 use Rattle.dmx_calls.specs.declared.outcome.OutcomeKind.{OutcomeKind}
 use Rattle.dmx_calls.specs.declared.outcome.OutcomeKind.TheVariants.{Done as WasDone, Emfile as WasEmfile}
 use Rattle.dmx_calls.specs.declared.reply.Tap.TheVariants.{Keep as KeepTap, Attach as AttachTap, Detach as DetachTap}
@@ -23,11 +21,10 @@ use Rattle.client_script.specs.declared.line.Target.TheVariants.{Slot}
 use Rattle.client_script.specs.declared.line.Want.{Want}
 use Rattle.client_script.specs.declared.line.Want.TheVariants.{Open, Close}
 use Rattle.client_core.specs.declared.command.Command.{Command}
-use Rattle.client_core.specs.declared.task.Ending.{Ending}
 use Rattle.client_core.specs.declared.task.Ending.TheVariants.{AllBusy}
-use Rattle.client_core.specs.Commands.{commands_of, own_call, opened}
+use Rattle.client_core.specs.Commands.{commands_of, own_call}
 use Rattle.client_core.specs.Events.{Standing, Ended, Progress, progress, progress_from, no_slots, next_event, waits_on, waits_after}
-use Rattle.client_core.specs.Outcomes.{outcomes, outcome_by, counters_after}
+use Rattle.client_core.specs.Outcomes.{outcome_by, counters_after}
 use Rattle.client_core.proofs.GoesOn.{last_counts}
 use Rattle.script_run.specs.IsRun.{IsEvent, replies}
 use Rattle.script_run.specs.WholeRun.{IsGiven}
@@ -35,7 +32,7 @@ use Rattle.serve_frames.specs.Asks.{ask_of}
 use Rattle.serve_frames.specs.declared.ask.Ask.{Ask}
 use Rattle.serve_frames.specs.declared.ask.Ask.TheVariants.{OpenDemux, Call, Leave, Refused as RefusedAsk}
 use Rattle.serve_frames.specs.declared.tell.Tell.{Tell}
-use Rattle.seats.specs.Answered.{act_by_tap, act_behind, IsBehind, IsCommand, is_busy, AreBusy, IsClosing, AreClosings, IsOpened, IsFull, IsAnsweredBy, IsAnswered}
+use Rattle.seats.specs.Answered.{act_by_tap, act_behind, IsBehind, IsCommand, AreBusy, IsClosing, AreClosings, IsOpened, IsAnsweredBy, IsAnswered}
 use Rattle.seats.specs.Seated.{AreOnNodes}
 use Rattle.seats.specs.Scripts.{IsPlayed, LinesArePlayed}
 use Rattle.seats.specs.Spelled.{Deed, deed, calls_in, target_of, deed_by, opened_kind, is_close, Closings, closings, with_call, deeds_of, commands_by, outcomes_by}

@@ -3,7 +3,6 @@ use Rattle.serve_frames.specs.declared.ask.Ask.{Ask}
 use Rattle.seats.specs.Doing.{KeepsBy}
 use Rattle.seats.specs.Spelled.{deeds_of, target_of}
 use Rattle.seats.proofs.Keeping.{keeps_none, keeps_command, deeds_none}
-use Rattle.dmx_calls.specs.Invocation.{Invocation}
 use Rattle.dmx_calls.specs.Log.{act_of}
 use Rattle.seats.proofs.Doing.{answered_open, answered_call, answered_leave, answered_refused, answered_wanting}
 use Rattle.seats.proofs.Going.{goes_self}
