@@ -1,5 +1,5 @@
 -- From what the threads have left to what the report tells.
-use Rattle.std.proofs.Common.{◌≡◌, ◌≤◌, ◌<◌, ◌-◌, ◌^◌, ◌+◌, ℕ, length, None, sym, Bool, true, false, List, [], ◌∷◌, ◌++◌, map, replicate, reverse, Option, ap, ◌∙◌, subst, arith}
+use Rattle.std.proofs.Common.{Vec, Global, ◌≡◌, ◌≤◌, ◌<◌, ◌-◌, ◌^◌, ◌+◌, ℕ, length, None, sym, Bool, true, false, List, [], ◌∷◌, ◌++◌, map, replicate, reverse, Option, ap, ◌∙◌, subst, arith}
 use Rattle.std.specs.Prelude.{slice_index_or, option_map, All}
 use Rattle.std.proofs.lemmas.List.{get_or-replicate, length-map}
 use Rattle.std.proofs.lemmas.Option.{slice_get-map, slice_get-get_or}
@@ -122,5 +122,7 @@ module _ {T : Type 0} (source : T → SourceEnd) (sink : T → SinkEnd) (may : �
   pub are_on_nodes : All (λ (d : Desk T). AreOnNodes (log_of d.seat)) new
   are_on_nodes = all_nodes source sink may locks n feeder clients fresh all old new ready served
 
-  pub is_reported : (what : Left) → IsLeftBy g new what → (was now : Option (List ℕ)) → Appends was now (report_of (told_head what.head) (map (λ those. those.items) what.outcomes.items) what.histories) → HasReported source sink lines may x y was now
-  is_reported what left = has_reported source sink may lines locks n feeder clients fresh all old new ready served are x y f.puller is.size is.pulls g passed what left
+  pub is_reported : (what : Left) → IsLeftBy g new what → (was now : Option (List ℕ)) (those : List (Vec Outcome Global)) → those ≡ what.outcomes.items
+      → Appends was now (report_of (told_head what.head) (map (λ (v : Vec Outcome Global). v.items) those) what.histories) → HasReported source sink lines may x y was now
+  is_reported what left was now those same written = has_reported source sink may lines locks n feeder clients fresh all old new ready served are x y f.puller is.size is.pulls g passed what left
+      was now (subst (λ (l : List (Vec Outcome Global)). Appends was now (report_of (told_head what.head) (map (λ (v : Vec Outcome Global). v.items) l) what.histories)) same written)
