@@ -1,4 +1,6 @@
 mod Books
 mod Logged
+mod Playing
 mod Reporting
+mod Scripting
 mod Seating
