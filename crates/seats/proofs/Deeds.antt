@@ -65,10 +65,13 @@ fits_more may does next ending node want moment b rest first after on act given 
       → (event : Event) × (does step (replies (take i (b ∷ rest))) ≡ stands event) × (event.step ≡ step + i) × IsEvent (Some event) e × IsGiven may e.act
   asks step zero e at =
       let same : b ≡ e = cc at in
-      let here : step ≡ step + 0 = omega arith in
-      (record { step = step; node = node; want = want }, first step, here,
+      let here : step ≡ step + 0 = omega arith in (
+        record { step = step; node = node; want = want },
+        first step,
+        here,
         subst (λ (x : LogEntry). (x.node ≡ node) × ((m : ℕ) × (x.act ≡ act_of (call_of want m)))) same (on, (moment, act)),
-        subst (λ (x : LogEntry). IsGiven may x.act) same given)
+        subst (λ (x : LogEntry). IsGiven may x.act) same given,
+      )
   asks step (suc i) e at =
       let a = f.asks (step + 1) i e at in
       let here : (step + 1) + i ≡ step + suc i = omega arith in
@@ -93,11 +96,11 @@ fits_told may ending node KeepTap behind is = subst (λ (l : List LogEntry). Fit
 fits_told may ending node (AttachTap pids) behind is =
     subst (λ (l : List LogEntry). Fits may (told ending node (AttachTap pids)) ending l) (sym is.1)
     (fits_more may (told ending node (AttachTap pids)) (λ step rs. through ending step rs) ending DEMUX_NODES (Attach node pids) 0 is.0 []
-        (λ step. refl) (λ step rs. refl) is.2 is.3 (subst (IsGiven may) (sym is.3) tt) (λ f none. absurd (cc none)) (fits_none may ending))
+    (λ step. refl) (λ step rs. refl) is.2 is.3 (subst (IsGiven may) (sym is.3) tt) (λ f none. absurd (cc none)) (fits_none may ending))
 fits_told may ending node DetachTap behind is =
     subst (λ (l : List LogEntry). Fits may (told ending node DetachTap) ending l) (sym is.1)
     (fits_more may (told ending node DetachTap) (λ step rs. through ending step rs) ending DEMUX_NODES (Detach node) 0 is.0 []
-        (λ step. refl) (λ step rs. refl) is.2 is.3 (subst (IsGiven may) (sym is.3) tt) (λ f none. absurd (cc none)) (fits_none may ending))
+    (λ step. refl) (λ step rs. refl) is.2 is.3 (subst (IsGiven may) (sym is.3) tt) (λ f none. absurd (cc none)) (fits_none may ending))
 
 -- what a command does behind a reply of a node
 pub record Replied (does : Steps) (node : ℕ) (r : Response) (behind : List LogEntry) : Type 0 where
@@ -115,20 +118,20 @@ plainly does node r behind after is = record { ending = WasMade; kind = λ count
 pub replied_called : (node : ℕ) (want : Want) (r : Response) (behind : List LogEntry) → node ≤ DEMUX_NODES → IsBehind (act_behind node r) behind → Replied (called node want) node r behind
 replied_called node want (Done from to tap) behind low is = dite (ℕ_discrete node DEMUX_NODES)
     (λ here.
-        let no : nat_lt node DEMUX_NODES ≡ false = grind (arith, nat_tests, here) in
-        plainly (called node want) node (Done from to tap) behind
-        (λ step rs. ap (λ b. if b then told WasMade node tap (step + 1) rs else through WasMade (step + 1) rs) no)
-        (subst (λ b. IsBehind (if b then None else act_by_tap node tap) behind) (eq-eqb node DEMUX_NODES here) is))
+    let no : nat_lt node DEMUX_NODES ≡ false = grind (arith, nat_tests, here) in
+    plainly (called node want) node (Done from to tap) behind
+    (λ step rs. ap (λ b. if b then told WasMade node tap (step + 1) rs else through WasMade (step + 1) rs) no)
+    (subst (λ b. IsBehind (if b then None else act_by_tap node tap) behind) (eq-eqb node DEMUX_NODES here) is))
     (λ not.
-        let yes : nat_lt node DEMUX_NODES ≡ true = grind (arith, nat_tests, low, not) in
-        record {
-          ending = WasMade;
-          kind = λ counters. refl;
-          tap = tap;
-          after = λ step rs. ap (λ b. if b then told WasMade node tap (step + 1) rs else through WasMade (step + 1) rs) yes;
-          is = subst (λ b. IsBehind (if b then None else act_by_tap node tap) behind) (ne_eqb node DEMUX_NODES not) is;
-          calm = λ f at same. absurd (cc same);
-        })
+    let yes : nat_lt node DEMUX_NODES ≡ true = grind (arith, nat_tests, low, not) in
+    record {
+      ending = WasMade;
+      kind = λ counters. refl;
+      tap = tap;
+      after = λ step rs. ap (λ b. if b then told WasMade node tap (step + 1) rs else through WasMade (step + 1) rs) yes;
+      is = subst (λ b. IsBehind (if b then None else act_by_tap node tap) behind) (ne_eqb node DEMUX_NODES not) is;
+      calm = λ f at same. absurd (cc same);
+    })
 replied_called node want (Busy owner) behind low is = plainly (called node want) node (Busy owner) behind (λ step rs. refl) is
 replied_called node want (Refused errno) behind low is = plainly (called node want) node (Refused errno) behind (λ step rs. refl) is
 replied_called node want NoMemory behind low is = plainly (called node want) node NoMemory behind (λ step rs. refl) is

@@ -157,10 +157,12 @@ grown_free node at old mid new then b d x read free km kl kw =
     let f = told_made old.who in
     let same : x ≡ d.own = read_at new.made.items d.own x at d.at read in
     let own : is_busy (f d.own).response ≡ false = subst (λ (m : Made). is_busy (response_of m.reply) ≡ false) same free in
-    let has = made_kept old new then (b.more ++ (d.own ∷ d.behind)) (made_trans old mid new b.more (d.own ∷ d.behind) b.has d.has) km kl kw in
-    (map f (b.more ++ (d.own ∷ d.behind)), log_more old then (b.more ++ (d.own ∷ d.behind)) has,
+    let has = made_kept old new then (b.more ++ (d.own ∷ d.behind)) (made_trans old mid new b.more (d.own ∷ d.behind) b.has d.has) km kl kw in (
+      map f (b.more ++ (d.own ∷ d.behind)),
+      log_more old then (b.more ++ (d.own ∷ d.behind)) has,
       ap opened_kind (map-append f b.more (d.own ∷ d.behind)) ∙ kind_free (map f b.more) (f d.own) (map f d.behind) own,
-      some_first f b.more d.own d.behind)
+      some_first f b.more d.own d.behind,
+    )
 
 -- none was found
 pub grown_full : (n : ℕ) (old mid new : Seat) → Does (HaveTried n) old mid → n ≡ DEMUX_NODES → new.made.items ≡ mid.made.items → new.log.items ≡ mid.log.items → new.who ≡ mid.who → GrownBy WasEmfile old new

@@ -48,6 +48,7 @@ module _ {T : Type 0} (source : T → SourceEnd) (sink : T → SinkEnd) (may : �
     -- a line that spells no command has asked for no call
     pub answers_idle : commands_by 0 (spelled (a.turns ++ a.last) a.leaving) ≡ [] → (book ≡ []) × (told ≡ [])
     answers_idle none =
-        let no = commands_none 0 (spelled (a.turns ++ a.last) a.leaving) none in
-        (calls ∙ (sym (spelled_deeds may (a.turns ++ a.last) a.leaving turns a.closed on_nodes).1 ∙ ap calls_in no),
-          a.kept ∙ ap (outcomes_by 0 0) no)
+        let no = commands_none 0 (spelled (a.turns ++ a.last) a.leaving) none in (
+          calls ∙ (sym (spelled_deeds may (a.turns ++ a.last) a.leaving turns a.closed on_nodes).1 ∙ ap calls_in no),
+          a.kept ∙ ap (outcomes_by 0 0) no,
+        )

@@ -81,11 +81,12 @@ outcomes_are may slots count step (d ∷ ds) are counters =
     let more = outcomes_are may (slots_after are.0.ending slots) (count + 1) (step + length d.calls) ds are.1 counters in
     let e = ended may slots count step d are.0 (commands_by (count + 1) ds) in
     let first : outcome_by (counters e) e ≡ record { line = line_behind count; from = step; to = step + length d.calls; kind = d.kind } =
-    ap (λ (k : OutcomeKind). record { line = line_behind count; from = step; to = step + length d.calls; kind = k }) (are.0.kind (counters e)) in
-    (ap (λ (p : Progress). map (λ e. outcome_by (counters e) e) p.ended) on
-        ∙ (ap (λ (o : Outcome). o ∷ map (λ e. outcome_by (counters e) e) (progress_from (slots_after are.0.ending slots) (step + length d.calls) (commands_by (count + 1) ds) (replies (calls_in ds))).ended) first
-        ∙ ap (λ (os : List Outcome). record { line = line_behind count; from = step; to = step + length d.calls; kind = d.kind } ∷ os) more.0),
-      ap (λ (p : Progress). p.standing) on ∙ more.1)
+    ap (λ (k : OutcomeKind). record { line = line_behind count; from = step; to = step + length d.calls; kind = k }) (are.0.kind (counters e)) in (
+      ap (λ (p : Progress). map (λ e. outcome_by (counters e) e) p.ended) on
+          ∙ (ap (λ (o : Outcome). o ∷ map (λ e. outcome_by (counters e) e) (progress_from (slots_after are.0.ending slots) (step + length d.calls) (commands_by (count + 1) ds) (replies (calls_in ds))).ended) first
+          ∙ ap (λ (os : List Outcome). record { line = line_behind count; from = step; to = step + length d.calls; kind = d.kind } ∷ os) more.0),
+      ap (λ (p : Progress). p.standing) on ∙ more.1,
+    )
 
 -- where no read is repeated, nothing waits
 calm_waits : (s : Standing) (r : Response) → r ≢ Again false → waits_after (Some s) (r ∷ []) ≡ None

@@ -59,8 +59,12 @@ module _ {T : Type 0} (source : T → SourceEnd) (sink : T → SinkEnd) (may : �
         → HasTurned source sink may on before after (log_of old) (log_of new) old.outcomes.items new.outcomes.items
     unfolding turn
     turned_one true whole = (turn, record { asked = asked; is = its_ask; told = whole refl }, a.log, its_kept)
-    turned_one false whole = (turn ∷ [], (asked, its_ask), a.log ∙ ap (λ (l : List LogEntry). log_of old ++ l) (sym (append-nil a.calls)),
-        subst (λ (ds : List Deed). AreKept (length (log_of old)) ds old.outcomes.items new.outcomes.items) (sym (append-nil (deeds_of (ask_of request) a.calls))) its_kept)
+    turned_one false whole = (
+      turn ∷ [],
+      (asked, its_ask),
+      a.log ∙ ap (λ (l : List LogEntry). log_of old ++ l) (sym (append-nil a.calls)),
+      subst (λ (ds : List Deed). AreKept (length (log_of old)) ds old.outcomes.items new.outcomes.items) (sym (append-nil (deeds_of (ask_of request) a.calls))) its_kept,
+    )
 
   -- ------ one after another
 
@@ -133,11 +137,11 @@ module _ {T : Type 0} (source : T → SourceEnd) (sink : T → SinkEnd) (may : �
         ∙ (append_assoc (log_of old) (calls_of h.turns ++ calls_of one.0) leaving ∙ ap (λ (l : List LogEntry). log_of old ++ l) (append_assoc (calls_of h.turns) (calls_of one.0) leaving)))));
     kept = kept_trans (length (log_of old)) (length (log_of new)) (spelled_by (h.turns ++ one.0)) (closings leaving).deeds old.outcomes.items new.outcomes.items last.outcomes.items
         (subst (λ (ds : List Deed). AreKept (length (log_of old)) ds old.outcomes.items new.outcomes.items) (sym (spelled_more h.turns one.0))
-            (kept_trans (length (log_of old)) (length (log_of mid)) (spelled_by h.turns) (spelled_by one.0) old.outcomes.items mid.outcomes.items new.outcomes.items h.kept one.3 (count_calls (log_of old) (log_of mid) h.turns h.log h.calls)))
+        (kept_trans (length (log_of old)) (length (log_of mid)) (spelled_by h.turns) (spelled_by one.0) old.outcomes.items mid.outcomes.items new.outcomes.items h.kept one.3 (count_calls (log_of old) (log_of mid) h.turns h.log h.calls)))
         (k leaving (log_more new last d.more d.has))
         (count_calls (log_of old) (log_of new) (h.turns ++ one.0)
-            (one.2 ∙ (ap (λ (l : List LogEntry). l ++ calls_of one.0) h.log ∙ (append_assoc (log_of old) (calls_of h.turns) (calls_of one.0) ∙ ap (λ (l : List LogEntry). log_of old ++ l) (sym (calls_more h.turns one.0)))))
-            (more_calls h.turns one.0 h.calls (last_calls at one.0 one.1)));
+        (one.2 ∙ (ap (λ (l : List LogEntry). l ++ calls_of one.0) h.log ∙ (append_assoc (log_of old) (calls_of h.turns) (calls_of one.0) ∙ ap (λ (l : List LogEntry). log_of old ++ l) (sym (calls_more h.turns one.0)))))
+        (more_calls h.turns one.0 h.calls (last_calls at one.0 one.1)));
   } where
     leaving : List LogEntry
     leaving = map (told_made new.who) d.more

@@ -88,7 +88,11 @@ fn has_then(had: bool, act: &Act, reply: &Reply) -> bool
 fn line_behind(count: usize) -> u32
     ensures { result ≡ line_behind_by count }
 {
-    if count < u32::MAX as usize { count as u32 + 1 } else { u32::MAX }
+    if count < u32::MAX as usize {
+        count as u32 + 1
+    } else {
+        u32::MAX
+    }
 }
 
 impl Seat {

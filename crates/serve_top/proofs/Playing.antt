@@ -65,7 +65,7 @@ module _ (may : ℕ → Bool) (stream : List (List ℕ)) (feeder : Caller) (feed
 
   -- f has the commands of each client, which are what it has done
   module _ (f : ℕ → List Command) (played : (c : ℕ) (book : List LogEntry) (out : List Outcome) → slice_get books c ≡ Some book → slice_get told c ≡ Some out
-          → (script : Scripted) → commands_of c script ≡ f c → IsPlayed may c script book out)
+      → (script : Scripted) → commands_of c script ≡ f c → IsPlayed may c script book out)
       (idle : (c : ℕ) (book : List LogEntry) (out : List Outcome) → slice_get books c ≡ Some book → slice_get told c ≡ Some out → f c ≡ [] → (book ≡ []) × (out ≡ [])) where
     abbrev n : ℕ
     n = length books
@@ -120,13 +120,13 @@ module _ (may : ℕ → Bool) (stream : List (List ℕ)) (feeder : Caller) (feed
       plays : (c : ℕ) (book : List LogEntry) (out : List Outcome) → slice_get books c ≡ Some book → slice_get outs c ≡ Some out → IsPlayed may c more book out
       plays c book out at there = dite (ℕ_discrete last c)
           (λ same.
-              let book_at : slice_get books last ≡ Some book = subst (λ k. slice_get books k ≡ Some book) (sym same) at in
-              let was = at_place told last (omega (arith, is, long)) in
-              let none = idle_at last book was.0 low book_at was.1 in
-              let mine : outcomes last more [] ≡ out = one_value outs last (outcomes last more []) out (set_there told last (outcomes last more []) (omega (arith, is, long))) (subst (λ k. slice_get outs k ≡ Some out) (sym same) there) in
-              subst (λ k. IsPlayed may k more book out) same (subst (λ (l : List LogEntry). IsPlayed may last more l out) (sym none.0) (subst (IsPlayed may last more []) mine asks)))
+          let book_at : slice_get books last ≡ Some book = subst (λ k. slice_get books k ≡ Some book) (sym same) at in
+          let was = at_place told last (omega (arith, is, long)) in
+          let none = idle_at last book was.0 low book_at was.1 in
+          let mine : outcomes last more [] ≡ out = one_value outs last (outcomes last more []) out (set_there told last (outcomes last more []) (omega (arith, is, long))) (subst (λ k. slice_get outs k ≡ Some out) (sym same) there) in
+          subst (λ k. IsPlayed may k more book out) same (subst (λ (l : List LogEntry). IsPlayed may last more l out) (sym none.0) (subst (IsPlayed may last more []) mine asks)))
           (λ not.
-              played c book out at (sym (set_elsewhere told last c (outcomes last more []) (λ e. not (sym e))) ∙ there) more (others c not ∙ here c book at))
+          played c book out at (sym (set_elsewhere told last c (outcomes last more []) (λ e. not (sym e))) ∙ there) more (others c not ∙ here c book at))
 
       r : IsWholeRun more 64 may stream outs hs
       r = runs more outs (worked more outs many (length-set told last (outcomes last more []) ∙ long) plays)
@@ -139,10 +139,10 @@ module _ (may : ℕ → Bool) (stream : List (List ℕ)) (feeder : Caller) (feed
           let d = r.run.clients_done c (omega (arith, who, top)) in
           let stands = d.only node place h e at there (omega (arith, who)) in
           subst (λ (o : Option Event). IsEvent o e) (nothing c (omega (arith, less)) (omega (arith, who, top, many)) (replies (take e.step d.made))) (d.steps e.step e stands).3 where
-        nothing : (c : ℕ) → m ≤ c → c < n → (rs : List Response) → next_event c more rs ≡ None
-        nothing c less low rs = dite (ℕ_discrete last c)
-            (λ same. subst (λ k. next_event k more rs ≡ None) same (question_next last more own rs))
-            (λ not. none_next c more (others c not ∙ (lines_at f n c low ∙ behind_none f n c low less)) rs)
+            nothing : (c : ℕ) → m ≤ c → c < n → (rs : List Response) → next_event c more rs ≡ None
+            nothing c less low rs = dite (ℕ_discrete last c)
+                (λ same. subst (λ k. next_event k more rs ≡ None) same (question_next last more own rs))
+                (λ not. none_next c more (others c not ∙ (lines_at f n c low ∙ behind_none f n c low less)) rs)
 
       who_low : (e : LogEntry) (node place : ℕ) (h : List LogEntry) → slice_get hs node ≡ Some h → slice_get h place ≡ Some e → (b : Bool) → nat_lt m e.who ≡ b → e.who ≤ m
       who_low e node place h at there true less = absurd (no_call e.who e node place h refl (grind (arith, nat_tests, less)) at there)

@@ -53,11 +53,11 @@ module _ (f : ℕ → List Command) where
   lines_at zero k low = absurd (omega (arith, low))
   lines_at (suc n) k low = among_both k (lines_of n) (map (line_of n) (f n)) ∙ dite (ℕ_discrete n k)
       (λ here.
-          ap (λ (l : List Command). l ++ commands_among k (map (line_of n) (f n))) (lines_none n k (omega (arith, here)))
-          ∙ subst (λ i. commands_among i (map (line_of n) (f n)) ≡ f i) here (own_lines n (f n)))
+      ap (λ (l : List Command). l ++ commands_among k (map (line_of n) (f n))) (lines_none n k (omega (arith, here)))
+      ∙ subst (λ i. commands_among i (map (line_of n) (f n)) ≡ f i) here (own_lines n (f n)))
       (λ not.
-          ap (λ (l : List Command). l ++ commands_among k (map (line_of n) (f n))) (lines_at n k (omega (arith, low, not)))
-          ∙ (ap (λ (l : List Command). f k ++ l) (other_lines k n (f n) not) ∙ append-nil (f k)))
+      ap (λ (l : List Command). l ++ commands_among k (map (line_of n) (f n))) (lines_at n k (omega (arith, low, not)))
+      ∙ (ap (λ (l : List Command). f k ++ l) (other_lines k n (f n) not) ∙ append-nil (f k)))
 
 -- ------ how many clients there are
 
@@ -96,15 +96,15 @@ behind_none f zero k low most = absurd (omega (arith, low))
 behind_none f (suc n) k low most = dite (ℕ_discrete n k)
     (λ here. subst (λ i. f i ≡ []) here (nothing (f n) (most_of 0 (lines_of f n)) (subst (λ m. m ≤ n) (most_both 0 (lines_of f n) (map (line_of n) (f n))) (let h = here in omega (arith, most, h)))))
     (λ not.
-        let b = subst (λ m. m ≤ k) (most_both 0 (lines_of f n) (map (line_of n) (f n))) most in
-        let a = most_grows (most_of 0 (lines_of f n)) (map (line_of n) (f n)) in
-        behind_none f n k (omega (arith, low, not)) (omega (arith, a, b))) where
-  nothing : (cs : List Command) (most : ℕ) → most_of most (map (line_of n) cs) ≤ n → cs ≡ []
-  nothing [] most low = refl
-  nothing (c ∷ cs) most low =
-      let a = most_grows (max most (n + 1)) (map (line_of n) cs) in
-      let b : n + 1 ≤ max most (n + 1) = omega arith in
-      absurd (omega (arith, a, b, low))
+    let b = subst (λ m. m ≤ k) (most_both 0 (lines_of f n) (map (line_of n) (f n))) most in
+    let a = most_grows (most_of 0 (lines_of f n)) (map (line_of n) (f n)) in
+    behind_none f n k (omega (arith, low, not)) (omega (arith, a, b))) where
+      nothing : (cs : List Command) (most : ℕ) → most_of most (map (line_of n) cs) ≤ n → cs ≡ []
+      nothing [] most low = refl
+      nothing (c ∷ cs) most low =
+          let a = most_grows (max most (n + 1)) (map (line_of n) cs) in
+          let b : n + 1 ≤ max most (n + 1) = omega arith in
+          absurd (omega (arith, a, b, low))
 
 -- ------ a client that makes no call, at the end
 
@@ -128,8 +128,8 @@ asked_own last lines none =
 pub asked_clients : (last : ℕ) (lines : List Line) → clients_in (plain lines) ≤ last → clients_in (asked_last last lines) ≡ last + 1
 asked_clients last lines low =
     most_both 0 lines (CommandLine 1 last Dvr (GetStc 0) ∷ []) ∙ is where
-  is : max (clients_in (plain lines)) (last + 1) ≡ last + 1
-  is = omega (arith, low)
+      is : max (clients_in (plain lines)) (last + 1) ≡ last + 1
+      is = omega (arith, low)
 
 -- ------ by its commands alone
 

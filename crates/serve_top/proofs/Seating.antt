@@ -154,17 +154,21 @@ module _ {T : Type 0} (source : T → SourceEnd) (sink : T → SinkEnd) (may : �
     answers_at k d at =
         let u = served_at k d at in
         let first = ready.each k u.0.seat (seat_at k u.0 u.1) in
-        let there : slice_get (reverse lines) k ≡ Some u.0.line = ap (λ (l : List T). slice_get l k) (sym are) ∙ (slice_get-map (λ (d : Desk T). d.line) old k ∙ ap (option_map (λ (d : Desk T). d.line)) u.1) in
-        (u.0.line, there, subst (λ (l : List LogEntry). HasAnsweredAll source sink may u.0.line l (log_of d.seat) [] d.seat.outcomes.items) first.1
-            (subst (λ (os : List Outcome). HasAnsweredAll source sink may u.0.line (log_of u.0.seat) (log_of d.seat) os d.seat.outcomes.items) first.2 u.2.answers))
+        let there : slice_get (reverse lines) k ≡ Some u.0.line = ap (λ (l : List T). slice_get l k) (sym are) ∙ (slice_get-map (λ (d : Desk T). d.line) old k ∙ ap (option_map (λ (d : Desk T). d.line)) u.1) in (
+          u.0.line,
+          there,
+          subst (λ (l : List LogEntry). HasAnsweredAll source sink may u.0.line l (log_of d.seat) [] d.seat.outcomes.items) first.1
+              (subst (λ (os : List Outcome). HasAnsweredAll source sink may u.0.line (log_of u.0.seat) (log_of d.seat) os d.seat.outcomes.items) first.2 u.2.answers),
+        )
 
     -- the commands of the seat in this place, if there is one
     choose : (k : ℕ) (o : Option (Desk T)) → slice_get new k ≡ o → (cs : List Command) × ((d : Desk T) → o ≡ Some d → IsAt k lines d cs)
     choose k None at = ([], λ d some. absurd (cc some))
     choose k (Some d) at =
-        let a = answers_at k d at in
-        (commands_by 0 (spelled (a.2.turns ++ a.2.last) a.2.leaving),
-          λ x same. let one : d ≡ x = cc same in subst (λ (z : Desk T). IsAt k lines z (commands_by 0 (spelled (a.2.turns ++ a.2.last) a.2.leaving))) one (record { line = a.0; there = a.1; answers = a.2; are = refl }))
+        let a = answers_at k d at in (
+          commands_by 0 (spelled (a.2.turns ++ a.2.last) a.2.leaving),
+          λ x same. let one : d ≡ x = cc same in subst (λ (z : Desk T). IsAt k lines z (commands_by 0 (spelled (a.2.turns ++ a.2.last) a.2.leaving))) one (record { line = a.0; there = a.1; answers = a.2; are = refl }),
+        )
 
     pub commands_at : (k : ℕ) → List Command
     commands_at k = (choose k (slice_get new k) refl).0
@@ -213,7 +217,11 @@ module _ {T : Type 0} (source : T → SourceEnd) (sink : T → SinkEnd) (may : �
         → (line : T) × (slice_get (reverse lines) k ≡ Some line) × (became : List Outcome) × (slice_get the_outcomes k ≡ Some became) × IsServed source sink may the_script k line book became
     have_answered k book at =
         let v = mapped (λ (x : Desk T). log_of x.seat) new k book at in
-        let s = seat_is k v.0 v.1 in
-        (s.line, s.there, v.0.seat.outcomes.items, slice_get-map (λ (x : Desk T). x.seat.outcomes.items) new k ∙ ap (option_map (λ (x : Desk T). x.seat.outcomes.items)) v.1,
+        let s = seat_is k v.0 v.1 in (
+          s.line,
+          s.there,
+          v.0.seat.outcomes.items,
+          slice_get-map (λ (x : Desk T). x.seat.outcomes.items) new k ∙ ap (option_map (λ (x : Desk T). x.seat.outcomes.items)) v.1,
           subst (λ (b : List LogEntry). IsServed source sink may the_script k s.line b v.0.seat.outcomes.items) v.2
-          (record { answers = s.answers; spells = lines_at commands_at (length the_books) k (slice_get_within the_books k book at) ∙ s.are }))
+              (record { answers = s.answers; spells = lines_at commands_at (length the_books) k (slice_get_within the_books k book at) ∙ s.are }),
+        )

@@ -59,7 +59,7 @@ returns-in-nodes-clause-kept g c =
     let made = ap (λ (v : Vec Made Global). v.items) r.3 in let log = ap (λ (v : Vec Entry Global). v.items) r.2 in
     keeps_opened WasDone c.args.self.now c.keep.new.self
     (grown_free c.nodes.node c.call-at.result c.args.self.now c.nodes.self c.call-at.new.self c.keep.new.self c.nodes.invariant.tried c.call-at.ensures.did c.index.result.now c.index.ensures
-        (sym c.is_busy.ensures ∙ c.if-is_busy.false) made log r.1)
+    (sym c.is_busy.ensures ∙ c.if-is_busy.false) made log r.1)
     (keeps_so WasDone c.args.self.now c.call-at.new.self c.keep.new.self c.count-from.result (search rules) (ap (λ (v : Vec Outcome Global). v.items) (c.call-at.ensures.rest ∙ c.nodes.invariant.told)) c.keep.ensures.told log made)
 
 pub returns-clause-kept : goal.returns-clause-kept
