@@ -1,5 +1,5 @@
 -- What is to be written for a session, and why there is nothing.
-use Rattle.std.proofs.Common.{◌≡◌, ◌<◌, ◌≤◌, ◌^◌, ◌⊎◌, refl, sym, ap, subst, ◌∙◌, ℕ, Bool, true, false, List, [], ◌++◌, length, map, append-nil, arith, length-append, inl, inr, IsTrue}
+use Rattle.std.proofs.Common.{◌≡◌, ◌<◌, ◌≤◌, ◌+◌, ◌^◌, ◌⊎◌, refl, sym, ap, subst, ◌∙◌, ℕ, Bool, true, false, List, [], ◌++◌, length, map, append-nil, arith, length-append, inl, inr, IsTrue}
 use Rattle.std.proofs.lemmas.Bool.{cases_lt}
 use Rattle.std.proofs.KnownBytes.{Consumes-trans}
 use Rattle.std.specs.Prelude.{◌↔◌, Option, Some, None, IfSome, Ok, Err}
@@ -14,7 +14,7 @@ use Rattle.client_script.proofs.Parting.{front_of}
 use Rattle.client_script.proofs.Splitting.{split-found, split-missing}
 use Rattle.client_core.specs.declared.stop.Stop.{Stop}
 use Rattle.client_core.specs.declared.stop.Stop.TheVariants.{NoMemory as NoMemoryToRun, TooLong as RunTooLong}
-use Rattle.script_run.specs.Budget.{most_calls, all_commands, IsTooLong}
+use Rattle.script_run.specs.Budget.{most_calls, all_commands, bytes_written, IsTooLong}
 use Rattle.feed_pull.specs.Pulling.{Pulling}
 use Rattle.feed_pull.specs.Streams.{OfStream}
 use Rattle.serial_core.specs.declared.run.Left.{Left}
@@ -108,7 +108,7 @@ made_of out size script puller x y z first failed text takes h of rose later end
 -- ------ a run that was given up
 
 cause_of : (script : Scripted) (start turns : ℕ) (ahead taken first : List ℕ) → start ≤ length first → IsTooLong script start turns ahead taken
-    → ((turns ≡ 4294967296) × (turns ≤ length (first ++ taken))) ⊎ ((turns ≡ 2 ^ 39) × (turns ≤ most_calls (all_commands script.lines) (length (ahead ++ taken))))
+    → ((turns ≡ 4294967296) × (turns ≤ length (first ++ taken))) ⊎ ((turns ≡ 2 ^ 39) × (turns ≤ most_calls (all_commands script.lines) (length (ahead ++ taken) + bytes_written script)))
 cause_of script start turns ahead taken first reads (inl (is, le)) = inl (is, omega (arith, length-append first taken))
 cause_of script start turns ahead taken first reads (inr (is, le)) = inr (is, rw (length-append ahead taken, is) le)
 

@@ -1,5 +1,5 @@
 -- What is read of a session, and what is to be written for it.
-use Rattle.std.specs.Prelude.{◌≡◌, ◌⊎◌, ⊤, ℕ, ◌≤◌, ◌^◌, ◌++◌, Bool, true, false, List, [], length, map, Option, Some, None, Ok, Err, IfSome}
+use Rattle.std.specs.Prelude.{◌≡◌, ◌⊎◌, ⊤, ℕ, ◌+◌, ◌≤◌, ◌^◌, ◌++◌, Bool, true, false, List, [], length, map, Option, Some, None, Ok, Err, IfSome}
 use Rattle.std.specs.Io.KnownBytes.{Consumes, IsAtEnd}
 use Rattle.emu_io.specs.Causes.{Rose}
 use Rattle.emu_io.specs.Ends.{SourceEnd}
@@ -15,7 +15,7 @@ use Rattle.client_script.specs.declared.fault.ScriptError.TheVariants.{Fault, No
 use Rattle.client_script.specs.Script.{split, grammar, IsScript, Scripted}
 use Rattle.client_core.specs.declared.stop.Stop.{Stop}
 use Rattle.client_core.specs.declared.stop.Stop.TheVariants.{NoMemory as NoMemoryToRun, TooLong as RunTooLong}
-use Rattle.script_run.specs.Budget.{most_calls, all_commands}
+use Rattle.script_run.specs.Budget.{most_calls, all_commands, bytes_written}
 use Rattle.script_run.specs.WholeRun.{IsWholeRun}
 use Rattle.feed_pull.specs.Pulling.{Pulling, Pulls}
 use Rattle.serial_core.specs.declared.run.Left.{Left}
@@ -110,8 +110,8 @@ pub record Makes (is_output : Output) (before after : SourceEnd) (failed : Bool)
   pub session : IsSession bytes script stream
   pub output : is_output script stream failed text
 
--- The run of a script without a fault was given up: so many reads were made, each of which took a byte, or its commands
--- and the bytes of the stream allow a client so many calls.
+-- The run of a script without a fault was given up: so many reads were made, each of which took a byte, or its commands,
+-- the bytes of the stream and those of all writes allow a client so many calls.
 pub record GivesUp (before after : SourceEnd) (turns : ℕ) : Type 0 where
   pub bytes : List ℕ
   pub script : Scripted
@@ -120,7 +120,7 @@ pub record GivesUp (before after : SourceEnd) (turns : ℕ) : Type 0 where
   pub session : IsSession bytes script stream
   pub known : IsScript script
   pub cause : ((turns ≡ 4294967296) × (turns ≤ length bytes))
-      ⊎ ((turns ≡ 2 ^ 39) × (turns ≤ most_calls (all_commands script.lines) (length stream)))
+      ⊎ ((turns ≡ 2 ^ 39) × (turns ≤ most_calls (all_commands script.lines) (length stream + bytes_written script)))
 
 -- the script of the input has this fault
 abbrev pub HasFault : ScriptFault → (before after : SourceEnd) → Type 0

@@ -1,11 +1,11 @@
 //! Told histories, played again. What is told was worked out by hand from the rules.
 
-ghost use Rattle.std.specs.Prelude.{◌≡◌, ◌<◌, [], map, true, All};
+ghost use Rattle.std.specs.Prelude.{◌≡◌, ◌<◌, ℕ, [], map, true, All};
 ghost use Rattle.dmx_calls.specs.Calls.{told_entry};
-ghost use Rattle.history_check.specs.Playing.{IsCallable, IsToldBy};
+ghost use Rattle.history_check.specs.Playing.{IsCallable, IsToldBy, brought_from};
 
 use crate::tests::told::{DONE, Made, Row, Said, data, entry_of};
-use dmx_calls::{Act, Answer, Call, Entry, Errno, PollError, SharedReply, Told};
+use dmx_calls::{Act, Answer, Call, Entry, Errno, Input, PollError, SharedReply, Told};
 use dvr_core::DvrCore;
 use history_check::is_played;
 use machine::Machine;
@@ -41,24 +41,30 @@ fn stream() -> PacketBuf {
     packets
 }
 
-// Whether a call can be made again.
+// Whether a call can be made again where no client plays.
 fn is_callable(packets: &[Packet], act: &Act) -> bool
-    ensures { result ≡ true → IsCallable packets.now act.now }
+    ensures { result ≡ true → (who : ℕ) → IsCallable (brought_from packets.now [] who) act.now }
 {
     match act {
         Act::Read { count, .. } => *count <= 65_536,
-        Act::Pass { first, count, .. } => {
+        Act::Pass {
+            input: Input::Frontend,
+            first,
+            count,
+            ..
+        } => {
             *count > 0
                 && *count <= 64
                 && *first <= 64
                 && *first + u64::from(*count) <= packets.len() as u64
         }
+        Act::Pass { .. } => false,
         _ => true,
     }
 }
 
 fn are_callable(packets: &[Packet], entries: &[Entry]) -> bool
-    ensures { result ≡ true → All (λ e. IsCallable packets.now e.act) (map told_entry entries.now) }
+    ensures { result ≡ true → All (λ e. IsCallable (brought_from packets.now [] e.who) e.act) (map told_entry entries.now) }
 {
     match entries.split_first() {
         None => true,
@@ -85,7 +91,7 @@ fn plays_with<M: Machine<Call = Call, Answer = Answer, Entry = Told> + Drop, L: 
     }
     let mut core = core;
     let mut steps: Steps<L> = Steps::new(blank);
-    let is = is_played(alloc, &mut core, packets, entries, &mut steps)?;
+    let is = is_played(alloc, &mut core, packets, &[], entries, &mut steps)?;
     Ok(Some(is))
 }
 

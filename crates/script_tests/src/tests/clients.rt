@@ -315,7 +315,8 @@ fn is_empty_read(call: &Call, moment: u64, count: u32) -> bool {
 
 #[test]
 fn a_read_comes_with_an_empty_buffer(rt: HostRuntime) -> Result<(), Stop> {
-    let call = call_of(rt.alloc(), &Request::Own(Want::Read(65_536)), 9)?;
+    let core = client_of(&rt, rt.alloc(), b"stream\n", 0);
+    let call = call_of(rt.alloc(), &core, &Request::Own(Want::Read(65_536)), 9)?;
     assert!(rt; is_empty_read(&call, 9, 65_536));
     Ok(())
 }

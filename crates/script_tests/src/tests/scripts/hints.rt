@@ -8,7 +8,7 @@ use std::alloc::Global;
 use std::test::Fail;
 
 const COMMANDS: &str =
-    "a command: open, close, section, pes, add, remove, start, stop, size, read, readw, drain, poll or ioctl";
+    "a command: open, close, section, pes, add, remove, start, stop, size, read, readw, drain, poll, ioctl or write";
 
 const FIRST: &str = "feed, tick, a client c0 to c7, or the line stream";
 
