@@ -39,7 +39,7 @@ fn add_some<L: Ledger>(
     batch: Option<&Arc<Batch>>,
     steps: &mut Steps<L>,
 ) -> Result<(), NoMemory>
-    ensures { OnOk result (packets.new.items ≡ packets.old.items ++ packets_in (option_map (λ b. b.now.value) batch)) }
+    ensures { OnOk result (packets.new.items ≡ packets.old.items ++ packets_in (option_map (λ b. b.now.value) batch.entry)) }
 {
     match batch {
         None => Ok(()),
