@@ -45,16 +45,24 @@ fn packets_of(rows: &[(u8, u8)]) -> PacketBuf {
     packets
 }
 
+// The packets of these PIDs and counters, as a caller plays them.
+fn played_of(alloc: Global, rows: &[(u8, u8)]) -> Result<Vec<Packet>, NoMemory>
+    ensures { IfOk result (λ own. AreFewPackets own.items) }
+{
+    let packets = packets_of(rows);
+    let mut own = Vec::new(alloc);
+    own.extend_from_slice(packets.as_slice())?;
+    Ok(own)
+}
+
 // What the callers play.
+#[tactic(auto, using(crate::proofs::Played::few_more))]
 fn played(alloc: Global) -> Result<Vec<Vec<Packet>>, NoMemory>
     ensures { IfOk result (λ all. All AreFewPackets (map (λ p. p.items) all.items)) }
 {
     let mut all = Vec::new(alloc);
     'callers: for rows in PLAYED.iter() {
-        let packets = packets_of(rows);
-        let mut own = Vec::new(alloc);
-        own.extend_from_slice(packets.as_slice())?;
-        all.push(own)?;
+        all.push(played_of(alloc, rows)?)?;
     }
     Ok(all)
 }

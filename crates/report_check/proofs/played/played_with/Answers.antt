@@ -1,6 +1,7 @@
 use Rattle.std.proofs.Common.{◌≡◌, ◌<◌, ◌+◌, [], ◌∷◌, ◌++◌, length, take, arith, sym, ap, subst, ◌∙◌}
 use Rattle.std.proofs.lemmas.List.{length-take-le, take_all, take_more}
 use Rattle.std.specs.List.{flat_map}
+use Rattle.std.specs.Prelude.{None, slice_index_or}
 use Rattle.client_script.specs.Script.{writes_of}
 use Rattle.dvr_play.specs.Laws.{packets_in}
 use Rattle.dvr_play.specs.Plays.{HasPlayed, cut_of}
@@ -30,7 +31,7 @@ writes-preserved g c =
     record {
       played = subst (λ l. HasPlayed l c.push.new.self) (sym next) (c.in_ok-push.ensures.tied (take i ws) c.writes.invariant.played);
       packets = c.in_ok-add_some.ensures ∙ ap (λ o. c.writes.packets.items ++ packets_in o) c.batch.ensures
-          ∙ ap (λ l. l ++ _) c.writes.invariant.packets ∙ sym (batch_more c.writes.plays c.push.new.self bytes i made c.in_ok-push.ensures.played);
+          ∙ ap (λ l. l ++ packets_in (slice_index_or c.push.new.self.batches i None)) c.writes.invariant.packets ∙ sym (batch_more c.writes.plays c.push.new.self bytes i made c.in_ok-push.ensures.played);
     }
 
 pub returns : goal.returns
