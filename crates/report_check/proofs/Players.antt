@@ -112,6 +112,10 @@ last_of : (before : List (Option Packets)) (last : Option Packets) → slice_ind
 last_of [] last = refl
 last_of (b ∷ before) last = last_of before last
 
+pub batches_more : (old new : Playing) (bytes : List ℕ) → new ≡ with_write bytes old → length new.batches ≡ length old.batches + 1
+batches_more old new bytes made =
+    ap (λ (p : Playing). length p.batches) made ∙ length-append old.batches (batch_of old.count (cut Of188 (old.rest ++ bytes)).packets ∷ [])
+
 -- the packets of the writes' batches, with those of the write that was made last
 pub batch_more : (old new : Playing) (bytes : List ℕ) (i : ℕ) → length old.batches ≡ i → new ≡ with_write bytes old
     → flat_map packets_in new.batches ≡ flat_map packets_in old.batches ++ packets_in (slice_index_or new.batches i None)

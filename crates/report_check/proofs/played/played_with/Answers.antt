@@ -6,7 +6,7 @@ use Rattle.client_script.specs.Script.{writes_of}
 use Rattle.dvr_play.specs.Laws.{packets_in}
 use Rattle.dvr_play.specs.Plays.{HasPlayed, cut_of}
 use Rattle.dvr_play.proofs.Joining.{are_counted, are_joined}
-use Rattle.report_check.proofs.Players.{batch_more}
+use Rattle.report_check.proofs.Players.{batch_more, batches_more}
 use Rattle.report_check.proofs.played.played_with.Goals as goal
 
 pub push-requires-clause-room : goal.push-requires-clause-room
@@ -19,6 +19,15 @@ push-requires-clause-room g c =
     let long : length (take i ws) ≡ i = length-take-le i ws (omega (arith, under, count)) in
     let made : length c.writes.plays.batches ≡ length (take i ws) = ap length c.writes.invariant.played.batches ∙ are_counted (take i ws) in
     omega (arith, made, long, under, bound)
+
+pub batch-requires : goal.batch-requires
+batch-requires g c =
+    let ws = writes_of c.args.client c.args.script.now.writes in
+    let i = c.writes.write in
+    let under : i < length ws = omega (arith, c.writes-test.true, c.writes-write-end.ensures.count) in
+    let made : length c.writes.plays.batches ≡ i = ap length c.writes.invariant.played.batches ∙ are_counted (take i ws) ∙ length-take-le i ws (omega (arith, under)) in
+    let more : length c.push.new.self.batches ≡ length c.writes.plays.batches + 1 = batches_more c.writes.plays c.push.new.self c.written.result.now c.in_ok-push.ensures.played in
+    omega (arith, made, more)
 
 pub writes-preserved : goal.writes-preserved
 writes-preserved g c =
