@@ -74,13 +74,13 @@ want_can packets counts who _ moment is = refl
 -- a batch that stands among what is played
 pass_can : (packets : ℕ) (counts : List ℕ) (who : ℕ) (all : List (List ℕ)) (o : Option Packets) (moment : ℕ) → slice_index_or counts who 0 ≡ length all → IsSome o → IfSome o IsPlayedBatch → IfSome o (StandsAmong all)
     → is_callable packets counts who (act_of (pass_of o moment)) ≡ true
-pass_can packets counts who all None moment count some played stands = absurd some
-pass_can packets counts who all (Some batch) moment count some played stands =
+pass_can packets counts who all None moment count some is stands = absurd (cc some)
+pass_can packets counts who all (Some batch) moment count some is stands =
     let long : length batch.packets ≡ length (take (length batch.packets) (drop batch.first all)) = ap (λ (ps : List (List ℕ)). length ps) stands in
     let inside : batch.first + length batch.packets ≤ slice_index_or counts who 0 =
-    omega (arith, count, played.some, long, length-take (length batch.packets) (drop batch.first all), length-drop batch.first all) in
-    let some' : nat_lt 0 (length batch.packets) ≡ true = grind (arith, nat_tests, played.some) in
-    let few : nat_le (length batch.packets) 64 ≡ true = grind (arith, nat_tests, played.few) in
+    omega (arith, count, is.some, long, length-take (length batch.packets) (drop batch.first all), length-drop batch.first all) in
+    let some' : nat_lt 0 (length batch.packets) ≡ true = grind (arith, nat_tests, is.some) in
+    let few : nat_le (length batch.packets) 64 ≡ true = grind (arith, nat_tests, is.few) in
     let within : nat_le (batch.first + length batch.packets) (slice_index_or counts who 0) ≡ true = grind (arith, nat_tests, inside) in
     rw (some', few, within) refl
 

@@ -1,6 +1,6 @@
 -- The packets that clients play, as a report is checked.
-use Rattle.std.proofs.Common.{◌≡◌, ◌<◌, ◌≤◌, ◌+◌, ◌*◌, ◌^◌, ◌⊎◌, inl, inr, refl, sym, ap, subst, ◌∙◌, ℕ, zero, suc, List, [], ◌∷◌, ◌++◌, Option, Some, None, length, map, take, drop, arith, length-append, length-map}
-use Rattle.std.specs.Prelude.{Vec, reverse, slice_get, slice_index_or, sum}
+use Rattle.std.proofs.Common.{◌≡◌, ◌<◌, ◌≤◌, ◌+◌, ◌*◌, ◌^◌, ◌⊎◌, inl, inr, refl, sym, ap, subst, ◌∙◌, ℕ, zero, suc, List, [], ◌∷◌, ◌++◌, Option, Some, None, length, map, take, drop, arith, length-append}
+use Rattle.std.specs.Prelude.{Vec, reverse, slice_get, slice_index_or}
 use Rattle.std.specs.List.{All, flat_map, range_with_len}
 use Rattle.std.specs.declared.alloc.Global.{Global}
 use Rattle.std.proofs.lemmas.Bool.{cases_lt}
@@ -32,16 +32,16 @@ use Rattle.report_check.specs.Inside.Parts.{all_played}
 
 -- ------ how many there are
 
-pub count_at : (played : List (Vec (List ℕ) Global)) (who : ℕ) (packets : Vec (List ℕ) Global) → slice_get played who ≡ Some packets
+pub count_at : (played : List (Vec (List ℕ) Global)) (who : ℕ) (packets : Vec (List ℕ) Global) → who < length played → packets ≡ slice_index_or played who packets
     → slice_index_or (map (λ ps. length ps) (map (λ p. p.items) played)) who 0 ≡ length packets.items
-count_at [] who packets is = absurd (cc)
-count_at (p ∷ played) zero packets is = let same : p ≡ packets = cc in ap (λ (v : Vec (List ℕ) Global). length v.items) same
-count_at (p ∷ played) (suc who) packets is = count_at played who packets is
+count_at [] who packets lt is = absurd (omega (arith, lt))
+count_at (p ∷ played) zero packets lt is = ap (λ (v : Vec (List ℕ) Global). length v.items) (sym is)
+count_at (p ∷ played) (suc who) packets lt is = count_at played who packets (omega (arith, lt)) is
 
-pub none_at : (played : List (Vec (List ℕ) Global)) (who : ℕ) → slice_get played who ≡ None → slice_index_or (map (λ ps. length ps) (map (λ p. p.items) played)) who 0 ≡ 0
-none_at [] who is = refl
-none_at (p ∷ played) zero is = absurd (cc)
-none_at (p ∷ played) (suc who) is = none_at played who is
+pub none_at : (played : List (Vec (List ℕ) Global)) (who : ℕ) → length played ≤ who → slice_index_or (map (λ ps. length ps) (map (λ p. p.items) played)) who 0 ≡ 0
+none_at [] who past = refl
+none_at (p ∷ played) zero past = absurd (omega (arith, past))
+none_at (p ∷ played) (suc who) past = none_at played who (omega (arith, past))
 
 -- ------ the packets of all callers are those of a run
 
@@ -111,6 +111,10 @@ take_next (y ∷ ys) (suc i) x at =
 last_of : (before : List (Option Packets)) (last : Option Packets) → slice_index_or (before ++ last ∷ []) (length before) None ≡ last
 last_of [] last = refl
 last_of (b ∷ before) last = last_of before last
+
+pub batches_more : (old new : Playing) (bytes : List ℕ) → new ≡ with_write bytes old → length new.batches ≡ length old.batches + 1
+batches_more old new bytes made =
+    ap (λ (p : Playing). length p.batches) made ∙ length-append old.batches (batch_of old.count (cut Of188 (old.rest ++ bytes)).packets ∷ [])
 
 -- the packets of the writes' batches, with those of the write that was made last
 pub batch_more : (old new : Playing) (bytes : List ℕ) (i : ℕ) → length old.batches ≡ i → new ≡ with_write bytes old

@@ -137,7 +137,7 @@ module _ (batches : Batches) where
 
   some_there : (o : Option Packets) → is_some o ≡ true → IsSome o
   some_there None e = absurd (cc)
-  some_there (Some batch) e = tt
+  some_there (Some batch) e = refl
 
   deed_in : (v : Verb) → IsVerbInRange v → CanDo (deed_of batches v)
   deed_in (verb.Once want) is = (is, tt)

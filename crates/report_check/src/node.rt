@@ -10,7 +10,7 @@ use dmx_calls::{Act, Entry, Input, KeptAct};
 use ts_packet::Packet;
 
 // How many packets there are of which a caller's passes bring some.
-#[tactic(auto, using(crate::proofs::Players::count_at, crate::proofs::Players::none_at))]
+#[tactic(auto, using(crate::proofs::Players::none_at))]
 fn count_for(packets: u64, played: &[Vec<Packet>], who: u32, input: Input) -> u64
     ensures { result ≡ count_from packets (map (λ ps. length ps) (map (λ p. p.items) played.now)) who input }
 {

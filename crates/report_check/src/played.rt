@@ -1,5 +1,5 @@
 // The packets that the clients of a script play.
-ghost use Rattle.std.specs.Prelude.{◌≡◌, ◌+◌, ◌<◌, ◌≤◌, ◌++◌, length, map, take, IfOk, OnOk, All};
+ghost use Rattle.std.specs.Prelude.{◌≡◌, ◌<◌, ◌∷◌, ◌++◌, [], map, IfOk, OnOk, All};
 ghost use Rattle.std.specs.Option.{option_map};
 ghost use Rattle.dvr_play.specs.Laws.{packets_in};
 ghost use Rattle.client_core.specs.Commands.{played};
@@ -39,7 +39,7 @@ fn add_some<L: Ledger>(
     batch: Option<&Arc<Batch>>,
     steps: &mut Steps<L>,
 ) -> Result<(), NoMemory>
-    ensures { OnOk result (packets.new.items ≡ packets.old.items ++ packets_in (option_map (λ b. b.now.value) batch)) }
+    ensures { OnOk result (packets.new.items ≡ packets.old.items ++ packets_in (option_map (λ b. b.now.value) batch.entry)) }
 {
     match batch {
         None => Ok(()),
@@ -74,6 +74,15 @@ fn played_by(alloc: Global, script: &Script, client: u32) -> Result<Vec<Packet>,
     played_with::<Brand>(alloc, script, client, Blank::new(1))
 }
 
+// What the feeder plays: nothing.
+fn of_feeder(alloc: Global) -> Result<Vec<Vec<Packet>>, NoMemory>
+    ensures { IfOk result (λ all. map (λ p. p.items) all.items ≡ [] ∷ []) }
+{
+    let mut all = Vec::with_capacity(alloc, CLIENTS as usize + 1)?;
+    all.push(Vec::new(alloc))?;
+    Ok(all)
+}
+
 /// What each caller of a script plays, by its number: the feeder nothing.
 pub fn all_played(alloc: Global, script: &Script) -> Result<Vec<Vec<Packet>>, NoMemory>
     ensures played { IfOk result (λ all. map (λ p. p.items) all.items ≡ played_by_all script.now) }
@@ -81,10 +90,10 @@ pub fn all_played(alloc: Global, script: &Script) -> Result<Vec<Vec<Packet>>, No
 {
     // A script writes so few bytes that the numbers of the packets fit.
     let _lines = script.lines();
-    let mut all = Vec::with_capacity(alloc, CLIENTS as usize + 1)?;
-    all.push(Vec::new(alloc))?;
+    let mut all = of_feeder(alloc)?;
     'clients: for client in 0..CLIENTS {
-        all.push(played_by(alloc, script, client)?)?;
+        let packets = played_by(alloc, script, client)?;
+        all.push(packets)?;
     }
     Ok(all)
 }

@@ -49,7 +49,7 @@ fn asked_by_command(want: Want, now: u64) -> Act
 
 // A pass of this batch, made at this moment.
 fn passed(batch: Option<&Arc<Batch>>, now: u64) -> Act
-    ensures { result ≡ act_of (pass_of (option_map (λ b. b.now.value) batch) now) }
+    ensures { result ≡ act_of (pass_of (option_map (λ b. b.now.value) batch.entry) now) }
 {
     match batch {
         Some(batch) => Act::Pass {

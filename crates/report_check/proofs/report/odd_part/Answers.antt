@@ -26,7 +26,7 @@ pub returns-in-Some : goal.returns-in-Some
 returns-in-Some c passed =
     let there : AreSoundNodes (clients_in c.args.script.now) (length c.args.packets.now) (map (λ ps. length ps) (all_played c.args.script.now)) (told_nodes c.args.told.now.nodes.items) = passed.nodes in
     let counts : map (λ ps. length ps) (map (λ p. p.items) c.as_slice-played.result.now) ≡ map (λ ps. length ps) (all_played c.args.script.now) =
-    ap (λ xs. map (λ ps. length ps) (map (λ p. p.items) xs)) c.as_slice-played.ensures.value ∙ ap (map (λ ps. length ps)) c.in_ok-all.ensures.played in
+    ap (λ (xs : List (Vec (List ℕ) Global)). map (λ ps. length ps) (map (λ p. p.items) xs)) c.as_slice-played.ensures.value ∙ ap (λ (xs : List (List (List ℕ))). map (λ ps. length ps) xs) c.in_ok-all.ensures.played in
     c.in-Some.ensures (rw (c.clients-clients.ensures.count, c.deref.ensures.value, counts) there)
 
 pub odd_client-requires-clause-few : goal.odd_client-requires-clause-few
@@ -52,12 +52,12 @@ odd_play-requires-clause-sound c =
 
 pub odd_play-requires-clause-played : goal.odd_play-requires-clause-played
 odd_play-requires-clause-played c =
-    subst (λ xs. All AreFewPackets (map (λ p. p.items) xs)) (sym c.as_slice-played.ensures.value) c.in_ok-all.ensures.few
+    subst (λ (xs : List (Vec (List ℕ) Global)). All AreFewPackets (map (λ p. p.items) xs)) (sym c.as_slice-played.ensures.value) c.in_ok-all.ensures.few
 
 pub returns : goal.returns
 returns c =
     let ns : List ToldNode = told_nodes c.args.told.now.nodes.items in
-    let all : map (λ p. p.items) c.as_slice-played.result.now ≡ all_played c.args.script.now = ap (map (λ p. p.items)) c.as_slice-played.ensures.value ∙ c.in_ok-all.ensures.played in
+    let all : map (λ p. p.items) c.as_slice-played.result.now ≡ all_played c.args.script.now = ap (λ (xs : List (Vec (List ℕ) Global)). map (λ p. p.items) xs) c.as_slice-played.ensures.value ∙ c.in_ok-all.ensures.played in
     let sound : AreSoundNodes (clients_in c.args.script.now) (length c.args.packets.now) (map (λ ps. length ps) (all_played c.args.script.now)) (told_nodes c.args.told.now.nodes.items) = rw (c.clients-clients.ensures.count, c.deref.ensures.value, all) at c.in_default.ensures in
     let Done : List Node → List (Vec Outcome Global) → Type 0 = λ ns os. AreDoneAs c.args.script.now (dealt (told_nodes ns)) 0 (map (λ o. o.items) os) in
     let there : Done c.deref-2.result.now c.deref-3.result.now =
