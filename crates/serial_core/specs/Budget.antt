@@ -16,7 +16,8 @@ module _ (script : Scripted) (batch : ℕ) where
   pub data IsBegun (client line : ℕ) : Run → Run → Type 0 where
     no_call : (r : Run) → IsBegun client line r r
     one_call : (r s : Run) (e : Event) → next_of_line client script line (replies_of client r) ≡ Some e
-        → IsBegun client line (called client (plays_of client script) e (after_waiting script batch client r)) s → IsBegun client line r s
+        → IsBegun client line (called client (plays_of client script) e (after_waiting script batch client r)) s
+        → IsBegun client line r s
 
   -- some calls of the next line are made, where it is a command
   abbrev pub AreBegun : List Line → Run → Run → Type 0
@@ -37,11 +38,11 @@ module _ (script : Scripted) (batch : ℕ) where
 -- commands, the bytes of the packets and those of all writes allow, where the lines of each client name its writes in their
 -- order, each once, and a batch has at least one packet.
 pub record IsWithinBudget : Type 0 where
-  pub moments : (script : Scripted) (batch : ℕ) (packets : List (List ℕ)) (r : Run) → All IsInRange script.lines → AreNumbered script → 1 ≤ batch
-      → All IsPacket packets → IsMoment script batch packets r
+  pub moments : (script : Scripted) (batch : ℕ) (packets : List (List ℕ)) (r : Run) → All IsInRange script.lines
+      → AreNumbered script → 1 ≤ batch → All IsPacket packets → IsMoment script batch packets r
       → (client : ℕ) → length (replies_of client r)
       ≤ most_calls (length (commands_of client script)) (188 * length packets + bytes_written script)
-  pub runs : (script : Scripted) (batch : ℕ) (packets : List (List ℕ)) (r : Run) → All IsInRange script.lines → AreNumbered script → 1 ≤ batch
-      → All IsPacket packets → IsSerialRun script batch packets r
+  pub runs : (script : Scripted) (batch : ℕ) (packets : List (List ℕ)) (r : Run) → All IsInRange script.lines
+      → AreNumbered script → 1 ≤ batch → All IsPacket packets → IsSerialRun script batch packets r
       → (client : ℕ) → length (replies_of client r)
       ≤ most_calls (length (commands_of client script)) (188 * length packets + bytes_written script)

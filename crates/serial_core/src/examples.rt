@@ -13,8 +13,8 @@ pub fn draining()
     ensures outcomes { DrainedOutcomes }
 {}
 
-/// A client writes two packets: the first while the dvr node isn't its own, the second one when it is, and a filter whose input is the
-/// dvr device records that one.
+/// A client writes two packets: the first while the dvr node isn't its own, the second one when it is, and a filter whose
+/// input is the dvr device records that one.
 pub fn playing()
     ensures run { PlayedRun }
     ensures outcomes { PlayedOutcomes }
