@@ -28,7 +28,7 @@ use Rattle.seats.specs.declared.run.Desk.{Desk}
 use Rattle.seats.specs.Seated.{log_of, AreOnNodes, IsReady, AreReady}
 use Rattle.seats.specs.Served.{HaveServed}
 use Rattle.serve_top.specs.declared.left.Left.{Left}
-use Rattle.serve_top.specs.Reported.{every, HasReported, IsNewFeeder, IsLeftBy}
+use Rattle.serve_top.specs.Reported.{every, fed_by, HasReported, IsNewFeeder, IsLeftBy}
 use Rattle.serve_top.proofs.Seating.{have_called, have_left, have_answered, still_callers, all_nodes}
 
 -- a row that has all nodes
@@ -52,7 +52,7 @@ module _ {T : Type 0} (source : T → SourceEnd) (sink : T → SinkEnd) (lines :
   unfolding taken
   fed = subst (λ (s : PacketSize). HasFedAll every 64 may (cut s taken).packets f.feeder f.feeding.items) size (worked_feeder every 64 may x y first f passed [] pulls)
 
-  called : HaveCalled every (cut Of188 taken).packets f.feeder f.feeding.items (map (λ (d : Desk T). d.seat.client) new) (map (λ (d : Desk T). log_of d.seat) new)
+  called : HaveCalled every (fed_by (cut Of188 taken).packets) f.feeder f.feeding.items (map (λ (d : Desk T). d.seat.client) new) (map (λ (d : Desk T). log_of d.seat) new)
   called = have_called source sink locks n feeder clients fresh all old new ready served 64 may (cut Of188 taken).packets f.feeder f.feeding.items fed
 
   head : told_head what.head ≡ head_of Of188 taken (has_failed f.puller.reading)
@@ -74,7 +74,7 @@ module _ {T : Type 0} (source : T → SourceEnd) (sink : T → SinkEnd) (lines :
     asked = have_answered source sink locks n feeder clients fresh all old new ready served lines are;
     left = have_left source sink locks n feeder clients fresh all old new ready served;
     histories = what.histories;
-    tells = is.tells every (cut Of188 taken).packets called;
+    tells = is.tells every (fed_by (cut Of188 taken).packets) called;
     told = told;
     written = subst (λ h. Appends was now (report_of h told what.histories)) head written;
   }

@@ -3,19 +3,17 @@ use Rattle.std.proofs.Common.{◌≡◌, ⊎_elim, ℕ, Bool, true, ◌+◌, ◌
 use Rattle.std.specs.Prelude.{slice_get, slice_index_or, option_map, reverse, All, Option}
 use Rattle.std.proofs.lemmas.Option.{slice_get-map, get_or_from_slice_get, slice_get_within}
 use Rattle.std.proofs.lemmas.List.{length-map}
-use Rattle.std.proofs.lemmas.List.Elements.{All-nil}
 use Rattle.atomic_table.specs.Seated.{TableId}
 use Rattle.emu_io.specs.Ends.{SourceEnd, SinkEnd}
 use Rattle.dmx_calls.specs.declared.histories.Fed.{Fed}
 use Rattle.dmx_calls.specs.declared.limits.TheConstants.{DEMUX_NODES}
-use Rattle.dmx_calls.specs.Log.{LogEntry}
+use Rattle.dmx_calls.specs.Log.{LogEntry, Sources}
 use Rattle.client_script.specs.Script.{plain}
-use Rattle.script_run.specs.SoFar.{PassesNone}
 use Rattle.adapter.specs.Callers.{Caller, IsSameCaller, AreFreshCallers, AreAllCallers}
 use Rattle.adapter.proofs.Everybody.{still_all}
 use Rattle.adapter.proofs.Lists.{at_place, at_end, one_value}
 use Rattle.workers.specs.Feeding.{HasFedAll}
-use Rattle.workers.specs.Logged.{IsLogged}
+use Rattle.workers.specs.Logged.{BringFrom, IsLogged}
 use Rattle.workers.specs.Telling.{HasLogged, HaveCalled}
 use Rattle.workers.proofs.Beginning.{called_none}
 use Rattle.workers.proofs.Lists.{mapped}
@@ -26,8 +24,8 @@ use Rattle.seats.specs.Holding.{HasLeft}
 use Rattle.seats.specs.Seated.{log_of, AreOnNodes, IsReady, AreReady, GoesOn}
 use Rattle.seats.specs.Served.{HasServed, HaveServed}
 use Rattle.seats.specs.Turns.{HasAnsweredAll}
-use Rattle.serve_top.specs.Reported.{every}
-use Rattle.serve_top.proofs.Logged.{same_calls, logged_calls, passes_calls}
+use Rattle.serve_top.specs.Reported.{every, fed_by}
+use Rattle.serve_top.proofs.Logged.{same_calls, logged_calls, brings_calls}
 
 module _ {T : Type 0} (source : T → SourceEnd) (sink : T → SinkEnd) (locks : List TableId) (n : ℕ) (feeder : Caller) (clients : List Caller) (fresh : AreFreshCallers locks n feeder clients) (all : AreAllCallers locks (clients ++ feeder ∷ []))
     (old new : List (Desk T)) (ready : AreReady locks clients (map (λ (d : Desk T). d.seat) old)) (h : HaveServed source sink locks old new) where
@@ -70,15 +68,15 @@ module _ {T : Type 0} (source : T → SourceEnd) (sink : T → SinkEnd) (locks :
     pub client_same : IsSameCaller b.seat.client d.seat.client
     client_same = same_calls 0 b.seat.client goes.calls d.seat.client made
 
-    pub has_logged : HasLogged k d.seat.client (log_of d.seat)
+    pub has_logged : (packets : Sources) → HasLogged packets k d.seat.client (log_of d.seat)
     unfolding b served_at
-    has_logged =
+    has_logged packets =
         let f = fresh.each k b.seat.client (client_at k b (served_at k d at).1) in
         record {
           who = client_same.0 ∙ f.number;
           logged = subst (IsLogged d.seat.client) (sym log_is) (logged_calls 0 b.seat.client [] goes.calls d.seat.client refl
               (called_none locks (n + 1) (k + 1) (2 ^ 40) b.seat.client f (plain []) k (λ (m : ℕ). true) refl).logged made);
-          passes = subst (All (λ (e : LogEntry). PassesNone e.act)) (sym log_is) (passes_calls 0 b.seat.client [] goes.calls d.seat.client (All-nil (λ (e : LogEntry). PassesNone e.act)) made);
+          brought = subst (BringFrom (packets d.seat.client.who) d.seat.client) (sym log_is) (brings_calls (packets d.seat.client.who) 0 b.seat.client [] goes.calls d.seat.client (λ i e here. absurd (cc here)) made);
         }
 
   its_clients : List Caller
@@ -114,7 +112,7 @@ module _ {T : Type 0} (source : T → SourceEnd) (sink : T → SinkEnd) (locks :
 
   -- what was called
   pub have_called : (most : ℕ) (may : ℕ → Bool) (stream : List (List ℕ)) (g : Caller) (feeding : List Fed) → HasFedAll every most may stream g feeding
-      → HaveCalled every stream g feeding (map (λ (d : Desk T). d.seat.client) new) (map (λ (d : Desk T). log_of d.seat) new)
+      → HaveCalled every (fed_by stream) g feeding (map (λ (d : Desk T). d.seat.client) new) (map (λ (d : Desk T). log_of d.seat) new)
   have_called most may stream g feeding fed = record {
     fed = fed.fed.made;
     logs = length-map new (λ (d : Desk T). log_of d.seat) ∙ sym (length-map new (λ (d : Desk T). d.seat.client));
@@ -122,7 +120,7 @@ module _ {T : Type 0} (source : T → SourceEnd) (sink : T → SinkEnd) (locks :
         let v = mapped (λ (x : Desk T). x.seat.client) new k client at in
         let w = mapped (λ (x : Desk T). log_of x.seat) new k log there in
         let same : v.0 ≡ w.0 = one_value new k v.0 w.0 v.1 w.1 in
-        subst (λ (x : Caller). HasLogged k x log) v.2 (subst (HasLogged k v.0.seat.client) w.2 (subst (λ (x : Desk T). HasLogged k v.0.seat.client (log_of x.seat)) same (has_logged k v.0 v.1)));
+        subst (λ (x : Caller). HasLogged (fed_by stream) k x log) v.2 (subst (HasLogged (fed_by stream) k v.0.seat.client) w.2 (subst (λ (x : Desk T). HasLogged (fed_by stream) k v.0.seat.client (log_of x.seat)) same (has_logged k v.0 v.1 (fed_by stream))));
     named = λ e is. refl;
   }
 

@@ -10,7 +10,8 @@ use Rattle.dmx_calls.specs.declared.histories.Fed.{Fed}
 use Rattle.dmx_calls.specs.declared.limits.TheConstants.{DEMUX_NODES}
 use Rattle.dmx_calls.specs.declared.outcome.Outcome.{Outcome}
 use Rattle.dmx_calls.specs.Calls.{told_entry}
-use Rattle.dmx_calls.specs.Log.{LogEntry}
+use Rattle.dmx_calls.specs.declared.params.Input.TheVariants.{Frontend, Dvr}
+use Rattle.dmx_calls.specs.Log.{LogEntry, Sources}
 use Rattle.report_text.specs.Report.{report_of}
 use Rattle.adapter.specs.Callers.{Caller}
 use Rattle.workers.specs.declared.feeder_worker.FeederWorker.{FeederWorker}
@@ -27,6 +28,11 @@ use Rattle.serve_top.specs.declared.left.Left.{Left}
 abbrev pub every : (node : ℕ) → Bool
 every node = true
 
+-- the packets of the stream, which the feeder brings; a program brings none
+abbrev pub fed_by : (stream : List (List ℕ)) → Sources
+fed_by stream who Frontend = stream
+fed_by stream who Dvr = []
+
 -- What was read of the stream, what was called by whom and why, and the report that tells just this.
 pub record HasReported {T : Type 0} (source : T → SourceEnd) (sink : T → SinkEnd) (lines : List T) (may : ℕ → Bool)
     (before after : SourceEnd) (was now : Option (List ℕ)) : Type 0 where
@@ -41,7 +47,7 @@ pub record HasReported {T : Type 0} (source : T → SourceEnd) (sink : T → Sin
   -- each client has made just the calls of its log
   pub clients : List Caller
   pub books : List (List LogEntry)
-  pub called : HaveCalled every (cut Of188 taken).packets feeder feeding clients books
+  pub called : HaveCalled every (fed_by (cut Of188 taken).packets) feeder feeding clients books
   -- these are the calls that the requests of its line ask for, one after another, each told in its reply, and then those by which
   -- all nodes were closed
   pub asked : (c : ℕ) (book : List LogEntry) → slice_get books c ≡ Some book
@@ -51,7 +57,7 @@ pub record HasReported {T : Type 0} (source : T → SourceEnd) (sink : T → Sin
       → HasLeft node client
   -- the report tells these calls and no others, as the locks of the nodes have them
   pub histories : List (List LogEntry)
-  pub tells : TellWhatWasCalled every (cut Of188 taken).packets feeder feeding clients books histories
+  pub tells : TellWhatWasCalled every (fed_by (cut Of188 taken).packets) feeder feeding clients books histories
   pub told : List (List Outcome)
   pub written : Appends was now (report_of (head_of Of188 taken failed) told histories)
 
@@ -76,6 +82,6 @@ module _ {T : Type 0} where
   pub record IsLeftBy (feeder : FeederWorker) (desks : List (Desk T)) (left : Left) : Type 0 where
     pub head : (taken : List ℕ) (given : List (List ℕ)) → Pulls [] taken given feeder.puller
         → told_head left.head ≡ head_of feeder.puller.cutting.size taken (has_failed feeder.puller.reading)
-    pub tells : (among : ℕ → Bool) (stream : List (List ℕ))
-        → HaveCalled among stream feeder.feeder feeder.feeding.items (map (λ d. d.seat.client) desks) (map (λ d. log_of d.seat) desks)
-        → TellWhatWasCalled among stream feeder.feeder feeder.feeding.items (map (λ d. d.seat.client) desks) (map (λ d. log_of d.seat) desks) left.histories
+    pub tells : (among : ℕ → Bool) (packets : Sources)
+        → HaveCalled among packets feeder.feeder feeder.feeding.items (map (λ d. d.seat.client) desks) (map (λ d. log_of d.seat) desks)
+        → TellWhatWasCalled among packets feeder.feeder feeder.feeding.items (map (λ d. d.seat.client) desks) (map (λ d. log_of d.seat) desks) left.histories

@@ -93,7 +93,8 @@ module _ (c d : Caller) (S : List Entry → Type 0) (node place : ℕ) (x : Entr
   now_seen : (at : ℕ) → at ≡ place → get_elem? o.then.1.seen at ≡ some x
   now_seen at is = ap (get_elem? o.then.1.seen) (is ∙ o.more.at) ∙ ap (λ (h : List Entry). get_elem? h (length o.more.before)) o.more.now ∙ at_last o.more.before x (length o.more.before) refl
 
-  brings_more : (packets : Input → List (List ℕ)) (log : List LogEntry) (e : LogEntry) → BringFrom packets c log → e.node ≡ node → e.place ≡ place → IsFrom packets x.invocation → BringFrom packets d (log ++ e ∷ [])
+  -- what the calls bring is still of these packets
+  pub brings_more : (packets : Input → List (List ℕ)) (log : List LogEntry) (e : LogEntry) → BringFrom packets c log → e.node ≡ node → e.place ≡ place → IsFrom packets x.invocation → BringFrom packets d (log ++ e ∷ [])
   brings_more packets log e l node_is place_is from i f at = ⊎_elim
       (λ old. let t = l i f old in still c.passes d.passes node o.first o.then o.was o.is longer (λ (y : Entry). IsFrom packets y.invocation) f t.0 t.1 t.2)
       (λ last. subst (λ (z : LogEntry). (p : TableId × View Entry) × (slice_get d.passes z.node ≡ Some p) × BringsIn packets p.1.seen z) last.1
