@@ -320,6 +320,8 @@ fn a_write_has_1_to_12032_bytes(rt: HostRuntime) -> Result<(), Fail> {
             "{count}"
         );
     }
+    let digits = repeated(rt.alloc(), b'7', 24_066)?;
+    assert!(rt; line_has_fault(rt.alloc(), &[b"c3 write dvr ", &digits], FaultKind::Bytes)?);
     Ok(())
 }
 
