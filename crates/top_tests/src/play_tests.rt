@@ -1,5 +1,5 @@
-// What clients write to the dvr device, worked out by hand from the rules: on one thread the reply to each call, and by threads what
-// comes in any order of theirs.
+// What clients write to the dvr device, worked out by hand from the rules: on one thread the reply to each call, and by threads
+// what comes in any order of theirs.
 use crate::holding_gate::{Hold, HoldingGate};
 use crate::in_memory::{SECOND, input_of};
 use crate::judge::is_judged;
@@ -29,7 +29,8 @@ static SESSIONS: [Session; 4] = [
         stream: &[SECOND],
         ..BATCHES
     },
-    // The dvr node isn't open: a write is refused and passes nothing. A filter can't give what it takes from the dvr device to it.
+    // The dvr node isn't open: a write is refused and passes nothing. And a filter that would give what it takes from the dvr
+    // device to that device is refused.
     Session {
         rows: "c0 open n0 = done drop=0..0 tap=keep\n\
             c0 pes n0 256 dvr ts_tap 20 0 = EINVAL\n\
@@ -65,8 +66,8 @@ static SESSIONS: [Session; 4] = [
         stream: &[],
         ..BATCHES
     },
-    // Two clients, of which the owner of the dvr node plays. A section filter takes the stream alone, and its timeout is over with the
-    // second packet that is played. Behind the end of the stream there is still something to read.
+    // Two clients, of which the owner of the dvr node plays. A section filter takes the stream alone, and its timeout is over with
+    // the second packet that is played. Behind the end of the stream there is still something to read.
     Session {
         rows: "c0 open dvr = done drop=0..0 tap=keep\n\
             c1 open n0 = done drop=0..0 tap=keep\n\
