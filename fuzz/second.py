@@ -153,7 +153,7 @@ def matches(places, section):
 # ------ the nodes
 
 
-# RULES: 0289b1a0 Captures
+# RULES: 9d5c0a74 Captures
 # RULES: 71c92885 The ledger
 class Capture:
     def __init__(self, moment):
@@ -802,7 +802,7 @@ class Run:
             pass
 
 
-# RULES: 283d1101 The report
+# RULES: a9047f51 The report
 def pid_rows(packets):
     rows = []
     for pid in sorted(set(map(pid_of, packets))):
