@@ -153,7 +153,7 @@ def matches(places, section):
 # ------ the nodes
 
 
-# RULES: 9d5c0a74 Captures
+# RULES: c8f860b4 Captures
 # RULES: 71c92885 The ledger
 class Capture:
     def __init__(self, moment):
