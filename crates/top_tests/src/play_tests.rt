@@ -1,12 +1,14 @@
 // What clients write to the dvr device, worked out by hand from the rules: on one thread the reply to each call, and by threads
 // what comes in any order of theirs.
 use crate::holding_gate::{Hold, HoldingGate};
-use crate::in_memory::{SECOND, input_of};
+use crate::in_memory::{FAULTLESS, SECOND, input_of, told};
 use crate::judge::is_judged;
 use crate::report_lines::{number_in, put_text, reply_to, told_in};
 use crate::rows::{BATCHES, Session, odd_session};
 use crate::thread_tests::{CountingClock, has_replies, ran};
 use emu_io::{FixedClock, NoGate};
+use emu_top::Status;
+use report_check::{Fault, FaultKind};
 use std::alloc::{AllocError as NoMemory, Global};
 use std::sync::Wait;
 use std::thread::Threads;
@@ -167,6 +169,77 @@ fn is_played<R: AllocGlobal + Threads + Wait + Sync>(rt: &R) -> Option<bool> {
 #[test]
 fn what_a_client_writes_passes_beside_the_stream(rt: HostRuntime) {
     assert_eq!(rt; is_played(&rt), Some(true));
+}
+
+// A report of that session by `steps`, with a line in the place of the one of this number, and what is wrong with it then.
+type Row = (usize, &'static str, Option<(u64, FaultKind)>);
+
+// Line 18 tells the first read on node 0, and line 143 the pass on node 31. There is no second packet that could pass.
+static ROWS: [Row; 5] = [
+    (0, "", None),
+    (
+        18,
+        "4 c0 38 read 188 at=0 = data 47",
+        Some((18, FaultKind::Reply)),
+    ),
+    (
+        143,
+        "0 c0 37 pass input=dvr first=1 count=1 at=0 = passed",
+        Some((143, FaultKind::Place)),
+    ),
+    (
+        143,
+        "0 c0 37 poll at=0 = EBADF",
+        Some((143, FaultKind::Call)),
+    ),
+    (
+        143,
+        "0 c0 37 pass input=dvr first=0 count=1 at=7 = passed",
+        None,
+    ),
+];
+
+// The report with another line of this number.
+fn with_line(alloc: Global, report: &str, number: usize, line: &str) -> Result<String, NoMemory> {
+    let mut text = String::new(alloc);
+    for (before, same) in report.lines().enumerate() {
+        text.push_str(if before.saturating_add(1) == number {
+            line
+        } else {
+            same
+        })?;
+        text.push_str("\n")?;
+    }
+    Ok(text)
+}
+
+// Whether `check` answers so over the report and its session.
+fn is_checked<R: AllocGlobal + Threads + Wait + Sync>(rt: &R, row: &Row) -> Option<bool> {
+    let alloc = rt.alloc();
+    let mut script = String::new(alloc);
+    put_text(&mut script, PLAYED).ok()?;
+    let input = input_of(alloc, script.as_str(), &[SECOND]).ok()?;
+    let report = ran(rt, "steps", input, &FixedClock::new(0), &NoGate::new())?;
+    let report = with_line(alloc, report.as_str(), row.0, row.1).ok()?;
+    let size = report.len();
+    let mut asked = format!(in alloc; "report {size}\n").ok()?;
+    asked.push_str(report.as_str()).ok()?;
+    asked.push_str(script.as_str()).ok()?;
+    let input = input_of(alloc, asked.as_str(), &[SECOND]).ok()?;
+    let (status, _) = told(rt, "check", input, &FAULTLESS).ok()?;
+    let wanted = match row.2 {
+        None => Status::Ok,
+        Some((line, kind)) => Status::Wrong(Fault { line, kind }),
+    };
+    Some(status == wanted)
+}
+
+#[test]
+fn a_pass_of_what_a_client_writes_is_checked(rt: HostRuntime) {
+    let odd = ROWS
+        .iter()
+        .position(|row| is_checked(&rt, row) != Some(true));
+    assert_eq!(rt; odd, None);
 }
 
 // Whether the calls of a write have moments of their own: its poll the clock's first, and its passes the next 32.
