@@ -113,13 +113,15 @@ fn what_a_client_writes_passes_where_the_dvr_node_is_its_own(rt: HostRuntime) {
 fn has_passes(report: &str, first: u64, moment: u64, goes_on: bool) -> bool {
     let mut count = 0u64;
     for line in report.lines() {
-        let Some(told) = told_in(line) else { continue };
-        if !told.act.starts_with("pass input=dvr first=0 count=1 ") {
+        let Some(entry) = told_in(line) else {
+            continue;
+        };
+        if !entry.act.starts_with("pass input=dvr first=0 count=1 ") {
             continue;
         }
         let later = if goes_on { count } else { 0 };
-        if told.step != first.saturating_add(count)
-            || number_in(told.act, " at=") != Some(moment.saturating_add(later))
+        if entry.step != first.saturating_add(count)
+            || number_in(entry.act, " at=") != Some(moment.saturating_add(later))
         {
             return false;
         }
@@ -260,14 +262,14 @@ fn each_pass_of_a_write_has_a_moment_of_its_own(rt: HostRuntime) {
     assert_eq!(rt; are_moments(&rt), Some(true));
 }
 
+const DIGITS: &[u8] = b"0123456789abcdef";
+
 // Appends the two digits of a byte.
 fn put_digits(digits: &mut Vec<u8>, byte: u8) -> Result<(), NoMemory> {
     for half in [byte >> 4, byte & 15] {
-        digits.push(if half < 10 {
-            b'0' + half
-        } else {
-            b'a' + (half & 15) - 10
-        })?;
+        if let Some(digit) = DIGITS.get(half as usize) {
+            digits.push(*digit)?;
+        }
     }
     Ok(())
 }
@@ -275,7 +277,8 @@ fn put_digits(digits: &mut Vec<u8>, byte: u8) -> Result<(), NoMemory> {
 // The digits of the 12,032 bytes of 64 packets of PID 256, of which each has its number in all bytes behind its header.
 fn sixty_four(alloc: Global) -> Result<Vec<u8>, NoMemory> {
     let mut digits = Vec::new(alloc);
-    for number in 0..64u8 {
+    for number in 0..64u32 {
+        let number = number as u8;
         digits.extend_from_slice(b"470100")?;
         put_digits(&mut digits, 0x10 | number & 15)?;
         for _byte in 0..184u32 {
