@@ -320,8 +320,9 @@ fn a_write_has_1_to_12032_bytes(rt: HostRuntime) -> Result<(), Fail> {
             "{count}"
         );
     }
+    let command: &[u8] = b"c3 write dvr ";
     let digits = repeated(rt.alloc(), b'7', 24_066)?;
-    assert!(rt; line_has_fault(rt.alloc(), &[b"c3 write dvr ", &digits], FaultKind::Bytes)?);
+    assert!(rt; line_has_fault(rt.alloc(), &[command, &digits], FaultKind::Bytes)?);
     Ok(())
 }
 
