@@ -14,8 +14,9 @@ use std::alloc::{AllocError as NoMemory, Global};
 use std::sync::Arc;
 use ts_batch::Batch;
 
-// The call that a command asks for, made at the moment `now`.
-fn call_of_want(alloc: Global, want: Want, now: u64) -> Result<Call, NoMemory>
+/// The call that a command asks for of a node, made at the moment `now`, in milliseconds. A Read comes with an empty buffer, and
+/// only this takes memory.
+pub fn call_of_want(alloc: Global, want: Want, now: u64) -> Result<Call, NoMemory>
     requires range { IsRequestInRange (Own want) }
     ensures call { IfOk result (λ call. invocation_of call ≡ own_call want now) }
     ensures fresh { IfOk result IsFresh }

@@ -20,12 +20,12 @@
 //! one more, and leaves nothing else open (`HasTaken`); `next`, `next_at`, `line`, `waits` and `outcomes` are what the
 //! definitions say of the replies taken, and `copied_outcomes` is a copy of `outcomes`. `call_of` makes the call that is asked
 //! for, a Read with an empty buffer and a pass with the batch of its write, and only these can find that memory is wanting.
-//! `batch` is the batch of a write, by the bytes of all writes of the client, whatever became of them. `unless_no_memory` keeps a
-//! reply that isn't want of memory, and `fitted` the reply with no more room than its bytes take. Laws of the definitions: a
-//! client makes at most 33 calls a command, beside the reads that it repeats (`calls_are_few`); one reply more repeats at most
-//! one read more (`one_reply_repeats_once`); and the passes of a client on a demux node are, in order and each once, those of its
-//! writes whose poll was Ready and which complete a packet (`writes_pass_their_batches`). The worked examples of `examples` are
-//! computed by the check.
+//! `call_of_want` does so for one who has no client core, of what a command asks itself. `batch` is the batch of a write, by the
+//! bytes of all writes of the client, whatever became of them. `unless_no_memory` keeps a reply that isn't want of memory, and
+//! `fitted` the reply with no more room than its bytes take. Laws of the definitions: a client makes at most 33 calls a command,
+//! beside the reads that it repeats (`calls_are_few`); one reply more repeats at most one read more (`one_reply_repeats_once`);
+//! and the passes of a client on a demux node are, in order and each once, those of its writes whose poll was Ready and which
+//! complete a packet (`writes_pass_their_batches`). The worked examples of `examples` are computed by the check.
 //!
 //! What is only tested, in `script_tests`: that memory isn't refused where there is enough.
 //!
@@ -49,7 +49,7 @@ mod reply;
 mod stop;
 mod task;
 
-pub use call::call_of;
+pub use call::{call_of, call_of_want};
 pub use client::ClientCore;
 pub use event::{Event, Request};
 pub use laws::{calls_are_few, one_reply_repeats_once, writes_pass_their_batches};

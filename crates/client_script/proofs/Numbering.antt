@@ -17,7 +17,7 @@ use Rattle.client_script.specs.Words.{Reading, and_then, mapped, or_fault, next_
 use Rattle.client_script.specs.Requests.{want_of, verb_of, request_number_in, request_in, ioctl_in}
 use Rattle.client_script.specs.Writes.{written_named}
 use Rattle.client_script.specs.Grammar.{number_in, pid_in, count_in, target_of, name_of, section_in, pes_in, verb_in, command_in, dvr_named, write_in, asked_in, line_in, line_of, whole, alone, is_passed_over, some_said, meaning, IsPlainVerb, IsPlain}
-use Rattle.client_script.specs.Script.{AreNumbered, Parsed, Scripted, plain, with_said, with_write, writes_of, named_by, named_in, named_among, whole_lines, is_stream, lines_from, grammar}
+use Rattle.client_script.specs.Script.{AreNumbered, Parsed, Scripted, plain, no_writes, with_said, with_write, writes_of, named_by, named_in, named_among, whole_lines, is_stream, lines_from, grammar}
 use Rattle.client_script.specs.declared.fault.FaultKind.{FaultKind}
 use Rattle.client_script.specs.declared.fault.FaultKind.TheVariants.{Client, Command as NoCommand, Target as NoTarget, Name, Bytes}
 use Rattle.client_script.specs.declared.fault.ScriptFault.{ScriptFault}
@@ -226,11 +226,12 @@ pub numbered_write : (s : Scripted) (line who : ℕ) (bytes : List ℕ) → who 
 numbered_write s line who bytes there are = λ client. write_more s line who bytes client (λ same. there) (are client)
 
 -- of a script without lines
+none_of : (client : ℕ) → (client < 8) ⊎ (8 ≤ client) → writes_of client no_writes ≡ []
+none_of client (inl there) = get_or-replicate 8 client [] [] there
+none_of client (inr past) = get_or_past no_writes client [] past
+
 pub numbered_none : AreNumbered (plain [])
-numbered_none = λ client. ap (λ (ws : List (List ℕ)). range_with_len 0 (length ws)) (sym (none client (cases_lt client 8))) where
-  none : (client : ℕ) → (client < 8) ⊎ (8 ≤ client) → slice_index_or (replicate 8 []) client [] ≡ []
-  none client (inl there) = get_or-replicate 8 client [] [] there
-  none client (inr past) = get_or_past (replicate 8 []) client [] past
+numbered_none = λ client. ap (λ (ws : List (List ℕ)). range_with_len 0 (length ws)) (sym (none_of client (cases_lt client 8)))
 
 record InOrder (s : Scripted) : Type 0 where
   eight : length s.writes ≡ 8

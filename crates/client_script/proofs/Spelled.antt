@@ -34,10 +34,10 @@ first_long x (piece ∷ pieces) = omega arith
 
 pieces_long : (p : ℕ → Bool) (xs : List ℕ) → lens (slice_split p xs) ≤ length xs
 pieces_long p [] = omega arith
-pieces_long p (x ∷ xs) = go (p x) refl where
-  go : (b : Bool) → p x ≡ b → lens (slice_split p (x ∷ xs)) ≤ length (x ∷ xs)
-  go true yea = omega (arith, ap lens (slice_split-cons_yes p x xs yea), pieces_long p xs)
-  go false nay = omega (arith, ap lens (slice_split-cons_no p x xs nay), first_long x (slice_split p xs), pieces_long p xs)
+pieces_long p (x ∷ xs) = go (p x) refl (pieces_long p xs) where
+  go : (b : Bool) → p x ≡ b → lens (slice_split p xs) ≤ length xs → lens (slice_split p (x ∷ xs)) ≤ length (x ∷ xs)
+  go true yea deeper = omega (arith, ap lens (slice_split-cons_yes p x xs yea), deeper)
+  go false nay deeper = omega (arith, ap lens (slice_split-cons_no p x xs nay), first_long x (slice_split p xs), deeper)
 
 last_long : (pieces : List (List ℕ)) → lens (without_last pieces) ≤ lens pieces
 last_long [] = omega arith

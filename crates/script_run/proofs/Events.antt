@@ -1,20 +1,19 @@
 -- What the calls of a client bring: some of the packets that it plays.
-use Rattle.std.proofs.Common.{◌≡◌, refl, sym, ap, subst, ◌∙◌, ℕ, zero, suc, ◌+◌, ◌≤◌, List, [], ◌∷◌, length, take, drop, Option, Some, None, add-one, arith, length-take}
-use Rattle.std.specs.Prelude.{slice_index_or}
+use Rattle.std.proofs.Common.{refl, sym, subst, ℕ, zero, suc, ◌+◌, ◌≤◌, List, [], ◌∷◌, length, drop, Option, Some, None, add-one, arith, length-take}
 use Rattle.std.specs.List.{All}
 use Rattle.std.specs.Option.{IfSome}
 use Rattle.std.proofs.lemmas.List.Elements.{All-head, All-tail, All-nil}
 use Rattle.ts_packet.specs.Fields.{IsPacket}
 use Rattle.ts_batch.specs.Batch.{Packets}
 use Rattle.dvr_play.specs.Laws.{StandsAmong}
-use Rattle.dvr_play.specs.Plays.{cut_of, joined}
+use Rattle.dvr_play.specs.Plays.{joined}
 use Rattle.dvr_play.proofs.Joining.{are_packets, are_placed}
 use Rattle.dmx_calls.specs.declared.params.Input.{Input}
 use Rattle.dmx_calls.specs.declared.params.Input.TheVariants.{Frontend, Dvr}
 use Rattle.dmx_calls.specs.declared.log.Act.{Act}
 use Rattle.dmx_calls.specs.declared.log.Act.TheVariants as act
-use Rattle.dmx_calls.specs.Invocation.{Invocation, brought}
-use Rattle.dmx_calls.specs.Log.{IsFrom, LogEntry, act_of, filled_act}
+use Rattle.dmx_calls.specs.Invocation.{brought}
+use Rattle.dmx_calls.specs.Log.{IsFrom, filled_act}
 use Rattle.client_script.specs.Script.{Scripted, writes_of}
 use Rattle.client_script.specs.declared.line.Want.TheVariants.{Open}
 use Rattle.client_core.specs.declared.event.Request.{Request}

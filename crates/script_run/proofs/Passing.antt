@@ -1,5 +1,5 @@
 -- The passes of a client: each is of a write whose poll was Ready, and passes the nodes one after another.
-use Rattle.std.proofs.Common.{◌≡◌, refl, sym, ap, subst, ◌∙◌, ℕ, zero, suc, ◌+◌, ◌<◌, ◌≤◌, Bool, true, false, nat_eq, List, [], ◌∷◌, ◌++◌, append_assoc, append-nil, Option, Some, None, length, length-append, map, filter, take, min, slice_get, arith}
+use Rattle.std.proofs.Common.{◌≡◌, refl, sym, ap, ◌∙◌, ℕ, zero, suc, ◌+◌, ◌<◌, ◌≤◌, Bool, true, false, nat_eq, List, [], ◌∷◌, ◌++◌, append_assoc, append-nil, Option, Some, None, length, length-append, map, filter, take, min, slice_get, arith}
 use Rattle.std.specs.Prelude.{nat_lt, if◌then◌else◌, slice_index_or, option_map}
 use Rattle.std.specs.List.{flat_map}
 use Rattle.std.proofs.lemmas.Bool.Decides.{nat_tests}
@@ -11,7 +11,6 @@ use Rattle.lemmas.proofs.Lists.{at_place}
 use Rattle.lemmas.proofs.Options.{same_some}
 use Rattle.ts_batch.specs.Batch.{Packets}
 use Rattle.dmx_calls.specs.declared.limits.TheConstants.{DEMUX_NODES}
-use Rattle.dmx_calls.specs.declared.log.Act.{Act}
 use Rattle.dmx_calls.specs.declared.reply.Tap.TheVariants.{Keep as KeepTap, Attach as AttachTap, Detach as DetachTap}
 use Rattle.dmx_calls.specs.Log.{LogEntry, act_of}
 use Rattle.dmx_calls.specs.Response.{Response, Done, Busy, Ready, TapChange}
@@ -34,7 +33,7 @@ use Rattle.client_core.specs.Events.{Standing, slots_after, progress_from, progr
 use Rattle.client_core.specs.Repeats.{repeats_in}
 use Rattle.client_core.proofs.GoesOn.{progress_of}
 use Rattle.client_core.proofs.More.{Onward, IsFirst, done_on_more, done_none, some_of}
-use Rattle.script_run.specs.IsRun.{HasDone, IsEvent, replies}
+use Rattle.script_run.specs.IsRun.{IsEvent, replies}
 use Rattle.client_core.specs.Passes.{played_at, played_from, played_in, played_on, played_writes}
 use Rattle.script_run.specs.Passing.{Stretch, WritesPass, dvr_passes, passes_on, stretch_of}
 use Rattle.script_run.proofs.Counting.{sum_of, weigh_append}

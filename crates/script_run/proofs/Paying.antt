@@ -1,8 +1,7 @@
 -- At each moment of a run, the commands and the bytes pay for the calls of a client: a repeat that follows bytes is paid for by
 -- them, and a repeat that follows Again by the entry right behind the read, which is the feeder's or adds no repeat to its own client's.
 use Rattle.std.proofs.Common.{◌≡◌, ◌≢◌, refl, sym, ap, subst, ◌∙◌, ℕ, zero, suc, ◌+◌, ◌*◌, ◌<◌, ◌≤◌, Bool, true, false, nat_eq, List, [], ◌∷◌, ◌++◌, Option, Some, None, length, filter, take, slice_get, inl, inr, arith}
-use Rattle.std.specs.Prelude.{◌⊎◌, if◌then◌else◌, map, sum}
-use Rattle.std.proofs.lemmas.List.Sums.{sum_by-cons}
+use Rattle.std.specs.Prelude.{◌⊎◌, if◌then◌else◌}
 use Rattle.std.specs.List.{All}
 use Rattle.std.proofs.lemmas.Bool.Decides.{nat_tests}
 use Rattle.std.proofs.lemmas.List.Elements.{All-weaker}
@@ -24,7 +23,6 @@ use Rattle.client_core.specs.declared.event.Event.{Event}
 use Rattle.client_core.specs.declared.event.Request.{Request}
 use Rattle.client_core.specs.declared.event.Request.TheVariants.{Own, Pass}
 use Rattle.client_script.specs.declared.line.Want.TheVariants.{Open}
-use Rattle.client_script.specs.declared.line.Verb.TheVariants.{Once, ReadWait, Drain, GetStc, Write}
 use Rattle.ts_batch.specs.Batch.{Packets}
 use Rattle.dvr_play.specs.Laws.{packets_in}
 use Rattle.client_core.specs.Deeds.{Batches, batch_at, deed_of}
@@ -39,7 +37,7 @@ use Rattle.script_run.proofs.ReadReplies.{read_there, next_is_refused}
 use Rattle.script_run.proofs.HistoryBytes.{bytes_fit, feeder_brings, feeder_long, packets_of}
 use Rattle.script_run.proofs.Events.{all_packets, count_of}
 use Rattle.script_run.proofs.Played.{all_few, named_once}
-use Rattle.script_run.proofs.Passing.{asked_to, from_worth, passed_of, passes_by, worth_all, worth_of}
+use Rattle.script_run.proofs.Passing.{asked_to, from_worth, passes_by, worth_all, worth_of}
 use Rattle.script_run.proofs.Repeating.{adds, quiet, IsGoing, going, quiet_calls, grows, but_one, calls_and_repeats, by_bytes, by_again, both_kinds, bytes_pay, IsWaiting, waiting}
 
 -- ------ the commands of all clients

@@ -8,7 +8,7 @@ use Rattle.client_script.proofs.Taking.{lines_more, writes_more, writes_below, n
 use Rattle.client_script.proofs.script.Script.read.Goals as goal
 
 pub lines-init : goal.lines-init
-lines-init c = rw c.empty.ensures record { script = script_by-start c.args.bytes.now; ends = omega (arith, length-whole_lines c.args.bytes.now); fits = omega arith; few = omega arith; writes = no_writes_below 1 (omega arith) }
+lines-init c = rw c.empty-script.ensures record { script = script_by-start c.args.bytes.now; ends = omega (arith, length-whole_lines c.args.bytes.now); fits = omega arith; few = omega arith; writes = no_writes_below 1 (omega arith) }
 
 pub returns-then-is_word : goal.returns-then-is_word
 returns-then-is_word c =
@@ -28,7 +28,7 @@ lines-preserved c =
     let some : whole_lines c.lines.rest.now ≡ c.in-Some.line.now ∷ whole_lines c.in-Some.behind.now = search rules in
     let other : is_stream c.in-Some.line.now ≡ false = search rules in
     let means : meaning c.lines.number c.in-Some.line.now ≡ Ok c.in-Ok.said = search rules in
-    let added : c.add.new.script ≡ with_said c.in-Ok.said c.lines.script = search rules in
+    let added : c.add.new.self ≡ with_said c.in-Ok.said c.lines.script = search rules in
     rw added record {
       script = c.lines.invariant.script ∙ script_by-line (missing_in c.args.bytes.now) c.lines.script c.lines.number c.lines.rest.now c.in-Some.line.now c.in-Some.behind.now c.in-Ok.said some other means;
       ends = (let n = ap length some in omega arith);
