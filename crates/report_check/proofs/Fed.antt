@@ -1,5 +1,5 @@
 -- The feeder's entries, on whatever node.
-use Rattle.std.proofs.Common.{◌≡◌, ◌+◌, sym, subst, ℕ, List, [], ◌∷◌, length, map, sum, arith}
+use Rattle.std.proofs.Common.{◌≡◌, ◌+◌, sym, subst, ℕ, List, [], ◌∷◌, map, sum, arith}
 use Rattle.dmx_calls.specs.Legal.{IsLegalFor}
 use Rattle.dmx_calls.specs.Log.{LogEntry, Sources, filled}
 use Rattle.dmx_calls.specs.Rules.{rules_at}

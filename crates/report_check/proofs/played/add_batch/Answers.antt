@@ -1,8 +1,5 @@
 use Rattle.std.proofs.Common.{◌≡◌, ◌∙◌, ap, sym, ◌++◌, ◌∷◌, [], append_assoc, take, rules}
 use Rattle.report_check.proofs.Players.{take_next}
-use Rattle.report_check.proofs.Checking.{right, not_passed, can_all, bounds, sound_all}
-use Rattle.report_check.proofs.Few.{few_left}
-use Rattle.report_check.proofs.Dealt.{is_done}
 use Rattle.report_check.proofs.played.add_batch.Goals as goal
 
 pub packets-preserved : goal.packets-preserved
