@@ -128,13 +128,14 @@ fn plays_with<M: Machine<Call = Call, Answer = Answer, Entry = Told> + Drop, L: 
 {
     let stream = packets_of(&STREAM);
     let packets = stream.as_slice();
-    let played = played(alloc)?;
-    if entries.len() > 1_000_000 || !are_callable(packets, &played, entries) {
+    let all = played(alloc)?;
+    let played = all.as_slice();
+    if entries.len() > 1_000_000 || !are_callable(packets, played, entries) {
         return Ok(None);
     }
     let mut core = core;
     let mut steps: Steps<L> = Steps::new(blank);
-    let is = is_played(alloc, &mut core, packets, &played, entries, &mut steps)?;
+    let is = is_played(alloc, &mut core, packets, played, entries, &mut steps)?;
     Ok(Some(is))
 }
 
