@@ -56,13 +56,13 @@ fn played_of(alloc: Global, rows: &[(u8, u8)]) -> Result<Vec<Packet>, NoMemory>
 }
 
 // What the callers play.
-#[tactic(auto, using(crate::proofs::Played::few_more))]
 fn played(alloc: Global) -> Result<Vec<Vec<Packet>>, NoMemory>
     ensures { IfOk result (λ all. All AreFewPackets (map (λ p. p.items) all.items)) }
 {
     let mut all = Vec::new(alloc);
     'callers: for rows in PLAYED.iter() {
-        all.push(played_of(alloc, rows)?)?;
+        let own = played_of(alloc, rows)?;
+        all.push(own)?;
     }
     Ok(all)
 }
