@@ -360,7 +360,8 @@ fn add_number(text: &mut Vec<u8>, number: u8) -> Result<(), NoMemory>
     if number >= 10 {
         text.push(b'0' + number / 10)?;
     }
-    text.push(b'0' + number % 10)
+    text.push(b'0' + number % 10)?;
+    Ok(())
 }
 
 // Adds the lines of a demux node by which only the passes go, the client's behind so many of its calls.
