@@ -345,7 +345,7 @@ static PLAYING: [&str; 13] = [
 
 // Its last lines, those of the dvr node.
 static PLAYED: [&str; 6] = [
-    "node 32",
+    "node dvr",
     "0 c0 0 open = done drop=0..0 tap=keep",
     "1 c0 3 poll at=0 = ready readable=0 error=none at=0 ended=0",
     "2 feed 0 pass input=frontend first=0 count=2 at=0 = passed",
