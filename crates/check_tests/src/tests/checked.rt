@@ -422,13 +422,6 @@ const PLAYED_ROWS: &[PlayedRow] = &[
         "2 c0 4 pass input=dvr first=1 count=1 at=0 = passed",
         Some((14, FaultKind::Place)),
     ),
-    // nor one of the stream
-    (
-        "47010017",
-        9,
-        "2 c0 4 pass input=frontend first=0 count=1 at=0 = passed",
-        Some((14, FaultKind::Call)),
-    ),
     // a packet that isn't whole passes no node
     (
         "470100",
