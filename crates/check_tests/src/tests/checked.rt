@@ -403,12 +403,7 @@ type PlayedRow = (&'static str, usize, &'static str, Option<(u64, FaultKind)>);
 const PLAYED_ROWS: &[PlayedRow] = &[
     ("47010017", 0, "client 0", None),
     // one byte of the packet is another
-    (
-        "47010016",
-        0,
-        "client 0",
-        Some((16, FaultKind::Reply)),
-    ),
+    ("47010016", 0, "client 0", Some((16, FaultKind::Reply))),
     (
         "47010017",
         11,
@@ -423,12 +418,7 @@ const PLAYED_ROWS: &[PlayedRow] = &[
         Some((14, FaultKind::Place)),
     ),
     // a packet that isn't whole passes no node
-    (
-        "470100",
-        0,
-        "client 0",
-        Some((14, FaultKind::Place)),
-    ),
+    ("470100", 0, "client 0", Some((14, FaultKind::Place))),
 ];
 
 // The number of the first row with another answer than is wanted.
