@@ -56,13 +56,13 @@ fn played_of(alloc: Global, rows: &[(u8, u8)]) -> Result<Vec<Packet>, NoMemory>
 }
 
 // What the callers play.
-#[tactic(auto, using(crate::proofs::Played::few_more))]
 fn played(alloc: Global) -> Result<Vec<Vec<Packet>>, NoMemory>
     ensures { IfOk result (λ all. All AreFewPackets (map (λ p. p.items) all.items)) }
 {
     let mut all = Vec::new(alloc);
     'callers: for rows in PLAYED.iter() {
-        all.push(played_of(alloc, rows)?)?;
+        let own = played_of(alloc, rows)?;
+        all.push(own)?;
     }
     Ok(all)
 }
@@ -128,13 +128,14 @@ fn plays_with<M: Machine<Call = Call, Answer = Answer, Entry = Told> + Drop, L: 
 {
     let stream = packets_of(&STREAM);
     let packets = stream.as_slice();
-    let played = played(alloc)?;
-    if entries.len() > 1_000_000 || !are_callable(packets, &played, entries) {
+    let all = played(alloc)?;
+    let played = all.as_slice();
+    if entries.len() > 1_000_000 || !are_callable(packets, played, entries) {
         return Ok(None);
     }
     let mut core = core;
     let mut steps: Steps<L> = Steps::new(blank);
-    let is = is_played(alloc, &mut core, packets, &played, entries, &mut steps)?;
+    let is = is_played(alloc, &mut core, packets, played, entries, &mut steps)?;
     Ok(Some(is))
 }
 
