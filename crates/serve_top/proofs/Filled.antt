@@ -5,7 +5,7 @@ use Rattle.dmx_calls.specs.declared.log.Act.TheVariants.{Pass as PassAct}
 use Rattle.dmx_calls.specs.declared.params.Input.{Input}
 use Rattle.dmx_calls.specs.declared.params.Input.TheVariants.{Frontend, Dvr as FromDvr}
 use Rattle.dmx_calls.specs.History.{Entry}
-use Rattle.dmx_calls.specs.Invocation.{Invocation, Pass}
+use Rattle.dmx_calls.specs.Invocation.{Pass}
 use Rattle.dmx_calls.specs.Log.{LogEntry, Sources, filled, filled_act, filled_entry}
 use Rattle.client_script.specs.Script.{plain}
 use Rattle.client_script.specs.declared.line.Line.{Line}

@@ -1,5 +1,5 @@
 -- What was called for the requests of the lines is a run of the script of their commands.
-use Rattle.std.proofs.Common.{◌≡◌, ◌≢◌, ◌⊎◌, ⊎_elim, ℕ, zero, suc, ◌+◌, ◌<◌, ◌≤◌, Bool, true, false, nat_lt, set, List, [], ◌∷◌, ◌++◌, length, map, take, replicate, Option, Some, None, All, refl, ap, sym, ◌∙◌, subst, arith}
+use Rattle.std.proofs.Common.{◌≡◌, ◌≢◌, ℕ, zero, suc, ◌+◌, ◌<◌, ◌≤◌, Bool, true, false, nat_lt, set, List, [], ◌∷◌, length, take, Option, Some, None, All, refl, ap, sym, ◌∙◌, subst, arith}
 use Rattle.std.specs.Prelude.{slice_get, get_or, IsSome}
 use Rattle.std.proofs.lemmas.Bool.Decides.{nat_tests}
 use Rattle.std.proofs.lemmas.List.{append-nil, length-set}
@@ -27,12 +27,12 @@ use Rattle.script_run.specs.IsRun.{IsRun, IsEvent, HasDone, replies, sources}
 use Rattle.script_run.specs.WholeRun.{IsGiven, IsWholeRun}
 use Rattle.workers.specs.Feeding.{HasFedAll}
 use Rattle.workers.specs.Left.{HasWorked, AreWorked}
-use Rattle.workers.specs.Logged.{BringFrom, HasCalled}
-use Rattle.workers.specs.Telling.{HasLogged, HaveCalled, IsLoggedIn}
+use Rattle.workers.specs.Logged.{BringFrom}
+use Rattle.workers.specs.Telling.{HasLogged, HaveCalled}
 use Rattle.seats.specs.Scripts.{IsPlayed}
 use Rattle.serve_top.specs.Reported.{every, fed_by, FindMemory, IsRunOf}
 use Rattle.serve_top.proofs.Filled.{same_filled, same_sources}
-use Rattle.serve_top.proofs.Scripting.{AreCalls, lines_of, lines_at, clients_low, behind_none, question, asked_last, asked_others, asked_own, asked_clients, next_same, outcomes_same, none_next, question_next, NothingFrom, Parted, parted_at}
+use Rattle.serve_top.proofs.Scripting.{AreCalls, lines_of, lines_at, clients_low, behind_none, question, asked_last, asked_others, asked_own, asked_clients, next_same, outcomes_same, none_next, question_next, Parted, parted_at}
 
 -- a fact of each member
 every_member : {A : Type 0} (P : A → Type 0) (xs : List A) → ((i : ℕ) (x : A) → slice_get xs i ≡ Some x → P x) → All P xs

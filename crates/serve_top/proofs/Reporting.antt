@@ -19,7 +19,7 @@ use Rattle.adapter.specs.Callers.{Caller, IsSameCaller, AreFreshCallers, AreAllC
 use Rattle.workers.specs.declared.feeder_worker.FeederWorker.{FeederWorker}
 use Rattle.workers.specs.Feeding.{HasFedAll}
 use Rattle.workers.specs.Telling.{HaveCalled}
-use Rattle.workers.specs.Inside.FeederWork.{IsFitFeeder, HasPassed, HasPassedAll, HasFedToEnd, MayPass}
+use Rattle.workers.specs.Inside.FeederWork.{HasPassed, HasPassedAll, HasFedToEnd, MayPass}
 use Rattle.workers.proofs.Beginning.{begun_feeder, begun_passed}
 use Rattle.workers.proofs.FeederWork.{as_named}
 use Rattle.client_script.specs.Script.{plain}

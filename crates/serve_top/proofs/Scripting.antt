@@ -1,13 +1,13 @@
 -- A script of which each client has given commands.
-use Rattle.std.proofs.Common.{◌≡◌, ◌≢◌, ℕ, zero, suc, ◌+◌, ◌<◌, ◌≤◌, Bool, true, false, nat_eq, eq-eqb, ne_eqb, List, [], ◌∷◌, ◌++◌, length, map, take, replicate, fold, max, Option, Some, None, refl, ap, sym, ◌∙◌, subst, arith}
+use Rattle.std.proofs.Common.{◌≡◌, ◌≢◌, ℕ, zero, suc, ◌+◌, ◌<◌, ◌≤◌, eq-eqb, ne_eqb, List, [], ◌∷◌, ◌++◌, length, map, take, replicate, fold, max, Option, Some, None, refl, ap, sym, ◌∙◌, subst, arith}
 use Rattle.std.specs.Prelude.{slice_get, option_map, if◌then◌else◌}
-use Rattle.std.proofs.lemmas.List.{append-nil, append_assoc}
+use Rattle.std.proofs.lemmas.List.{append-nil}
 use Rattle.std.proofs.lemmas.List.Concat.{flat_map-append}
 use mathlib.Core.Logic.{dite}
 use native.Mathlib.Decide.{ℕ_discrete}
 use Rattle.dmx_calls.specs.declared.outcome.Outcome.{Outcome}
 use Rattle.dmx_calls.specs.Response.{Response}
-use Rattle.client_script.specs.Script.{Scripted, plain, clients_of, clients_among, clients_in}
+use Rattle.client_script.specs.Script.{Scripted, plain, clients_of, clients_in}
 use Rattle.client_script.specs.declared.line.Line.{Line}
 use Rattle.client_script.specs.declared.line.Line.TheVariants.{Command as CommandLine}
 use Rattle.client_script.specs.declared.line.Target.TheVariants.{Dvr}
@@ -22,7 +22,7 @@ use Rattle.client_core.specs.Deeds.{Batches, deed_of}
 use Rattle.client_core.specs.Commands.{commands_in, commands_among, commands_of, plays_of}
 use Rattle.client_core.specs.Events.{Ended, Progress, progress, progress_from, no_slots, next_event}
 use Rattle.client_core.specs.Outcomes.{outcome_by, outcome_of, outcomes}
-use Rattle.client_core.specs.Stc.{Exchange, with_reply, exchanges_after, exchanges, stc}
+use Rattle.client_core.specs.Stc.{Exchange, with_reply, exchanges_after, stc}
 use Rattle.seats.specs.Spelled.{DoneCommand, commands_by}
 
 -- ------ the lines of one client
@@ -51,14 +51,17 @@ call_verb batches deed want is = subst (λ (d : Deed). deed_of batches (verb_of 
 abbrev pub line_of : (client : ℕ) → Command → Line
 line_of client c = CommandLine c.line client c.target (verb_of c.deed)
 
+abbrev with_deed : Command → Deed → Command
+with_deed c deed = record { line = c.line; target = c.target; deed = deed }
+
 -- the command that its line has
 abbrev read : Batches → Command → Command
-read batches c = record { line = c.line; target = c.target; deed = deed_of batches (verb_of c.deed) }
+read batches c = with_deed c (deed_of batches (verb_of c.deed))
 
 pub own_lines : (client : ℕ) (batches : Batches) (cs : List Command) → AreCalls cs → commands_among client batches (map (line_of client) cs) ≡ cs
 own_lines client batches [] are = refl
 own_lines client batches (c ∷ cs) are =
-    let same : read batches c ≡ c = ap (λ (d : Deed). record { line = c.line; target = c.target; deed = d }) (call_verb batches c.deed are.0.0 are.0.1) in
+    let same : read batches c ≡ c = ap (λ (d : Deed). with_deed c d) (call_verb batches c.deed are.0.0 are.0.1) in
     ap (λ b. (if b then read batches c ∷ [] else []) ++ commands_among client batches (map (line_of client) cs)) (eq-eqb client client refl)
     ∙ (ap (λ (x : Command). x ∷ commands_among client batches (map (line_of client) cs)) same
     ∙ ap (λ (l : List Command). c ∷ l) (own_lines client batches cs are.1))

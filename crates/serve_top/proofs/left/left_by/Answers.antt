@@ -1,5 +1,4 @@
 use Rattle.std.proofs.Common.{[], ◌∷◌, ◌++◌, List, map, sym, subst}
-use Rattle.dmx_calls.specs.Calls.{told_entry}
 use Rattle.dmx_calls.specs.Log.{LogEntry}
 use Rattle.adapter.specs.Callers.{Caller, AreAllCallers}
 use Rattle.workers.specs.Left.{AreWorked}
