@@ -1,7 +1,7 @@
 -- From what a seat has made to what it has done for a request.
-use Rattle.std.proofs.Common.{◌≡◌, ◌⊎◌, ℕ, zero, suc, ◌+◌, ◌<◌, Bool, true, false, List, [], ◌∷◌, ◌++◌, length, map, get_or, Option, Some, None, inl, inr, refl, ap, sym, ◌∙◌, subst, arith, add-one, length-append}
-use Rattle.std.specs.Prelude.{slice_get, option_map}
-use Rattle.std.proofs.lemmas.List.{map-append, append-nil, append_assoc, length-map}
+use Rattle.std.proofs.Common.{◌≡◌, ◌⊎◌, ℕ, suc, ◌+◌, ◌<◌, Bool, true, false, List, [], ◌∷◌, ◌++◌, length, map, get_or, Option, Some, None, inl, inr, refl, ap, sym, ◌∙◌, subst, arith, length-append}
+use Rattle.std.specs.Prelude.{slice_get}
+use Rattle.std.proofs.lemmas.List.{map-append, append-nil, append_assoc}
 use Rattle.std.proofs.lemmas.Option.{slice_get_within, slice_get_read}
 use Rattle.lemmas.proofs.Lists.{one_value, at_last, at_before, at_end}
 use Rattle.dmx_calls.specs.Calls.{response_of, told_entry}
@@ -11,6 +11,7 @@ use Rattle.dmx_calls.specs.declared.log.Act.{Act}
 use Rattle.dmx_calls.specs.declared.log.Act.TheVariants.{Open as OpenAct, Close as CloseAct}
 use Rattle.dmx_calls.specs.declared.log.Entry.{Entry as ToldEntry}
 use Rattle.dmx_calls.specs.declared.limits.TheConstants.{DEMUX_NODES}
+use Rattle.dmx_calls.specs.declared.outcome.Outcome.{Outcome}
 use Rattle.client_core.specs.Commands.{own_call}
 use Rattle.client_script.specs.declared.line.Want.{Want}
 use Rattle.serve_frames.specs.declared.ask.Ask.{Ask}
@@ -20,11 +21,11 @@ use Rattle.serve_frames.specs.declared.tell.Tell.{Tell}
 use Rattle.serve_frames.specs.Tells.{told_of, data_of}
 use Rattle.seats.specs.declared.made.Made.{Made}
 use Rattle.seats.specs.declared.seat.Seat.{Seat}
-use Rattle.seats.specs.Answered.{act_behind, IsBehind, IsCommand, is_busy, AreBusy, IsClosing, AreClosings, refusal, told_opened, IsRefusal, IsReplyOf, IsOpened, IsFull, IsAnsweredBy, IsAnswered}
-use Rattle.seats.specs.Doing.{HasMade, Does, MakesOne, DoesCommand, HasAnswered}
+use Rattle.seats.specs.Answered.{act_behind, IsBehind, IsCommand, is_busy, AreBusy, IsClosing, AreClosings, refusal, told_opened, IsOpened, IsFull, IsAnsweredBy, IsAnswered}
+use Rattle.seats.specs.Doing.{HasMade, Does, MakesOne, DoesCommand, HasAnswered, KeepsBy}
 use Rattle.seats.specs.Seated.{log_of, told_made}
+use Rattle.seats.specs.Spelled.{commands_done_by, AreKept}
 use Rattle.seats.specs.Told.{data_read, call_at}
-use Rattle.seats.proofs.Lists.{each_more}
 
 -- ------ the last calls
 
@@ -262,9 +263,14 @@ module _ (ask : Ask) (now : ℕ) where
       → Does (λ calls. IsAnswered ask now calls t (data_read (call_at s.made.items o))) s s
   answered_wanting s t o told = record { more = []; has = made_none s; is = inr (refl, (told.0, nothing_read s o told.1)) }
 
-pub has_answered : (ask : Ask) (now : ℕ) (old mid new : Seat) (t : Tell) (bytes : List ℕ) → log_of mid ≡ log_of old → Does (λ calls. IsAnswered ask now calls t bytes) mid new → HasAnswered ask now old new t bytes
-has_answered ask now old mid new t bytes same d = record {
+pub has_answered : (ask : Ask) (now : ℕ) (old mid new : Seat) (t : Tell) (bytes : List ℕ) → log_of mid ≡ log_of old → mid.outcomes.items ≡ old.outcomes.items → KeepsBy ask mid new
+    → Does (λ calls. IsAnswered ask now calls t bytes) mid new → HasAnswered ask now old new t bytes
+has_answered ask now old mid new t bytes same told k d = record {
   calls = map (told_made mid.who) d.more;
   log = log_more mid new d.more d.has ∙ ap (λ (l : List LogEntry). l ++ map (told_made mid.who) d.more) same;
   is = d.is;
+  kept =
+      let ds = commands_done_by ask (map (told_made mid.who) d.more) in
+      subst (λ (l : List LogEntry). AreKept (length l) ds old.outcomes.items new.outcomes.items) same
+      (subst (λ (os : List Outcome). AreKept (length (log_of mid)) ds os new.outcomes.items) told (k (map (told_made mid.who) d.more) (log_more mid new d.more d.has)));
 }

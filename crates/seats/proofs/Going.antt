@@ -1,7 +1,7 @@
 -- A seat goes on, call by call.
 use Rattle.std.proofs.Common.{◌≡◌, ◌+◌, ◌≤◌, ◌^◌, ℕ, List, [], ◌∷◌, ◌++◌, length, map, Some, refl, ap, sym, ◌∙◌, subst, arith, length-append}
 use Rattle.std.proofs.lemmas.List.{map-append, append-nil, append_assoc, length-map}
-use Rattle.std.proofs.lemmas.List.Elements.{All-nil, All-push}
+use Rattle.std.proofs.lemmas.List.Elements.{All-nil}
 use Rattle.std.proofs.lemmas.Option.{slice_get-map}
 use Rattle.std.specs.Prelude.{slice_get, option_map}
 use Rattle.atomic_table.specs.Seated.{TableId}
@@ -12,7 +12,7 @@ use Rattle.dmx_calls.specs.declared.limits.TheConstants.{DEMUX_NODES}
 use Rattle.adapter.specs.Callers.{Caller, AreFreshCallers}
 use Rattle.adapter.specs.Rows.{Fits}
 use Rattle.adapter.proofs.Pairs.{caller_fits}
-use Rattle.seats.specs.Calls.{MakesCall, MakesCalls}
+use Rattle.seats.specs.Calls.{MakesCalls}
 use Rattle.seats.specs.Holding.{KnowsItsNodes}
 use Rattle.seats.proofs.Holding.{knows_none}
 use Rattle.seats.proofs.Lists.{mapped}
@@ -113,7 +113,7 @@ all_ready locks n feeder clients fresh seats are each = record {
   are = are;
   each = λ c s at.
       let there : slice_get clients c ≡ Some s.client = ap (λ (l : List Caller). slice_get l c) (sym are) ∙ (slice_get-map (λ (z : Seat). z.client) seats c ∙ ap (λ o. option_map (λ (z : Seat). z.client) o) at) in
-      (new_ready locks n feeder clients fresh c s there (each c s at), log_none s (each c s at).log.0 (each c s at).log.1);
+      (new_ready locks n feeder clients fresh c s there (each c s at), log_none s (each c s at).log.0 (each c s at).log.1, (each c s at).outcomes);
 }
 
 -- the seats of desks

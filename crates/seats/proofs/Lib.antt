@@ -1,7 +1,12 @@
+pub mod DoneCommands
 pub mod Doing
 pub mod Going
 pub mod Holding
+pub mod Keeping
 pub mod Lists
 pub mod Owning
+pub mod Played
+pub mod Progress
 pub mod Ranges
+pub mod Spelling
 pub mod Turning

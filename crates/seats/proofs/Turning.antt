@@ -1,5 +1,5 @@
 -- The turns of a line.
-use Rattle.std.proofs.Common.{◌≡◌, ◌+◌, ℕ, Bool, true, false, List, [], ◌∷◌, ◌++◌, length, map, Option, Result, Ok, Err, is_ok, OnOk, refl, ap, sym, ◌∙◌, subst}
+use Rattle.std.proofs.Common.{◌≡◌, ◌+◌, ℕ, Bool, true, false, List, [], ◌∷◌, ◌++◌, length, map, Option, Result, Ok, Err, is_ok, OnOk, IsTrue, refl, ap, sym, ◌∙◌, subst, arith, length-append}
 use Rattle.std.proofs.lemmas.List.{append-nil, append_assoc}
 use Rattle.std.proofs.lemmas.List.Concat.{flat_map-append}
 use Rattle.std.proofs.KnownBytes.{Appends-trans}
@@ -14,11 +14,15 @@ use Rattle.serve_frames.specs.declared.numbers.TheConstants.{REQUEST_LEN}
 use Rattle.serve_frames.specs.declared.tell.Tell.{Tell}
 use Rattle.seats.specs.declared.seat.Seat.{Seat}
 use Rattle.seats.specs.Answered.{AreClosings, IsAnswered}
-use Rattle.seats.specs.Doing.{Does, HasAnswered}
+use Rattle.dmx_calls.specs.declared.outcome.Outcome.{Outcome}
+use Rattle.seats.specs.Doing.{Does, HasAnswered, KeepsClosed}
 use Rattle.seats.specs.Seated.{log_of, told_made}
 use Rattle.seats.specs.Told.{reply_bytes}
-use Rattle.seats.specs.Turns.{Turn, calls_of, IsAsked, IsTold, AreTold, IsLast, HasTurned, HasAnsweredAll}
+use Rattle.seats.specs.Spelled.{DoneCommand, calls_in, closings, commands_done_by, AreKept}
+use Rattle.seats.specs.Turns.{Turn, IsTurn, calls_of, spelled_by, IsAsked, IsTold, AreTold, IsLast, HasTurned, HasAnsweredAll}
 use Rattle.seats.proofs.Doing.{log_more}
+use Rattle.seats.proofs.Keeping.{kept_none, kept_trans}
+use Rattle.seats.proofs.Spelling.{answered_calls}
 
 -- where it has succeeded
 pub by_ok : {A E : Type 0} (r : Result A E) (P : Type 0) (b : Bool) → b ≡ is_ok r → OnOk r P → b ≡ true → P
@@ -33,57 +37,94 @@ appended a b c h d head bytes e f x y =
 pub told_whole : {E : Type 0} (r : Result (Unit {0}) E) (a b c : Option (List ℕ)) (h d head bytes : List ℕ) → h ≡ head → d ≡ bytes → Appends a b h → OnOk r (Appends b c d) → OnOk r (Appends a c (head ++ bytes))
 told_whole r a b c h d head bytes e f x o = on_ok_weaker {P = Appends b c d} {Q = Appends a c (head ++ bytes)} r (λ y. appended a b c h d head bytes e f x y) o
 
-module _ {T : Type 0} (source : T → SourceEnd) (sink : T → SinkEnd) where
+module _ {T : Type 0} (source : T → SourceEnd) (sink : T → SinkEnd) (may : ℕ → Bool) where
   -- no whole request was read
-  pub turned_none : (before after : T) (log : List LogEntry) → HasTurned source sink false before after log log
-  turned_none before after log = ([], tt, sym (append-nil log))
+  pub turned_none : (before after : T) (log : List LogEntry) (told : List Outcome) → HasTurned source sink may false before after log log told told
+  turned_none before after log told = ([], tt, sym (append-nil log), kept_none (length log) told told refl)
 
   module _ (ask : Ask) (now : ℕ) (old new : Seat) (request : List ℕ) (t : Tell) (bytes : List ℕ) (before asked after : T) (is : ask ≡ ask_of request) (long : length request ≡ REQUEST_LEN)
-      (taken : Consumes (source before).left (source asked).left request) (a : HasAnswered ask now old new t bytes) where
+      (given : IsTrue (may now)) (taken : Consumes (source before).left (source asked).left request) (a : HasAnswered ask now old new t bytes) where
     turn : Turn
     turn = record { request = request; now = now; calls = a.calls; told = t; bytes = bytes }
 
-    its_ask : IsAsked source sink turn before asked
+    its_ask : IsAsked source sink may turn before asked
     unfolding turn
-    its_ask = record { turn = record { long = long; is = subst (λ (k : Ask). IsAnswered k now a.calls t bytes) is a.is }; taken = taken }
+    its_ask = record { turn = record { long = long; moment = given; is = subst (λ (k : Ask). IsAnswered k now a.calls t bytes) is a.is }; taken = taken }
+
+    its_kept : AreKept (length (log_of old)) (commands_done_by (ask_of request) a.calls) old.outcomes.items new.outcomes.items
+    its_kept = subst (λ (k : Ask). AreKept (length (log_of old)) (commands_done_by k a.calls) old.outcomes.items new.outcomes.items) is a.kept
 
     -- its reply was written whole, or not
-    pub turned_one : (on : Bool) → (on ≡ true → Appends (sink asked).written (sink after).written (reply_bytes t bytes)) → HasTurned source sink on before after (log_of old) (log_of new)
+    pub turned_one : (on : Bool) → (on ≡ true → Appends (sink asked).written (sink after).written (reply_bytes t bytes))
+        → HasTurned source sink may on before after (log_of old) (log_of new) old.outcomes.items new.outcomes.items
     unfolding turn
-    turned_one true whole = (turn, record { asked = asked; is = its_ask; told = whole refl }, a.log)
-    turned_one false whole = (turn ∷ [], (asked, its_ask), a.log ∙ ap (λ (l : List LogEntry). log_of old ++ l) (sym (append-nil a.calls)))
+    turned_one true whole = (turn, record { asked = asked; is = its_ask; told = whole refl }, a.log, its_kept)
+    turned_one false whole = (
+      turn ∷ [],
+      (asked, its_ask),
+      a.log ∙ ap (λ (l : List LogEntry). log_of old ++ l) (sym (append-nil a.calls)),
+      subst (λ (ds : List DoneCommand). AreKept (length (log_of old)) ds old.outcomes.items new.outcomes.items) (sym (append-nil (commands_done_by (ask_of request) a.calls))) its_kept,
+    )
 
   -- ------ one after another
 
   -- these were answered, and told whole
-  pub record HaveTold (line at : T) (old new : List LogEntry) : Type 0 where
+  pub record HaveTold (line at : T) (old new : List LogEntry) (was now : List Outcome) : Type 0 where
     pub turns : List Turn
-    pub told : AreTold source sink line turns at
+    pub told : AreTold source sink may line turns at
     pub log : new ≡ old ++ calls_of turns
+    pub kept : AreKept (length old) (spelled_by turns) was now
+    pub calls : calls_in (spelled_by turns) ≡ calls_of turns
 
-  pub told_none : (line : T) (log : List LogEntry) → HaveTold line line log log
-  told_none line log = record { turns = []; told = refl; log = sym (append-nil log) }
+  pub told_none : (line : T) (log : List LogEntry) (told : List Outcome) → HaveTold line line log log told told
+  told_none line log told = record { turns = []; told = refl; log = sym (append-nil log); kept = kept_none (length log) told told refl; calls = refl }
 
-  told_last : (line at next : T) (ts : List Turn) (t : Turn) → AreTold source sink line ts at → IsTold source sink t at next → AreTold source sink line (ts ++ t ∷ []) next
-  told_last line at next [] t is one = (next, subst (λ (l : T). IsTold source sink t l next) is one, refl)
+  told_last : (line at next : T) (ts : List Turn) (t : Turn) → AreTold source sink may line ts at → IsTold source sink may t at next → AreTold source sink may line (ts ++ t ∷ []) next
+  told_last line at next [] t is one = (next, subst (λ (l : T). IsTold source sink may t l next) is one, refl)
   told_last line at next (u ∷ us) t is one = (is.0, is.1, told_last is.0 at next us t is.2 one)
 
   calls_more : (ts us : List Turn) → calls_of (ts ++ us) ≡ calls_of ts ++ calls_of us
   calls_more ts us = flat_map-append (λ (t : Turn). t.calls) ts us
 
-  pub told_more : (line at next : T) (a b c : List LogEntry) (on : Bool) → HaveTold line at a b → HasTurned source sink on at next b c → on ≡ true → HaveTold line next a c
-  told_more line at next a b c true h one is = record {
+  spelled_more : (ts us : List Turn) → spelled_by (ts ++ us) ≡ spelled_by ts ++ spelled_by us
+  spelled_more ts us = flat_map-append (λ (t : Turn). commands_done_by (ask_of t.request) t.calls) ts us
+
+  calls_both : (ds es : List DoneCommand) → calls_in (ds ++ es) ≡ calls_in ds ++ calls_in es
+  calls_both ds es = flat_map-append (λ (d : DoneCommand). d.calls) ds es
+
+  -- the calls of a turn are those of its commands
+  turn_calls : (t : Turn) → IsTurn may t → calls_in (spelled_by (t ∷ [])) ≡ calls_of (t ∷ [])
+  turn_calls t is = ap calls_in (append-nil (commands_done_by (ask_of t.request) t.calls)) ∙ (answered_calls (ask_of t.request) t.now t.calls t.told t.bytes is.is ∙ sym (append-nil t.calls))
+
+  more_calls : (ts us : List Turn) → calls_in (spelled_by ts) ≡ calls_of ts → calls_in (spelled_by us) ≡ calls_of us → calls_in (spelled_by (ts ++ us)) ≡ calls_of (ts ++ us)
+  more_calls ts us a b = ap calls_in (spelled_more ts us) ∙ (calls_both (spelled_by ts) (spelled_by us) ∙ (ap (λ (l : List LogEntry). l ++ calls_in (spelled_by us)) a ∙ (ap (λ (l : List LogEntry). calls_of ts ++ l) b ∙ sym (calls_more ts us))))
+
+  -- so many calls were made before
+  count_calls : (a b : List LogEntry) (ts : List Turn) → b ≡ a ++ calls_of ts → calls_in (spelled_by ts) ≡ calls_of ts → length b ≡ length a + length (calls_in (spelled_by ts))
+  count_calls a b ts log calls = let size = length-append a (calls_of ts) in let grown = ap length log in let own = ap length calls in omega (arith, size, grown, own)
+
+  pub told_more : (line at next : T) (a b c : List LogEntry) (was mid now : List Outcome) (on : Bool) → HaveTold line at a b was mid → HasTurned source sink may on at next b c mid now → on ≡ true → HaveTold line next a c was now
+  told_more line at next a b c was mid now true h one is = record {
     turns = h.turns ++ one.0 ∷ [];
     told = told_last line at next h.turns one.0 h.told one.1;
     log = one.2 ∙ (ap (λ (l : List LogEntry). l ++ one.0.calls) h.log ∙ (append_assoc a (calls_of h.turns) one.0.calls
         ∙ (ap (λ (l : List LogEntry). a ++ (calls_of h.turns ++ l)) (sym (append-nil one.0.calls)) ∙ ap (λ (l : List LogEntry). a ++ l) (sym (calls_more h.turns (one.0 ∷ []))))));
+    kept = subst (λ (ds : List DoneCommand). AreKept (length a) ds was now) (ap (λ (ds : List DoneCommand). spelled_by h.turns ++ ds) (sym (append-nil (commands_done_by (ask_of one.0.request) one.0.calls))) ∙ sym (spelled_more h.turns (one.0 ∷ [])))
+        (kept_trans (length a) (length b) (spelled_by h.turns) (commands_done_by (ask_of one.0.request) one.0.calls) was mid now h.kept one.3 (count_calls a b h.turns h.log h.calls));
+    calls = more_calls h.turns (one.0 ∷ []) h.calls (turn_calls one.0 one.1.is.turn);
   }
-  told_more line at next a b c false h one is = absurd (cc is)
+  told_more line at next a b c was mid now false h one is = absurd (cc is)
 
-  pub answered_all : (line at next : T) (old mid new last : Seat) (on : Bool) → HaveTold line at (log_of old) (log_of mid) → HasTurned source sink on at next (log_of mid) (log_of new) → on ≡ false
-      → Does (AreClosings (DEMUX_NODES + 1)) new last → HasAnsweredAll source sink line (log_of old) (log_of last)
-  answered_all line at next old mid new last true h one is d = absurd (cc is)
-  answered_all line at next old mid new last false h one is d = record {
+  last_calls : (line : T) (ts : List Turn) → IsLast source sink may line ts → calls_in (spelled_by ts) ≡ calls_of ts
+  last_calls line [] is = refl
+  last_calls line (t ∷ []) is = turn_calls t is.1.turn
+  last_calls line (t ∷ u ∷ ts) is = absurd is
+
+  pub answered_all : (line at next : T) (old mid new last : Seat) (on : Bool) → HaveTold line at (log_of old) (log_of mid) old.outcomes.items mid.outcomes.items
+      → HasTurned source sink may on at next (log_of mid) (log_of new) mid.outcomes.items new.outcomes.items → on ≡ false
+      → Does (AreClosings (DEMUX_NODES + 1)) new last → KeepsClosed new last → HasAnsweredAll source sink may line (log_of old) (log_of last) old.outcomes.items last.outcomes.items
+  answered_all line at next old mid new last true h one is d k = absurd (cc is)
+  answered_all line at next old mid new last false h one is d k = record {
     turns = h.turns;
     after = at;
     told = h.told;
@@ -94,6 +135,13 @@ module _ {T : Type 0} (source : T → SourceEnd) (sink : T → SinkEnd) where
     log = log_more new last d.more d.has ∙ (ap (λ (l : List LogEntry). l ++ leaving) one.2 ∙ (ap (λ (l : List LogEntry). (l ++ calls_of one.0) ++ leaving) h.log
         ∙ (ap (λ (l : List LogEntry). l ++ leaving) (append_assoc (log_of old) (calls_of h.turns) (calls_of one.0))
         ∙ (append_assoc (log_of old) (calls_of h.turns ++ calls_of one.0) leaving ∙ ap (λ (l : List LogEntry). log_of old ++ l) (append_assoc (calls_of h.turns) (calls_of one.0) leaving)))));
+    kept = kept_trans (length (log_of old)) (length (log_of new)) (spelled_by (h.turns ++ one.0)) (closings leaving).commands old.outcomes.items new.outcomes.items last.outcomes.items
+        (subst (λ (ds : List DoneCommand). AreKept (length (log_of old)) ds old.outcomes.items new.outcomes.items) (sym (spelled_more h.turns one.0))
+        (kept_trans (length (log_of old)) (length (log_of mid)) (spelled_by h.turns) (spelled_by one.0) old.outcomes.items mid.outcomes.items new.outcomes.items h.kept one.3 (count_calls (log_of old) (log_of mid) h.turns h.log h.calls)))
+        (k leaving (log_more new last d.more d.has))
+        (count_calls (log_of old) (log_of new) (h.turns ++ one.0)
+        (one.2 ∙ (ap (λ (l : List LogEntry). l ++ calls_of one.0) h.log ∙ (append_assoc (log_of old) (calls_of h.turns) (calls_of one.0) ∙ ap (λ (l : List LogEntry). log_of old ++ l) (sym (calls_more h.turns one.0)))))
+        (more_calls h.turns one.0 h.calls (last_calls at one.0 one.1)));
   } where
     leaving : List LogEntry
     leaving = map (told_made new.who) d.more

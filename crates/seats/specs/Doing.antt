@@ -1,14 +1,19 @@
 -- What a seat does: the calls by which its last calls have grown.
-use Rattle.std.specs.Prelude.{◌≡◌, ◌++◌, ◌∷◌, [], ℕ, List, map, slice_get, Some}
+use Rattle.std.specs.Prelude.{◌≡◌, ◌++◌, ◌∷◌, [], ℕ, List, length, map, slice_get, Some}
 use Rattle.dmx_calls.specs.declared.log.Act.{Act}
+use Rattle.dmx_calls.specs.declared.outcome.OutcomeKind.TheVariants.{Done as WasDone}
+use Rattle.client_script.specs.declared.line.Target.{Target}
+use Rattle.client_script.specs.declared.line.Want.{Want}
 use Rattle.dmx_calls.specs.Calls.{response_of}
 use Rattle.dmx_calls.specs.Log.{LogEntry}
 use Rattle.serve_frames.specs.declared.ask.Ask.{Ask}
+use Rattle.serve_frames.specs.declared.ask.Ask.TheVariants.{OpenDemux, Leave}
 use Rattle.serve_frames.specs.declared.tell.Tell.{Tell}
 use Rattle.seats.specs.declared.made.Made.{Made}
 use Rattle.seats.specs.declared.seat.Seat.{Seat}
 use Rattle.seats.specs.Answered.{act_behind, IsBehind, IsAnswered}
 use Rattle.seats.specs.Seated.{log_of, told_made}
+use Rattle.seats.specs.Spelled.{DoneCommand, done_command, commands_done_by, AreKept}
 
 -- these were put behind its last calls, and its log is the same
 pub record HasMade (more : List Made) (old new : Seat) : Type 0 where
@@ -39,8 +44,31 @@ pub record DoesCommand (on : ℕ) (does : Act) (place : ℕ) (old new : Seat) : 
   pub act : own.act ≡ does
   pub is : IsBehind (act_behind on (response_of own.reply)) (map (told_made old.who) behind)
 
--- A request is answered by the calls by which its log has grown.
+-- ------ commands
+
+-- What is told of its commands has grown by these of the calls by which its log has grown.
+abbrev pub Keeps : (commands : List LogEntry → List DoneCommand) → (old new : Seat) → Type 0
+Keeps commands old new =
+    (calls : List LogEntry) → log_of new ≡ log_of old ++ calls
+    → AreKept (length (log_of old)) (commands calls) old.outcomes.items new.outcomes.items
+
+-- by one command, which was done by all of them
+abbrev pub KeepsOne : (old new : Seat) → Type 0
+KeepsOne old new = (target : Target) (want : Want) → Keeps (λ calls. done_command target want calls WasDone ∷ []) old new
+
+-- by those that this request spells
+abbrev pub KeepsBy : Ask → (old new : Seat) → Type 0
+KeepsBy ask old new = Keeps (commands_done_by ask) old new
+
+abbrev pub KeepsOpened : (old new : Seat) → Type 0
+KeepsOpened old new = KeepsBy OpenDemux old new
+
+abbrev pub KeepsClosed : (old new : Seat) → Type 0
+KeepsClosed old new = KeepsBy Leave old new
+
+-- A request is answered by the calls by which its log has grown, and what is told of commands by those that it spells.
 pub record HasAnswered (ask : Ask) (now : ℕ) (old new : Seat) (t : Tell) (bytes : List ℕ) : Type 0 where
   pub calls : List LogEntry
   pub log : log_of new ≡ log_of old ++ calls
   pub is : IsAnswered ask now calls t bytes
+  pub kept : AreKept (length (log_of old)) (commands_done_by ask calls) old.outcomes.items new.outcomes.items

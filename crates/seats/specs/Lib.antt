@@ -2,7 +2,9 @@ pub mod Answered
 pub mod Calls
 pub mod Doing
 pub mod Holding
+pub mod Scripts
 pub mod Seated
 pub mod Served
+pub mod Spelled
 pub mod Told
 pub mod Turns

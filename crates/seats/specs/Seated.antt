@@ -60,7 +60,7 @@ pub record IsNew (number : ℕ) (s : Seat) : Type 0 where
 -- They are ready seats of these clients, which have done nothing yet.
 pub record AreReady (locks : List TableId) (clients : List Caller) (seats : List Seat) : Type 0 where
   pub are : map (λ s. s.client) seats ≡ clients
-  pub each : (c : ℕ) (s : Seat) → slice_get seats c ≡ Some s → IsReady locks s × (log_of s ≡ [])
+  pub each : (c : ℕ) (s : Seat) → slice_get seats c ≡ Some s → IsReady locks s × (log_of s ≡ []) × (s.outcomes.items ≡ [])
 
 -- The log has grown by just the calls that the client has made, in their order.
 pub record GoesOn (old new : Seat) : Type 0 where

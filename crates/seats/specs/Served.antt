@@ -1,5 +1,5 @@
 -- Seats that have served their lines.
-use Rattle.std.specs.Prelude.{◌≡◌, ◌<◌, ◌≤◌, ℕ, List, length, slice_index_or}
+use Rattle.std.specs.Prelude.{◌≡◌, ◌<◌, ◌≤◌, ℕ, Bool, List, length, slice_index_or}
 use Rattle.atomic_table.specs.Seated.{TableId}
 use Rattle.seats.specs.declared.run.Desk.{Desk}
 use Rattle.emu_io.specs.Ends.{SourceEnd, SinkEnd}
@@ -10,13 +10,13 @@ use Rattle.seats.specs.Seated.{log_of, IsFit, GoesOn}
 use Rattle.seats.specs.Turns.{HasAnsweredAll}
 
 -- A line tells what is left of it to be read, and what was written to it; or it tells none of these.
-module _ {T : Type 0} (source : T → SourceEnd) (sink : T → SinkEnd) where
+module _ {T : Type 0} (source : T → SourceEnd) (sink : T → SinkEnd) (may : ℕ → Bool) where
   -- A seat has served its line: its log has grown by just its calls, which are those that the requests of the line ask for and
   -- those by which all nodes were closed; and behind them it owns no node.
   pub record HasServed (locks : List TableId) (line : T) (old new : Seat) : Type 0 where
     pub fit : IsFit locks new
     pub goes : GoesOn old new
-    pub answers : HasAnsweredAll source sink line (log_of old) (log_of new)
+    pub answers : HasAnsweredAll source sink may line (log_of old) (log_of new) old.outcomes.items new.outcomes.items
     pub left : (node : ℕ) → node ≤ DEMUX_NODES → HasLeft node new.client
 
   -- each of the seats has served its line

@@ -1,14 +1,17 @@
 -- The requests of a line, one after another, and how each is answered.
-use Rattle.std.specs.Prelude.{◌≡◌, ◌++◌, ◌∷◌, [], ◌+◌, ℕ, Bool, true, false, List, length, Option}
+use Rattle.std.specs.Prelude.{◌≡◌, ◌++◌, ◌∷◌, [], ◌+◌, ℕ, Bool, true, false, IsTrue, List, length}
 use Rattle.std.specs.List.{flat_map}
 use Rattle.std.specs.Io.KnownBytes.{Appends, Consumes}
 use Rattle.emu_io.specs.Ends.{SourceEnd, SinkEnd}
 use Rattle.dmx_calls.specs.declared.limits.TheConstants.{DEMUX_NODES}
+use Rattle.dmx_calls.specs.declared.outcome.Outcome.{Outcome}
 use Rattle.dmx_calls.specs.Log.{LogEntry}
 use Rattle.serve_frames.specs.Asks.{ask_of}
+use Rattle.serve_frames.specs.declared.ask.Ask.TheVariants.{Leave}
 use Rattle.serve_frames.specs.declared.numbers.TheConstants.{REQUEST_LEN}
 use Rattle.serve_frames.specs.declared.tell.Tell.{Tell}
 use Rattle.seats.specs.Answered.{IsAnswered, AreClosings}
+use Rattle.seats.specs.Spelled.{DoneCommand, commands_done_by, AreKept}
 use Rattle.seats.specs.Told.{reply_bytes}
 
 -- a request, the moment, the calls that were made for it, what was told, and the bytes that were read
@@ -19,19 +22,28 @@ pub record Turn : Type 0 where
   pub told : Tell
   pub bytes : List ℕ
 
--- a whole request, and it is answered
-pub record IsTurn (t : Turn) : Type 0 where
+-- a whole request, and it is answered, at a moment that the clock may give
+pub record IsTurn (may : ℕ → Bool) (t : Turn) : Type 0 where
   pub long : length t.request ≡ REQUEST_LEN
+  pub moment : IsTrue (may t.now)
   pub is : IsAnswered (ask_of t.request) t.now t.calls t.told t.bytes
 
 -- the calls of these turns, one after another
 abbrev pub calls_of : List Turn → List LogEntry
 calls_of turns = flat_map (λ t. t.calls) turns
 
-module _ {T : Type 0} (source : T → SourceEnd) (sink : T → SinkEnd) where
+-- the commands that these turns spell, one after another
+abbrev pub spelled_by : List Turn → List DoneCommand
+spelled_by turns = flat_map (λ t. commands_done_by (ask_of t.request) t.calls) turns
+
+-- and then those by which all nodes are closed
+abbrev pub spelled : List Turn → (leaving : List LogEntry) → List DoneCommand
+spelled turns leaving = spelled_by turns ++ commands_done_by Leave leaving
+
+module _ {T : Type 0} (source : T → SourceEnd) (sink : T → SinkEnd) (may : ℕ → Bool) where
   -- the request is taken from the line
   pub record IsAsked (t : Turn) (before asked : T) : Type 0 where
-    pub turn : IsTurn t
+    pub turn : IsTurn may t
     pub taken : Consumes (source before).left (source asked).left t.request
 
   -- and its reply is written to it, whole
@@ -51,14 +63,18 @@ module _ {T : Type 0} (source : T → SourceEnd) (sink : T → SinkEnd) where
   IsLast line (t ∷ []) = (asked : T) × IsAsked t line asked
   IsLast line (t ∷ u ∷ ts) = ⊥
 
-  -- The next request is answered: by these calls the log has grown. Where that is the end, no call was made, or the reply wasn't
-  -- written whole.
-  abbrev pub HasTurned : (on : Bool) → (before after : T) → (old new : List LogEntry) → Type 0
-  HasTurned true before after old new = (t : Turn) × IsTold t before after × (new ≡ old ++ t.calls)
-  HasTurned false before after old new = (ts : List Turn) × IsLast before ts × (new ≡ old ++ calls_of ts)
+  -- The next request is answered: by these calls the log has grown, and what is told of commands by those that it spells. Where
+  -- that is the end, no call was made, or the reply wasn't written whole.
+  abbrev pub HasTurned : (on : Bool) → (before after : T) → (old new : List LogEntry) → (was now : List Outcome) → Type 0
+  HasTurned true before after old new was now =
+      (t : Turn) × IsTold t before after × (new ≡ old ++ t.calls)
+      × AreKept (length old) (commands_done_by (ask_of t.request) t.calls) was now
+  HasTurned false before after old new was now =
+      (ts : List Turn) × IsLast before ts × (new ≡ old ++ calls_of ts) × AreKept (length old) (spelled_by ts) was now
 
-  -- The requests of a line were answered, one after another, and then all nodes closed: by the calls for these the log has grown.
-  pub record HasAnsweredAll (line : T) (old new : List LogEntry) : Type 0 where
+  -- The requests of a line were answered, one after another, and then all nodes closed: by the calls for these the log has grown,
+  -- and what is told of commands by those that the requests spell.
+  pub record HasAnsweredAll (line : T) (old new : List LogEntry) (was now : List Outcome) : Type 0 where
     pub turns : List Turn
     pub after : T
     pub told : AreTold line turns after
@@ -67,3 +83,4 @@ module _ {T : Type 0} (source : T → SourceEnd) (sink : T → SinkEnd) where
     pub leaving : List LogEntry
     pub closed : AreClosings (DEMUX_NODES + 1) leaving
     pub log : new ≡ old ++ (calls_of turns ++ (calls_of last ++ leaving))
+    pub kept : AreKept (length old) (spelled (turns ++ last) leaving) was now

@@ -10,7 +10,7 @@ ghost use Rattle.serve_frames.specs.Tells.{told_of};
 ghost use Rattle.seats.specs.declared.made.Made.{Made};
 ghost use Rattle.seats.specs.Answered.{is_busy as is_busy_by, refusal, told_opened, AreClosings, IsAnswered, IsClosing, IsFull, IsOpened};
 ghost use Rattle.seats.specs.Calls.{PassesNone};
-ghost use Rattle.seats.specs.Doing.{Does, DoesCommand, HasAnswered};
+ghost use Rattle.seats.specs.Doing.{Does, DoesCommand, HasAnswered, KeepsBy, KeepsClosed, KeepsOne, KeepsOpened};
 ghost use Rattle.seats.specs.Holding.{HasLeft};
 ghost use Rattle.seats.specs.Seated.{IsFit, HasRoom, GoesOn};
 ghost use Rattle.seats.specs.Told.{data_read, call_at};
@@ -115,6 +115,7 @@ impl Seat {
         ensures one { length self.new.outcomes.items ≡ length self.old.outcomes.items + 1 }
         ensures room { (vec_capacity self.new.made ≡ vec_capacity self.old.made) × (vec_capacity self.new.outcomes ≡ vec_capacity self.old.outcomes) }
         ensures did { DoesCommand node (act_of (invocation_of call)) result self.old self.new }
+        ensures kept { KeepsOne self.old self.new }
         ensures left { invocation_of call ≢ asks.Open → (i : ℕ) → HasLeft i self.old.client → HasLeft i self.new.client }
         ensures closed { invocation_of call ≡ asks.Close → HasLeft node self.new.client }
     {
@@ -138,6 +139,7 @@ impl Seat {
         ensures goes { GoesOn self.old self.new }
         ensures at { IfSome result.at (λ i. i < length self.new.made.items) }
         ensures did { Does (λ calls. IsOpened calls result.tell (data_read (call_at self.new.made.items result.at)) ⊎ IsFull calls result.tell (data_read (call_at self.new.made.items result.at))) self.old self.new }
+        ensures kept { KeepsOpened self.old self.new }
     {
         let from = self.count();
         'nodes: for node in 0..DEMUX_NODES {
@@ -169,6 +171,7 @@ impl Seat {
         ensures told { length self.new.outcomes.items ≤ length self.old.outcomes.items + 1 }
         ensures room { (vec_capacity self.new.made ≡ vec_capacity self.old.made) × (vec_capacity self.new.outcomes ≡ vec_capacity self.old.outcomes) }
         ensures did { Does (IsClosing node) self.old self.new }
+        ensures kept { KeepsClosed self.old self.new }
         ensures left { HasLeft node self.new.client }
         ensures still { (i : ℕ) → HasLeft i self.old.client → HasLeft i self.new.client }
     {
@@ -188,6 +191,7 @@ impl Seat {
         ensures told { length self.new.outcomes.items ≤ length self.old.outcomes.items + 33 }
         ensures room { (vec_capacity self.new.made ≡ vec_capacity self.old.made) × (vec_capacity self.new.outcomes ≡ vec_capacity self.old.outcomes) }
         ensures did { Does (AreClosings (nodes + 1)) self.old self.new }
+        ensures kept { KeepsClosed self.old self.new }
         ensures left { (node : ℕ) → node ≤ nodes → HasLeft node self.new.client }
     {
         'nodes: for node in 0..NODES {
@@ -213,6 +217,7 @@ impl Seat {
         ensures goes { GoesOn self.old self.new }
         ensures at { IfSome result.at (λ i. i < length self.new.made.items) }
         ensures did { Does (λ calls. IsAnswered ask now calls result.tell (data_read (call_at self.new.made.items result.at))) self.old self.new }
+        ensures kept { KeepsBy ask self.old self.new }
     {
         match ask {
             Ask::OpenDemux => self.open_demux(rt, adapter, steps),

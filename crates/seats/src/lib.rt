@@ -23,14 +23,19 @@
 //! read whole is answered by the calls of the table, or, for want of memory, by none; and the bytes written for it are the reply of
 //! the call whose place they name. Only the last reply of a line may be cut off. Behind them each node is closed at most once.
 //!
-//! What is only tested, in `serve_tests`: that no Close is made on a node that the program hasn't opened, that a request to leave
-//! within a line closes all nodes of its program, and that a call's moment is one of the clock.
+//! The requests of a line are the commands of a client of a script (`commands_done_by` in `specs/Spelled.antt` says which): where a
+//! script's client has just these, its commands ask for just these calls, by the replies before each, and what the seat keeps of
+//! commands is what became of them (`lines_are_played`). The moment of a call is one of the clock.
+//!
+//! What is only tested, in `serve_tests`: that no Close is made on a node that the program hasn't opened, and that a request to leave
+//! within a line closes all nodes of its program.
 //!
 //! Limits: a seat makes at most 2^40 calls, of which 66 are kept for leaving. `desks_of` takes memory, and so does each request. Of
 //! a server no clause says that it answers, nor when.
 #![tactic(auto)]
 
 mod answers;
+mod laws;
 mod made;
 mod making;
 mod run;
@@ -38,6 +43,7 @@ mod seat;
 mod serve;
 
 pub use answers::Answered;
+pub use laws::lines_are_played;
 pub use made::Made;
 pub use making::desks_of;
 pub use run::{Desk, sit_all};

@@ -1,5 +1,5 @@
 // A seat and its calls.
-ghost use Rattle.std.specs.Prelude.{◌≡◌, ◌≢◌, ◌<◌, ◌≤◌, ◌+◌, ◌^◌, ℕ, List, [], length, map, option_map, vec_capacity, OnOk, IfOk, IfSome};
+ghost use Rattle.std.specs.Prelude.{◌≡◌, ◌≢◌, ◌<◌, ◌≤◌, ◌+◌, ◌^◌, ◌++◌, ◌∷◌, [], ℕ, List, length, map, option_map, vec_capacity, OnOk, IfOk, IfSome};
 ghost use Rattle.atomic_table.specs.Seated.{TableId};
 ghost use Rattle.dmx_calls.specs.Calls.{invocation_of, response_of, told_entry};
 ghost use Rattle.dmx_calls.specs.Log.{act_of};
@@ -10,6 +10,7 @@ ghost use Rattle.seats.specs.Answered.{act_behind};
 ghost use Rattle.seats.specs.Calls.{PassesNone};
 ghost use Rattle.seats.specs.Doing.{MakesOne, DoesCommand};
 ghost use Rattle.seats.specs.Holding.{HasLeft, has_then as has_then_by};
+ghost use Rattle.seats.specs.Spelled.{line_behind as line_behind_by, outcome_at};
 ghost use Rattle.seats.specs.Seated.{log_of, IsFit, IsNew, HasRoom, GoesOn};
 
 use crate::made::{Made, keep_all};
@@ -80,6 +81,17 @@ fn has_then(had: bool, act: &Act, reply: &Reply) -> bool
         Act::Open => { if is_accepted(reply) { true } else { had } }
         Act::Close => { if is_accepted(reply) { false } else { had } }
         _ => had,
+    }
+}
+
+// The number of the line of a command behind so many.
+fn line_behind(count: usize) -> u32
+    ensures { result ≡ line_behind_by count }
+{
+    if count < u32::MAX as usize {
+        count as u32 + 1
+    } else {
+        u32::MAX
     }
 }
 
@@ -181,13 +193,14 @@ impl Seat {
         ensures fit { (locks : List TableId) → IsFit locks self.old → IsFit locks self.new }
         ensures goes { GoesOn self.old self.new }
         ensures one { length self.new.outcomes.items ≡ length self.old.outcomes.items + 1 }
+        ensures told { self.new.outcomes.items ≡ self.old.outcomes.items ++ outcome_at (length self.old.outcomes.items) from (length self.old.log.items + length self.old.made.items) kind ∷ [] }
         ensures room { vec_capacity self.new.outcomes ≡ vec_capacity self.old.outcomes }
         ensures rest { (self.new.client ≡ self.old.client) × (self.new.who ≡ self.old.who) × (self.new.log ≡ self.old.log) × (self.new.made ≡ self.old.made) × (self.new.held ≡ self.old.held) }
     {
-        let line = (self.outcomes.len() as u64).saturating_add(1);
+        let line = line_behind(self.outcomes.len());
         let to = self.count();
         self.outcomes.push_reserved(Outcome {
-            line: u32::try_from(line).unwrap_or(u32::MAX),
+            line,
             from,
             to,
             kind,
@@ -224,6 +237,7 @@ impl Seat {
         ensures room { OnOk result (HasRoom calls self.new) }
         ensures still { (calls : ℕ) → HasRoom calls self.old → HasRoom calls self.new }
         ensures same { log_of self.new ≡ log_of self.old }
+        ensures told { self.new.outcomes.items ≡ self.old.outcomes.items }
         ensures goes { GoesOn self.old self.new }
         ensures fit { (locks : List TableId) → IsFit locks self.old → IsFit locks self.new }
     {

@@ -83,7 +83,7 @@ impl Seat {
         ensures fit { IsFit adapter.now self.new }
         ensures room { HasRoom 66 self.new }
         ensures goes { GoesOn self.old self.new }
-        ensures turned { HasTurned T.Source.end T.Sink.end result line.old line.new (log_of self.old) (log_of self.new) }
+        ensures turned { HasTurned T.Source.end T.Sink.end (C.may_give clock.now) result line.old line.new (log_of self.old) (log_of self.new) self.old.outcomes.items self.new.outcomes.items }
     {
         let mut bytes = [0u8; REQUEST_LEN];
         if !fill(line, &mut bytes) {
@@ -107,7 +107,7 @@ impl Seat {
         steps: &mut Steps<L>,
     )
         requires ready { IsReady adapter.now self.old }
-        ensures { HasServed T.Source.end T.Sink.end adapter.now line.old self.old self.new }
+        ensures { HasServed T.Source.end T.Sink.end (C.may_give clock.now) adapter.now line.old self.old self.new }
     {
         'requests: for _ in rt.forever() {
             if !self.turn(rt, alloc, adapter, line, clock, steps) {

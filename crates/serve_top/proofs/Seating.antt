@@ -1,5 +1,5 @@
 -- The seats at their end: what they have called, that they are still the adapter's callers, and that they own no node.
-use Rattle.std.proofs.Common.{◌≡◌, ⊎_elim, ℕ, Bool, true, ◌+◌, ◌<◌, ◌≤◌, ◌^◌, List, [], ◌∷◌, ◌++◌, length, map, Vec, Global, Some, refl, ap, sym, ◌∙◌, subst, arith, length-append}
+use Rattle.std.proofs.Common.{◌≡◌, ⊎_elim, ℕ, Bool, true, ◌+◌, ◌≤◌, ◌^◌, List, [], ◌∷◌, ◌++◌, length, map, Some, refl, ap, sym, ◌∙◌, subst, arith, length-append, None}
 use Rattle.std.specs.Prelude.{slice_get, slice_index_or, option_map, reverse, All, Option}
 use Rattle.std.proofs.lemmas.Option.{slice_get-map, get_or_from_slice_get, slice_get_within}
 use Rattle.std.proofs.lemmas.List.{length-map}
@@ -7,8 +7,12 @@ use Rattle.atomic_table.specs.Seated.{TableId}
 use Rattle.emu_io.specs.Ends.{SourceEnd, SinkEnd}
 use Rattle.dmx_calls.specs.declared.histories.Fed.{Fed}
 use Rattle.dmx_calls.specs.declared.limits.TheConstants.{DEMUX_NODES}
+use Rattle.dmx_calls.specs.declared.params.Input.{Input}
 use Rattle.dmx_calls.specs.Log.{LogEntry, Sources}
-use Rattle.client_script.specs.Script.{plain}
+use Rattle.dmx_calls.specs.declared.outcome.Outcome.{Outcome}
+use Rattle.client_script.specs.Script.{Scripted, plain}
+use Rattle.client_core.specs.declared.command.Command.{Command}
+use Rattle.client_core.specs.Commands.{commands_of, plays_of}
 use Rattle.adapter.specs.Callers.{Caller, IsSameCaller, AreFreshCallers, AreAllCallers}
 use Rattle.adapter.proofs.Everybody.{still_all}
 use Rattle.adapter.proofs.Lists.{at_place, at_end, one_value}
@@ -21,20 +25,24 @@ use Rattle.seats.specs.declared.run.Desk.{Desk}
 use Rattle.seats.specs.declared.seat.Seat.{Seat}
 use Rattle.seats.specs.Calls.{MakesCalls}
 use Rattle.seats.specs.Holding.{HasLeft}
-use Rattle.seats.specs.Seated.{log_of, AreOnNodes, IsReady, AreReady, GoesOn}
+use Rattle.seats.specs.Seated.{log_of, AreOnNodes, AreReady, GoesOn}
 use Rattle.seats.specs.Served.{HasServed, HaveServed}
-use Rattle.seats.specs.Turns.{HasAnsweredAll}
-use Rattle.serve_top.specs.Reported.{every, fed_by}
+use Rattle.seats.specs.Scripts.{IsPlayed}
+use Rattle.seats.specs.Spelled.{commands_by}
+use Rattle.seats.specs.Turns.{HasAnsweredAll, spelled}
+use Rattle.seats.proofs.Played.{answers_played, answers_idle}
+use Rattle.serve_top.specs.Reported.{every, fed_by, IsServed}
+use Rattle.serve_top.proofs.Scripting.{AreCalls, spelled_calls, lines_of, lines_at}
 use Rattle.serve_top.proofs.Logged.{same_calls, logged_calls, brings_calls}
 
-module _ {T : Type 0} (source : T → SourceEnd) (sink : T → SinkEnd) (locks : List TableId) (n : ℕ) (feeder : Caller) (clients : List Caller) (fresh : AreFreshCallers locks n feeder clients) (all : AreAllCallers locks (clients ++ feeder ∷ []))
-    (old new : List (Desk T)) (ready : AreReady locks clients (map (λ (d : Desk T). d.seat) old)) (h : HaveServed source sink locks old new) where
+module _ {T : Type 0} (source : T → SourceEnd) (sink : T → SinkEnd) (may : ℕ → Bool) (locks : List TableId) (n : ℕ) (feeder : Caller) (clients : List Caller) (fresh : AreFreshCallers locks n feeder clients) (all : AreAllCallers locks (clients ++ feeder ∷ []))
+    (old new : List (Desk T)) (ready : AreReady locks clients (map (λ (d : Desk T). d.seat) old)) (h : HaveServed source sink may locks old new) where
   -- its seat before
-  pub served_at : (k : ℕ) (d : Desk T) → slice_get new k ≡ Some d → (b : Desk T) × (slice_get old k ≡ Some b) × HasServed source sink locks b.line b.seat d.seat
+  pub served_at : (k : ℕ) (d : Desk T) → slice_get new k ≡ Some d → (b : Desk T) × (slice_get old k ≡ Some b) × HasServed source sink may locks b.line b.seat d.seat
   served_at k d at =
       let low = slice_get_within new k d at in let long = h.long in let b = at_place old k (omega arith) in
       let s = h.each k d (omega arith) in
-      (b.0, b.1, subst (λ (z : Desk T). HasServed source sink locks z.line z.seat d.seat) (get_or_from_slice_get old k b.0 d b.1) (subst (λ (z : Desk T). HasServed source sink locks (slice_index_or old k d).line (slice_index_or old k d).seat z.seat) (get_or_from_slice_get new k d d at) s))
+      (b.0, b.1, subst (λ (z : Desk T). HasServed source sink may locks z.line z.seat d.seat) (get_or_from_slice_get old k b.0 d b.1) (subst (λ (z : Desk T). HasServed source sink may locks (slice_index_or old k d).line (slice_index_or old k d).seat z.seat) (get_or_from_slice_get new k d d at) s))
 
   seat_at : (k : ℕ) (b : Desk T) → slice_get old k ≡ Some b → slice_get (map (λ (d : Desk T). d.seat) old) k ≡ Some b.seat
   seat_at k b at = slice_get-map (λ (d : Desk T). d.seat) old k ∙ ap (option_map (λ (d : Desk T). d.seat)) at
@@ -110,17 +118,27 @@ module _ {T : Type 0} (source : T → SourceEnd) (sink : T → SinkEnd) (locks :
   pub all_nodes : All (λ (d : Desk T). AreOnNodes (log_of d.seat)) new
   all_nodes k d low = let long = h.long in (h.each k d (omega arith)).fit.nodes
 
+  -- a client and its log
+  logged_at : (packets : Sources) (k : ℕ) (client : Caller) (log : List LogEntry) → slice_get (map (λ (d : Desk T). d.seat.client) new) k ≡ Some client
+      → slice_get (map (λ (d : Desk T). log_of d.seat) new) k ≡ Some log → HasLogged packets k client log
+  logged_at packets k client log at there =
+      let v = mapped (λ (x : Desk T). x.seat.client) new k client at in
+      let w = mapped (λ (x : Desk T). log_of x.seat) new k log there in
+      let same : v.0 ≡ w.0 = one_value new k v.0 w.0 v.1 w.1 in
+      subst (λ (x : Caller). HasLogged packets k x log) v.2 (subst (HasLogged packets k v.0.seat.client) w.2 (subst (λ (x : Desk T). HasLogged packets k v.0.seat.client (log_of x.seat)) same (has_logged k v.0 v.1 packets)))
+
+  -- whatever the packets are of which a client may bring some: it brings none
+  pub bring_none : (k : ℕ) (client : Caller) (log : List LogEntry) → slice_get (map (λ (d : Desk T). d.seat.client) new) k ≡ Some client
+      → slice_get (map (λ (d : Desk T). log_of d.seat) new) k ≡ Some log → (given : Input → List (List ℕ)) → BringFrom given client log
+  bring_none k client log at there given = (logged_at (λ (who : ℕ). given) k client log at there).brought
+
   -- what was called
-  pub have_called : (most : ℕ) (may : ℕ → Bool) (stream : List (List ℕ)) (g : Caller) (feeding : List Fed) → HasFedAll every most may stream g feeding
+  pub have_called : (most : ℕ) (stream : List (List ℕ)) (g : Caller) (feeding : List Fed) → HasFedAll every most may stream g feeding
       → HaveCalled every (fed_by stream) g feeding (map (λ (d : Desk T). d.seat.client) new) (map (λ (d : Desk T). log_of d.seat) new)
-  have_called most may stream g feeding fed = record {
+  have_called most stream g feeding fed = record {
     fed = fed.fed.made;
     logs = length-map new (λ (d : Desk T). log_of d.seat) ∙ sym (length-map new (λ (d : Desk T). d.seat.client));
-    each = λ k client log at there.
-        let v = mapped (λ (x : Desk T). x.seat.client) new k client at in
-        let w = mapped (λ (x : Desk T). log_of x.seat) new k log there in
-        let same : v.0 ≡ w.0 = one_value new k v.0 w.0 v.1 w.1 in
-        subst (λ (x : Caller). HasLogged (fed_by stream) k x log) v.2 (subst (HasLogged (fed_by stream) k v.0.seat.client) w.2 (subst (λ (x : Desk T). HasLogged (fed_by stream) k v.0.seat.client (log_of x.seat)) same (has_logged k v.0 v.1 (fed_by stream))));
+    each = λ k client log at there. logged_at (fed_by stream) k client log at there;
     named = λ e is. refl;
   }
 
@@ -130,12 +148,94 @@ module _ {T : Type 0} (source : T → SourceEnd) (sink : T → SinkEnd) (locks :
       let v = mapped (λ (x : Desk T). x.seat.client) new k client at in
       subst (HasLeft node) v.2 ((served_at k v.0 v.1).2.left node low)
 
-  -- what each has called is what the requests of its line ask for
-  pub have_answered : (lines : List T) → map (λ (d : Desk T). d.line) old ≡ reverse lines → (k : ℕ) (book : List LogEntry) → slice_get (map (λ (d : Desk T). log_of d.seat) new) k ≡ Some book
-      → (line : T) × (slice_get (reverse lines) k ≡ Some line) × HasAnsweredAll source sink line [] book
-  have_answered lines are k book at =
-      let v = mapped (λ (x : Desk T). log_of x.seat) new k book at in
-      let u = served_at k v.0 v.1 in
-      let from : log_of u.0.seat ≡ [] = (ready.each k u.0.seat (seat_at k u.0 u.1)).1 in
-      let there : slice_get (reverse lines) k ≡ Some u.0.line = ap (λ (l : List T). slice_get l k) (sym are) ∙ (slice_get-map (λ (d : Desk T). d.line) old k ∙ ap (option_map (λ (d : Desk T). d.line)) u.1) in
-      (u.0.line, there, subst (HasAnsweredAll source sink u.0.line []) v.2 (subst (λ (l : List LogEntry). HasAnsweredAll source sink u.0.line l (log_of v.0.seat)) from u.2.answers))
+  -- ------ the script
+
+  -- what this seat has called and told is what the requests of its line ask for
+  pub record IsAt (k : ℕ) (lines : List T) (d : Desk T) (commands : List Command) : Type 0 where
+    pub line : T
+    pub there : slice_get (reverse lines) k ≡ Some line
+    pub answers : HasAnsweredAll source sink may line [] (log_of d.seat) [] d.seat.outcomes.items
+    pub are : commands ≡ commands_by 0 (spelled (answers.turns ++ answers.last) answers.leaving)
+
+  module _ (lines : List T) (are : map (λ (d : Desk T). d.line) old ≡ reverse lines) where
+    -- what its line asks for
+    answers_at : (k : ℕ) (d : Desk T) → slice_get new k ≡ Some d → (line : T) × (slice_get (reverse lines) k ≡ Some line) × HasAnsweredAll source sink may line [] (log_of d.seat) [] d.seat.outcomes.items
+    answers_at k d at =
+        let u = served_at k d at in
+        let first = ready.each k u.0.seat (seat_at k u.0 u.1) in
+        let there : slice_get (reverse lines) k ≡ Some u.0.line = ap (λ (l : List T). slice_get l k) (sym are) ∙ (slice_get-map (λ (d : Desk T). d.line) old k ∙ ap (option_map (λ (d : Desk T). d.line)) u.1) in (
+          u.0.line,
+          there,
+          subst (λ (l : List LogEntry). HasAnsweredAll source sink may u.0.line l (log_of d.seat) [] d.seat.outcomes.items) first.1
+              (subst (λ (os : List Outcome). HasAnsweredAll source sink may u.0.line (log_of u.0.seat) (log_of d.seat) os d.seat.outcomes.items) first.2 u.2.answers),
+        )
+
+    -- the commands of the seat in this place, if there is one
+    choose : (k : ℕ) (o : Option (Desk T)) → slice_get new k ≡ o → (cs : List Command) × AreCalls cs × ((d : Desk T) → o ≡ Some d → IsAt k lines d cs)
+    choose k None at = ([], tt, λ d some. absurd (cc some))
+    choose k (Some d) at =
+        let a = answers_at k d at in (
+          commands_by 0 (spelled (a.2.turns ++ a.2.last) a.2.leaving),
+          spelled_calls 0 (spelled (a.2.turns ++ a.2.last) a.2.leaving),
+          λ x same. let one : d ≡ x = cc same in subst (λ (z : Desk T). IsAt k lines z (commands_by 0 (spelled (a.2.turns ++ a.2.last) a.2.leaving))) one (record { line = a.0; there = a.1; answers = a.2; are = refl }),
+        )
+
+    pub commands_at : (k : ℕ) → List Command
+    commands_at k = (choose k (slice_get new k) refl).0
+
+    pub calls_at : (k : ℕ) → AreCalls (commands_at k)
+    unfolding commands_at
+    calls_at k = (choose k (slice_get new k) refl).1
+
+    pub seat_is : (k : ℕ) (d : Desk T) → slice_get new k ≡ Some d → IsAt k lines d (commands_at k)
+    unfolding commands_at
+    seat_is k d at = (choose k (slice_get new k) refl).2 d at
+
+    abbrev pub the_books : List (List LogEntry)
+    the_books = map (λ (d : Desk T). log_of d.seat) new
+
+    abbrev pub the_outcomes : List (List Outcome)
+    the_outcomes = map (λ (d : Desk T). d.seat.outcomes.items) new
+
+    abbrev pub the_script : Scripted
+    the_script = plain (lines_of commands_at (length the_books))
+
+    -- the same seat
+    seat_of : (k : ℕ) (book : List LogEntry) (out : List Outcome) → slice_get the_books k ≡ Some book → slice_get the_outcomes k ≡ Some out
+        → (d : Desk T) × (slice_get new k ≡ Some d) × (log_of d.seat ≡ book) × (d.seat.outcomes.items ≡ out)
+    seat_of k book out at there =
+        let v = mapped (λ (x : Desk T). log_of x.seat) new k book at in
+        let w = mapped (λ (x : Desk T). x.seat.outcomes.items) new k out there in
+        (v.0, v.1, v.2, subst (λ (x : Desk T). x.seat.outcomes.items ≡ out) (one_value new k w.0 v.0 w.1 v.1) w.2)
+
+    low_nodes : (k : ℕ) (d : Desk T) → slice_get new k ≡ Some d → AreOnNodes (log_of d.seat)
+    low_nodes k d at = (served_at k d at).2.fit.nodes
+
+    pub have_played : (k : ℕ) (book : List LogEntry) (out : List Outcome) → slice_get the_books k ≡ Some book → slice_get the_outcomes k ≡ Some out
+        → (script : Scripted) → commands_of k script ≡ commands_at k → IsPlayed may k script book out
+    have_played k book out at there script same =
+        let d = seat_of k book out at there in
+        let s = seat_is k d.0 d.1 in
+        subst (λ (b : List LogEntry). IsPlayed may k script b out) d.2 (subst (IsPlayed may k script (log_of d.0.seat)) d.3
+        (answers_played source sink may s.line (log_of d.0.seat) d.0.seat.outcomes.items s.answers (low_nodes k d.0 d.1) k script (same ∙ s.are)))
+
+    pub have_idled : (k : ℕ) (book : List LogEntry) (out : List Outcome) → slice_get the_books k ≡ Some book → slice_get the_outcomes k ≡ Some out → commands_at k ≡ [] → (book ≡ []) × (out ≡ [])
+    have_idled k book out at there none =
+        let d = seat_of k book out at there in
+        let s = seat_is k d.0 d.1 in
+        let i = answers_idle source sink may s.line (log_of d.0.seat) d.0.seat.outcomes.items s.answers (low_nodes k d.0 d.1) (sym s.are ∙ none) in
+        (sym d.2 ∙ i.0, sym d.3 ∙ i.1)
+
+    -- what each has called is what the requests of its line ask for
+    pub have_answered : (k : ℕ) (book : List LogEntry) → slice_get the_books k ≡ Some book
+        → (line : T) × (slice_get (reverse lines) k ≡ Some line) × (became : List Outcome) × (slice_get the_outcomes k ≡ Some became) × IsServed source sink may the_script k line book became
+    have_answered k book at =
+        let v = mapped (λ (x : Desk T). log_of x.seat) new k book at in
+        let s = seat_is k v.0 v.1 in (
+          s.line,
+          s.there,
+          v.0.seat.outcomes.items,
+          slice_get-map (λ (x : Desk T). x.seat.outcomes.items) new k ∙ ap (option_map (λ (x : Desk T). x.seat.outcomes.items)) v.1,
+          subst (λ (b : List LogEntry). IsServed source sink may the_script k s.line b v.0.seat.outcomes.items) v.2
+              (record { answers = s.answers; spells = lines_at commands_at calls_at (plays_of k the_script) (length the_books) k (slice_get_within the_books k book at) ∙ s.are }),
+        )

@@ -1,5 +1,5 @@
 -- What a server has done where it has written its report.
-use Rattle.std.specs.Prelude.{◌≡◌, ◌≤◌, ℕ, Bool, true, List, [], map, reverse, slice_get, Some, Option}
+use Rattle.std.specs.Prelude.{◌≡◌, ◌≢◌, ◌≤◌, ◌++◌, ℕ, Bool, true, List, [], map, replicate, reverse, slice_get, Some, Option}
 use Rattle.std.specs.Io.KnownBytes.{Appends, Consumes}
 use Rattle.emu_io.specs.Ends.{SourceEnd, SinkEnd}
 use Rattle.ts_packet.specs.Cut.{cut}
@@ -12,15 +12,21 @@ use Rattle.dmx_calls.specs.declared.outcome.Outcome.{Outcome}
 use Rattle.dmx_calls.specs.Calls.{told_entry}
 use Rattle.dmx_calls.specs.declared.params.Input.TheVariants.{Frontend, Dvr}
 use Rattle.dmx_calls.specs.Log.{LogEntry, Sources}
+use Rattle.dmx_calls.specs.Response.{NoMemory}
+use Rattle.client_script.specs.Script.{Scripted, no_writes}
+use Rattle.client_core.specs.Commands.{commands_of}
+use Rattle.script_run.specs.WholeRun.{IsWholeRun}
 use Rattle.report_text.specs.Report.{report_of}
 use Rattle.adapter.specs.Callers.{Caller}
 use Rattle.workers.specs.declared.feeder_worker.FeederWorker.{FeederWorker}
 use Rattle.workers.specs.Feeding.{HasFedAll}
-use Rattle.workers.specs.Telling.{HaveCalled, TellWhatWasCalled}
+use Rattle.workers.specs.Left.{AreWorked}
+use Rattle.workers.specs.Telling.{HaveCalled, IsLoggedIn, TellWhatWasCalled}
 use Rattle.seats.specs.declared.run.Desk.{Desk}
 use Rattle.seats.specs.Holding.{HasLeft}
 use Rattle.seats.specs.Seated.{log_of}
-use Rattle.seats.specs.Turns.{HasAnsweredAll}
+use Rattle.seats.specs.Spelled.{commands_by}
+use Rattle.seats.specs.Turns.{HasAnsweredAll, spelled}
 use Rattle.serve_top.specs.declared.left.Books.{Books}
 use Rattle.serve_top.specs.declared.left.Left.{Left}
 
@@ -32,6 +38,26 @@ every node = true
 abbrev pub fed_by : (stream : List (List ℕ)) → Sources
 fed_by stream who Frontend = stream
 fed_by stream who Dvr = []
+
+-- A seat has served its line: it has made just these calls, and told these of its commands; and the commands of the script's
+-- client are those that the requests of the line spell, in their order.
+pub record IsServed {T : Type 0} (source : T → SourceEnd) (sink : T → SinkEnd) (may : ℕ → Bool) (script : Scripted)
+    (client : ℕ) (line : T) (book : List LogEntry) (told : List Outcome) : Type 0 where
+  pub answers : HasAnsweredAll source sink may line [] book [] told
+  pub spells : commands_of client script ≡ commands_by 0 (spelled (answers.turns ++ answers.last) answers.leaving)
+
+-- no call has found memory wanting
+abbrev pub FindMemory : List (List LogEntry) → Type 0
+FindMemory books = (e : LogEntry) → IsLoggedIn books e → e.response ≢ NoMemory
+
+-- These histories and outcomes are those of a run of the script over these packets; clients behind those that the script has did
+-- nothing, and nothing is told of them.
+pub record IsRunOf (script : Scripted) (may : ℕ → Bool) (stream : List (List ℕ)) (told : List (List Outcome))
+    (histories : List (List LogEntry)) : Type 0 where
+  pub ran : List (List Outcome)
+  pub idle : ℕ
+  pub all : told ≡ ran ++ replicate idle []
+  pub run : IsWholeRun script 64 may stream ran histories
 
 -- What was read of the stream, what was called by whom and why, and the report that tells just this.
 pub record HasReported {T : Type 0} (source : T → SourceEnd) (sink : T → SinkEnd) (lines : List T) (may : ℕ → Bool)
@@ -49,16 +75,21 @@ pub record HasReported {T : Type 0} (source : T → SourceEnd) (sink : T → Sin
   pub books : List (List LogEntry)
   pub called : HaveCalled every (fed_by (cut Of188 taken).packets) feeder feeding clients books
   -- these are the calls that the requests of its line ask for, one after another, each told in its reply, and then those by which
-  -- all nodes were closed
+  -- all nodes were closed; and the script has the commands that these spell, and no client of it writes
+  pub script : Scripted
+  pub writes : script.writes ≡ no_writes
+  pub told : List (List Outcome)
   pub asked : (c : ℕ) (book : List LogEntry) → slice_get books c ≡ Some book
-      → (line : T) × (slice_get (reverse lines) c ≡ Some line) × HasAnsweredAll source sink line [] book
+      → (line : T) × (slice_get (reverse lines) c ≡ Some line) × (became : List Outcome) × (slice_get told c ≡ Some became)
+      × IsServed source sink may script c line book became
   -- and behind them it owns no node
   pub left : (c : ℕ) (client : Caller) → slice_get clients c ≡ Some client → (node : ℕ) → node ≤ DEMUX_NODES
       → HasLeft node client
   -- the report tells these calls and no others, as the locks of the nodes have them
   pub histories : List (List LogEntry)
   pub tells : TellWhatWasCalled every (fed_by (cut Of188 taken).packets) feeder feeding clients books histories
-  pub told : List (List Outcome)
+  -- it is a run of the script, where no call has found memory wanting
+  pub run : FindMemory books → IsRunOf script may (cut Of188 taken).packets told histories
   pub written : Appends was now (report_of (head_of Of188 taken failed) told histories)
 
 -- ------ on the way
@@ -85,3 +116,9 @@ module _ {T : Type 0} where
     pub tells : (among : ℕ → Bool) (packets : Sources)
         → HaveCalled among packets feeder.feeder feeder.feeding.items (map (λ d. d.seat.client) desks) (map (λ d. log_of d.seat) desks)
         → TellWhatWasCalled among packets feeder.feeder feeder.feeding.items (map (λ d. d.seat.client) desks) (map (λ d. log_of d.seat) desks) left.histories
+    pub outcomes : map (λ those. those.items) left.outcomes.items ≡ map (λ d. d.seat.outcomes.items) desks
+    pub runs : (script : Scripted) (among : ℕ → Bool) (most : ℕ) (may : ℕ → Bool) (stream : List (List ℕ))
+        (told : List (List Outcome))
+        → AreWorked script among most may stream feeder.feeder feeder.feeding.items (map (λ d. d.seat.client) desks)
+        (map (λ d. log_of d.seat) desks) told
+        → IsWholeRun script most may stream told left.histories

@@ -57,7 +57,7 @@ pub fn sit_and_feed<
     requires begun { HasPassed (is_in nodes.now) 64 (C.may_give clock.now) (S.end source.old) (S.end source.old) feeder.old.puller feeder.old }
     requires desks { All (λ d. IsReady adapter.now d.seat) desks.old.items }
     ensures feeder { HasFedToEnd (is_in nodes.now) 64 (C.may_give clock.now) (S.end source.old) (S.end source.new) feeder.old feeder.new }
-    ensures desks { HaveServed T.Source.end T.Sink.end adapter.now desks.old.items desks.new.items }
+    ensures desks { HaveServed T.Source.end T.Sink.end (C.may_give clock.now) adapter.now desks.old.items desks.new.items }
 {
     let mut first = ||
         requires may { MayPass 64 (S.end source.now).faults adapter.now feeder.now }
@@ -66,7 +66,7 @@ pub fn sit_and_feed<
     { feeder.work(rt, adapter, source, BATCH, nodes, clock, gate) };
     let mut others = ||
         requires { IsSync R.row × IsSync C.row × IsSend T.row × All (λ d. IsReady adapter.now d.seat) desks.now.items }
-        ensures { HaveServed T.Source.end T.Sink.end adapter.entry.now desks.entry.now.items desks.exit.now.items }
+        ensures { HaveServed T.Source.end T.Sink.end (C.may_give clock.entry.now) adapter.entry.now desks.entry.now.items desks.exit.now.items }
     { sit_all(rt, alloc, adapter, clock, desks) };
     join_mut(rt, &mut others, &mut first);
 }

@@ -1,8 +1,7 @@
-use Rattle.std.proofs.Common.{◌≡◌, ◌≤◌, ◌+◌, ◌-◌, ◌++◌, ◌∙◌, ap, sym, length, take, drop, rules, arith, subst, length-append, length-drop}
-use Rattle.std.proofs.lemmas.List.{places, take-append-le, length-take-le}
-use Rattle.std.proofs.Math.Seq.{take-append-add}
+use Rattle.std.proofs.Common.{◌≡◌, ◌≤◌, ◌+◌, ◌-◌, ◌++◌, ◌∙◌, length, take, rules, arith}
+use Rattle.std.proofs.lemmas.List.{places}
 use Rattle.std.proofs.KnownBytes.{Consumes-trans}
-use borrow.Rule.Slice.PartMut.{put_mid, same_len_mid}
+use borrow.Rule.Slice.PartMut.{put_mid}
 use Rattle.seats.proofs.Lists.{take_put}
 use Rattle.seats.proofs.serve.fill.Goals as goal
 

@@ -1,7 +1,7 @@
 use Rattle.std.proofs.Common.{[], ◌∷◌, ◌++◌, List, map, sym, subst}
-use Rattle.dmx_calls.specs.Calls.{told_entry}
 use Rattle.dmx_calls.specs.Log.{LogEntry}
 use Rattle.adapter.specs.Callers.{Caller, AreAllCallers}
+use Rattle.workers.specs.Left.{AreWorked}
 use Rattle.workers.specs.Telling.{HaveCalled, TellWhatWasCalled}
 use Rattle.seats.specs.Seated.{log_of}
 use Rattle.serve_top.proofs.Books.{books_on_nodes}
@@ -23,4 +23,8 @@ returns g c =
           let told = c.in_ok-histories_of_run.ensures.tells among packets were in
           subst (λ (l : List Caller). TellWhatWasCalled among packets f.feeder f.feeding.items l (map (λ d. log_of d.seat) c.args.desks.items) c.in_ok-histories_of_run.field-0) k.clients
           (subst (λ (l : List (List LogEntry)). TellWhatWasCalled among packets f.feeder f.feeding.items c.in_ok-books.books.clients.items l c.in_ok-histories_of_run.field-0) k.logs told);
+      outcomes = k.outcomes;
+      runs = λ script among most may stream told worked.
+          let were = subst (λ (l : List (List LogEntry)). AreWorked script among most may stream f.feeder f.feeding.items c.in_ok-books.books.clients.items l told) (sym k.logs) (subst (λ (l : List Caller). AreWorked script among most may stream f.feeder f.feeding.items l (map (λ d. log_of d.seat) c.args.desks.items) told) (sym k.clients) worked) in
+          c.in_ok-histories_of_run.ensures.run script among most may stream told were;
     }

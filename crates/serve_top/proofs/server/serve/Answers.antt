@@ -1,4 +1,4 @@
-use Rattle.std.proofs.Common.{◌≡◌, arith, refl}
+use Rattle.std.proofs.Common.{rules, ◌≡◌, arith, refl}
 use Rattle.serve_top.specs.declared.server.NoReport.TheVariants.{Failed}
 use Rattle.serve_top.proofs.Reporting.{desks_ready, may_pass, has_passed, counted, is_done, are_all, are_on_nodes, is_reported}
 use Rattle.serve_top.proofs.server.serve.Goals as goal
@@ -30,28 +30,29 @@ returns-in-Some-clause-failed g c h = let same : c.no_report.result ≡ Failed =
 pub left_by-requires-clause-done : goal.left_by-requires-clause-done
 left_by-requires-clause-done g c =
     let a = c.in_ok-adapter in let e = c.sit_and_feed.ensures in
-    is_done g.T.Source.end g.T.Sink.end c.args.lines.items a.adapter _ a.feeder a.clients.items a.ensures.fresh a.ensures.all c.in_ok-desks.desks.items c.sit_and_feed.new.desks.items
+    is_done g.T.Source.end g.T.Sink.end (g.C.Clock.may_give c.args.clock.now) c.args.lines.items a.adapter _ a.feeder a.clients.items a.ensures.fresh a.ensures.all c.in_ok-desks.desks.items c.sit_and_feed.new.desks.items
     (c.in_ok-desks.ensures.ready a.adapter a.feeder (counted a.adapter _ a.feeder a.clients.items a.ensures.fresh)) e.desks c.in_ok-desks.ensures.lines
-    _ _ _ c.in_ok-feeder.feeder c.sit_and_feed.new.feeder c.in_ok-feeder.ensures _ refl e.feeder c.in_default.is
+    _ _ c.in_ok-feeder.feeder c.sit_and_feed.new.feeder c.in_ok-feeder.ensures _ refl e.feeder c.in_default.is
 
 pub left_by-requires-clause-all : goal.left_by-requires-clause-all
 left_by-requires-clause-all g c =
     let a = c.in_ok-adapter in let e = c.sit_and_feed.ensures in
-    are_all g.T.Source.end g.T.Sink.end c.args.lines.items a.adapter _ a.feeder a.clients.items a.ensures.fresh a.ensures.all c.in_ok-desks.desks.items c.sit_and_feed.new.desks.items
+    are_all g.T.Source.end g.T.Sink.end (g.C.Clock.may_give c.args.clock.now) c.args.lines.items a.adapter _ a.feeder a.clients.items a.ensures.fresh a.ensures.all c.in_ok-desks.desks.items c.sit_and_feed.new.desks.items
     (c.in_ok-desks.ensures.ready a.adapter a.feeder (counted a.adapter _ a.feeder a.clients.items a.ensures.fresh)) e.desks c.in_ok-desks.ensures.lines
-    _ _ _ c.in_ok-feeder.feeder c.sit_and_feed.new.feeder c.in_ok-feeder.ensures _ refl e.feeder c.in_default.is
+    _ _ c.in_ok-feeder.feeder c.sit_and_feed.new.feeder c.in_ok-feeder.ensures _ refl e.feeder c.in_default.is
 
 pub left_by-requires-clause-nodes : goal.left_by-requires-clause-nodes
 left_by-requires-clause-nodes g c =
     let a = c.in_ok-adapter in let e = c.sit_and_feed.ensures in
-    are_on_nodes g.T.Source.end g.T.Sink.end c.args.lines.items a.adapter _ a.feeder a.clients.items a.ensures.fresh a.ensures.all c.in_ok-desks.desks.items c.sit_and_feed.new.desks.items
+    are_on_nodes g.T.Source.end g.T.Sink.end (g.C.Clock.may_give c.args.clock.now) c.args.lines.items a.adapter _ a.feeder a.clients.items a.ensures.fresh a.ensures.all c.in_ok-desks.desks.items c.sit_and_feed.new.desks.items
     (c.in_ok-desks.ensures.ready a.adapter a.feeder (counted a.adapter _ a.feeder a.clients.items a.ensures.fresh)) e.desks c.in_ok-desks.ensures.lines
-    _ _ _ c.in_ok-feeder.feeder c.sit_and_feed.new.feeder c.in_ok-feeder.ensures _ refl e.feeder c.in_default.is
+    _ _ c.in_ok-feeder.feeder c.sit_and_feed.new.feeder c.in_ok-feeder.ensures _ refl e.feeder c.in_default.is
 
 pub returns-in-Ok-clause-reported : goal.returns-in-Ok-clause-reported
 returns-in-Ok-clause-reported g c =
     let a = c.in_ok-adapter in let e = c.sit_and_feed.ensures in
-    is_reported g.T.Source.end g.T.Sink.end c.args.lines.items a.adapter _ a.feeder a.clients.items a.ensures.fresh a.ensures.all c.in_ok-desks.desks.items c.sit_and_feed.new.desks.items
+    let same : c.deref.result.now ≡ c.in_ok-left.left.outcomes.items = search rules in
+    is_reported g.T.Source.end g.T.Sink.end (g.C.Clock.may_give c.args.clock.now) c.args.lines.items a.adapter _ a.feeder a.clients.items a.ensures.fresh a.ensures.all c.in_ok-desks.desks.items c.sit_and_feed.new.desks.items
     (c.in_ok-desks.ensures.ready a.adapter a.feeder (counted a.adapter _ a.feeder a.clients.items a.ensures.fresh)) e.desks c.in_ok-desks.ensures.lines
-    _ _ _ c.in_ok-feeder.feeder c.sit_and_feed.new.feeder c.in_ok-feeder.ensures _ refl e.feeder c.in_default.is
-    c.in_ok-left.left c.in_ok-left.ensures _ _ _ c.in-Ok.ensures.whole
+    _ _ c.in_ok-feeder.feeder c.sit_and_feed.new.feeder c.in_ok-feeder.ensures _ refl e.feeder c.in_default.is
+    c.in_ok-left.left c.in_ok-left.ensures _ _ c.deref.result.now same c.in-Ok.ensures.whole

@@ -1,10 +1,13 @@
-use Rattle.std.proofs.Common.{sym, subst, ap, Vec, Global}
+use Rattle.std.proofs.Common.{rules, sym, subst, ap, Vec, Global}
 use Rattle.dmx_calls.specs.declared.log.Entry.{Entry}
 use Rattle.adapter.specs.Callers.{Caller}
 use Rattle.seats.specs.Holding.{HasLeft}
 use Rattle.seats.specs.declared.made.Made.{Made}
 use Rattle.seats.proofs.Doing.{command_kept}
+use Rattle.dmx_calls.specs.declared.outcome.Outcome.{Outcome}
+use Rattle.dmx_calls.specs.declared.outcome.OutcomeKind.TheVariants.{Done as WasDone}
 use Rattle.seats.proofs.Going.{goes_trans}
+use Rattle.seats.proofs.Keeping.{keeps_so}
 use Rattle.seats.proofs.seat.Seat.command.Goals as goal
 
 pub returns-clause-fit : goal.returns-clause-fit
@@ -23,3 +26,9 @@ pub returns-clause-did : goal.returns-clause-did
 returns-clause-did g c =
     let r = c.keep.ensures.rest in
     command_kept c.args.node _ c.call-at.result c.args.self.now c.call-at.new.self c.keep.new.self c.call-at.ensures.did (ap (λ (v : Vec Made Global). v.items) r.3) (ap (λ (v : Vec Entry Global). v.items) r.2) r.1
+
+pub returns-clause-kept : goal.returns-clause-kept
+returns-clause-kept g c =
+    let r = c.keep.ensures.rest in
+    keeps_so WasDone c.args.self.now c.call-at.new.self c.keep.new.self c.count-from.result (search rules) (ap (λ (v : Vec Outcome Global). v.items) c.call-at.ensures.rest) c.keep.ensures.told
+    (ap (λ (v : Vec Entry Global). v.items) r.2) (ap (λ (v : Vec Made Global). v.items) r.3)

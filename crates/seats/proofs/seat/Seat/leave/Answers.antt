@@ -3,6 +3,9 @@ use mathlib.Core.Logic.{dite}
 use native.Mathlib.Decide.{ℕ_discrete}
 use Rattle.seats.specs.Holding.{HasLeft}
 use Rattle.seats.proofs.Doing.{closings_none, closings_more}
+use Rattle.serve_frames.specs.declared.ask.Ask.TheVariants.{Leave}
+use Rattle.seats.specs.Spelled.{commands_done_by}
+use Rattle.seats.proofs.Keeping.{keeps_none, keeps_more}
 use Rattle.seats.proofs.Going.{goes_self, goes_trans}
 use Rattle.seats.proofs.seat.Seat.leave.Goals as goal
 
@@ -15,6 +18,7 @@ nodes-init g c = record {
   told = search rules;
   room = search rules;
   did = closings_none c.args.self.now;
+  kept = keeps_none (commands_done_by Leave) c.args.self.now c.args.self.now refl refl refl;
   gone = λ i low. absurd (omega arith);
 }
 
@@ -29,6 +33,7 @@ nodes-preserved g c =
       told = let a = v.told in let b = e.told in omega (arith, a, b);
       room = search rules;
       did = closings_more c.nodes.node _ c.args.self.now c.nodes.self c.let_go.new.self refl v.did e.did;
+      kept = keeps_more c.nodes.node c.args.self.now c.nodes.self c.let_go.new.self v.did e.did v.kept e.kept;
       gone = λ i low. dite (ℕ_discrete i c.nodes.node)
           (λ here. subst (λ (n : ℕ). HasLeft n c.let_go.new.self.client) (sym here) e.left)
           (λ more. e.still i (v.gone i (omega arith)));

@@ -4,7 +4,10 @@ use Rattle.dmx_calls.specs.declared.log.Entry.{Entry}
 use Rattle.seats.specs.declared.made.Made.{Made}
 use Rattle.seats.specs.Answered.{is_busy}
 use Rattle.seats.proofs.Doing.{tried_none, tried_more, opened, full}
+use Rattle.dmx_calls.specs.declared.outcome.Outcome.{Outcome}
+use Rattle.dmx_calls.specs.declared.outcome.OutcomeKind.TheVariants.{Done as WasDone, Emfile as WasEmfile}
 use Rattle.seats.proofs.Going.{goes_self, goes_trans}
+use Rattle.seats.proofs.Keeping.{keeps_opened, keeps_so, grown_free, grown_full}
 use Rattle.seats.proofs.seat.Seat.open_demux.Goals as goal
 
 pub nodes-init : goal.nodes-init
@@ -49,3 +52,19 @@ pub returns-clause-did : goal.returns-clause-did
 returns-clause-did g c =
     let r = c.keep-2.ensures.rest in
     full c.nodes.node c.args.self.now c.nodes.self c.keep-2.new.self _ _ c.nodes.invariant.tried (search rules) (ap (λ (v : Vec Made Global). v.items) r.3) (ap (λ (v : Vec Entry Global). v.items) r.2) r.1 c.refused.ensures
+
+pub returns-in-nodes-clause-kept : goal.returns-in-nodes-clause-kept
+returns-in-nodes-clause-kept g c =
+    let r = c.keep.ensures.rest in
+    let made = ap (λ (v : Vec Made Global). v.items) r.3 in let log = ap (λ (v : Vec Entry Global). v.items) r.2 in
+    keeps_opened WasDone c.args.self.now c.keep.new.self
+    (grown_free c.nodes.node c.call-at.result c.args.self.now c.nodes.self c.call-at.new.self c.keep.new.self c.nodes.invariant.tried c.call-at.ensures.did c.index.result.now c.index.ensures
+    (sym c.is_busy.ensures ∙ c.if-is_busy.false) made log r.1)
+    (keeps_so WasDone c.args.self.now c.call-at.new.self c.keep.new.self c.count-from.result (search rules) (ap (λ (v : Vec Outcome Global). v.items) (c.call-at.ensures.rest ∙ c.nodes.invariant.told)) c.keep.ensures.told log made)
+
+pub returns-clause-kept : goal.returns-clause-kept
+returns-clause-kept g c =
+    let r = c.keep-2.ensures.rest in
+    let made = ap (λ (v : Vec Made Global). v.items) r.3 in let log = ap (λ (v : Vec Entry Global). v.items) r.2 in
+    keeps_opened WasEmfile c.args.self.now c.keep-2.new.self (grown_full c.nodes.node c.args.self.now c.nodes.self c.keep-2.new.self c.nodes.invariant.tried (search rules) made log r.1)
+    (keeps_so WasEmfile c.args.self.now c.nodes.self c.keep-2.new.self c.count-from.result (search rules) (ap (λ (v : Vec Outcome Global). v.items) c.nodes.invariant.told) c.keep-2.ensures.told log made)

@@ -1,0 +1,37 @@
+-- The requests of a line are the commands of a client of a script.
+use Rattle.std.specs.Prelude.{◌≡◌, ◌+◌, ℕ, Bool, List, ◌++◌, take, slice_get, Some, None, All}
+use Rattle.dmx_calls.specs.declared.limits.TheConstants.{DEMUX_NODES}
+use Rattle.dmx_calls.specs.declared.outcome.Outcome.{Outcome}
+use Rattle.dmx_calls.specs.Log.{LogEntry}
+use Rattle.client_script.specs.Script.{Scripted}
+use Rattle.client_core.specs.Commands.{commands_of, plays_of}
+use Rattle.client_core.specs.Events.{next_event, waits_on}
+use Rattle.client_core.specs.Outcomes.{outcomes}
+use Rattle.script_run.specs.IsRun.{IsEvent, replies}
+use Rattle.script_run.specs.WholeRun.{IsGiven}
+use Rattle.seats.specs.Answered.{AreClosings}
+use Rattle.seats.specs.Seated.{AreOnNodes}
+use Rattle.seats.specs.Spelled.{commands_by, outcomes_by}
+use Rattle.seats.specs.Turns.{Turn, IsTurn, calls_of, spelled}
+
+-- These calls are those that the commands of a client of a script ask for, one after another, by the replies to the calls before;
+-- behind them its commands are through, and ended so.
+pub record IsPlayed (may : ℕ → Bool) (client : ℕ) (script : Scripted) (calls : List LogEntry) (told : List Outcome) : Type 0 where
+  pub events : (i : ℕ) (e : LogEntry) → slice_get calls i ≡ Some e
+      → IsEvent (plays_of client script) (next_event client script (replies (take i calls))) e
+  pub ends : next_event client script (replies calls) ≡ None
+  pub outcomes : told ≡ outcomes client script (replies calls)
+  -- the moments are those of the clock
+  pub moments : (i : ℕ) (e : LogEntry) → slice_get calls i ≡ Some e → IsGiven may e.act
+  -- no call is a read that is repeated
+  pub once : (i : ℕ) (e : LogEntry) → slice_get calls (i + 1) ≡ Some e
+      → waits_on client script (replies (take (i + 1) calls)) ≡ None
+
+-- Where a client's commands are those that the turns of a line spell, with the close of each node behind them, the calls of the
+-- turns, with those behind them, are the calls of the commands.
+abbrev pub LinesArePlayed : Type 0
+LinesArePlayed =
+    (may : ℕ → Bool) (turns : List Turn) (leaving : List LogEntry) → All (IsTurn may) turns
+    → AreClosings (DEMUX_NODES + 1) leaving → AreOnNodes (calls_of turns ++ leaving)
+    → (client : ℕ) (script : Scripted) → commands_of client script ≡ commands_by 0 (spelled turns leaving)
+    → IsPlayed may client script (calls_of turns ++ leaving) (outcomes_by 0 0 (spelled turns leaving))
