@@ -353,7 +353,7 @@ class Demux(Node):
                 return "EBUSY"
         return None
 
-    # RULES: ecae27d0 Calls
+    # RULES: 22042f7f Calls
     def call(self, who, act, moment):
         name, args = act[0], act[1:]
         if name == "open":

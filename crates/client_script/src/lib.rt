@@ -3,7 +3,8 @@
 //! A script is lines of words, up to the line `stream`; behind that line the stream of the session begins. Lines say how
 //! many packets pass (`feed`), how much time goes by (`tick`), and what the clients `c0` to `c7` ask of the demux nodes
 //! `n0` to `n31`, of their slots `h0` to `h31` and of the dvr node. A request can also be given as a program makes it, by its
-//! number and the bytes of its structure (`ioctl`), and a client can write bytes to the dvr device (`write`). Empty lines and comments (`#`) are passed over.
+//! number and the bytes of its structure (`ioctl`), and a client can write bytes to the dvr device (`write`). Empty lines and
+//! comments (`#`) are passed over.
 //!
 //! What a contract sees: a `Script` as what it says, a `Scripted`: the list of its lines, each a `Line` of the code, and for each
 //! client the bytes of its writes, in the order of their lines, by whose numbers the lines name them; and a fault as its line
@@ -19,13 +20,13 @@
 //! What is proved: `Script::read` answers just the lines or the fault that `grammar` gives, unless memory is refused. A script
 //! has at most 1,048,576 lines, each with its client, its target, its numbers and its filter's bytes in the ranges of the
 //! grammar, the lines of a client name its writes in their order, each once (`IsScript`, which `Script::lines` tells), and a write
-//! has 1 to 12,032 bytes. `Script::written` gives the bytes of a
-//! client's write, and `Script::writes` how many there are. `Script::clients` is 1 plus the highest client that a line names, or
-//! 0. `print` appends the spelling of a line, a write with its bytes, and where memory is refused the bytes are as they were. A `ScriptPart` is the bytes
-//! that were added to it, and its `end` tells where the first whole line `stream` ends. `want_of` and `verb_of` are what a
-//! request asks, and `request_number` and `argument_named` what its words spell. A want's, a verb's and a fault's `name`
-//! is its text in `specs/Spelling.antt` and `specs/FaultNames.antt`. What the grammar gives for lines and scripts worked out by
-//! hand are the clauses of `examples`, computed by the check.
+//! has 1 to 12,032 bytes. `Script::written` gives the bytes of a client's write, and `Script::writes` how many there are.
+//! `Script::clients` is 1 plus the highest client that a line names, or 0. `print` appends the spelling of a line, a write with
+//! its bytes, and where memory is refused the bytes are as they were. A `ScriptPart` is the bytes that were added to it, and its
+//! `end` tells where the first whole line `stream` ends. `want_of` and `verb_of` are what a request asks, and `request_number`,
+//! `argument_named` and `written_named` what words spell. A want's, a verb's and a fault's `name` is its text in
+//! `specs/Spelling.antt` and `specs/FaultNames.antt`. What the grammar gives for lines and scripts worked out by hand are the
+//! clauses of `examples`, computed by the check.
 //!
 //! Laws about the definitions alone: the lines of a client name its writes in their order, each once
 //! (`each_write_has_its_line`); what is printed is read again (`printed_lines_are_read_again`); the script part has

@@ -1,7 +1,7 @@
 -- The passes of a client: each is of a write whose poll was Ready, and passes the nodes one after another.
 use Rattle.std.proofs.Common.{◌≡◌, refl, sym, ap, ◌∙◌, ℕ, zero, suc, ◌+◌, ◌<◌, ◌≤◌, Bool, true, false, nat_eq, List, [], ◌∷◌, ◌++◌, append_assoc, append-nil, Option, Some, None, length, length-append, map, filter, take, min, slice_get, arith}
-use Rattle.std.specs.Prelude.{nat_lt, if◌then◌else◌, slice_index_or, option_map}
-use Rattle.std.specs.List.{flat_map}
+use Rattle.std.specs.Prelude.{nat_lt, if◌then◌else◌, slice_index_or, option_map, filter_map, is_some, unwrap_or}
+use Rattle.std.specs.List.{flat_map, cons_option}
 use Rattle.std.proofs.lemmas.Bool.Decides.{nat_tests}
 use Rattle.std.proofs.lemmas.Grind.{flat_map-append}
 use Rattle.std.proofs.lemmas.List.{map-append, take_all}
@@ -12,9 +12,14 @@ use Rattle.lemmas.proofs.Options.{same_some}
 use Rattle.ts_batch.specs.Batch.{Packets}
 use Rattle.dmx_calls.specs.declared.limits.TheConstants.{DEMUX_NODES}
 use Rattle.dmx_calls.specs.declared.reply.Tap.TheVariants.{Keep as KeepTap, Attach as AttachTap, Detach as DetachTap}
-use Rattle.dmx_calls.specs.Log.{LogEntry, act_of}
+use Rattle.dmx_calls.specs.Log.{LogEntry, act_of, filled_act}
+use Rattle.dmx_calls.proofs.Telling.{fills}
 use Rattle.dmx_calls.specs.Response.{Response, Done, Busy, Ready, TapChange}
 use Rattle.client_script.specs.Script.{Scripted}
+use Rattle.client_script.specs.declared.line.Line.{Line}
+use Rattle.client_script.specs.declared.line.Line.TheVariants.{Feed, Tick, Command as CommandLine}
+use Rattle.client_script.specs.declared.line.Verb.{Verb}
+use Rattle.client_script.specs.declared.line.Verb.TheVariants as verb
 use Rattle.client_script.specs.declared.line.Target.{Target}
 use Rattle.client_script.specs.declared.line.Target.TheVariants.{Node, Slot, Dvr}
 use Rattle.client_script.specs.declared.line.Want.{Want}
@@ -27,17 +32,19 @@ use Rattle.client_core.specs.declared.event.Request.{Request}
 use Rattle.client_core.specs.declared.event.Request.TheVariants.{Own, Attach, Detach, Pass}
 use Rattle.client_core.specs.declared.task.Ending.{Ending}
 use Rattle.client_core.specs.declared.task.Ending.TheVariants.{Made, Bound, AllBusy}
-use Rattle.client_core.specs.Deeds.{Batches, batch_at}
-use Rattle.client_core.specs.Commands.{Slots, Doing, stands, through, once, told, called, opened, passed, written, read_until, done_on, done_at, done_by_slot, done, ends_wait, ends_drain, call_of, commands_of, pass_of, plays_of}
+use Rattle.client_core.specs.Deeds.{Batches, batch_at, deed_of}
+use Rattle.client_core.specs.Commands.{Slots, Doing, stands, through, once, told, called, opened, passed, written, read_until, done_on, done_at, done_by_slot, done, ends_wait, ends_drain, call_of, commands_among, commands_in, commands_of, pass_of, plays_of}
 use Rattle.client_core.specs.Events.{Standing, slots_after, progress_from, progress, no_slots, next_event}
 use Rattle.client_core.specs.Repeats.{repeats_in}
 use Rattle.client_core.proofs.GoesOn.{progress_of}
 use Rattle.client_core.proofs.More.{Onward, IsFirst, done_on_more, done_none, some_of}
-use Rattle.script_run.specs.IsRun.{IsEvent, replies}
+use Rattle.script_run.specs.IsRun.{IsEvent, replies, sources}
 use Rattle.client_core.specs.Passes.{played_at, played_from, played_in, played_on, played_writes}
-use Rattle.script_run.specs.Passing.{Stretch, WritesPass, dvr_passes, passes_on, stretch_of}
+use Rattle.script_run.specs.Passing.{WritesPass, from_the_dvr}
 use Rattle.script_run.proofs.Counting.{sum_of, weigh_append}
+use Rattle.script_run.proofs.Events.{from_client}
 use Rattle.script_run.proofs.Lists.{take_next}
+use Rattle.script_run.proofs.OnNodes.{calls_on}
 use Rattle.script_run.proofs.Repeating.{Asked, asked_by}
 
 -- ------ the writes whose batch has passed a node
@@ -369,27 +376,109 @@ at_end node client script rs lt none = all_through node no_slots 0 (commands_of 
   go None is = refl
   go (Some s) is = absurd (none-some s.event (sym is))
 
--- ------ the passes that stand in a log
+-- ------ the batches that are played
 
--- the stretch of a write's batch
-abbrev stretch_at : Batches → ℕ → Stretch
-stretch_at batches write = stretch_of (batch_at batches write)
+-- where a write is to pass a batch, it is among these
+abbrev IsDeed : Batches → Deed → Type 0
+IsDeed batches (Write write true) = is_some (batch_at batches write) ≡ true
+IsDeed batches _ = Unit {0}
 
-pass_told : (o : Option Packets) (moment : ℕ) → dvr_passes (act_of (pass_of o moment)) ≡ stretch_of o ∷ []
-pass_told None moment = refl
-pass_told (Some batch) moment = refl
+abbrev AreDeeds : Batches → List Command → Type 0
+AreDeeds batches [] = Unit {0}
+AreDeeds batches (c ∷ cs) = IsDeed batches c.deed × AreDeeds batches cs
 
-none_either : (b : Bool) (none : List Stretch) → none ≡ [] → (if b then none else []) ≡ []
-none_either true none is = is
-none_either false none is = refl
+abbrev AreBatches : Batches → List ℕ → Type 0
+AreBatches batches [] = Unit {0}
+AreBatches batches (write ∷ writes) = (is_some (batch_at batches write) ≡ true) × AreBatches batches writes
 
-event_told : (batches : Batches) (node at moment : ℕ) (w : Request) → (if nat_eq at node then dvr_passes (act_of (call_of batches w moment)) else []) ≡ map (stretch_at batches) (asked_to node at w)
-event_told batches node at moment (Pass write) = go (nat_eq at node) where
-  go : (b : Bool) → (if b then dvr_passes (act_of (pass_of (batch_at batches write) moment)) else []) ≡ map (stretch_at batches) (if b then write ∷ [] else [])
-  go true = pass_told (batch_at batches write) moment
-  go false = refl
-event_told batches node at moment (Own Open) = none_either (nat_eq at node) [] refl
-event_told batches node at moment _ = none_either (nat_eq at node) [] refl
+module _ (batches : Batches) where
+  verb_deed : (v : Verb) → IsDeed batches (deed_of batches v)
+  verb_deed (verb.Once want) = tt
+  verb_deed (verb.ReadWait count) = tt
+  verb_deed (verb.Drain count) = tt
+  verb_deed (verb.GetStc num) = tt
+  verb_deed (verb.Write write) = go (is_some (batch_at batches write)) refl where
+    go : (b : Bool) → is_some (batch_at batches write) ≡ b → IsDeed batches (Write write b)
+    go true yea = yea
+    go false nay = tt
+
+  line_deeds : (client : ℕ) (l : Line) (cs : List Command) → AreDeeds batches cs → AreDeeds batches (commands_in client batches l ++ cs)
+  line_deeds client (CommandLine line who target v) cs are = go (nat_eq who client) where
+    go : (b : Bool) → AreDeeds batches ((if b then record { line = line; target = target; deed = deed_of batches v } ∷ [] else []) ++ cs)
+    go true = (verb_deed v, are)
+    go false = are
+  line_deeds client (Feed n) cs are = are
+  line_deeds client (Tick n) cs are = are
+
+  all_deeds : (client : ℕ) (lines : List Line) → AreDeeds batches (commands_among client batches lines)
+  all_deeds client [] = tt
+  all_deeds client (l ∷ lines) = line_deeds client l (commands_among client batches lines) (all_deeds client lines)
+
+  on_batches : (v : Deed) (rs : List Response) → IsDeed batches v → AreBatches batches (played_on v rs)
+  on_batches (Write write true) (Ready a b c d ∷ rs) is = (is, tt)
+  on_batches (Write write true) [] is = tt
+  on_batches (Write write true) (_ ∷ rs) is = tt
+  on_batches (Write write false) rs is = tt
+  on_batches (Once w) rs is = tt
+  on_batches (ReadWait count) rs is = tt
+  on_batches (Drain count) rs is = tt
+  on_batches (GetStc num) rs is = tt
+
+  at_batches : (o : Option ℕ) (v : Deed) (rs : List Response) → IsDeed batches v → AreBatches batches (played_at o v rs)
+  at_batches None v rs is = tt
+  at_batches (Some on) v rs is = on_batches v rs is
+
+  in_batches : (slots : Slots) (t : Target) (v : Deed) (rs : List Response) → IsDeed batches v → AreBatches batches (played_in slots t v rs)
+  in_batches slots (Node on) v rs is = on_batches v rs is
+  in_batches slots (Slot slot) v rs is = at_batches (slice_index_or slots slot None) v rs is
+  in_batches slots Dvr v rs is = on_batches v rs is
+
+  both_batches : (xs ys : List ℕ) → AreBatches batches xs → AreBatches batches ys → AreBatches batches (xs ++ ys)
+  both_batches [] ys are also = also
+  both_batches (x ∷ xs) ys are also = (are.0, both_batches xs ys are.1 also)
+
+  from_batches : (slots : Slots) (step : ℕ) (cs : List Command) (rs : List Response) → AreDeeds batches cs → AreBatches batches (played_from slots step cs rs)
+  from_batches slots step [] rs are = tt
+  from_batches slots step (c ∷ cs) rs are = go (λ ending next left. from_batches (slots_after ending slots) next cs left are.1) (done slots c.target c.deed step rs) where
+    go : ((ending : Ending) (next : ℕ) (left : List Response) → AreBatches batches (played_from (slots_after ending slots) next cs left))
+        → (d : Doing) → AreBatches batches (played_in slots c.target c.deed rs ++ (elim d [ stands event ↦ [] | through ending next left ↦ played_from (slots_after ending slots) next cs left ]))
+    go deeper (stands e) = both_batches (played_in slots c.target c.deed rs) [] (in_batches slots c.target c.deed rs are.0) tt
+    go deeper (through ending next left) =
+        both_batches (played_in slots c.target c.deed rs) (played_from (slots_after ending slots) next cs left) (in_batches slots c.target c.deed rs are.0) (deeper ending next left)
+
+  -- the batch of a write, where it has one
+  abbrev batch_of : ℕ → Packets
+  batch_of write = unwrap_or (batch_at batches write) (record { first = 0; packets = [] })
+
+  all_there : (writes : List ℕ) → AreBatches batches writes → map batch_of writes ≡ filter_map (batch_at batches) writes
+  all_there [] are = refl
+  all_there (write ∷ writes) are = go (batch_at batches write) are.0 (all_there writes are.1) where
+    go : (o : Option Packets) → is_some o ≡ true → map batch_of writes ≡ filter_map (batch_at batches) writes
+        → unwrap_or o (record { first = 0; packets = [] }) ∷ map batch_of writes ≡ cons_option o (filter_map (batch_at batches) writes)
+    go (Some b) is deeper = ap (λ l. b ∷ l) deeper
+    go None is deeper = absurd (cc is)
+
+  pass_brings : (o : Option Packets) (moment : ℕ) → from_the_dvr (pass_of o moment) ≡ unwrap_or o (record { first = 0; packets = [] }) ∷ []
+  pass_brings None moment = refl
+  pass_brings (Some batch) moment = refl
+
+  none_either : (b : Bool) (none : List Packets) → none ≡ [] → (if b then none else []) ≡ []
+  none_either true none is = is
+  none_either false none is = refl
+
+  event_brings : (node at moment : ℕ) (w : Request) → (if nat_eq at node then from_the_dvr (call_of batches w moment) else []) ≡ map batch_of (asked_to node at w)
+  event_brings node at moment (Pass write) = go (nat_eq at node) where
+    go : (b : Bool) → (if b then from_the_dvr (pass_of (batch_at batches write) moment) else []) ≡ map batch_of (if b then write ∷ [] else [])
+    go true = pass_brings (batch_at batches write) moment
+    go false = refl
+  event_brings node at moment (Own Open) = none_either (nat_eq at node) [] refl
+  event_brings node at moment _ = none_either (nat_eq at node) [] refl
+
+played_batches : (client : ℕ) (script : Scripted) (rs : List Response) → AreBatches (plays_of client script) (played_writes client script rs)
+unfolding played_writes
+played_batches client script rs = from_batches (plays_of client script) no_slots 0 (commands_of client script) rs (all_deeds (plays_of client script) client script.lines)
+
+-- ------ along a log
 
 module _ (script : Scripted) (client : ℕ) (log : List LogEntry) (events : (i : ℕ) (e : LogEntry) → slice_get log i ≡ Some e → IsEvent (plays_of client script) (next_event client script (replies (take i log))) e) (node : ℕ) where
   abbrev batches : Batches
@@ -404,35 +493,48 @@ module _ (script : Scripted) (client : ℕ) (log : List LogEntry) (events : (i :
       let next : replies (take (suc n) log) ≡ replies (take n log) ++ e.response ∷ [] = ap replies (take_next log n e is) ∙ map-append (λ (x : LogEntry). x.response) (take n log) (e ∷ []) in
       ap (λ rs. passed_of node client script rs) next ∙ one_reply_on node client script (replies (take n log)) e.response a.event a.is
 
-  -- one entry
-  one_on : (e : LogEntry) → passes_on node (e ∷ []) ≡ (if nat_eq e.node node then dvr_passes e.act else [])
-  one_on e = go (nat_eq e.node node) where
-    go : (b : Bool) → flat_map (λ x. dvr_passes x.act) (if b then e ∷ [] else []) ≡ (if b then dvr_passes e.act else [])
-    go true = append-nil (dvr_passes e.act)
-    go false = refl
+  -- The batches that the client brings the node.
+  module _ (stream : List (List ℕ)) (own : (i : ℕ) (e : LogEntry) → slice_get log i ≡ Some e → e.who ≡ client + 1) where
+    abbrev brought : LogEntry → List Packets
+    brought e = from_the_dvr (filled_act (sources script stream e.who) e.act)
 
-  passes_append : (xs ys : List LogEntry) → passes_on node (xs ++ ys) ≡ passes_on node xs ++ passes_on node ys
-  passes_append xs ys =
-      ap (flat_map (λ e. dvr_passes e.act)) (filter-append (λ (e : LogEntry). nat_eq e.node node) xs ys)
-      ∙ flat_map-append (λ (e : LogEntry). dvr_passes e.act) (filter (λ e. nat_eq e.node node) xs) (filter (λ e. nat_eq e.node node) ys)
+    abbrev brought_on : List LogEntry → List Packets
+    brought_on es = flat_map brought (filter (λ e. nat_eq e.node node) es)
 
-  told_to : (n : ℕ) → n ≤ length log → passes_on node (take n log) ≡ map (stretch_at batches) (passed_after n)
-  told_to zero le = sym (ap (map (stretch_at batches)) (passed_none node no_slots 0 (commands_of client script)))
-  told_to (suc n) le =
-      let x = at_place log n (omega (arith, le)) in
-      let e : LogEntry = x.0 in
-      let a : Asked batches (next_event client script (replies (take n log))) e = asked_by batches (next_event client script (replies (take n log))) e (events n e x.1) in
-      ap (passes_on node) (take_next log n e x.1) ∙ passes_append (take n log) (e ∷ [])
-      ∙ ap (λ l. l ++ passes_on node (e ∷ [])) (told_to n (omega (arith, le)))
-      ∙ ap (λ l. map (stretch_at batches) (passed_after n) ++ l)
-      (one_on e ∙ ap (λ k. if nat_eq k node then dvr_passes e.act else []) a.node ∙ ap (λ c. if nat_eq a.event.node node then dvr_passes c else []) a.act
-      ∙ event_told batches node a.event.node a.moment a.event.want)
-      ∙ sym (map-append (stretch_at batches) (passed_after n) (passes_by node a.event)) ∙ sym (ap (map (stretch_at batches)) (one_call_on n e x.1 a))
+    one_on : (e : LogEntry) → brought_on (e ∷ []) ≡ (if nat_eq e.node node then brought e else [])
+    one_on e = go (nat_eq e.node node) where
+      go : (b : Bool) → flat_map brought (if b then e ∷ [] else []) ≡ (if b then brought e else [])
+      go true = append-nil (brought e)
+      go false = refl
 
-  pub passes_told : passes_on node log ≡ map (stretch_at batches) (passed_of node client script (replies log))
-  passes_told =
-      let all : take (length log) log ≡ log = take_all (length log) log (omega arith) in
-      ap (passes_on node) (sym all) ∙ told_to (length log) (omega arith) ∙ ap (λ l. map (stretch_at batches) (passed_of node client script (replies l))) all
+    both_on : (xs ys : List LogEntry) → brought_on (xs ++ ys) ≡ brought_on xs ++ brought_on ys
+    both_on xs ys =
+        ap (flat_map brought) (filter-append (λ (e : LogEntry). nat_eq e.node node) xs ys)
+        ∙ flat_map-append brought (filter (λ e. nat_eq e.node node) xs) (filter (λ e. nat_eq e.node node) ys)
+
+    asks_for : (e : LogEntry) (w : Request) (moment : ℕ) → e.who ≡ client + 1 → e.act ≡ act_of (call_of batches w moment) → brought e ≡ from_the_dvr (call_of batches w moment)
+    asks_for e w moment who act =
+        ap (λ k. from_the_dvr (filled_act (sources script stream k) e.act)) who ∙ ap (λ c. from_the_dvr (filled_act (sources script stream (client + 1)) c)) act
+        ∙ ap from_the_dvr (fills (sources script stream (client + 1)) (call_of batches w moment) (from_client script stream client w moment))
+
+    told_to : (n : ℕ) → n ≤ length log → brought_on (take n log) ≡ map (batch_of batches) (passed_after n)
+    told_to zero le = sym (ap (map (batch_of batches)) (passed_none node no_slots 0 (commands_of client script)))
+    told_to (suc n) le =
+        let x = at_place log n (omega (arith, le)) in
+        let e : LogEntry = x.0 in
+        let a : Asked batches (next_event client script (replies (take n log))) e = asked_by batches (next_event client script (replies (take n log))) e (events n e x.1) in
+        ap brought_on (take_next log n e x.1) ∙ both_on (take n log) (e ∷ [])
+        ∙ ap (λ l. l ++ brought_on (e ∷ [])) (told_to n (omega (arith, le)))
+        ∙ ap (λ l. map (batch_of batches) (passed_after n) ++ l)
+        (one_on e ∙ ap (λ k. if nat_eq k node then brought e else []) a.node
+        ∙ ap (λ l. if nat_eq a.event.node node then l else []) (asks_for e a.event.want a.moment (own n e x.1) a.act)
+        ∙ event_brings batches node a.event.node a.moment a.event.want)
+        ∙ sym (map-append (batch_of batches) (passed_after n) (passes_by node a.event)) ∙ sym (ap (map (batch_of batches)) (one_call_on n e x.1 a))
+
+    pub all_told : brought_on log ≡ map (batch_of batches) (passed_of node client script (replies log))
+    all_told =
+        let all : take (length log) log ≡ log = take_all (length log) log (omega arith) in
+        ap brought_on (sym all) ∙ told_to (length log) (omega arith) ∙ ap (λ l. map (batch_of batches) (passed_of node client script (replies l))) all
 
   -- What the entries are worth is no more than what the writes are that have passed the node.
   worth_to : (value : LogEntry → ℕ) (worth : ℕ → ℕ) → ((e : LogEntry) (w : Event) (moment : ℕ) → e.node ≡ w.node → e.act ≡ act_of (call_of batches w.want moment) → value e ≤ sum_of worth (passes_by node w))
@@ -500,6 +602,10 @@ module _ (node : ℕ) (worth : ℕ → ℕ) where
 -- ------ the law
 
 pub writes_pass : WritesPass
-writes_pass script client hs d node lt =
-    passes_told script client d.made (λ i e is. (d.steps i e is).3) node
-    ∙ ap (map (stretch_at (plays_of client script))) (at_end node client script (replies d.made) lt d.ends)
+writes_pass script most stream hs run client is node h lt at =
+    let d = run.clients_done client is in
+    ap (flat_map (λ e. from_the_dvr (filled_act (sources script stream e.who) e.act)))
+    (sym (calls_on script client hs (λ n place g e there here. let p = run.places n place g e there here in (p.0, p.1)) d node h at))
+    ∙ all_told script client d.made (λ i e here. (d.steps i e here).3) node stream (λ i e here. (d.steps i e here).1)
+    ∙ ap (map (batch_of (plays_of client script))) (at_end node client script (replies d.made) lt d.ends)
+    ∙ all_there (plays_of client script) (played_writes client script (replies d.made)) (played_batches client script (replies d.made))

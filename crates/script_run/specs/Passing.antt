@@ -1,42 +1,33 @@
 -- What clients play through the demux nodes in a run: the batches of those of their writes whose poll found the dvr node to be
 -- their own (this project's own).
-use Rattle.std.specs.Prelude.{ℕ, ◌≡◌, ◌<◌, List, [], ◌∷◌, length, map, filter, Option, Some, None, nat_eq}
+use Rattle.std.specs.Prelude.{ℕ, ◌≡◌, ◌<◌, ◌+◌, List, [], ◌∷◌, filter, filter_map, nat_eq, slice_get, Some}
 use Rattle.std.specs.List.{flat_map}
 use Rattle.ts_batch.specs.Batch.{Packets}
 use Rattle.dmx_calls.specs.declared.limits.TheConstants.{DEMUX_NODES}
-use Rattle.dmx_calls.specs.declared.params.Input.TheVariants.{Dvr as FromDvr}
-use Rattle.dmx_calls.specs.declared.log.Act.{Act}
-use Rattle.dmx_calls.specs.declared.log.Act.TheVariants.{Pass as PassAct}
-use Rattle.dmx_calls.specs.Log.{LogEntry}
-use Rattle.client_script.specs.Script.{Scripted}
+use Rattle.dmx_calls.specs.declared.params.Input.TheVariants.{Dvr}
+use Rattle.dmx_calls.specs.Invocation.{Invocation, Pass}
+use Rattle.dmx_calls.specs.Log.{LogEntry, Sources, filled_act}
+use Rattle.client_script.specs.Script.{Scripted, clients_in}
 use Rattle.client_core.specs.Deeds.{batch_at}
 use Rattle.client_core.specs.Commands.{plays_of}
 use Rattle.client_core.specs.Passes.{played_writes}
-use Rattle.script_run.specs.IsRun.{HasDone, replies}
+use Rattle.script_run.specs.IsRun.{IsRun, replies, sources}
 
--- the stretch that a batch is among the packets that its client plays: its first, and how many it has
-pub record Stretch : Type 0 where
-  pub first : ℕ
-  pub count : ℕ
+-- the batch that passes by a call, if it comes from the dvr
+abbrev pub from_the_dvr : Invocation → List Packets
+from_the_dvr (Pass Dvr first packets now) = record { first = first; packets = packets } ∷ []
+from_the_dvr _ = []
 
-abbrev pub stretch_of : Option Packets → Stretch
-stretch_of None = record { first = 0; count = 0 }
-stretch_of (Some batch) = record { first = batch.first; count = length batch.packets }
+-- the batches that a caller brings a node from the dvr, in the order of the node's history, where passes bring some of these
+-- packets
+abbrev pub batches_by : (who : ℕ) → Sources → List LogEntry → List Packets
+batches_by who packets h = flat_map (λ e. from_the_dvr (filled_act (packets e.who) e.act)) (filter (λ e. nat_eq e.who who) h)
 
--- a pass of input DVR
-abbrev pub dvr_passes : Act → List Stretch
-dvr_passes (PassAct FromDvr first count now) = record { first = first; count = count } ∷ []
-dvr_passes _ = []
-
--- those on a node among these calls, in their order
-abbrev pub passes_on : (node : ℕ) → List LogEntry → List Stretch
-passes_on node made = flat_map (λ e. dvr_passes e.act) (filter (λ e. nat_eq e.node node) made)
-
--- Of a client's calls in a run the passes of input DVR on each demux node are the batches of those of its writes whose poll
--- was answered Ready, each once and in the order of the writes.
+-- In a run what passes a demux node by the calls of a client are the batches of those of its writes whose poll was answered
+-- Ready, each once and in the order of the writes.
 abbrev pub WritesPass : Type 0
 WritesPass =
-    (script : Scripted) (client : ℕ) (hs : List (List LogEntry)) (d : HasDone script client hs) (node : ℕ)
-    → node < DEMUX_NODES
-    → passes_on node d.made
-    ≡ map (λ write. stretch_of (batch_at (plays_of client script) write)) (played_writes client script (replies d.made))
+    (script : Scripted) (most : ℕ) (stream : List (List ℕ)) (hs : List (List LogEntry)) (run : IsRun script most stream hs)
+    (client : ℕ) (is : client < clients_in script) (node : ℕ) (h : List LogEntry) → node < DEMUX_NODES → slice_get hs node ≡ Some h
+    → batches_by (client + 1) (sources script stream) h
+    ≡ filter_map (batch_at (plays_of client script)) (played_writes client script (replies (run.clients_done client is).made))

@@ -19,8 +19,8 @@ pub fn runs_are_accounted()
     ensures { RunsAreAccounted }
 {}
 
-/// Of a client's calls in a run the passes of input DVR on each demux node are the batches of those of its writes whose poll was
-/// answered Ready, each once and in the order of the writes.
+/// In a run what passes a demux node by the calls of a client, in the order of the node's history, are the batches of those of its
+/// writes whose poll was answered Ready, each once and in the order of the writes.
 pub fn writes_pass()
     ensures { WritesPass }
 {}

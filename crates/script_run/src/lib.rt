@@ -19,8 +19,8 @@
 //! For its calls beside those that repeat a read are at most 33 a command; a repeat that follows bytes is paid for by these
 //! bytes, of which a node answers no more than the stream and all writes of clients bring it, where each write is named once; and
 //! one that follows Again by the entry right behind the read, which is the feeder's, or a call by which no other client repeats a
-//! read. And what a client plays is what it wrote where the dvr node was its own: on each demux node its passes are the batches of
-//! the writes whose poll was answered Ready (`writes_pass`).
+//! read. And what a client plays is what it wrote where the dvr node was its own: in each demux node's history its passes bring, each
+//! once and in order, the batches of the writes whose poll was answered Ready (`writes_pass`).
 //!
 //! No code of the crate runs, so nothing of it is tested.
 #![tactic(auto)]

@@ -13,7 +13,8 @@ pub fn few_bytes_are_few_calls()
     ensures { FewBytesAreFewCalls }
 {}
 
-/// Where a client comes to 549,755,813,888 calls, the commands, the bytes of the stream and those of all writes show that the run is too long.
+/// Where a client comes to 549,755,813,888 calls, the commands, the bytes of the stream and those of all writes show that the run
+/// is too long.
 pub fn many_calls_are_too_long()
     ensures { ManyCallsAreTooLong }
 {}

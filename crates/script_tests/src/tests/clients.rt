@@ -4,15 +4,13 @@ use client_core::{
     ClientCore, Event, MOST_CALLS, Request, Stop, call_of, fitted, unless_no_memory,
 };
 use client_script::{MOST_BYTES, Script, Want};
-use dmx_calls::{
-    ByteBuf, Call, Errno, LogReply, LogTap, Outcome, OutcomeKind, PollError, Reply, Span, Tap,
-};
+use dmx_calls::{ByteBuf, Call, LogReply, LogTap, Outcome, OutcomeKind, Reply, Span, Tap};
 use pid_set::{KeptPids, Pids};
 use std::alloc::{AllocError as NoMemory, Global};
 use std::process::Abort;
 
-// A client of the script of these bytes, before its first call.
-fn client_of(rt: &impl Abort, alloc: Global, script: &[u8], client: u32) -> ClientCore {
+/// A client of the script of these bytes, before its first call.
+pub fn client_of(rt: &impl Abort, alloc: Global, script: &[u8], client: u32) -> ClientCore {
     assert!(rt; script.len() <= MOST_BYTES);
     let Ok(script) = Script::read(alloc, script) else {
         panic!(rt; "a fault, or no memory");
@@ -31,21 +29,21 @@ const fn done(tap: LogTap) -> LogReply {
     }
 }
 
-// The client takes a reply.
-fn take(rt: &impl Abort, core: &mut ClientCore, reply: LogReply) {
+/// The client takes a reply.
+pub fn take(rt: &impl Abort, core: &mut ClientCore, reply: LogReply) {
     assert!(rt; core.next().is_some(), "a reply to no call");
     assert!(rt; core.steps() < 1_000_000);
     core.take(&reply);
 }
 
-// The client takes a reply, and this call has to be its next.
-fn answer(rt: &impl Abort, core: &mut ClientCore, reply: LogReply, next: &Option<Event>) {
+/// The client takes a reply, and this call has to be its next.
+pub fn answer(rt: &impl Abort, core: &mut ClientCore, reply: LogReply, next: &Option<Event>) {
     take(rt, core, reply);
     assert!(rt; core.next() == *next, "the call {}", core.steps());
 }
 
-// A command that is through.
-const fn through(line: u32, from: u64, to: u64, kind: OutcomeKind) -> Outcome {
+/// A command that is through.
+pub const fn through(line: u32, from: u64, to: u64, kind: OutcomeKind) -> Outcome {
     Outcome {
         line,
         from,
@@ -54,8 +52,8 @@ const fn through(line: u32, from: u64, to: u64, kind: OutcomeKind) -> Outcome {
     }
 }
 
-// The call that a client makes next, for a command of its own.
-const fn event(step: u64, node: u32, want: Want) -> Option<Event> {
+/// The call that a client makes next, for a command of its own.
+pub const fn event(step: u64, node: u32, want: Want) -> Option<Event> {
     Some(Event {
         step,
         node,
@@ -303,72 +301,6 @@ fn a_counter_is_the_clock_of_what_was_read(rt: HostRuntime) {
         through(7, 4, 4, counter),
     ];
     assert!(rt; core.outcomes() == outcomes.as_slice());
-}
-
-// A packet of PID 256 over two writes of client 0, between which client 1 writes, and a poll behind them.
-fn writes(alloc: Global) -> Result<Vec<u8>, NoMemory> {
-    let mut script = Vec::new(alloc);
-    script.extend_from_slice(b"c0 write dvr 47010010")?;
-    script.extend_from_slice(&[b'0'; 192])?;
-    script.extend_from_slice(b"\nc1 write dvr 47\nc0 write dvr ")?;
-    script.extend_from_slice(&[b'0'; 176])?;
-    script.extend_from_slice(b"\nc0 poll dvr\nstream\n")?;
-    Ok(script)
-}
-
-// The client passes the batch of its write 1 through the demux nodes, from step 2 on.
-fn pass_all(rt: &impl Abort, core: &mut ClientCore) {
-    for node in 0..32u32 {
-        let pass = Event {
-            step: 2 + node as u64,
-            node,
-            want: Request::Pass { write: 1 },
-        };
-        assert!(rt; core.next() == Some(pass), "node {node}");
-        take(rt, core, Reply::Passed);
-    }
-}
-
-// The dvr node is the client's own.
-const fn own_node() -> LogReply {
-    Reply::Ready {
-        readable: false,
-        error: PollError::Quiet,
-        at: 0,
-        ended: false,
-    }
-}
-
-#[test]
-fn a_write_passes_the_packet_that_it_completes(rt: HostRuntime) {
-    let Ok(script) = writes(rt.alloc()) else {
-        panic!(rt; "no memory");
-    };
-    let mut core = client_of(&rt, rt.alloc(), &script, 0);
-    assert!(rt; core.next() == event(0, 32, Want::Poll));
-    let refused = Reply::Refused(Errno::Ebadf);
-    answer(&rt, &mut core, refused, &event(1, 32, Want::Poll));
-    take(&rt, &mut core, own_node());
-    pass_all(&rt, &mut core);
-    assert!(rt; core.next() == event(34, 32, Want::Poll));
-    let outcomes = [
-        through(1, 0, 1, OutcomeKind::Done),
-        through(3, 1, 34, OutcomeKind::Done),
-    ];
-    assert!(rt; core.outcomes() == outcomes.as_slice());
-}
-
-#[test]
-fn a_write_that_completes_no_packet_passes_nothing(rt: HostRuntime) {
-    let mut core = client_of(
-        &rt,
-        rt.alloc(),
-        b"c2 write dvr 47010010\nc2 poll dvr\nstream\n",
-        2,
-    );
-    assert!(rt; core.next() == event(0, 32, Want::Poll));
-    answer(&rt, &mut core, own_node(), &event(1, 32, Want::Poll));
-    assert!(rt; core.outcomes() == [through(1, 0, 1, OutcomeKind::Done)].as_slice());
 }
 
 // Whether the call is a Read at this moment, with an empty buffer for so many bytes.
