@@ -1,4 +1,4 @@
-use Rattle.std.proofs.Common.{◌^◌, ◌≡◌, refl, sym, subst, ◌∙◌, ◌+◌, List, [], ◌∷◌, ◌++◌, length, arith}
+use Rattle.std.proofs.Common.{◌^◌, ◌≡◌, refl, sym, subst, ◌∙◌, ◌+◌, [], ◌∷◌, ◌++◌, length, arith}
 use Rattle.client_script.specs.Script.{Scripted}
 use Rattle.client_core.specs.Deeds.{Batches}
 use Rattle.client_core.specs.Inside.Core.{IsAfter}
