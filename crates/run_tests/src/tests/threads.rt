@@ -344,8 +344,7 @@ fn playing(alloc: Global) -> Option<Script> {
     let mut text = Vec::new(alloc);
     text.extend_from_slice(
         b"c0 open dvr\nc0 open n3\nc0 pes n3 256 dvr tsdemux_tap 20 4\nc0 write dvr 47010010",
-    )
-    .ok()?;
+    ).ok()?;
     text.extend_from_slice(&[b'0'; 368]).ok()?;
     text.extend_from_slice(b"\nc0 read n3 188\nstream\n").ok()?;
     script_in(alloc, &text)
@@ -375,7 +374,10 @@ fn has_played(left: &Left) -> bool {
     poll.node == 32
         && passes.len() == 32
         && passes.iter().all(is_first_pass)
-        && passes.iter().zip(0..32).all(|(pass, node)| pass.node == node)
+        && passes
+            .iter()
+            .zip(0..32)
+            .all(|(pass, node)| pass.node == node)
         && is_packet(buf.bytes(), (0, 0))
 }
 
@@ -384,7 +386,14 @@ fn what_a_client_writes_passes_the_demux_nodes(rt: HostRuntime) {
     let script = playing(rt.alloc());
     let clock = FixedClock::new(7);
     let left = script.and_then(|script| {
-        left_by_script(&rt, rt.alloc(), &script, &[(0, 1), (0, 2)], &clock, &NoGate::new())
+        left_by_script(
+            &rt,
+            rt.alloc(),
+            &script,
+            &[(0, 1), (0, 2)],
+            &clock,
+            &NoGate::new(),
+        )
     });
     assert!(rt; matches!(&left, Some(left) if has_played(left)));
 }
