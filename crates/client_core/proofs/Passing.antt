@@ -1,5 +1,5 @@
 -- The batches of writes pass each demux node once.
-use Rattle.std.proofs.Common.{◌≡◌, ◌⊎◌, inl, inr, refl, sym, ap, subst, ◌∙◌, ℕ, ◌+◌, ◌<◌, Bool, true, false, List, [], ◌∷◌, ◌++◌, Option, Some, None, arith}
+use Rattle.std.proofs.Common.{◌≡◌, ◌⊎◌, inl, inr, refl, sym, ap, subst, ◌∙◌, ℕ, ◌+◌, ◌<◌, ◌≤◌, Bool, true, false, List, [], ◌∷◌, ◌++◌, Option, Some, None, arith}
 use Rattle.std.specs.Prelude.{nat_lt, nat_eq, option_map, slice_index_or, if◌then◌else◌}
 use Rattle.std.proofs.lemmas.List.{append_assoc, append-nil}
 use Rattle.std.proofs.lemmas.Bool.Decides.{nat_tests}
@@ -17,12 +17,12 @@ use Rattle.client_core.specs.declared.deed.Deed.TheVariants.{Once, ReadWait, Dra
 use Rattle.client_core.specs.declared.command.Command.{Command}
 use Rattle.client_core.specs.declared.event.Event.{Event}
 use Rattle.client_core.specs.declared.event.Request.{Request}
-use Rattle.client_core.specs.declared.event.Request.TheVariants.{Attach, Detach}
+use Rattle.client_core.specs.declared.event.Request.TheVariants.{Attach, Detach, Pass}
 use Rattle.client_core.specs.declared.task.Ending.{Ending}
 use Rattle.client_core.specs.declared.task.Ending.TheVariants.{Made, Bound, AllBusy, NoNode, Asked}
 use Rattle.client_core.specs.Commands.{Slots, Doing, stands, through, once, told, called, opened, passed, written, read_until, done_on, done_at, done_by_slot, done, ends_wait, ends_drain, commands_of}
 use Rattle.client_core.specs.Events.{Standing, Progress, slots_after, progress_from, progress, no_slots, next_event}
-use Rattle.client_core.specs.Stc.{Exchange, with_reply, exchanges_after}
+use Rattle.client_core.specs.Stc.{Exchange, with_reply, exchanges_after, exchanges}
 use Rattle.client_core.specs.Passes.{pass_in, pass_at, passes_on, played_on, played_at, played_in, played_from, played_writes, WritesPass}
 use Rattle.client_core.proofs.GoesOn.{progress_of}
 

@@ -1,5 +1,5 @@
 -- A write that has a batch is one of the client's.
-use Rattle.std.proofs.Common.{ℕ, zero, suc, ◌<◌, [], ◌∷◌, length, arith}
+use Rattle.std.proofs.Common.{ℕ, zero, suc, ◌<◌, List, [], ◌∷◌, length, arith}
 use Rattle.std.specs.Prelude.{IsSome}
 use Rattle.client_core.specs.Deeds.{Batches, batch_at}
 

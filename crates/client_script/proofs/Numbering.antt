@@ -1,12 +1,12 @@
 -- The lines of a client name its writes in their order, each once.
-use Rattle.std.proofs.Common.{◌≡◌, ◌≢◌, ◌<◌, ◌≤◌, ◌+◌, ◌⊎◌, inl, inr, refl, sym, ap, subst, ◌∙◌, ℕ, Bool, true, false, nat_eq, List, [], ◌∷◌, ◌++◌, length, codes, arith, length-append, append-nil}
+use Rattle.std.proofs.Common.{◌≡◌, ◌≢◌, ◌<◌, ◌≤◌, ◌+◌, ◌⊎◌, inl, inr, refl, sym, ap, subst, ◌∙◌, ℕ, Bool, true, false, nat_eq, List, [], ◌∷◌, ◌++◌, length, map, codes, arith, length-append, append-nil}
 use Rattle.std.proofs.lemmas.Bool.{cases_eq, cases_lt, eq-eqb}
 use Rattle.std.proofs.lemmas.Bool.Decides.{nat_tests}
 use Rattle.std.proofs.lemmas.Grind.{flat_map-append}
 use Rattle.std.proofs.lemmas.List.{map-id, length-set, get_or-set_same, get_or-set_other, get_or_past, get_or-replicate}
 use Rattle.std.proofs.lemmas.List.FromFn.{map-range_with_len_more}
-use Rattle.std.specs.Prelude.{Option, Some, None, Result, Ok, Err, if◌then◌else◌, slice_set}
-use Rattle.std.specs.List.{range_with_len}
+use Rattle.std.specs.Prelude.{Option, Some, None, Result, Ok, Err, if◌then◌else◌, slice_index_or, slice_set, replicate}
+use Rattle.std.specs.List.{flat_map, range_with_len}
 use Rattle.std.specs.Option.{option_map}
 use Rattle.dmx_calls.specs.declared.limits.TheConstants.{LARGEST_READ}
 use Rattle.dmx_abi.specs.declared.request.Request.{Request}
@@ -16,8 +16,8 @@ use Rattle.text_forms.specs.Names.{client_named}
 use Rattle.client_script.specs.Words.{Reading, and_then, mapped, or_fault, next_as, word_in, words_of}
 use Rattle.client_script.specs.Requests.{want_of, verb_of, request_number_in, request_in, ioctl_in}
 use Rattle.client_script.specs.Writes.{written_named}
-use Rattle.client_script.specs.Grammar.{number_in, pid_in, count_in, target_of, name_of, section_in, pes_in, verb_in, command_in, dvr_named, write_in, asked_in, line_in, line_of, whole, is_passed_over, some_said, meaning, IsPlainVerb, IsPlain}
-use Rattle.client_script.specs.Script.{AreNumbered, Parsed, Scripted, plain, no_writes, with_said, with_write, writes_of, named_in, named_among, whole_lines, is_stream, lines_from, grammar}
+use Rattle.client_script.specs.Grammar.{number_in, pid_in, count_in, target_of, name_of, section_in, pes_in, verb_in, command_in, dvr_named, write_in, asked_in, line_in, line_of, whole, alone, is_passed_over, some_said, meaning, IsPlainVerb, IsPlain}
+use Rattle.client_script.specs.Script.{AreNumbered, Parsed, Scripted, plain, no_writes, with_said, with_write, writes_of, named_by, named_in, named_among, whole_lines, is_stream, lines_from, grammar}
 use Rattle.client_script.specs.declared.fault.FaultKind.{FaultKind}
 use Rattle.client_script.specs.declared.fault.FaultKind.TheVariants.{Client, Command as NoCommand, Target as NoTarget, Name, Bytes}
 use Rattle.client_script.specs.declared.fault.ScriptFault.{ScriptFault}

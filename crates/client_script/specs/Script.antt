@@ -10,6 +10,7 @@ use Rattle.client_script.specs.declared.said.Said.TheVariants.{Asks, Writes}
 use Rattle.client_script.specs.declared.line.Target.TheVariants.{Dvr}
 use Rattle.client_script.specs.declared.line.Verb.{Verb}
 use Rattle.client_script.specs.declared.line.Verb.TheVariants.{Write}
+use Rattle.client_script.specs.declared.fault.FaultKind.{FaultKind}
 use Rattle.client_script.specs.declared.fault.FaultKind.TheVariants.{NoStream}
 use Rattle.client_script.specs.declared.fault.ScriptFault.{ScriptFault}
 use Rattle.client_script.specs.declared.fault.ScriptError.{ScriptError}

@@ -4,7 +4,7 @@ use Rattle.client_script.specs.Grammar.{meaning}
 use Rattle.client_script.specs.Script.{whole_lines, is_stream, with_said}
 use Rattle.client_script.proofs.Cuts.{length-whole_lines}
 use Rattle.client_script.proofs.Scripts.{missing_in, script_by-start, script_by-end, script_by-stream, script_by-fault, script_by-line}
-use Rattle.client_script.proofs.Taking.{lines_more, writes_more, no_writes_below}
+use Rattle.client_script.proofs.Taking.{lines_more, writes_more, writes_below, no_writes_below}
 use Rattle.client_script.proofs.script.Script.read.Goals as goal
 
 pub lines-init : goal.lines-init
