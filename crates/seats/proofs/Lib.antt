@@ -1,9 +1,11 @@
 pub mod DoneCommands
 pub mod Doing
 pub mod Going
+pub mod Hands
 pub mod Holding
 pub mod Keeping
 pub mod Lists
+pub mod Numbering
 pub mod Owning
 pub mod Played
 pub mod Progress

@@ -36,12 +36,12 @@ pub record HasRoom (calls : ℕ) (s : Seat) : Type 0 where
   pub outcomes : length s.outcomes.items + calls ≤ vec_capacity s.outcomes
   pub left : calls ≤ s.client.left
 
--- It has a pass of each of these locks, and keeps so many calls as it has made, each on a node; and it has left each node that
--- isn't marked as held.
+-- It has a pass of each of these locks, and each call that it keeps is on a node; so few calls are left that their numbers stay
+-- below 2^40; and it has left each node that isn't marked as held.
 pub record IsFit (locks : List TableId) (s : Seat) : Type 0 where
   pub fits : Fits locks s.client.passes
   pub who : s.who ≡ s.client.who
-  pub left : s.client.left + (length s.log.items + length s.made.items) ≡ 2 ^ 40
+  pub left : s.client.left + (length s.log.items + length s.made.items) ≤ 2 ^ 40
   pub nodes : AreOnNodes (log_of s)
   pub knows : KnowsItsNodes s.client s.held
 
