@@ -27,6 +27,10 @@
 //! script's client has just these, its commands ask for just these calls, by the replies before each, and what the seat keeps of
 //! commands is what became of them (`lines_are_played`). The moment of a call is one of the clock.
 //!
+//! A seat may hand its calls over to a `Journal` behind each request, and keep none (`serve_to`): so it takes no more memory however long
+//! it serves. `HasServedTo` in `specs/Handed.antt` says the same of its calls, its requests and its nodes, and that the journal was given
+//! just these calls. `Forgotten` is the journal that keeps nothing.
+//!
 //! What is only tested, in `serve_tests`: that no Close is made on a node that the program hasn't opened, and that a request to leave
 //! within a line closes all nodes of its program.
 //!
