@@ -152,7 +152,7 @@ def of_feeder(entries):
     return [entry for entry in entries if entry.who == "feed"]
 
 
-# RULES: f294cdb4 The threads of `run`
+# RULES: d79305e0 The threads of `run`
 def wrong_feeding(node, entries, feeding, where):
     """What is wrong with the feeder's calls on a node: they pass all packets in batches, and then End."""
     for entry in of_feeder(entries):
@@ -294,11 +294,11 @@ def short(reply, other):
     return f"data of {len(digits) // 2} bytes, from byte {first} on {digits[2 * first : 2 * (first + SHOWN)]}.."
 
 
-def played(node, entry, packets):
-    """The reply of a node to the call of an entry."""
+def answered(node, entry, packets, played):
+    """The reply of a node to the call of an entry, where these are the packets of the stream and those that clients write."""
     act = reports.act_of(entry)
     if entry.who != "feed":
-        return node.call(int(entry.who[1:]), act_of(entry), act.get("at", 0))
+        return second.reply_of(node, int(entry.who[1:]), act_of(entry), act.get("at", 0), played)
     if act["name"] == "end":
         node.ended = True
     else:
@@ -306,11 +306,11 @@ def played(node, entry, packets):
     return "passed"
 
 
-def wrong_reply(number, entries, packets, where):
+def wrong_reply(number, entries, packets, played, where):
     """The first reply of a node that isn't the one that the entries before it give, as what is wrong and as the entry."""
     node = second.Dvr() if number == second.DVR else second.Demux()
     for entry in entries:
-        own = played(node, entry, packets)
+        own = answered(node, entry, packets, played)
         if own != entry.reply:
             return where.entry("reply", number, entry.place, short(entry.reply, own), short(own, entry.reply)), entry
     return None, None
@@ -322,7 +322,8 @@ def wrong_reply(number, entries, packets, where):
 def wrong_parts(lines, packets, report, batch, where):
     """What is wrong with what a report tells behind its head."""
     clients = len(second.Run(lines, [], 1).outcomes)
-    replies = [wrong_reply(node, entries, packets, where) for node, entries in report.nodes.items()]
+    played = second.played_by(lines)
+    replies = [wrong_reply(node, entries, packets, played, where) for node, entries in report.nodes.items()]
     misled = [entry for _, entry in replies if entry]
     walks = [Walk(lines, client, report, where) for client in range(clients)]
     found = [bad for bad, _ in replies] + list(wrong_calls(walks, misled, where))

@@ -8,7 +8,7 @@ import re
 ALL_PACKETS = 0x2000
 NODES, DVR, CLIENTS = 32, 32, 8
 SCRIPT_MOST = 1048576
-LARGEST_READ = 65536
+LARGEST_READ, LARGEST_WRITE = 65536, 12032
 LARGEST_SIZE = 16777216
 KEEP = 256
 OUTPUTS = ["decoder", "tap", "ts_tap", "tsdemux_tap"]
@@ -153,7 +153,7 @@ def matches(places, section):
 # ------ the nodes
 
 
-# RULES: 0289b1a0 Captures
+# RULES: c8f860b4 Captures
 # RULES: 71c92885 The ledger
 class Capture:
     def __init__(self, moment):
@@ -302,9 +302,12 @@ class Demux(Node):
         ]
         return found[:1] if self.is_one_shot() else found
 
-    def run_pass(self, packets, moment):
+    def source(self):
+        return self.filter[2] if self.filter[0] == "pes" else "frontend"
+
+    def run_pass(self, packets, moment, source="frontend"):
         self.expire(moment)
-        if self.state() != "Go":
+        if self.state() != "Go" or source != self.source():
             return
         if self.filter[0] == "section":
             self.capture.offered += [packet for packet in packets if pid_of(packet) == self.filter[1]]
@@ -318,7 +321,7 @@ class Demux(Node):
             elif self.filter[3] == "tap" and payload_of(packet) is not None:
                 self.arrive([payload_of(packet)])
 
-    # RULES: 509697ad Refusals
+    # RULES: f7055b3d Refusals
     def refused(self, who, act):
         """The refusals, in their order; act is a name and its arguments."""
         name, args = act[0], act[1:]
@@ -330,7 +333,8 @@ class Demux(Node):
                 return "EINVAL"
         elif name == "pes":
             pid, source, output, kind, flags = args
-            if pid > 0x2000 or source == "dvr" or output == "decoder" or kind > 20 or flags & ~(7 | KEEP):
+            records_played = source == "dvr" and output == "ts_tap"
+            if pid > 0x2000 or records_played or output == "decoder" or kind > 20 or flags & ~(7 | KEEP):
                 return "EINVAL"
         elif name in ("add", "remove"):
             if args[0] > 0x2000 or self.filter is None or self.filter[0] != "pes":
@@ -349,7 +353,7 @@ class Demux(Node):
                 return "EBUSY"
         return None
 
-    # RULES: c02034d9 Calls
+    # RULES: 22042f7f Calls
     def call(self, who, act, moment):
         name, args = act[0], act[1:]
         if name == "open":
@@ -405,8 +409,8 @@ class Dvr(Node):
         super().__init__()
         self.taps = {}
 
-    def run_pass(self, packets, _moment):
-        if self.owner is None:
+    def run_pass(self, packets, _moment, source="frontend"):
+        if self.owner is None or source != "frontend":
             return
         named = set().union(*(pids for pids, _ in self.taps.values())) if self.taps else set()
         self.arrive([p for p in packets if ALL_PACKETS in named or pid_of(p) in named])
@@ -534,8 +538,17 @@ def read_request(words):
     return command, [field(0, min(length, 4))] if length else []
 
 
+def written(word):
+    """The bytes of a write."""
+    if not re.fullmatch(rb"([0-9a-f]{2})+", word) or len(word) > 2 * LARGEST_WRITE:
+        raise Wrong("bytes")
+    return bytes.fromhex(word.decode())
+
+
 def read_arguments(command, words):
     """What a command has behind its target."""
+    if command == "write":
+        return [written(take(words))]
     args = []
     for place in PLACES[command]:
         word = take(words)
@@ -549,7 +562,7 @@ def read_arguments(command, words):
     return [args[0], places, args[1], args[2]]
 
 
-# RULES: 069d5251 The script
+# RULES: 66a35eca The script
 def read_line(line):
     words = line.split(b" ")
     first = words.pop(0)
@@ -557,9 +570,11 @@ def read_line(line):
         asked = (first.decode(), number(take(words), 1 if first == b"feed" else 0, U32))
     elif re.fullmatch(rb"c[0-7]", first):
         command = take(words).decode("latin-1")
-        if command not in PLACES and command != "ioctl":
+        if command not in PLACES and command not in ("ioctl", "write"):
             raise Wrong("command")
         on = target(take(words))
+        if command == "write" and on != "dvr":
+            raise Wrong("target")
         command, args = read_request(words) if command == "ioctl" else (command, read_arguments(command, words))
         asked = (command, int(first[1:]), on, args)
     else:
@@ -610,12 +625,41 @@ def act_text(act, moment):
         return f"attach node={args[0]} pids={pids_text(args[1])}"
     if kind == "detach":
         return f"detach node={args[0]}"
+    if kind == "pass":
+        return f"pass input={args[0]} first={args[1]} count={args[2]} at={moment}"
     return " ".join([kind, *map(str, args)])
+
+
+# RULES: e0aa2b6e What a client writes
+class Played:
+    """What a client writes: the packets of the bytes of all its writes, and for each write the number of the first that it completes,
+    and how many these are."""
+
+    def __init__(self, writes):
+        self.packets = cut(b"".join(writes))[0]
+        whole = [len(cut(b"".join(writes[:count]))[0]) for count in range(len(writes) + 1)]
+        self.batches = [(first, behind - first) for first, behind in zip(whole, whole[1:])]
+
+
+def reply_of(node, client, act, moment, played):
+    """The reply of a node to a call of a client; a pass brings packets that the client has written."""
+    if act[0] != "pass":
+        return node.call(client, act, moment)
+    _, source, first, count = act
+    node.run_pass(played[client].packets[first : first + count], moment, source)
+    return "passed"
+
+
+def played_by(lines):
+    """What each client writes."""
+    writes = [(asked[1], asked[3][0]) for _, asked in lines if asked[0] == "write"]
+    return [Played([data for who, data in writes if who == client]) for client in range(CLIENTS)]
 
 
 # RULES: b3dd7bd7 The order of `steps`
 class Run:
     def __init__(self, lines, packets, batch):
+        self.played, self.written = played_by(lines), [0] * CLIENTS
         self.lines, self.packets, self.batch = lines, packets, batch
         self.nodes = [Demux() for _ in range(NODES)] + [Dvr()]
         self.given, self.turns, self.moment, self.has_ended = 0, 0, 0, False
@@ -650,7 +694,7 @@ class Run:
             count -= passed
 
     def event(self, client, node, act):
-        reply = self.nodes[node].call(client, act, self.moment)
+        reply = reply_of(self.nodes[node], client, act, self.moment, self.played)
         self.nodes[node].entries.append((f"c{client}", self.steps[client], act_text(act, self.moment), reply))
         self.steps[client] += 1
         return reply
@@ -709,9 +753,20 @@ class Run:
             if reply == "again ended=0":
                 self.run_pass(self.batch)
 
-    # RULES: b792d560 What a client's commands do
+    def write(self, client):
+        """The client's next write: where the dvr node is its own, the packets that it completes pass the demux nodes."""
+        first, count = self.played[client].batches[self.written[client]]
+        self.written[client] += 1
+        if self.made(client, DVR, ("poll",)).startswith("ready") and count:
+            for node in range(NODES):
+                self.made(client, node, ("pass", "dvr", first, count))
+        return "done"
+
+    # RULES: dbddc2bc What a client's commands do
     def command(self, asked):
         verb, client, on, args = asked
+        if verb == "write":
+            return self.write(client)
         if on == "dvr":
             node = DVR
         elif on[0] == "n":
@@ -747,7 +802,7 @@ class Run:
             pass
 
 
-# RULES: 283d1101 The report
+# RULES: a9047f51 The report
 def pid_rows(packets):
     rows = []
     for pid in sorted(set(map(pid_of, packets))):

@@ -29,12 +29,13 @@ class Offered:
 
 
 class Filter:
-    """A filter of a demux node: what its set call asked, with KEEP or without, the PIDs that it has and ever had, whether it was
-    ever started, and what of the stream it was offered, by PID."""
+    """A filter of a demux node: what its set call asked, with KEEP or without, whether it takes what clients write, the PIDs that it has
+    and ever had, whether it was ever started, and what of the stream it was offered, by PID."""
 
     def __init__(self, act, line):
         self.kind, self.pid, self.line = act["name"], act["pid"], line
         self.output, self.timeout = act.get("output", ""), act.get("timeout", 0)
+        self.is_played = act.get("input") == "dvr"
         self.once = self.kind == "section" and bool(act["flags"] & ONESHOT)
         self.keeps = bool(act["flags"] & KEEP)
         self.pids, self.ever, self.started = {self.pid}, {self.pid}, False

@@ -77,6 +77,12 @@ def not_ready_mark(x, y):
     return [rect(x - 3, y - 3, 6, 6, f'fill="{WHITE}" stroke="{GREEN}" stroke-width="1.5"')]
 
 
+def played_mark(x, y):
+    """A triangle that points to the right."""
+    steps = [("M", x - 4, y - 5), ("L", x + 5, y), ("L", x - 4, y + 5), ("Z",)]
+    return [path(steps, f'fill="{YELLOW}" stroke="{BLACK}" stroke-width="0.7"')]
+
+
 def pill(x, y, words, fill, stroke, ink):
     """A rounded box with a few characters."""
     look = f'rx="4" fill="{fill}" stroke="{stroke}"'
@@ -181,6 +187,7 @@ MARKS = {
     "not readable": (not_ready_mark, (WHITE, GREEN, BLACK), "poll: not readable"),
     "refused": (refused_mark, (WHITE, BLACK, BLACK), "refused or busy"),
     "dropped": (drop_mark, (ORANGE, BLACK, BLACK), "call that drops unread bytes"),
+    "played": (played_mark, (YELLOW, BLACK, BLACK), "packets that a client has written pass"),
 }
 
 
@@ -210,6 +217,8 @@ def kinds_of(entry):
         return ["refused"]
     if first == "ready":
         return ["readable" if " readable=1" in entry.reply else "not readable"]
+    if first == "passed":
+        return ["played"]
     if entry.act.startswith("read "):
         return ["timed out" if first == "timedout" else first]
     return ["dropped", "call"] if dropped_bytes(entry) else ["call"]

@@ -22,7 +22,7 @@ def wrong_argument(act):
         return "a PES type above 20"
     if act.get("output") == "decoder":
         return "output DECODER"
-    return "input DVR" if act.get("input") == "dvr" else ""
+    return "input DVR with output TS_TAP" if (act.get("input"), act.get("output")) == ("dvr", "ts_tap") else ""
 
 
 def wrong_pids(node, act):

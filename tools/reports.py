@@ -431,10 +431,8 @@ def entry_of(text, place):
     if not sign:
         raise Wrong(f"`{place} WHO STEP ACT = REPLY`")
     asked, answer = read_act(act)["name"], read_reply(reply)["name"]
-    if (words[1] == "feed") != (asked in ("pass", "end")):
-        raise Wrong("`pass` and `end` of `feed` alone, all other acts of clients")
-    if asked == "pass" and not act.startswith("pass input=frontend "):
-        raise Wrong("`pass input=frontend`")
+    if (words[1] == "feed") != (asked == "end" or act.startswith("pass input=frontend ")):
+        raise Wrong("`pass input=frontend` and `end` of `feed` alone, all other acts of clients")
     answers = ANSWERS.get(asked, OTHER_ANSWERS)
     if answer not in answers:
         raise Wrong(f"a reply to `{asked}`: " + ", ".join(answers))

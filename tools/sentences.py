@@ -81,6 +81,11 @@ def pes_text(act, on):
     return f"sets a PES filter on {on} ({pids_text([act['pid']])}, {where}, PES type {act['type']}, {flags_text(act['flags'])})"
 
 
+def packets_text(act):
+    """The packets that a client has written and passes, in words."""
+    return f"{many(act['count'], 'packet')} that it has written, from number {act['first']} on,"
+
+
 def act_text(call):
     """What a call asks, in words."""
     act, on = act_of(call.entry), node_text(call.node)
@@ -94,6 +99,8 @@ def act_text(call):
         return f"sets the buffer size of {on} to {act['size']}"
     if call.act in ("add", "remove"):
         return f"{'adds' if call.act == 'add' else 'removes'} {pids_text([act['pid']])} on {on}"
+    if call.act == "pass":
+        return f"passes {packets_text(act)} to {on}"
     if call.act == "attach":
         return f"attaches the tap of {node_name(act['node'])} to the dvr node ({pids_text(act['pids'])})"
     if call.act == "detach":
@@ -161,6 +168,8 @@ def reply_text(call):
         return f"TimedOut, started at {reply['started']}, expired at {reply['now']}, timeout {reply['timeout']}"
     if call.reply == "ready":
         return ready_text(reply)
+    if call.reply == "passed":
+        return "Passed"
     return call.reply + (f", {call.reason}" if call.reason else "")
 
 
@@ -214,6 +223,9 @@ def calls_text(calls):
         return "makes no call"
     if len(calls) > 1 and all(call.act in LOOKS for call in calls):
         return looks_text(calls)
+    if len(calls) > 1 and all(call.act == "pass" for call in calls[1:]):
+        passed = f"passes {packets_text(act_of(calls[1].entry))} to {node_name(calls[1].node)} to {node_name(calls[-1].node)}"
+        return f"{call_text(calls[0])}; {passed}{moment_text(calls[1])}"
     return "; ".join(map(call_text, calls))
 
 

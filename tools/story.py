@@ -24,7 +24,7 @@ class Node(Walk):
 
     def begin_capture(self, entry):
         """A capture begins; on a demux node the filter runs from here on."""
-        is_late, due = self.end is not None, None
+        is_late, due = self.end is not None and not (self.filter and self.filter.is_played), None
         if self.filter:
             self.runs, self.filter.started = True, True
             due = moment(entry) + self.filter.timeout if self.filter.timeout else None
@@ -152,7 +152,7 @@ class Story:
             self.take_open(node, client, call, line)
         elif call.act in ("attach", "detach"):
             self.take_tap(node, client, call, line)
-        else:
+        elif call.act != "pass":
             self.take_change(node, client, call, line)
 
     def take_feed(self, node, entry):
@@ -164,7 +164,7 @@ class Story:
         node.passes += 1
         if node.taps and node.owner is None:
             node.free_packets += act["count"]
-        if node.runs and node.capture and not node.filter.once:
+        if node.runs and node.capture and not node.filter.once and not node.filter.is_played:
             if node.capture.due is None or act["at"] < node.capture.due:
                 node.filter.take(act)
 
@@ -245,6 +245,7 @@ class Story:
             return
         if not used.started:
             self.stumble("never started", node.owner, node, used.line)
+        if not used.started or used.is_played:
             return
         absent = tuple(pid for pid in sorted(used.ever) if not self.rows_of(pid))
         if absent:

@@ -151,10 +151,11 @@ class History(Walk):
                 capture.due = entry.place
 
     def take_pass(self, entry, act):
-        """A batch passes."""
+        """A batch passes, of the stream or of what a client has written."""
         if self.capture and self.capture.quiet is None:
             self.note_moment(entry, act)
-            self.capture.packets += act["count"]
+            is_taken = act["input"] == (self.filter or {}).get("input", "frontend")
+            self.capture.packets += act["count"] if is_taken else 0
             self.capture.keep(entry.place)
 
     def take_read(self, entry, act, reply):

@@ -16,7 +16,7 @@ use Rattle.client_core.proofs.More.{IsFirst, done_none, Onward, done_on_more}
 -- with no replies left, what stands there is a first call, before which no client waits
 first_waits_not : (slots : Slots) (step : ℕ) (cs : List Command) (r : Response) → waits_after (progress_from slots step cs []).standing (r ∷ []) ≡ None
 first_waits_not slots step [] r = refl
-first_waits_not slots step (c ∷ cs) r = go (λ ending next. first_waits_not (slots_after ending slots) next cs r) (done slots c.target c.verb step []) (done_none slots c.target c.verb step).0 where
+first_waits_not slots step (c ∷ cs) r = go (λ ending next. first_waits_not (slots_after ending slots) next cs r) (done slots c.target c.deed step []) (done_none slots c.target c.deed step).0 where
   go : ((ending : Ending) (next : ℕ) → waits_after (progress_from (slots_after ending slots) next cs []).standing (r ∷ []) ≡ None)
       → (d : Doing) → IsFirst step d → waits_after (progress_of slots step c cs d).standing (r ∷ []) ≡ None
   go deeper (stands e) at = waits_not (record { line = c.line; from = step; event = e }) r (omega (arith, at))
@@ -31,8 +31,8 @@ ends_from : (slots : Slots) (step : ℕ) (cs : List Command) (rs : List Response
     → standing_at line (progress_from slots step cs (rs ++ r ∷ [])).standing ≡ None → waits_after (progress_from slots step cs (rs ++ r ∷ [])).standing (r ∷ []) ≡ None
 ends_from slots step [] rs r line x was none = absurd (none-some x was)
 ends_from slots step (c ∷ cs) rs r line x was none =
-    go (λ ending next left was none. ends_from (slots_after ending slots) next cs left r line x was none) (done slots c.target c.verb step rs) (done slots c.target c.verb step (rs ++ r ∷ []))
-    (repeats_in slots c.target c.verb rs) (repeats_in slots c.target c.verb (rs ++ r ∷ [])) (done_on_more slots c.target c.verb step rs r) was none where
+    go (λ ending next left was none. ends_from (slots_after ending slots) next cs left r line x was none) (done slots c.target c.deed step rs) (done slots c.target c.deed step (rs ++ r ∷ []))
+    (repeats_in slots c.target c.deed rs) (repeats_in slots c.target c.deed (rs ++ r ∷ [])) (done_on_more slots c.target c.deed step rs r) was none where
       go : ((ending : Ending) (next : ℕ) (left : List Response) → standing_at line (progress_from (slots_after ending slots) next cs left).standing ≡ Some x
           → standing_at line (progress_from (slots_after ending slots) next cs (left ++ r ∷ [])).standing ≡ None → waits_after (progress_from (slots_after ending slots) next cs (left ++ r ∷ [])).standing (r ∷ []) ≡ None)
           → (d f : Doing) (m n : ℕ) → Onward step r m n d f → standing_at line (progress_of slots step c cs d).standing ≡ Some x

@@ -4,25 +4,26 @@ use Rattle.std.specs.Prelude.{nat_lt, if◌then◌else◌, slice_index_or}
 use Rattle.std.proofs.lemmas.Bool.Decides.{nat_tests}
 use Rattle.dmx_calls.specs.declared.limits.TheConstants.{DEMUX_NODES}
 use Rattle.dmx_calls.specs.declared.reply.Tap.TheVariants.{Keep as KeepTap, Attach as AttachTap, Detach as DetachTap}
-use Rattle.dmx_calls.specs.Response.{Response, Done, Busy, Again, TapChange}
+use Rattle.dmx_calls.specs.Response.{Response, Done, Busy, Again, Ready, TapChange}
 use Rattle.client_script.specs.Script.{Scripted}
 use Rattle.client_script.specs.declared.line.Target.{Target}
 use Rattle.client_script.specs.declared.line.Target.TheVariants.{Node, Slot, Dvr}
-use Rattle.client_script.specs.declared.line.Verb.{Verb}
-use Rattle.client_script.specs.declared.line.Verb.TheVariants.{Once, ReadWait, Drain, GetStc}
+use Rattle.client_core.specs.declared.deed.Deed.{Deed}
+use Rattle.client_core.specs.declared.deed.Deed.TheVariants.{Once, ReadWait, Drain, GetStc, Write}
 use Rattle.client_script.specs.declared.line.Want.{Want}
-use Rattle.client_script.specs.declared.line.Want.TheVariants.{Open, Read}
+use Rattle.client_script.specs.declared.line.Want.TheVariants.{Open, Close, Section, Pes, Add, Remove, Start, Stop, Size, Read, Poll}
 use Rattle.client_core.specs.declared.command.Command.{Command}
 use Rattle.client_core.specs.declared.event.Event.{Event}
 use Rattle.client_core.specs.declared.event.Request.{Request}
-use Rattle.client_core.specs.declared.event.Request.TheVariants.{Own}
+use Rattle.client_core.specs.declared.event.Request.TheVariants.{Own, Attach, Detach, Pass}
 use Rattle.client_core.specs.declared.task.Ending.{Ending}
 use Rattle.client_core.specs.declared.task.Ending.TheVariants.{Made, Bound, AllBusy}
-use Rattle.client_core.specs.Commands.{Slots, Doing, stands, through, once, told, called, opened, read_until, done_on, done_at, done_by_slot, done, ends_wait, ends_drain, commands_of}
+use Rattle.client_core.specs.Commands.{Slots, Doing, stands, through, once, told, called, opened, passed, written, read_until, done_on, done_at, done_by_slot, done, ends_wait, ends_drain, commands_of}
 use Rattle.client_core.specs.Events.{Standing, slots_after, progress_from, progress, no_slots}
 use Rattle.client_core.specs.Repeats.{repeated, repeats_on, repeats_at, repeats_in, repeats_from, repeats, CallsAreFew}
 use Rattle.std.proofs.lemmas.Option.{none-some}
 use Rattle.lemmas.proofs.Options.{same_some}
+use Rattle.client_core.specs.Inside.More.{added_by}
 use Rattle.client_core.proofs.GoesOn.{progress_of}
 use Rattle.client_core.proofs.More.{Onward, done_on_more, repeats_none, rest_of}
 
@@ -30,9 +31,30 @@ use Rattle.client_core.proofs.More.{Onward, done_on_more, repeats_none, rest_of}
 abbrev again : Response
 again = Again false
 
--- where it still stands, it stands on the same node
+-- a read stays on its node
+abbrev StaysBy : Request → (now before : ℕ) → Type 0
+StaysBy (Own (Read count)) now before = now ≡ before
+StaysBy _ now before = Unit {0}
+
+by_read : (w : Request) (now before : ℕ) → StaysBy w now before → 0 < added_by w again → now ≡ before
+by_read (Own (Read count)) now before is lt = is
+by_read (Own Open) now before is lt = absurd (omega (arith, lt))
+by_read (Own Close) now before is lt = absurd (omega (arith, lt))
+by_read (Own (Section p)) now before is lt = absurd (omega (arith, lt))
+by_read (Own (Pes p)) now before is lt = absurd (omega (arith, lt))
+by_read (Own (Add p)) now before is lt = absurd (omega (arith, lt))
+by_read (Own (Remove p)) now before is lt = absurd (omega (arith, lt))
+by_read (Own Start) now before is lt = absurd (omega (arith, lt))
+by_read (Own Stop) now before is lt = absurd (omega (arith, lt))
+by_read (Own (Size n)) now before is lt = absurd (omega (arith, lt))
+by_read (Own Poll) now before is lt = absurd (omega (arith, lt))
+by_read (Attach n p) now before is lt = absurd (omega (arith, lt))
+by_read (Detach n) now before is lt = absurd (omega (arith, lt))
+by_read (Pass w) now before is lt = absurd (omega (arith, lt))
+
+-- where a read still stands, it stands on the same node
 abbrev StaysOn : Event → Doing → Type 0
-StaysOn e (stands f) = f.node ≡ e.node
+StaysOn e (stands f) = StaysBy e.want f.node e.node
 StaysOn e (through ending next left) = Unit {0}
 
 -- Of these replies a command uses at most so many, and fewer where it stands; then after Again it still stands on its node.
@@ -88,6 +110,34 @@ opened_tight slot node step (Done from to tap ∷ rs) lt =
     (after_one 1 (Done from to tap) rs (told (Bound slot node) node tap (step + 1) rs) (told (Bound slot node) node tap (step + 1) (rs ++ again ∷ [])) (told_tight (Bound slot node) node tap (step + 1) rs))
 opened_tight slot node step (_ ∷ rs) lt = omega (arith, lt)
 
+-- a pass: the next node is passed
+pass_tight : (write node step : ℕ) (r : Response) (rs : List Response) → node < 32
+    → (node + 1 < 32 → IsTight (32 - (node + 1)) rs (passed write (node + 1) (step + 1) rs) (passed write (node + 1) (step + 1) (rs ++ again ∷ [])))
+    → (b : Bool) → nat_lt (node + 1) DEMUX_NODES ≡ b
+    → IsTight (32 - node) (r ∷ rs) (if b then passed write (node + 1) (step + 1) rs else through Made (step + 1) rs)
+    (if b then passed write (node + 1) (step + 1) (rs ++ again ∷ []) else through Made (step + 1) (rs ++ again ∷ []))
+pass_tight write node step r rs lt deeper true yea =
+    let more : node + 1 < 32 = grind (arith, nat_tests, yea) in
+    more_tight (32 - (node + 1) + 1) (32 - node) (r ∷ rs) (passed write (node + 1) (step + 1) rs) (passed write (node + 1) (step + 1) (rs ++ again ∷ [])) (omega (arith, more))
+    (after_one (32 - (node + 1)) r rs (passed write (node + 1) (step + 1) rs) (passed write (node + 1) (step + 1) (rs ++ again ∷ [])) (deeper more))
+pass_tight write node step r rs lt deeper false nay = omega (arith, lt)
+
+-- the batch passes all nodes from this one on
+passed_tight : (write node step : ℕ) (rs : List Response) → node < 32 → IsTight (32 - node) rs (passed write node step rs) (passed write node step (rs ++ again ∷ []))
+passed_tight write node step [] lt = (omega (arith, lt), more_stays (nat_lt (node + 1) DEMUX_NODES)) where
+  more_stays : (b : Bool) → StaysOn (record { step = step; node = node; want = Pass write }) (if b then passed write (node + 1) (step + 1) [] else through Made (step + 1) [])
+  more_stays true = tt
+  more_stays false = tt
+passed_tight write node step (r ∷ rs) lt = pass_tight write node step r rs lt (λ more. passed_tight write (node + 1) (step + 1) rs more) (nat_lt (node + 1) DEMUX_NODES) refl
+
+-- a write makes a poll and at most 32 passes
+written_tight : (node write : ℕ) (has : Bool) (step : ℕ) (rs : List Response) → IsTight 33 rs (written node write has step rs) (written node write has step (rs ++ again ∷ []))
+written_tight node write has step [] = (omega arith, tt)
+written_tight node write has step (Ready a b c d ∷ rs) =
+    if_tight has 33 (Ready a b c d ∷ rs) (passed write 0 (step + 1) rs) (through Made (step + 1) rs) (passed write 0 (step + 1) (rs ++ again ∷ [])) (through Made (step + 1) (rs ++ again ∷ []))
+    (after_one 32 (Ready a b c d) rs (passed write 0 (step + 1) rs) (passed write 0 (step + 1) (rs ++ again ∷ [])) (passed_tight write 0 (step + 1) rs (omega arith))) (omega arith)
+written_tight node write has step (_ ∷ rs) = omega arith
+
 read_tight : (ends : Response → Bool) (node count step : ℕ) (rs : List Response)
     → IsTight (1 + repeated ends rs) rs (read_until ends node count step rs) (read_until ends node count step (rs ++ again ∷ []))
 read_tight ends node count step [] = (omega arith, go (ends again)) where
@@ -113,25 +163,26 @@ reads_tight : (ends : Response → Bool) (node count step : ℕ) (rs : List Resp
 reads_tight ends node count step rs =
     more_tight (1 + repeated ends rs) (33 + repeated ends rs) rs (read_until ends node count step rs) (read_until ends node count step (rs ++ again ∷ [])) (omega arith) (read_tight ends node count step rs)
 
-on_tight : (node : ℕ) (v : Verb) (step : ℕ) (rs : List Response) → IsTight (33 + repeats_on v rs) rs (done_on node v step rs) (done_on node v step (rs ++ again ∷ []))
+on_tight : (node : ℕ) (v : Deed) (step : ℕ) (rs : List Response) → IsTight (33 + repeats_on v rs) rs (done_on node v step rs) (done_on node v step (rs ++ again ∷ []))
 on_tight node (ReadWait count) step rs = reads_tight ends_wait node count step rs
 on_tight node (Drain count) step rs = reads_tight ends_drain node count step rs
 on_tight node (Once w) step rs = call_tight node w step rs
 on_tight node (GetStc num) step rs = omega arith
+on_tight node (Write write has) step rs = more_tight 33 (33 + 0) rs (written node write has step rs) (written node write has step (rs ++ again ∷ [])) (omega arith) (written_tight node write has step rs)
 
-at_tight : (o : Option ℕ) (v : Verb) (step : ℕ) (rs : List Response) → IsTight (33 + repeats_at o v rs) rs (done_at o v step rs) (done_at o v step (rs ++ again ∷ []))
+at_tight : (o : Option ℕ) (v : Deed) (step : ℕ) (rs : List Response) → IsTight (33 + repeats_at o v rs) rs (done_at o v step rs) (done_at o v step (rs ++ again ∷ []))
 at_tight None v step rs = omega arith
 at_tight (Some node) v step rs = on_tight node v step rs
 
 open_slot_tight : (slot step : ℕ) (o : Option ℕ) (rs : List Response) → IsTight (33 + repeats_at o (Once Open) rs) rs (opened slot 0 step rs) (opened slot 0 step (rs ++ again ∷ []))
 open_slot_tight slot step o rs = more_tight 33 (33 + repeats_at o (Once Open) rs) rs (opened slot 0 step rs) (opened slot 0 step (rs ++ again ∷ [])) (omega arith) (opened_tight slot 0 step rs (omega arith))
 
-slot_tight : (slot : ℕ) (slots : Slots) (v : Verb) (step : ℕ) (rs : List Response)
+slot_tight : (slot : ℕ) (slots : Slots) (v : Deed) (step : ℕ) (rs : List Response)
     → IsTight (33 + repeats_at (slice_index_or slots slot None) v rs) rs (done_by_slot slot slots v step rs) (done_by_slot slot slots v step (rs ++ again ∷ []))
 slot_tight slot slots (Once Open) step rs = open_slot_tight slot step (slice_index_or slots slot None) rs
 slot_tight slot slots v step rs = at_tight (slice_index_or slots slot None) v step rs
 
-done_tight : (slots : Slots) (t : Target) (v : Verb) (step : ℕ) (rs : List Response) → IsTight (33 + repeats_in slots t v rs) rs (done slots t v step rs) (done slots t v step (rs ++ again ∷ []))
+done_tight : (slots : Slots) (t : Target) (v : Deed) (step : ℕ) (rs : List Response) → IsTight (33 + repeats_in slots t v rs) rs (done slots t v step rs) (done slots t v step (rs ++ again ∷ []))
 done_tight slots (Node node) v step rs = on_tight node v step rs
 done_tight slots (Slot slot) v step rs = slot_tight slot slots v step rs
 done_tight slots Dvr v step rs = on_tight DEMUX_NODES v step rs
@@ -147,8 +198,8 @@ all_tight : (slots : Slots) (step : ℕ) (cs : List Command) (rs : List Response
     → Tight (length cs) (length rs) (repeats_from slots step cs rs) (repeats_from slots step cs (rs ++ again ∷ [])) s (progress_from slots step cs (rs ++ again ∷ [])).standing
 all_tight slots step [] rs s is = absurd (none-some s is)
 all_tight slots step (c ∷ cs) rs s is =
-    go (λ ending next left there. all_tight (slots_after ending slots) next cs left s there) (done slots c.target c.verb step rs) (done slots c.target c.verb step (rs ++ again ∷ []))
-    (repeats_in slots c.target c.verb rs) (repeats_in slots c.target c.verb (rs ++ again ∷ [])) (done_tight slots c.target c.verb step rs) (done_on_more slots c.target c.verb step rs again) is where
+    go (λ ending next left there. all_tight (slots_after ending slots) next cs left s there) (done slots c.target c.deed step rs) (done slots c.target c.deed step (rs ++ again ∷ []))
+    (repeats_in slots c.target c.deed rs) (repeats_in slots c.target c.deed (rs ++ again ∷ [])) (done_tight slots c.target c.deed step rs) (done_on_more slots c.target c.deed step rs again) is where
       go : ((ending : Ending) (next : ℕ) (left : List Response) → (progress_from (slots_after ending slots) next cs left).standing ≡ Some s
           → Tight (length cs) (length left) (repeats_from (slots_after ending slots) next cs left) (repeats_from (slots_after ending slots) next cs (left ++ again ∷ [])) s (progress_from (slots_after ending slots) next cs (left ++ again ∷ [])).standing)
           → (d f : Doing) (m n : ℕ) → IsTight (33 + m) rs d f → Onward step again m n d f → (progress_of slots step c cs d).standing ≡ Some s
@@ -157,7 +208,7 @@ all_tight slots step (c ∷ cs) rs s is =
           let same : e ≡ s.event = ap (λ t. t.event) (same_some {A = Standing} (record { line = c.line; from = step; event = e }) s there) in
           record {
             few = omega (arith, tight.0);
-            stays = λ grows t is. sym (ap (λ x. x.event.node) (same_some {A = Standing} (record { line = c.line; from = step; event = f }) t is)) ∙ tight.1 ∙ ap (λ x. x.node) same;
+            stays = λ grows t is. sym (ap (λ x. x.event.node) (same_some {A = Standing} (record { line = c.line; from = step; event = f }) t is)) ∙ by_read e.want f.node e.node tight.1 (omega (arith, grows, on.1)) ∙ ap (λ x. x.node) same;
           }
       go deeper (stands e) (through ending next left) m n tight on there =
           let nil : repeats_from (slots_after ending slots) next cs left ≡ 0 = ap (λ l. repeats_from (slots_after ending slots) next cs l) on.0 ∙ repeats_none (slots_after ending slots) next cs in

@@ -13,8 +13,8 @@ use Rattle.ts_packet.specs.Cut.{cut, cut_after}
 use Rattle.ts_packet.specs.Cutting.{bytes_counted}
 use Rattle.stc_clock.specs.Clock.{unset, last_pcr, HasFollowed}
 use Rattle.client_script.specs.Script.{Scripted}
-use Rattle.client_script.specs.declared.line.Verb.{Verb}
-use Rattle.client_script.specs.declared.line.Verb.TheVariants.{GetStc}
+use Rattle.client_core.specs.declared.deed.Deed.{Deed}
+use Rattle.client_core.specs.declared.deed.Deed.TheVariants.{GetStc}
 use Rattle.client_core.specs.declared.command.Command.{Command}
 use Rattle.client_core.specs.declared.task.Ending.{Ending}
 use Rattle.client_core.specs.declared.task.Ending.TheVariants.{Made, Bound, AllBusy, NoNode, Asked}
@@ -60,13 +60,13 @@ none_taken true = All-replicate (λ c. bytes_counted c.clock.cutting ≤ 0) 33 u
 none_taken false = All-nil (λ c. bytes_counted c.clock.cutting ≤ 0)
 
 -- where clocks are kept, each command can begin
-can_ask_all : (v : Verb) → CanAsk 33 v
+can_ask_all : (v : Deed) → CanAsk 33 v
 can_ask_all (GetStc num) = omega arith
 can_ask_all _ = tt
 
 all_can_begin : (cs : List Command) → All (CanBegin 33) cs
 all_can_begin [] = All-nil (CanBegin 33)
-all_can_begin (c ∷ cs) = All-cons (CanBegin 33) c cs (can_ask_all c.verb) (all_can_begin cs)
+all_can_begin (c ∷ cs) = All-cons (CanBegin 33) c cs (can_ask_all c.deed) (all_can_begin cs)
 
 pub can_begin : (asked : Bool) (cs : List Command) → (asked ≡ false → All (CanBegin 0) cs) → All (CanBegin (length (fresh_clocks asked))) cs
 can_begin true cs none = all_can_begin cs

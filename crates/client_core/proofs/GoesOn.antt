@@ -10,16 +10,16 @@ use Rattle.client_core.specs.declared.command.Command.{Command}
 use Rattle.client_core.specs.declared.task.Ending.{Ending}
 use Rattle.client_core.specs.declared.task.Task.{Task}
 use Rattle.client_core.specs.Commands.{Doing, stands, through, Slots, done}
-use Rattle.client_core.specs.Events.{Standing, Ended, Progress, with_ended, slots_after, progress_from, progress, next_event, waits_after, standing_at}
+use Rattle.client_core.specs.Events.{Standing, Ended, Progress, with_ended, slots_after, progress_from, progress, next_event, reading_on, waits_after, standing_at}
 use Rattle.client_core.specs.Stc.{with_reply, exchanges}
 use Rattle.client_core.specs.Outcomes.{outcome_by, outcome_of}
 use Rattle.client_core.specs.Inside.Clocks.{counter_in, HaveFollowed}
-use Rattle.client_core.specs.Inside.Tasks.{resumed, node_in, IsTaskInRange}
+use Rattle.client_core.specs.Inside.Tasks.{resumed, reading_in, IsTaskInRange}
 use Rattle.client_script.specs.Script.{Scripted}
 use Rattle.std.specs.Option.{IfSome, IfNone}
 use Rattle.client_core.specs.declared.event.Event.{Event}
 use Rattle.client_core.specs.declared.machine.Current.{Current}
-use Rattle.client_core.specs.declared.task.Task.TheVariants.{Call, ReadWait, Drain, OpenFrom, Attach, Detach}
+use Rattle.client_core.specs.declared.task.Task.TheVariants.{Call, ReadWait, Drain, OpenFrom, Attach, Detach, Write, Play}
 use Rattle.client_core.specs.Inside.Core.{ahead, behind, coming_from, coming, Core, IsLate, IsAfter, HasTaken, next_of, waits_with}
 use Rattle.client_core.proofs.Following.{exchanges_more, early_same, told_now}
 use Rattle.std.proofs.lemmas.Option.{none-some}
@@ -32,8 +32,8 @@ progress_of slots step c cs d = elim d [
 ]
 
 pub first_ahead : (slots : Slots) (step : ℕ) (c : Command) (cs : List Command) (more : List Response)
-    → progress_from slots step (c ∷ cs) more ≡ ahead c.line step slots cs (done slots c.target c.verb step more)
-first_ahead slots step c cs more = go (done slots c.target c.verb step more) where
+    → progress_from slots step (c ∷ cs) more ≡ ahead c.line step slots cs (done slots c.target c.deed step more)
+first_ahead slots step c cs more = go (done slots c.target c.deed step more) where
   go : (d : Doing) → progress_of slots step c cs d ≡ ahead c.line step slots cs d
   go (stands event) = refl
   go (through ending next left) = refl
@@ -45,14 +45,14 @@ behind_two : (es fs : List Ended) (p : Progress) → behind (es ++ fs) p ≡ beh
 behind_two es fs p = ap (λ xs. record { ended = xs; standing = p.standing }) (append_assoc es fs p.ended)
 
 pub begun_goes_on : (slots : Slots) (step : ℕ) (left : List Command) (c : Command) (cs : List Command) (task : Task) → left ≡ c ∷ cs
-    → ((s : ℕ) (more : List Response) → done slots c.target c.verb s more ≡ resumed task s more)
+    → ((s : ℕ) (more : List Response) → done slots c.target c.deed s more ≡ resumed task s more)
     → (more : List Response)
     → progress_from slots step left more ≡ coming_from (Some (record { line = c.line; from = step; task = task })) step slots cs more
 begun_goes_on slots step left c cs task is does more =
     ap (λ l. progress_from slots step l more) is ∙ first_ahead slots step c cs more ∙ ap (λ d. ahead c.line step slots cs d) (does step more)
 
 pub passed_goes_on : (slots : Slots) (step : ℕ) (left : List Command) (c : Command) (cs : List Command) (ending : Ending) → left ≡ c ∷ cs
-    → ((s : ℕ) (more : List Response) → done slots c.target c.verb s more ≡ through ending s more)
+    → ((s : ℕ) (more : List Response) → done slots c.target c.deed s more ≡ through ending s more)
     → (es : List Ended) (more : List Response)
     → behind es (progress_from slots step left more)
     ≡ behind (es ++ record { line = c.line; from = step; to = step; ending = ending } ∷ []) (progress_from (slots_after ending slots) step cs more)
@@ -82,6 +82,7 @@ taken client script replies r c d after takes step = record {
       ∙ ap (λ os. os ++ map (outcome_by (counter_in d.clocks)) takes.passed) (after.outcomes ∙ early_same client script replies r after.ended after.early)
       ∙ ap (λ os. map (outcome_of client script (replies ++ r ∷ [])) after.ended ++ os) (told_now client script (replies ++ r ∷ []) d.clocks takes.passed followed_now late_now)
       ∙ sym (map-append (outcome_of client script (replies ++ r ∷ [])) after.ended takes.passed);
+  plays = takes.plays ∙ after.plays;
   early = All-append (λ (e : Ended). e.from ≤ length (replies ++ r ∷ [])) after.ended takes.passed
       (All-weaker (λ (e : Ended). e.from ≤ length replies) (λ (e : Ended). e.from ≤ length (replies ++ r ∷ [])) (λ e le. omega (arith, le, longer)) after.ended after.early)
       (All-weaker (IsLate (length d.clocks) (length (replies ++ r ∷ []))) (λ (e : Ended). e.from ≤ length (replies ++ r ∷ [])) (λ e l. l.from) takes.passed late_now);
@@ -124,6 +125,8 @@ task_stands step (Drain node count) = (_, refl, refl)
 task_stands step (OpenFrom slot node) = (_, refl, refl)
 task_stands step (Attach ending node pids) = (_, refl, refl)
 task_stands step (Detach ending node) = (_, refl, refl)
+task_stands step (Write node write has) = (_, refl, refl)
+task_stands step (Play write node) = (_, refl, refl)
 
 -- either way it waits for nothing
 no_wait : (b : Bool) → ◌≡◌ {A = Option ℕ} None (if b then None else None)
@@ -131,21 +134,21 @@ no_wait true = refl
 no_wait false = refl
 
 -- a client waits where the reply was Again, and what stands there isn't its command's first call
-waits_by : (s : Standing) (r : Response) → waits_after (Some s) (r ∷ []) ≡ (if nat_lt s.from s.event.step then waits_with r s.event.node else None)
+waits_by : (s : Standing) (r : Response) → waits_after (Some s) (r ∷ []) ≡ (if nat_lt s.from s.event.step then waits_with r (reading_on s.event) else None)
 waits_by s (Again false) = refl
 waits_by s _ = no_wait (nat_lt s.from s.event.step)
 
 -- a command that goes on waits where the reply was Again
-pub waits_still : (s : Standing) (r : Response) → s.from < s.event.step → waits_after (Some s) (r ∷ []) ≡ waits_with r s.event.node
+pub waits_still : (s : Standing) (r : Response) → s.from < s.event.step → waits_after (Some s) (r ∷ []) ≡ waits_with r (reading_on s.event)
 waits_still s r lt =
     let later : nat_lt s.from s.event.step ≡ true = grind (arith, nat_tests) in
-    waits_by s r ∙ ap (λ b. if b then waits_with r s.event.node else None) later
+    waits_by s r ∙ ap (λ b. if b then waits_with r (reading_on s.event) else None) later
 
 -- a command that has just begun waits for nothing
 pub waits_not : (s : Standing) (r : Response) → s.event.step ≤ s.from → waits_after (Some s) (r ∷ []) ≡ None
 waits_not s r le =
     let first : nat_lt s.from s.event.step ≡ false = grind (arith, nat_tests) in
-    waits_by s r ∙ ap (λ b. if b then waits_with r s.event.node else None) first
+    waits_by s r ∙ ap (λ b. if b then waits_with r (reading_on s.event) else None) first
 
 -- ------ what stands there
 
@@ -175,10 +178,10 @@ begun_waits_not (Some k) step slots left r ended at =
     sym (ap (λ d. waits_after (ahead k.line k.from slots left d).standing (r ∷ [])) there.1 ∙ waits_not (record { line = k.line; from = k.from; event = there.0 }) r (omega (arith, at.1, there.2)))
 
 pub still_waits : (k : Current) (t : Task) (step : ℕ) (slots : Slots) (left : List Command) (r : Response) → k.from < step
-    → waits_with r (node_in (resumed t step [])) ≡ waits_after (ahead k.line k.from slots left (resumed t step [])).standing (r ∷ [])
+    → waits_with r (reading_in (resumed t step [])) ≡ waits_after (ahead k.line k.from slots left (resumed t step [])).standing (r ∷ [])
 still_waits k t step slots left r lt =
     let there : StandsAt step (resumed t step []) = task_stands step t in
-    ap (λ d. waits_with r (node_in d)) there.1
+    ap (λ d. waits_with r (reading_in d)) there.1
     ∙ sym (ap (λ d. waits_after (ahead k.line k.from slots left d).standing (r ∷ [])) there.1 ∙ waits_still (record { line = k.line; from = k.from; event = there.0 }) r (omega (arith, lt, there.2)))
 
 pub none_waits : (s : Option Standing) → None ≡ waits_after s []

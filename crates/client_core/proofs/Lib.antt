@@ -4,3 +4,5 @@ pub mod Following
 pub mod More
 pub mod Numbering
 pub mod Ended
+pub mod Playing
+pub mod Passing

@@ -3,11 +3,11 @@ use Rattle.std.proofs.Common.{◌≡◌, refl, sym, ap, subst, ◌∙◌, ℕ, �
 use Rattle.std.specs.Prelude.{nat_lt, if◌then◌else◌, slice_index_or, option_map}
 use Rattle.dmx_calls.specs.declared.limits.TheConstants.{DEMUX_NODES}
 use Rattle.dmx_calls.specs.declared.reply.Tap.TheVariants.{Keep as KeepTap, Attach as AttachTap, Detach as DetachTap}
-use Rattle.dmx_calls.specs.Response.{Response, Done, Busy, Again, TapChange}
+use Rattle.dmx_calls.specs.Response.{Response, Done, Busy, Again, Ready, TapChange}
 use Rattle.client_script.specs.declared.line.Target.{Target}
 use Rattle.client_script.specs.declared.line.Target.TheVariants.{Node, Slot, Dvr}
-use Rattle.client_script.specs.declared.line.Verb.{Verb}
-use Rattle.client_script.specs.declared.line.Verb.TheVariants.{Once, ReadWait, Drain, GetStc}
+use Rattle.client_core.specs.declared.deed.Deed.{Deed}
+use Rattle.client_core.specs.declared.deed.Deed.TheVariants.{Once, ReadWait, Drain, GetStc, Write}
 use Rattle.client_script.specs.declared.line.Want.{Want}
 use Rattle.client_script.specs.declared.line.Want.TheVariants.{Open}
 use Rattle.client_core.specs.declared.command.Command.{Command}
@@ -16,8 +16,8 @@ use Rattle.client_core.specs.declared.event.Request.{Request}
 use Rattle.client_core.specs.declared.event.Request.TheVariants.{Own}
 use Rattle.client_core.specs.declared.task.Ending.{Ending}
 use Rattle.client_core.specs.declared.task.Ending.TheVariants.{Made, Bound, AllBusy}
-use Rattle.client_core.specs.Commands.{Slots, Doing, stands, through, once, told, called, opened, read_until, done_on, done_at, done_by_slot, done, ends_wait, ends_drain, commands_of}
-use Rattle.client_core.specs.Events.{Standing, slots_after, progress_from, progress, no_slots, waits_after}
+use Rattle.client_core.specs.Commands.{Slots, Doing, stands, through, once, told, called, opened, passed, written, read_until, done_on, done_at, done_by_slot, done, ends_wait, ends_drain, commands_of}
+use Rattle.client_core.specs.Events.{Standing, slots_after, progress_from, progress, no_slots, reading_on, waits_after}
 use Rattle.client_core.specs.Repeats.{repeated, repeats_on, repeats_at, repeats_in, repeats_from, repeats}
 use Rattle.client_core.specs.Inside.Core.{waits_with}
 use Rattle.client_core.specs.Inside.More.{added_by, OneReplyMore}
@@ -25,22 +25,22 @@ use Rattle.std.proofs.lemmas.Option.{none-some}
 use Rattle.lemmas.proofs.Options.{same_some}
 use Rattle.client_core.proofs.GoesOn.{progress_of, last_counts, waits_still}
 
--- A command with one reply more: where it was through, it leaves this reply too. Where it stood, it stands at a later step, or is through, and then no read is repeated. So many reads are repeated before and after.
+-- A command with one reply more: where it was through, it leaves this reply too. Where it stood, it stands at a later step, or is through, and then no read is repeated, as where what stands there is no read. So many reads are repeated before and after.
 abbrev pub Onward : (step : ℕ) → Response → (before after : ℕ) → Doing → Doing → Type 0
 Onward step r m n (through ending next left) d = (d ≡ through ending next (left ++ r ∷ [])) × (n ≡ m)
-Onward step r m n (stands e) (stands f) = (step < f.step) × (n ≤ m + added_by e.want r)
+Onward step r m n (stands e) (stands f) = (step < f.step) × (n ≤ m + added_by e.want r) × (reading_on f ≡ None → n ≤ m)
 Onward step r m n (stands e) (through ending next left) = (left ≡ []) × (n ≤ m)
 
 -- from an earlier step
 earlier : (step later : ℕ) (r : Response) (m n : ℕ) (d f : Doing) → step ≤ later → Onward later r m n d f → Onward step r m n d f
 earlier step later r m n (through ending next left) f le on = on
-earlier step later r m n (stands e) (stands f) le on = (omega (arith, le, on.0), on.1)
+earlier step later r m n (stands e) (stands f) le on = (omega (arith, le, on.0), on.1, on.2)
 earlier step later r m n (stands e) (through ending next left) le on = on
 
 -- one more before
 both_more : (step : ℕ) (r : Response) (m n : ℕ) (d f : Doing) → Onward step r m n d f → Onward step r (1 + m) (1 + n) d f
 both_more step r m n (through ending next left) f on = (on.0, ap (λ k. 1 + k) on.1)
-both_more step r m n (stands e) (stands f) on = (on.0, omega (arith, on.1))
+both_more step r m n (stands e) (stands f) on = (on.0, omega (arith, on.1), λ none. omega (arith, on.2 none))
 both_more step r m n (stands e) (through ending next left) on = (on.0, omega (arith, on.1))
 
 if_on : (b : Bool) (step : ℕ) (r : Response) (m n : ℕ) (c d f g : Doing) → Onward step r m n c f → Onward step r m n d g → Onward step r m n (if b then c else d) (if b then f else g)
@@ -65,8 +65,8 @@ told_on ending node DetachTap step rs r = once_on ending DEMUX_NODES _ step rs r
 -- after the call that stood there
 told_after : (e : Event) (ending : Ending) (node : ℕ) (tap : TapChange) (step : ℕ) (r : Response) → Onward step r 0 0 (stands e) (told ending node tap (step + 1) [])
 told_after e ending node KeepTap step r = (refl, omega arith)
-told_after e ending node (AttachTap pids) step r = (omega arith, omega arith)
-told_after e ending node DetachTap step r = (omega arith, omega arith)
+told_after e ending node (AttachTap pids) step r = (omega arith, omega arith, λ none. omega arith)
+told_after e ending node DetachTap step r = (omega arith, omega arith, λ none. omega arith)
 
 called_on : (node : ℕ) (w : Want) (step : ℕ) (rs : List Response) (r : Response) → Onward step r 0 0 (called node w step rs) (called node w step (rs ++ r ∷ []))
 called_on node w step [] (Done from to tap) =
@@ -81,7 +81,7 @@ called_on node w step (_ ∷ rs) r = (refl, refl)
 
 opened_on : (slot node step : ℕ) (rs : List Response) (r : Response) → Onward step r 0 0 (opened slot node step rs) (opened slot node step (rs ++ r ∷ []))
 opened_on slot node step [] (Busy x) =
-    if_after (nat_lt (node + 1) DEMUX_NODES) step (Busy x) 0 0 (opened slot node step []) (opened slot (node + 1) (step + 1) []) (through AllBusy (step + 1) []) (omega arith, omega arith) (refl, omega arith)
+    if_after (nat_lt (node + 1) DEMUX_NODES) step (Busy x) 0 0 (opened slot node step []) (opened slot (node + 1) (step + 1) []) (through AllBusy (step + 1) []) (omega arith, omega arith, λ none. omega arith) (refl, omega arith)
 opened_on slot node step [] (Done from to tap) = told_after (record { step = step; node = node; want = Own Open }) (Bound slot node) node tap step (Done from to tap)
 opened_on slot node step [] _ = (refl, omega arith)
 opened_on slot node step (Busy x ∷ rs) r =
@@ -91,6 +91,24 @@ opened_on slot node step (Done from to tap ∷ rs) r =
     earlier step (step + 1) r 0 0 (told (Bound slot node) node tap (step + 1) rs) (told (Bound slot node) node tap (step + 1) (rs ++ r ∷ [])) (omega arith) (told_on (Bound slot node) node tap (step + 1) rs r)
 opened_on slot node step (_ ∷ rs) r = (refl, refl)
 
+-- ------ a write
+
+passed_on : (write node step : ℕ) (rs : List Response) (r : Response) → Onward step r 0 0 (passed write node step rs) (passed write node step (rs ++ r ∷ []))
+passed_on write node step [] r =
+    if_after (nat_lt (node + 1) DEMUX_NODES) step r 0 0 (passed write node step []) (passed write (node + 1) (step + 1) []) (through Made (step + 1) []) (omega arith, omega arith, λ none. omega arith) (refl, omega arith)
+passed_on write node step (q ∷ rs) r =
+    if_on (nat_lt (node + 1) DEMUX_NODES) step r 0 0 (passed write (node + 1) (step + 1) rs) (through Made (step + 1) rs) (passed write (node + 1) (step + 1) (rs ++ r ∷ [])) (through Made (step + 1) (rs ++ r ∷ []))
+    (earlier step (step + 1) r 0 0 (passed write (node + 1) (step + 1) rs) (passed write (node + 1) (step + 1) (rs ++ r ∷ [])) (omega arith) (passed_on write (node + 1) (step + 1) rs r)) (refl, refl)
+
+written_on : (node write : ℕ) (has : Bool) (step : ℕ) (rs : List Response) (r : Response) → Onward step r 0 0 (written node write has step rs) (written node write has step (rs ++ r ∷ []))
+written_on node write has step [] (Ready a b c d) =
+    if_after has step (Ready a b c d) 0 0 (written node write has step []) (passed write 0 (step + 1) []) (through Made (step + 1) []) (omega arith, omega arith, λ none. omega arith) (refl, omega arith)
+written_on node write has step [] _ = (refl, omega arith)
+written_on node write has step (Ready a b c d ∷ rs) r =
+    if_on has step r 0 0 (passed write 0 (step + 1) rs) (through Made (step + 1) rs) (passed write 0 (step + 1) (rs ++ r ∷ [])) (through Made (step + 1) (rs ++ r ∷ []))
+    (earlier step (step + 1) r 0 0 (passed write 0 (step + 1) rs) (passed write 0 (step + 1) (rs ++ r ∷ [])) (omega arith) (passed_on write 0 (step + 1) rs r)) (refl, refl)
+written_on node write has step (_ ∷ rs) r = (refl, refl)
+
 -- ------ a read that is repeated
 
 read_on : (ends : Response → Bool) → ((q : Response) → ends q ≡ false → ends_drain q ≡ false) → (node count step : ℕ) (rs : List Response) (r : Response)
@@ -98,7 +116,7 @@ read_on : (ends : Response → Bool) → ((q : Response) → ends q ≡ false �
 read_on ends sooner node count step [] r = go (ends r) refl where
   go : (b : Bool) → ends r ≡ b → Onward step r 0 (if b then 0 else 1 + 0) (read_until ends node count step []) (if b then through Made (step + 1) [] else read_until ends node count (step + 1) [])
   go true yea = (refl, omega arith)
-  go false nay = (omega arith, rw (sooner r nay) (omega arith))
+  go false nay = (omega arith, rw (sooner r nay) (omega arith), λ none. absurd (none-some node (sym none)))
 read_on ends sooner node count step (q ∷ rs) r = go (ends q) (read_on ends sooner node count (step + 1) rs r) where
   go : (b : Bool) → Onward (step + 1) r (repeated ends rs) (repeated ends (rs ++ r ∷ [])) (read_until ends node count (step + 1) rs) (read_until ends node count (step + 1) (rs ++ r ∷ []))
       → Onward step r (if b then 0 else 1 + repeated ends rs) (if b then 0 else 1 + repeated ends (rs ++ r ∷ [])) (if b then through Made (step + 1) rs else read_until ends node count (step + 1) rs)
@@ -114,13 +132,14 @@ wait_sooner _ is = absurd (cc)
 
 -- ------ a command
 
-on_on : (node : ℕ) (v : Verb) (step : ℕ) (rs : List Response) (r : Response) → Onward step r (repeats_on v rs) (repeats_on v (rs ++ r ∷ [])) (done_on node v step rs) (done_on node v step (rs ++ r ∷ []))
+on_on : (node : ℕ) (v : Deed) (step : ℕ) (rs : List Response) (r : Response) → Onward step r (repeats_on v rs) (repeats_on v (rs ++ r ∷ [])) (done_on node v step rs) (done_on node v step (rs ++ r ∷ []))
 on_on node (ReadWait count) step rs r = read_on ends_wait wait_sooner node count step rs r
 on_on node (Drain count) step rs r = read_on ends_drain (λ q is. is) node count step rs r
 on_on node (Once w) step rs r = called_on node w step rs r
 on_on node (GetStc num) step rs r = (refl, refl)
+on_on node (Write write has) step rs r = written_on node write has step rs r
 
-at_on : (o : Option ℕ) (v : Verb) (step : ℕ) (rs : List Response) (r : Response) → Onward step r (repeats_at o v rs) (repeats_at o v (rs ++ r ∷ [])) (done_at o v step rs) (done_at o v step (rs ++ r ∷ []))
+at_on : (o : Option ℕ) (v : Deed) (step : ℕ) (rs : List Response) (r : Response) → Onward step r (repeats_at o v rs) (repeats_at o v (rs ++ r ∷ [])) (done_at o v step rs) (done_at o v step (rs ++ r ∷ []))
 at_on None v step rs r = (refl, refl)
 at_on (Some node) v step rs r = on_on node v step rs r
 
@@ -128,12 +147,12 @@ open_slot_on : (o : Option ℕ) (slot step : ℕ) (rs : List Response) (r : Resp
 open_slot_on None slot step rs r = opened_on slot 0 step rs r
 open_slot_on (Some node) slot step rs r = opened_on slot 0 step rs r
 
-slot_on : (slot : ℕ) (slots : Slots) (v : Verb) (step : ℕ) (rs : List Response) (r : Response)
+slot_on : (slot : ℕ) (slots : Slots) (v : Deed) (step : ℕ) (rs : List Response) (r : Response)
     → Onward step r (repeats_at (slice_index_or slots slot None) v rs) (repeats_at (slice_index_or slots slot None) v (rs ++ r ∷ [])) (done_by_slot slot slots v step rs) (done_by_slot slot slots v step (rs ++ r ∷ []))
 slot_on slot slots (Once Open) step rs r = open_slot_on (slice_index_or slots slot None) slot step rs r
 slot_on slot slots v step rs r = at_on (slice_index_or slots slot None) v step rs r
 
-pub done_on_more : (slots : Slots) (t : Target) (v : Verb) (step : ℕ) (rs : List Response) (r : Response)
+pub done_on_more : (slots : Slots) (t : Target) (v : Deed) (step : ℕ) (rs : List Response) (r : Response)
     → Onward step r (repeats_in slots t v rs) (repeats_in slots t v (rs ++ r ∷ [])) (done slots t v step rs) (done slots t v step (rs ++ r ∷ []))
 done_on_more slots (Node node) v step rs r = on_on node v step rs r
 done_on_more slots (Slot slot) v step rs r = slot_on slot slots v step rs r
@@ -146,13 +165,14 @@ abbrev pub IsFirst : (step : ℕ) → Doing → Type 0
 IsFirst step (stands e) = e.step ≡ step
 IsFirst step (through ending next left) = left ≡ []
 
-on_none : (node : ℕ) (v : Verb) (step : ℕ) → IsFirst step (done_on node v step []) × (repeats_on v [] ≡ 0)
+on_none : (node : ℕ) (v : Deed) (step : ℕ) → IsFirst step (done_on node v step []) × (repeats_on v [] ≡ 0)
 on_none node (ReadWait count) step = (refl, refl)
 on_none node (Drain count) step = (refl, refl)
 on_none node (Once w) step = (refl, refl)
 on_none node (GetStc num) step = (refl, refl)
+on_none node (Write write has) step = (refl, refl)
 
-at_none : (o : Option ℕ) (v : Verb) (step : ℕ) → IsFirst step (done_at o v step []) × (repeats_at o v [] ≡ 0)
+at_none : (o : Option ℕ) (v : Deed) (step : ℕ) → IsFirst step (done_at o v step []) × (repeats_at o v [] ≡ 0)
 at_none None v step = (refl, refl)
 at_none (Some node) v step = on_none node v step
 
@@ -160,21 +180,21 @@ open_none : (o : Option ℕ) → repeats_at o (Once Open) [] ≡ 0
 open_none None = refl
 open_none (Some node) = refl
 
-slot_none : (slot : ℕ) (slots : Slots) (v : Verb) (step : ℕ) → IsFirst step (done_by_slot slot slots v step []) × (repeats_at (slice_index_or slots slot None) v [] ≡ 0)
+slot_none : (slot : ℕ) (slots : Slots) (v : Deed) (step : ℕ) → IsFirst step (done_by_slot slot slots v step []) × (repeats_at (slice_index_or slots slot None) v [] ≡ 0)
 slot_none slot slots (Once Open) step = (refl, open_none (slice_index_or slots slot None))
 slot_none slot slots v step = at_none (slice_index_or slots slot None) v step
 
-pub done_none : (slots : Slots) (t : Target) (v : Verb) (step : ℕ) → IsFirst step (done slots t v step []) × (repeats_in slots t v [] ≡ 0)
+pub done_none : (slots : Slots) (t : Target) (v : Deed) (step : ℕ) → IsFirst step (done slots t v step []) × (repeats_in slots t v [] ≡ 0)
 done_none slots (Node node) v step = on_none node v step
 done_none slots (Slot slot) v step = slot_none slot slots v step
 done_none slots Dvr v step = on_none DEMUX_NODES v step
 
 pub repeats_none : (slots : Slots) (step : ℕ) (cs : List Command) → repeats_from slots step cs [] ≡ 0
 repeats_none slots step [] = refl
-repeats_none slots step (c ∷ cs) = go (λ ending next. repeats_none (slots_after ending slots) next cs) (done slots c.target c.verb step []) (done_none slots c.target c.verb step) where
+repeats_none slots step (c ∷ cs) = go (λ ending next. repeats_none (slots_after ending slots) next cs) (done slots c.target c.deed step []) (done_none slots c.target c.deed step) where
   go : ((ending : Ending) (next : ℕ) → repeats_from (slots_after ending slots) next cs [] ≡ 0)
-      → (d : Doing) → IsFirst step d × (repeats_in slots c.target c.verb [] ≡ 0)
-      → repeats_in slots c.target c.verb [] + (elim d [ stands event ↦ 0 | through ending next left ↦ repeats_from (slots_after ending slots) next cs left ]) ≡ 0
+      → (d : Doing) → IsFirst step d × (repeats_in slots c.target c.deed [] ≡ 0)
+      → repeats_in slots c.target c.deed [] + (elim d [ stands event ↦ 0 | through ending next left ↦ repeats_from (slots_after ending slots) next cs left ]) ≡ 0
   go later (stands e) none = omega (arith, none.1)
   go later (through ending next left) none =
       let nil : repeats_from (slots_after ending slots) next cs left ≡ 0 = ap (λ l. repeats_from (slots_after ending slots) next cs l) none.0 ∙ later ending next in
@@ -194,15 +214,16 @@ more_more w r k m n now is = record { le = omega (arith, is.le); waits = λ agai
 abbrev pub rest_of : (slots : Slots) (cs : List Command) → Doing → ℕ
 rest_of slots cs d = elim d [ stands event ↦ 0 | through ending next left ↦ repeats_from (slots_after ending slots) next cs left ]
 
-waits_there : (s : Standing) (r : Response) → s.from < s.event.step → r ≡ Again false → waits_after (Some s) (r ∷ []) ≡ None → ⊥
-waits_there s r lt again none = none-some s.event.node (sym none ∙ waits_still s r lt ∙ ap (λ q. waits_with q s.event.node) again)
+-- a command that goes on after Again, and whose client doesn't wait, goes on by no read
+waits_there : (s : Standing) (r : Response) → s.from < s.event.step → r ≡ Again false → waits_after (Some s) (r ∷ []) ≡ None → reading_on s.event ≡ None
+waits_there s r lt again none = sym (waits_still s r lt ∙ ap (λ q. waits_with q (reading_on s.event)) again) ∙ none
 
 all_more : (slots : Slots) (step : ℕ) (cs : List Command) (rs : List Response) (r : Response) (s : Standing) → (progress_from slots step cs rs).standing ≡ Some s
     → IsMore s.event.want r (repeats_from slots step cs rs) (repeats_from slots step cs (rs ++ r ∷ [])) (progress_from slots step cs (rs ++ r ∷ [])).standing
 all_more slots step [] rs r s is = absurd (none-some s is)
 all_more slots step (c ∷ cs) rs r s is =
-    go (λ ending next left there. all_more (slots_after ending slots) next cs left r s there) (done slots c.target c.verb step rs) (done slots c.target c.verb step (rs ++ r ∷ [])) (repeats_in slots c.target c.verb rs) (repeats_in slots c.target c.verb (rs ++ r ∷ []))
-    (done_on_more slots c.target c.verb step rs r) is where
+    go (λ ending next left there. all_more (slots_after ending slots) next cs left r s there) (done slots c.target c.deed step rs) (done slots c.target c.deed step (rs ++ r ∷ [])) (repeats_in slots c.target c.deed rs) (repeats_in slots c.target c.deed (rs ++ r ∷ []))
+    (done_on_more slots c.target c.deed step rs r) is where
       go : ((ending : Ending) (next : ℕ) (left : List Response) → (progress_from (slots_after ending slots) next cs left).standing ≡ Some s
           → IsMore s.event.want r (repeats_from (slots_after ending slots) next cs left) (repeats_from (slots_after ending slots) next cs (left ++ r ∷ [])) (progress_from (slots_after ending slots) next cs (left ++ r ∷ [])).standing)
           → (d f : Doing) (m n : ℕ) → Onward step r m n d f → (progress_of slots step c cs d).standing ≡ Some s
@@ -211,7 +232,7 @@ all_more slots step (c ∷ cs) rs r s is =
           let same : e ≡ s.event = ap (λ t. t.event) (same_some {A = Standing} (record { line = c.line; from = step; event = e }) s there) in
           record {
             le = subst (λ x. n + 0 ≤ m + 0 + added_by x.want r) same (omega (arith, on.1));
-            waits = λ again none. absurd (waits_there (record { line = c.line; from = step; event = f }) r on.0 again none);
+            waits = λ again none. omega (arith, on.2 (waits_there (record { line = c.line; from = step; event = f }) r on.0 again none));
           }
       go deeper (stands e) (through ending next left) m n on there =
           let nil : repeats_from (slots_after ending slots) next cs left ≡ 0 = ap (λ l. repeats_from (slots_after ending slots) next cs l) on.0 ∙ repeats_none (slots_after ending slots) next cs in

@@ -7,15 +7,15 @@ use Rattle.std.proofs.lemmas.List.Elements.{All-nil, All-cons, All-head, All-tai
 use Rattle.std.proofs.lemmas.Bool.Decides.{nat_tests}
 use Rattle.dmx_calls.specs.declared.limits.TheConstants.{DEMUX_NODES}
 use Rattle.dmx_calls.specs.declared.reply.Tap.TheVariants.{Keep as KeepTap, Attach as AttachTap, Detach as DetachTap}
-use Rattle.dmx_calls.specs.Response.{Response, Done, Busy, TapChange}
+use Rattle.dmx_calls.specs.Response.{Response, Done, Busy, Ready, TapChange}
 use Rattle.client_script.specs.Grammar.{IsTargetInRange, IsInRange}
 use Rattle.client_script.specs.Script.{Scripted}
 use Rattle.client_script.specs.declared.line.Line.{Line}
 use Rattle.client_script.specs.declared.line.Line.TheVariants.{Feed, Tick, Command as CommandLine}
 use Rattle.client_script.specs.declared.line.Target.{Target}
 use Rattle.client_script.specs.declared.line.Target.TheVariants.{Node, Slot, Dvr}
-use Rattle.client_script.specs.declared.line.Verb.{Verb}
-use Rattle.client_script.specs.declared.line.Verb.TheVariants.{Once, ReadWait, Drain, GetStc}
+use Rattle.client_core.specs.declared.deed.Deed.{Deed}
+use Rattle.client_core.specs.declared.deed.Deed.TheVariants.{Once, ReadWait, Drain, GetStc, Write}
 use Rattle.client_script.specs.declared.line.Want.{Want}
 use Rattle.client_script.specs.declared.line.Want.TheVariants.{Open}
 use Rattle.client_core.specs.declared.command.Command.{Command}
@@ -23,7 +23,8 @@ use Rattle.client_core.specs.declared.event.Event.{Event}
 use Rattle.client_core.specs.declared.event.Request.{Request}
 use Rattle.client_core.specs.declared.task.Ending.{Ending}
 use Rattle.client_core.specs.declared.task.Ending.TheVariants.{Made, Bound, AllBusy, NoNode, Asked}
-use Rattle.client_core.specs.Commands.{Slots, Doing, stands, through, once, told, called, opened, read_until, done_on, done_at, done_by_slot, done, ends_wait, ends_drain, commands_in, commands_among, commands_of}
+use Rattle.client_core.specs.Commands.{Slots, Doing, stands, through, once, told, called, opened, passed, written, read_until, done_on, done_at, done_by_slot, done, ends_wait, ends_drain, commands_in, commands_among, commands_of, plays_of}
+use Rattle.client_core.specs.Deeds.{Batches, deed_of}
 use Rattle.client_core.specs.Events.{Standing, slots_after, progress_from, progress, no_slots, next_event, standing_at}
 use Rattle.client_core.specs.Inside.Tasks.{IsEndingInRange, AreSlots}
 use Rattle.client_core.specs.Repeats.{repeats_in}
@@ -75,19 +76,37 @@ opened_fits slot node step (Done from to tap ∷ rs) slot_lt lt =
     later (step + 1 + length rs) (step + length (Done from to tap ∷ rs)) (told (Bound slot node) node tap (step + 1) rs) (omega arith) (told_fits (Bound slot node) node tap (step + 1) rs (slot_lt, lt))
 opened_fits slot node step (_ ∷ rs) slot_lt lt = (omega arith, tt)
 
+passed_fits : (write node step : ℕ) (rs : List Response) → node < DEMUX_NODES → Fits (step + length rs) (passed write node step rs)
+passed_fits write node step [] lt = (omega arith, omega (arith, lt))
+passed_fits write node step (r ∷ rs) lt = go (nat_lt (node + 1) DEMUX_NODES) refl (λ more. passed_fits write (node + 1) (step + 1) rs more) where
+  go : (b : Bool) → nat_lt (node + 1) DEMUX_NODES ≡ b → (node + 1 < DEMUX_NODES → Fits (step + 1 + length rs) (passed write (node + 1) (step + 1) rs))
+      → Fits (step + length (r ∷ rs)) (if b then passed write (node + 1) (step + 1) rs else through Made (step + 1) rs)
+  go true yea deeper =
+      let more : node + 1 < DEMUX_NODES = grind (arith, nat_tests, yea) in
+      later (step + 1 + length rs) (step + length (r ∷ rs)) (passed write (node + 1) (step + 1) rs) (omega arith) (deeper more)
+  go false nay deeper = (omega arith, tt)
+
+written_fits : (node write : ℕ) (has : Bool) (step : ℕ) (rs : List Response) → node ≤ DEMUX_NODES → Fits (step + length rs) (written node write has step rs)
+written_fits node write has step [] le = (omega arith, le)
+written_fits node write has step (Ready a b c d ∷ rs) le =
+    if_fits has (step + length (Ready a b c d ∷ rs)) (passed write 0 (step + 1) rs) (through Made (step + 1) rs)
+    (later (step + 1 + length rs) (step + length (Ready a b c d ∷ rs)) (passed write 0 (step + 1) rs) (omega arith) (passed_fits write 0 (step + 1) rs (omega arith))) (omega arith, tt)
+written_fits node write has step (_ ∷ rs) le = (omega arith, tt)
+
 read_fits : (ends : Response → Bool) (node count step : ℕ) (rs : List Response) → node ≤ DEMUX_NODES → Fits (step + length rs) (read_until ends node count step rs)
 read_fits ends node count step [] le = (omega arith, le)
 read_fits ends node count step (r ∷ rs) le =
     if_fits (ends r) (step + length (r ∷ rs)) (through Made (step + 1) rs) (read_until ends node count (step + 1) rs) (omega arith, tt)
     (later (step + 1 + length rs) (step + length (r ∷ rs)) (read_until ends node count (step + 1) rs) (omega arith) (read_fits ends node count (step + 1) rs le))
 
-on_fits : (node : ℕ) (v : Verb) (step : ℕ) (rs : List Response) → node ≤ DEMUX_NODES → Fits (step + length rs) (done_on node v step rs)
+on_fits : (node : ℕ) (v : Deed) (step : ℕ) (rs : List Response) → node ≤ DEMUX_NODES → Fits (step + length rs) (done_on node v step rs)
 on_fits node (ReadWait count) step rs le = read_fits ends_wait node count step rs le
 on_fits node (Drain count) step rs le = read_fits ends_drain node count step rs le
 on_fits node (Once w) step rs le = called_fits node w step rs le
 on_fits node (GetStc num) step rs le = (refl, tt)
+on_fits node (Write write has) step rs le = written_fits node write has step rs le
 
-at_fits : (o : Option ℕ) (v : Verb) (step : ℕ) (rs : List Response) → IfSome o (λ node. node < DEMUX_NODES) → Fits (step + length rs) (done_at o v step rs)
+at_fits : (o : Option ℕ) (v : Deed) (step : ℕ) (rs : List Response) → IfSome o (λ node. node < DEMUX_NODES) → Fits (step + length rs) (done_at o v step rs)
 at_fits None v step rs lt = (refl, tt)
 at_fits (Some node) v step rs lt = on_fits node v step rs (omega (arith, lt))
 
@@ -96,11 +115,11 @@ slot_bound [] slot bound = tt
 slot_bound (s ∷ slots) zero bound = All-head (λ slot. IfSome slot (λ node. node < DEMUX_NODES)) s slots bound
 slot_bound (s ∷ slots) (suc slot) bound = slot_bound slots slot (All-tail (λ slot. IfSome slot (λ node. node < DEMUX_NODES)) s slots bound)
 
-slot_fits : (slot : ℕ) (slots : Slots) (v : Verb) (step : ℕ) (rs : List Response) → slot < DEMUX_NODES → IfSome (slice_index_or slots slot None) (λ node. node < DEMUX_NODES) → Fits (step + length rs) (done_by_slot slot slots v step rs)
+slot_fits : (slot : ℕ) (slots : Slots) (v : Deed) (step : ℕ) (rs : List Response) → slot < DEMUX_NODES → IfSome (slice_index_or slots slot None) (λ node. node < DEMUX_NODES) → Fits (step + length rs) (done_by_slot slot slots v step rs)
 slot_fits slot slots (Once Open) step rs lt bound = opened_fits slot 0 step rs lt (omega arith)
 slot_fits slot slots v step rs lt bound = at_fits (slice_index_or slots slot None) v step rs bound
 
-done_fits : (slots : Slots) (t : Target) (v : Verb) (step : ℕ) (rs : List Response) → IsTargetInRange t → AreSlots slots → Fits (step + length rs) (done slots t v step rs)
+done_fits : (slots : Slots) (t : Target) (v : Deed) (step : ℕ) (rs : List Response) → IsTargetInRange t → AreSlots slots → Fits (step + length rs) (done slots t v step rs)
 done_fits slots (Node node) v step rs le bound = on_fits node v step rs (omega (arith, le))
 done_fits slots (Slot slot) v step rs le bound = slot_fits slot slots v step rs (omega (arith, le)) (slot_bound slots slot bound)
 done_fits slots Dvr v step rs le bound = on_fits DEMUX_NODES v step rs (omega arith)
@@ -120,7 +139,7 @@ all_fits : (slots : Slots) (step : ℕ) (cs : List Command) (rs : List Response)
     → (s.event.step ≡ step + length rs) × (s.event.node ≤ DEMUX_NODES)
 all_fits slots step [] rs s bound ranges is = absurd (none-some s is)
 all_fits slots step (c ∷ cs) rs s bound ranges is =
-    go (λ ending next left bound there. all_fits (slots_after ending slots) next cs left s bound ranges.1 there) (done slots c.target c.verb step rs) (done_fits slots c.target c.verb step rs ranges.0 bound) is where
+    go (λ ending next left bound there. all_fits (slots_after ending slots) next cs left s bound ranges.1 there) (done slots c.target c.deed step rs) (done_fits slots c.target c.deed step rs ranges.0 bound) is where
       go : ((ending : Ending) (next : ℕ) (left : List Response) → AreSlots (slots_after ending slots) → (progress_from (slots_after ending slots) next cs left).standing ≡ Some s
           → (s.event.step ≡ next + length left) × (s.event.node ≤ DEMUX_NODES))
           → (d : Doing) → Fits (step + length rs) d → (progress_of slots step c cs d).standing ≡ Some s → (s.event.step ≡ step + length rs) × (s.event.node ≤ DEMUX_NODES)
@@ -135,21 +154,18 @@ targets_append : (xs ys : List Command) → AreTargets xs → AreTargets ys → 
 targets_append [] ys a b = b
 targets_append (x ∷ xs) ys a b = (a.0, targets_append xs ys a.1 b)
 
-targets_in : (client : ℕ) (line : Line) → IsInRange line → AreTargets (commands_in client line)
-targets_in client (Feed n) is = tt
-targets_in client (Tick n) is = tt
-targets_in client (CommandLine line who target verb) is = go (nat_eq who client) where
-  one : Command
-  one = record { line = line; target = target; verb = verb }
-
-  go : (b : Bool) → AreTargets (if b then record { line = line; target = target; verb = verb } ∷ [] else [])
+targets_in : (client : ℕ) (batches : Batches) (line : Line) → IsInRange line → AreTargets (commands_in client batches line)
+targets_in client batches (Feed n) is = tt
+targets_in client batches (Tick n) is = tt
+targets_in client batches (CommandLine line who target verb) is = go (nat_eq who client) where
+  go : (b : Bool) → AreTargets (if b then record { line = line; target = target; deed = deed_of batches verb } ∷ [] else [])
   go true = (is.3, tt)
   go false = tt
 
-targets_of : (client : ℕ) (lines : List Line) → All IsInRange lines → AreTargets (commands_among client lines)
-targets_of client [] ranges = tt
-targets_of client (line ∷ lines) ranges =
-    targets_append (commands_in client line) (commands_among client lines) (targets_in client line (All-head IsInRange line lines ranges)) (targets_of client lines (All-tail IsInRange line lines ranges))
+targets_of : (client : ℕ) (batches : Batches) (lines : List Line) → All IsInRange lines → AreTargets (commands_among client batches lines)
+targets_of client batches [] ranges = tt
+targets_of client batches (line ∷ lines) ranges =
+    targets_append (commands_in client batches line) (commands_among client batches lines) (targets_in client batches line (All-head IsInRange line lines ranges)) (targets_of client batches lines (All-tail IsInRange line lines ranges))
 
 free_slots : (n : ℕ) → AreSlots (replicate n None)
 free_slots zero = All-nil (λ slot. IfSome slot (λ node. node < DEMUX_NODES))
@@ -161,7 +177,7 @@ pub next_is_numbered : (client : ℕ) (script : Scripted) (replies : List Respon
 unfolding progress
 next_is_numbered client script replies e ranges is =
     let there = some_of (progress client script replies).standing e is in
-    let fits = all_fits no_slots 0 (commands_of client script) replies there.0 (free_slots DEMUX_NODES) (targets_of client script.lines ranges) there.1 in
+    let fits = all_fits no_slots 0 (commands_of client script) replies there.0 (free_slots DEMUX_NODES) (targets_of client (plays_of client script) script.lines ranges) there.1 in
     subst (λ x. (x.step ≡ length replies) × (x.node ≤ DEMUX_NODES)) there.2 (omega (arith, fits.0), fits.1)
 
 -- ------ commands that are through
@@ -173,8 +189,8 @@ AreThrough slots step cs rs = (progress_from slots step cs rs).standing ≡ None
 pub through_more : (slots : Slots) (step : ℕ) (cs : List Command) (rs : List Response) (r : Response) → AreThrough slots step cs rs → AreThrough slots step cs (rs ++ r ∷ [])
 through_more slots step [] rs r is = refl
 through_more slots step (c ∷ cs) rs r is =
-    go (λ ending next left there. through_more (slots_after ending slots) next cs left r there) (done slots c.target c.verb step rs) (done slots c.target c.verb step (rs ++ r ∷ [])) (repeats_in slots c.target c.verb rs) (repeats_in slots c.target c.verb (rs ++ r ∷ []))
-    (done_on_more slots c.target c.verb step rs r) is where
+    go (λ ending next left there. through_more (slots_after ending slots) next cs left r there) (done slots c.target c.deed step rs) (done slots c.target c.deed step (rs ++ r ∷ [])) (repeats_in slots c.target c.deed rs) (repeats_in slots c.target c.deed (rs ++ r ∷ []))
+    (done_on_more slots c.target c.deed step rs r) is where
       go : ((ending : Ending) (next : ℕ) (left : List Response) → (progress_from (slots_after ending slots) next cs left).standing ≡ None → (progress_from (slots_after ending slots) next cs (left ++ r ∷ [])).standing ≡ None)
           → (d f : Doing) (m n : ℕ) → Onward step r m n d f → (progress_of slots step c cs d).standing ≡ None → (progress_of slots step c cs f).standing ≡ None
       go deeper (stands e) f m n on there = absurd (none-some {A = Standing} (record { line = c.line; from = step; event = e }) (sym there))
@@ -183,7 +199,7 @@ through_more slots step (c ∷ cs) rs r is =
 -- where the commands before this one are through, and what stands there is of another line, this one is through too
 pub through_next : (slots : Slots) (step : ℕ) (before : List Command) (c : Command) (behind : List Command) (rs : List Response) → AreThrough slots step before rs
     → standing_at c.line (progress_from slots step (before ++ c ∷ behind) rs).standing ≡ None → AreThrough slots step (before ++ c ∷ []) rs
-through_next slots step [] c behind rs is at = go (done slots c.target c.verb step rs) at where
+through_next slots step [] c behind rs is at = go (done slots c.target c.deed step rs) at where
   itself : (line : ℕ) (e : Event) → (if nat_eq line line then Some e else None) ≡ None → ⊥
   itself line e none =
       let same : nat_eq line line ≡ true = grind (arith, nat_tests) in
@@ -193,7 +209,7 @@ through_next slots step [] c behind rs is at = go (done slots c.target c.verb st
   go (stands e) none = absurd (itself c.line e none)
   go (through ending next left) none = refl
 through_next slots step (p ∷ before) c behind rs is at =
-    go (λ ending next left there later. through_next (slots_after ending slots) next before c behind left there later) (done slots p.target p.verb step rs) is at where
+    go (λ ending next left there later. through_next (slots_after ending slots) next before c behind left there later) (done slots p.target p.deed step rs) is at where
       go : ((ending : Ending) (next : ℕ) (left : List Response) → AreThrough (slots_after ending slots) next before left
           → standing_at c.line (progress_from (slots_after ending slots) next (before ++ c ∷ behind) left).standing ≡ None → AreThrough (slots_after ending slots) next (before ++ c ∷ []) left)
           → (d : Doing) → (progress_of slots step p before d).standing ≡ None → standing_at c.line (progress_of slots step p (before ++ c ∷ behind) d).standing ≡ None

@@ -4,7 +4,10 @@ use Rattle.dmx_calls.specs.declared.limits.TheConstants.{DEMUX_NODES}
 use Rattle.dmx_calls.specs.Response.{Response, Again}
 use Rattle.client_script.specs.Script.{Scripted}
 use Rattle.client_core.specs.declared.command.Command.{Command}
+use Rattle.client_script.specs.declared.line.Want.TheVariants.{Read}
 use Rattle.client_core.specs.declared.event.Event.{Event}
+use Rattle.client_core.specs.declared.event.Request.{Request}
+use Rattle.client_core.specs.declared.event.Request.TheVariants.{Own}
 use Rattle.client_core.specs.declared.task.Ending.{Ending}
 use Rattle.client_core.specs.declared.task.Ending.TheVariants.{Bound}
 use Rattle.client_core.specs.Commands.{commands_of, stands, through, Slots, done}
@@ -40,7 +43,7 @@ with_ended command p = record { ended = command ∷ p.ended; standing = p.standi
 -- replies and leaves the rest to the next.
 abbrev pub progress_from : Slots → (step : ℕ) → List Command → List Response → Progress
 progress_from slots step [] replies = record { ended = []; standing = None }
-progress_from slots step (c ∷ cs) replies = elim (done slots c.target c.verb step replies) [
+progress_from slots step (c ∷ cs) replies = elim (done slots c.target c.deed step replies) [
   | stands event ↦ record { ended = []; standing = Some (record { line = c.line; from = step; event = event }) }
   | through ending next left ↦
       with_ended (record { line = c.line; from = step; to = next; ending = ending })
@@ -59,11 +62,19 @@ progress client script replies = progress_from no_slots 0 (commands_of client sc
 abbrev pub next_event : (client : ℕ) → Scripted → List Response → Option Event
 next_event client script replies = option_map (λ s. s.event) (progress client script replies).standing
 
+-- the node on which a call reads, if it does
+abbrev pub reading : Request → (node : ℕ) → Option ℕ
+reading (Own (Read count)) node = Some node
+reading _ node = None
+
+abbrev pub reading_on : Event → Option ℕ
+reading_on event = reading event.want event.node
+
 -- the node on which it waits: the last reply was Again, and what stands there repeats the read
 abbrev pub waits_after : Option Standing → List Response → Option ℕ
 waits_after None replies = None
 waits_after (Some s) [] = None
-waits_after (Some s) (Again false ∷ []) = if nat_lt s.from s.event.step then Some s.event.node else None
+waits_after (Some s) (Again false ∷ []) = if nat_lt s.from s.event.step then reading_on s.event else None
 waits_after (Some s) (reply ∷ []) = None
 waits_after (Some s) (reply ∷ next ∷ more) = waits_after (Some s) (next ∷ more)
 

@@ -7,14 +7,14 @@ use Rattle.dmx_calls.specs.declared.params.Output.TheVariants.{TsTap, TsdemuxTap
 use Rattle.dmx_calls.specs.declared.reply.Errno.TheVariants.{Ebadf}
 use Rattle.dmx_calls.specs.declared.reply.PollError.TheVariants.{Quiet}
 use Rattle.dmx_calls.specs.declared.reply.Tap.TheVariants.{Keep as KeepTap, Attach as AttachTap, Detach as DetachTap}
-use Rattle.dmx_calls.specs.Response.{Response, Done, Busy, Refused, Data, Again, Overflow, TimedOut, Ready}
+use Rattle.dmx_calls.specs.Response.{Response, Done, Busy, Refused, Data, Again, Overflow, TimedOut, Ready, Passed}
 use Rattle.client_script.specs.Script.{Scripted, plain}
 use Rattle.client_script.specs.declared.line.Line.{Line}
 use Rattle.client_script.specs.declared.line.Line.TheVariants.{Feed, Command}
 use Rattle.client_script.specs.declared.line.Target.TheVariants.{Node, Slot, Dvr}
-use Rattle.client_script.specs.declared.line.Verb.TheVariants.{Once, ReadWait, Drain, GetStc}
+use Rattle.client_script.specs.declared.line.Verb.TheVariants.{Once, ReadWait, Drain, GetStc, Write}
 use Rattle.client_script.specs.declared.line.Want.TheVariants.{Open, Close, Pes, Start, Stop, Size, Read, Poll}
-use Rattle.client_core.specs.declared.event.Request.TheVariants.{Own, Attach as AskAttach, Detach as AskDetach}
+use Rattle.client_core.specs.declared.event.Request.TheVariants.{Own, Attach as AskAttach, Detach as AskDetach, Pass as AskPass}
 use Rattle.dmx_calls.specs.declared.outcome.Outcome.{Outcome}
 use Rattle.dmx_calls.specs.declared.outcome.OutcomeKind.TheVariants.{Done as WasDone, Emfile, Unbound, Stc, NoStc}
 use Rattle.client_core.specs.Events.{next_event, waits_on}
@@ -241,3 +241,39 @@ StcOfNoFilter =
     (outcomes 0 (plain (Command 1 0 (Slot 3) (GetStc 0) ∷ [])) []
     ≡ record { line = 1; from = 0; to = 0; kind = Unbound } ∷ [])
     × (outcomes 0 (plain (Command 1 0 Dvr (GetStc 0) ∷ [])) [] ≡ without_stc 1 0 ∷ [])
+
+-- ------ writes
+
+-- a packet of PID 256
+abbrev pub a_packet : List ℕ
+a_packet = 0x47 ∷ 0x01 ∷ 0x00 ∷ 0x10 ∷ replicate 184 0
+
+-- a packet over two writes, and another client's write
+abbrev pub writing : Scripted
+writing = record {
+  lines = Command 1 0 Dvr (Write 0) ∷ Command 2 1 Dvr (Write 0) ∷ Command 3 0 Dvr (Write 1) ∷ Command 4 0 Dvr (Once Poll) ∷ [];
+  writes = (take 100 a_packet ∷ drop 100 a_packet ∷ []) ∷ (a_packet ∷ []) ∷ [];
+}
+
+abbrev pub own_node : Response
+own_node = Ready false Quiet 0 false
+
+-- the first write completes no packet; the second one does, and it passes the nodes 0 to 31
+abbrev pub WritePasses : Type 0
+WritePasses =
+    (next_event 0 writing (own_node ∷ own_node ∷ []) ≡ Some (record { step = 2; node = 0; want = AskPass 1 }))
+    × (next_event 0 writing (own_node ∷ own_node ∷ replicate 31 Passed)
+    ≡ Some (record { step = 33; node = 31; want = AskPass 1 }))
+    × (next_event 0 writing (own_node ∷ own_node ∷ replicate 32 Passed)
+    ≡ Some (record { step = 34; node = 32; want = Own Poll }))
+    × (outcomes 0 writing (own_node ∷ own_node ∷ replicate 32 Passed) ≡ done_line 1 0 1 ∷ done_line 3 1 34 ∷ [])
+
+-- where the dvr node isn't the client's, its poll is refused and nothing passes
+abbrev pub RefusedWritePassesNothing : Type 0
+RefusedWritePassesNothing =
+    outcomes 0 writing (Refused Ebadf ∷ Refused Ebadf ∷ []) ≡ done_line 1 0 1 ∷ done_line 3 1 2 ∷ []
+
+-- the bytes of a refused write count: the second write completes the packet all the same
+abbrev pub RefusedBytesCount : Type 0
+RefusedBytesCount =
+    next_event 0 writing (Refused Ebadf ∷ own_node ∷ []) ≡ Some (record { step = 2; node = 0; want = AskPass 1 })

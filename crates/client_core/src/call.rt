@@ -1,18 +1,22 @@
 // The calls that clients make.
 
-ghost use Rattle.std.specs.Prelude.{◌≡◌, ℕ, IfOk, IsErr};
+ghost use Rattle.std.specs.Prelude.{◌≡◌, ◌⊎◌, ℕ, Some, IfOk, IsErr};
 ghost use Rattle.dmx_calls.specs.Calls.{invocation_of};
 ghost use Rattle.client_script.specs.declared.line.Want.TheVariants.{Read as AskRead};
-ghost use Rattle.client_core.specs.declared.event.Request.TheVariants.{Own};
-ghost use Rattle.client_core.specs.Commands.{call_of as call_at, own_call, IsRequestInRange, IsFresh};
+ghost use Rattle.client_core.specs.declared.event.Request.TheVariants.{Own, Pass};
+ghost use Rattle.client_core.specs.Commands.{call_of as call_at, pass_of as pass_at, own_call, IsRequestInRange, IsRequestOf, IsFresh};
 
+use crate::client::ClientCore;
 use crate::event::Request;
 use client_script::Want;
-use dmx_calls::{ByteBuf, Call};
+use dmx_calls::{ByteBuf, Call, Input};
 use std::alloc::{AllocError as NoMemory, Global};
+use std::sync::Arc;
+use ts_batch::Batch;
 
-// The call that a command asks for, made at the moment `now`.
-fn call_of_want(alloc: Global, want: Want, now: u64) -> Result<Call, NoMemory>
+/// The call that a command asks for of a node, made at the moment `now`, in milliseconds. A Read comes with an empty buffer, and
+/// only this takes memory.
+pub fn call_of_want(alloc: Global, want: Want, now: u64) -> Result<Call, NoMemory>
     requires range { IsRequestInRange (Own want) }
     ensures call { IfOk result (λ call. invocation_of call ≡ own_call want now) }
     ensures fresh { IfOk result IsFresh }
@@ -36,13 +40,32 @@ fn call_of_want(alloc: Global, want: Want, now: u64) -> Result<Call, NoMemory>
     })
 }
 
-/// The call that is asked for, made at the moment `now`, in milliseconds. A Read comes with an empty buffer, the only
-/// thing that takes memory.
-pub fn call_of(alloc: Global, request: &Request, now: u64) -> Result<Call, NoMemory>
-    requires range { IsRequestInRange request.now }
-    ensures call { IfOk result (λ call. invocation_of call ≡ call_at request.now now) }
+// A pass of this batch, made at the moment `now`: another owner of the batch takes memory.
+fn pass_of(batch: &Arc<Batch>, now: u64) -> Result<Call, NoMemory>
+    ensures call { IfOk result (λ call. invocation_of call ≡ pass_at (Some batch.now.value) now) }
     ensures fresh { IfOk result IsFresh }
-    ensures memory { IsErr result → (count : ℕ) × (request.now ≡ Own (AskRead count)) }
+{
+    Ok(Call::Pass {
+        input: Input::Dvr,
+        batch: batch.clone()?,
+        now,
+    })
+}
+
+/// The call that is asked for by this client, made at the moment `now`, in milliseconds. A Read comes with an empty buffer, and a
+/// pass with the batch of its write, which is shared and not copied: only these take memory.
+#[tactic(auto, using(crate::proofs::Playing::written_rules))]
+pub fn call_of(
+    alloc: Global,
+    core: &ClientCore,
+    request: &Request,
+    now: u64,
+) -> Result<Call, NoMemory>
+    requires range { IsRequestInRange request.now }
+    requires played { IsRequestOf core.now.plays request.now }
+    ensures call { IfOk result (λ call. invocation_of call ≡ call_at core.now.plays request.now now) }
+    ensures fresh { IfOk result IsFresh }
+    ensures memory { IsErr result → ((count : ℕ) × (request.now ≡ Own (AskRead count))) ⊎ ((write : ℕ) × (request.now ≡ Pass write)) }
 {
     match request {
         Request::Own(want) => call_of_want(alloc, *want, now),
@@ -51,5 +74,6 @@ pub fn call_of(alloc: Global, request: &Request, now: u64) -> Result<Call, NoMem
             pids: pids.copied(),
         }),
         Request::Detach { node } => Ok(Call::Detach { node: *node }),
+        Request::Pass { write } => pass_of(core.batch(*write).unwrap(), now),
     }
 }

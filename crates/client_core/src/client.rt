@@ -4,25 +4,32 @@ ghost use Rattle.dmx_calls.specs.declared.limits.TheConstants.{DEMUX_NODES as no
 ghost use Rattle.dmx_calls.specs.Calls.{response_of};
 ghost use Rattle.dmx_calls.specs.Response.{Response};
 ghost use Rattle.client_script.specs.Grammar.{IsInRange};
-ghost use Rattle.client_script.specs.Script.{Scripted};
+ghost use Rattle.client_script.specs.Script.{Scripted, writes_of};
+ghost use Rattle.dvr_play.specs.Plays.{HasPlayed};
+ghost use Rattle.std.specs.Option.{option_map};
+ghost use Rattle.client_core.specs.Deeds.{batch_at};
 ghost use Rattle.client_core.specs.declared.event.Event.{Event as EventValue};
-ghost use Rattle.client_core.specs.Commands.{commands_among, commands_of, stands, IsRequestInRange};
+ghost use Rattle.client_core.specs.Commands.{commands_among, commands_of, stands, IsRequestInRange, IsRequestOf};
 ghost use Rattle.client_core.specs.Events.{next_event, waits_on, next_of_line};
 ghost use Rattle.client_core.specs.Stc.{Exchange, with_reply};
 ghost use Rattle.client_core.specs.Outcomes.{outcomes as outcomes_of};
 ghost use Rattle.client_core.specs.Inside.Clocks.{HaveFollowed, AreFew};
-ghost use Rattle.client_core.specs.Inside.Tasks.{resumed, node_in, IsTaskInRange};
-ghost use Rattle.client_core.specs.Inside.Core.{coming, one_if_some, IsCommandInRange, CanBegin, IsSound, IsAfter, HasTaken, next_of, waits_with};
+ghost use Rattle.client_core.specs.Inside.Tasks.{resumed, reading_in, IsTaskInRange};
+ghost use Rattle.client_core.specs.Inside.Core.{coming, one_if_some, IsCommandInRange, IsCommandOf, IsMade, CanBegin, IsSound, IsAfter, HasTaken, next_of, waits_with};
 
 use crate::clocks::Clocks;
 use crate::command::{Command, Commands};
+use crate::deed::{Deed, deed_of};
 use crate::event::Event;
 use crate::machine::{Current, add, begin, bind, kind_of};
-use crate::task::{Next, Task, after, event_of, node_of};
-use client_script::{Line, Script, Verb};
+use crate::task::{Next, Task, after, event_of, reading_of};
+use client_script::{Line, Script};
 use dmx_calls::{LogReply, Outcome, Reply};
+use dvr_play::Plays;
 use std::alloc::{AllocError as NoMemory, Global};
 use std::marker::Model;
+use std::sync::Arc;
+use ts_batch::Batch;
 
 /// A client of a script on its way: what it calls next, by the replies that it has taken.
 #[derive(Drop)]
@@ -33,6 +40,7 @@ pub struct ClientCore {
     step: u64,
     waits: Option<u32>,
     clocks: Clocks,
+    plays: Plays,
     outcomes: Vec<Outcome>,
 }
 
@@ -42,17 +50,35 @@ impl Model for ClientCore {
 
     ghost Value = { Core };
 
-    ghost view = { λ c. record { left = c.left; current = c.current; slots = c.slots; step = c.step; waits = c.waits; clocks = c.clocks; outcomes = c.outcomes.items } };
+    ghost view = { λ c. record { left = c.left; current = c.current; slots = c.slots; step = c.step; waits = c.waits; clocks = c.clocks; plays = c.plays.batches; outcomes = c.outcomes.items } };
 
-    ghost invariant = { λ c. IsSound (record { left = c.left; current = c.current; slots = c.slots; step = c.step; waits = c.waits; clocks = c.clocks; outcomes = c.outcomes.items })
+    ghost invariant = { λ c. IsSound (record { left = c.left; current = c.current; slots = c.slots; step = c.step; waits = c.waits; clocks = c.clocks; plays = c.plays.batches; outcomes = c.outcomes.items })
         × (length c.outcomes.items + one_if_some c.current + length c.left ≤ vec_capacity c.outcomes) };
 }
 
+// The writes of a client.
+fn plays_of(alloc: Global, script: &Script, client: u32) -> Result<Plays, NoMemory>
+    ensures played { IfOk result (λ plays. HasPlayed (writes_of client script.now.writes) plays) }
+{
+    let mut plays = Plays::new(alloc);
+    'writes: for write in 0..script.writes(client) {
+        plays.push(alloc, script.written(client, write))?;
+    }
+    Ok(plays)
+}
+
 // The client's commands among these lines, in their order.
-fn commands(alloc: Global, lines: &[Line], client: u32) -> Result<Vec<Command>, NoMemory>
-    requires { All IsInRange lines.now }
-    ensures value { IfOk result (λ commands. commands.items ≡ commands_among client lines.now) }
+fn commands(
+    alloc: Global,
+    lines: &[Line],
+    client: u32,
+    plays: &Plays,
+) -> Result<Vec<Command>, NoMemory>
+    requires ranges { All IsInRange lines.now }
+    requires made { All (IsMade client (length plays.now.batches)) lines.now }
+    ensures value { IfOk result (λ commands. commands.items ≡ commands_among client plays.now.batches lines.now) }
     ensures range { IfOk result (λ commands. All IsCommandInRange commands.items) }
+    ensures played { IfOk result (λ commands. All (IsCommandOf plays.now.batches) commands.items) }
 {
     let mut commands = Vec::new(alloc);
     'lines: for line in lines {
@@ -64,7 +90,8 @@ fn commands(alloc: Global, lines: &[Line], client: u32) -> Result<Vec<Command>, 
         } = *line
         {
             if who == client {
-                commands.push(Command { line, target, verb })?;
+                let deed = deed_of(plays, verb);
+                commands.push(Command { line, target, deed })?;
             }
         }
     }
@@ -76,7 +103,7 @@ fn asks(command: &Command) -> bool
     ensures none { result ≡ false → CanBegin 0 command.now }
     ensures some { result ≡ true → CanBegin 0 command.now → ⊥ }
 {
-    matches!(command.verb, Verb::GetStc(_))
+    matches!(command.deed, Deed::GetStc(_))
 }
 
 // Whether one of these commands asks for a counter.
@@ -108,22 +135,23 @@ fn follow(clocks: &mut Clocks, task: &Task, step: u64, reply: &LogReply)
 
 // The node on which a client waits that goes on with this task after this reply.
 fn waits_after(task: &Task, reply: &LogReply) -> Option<u32>
-    ensures { (step : ℕ) → result ≡ waits_with (response_of reply.now) (node_in (resumed task.now step [])) }
+    ensures { (step : ℕ) → result ≡ waits_with (response_of reply.now) (reading_in (resumed task.now step [])) }
 {
     match reply {
-        Reply::Again { ended } => { if *ended { None } else { Some(node_of(task)) } }
+        Reply::Again { ended } => { if *ended { None } else { reading_of(task) } }
         _ => None,
     }
 }
 
 impl ClientCore {
-    /// The client before its first call. All memory is taken here.
+    /// A client of the script before its first call. All memory is taken here.
     pub fn new(alloc: Global, script: &Script, client: u32) -> Result<ClientCore, NoMemory>
         ensures after { IfOk result (λ core. IsAfter client script.now [] core) }
         // Where no command asks for a counter, no clock is kept.
         ensures kept { IfOk result (λ core. All (CanBegin 0) (commands_of client script.now) → core.clocks ≡ []) }
     {
-        let commands = commands(alloc, script.lines(), client)?;
+        let plays = plays_of(alloc, script, client)?;
+        let commands = commands(alloc, script.lines(), client, &plays)?;
         let mut outcomes = Vec::with_capacity(alloc, commands.len())?;
         let clocks = Clocks::new(alloc, one_asks(&commands))?;
         let mut left = Commands::of(commands);
@@ -136,6 +164,7 @@ impl ClientCore {
             step: 0,
             waits: None,
             clocks,
+            plays,
             outcomes,
         })
     }
@@ -147,6 +176,7 @@ impl ClientCore {
         ensures node { IfSome result (λ e. (e.step ≡ self.now.step) × (e.node ≤ nodes)) }
         ensures range { IfSome result (λ e. IsRequestInRange e.want) }
         ensures some { IsSome result ↔ IsSome self.now.current }
+        ensures played { IfSome result (λ e. IsRequestOf self.now.plays e.want) }
     {
         match &self.current {
             None => None,
@@ -160,6 +190,7 @@ impl ClientCore {
         ensures node { IfSome result (λ e. (e.step ≡ self.now.step) × (e.node ≤ nodes)) }
         ensures range { IfSome result (λ e. IsRequestInRange e.want) }
         ensures some { IsSome result → IsSome self.now.current }
+        ensures played { IfSome result (λ e. IsRequestOf self.now.plays e.want) }
     {
         match &self.current {
             None => None,
@@ -171,6 +202,14 @@ impl ClientCore {
                 }
             }
         }
+    }
+
+    /// The batch of a write of the client; None where the write completes no packet.
+    pub fn batch(&self, write: u32) -> Option<&Arc<Batch>>
+        requires { write < length self.now.plays }
+        ensures { option_map (λ batch. batch.now.value) result ≡ batch_at self.now.plays write }
+    {
+        self.plays.batch(write)
     }
 
     /// How many replies were taken.

@@ -5,8 +5,9 @@ ghost use Rattle.dmx_calls.specs.Response.{Response};
 ghost use Rattle.client_core.specs.Events.{slots_after};
 ghost use Rattle.client_core.specs.Outcomes.{stc_kind as stc_kind_of, kind_by};
 ghost use Rattle.client_core.specs.Inside.Clocks.{counter_in};
-ghost use Rattle.client_core.specs.Inside.Tasks.{IsEndingInRange, IsTaskInRange, AreSlots};
-ghost use Rattle.client_core.specs.Inside.Core.{HasBegun, one_if_some, IsCommandInRange, CanBegin};
+ghost use Rattle.client_core.specs.Inside.Tasks.{IsEndingInRange, IsTaskInRange, IsTaskOf, AreSlots};
+ghost use Rattle.client_core.specs.Inside.Core.{HasBegun, one_if_some, IsCommandInRange, IsCommandOf, CanBegin};
+ghost use Rattle.client_core.specs.Deeds.{Batches};
 
 use crate::clocks::Clocks;
 use crate::command::Commands;
@@ -89,9 +90,10 @@ pub fn begin(
     ensures current { IfSome result (λ c. IsTaskInRange c.task × (c.from ≡ step)) }
     ensures room { length outcomes.new.items + one_if_some result + length left.new ≤ vec_capacity outcomes.new }
     ensures ended { IfNone result (left.new ≡ []) }
+    ensures played { (batches : Batches) → All (IsCommandOf batches) left.old → All (IsCommandOf batches) left.new × IfSome result (λ c. IsTaskOf batches c.task) }
 {
     'commands: while let Some(command) = left.take() {
-        match first(slots, command.target, command.verb) {
+        match first(slots, command.target, command.deed) {
             Next::Still(task) => {
                 return Some(Current {
                     line: command.line,

@@ -2,9 +2,13 @@ pub mod Cuts
 pub mod Filters
 pub mod Lengthening
 pub mod LineWords
+pub mod Numbering
 pub mod Parting
 pub mod ReadAgain
 pub mod RequestsAgain
 pub mod Scripts
 pub mod Searching
+pub mod Spelled
 pub mod Splitting
+pub mod Taking
+pub mod Writing

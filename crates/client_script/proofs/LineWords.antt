@@ -17,10 +17,11 @@ use Rattle.text_forms.specs.Places.{filter_words}
 use Rattle.text_forms.proofs.FiltersRead.{filter_text-words, filter_words-each}
 use Rattle.text_forms.proofs.Visible.{IsVisible, AreVisible, decimal-visible, behind-visible, place_text-visible, hex_text-visible, visible_by_test, input_text-visible, output_text-visible}
 use Rattle.client_script.specs.Words.{words_of}
+use Rattle.client_script.specs.Script.{written_by}
 use Rattle.client_script.specs.Grammar.{IsTargetInRange, IsVerbInRange, IsInRange}
-use Rattle.client_script.specs.Spelling.{want_text, name_text, target_text, number_text, section_text, pes_text, want_arguments_text, request_text, arguments_text, command_text, line_text}
+use Rattle.client_script.specs.Spelling.{want_text, name_text, target_text, number_text, section_text, pes_text, want_arguments_text, request_text, bytes_text, arguments_text, command_text, line_text}
 use Rattle.client_script.specs.declared.line.Verb.{Verb}
-use Rattle.client_script.specs.declared.line.Verb.TheVariants.{Once, ReadWait, Drain, GetStc}
+use Rattle.client_script.specs.declared.line.Verb.TheVariants.{Once, ReadWait, Drain, GetStc, Write}
 use Rattle.client_script.specs.declared.line.Want.TheVariants.{Open, Close, Section, Pes, Add, Remove, Start, Stop, Size, Read, Poll}
 use Rattle.client_script.specs.declared.line.Target.{Target}
 use Rattle.client_script.specs.declared.line.Target.TheVariants.{Node, Slot, Dvr}
@@ -66,49 +67,55 @@ line_feed_nowhere word more first rest =
 
 -- ------ the words of a line
 
-abbrev pub argument_words : Verb → List (List ℕ)
-argument_words (Once (Section p)) = decimal p.pid ∷ decimal p.timeout ∷ decimal p.flags ∷ filter_words p.filter
-argument_words (Once (Pes p)) = decimal p.pid ∷ input_text p.input ∷ output_text p.output ∷ decimal p.pes_type ∷ decimal p.flags ∷ []
-argument_words (Once (Add pid)) = decimal pid ∷ []
-argument_words (Once (Remove pid)) = decimal pid ∷ []
-argument_words (Once (Size n)) = decimal n ∷ []
-argument_words (Once (Read n)) = decimal n ∷ []
-argument_words (ReadWait n) = decimal n ∷ []
-argument_words (Drain n) = decimal n ∷ []
-argument_words (GetStc num) = hex_text (big_bytes 4 (number_of (StcRequest num))) ∷ hex_text (argument_of (StcRequest num)) ∷ []
-argument_words _ = []
+-- the bytes of a client's writes, by their numbers
+abbrev pub Written : Type 0
+Written = ℕ → List ℕ
+
+abbrev pub argument_words : Written → Verb → List (List ℕ)
+argument_words written (Once (Section p)) = decimal p.pid ∷ decimal p.timeout ∷ decimal p.flags ∷ filter_words p.filter
+argument_words written (Once (Pes p)) = decimal p.pid ∷ input_text p.input ∷ output_text p.output ∷ decimal p.pes_type ∷ decimal p.flags ∷ []
+argument_words written (Once (Add pid)) = decimal pid ∷ []
+argument_words written (Once (Remove pid)) = decimal pid ∷ []
+argument_words written (Once (Size n)) = decimal n ∷ []
+argument_words written (Once (Read n)) = decimal n ∷ []
+argument_words written (ReadWait n) = decimal n ∷ []
+argument_words written (Drain n) = decimal n ∷ []
+argument_words written (GetStc num) = hex_text (big_bytes 4 (number_of (StcRequest num))) ∷ hex_text (argument_of (StcRequest num)) ∷ []
+argument_words written (Write write) = hex_text (written write) ∷ []
+argument_words written _ = []
 
 one_number : (n : ℕ) → number_text n ≡ behind (decimal n ∷ [])
 one_number n = rw (append-nil (decimal n)) refl
 
-arguments_text-behind : (verb : Verb) → arguments_text verb ≡ behind (argument_words verb)
-unfolding arguments_text want_arguments_text section_text pes_text request_text
-arguments_text-behind (Once (Section p)) = rw (filter_text-words p.filter) refl
-arguments_text-behind (Once (Pes p)) = rw (append-nil (decimal p.flags)) refl
-arguments_text-behind (Once (Add pid)) = one_number pid
-arguments_text-behind (Once (Remove pid)) = one_number pid
-arguments_text-behind (Once (Size n)) = one_number n
-arguments_text-behind (Once (Read n)) = one_number n
-arguments_text-behind (ReadWait n) = one_number n
-arguments_text-behind (Drain n) = one_number n
-arguments_text-behind (GetStc num) = rw (append-nil (hex_text (argument_of (StcRequest num)))) refl
-arguments_text-behind _ = refl
+arguments_text-behind : (written : Written) (verb : Verb) → arguments_text written verb ≡ behind (argument_words written verb)
+unfolding arguments_text want_arguments_text section_text pes_text request_text bytes_text
+arguments_text-behind written (Once (Section p)) = rw (filter_text-words p.filter) refl
+arguments_text-behind written (Once (Pes p)) = rw (append-nil (decimal p.flags)) refl
+arguments_text-behind written (Once (Add pid)) = one_number pid
+arguments_text-behind written (Once (Remove pid)) = one_number pid
+arguments_text-behind written (Once (Size n)) = one_number n
+arguments_text-behind written (Once (Read n)) = one_number n
+arguments_text-behind written (ReadWait n) = one_number n
+arguments_text-behind written (Drain n) = one_number n
+arguments_text-behind written (GetStc num) = rw (append-nil (hex_text (argument_of (StcRequest num)))) refl
+arguments_text-behind written (Write write) = rw (append-nil (hex_text (written write))) refl
+arguments_text-behind written _ = refl
 
 abbrev pub first_word : Line → List ℕ
 first_word (Feed n) = codes "feed"
 first_word (Tick n) = codes "tick"
 first_word (Command line client target verb) = client_text client
 
-abbrev pub more_words : Line → List (List ℕ)
-more_words (Feed n) = decimal n ∷ []
-more_words (Tick n) = decimal n ∷ []
-more_words (Command line client target verb) = name_text verb ∷ target_text target ∷ argument_words verb
+abbrev pub more_words : (writes : List (List (List ℕ))) → Line → List (List ℕ)
+more_words writes (Feed n) = decimal n ∷ []
+more_words writes (Tick n) = decimal n ∷ []
+more_words writes (Command line client target verb) = name_text verb ∷ target_text target ∷ argument_words (written_by client writes) verb
 
-pub line_text-words : (line : Line) → line_text line ≡ first_word line ++ behind (more_words line)
+pub line_text-words : (writes : List (List (List ℕ))) (line : Line) → line_text writes line ≡ first_word line ++ behind (more_words writes line)
 unfolding line_text command_text
-line_text-words (Feed n) = ap (λ (text : List ℕ). codes "feed" ++ text) (one_number n)
-line_text-words (Tick n) = ap (λ (text : List ℕ). codes "tick" ++ text) (one_number n)
-line_text-words (Command line client target verb) = rw (arguments_text-behind verb) refl
+line_text-words writes (Feed n) = ap (λ (text : List ℕ). codes "feed" ++ text) (one_number n)
+line_text-words writes (Tick n) = ap (λ (text : List ℕ). codes "tick" ++ text) (one_number n)
+line_text-words writes (Command line client target verb) = rw (arguments_text-behind (written_by client writes) verb) refl
 
 -- ------ each is a word
 
@@ -127,6 +134,7 @@ name-visible (Once (Read n)) = visible_by_test (codes "read") refl
 name-visible (ReadWait n) = visible_by_test (codes "readw") refl
 name-visible (Drain n) = visible_by_test (codes "drain") refl
 name-visible (GetStc num) = visible_by_test (codes "ioctl") refl
+name-visible (Write write) = visible_by_test (codes "write") refl
 name-visible (Once Poll) = visible_by_test (codes "poll") refl
 
 target-visible : (target : Target) → IsTargetInRange target → AreVisible (target_text target)
@@ -138,39 +146,40 @@ target-visible Dvr few = visible_by_test (codes "dvr") refl
 number-visible : (n : ℕ) → n ≤ 4294967295 → All AreVisible (decimal n ∷ [])
 number-visible n few = All-cons AreVisible (decimal n) [] (decimal-visible n (omega arith)) (All-nil AreVisible)
 
-arguments-visible : (verb : Verb) → IsVerbInRange verb → All AreVisible (argument_words verb)
-arguments-visible (Once (Section p)) few =
+arguments-visible : (written : Written) (verb : Verb) → IsVerbInRange verb → All AreVisible (argument_words written verb)
+arguments-visible written (Once (Section p)) few =
     All-cons AreVisible (decimal p.pid) (decimal p.timeout ∷ decimal p.flags ∷ filter_words p.filter) (decimal-visible p.pid (omega arith))
     (All-cons AreVisible (decimal p.timeout) (decimal p.flags ∷ filter_words p.filter) (decimal-visible p.timeout (omega arith))
     (All-cons AreVisible (decimal p.flags) (filter_words p.filter) (decimal-visible p.flags (omega arith))
     (filter_words-each AreVisible p.filter (λ i small. place_text-visible (place_at p.filter i) (omega arith)))))
-arguments-visible (Once (Pes p)) few =
+arguments-visible written (Once (Pes p)) few =
     All-cons AreVisible (decimal p.pid) (input_text p.input ∷ output_text p.output ∷ decimal p.pes_type ∷ decimal p.flags ∷ []) (decimal-visible p.pid (omega arith))
     (All-cons AreVisible (input_text p.input) (output_text p.output ∷ decimal p.pes_type ∷ decimal p.flags ∷ []) (input_text-visible p.input)
     (All-cons AreVisible (output_text p.output) (decimal p.pes_type ∷ decimal p.flags ∷ []) (output_text-visible p.output)
     (All-cons AreVisible (decimal p.pes_type) (decimal p.flags ∷ []) (decimal-visible p.pes_type (omega arith))
     (number-visible p.flags few.2))))
-arguments-visible (Once (Add pid)) few = number-visible pid (omega arith)
-arguments-visible (Once (Remove pid)) few = number-visible pid (omega arith)
-arguments-visible (Once (Size n)) few = number-visible n few
-arguments-visible (Once (Read n)) few = number-visible n (omega arith)
-arguments-visible (ReadWait n) few = number-visible n (omega arith)
-arguments-visible (Drain n) few = number-visible n (omega arith)
-arguments-visible (GetStc num) few =
+arguments-visible written (Once (Add pid)) few = number-visible pid (omega arith)
+arguments-visible written (Once (Remove pid)) few = number-visible pid (omega arith)
+arguments-visible written (Once (Size n)) few = number-visible n few
+arguments-visible written (Once (Read n)) few = number-visible n (omega arith)
+arguments-visible written (ReadWait n) few = number-visible n (omega arith)
+arguments-visible written (Drain n) few = number-visible n (omega arith)
+arguments-visible written (GetStc num) few =
     let number = hex_text (big_bytes 4 (number_of (StcRequest num))) in
     let argument = hex_text (argument_of (StcRequest num)) in
     All-cons AreVisible number (argument ∷ []) (hex_text-visible (big_bytes 4 (number_of (StcRequest num))))
     (All-cons AreVisible argument [] (hex_text-visible (argument_of (StcRequest num))) (All-nil AreVisible))
-arguments-visible _ few = All-nil AreVisible
+arguments-visible written (Write write) few = All-cons AreVisible (hex_text (written write)) [] (hex_text-visible (written write)) (All-nil AreVisible)
+arguments-visible written _ few = All-nil AreVisible
 
 pub first-visible : (line : Line) → IsInRange line → AreVisible (first_word line)
 first-visible (Feed n) few = visible_by_test (codes "feed") refl
 first-visible (Tick n) few = visible_by_test (codes "tick") refl
 first-visible (Command line client target verb) few = behind-visible 99 (decimal client) (omega arith) (decimal-visible client (omega arith))
 
-pub more-visible : (line : Line) → IsInRange line → All AreVisible (more_words line)
-more-visible (Feed n) few = number-visible n few.1
-more-visible (Tick n) few = number-visible n few
-more-visible (Command line client target verb) few =
-    All-cons AreVisible (name_text verb) (target_text target ∷ argument_words verb) (name-visible verb)
-    (All-cons AreVisible (target_text target) (argument_words verb) (target-visible target few.3) (arguments-visible verb few.4))
+pub more-visible : (writes : List (List (List ℕ))) (line : Line) → IsInRange line → All AreVisible (more_words writes line)
+more-visible writes (Feed n) few = number-visible n few.1
+more-visible writes (Tick n) few = number-visible n few
+more-visible writes (Command line client target verb) few =
+    All-cons AreVisible (name_text verb) (target_text target ∷ argument_words (written_by client writes) verb) (name-visible verb)
+    (All-cons AreVisible (target_text target) (argument_words (written_by client writes) verb) (target-visible target few.3) (arguments-visible (written_by client writes) verb few.4))

@@ -7,11 +7,13 @@ use Rattle.std.proofs.lemmas.List.Quantifiers.{position-Some}
 use Rattle.std.proofs.lemmas.List.Splits.{slice_split_at}
 use Rattle.std.proofs.Math.Seq.{drop-cons, take-append-add}
 use Rattle.std.specs.Option.{option_map}
-use Rattle.std.specs.Prelude.{◌==◌, if◌then◌else◌}
+use Rattle.std.specs.Prelude.{◌==◌, Result, Ok, Err, if◌then◌else◌}
 use Rattle.std.specs.List.{All, slice_split, position}
-use Rattle.client_script.specs.Script.{without_last, whole_lines, is_stream, before, lines_from, grammar, script_len, parted, split, most_bytes}
+use Rattle.client_script.specs.Script.{without_last, whole_lines, is_stream, Parsed, Scripted, plain, with_said, lines_from, grammar, script_len, parted, split, most_bytes}
 use Rattle.client_script.specs.Grammar.{meaning}
+use Rattle.client_script.specs.declared.fault.FaultKind.{FaultKind}
 use Rattle.client_script.specs.declared.fault.ScriptFault.{ScriptFault}
+use Rattle.client_script.specs.declared.said.Said.{Said}
 use Rattle.client_script.proofs.Cuts.{cut-some, cut-none, first-line}
 
 -- bytes with a first whole line: that line, its line feed, and the bytes behind it
@@ -66,7 +68,7 @@ taken xs line behind n e = rw e (
 
 -- that many bytes have the same script, and there are that many
 abbrev AreEnough : (xs : List ℕ) (lines : List (List ℕ)) (n : ℕ) → Type 0
-AreEnough xs lines n = (n ≤ length xs) × ((k : ℕ) (m m' : ScriptFault) → lines_from m k (whole_lines (take n xs)) ≡ lines_from m' k lines)
+AreEnough xs lines n = (n ≤ length xs) × ((k : ℕ) (m m' : ScriptFault) (s : Scripted) → lines_from m k s (whole_lines (take n xs)) ≡ lines_from m' k s lines)
 
 long : (xs line behind : List ℕ) → xs ≡ line ++ 10 ∷ behind → length xs ≡ length line + 1 + length behind
 long xs line behind e = rw e (omega (arith, length-append line (10 ∷ behind)))
@@ -77,7 +79,14 @@ at_stream xs line more n f is e =
     let sum : n ≡ length line + 1 + 0 = omega arith in
     let cut : take n xs ≡ line ++ 10 ∷ [] = rw sum (taken xs line f.behind 0 f.split_so) in
     let here : whole_lines (take n xs) ≡ line ∷ whole_lines [] = ap whole_lines cut ∙ f.stays [] in
-    (omega (arith, long xs line f.behind f.split_so), λ k m m'. rw (here, is) refl)
+    (omega (arith, long xs line f.behind f.split_so), λ k m m' s. rw (here, is) refl)
+
+-- behind a line, where what follows it is the same
+on_line : (k : ℕ) (m m' : ScriptFault) (s : Scripted) (lines others : List (List ℕ)) → ((t : Scripted) → lines_from m (k + 1) t lines ≡ lines_from m' (k + 1) t others) → (r : Result (Option Said) FaultKind)
+    → ◌≡◌ {A = Parsed} (elim r [ Err kind ↦ Err (record { line = k; kind = kind }) | Ok said ↦ lines_from m (k + 1) (with_said said s) lines ])
+    (elim r [ Err kind ↦ Err (record { line = k; kind = kind }) | Ok said ↦ lines_from m' (k + 1) (with_said said s) others ])
+on_line k m m' s lines others same (Err kind) = refl
+on_line k m m' s lines others same (Ok said) = same (with_said said s)
 
 at_other : (xs line : List ℕ) (more : List (List ℕ)) (n n' : ℕ) → (f : First xs line more) → AreEnough f.behind more n' → is_stream line ≡ false → n ≡ length line + 1 + n' → AreEnough xs (line ∷ more) n
 unfolding lines_from
@@ -85,7 +94,7 @@ at_other xs line more n n' f enough is e =
     let cut : take n xs ≡ line ++ 10 ∷ take n' f.behind = rw e (taken xs line f.behind n' f.split_so) in
     let here : whole_lines (take n xs) ≡ line ∷ whole_lines (take n' f.behind) = ap whole_lines cut ∙ f.stays (take n' f.behind) in
     let some : n' ≤ length f.behind = enough.0 in
-    (omega (arith, long xs line f.behind f.split_so), λ k m m'. rw (here, is) (ap (before k (meaning k line)) (enough.1 (k + 1) m m')))
+    (omega (arith, long xs line f.behind f.split_so), λ k m m' s. rw (here, is) (on_line k m m' s (whole_lines (take n' f.behind)) more (enough.1 (k + 1) m m') (meaning k line)))
 
 behind_some : (xs line : List ℕ) (more : List (List ℕ)) (n : ℕ) → (f : First xs line more) → ((n' : ℕ) → script_len more ≡ Some n' → AreEnough f.behind more n') → is_stream line ≡ false
     → (r : Option ℕ) → script_len more ≡ r → option_map (λ n. length line + 1 + n) r ≡ Some n → AreEnough xs (line ∷ more) n
@@ -112,7 +121,7 @@ pub front_of : (front : List ℕ) (n : ℕ) → script_len (whole_lines front) �
 unfolding grammar
 front_of front n e =
     let h = enough (whole_lines front) front n refl e in
-    (h.0, h.1 1 _ _)
+    (h.0, h.1 1 _ _ (plain []))
 
 part_of : (input : List ℕ) (most n : ℕ) → script_len (whole_lines (take most input)) ≡ Some n → grammar (take n input) ≡ grammar (take most input)
 part_of input most n e =

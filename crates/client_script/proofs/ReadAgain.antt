@@ -1,37 +1,44 @@
 -- A line that is spelled is read again.
-use Rattle.std.proofs.Common.{◌≡◌, ◌<◌, ◌≤◌, ◌^◌, ◌+◌, refl, ℕ, zero, suc, List, [], ◌∷◌, ◌++◌, false, length, codes, arith, append_assoc, append-nil}
+use Rattle.std.proofs.Common.{◌≡◌, ◌<◌, ◌≤◌, ◌^◌, ◌+◌, ◌/◌, ◌%◌, ◌⊎◌, inl, inr, refl, ap, ◌∙◌, ℕ, zero, suc, List, [], ◌∷◌, ◌++◌, false, length, codes, arith, append_assoc, append-nil}
 use Rattle.std.proofs.lemmas.List.Elements.{All-nil, All-cons, All-head, All-tail}
 use Rattle.std.proofs.lemmas.List.Splits.{slice_split_at}
-use Rattle.std.specs.Prelude.{◌==◌, Option, Some, None, Ok}
+use Rattle.std.specs.Prelude.{◌==◌, Option, Some, None, Ok, if◌then◌else◌}
+use Rattle.std.proofs.lemmas.Bool.{cases_lt}
+use Rattle.std.proofs.lemmas.List.{get_or_past}
 use Rattle.std.specs.List.{All, flat_map}
 use Rattle.std.specs.Fmt.{decimal}
 use Rattle.filter_match.specs.declared.filter.SectionFilter.{SectionFilter}
 use Rattle.filter_match.specs.declared.filter.Place.{Place}
 use Rattle.dmx_calls.specs.Names.{input_text, output_text}
+use Rattle.text_forms.specs.Hex.{hex_bytes, hex_text, digit_text}
+use Rattle.text_forms.specs.Words.{is_word}
 use Rattle.text_forms.specs.Names.{numbered}
+use Rattle.text_forms.proofs.HexWords.{hex_bytes-hex_text}
 use Rattle.text_forms.specs.Places.{place_named, places_named, filter_places, filter_words, IsFilter}
 use Rattle.text_forms.proofs.Decimals.{number_between-decimal}
 use Rattle.text_forms.proofs.NamesRead.{client_named-client_text}
 use Rattle.text_forms.proofs.WordsRead.{input_named-input_text, output_named-output_text}
 use Rattle.text_forms.proofs.FiltersRead.{places_named-filter_words, filter_with-filter_places, length-filter_words}
-use Rattle.client_script.specs.Words.{words_of, word_in}
+use Rattle.client_script.specs.Words.{Reading, mapped, words_of, word_in}
 use Rattle.client_script.specs.Places.{places_in, filter_in}
-use Rattle.client_script.specs.Grammar.{number_in, numbered_target, target_of, name_of, section_in, pes_in, verb_in, command_in, line_in, line_of, is_passed_over, meaning, IsTargetInRange, IsVerbInRange, IsInRange}
-use Rattle.client_script.specs.Spelling.{want_text, name_text, target_text, line_text, command_text, spelling, with_number, numbered_from}
-use Rattle.client_script.specs.Script.{whole_lines, is_stream, lines_from, grammar, plain}
+use Rattle.client_script.specs.Grammar.{number_in, numbered_target, target_of, name_of, section_in, pes_in, verb_in, command_in, dvr_named, write_in, asked_in, line_in, line_of, is_passed_over, meaning, IsTargetInRange, IsVerbInRange, IsPlainVerb, IsInRange}
+use Rattle.client_script.specs.Writes.{written_named, IsWritten}
+use Rattle.client_script.specs.Spelling.{want_text, name_text, target_text, line_text, command_text, spelling, said_again, with_all}
+use Rattle.client_script.specs.Script.{Scripted, AreWritten, HasWrite, IsOnDvr, whole_lines, writes_of, written_by, with_said, is_stream, lines_from, grammar, plain}
 use Rattle.client_script.specs.declared.fault.ScriptFault.{ScriptFault}
+use Rattle.client_script.specs.declared.said.Said.TheVariants.{Asks, Writes}
 use Rattle.client_script.specs.declared.names.CommandName.{CommandName}
 use Rattle.client_script.specs.declared.names.CommandName.TheVariants.{Open as OpenName, Close as CloseName, Section as SectionName, Pes as PesName, Add as AddName, Remove as RemoveName, Start as StartName, Stop as StopName, Size as SizeName, Read as ReadName, ReadWait as ReadWaitName, Drain as DrainName, Poll as PollName, Ioctl as IoctlName}
 use Rattle.client_script.specs.declared.line.Verb.{Verb}
-use Rattle.client_script.specs.declared.line.Verb.TheVariants.{Once, ReadWait, Drain, GetStc}
+use Rattle.client_script.specs.declared.line.Verb.TheVariants.{Once, ReadWait, Drain, GetStc, Write}
 use Rattle.client_script.specs.declared.line.Want.TheVariants.{Open, Close, Section, Pes, Add, Remove, Start, Stop, Size, Read, Poll}
 use Rattle.client_script.specs.declared.line.Target.{Target}
 use Rattle.client_script.specs.declared.line.Target.TheVariants.{Node, Slot, Dvr}
 use Rattle.client_script.specs.declared.line.Line.{Line}
 use Rattle.client_script.specs.declared.line.Line.TheVariants.{Feed, Tick, Command}
 use Rattle.client_script.proofs.Cuts.{first-line}
-use Rattle.client_script.proofs.RequestsAgain.{ioctl_in-words}
-use Rattle.client_script.proofs.LineWords.{behind, argument_words, first_word, more_words, line_text-words, words_of-behind, line_feed_nowhere, first-visible, more-visible}
+use Rattle.client_script.proofs.RequestsAgain.{ioctl_in-words, some_digits}
+use Rattle.client_script.proofs.LineWords.{Written, behind, argument_words, first_word, more_words, line_text-words, words_of-behind, line_feed_nowhere, first-visible, more-visible}
 
 number_in-decimal : (least most n : ℕ) (words : List (List ℕ)) → n < 2 ^ 64 → least ≤ n → n ≤ most → number_in least most (decimal n ∷ words) ≡ Ok (n, words)
 unfolding number_in word_in
@@ -87,11 +94,20 @@ command_name (ReadWait n) = ReadWaitName
 command_name (Drain n) = DrainName
 command_name (Once Poll) = PollName
 command_name (GetStc num) = IoctlName
+-- a write has no name among these
+command_name (Write write) = OpenName
 
-name_of-name_text : (verb : Verb) → name_of (name_text verb) ≡ Some (command_name verb)
+name_of-name_text : (verb : Verb) → IsPlainVerb verb → name_of (name_text verb) ≡ Some (command_name verb)
 unfolding name_of name_text want_text
-name_of-name_text (Once Open) = refl
-name_of-name_text _ = refl
+name_of-name_text (Write write) plain = absurd plain
+name_of-name_text (Once Open) plain = refl
+name_of-name_text _ plain = refl
+
+not_write : (verb : Verb) → IsPlainVerb verb → is_word (name_text verb) (codes "write") ≡ false
+unfolding name_text want_text
+not_write (Write write) plain = absurd plain
+not_write (Once Open) plain = refl
+not_write _ plain = refl
 
 target_of-target_text : (target : Target) → IsTargetInRange target → target_of (target_text target) ≡ Some target
 unfolding target_of numbered_target target_text numbered
@@ -99,87 +115,133 @@ target_of-target_text (Node n) few = rw (number_between-decimal 0 31 n (omega ar
 target_of-target_text (Slot n) few = rw (number_between-decimal 0 31 n (omega arith) (omega arith) few) refl
 target_of-target_text Dvr few = refl
 
-verb_in-argument_words : (verb : Verb) → IsVerbInRange verb → verb_in (command_name verb) (argument_words verb) ≡ Ok (verb, [])
+verb_in-argument_words : (written : Written) (verb : Verb) → IsVerbInRange verb → IsPlainVerb verb → verb_in (command_name verb) (argument_words written verb) ≡ Ok (verb, [])
 unfolding verb_in section_in pes_in word_in
-verb_in-argument_words (Once (Section p)) few =
+verb_in-argument_words written (Once (Section p)) few plain =
     let pid = number_in-decimal 0 65535 p.pid (decimal p.timeout ∷ decimal p.flags ∷ filter_words p.filter) (omega arith) (omega arith) few.0 in
     let timeout = number_in-decimal 0 4294967295 p.timeout (decimal p.flags ∷ filter_words p.filter) (omega arith) (omega arith) few.1 in
     let flags = number_in-decimal 0 4294967295 p.flags (filter_words p.filter) (omega arith) (omega arith) few.2 in
     rw (pid, timeout, flags, filter_in-filter_words p.filter few.3) refl
-verb_in-argument_words (Once (Pes p)) few =
+verb_in-argument_words written (Once (Pes p)) few plain =
     let pid = number_in-decimal 0 65535 p.pid (input_text p.input ∷ output_text p.output ∷ decimal p.pes_type ∷ decimal p.flags ∷ []) (omega arith) (omega arith) few.0 in
     let pes_type = number_in-decimal 0 4294967295 p.pes_type (decimal p.flags ∷ []) (omega arith) (omega arith) few.1 in
     let flags = number_in-decimal 0 4294967295 p.flags [] (omega arith) (omega arith) few.2 in
     rw (pid, input_named-input_text p.input, output_named-output_text p.output, pes_type, flags) refl
-verb_in-argument_words (Once (Add pid)) few = rw (number_in-decimal 0 65535 pid [] (omega arith) (omega arith) few) refl
-verb_in-argument_words (Once (Remove pid)) few = rw (number_in-decimal 0 65535 pid [] (omega arith) (omega arith) few) refl
-verb_in-argument_words (Once (Size n)) few = rw (number_in-decimal 0 4294967295 n [] (omega arith) (omega arith) few) refl
-verb_in-argument_words (Once (Read n)) few = rw (number_in-decimal 0 65536 n [] (omega arith) (omega arith) few) refl
-verb_in-argument_words (ReadWait n) few = rw (number_in-decimal 0 65536 n [] (omega arith) (omega arith) few) refl
-verb_in-argument_words (Drain n) few = rw (number_in-decimal 0 65536 n [] (omega arith) (omega arith) few) refl
-verb_in-argument_words (GetStc num) few = ioctl_in-words num few
-verb_in-argument_words _ few = refl
+verb_in-argument_words written (Once (Add pid)) few plain = rw (number_in-decimal 0 65535 pid [] (omega arith) (omega arith) few) refl
+verb_in-argument_words written (Once (Remove pid)) few plain = rw (number_in-decimal 0 65535 pid [] (omega arith) (omega arith) few) refl
+verb_in-argument_words written (Once (Size n)) few plain = rw (number_in-decimal 0 4294967295 n [] (omega arith) (omega arith) few) refl
+verb_in-argument_words written (Once (Read n)) few plain = rw (number_in-decimal 0 65536 n [] (omega arith) (omega arith) few) refl
+verb_in-argument_words written (ReadWait n) few plain = rw (number_in-decimal 0 65536 n [] (omega arith) (omega arith) few) refl
+verb_in-argument_words written (Drain n) few plain = rw (number_in-decimal 0 65536 n [] (omega arith) (omega arith) few) refl
+verb_in-argument_words written (GetStc num) few plain = ioctl_in-words num few
+verb_in-argument_words written (Write write) few plain = absurd plain
+verb_in-argument_words written _ few plain = refl
 
-command_in-words : (number client : ℕ) (target : Target) (verb : Verb) → IsTargetInRange target → IsVerbInRange verb
-    → command_in number client (name_text verb ∷ target_text target ∷ argument_words verb) ≡ Ok (Command number client target verb, [])
+command_in-words : (number client : ℕ) (written : Written) (target : Target) (verb : Verb) → IsTargetInRange target → IsVerbInRange verb → IsPlainVerb verb
+    → command_in number client (name_of (name_text verb)) (target_text target ∷ argument_words written verb) ≡ Ok (Command number client target verb, [])
 unfolding command_in word_in
-command_in-words number client target verb aim few = rw (name_of-name_text verb, target_of-target_text target aim, verb_in-argument_words verb few) refl
+command_in-words number client written target verb aim few plain = rw (name_of-name_text verb plain, target_of-target_text target aim, verb_in-argument_words written verb few plain) refl
 
-line_in-words : (number : ℕ) (line : Line) → IsInRange line → line_in number (first_word line ∷ more_words line) ≡ Ok (with_number number line, [])
+-- the bytes of a write
+written_named-hex_text : (bytes : List ℕ) → IsWritten bytes → written_named (hex_text bytes) ≡ Some bytes
+unfolding written_named
+written_named-hex_text [] is = absurd (omega (arith, is.some))
+written_named-hex_text (byte ∷ bytes) is =
+    ap (λ b. if b then None else hex_bytes 12032 (hex_text (byte ∷ bytes))) (some_digits (digit_text (byte / 16)) (digit_text (byte % 16)) (hex_text bytes))
+    ∙ hex_bytes-hex_text 12032 (byte ∷ bytes) is.few is.each
+
+-- a write that is there
+pub written_there : (writes : List (List (List ℕ))) (client write : ℕ) → All AreWritten writes → write < length (writes_of client writes) → IsWritten (written_by client writes write)
+written_there writes client write all lt = go (cases_lt client (length writes)) where
+  go : (client < length writes) ⊎ (length writes ≤ client) → IsWritten (written_by client writes write)
+  go (inl there) = (all client [] there).each write [] lt
+  go (inr past) = absurd (let none : writes_of client writes ≡ [] = get_or_past writes client [] past in let len = ap length none in omega (arith, lt, len))
+
+-- a line of a script can be printed
+pub record CanPrint (writes : List (List (List ℕ))) (line : Line) : Type 0 where
+  pub range : IsInRange line
+  pub on_dvr : IsOnDvr line
+  pub has : HasWrite writes line
+
+write_in-words : (number client : ℕ) (target : Target) (bytes : List ℕ) → target ≡ Dvr → IsWritten bytes → write_in number client (target_text target ∷ hex_text bytes ∷ []) ≡ Ok (Writes number client bytes, [])
+unfolding write_in dvr_named word_in target_text
+write_in-words number client target bytes on is = rw (on, written_named-hex_text bytes is) refl
+
+-- what a client's line asks is read again
+asked_again : (number client : ℕ) (writes : List (List (List ℕ))) (target : Target) (verb : Verb) (line : ℕ) → All AreWritten writes → CanPrint writes (Command line client target verb)
+    → asked_in number client (name_text verb ∷ target_text target ∷ argument_words (written_by client writes) verb) ≡ Ok (said_again number writes (Command line client target verb), [])
+unfolding asked_in word_in name_text
+asked_again number client writes target (Write write) line all can = write_in-words number client target (written_by client writes write) can.on_dvr (written_there writes client write all can.has)
+asked_again number client writes target (Once want) line all can =
+    rw (not_write (Once want) tt, command_in-words number client (written_by client writes) target (Once want) can.range.3 can.range.4 tt) refl
+asked_again number client writes target (ReadWait n) line all can =
+    rw (not_write (ReadWait n) tt, command_in-words number client (written_by client writes) target (ReadWait n) can.range.3 can.range.4 tt) refl
+asked_again number client writes target (Drain n) line all can =
+    rw (not_write (Drain n) tt, command_in-words number client (written_by client writes) target (Drain n) can.range.3 can.range.4 tt) refl
+asked_again number client writes target (GetStc num) line all can =
+    ap (λ (r : Reading Line). mapped Asks r) (command_in-words number client (written_by client writes) target (GetStc num) can.range.3 can.range.4 tt)
+
+line_in-words : (number : ℕ) (writes : List (List (List ℕ))) (line : Line) → All AreWritten writes → CanPrint writes line
+    → line_in number (first_word line ∷ more_words writes line) ≡ Ok (said_again number writes line, [])
 unfolding line_in word_in
-line_in-words number (Feed n) few = rw (number_in-decimal 1 4294967295 n [] (omega arith) few.0 few.1) refl
-line_in-words number (Tick n) few = rw (number_in-decimal 0 4294967295 n [] (omega arith) (omega arith) few) refl
-line_in-words number (Command line client target verb) few = rw (client_named-client_text client few.2, command_in-words number client target verb few.3 few.4) refl
+line_in-words number writes (Feed n) all can = rw (number_in-decimal 1 4294967295 n [] (omega arith) can.range.0 can.range.1) refl
+line_in-words number writes (Tick n) all can = rw (number_in-decimal 0 4294967295 n [] (omega arith) (omega arith) can.range) refl
+line_in-words number writes (Command line client target verb) all can =
+    rw (client_named-client_text client can.range.2, asked_again number client writes target verb line all can) refl
 
 -- ------ lines
 
-not_passed_over : (line : Line) → is_passed_over (line_text line) ≡ false
+not_passed_over : (writes : List (List (List ℕ))) (line : Line) → is_passed_over (line_text writes line) ≡ false
 unfolding line_text command_text
-not_passed_over (Feed n) = refl
-not_passed_over (Tick n) = refl
-not_passed_over (Command line client target verb) = refl
+not_passed_over writes (Feed n) = refl
+not_passed_over writes (Tick n) = refl
+not_passed_over writes (Command line client target verb) = refl
 
-not_stream : (line : Line) → is_stream (line_text line) ≡ false
+not_stream : (writes : List (List (List ℕ))) (line : Line) → is_stream (line_text writes line) ≡ false
 unfolding line_text command_text
-not_stream (Feed n) = refl
-not_stream (Tick n) = refl
-not_stream (Command line client target verb) = refl
+not_stream writes (Feed n) = refl
+not_stream writes (Tick n) = refl
+not_stream writes (Command line client target verb) = refl
 
-line_of-line_text : (number : ℕ) (line : Line) → IsInRange line → line_of number (line_text line) ≡ Ok (with_number number line)
-unfolding line_of
-line_of-line_text number line few =
-    let words : words_of (first_word line ++ behind (more_words line)) ≡ first_word line ∷ more_words line = words_of-behind (first_word line) (more_words line) (first-visible line few) (more-visible line few) in
-    rw (line_text-words line, words, line_in-words number line few) refl
+module _ (writes : List (List (List ℕ))) (all : All AreWritten writes) where
+  line_of-line_text : (number : ℕ) (line : Line) → CanPrint writes line → line_of number (line_text writes line) ≡ Ok (said_again number writes line)
+  unfolding line_of
+  line_of-line_text number line can =
+      let words : words_of (first_word line ++ behind (more_words writes line)) ≡ first_word line ∷ more_words writes line = words_of-behind (first_word line) (more_words writes line) (first-visible line can.range) (more-visible writes line can.range) in
+      rw (line_text-words writes line, words, line_in-words number writes line all can) refl
 
-meaning-line_text : (number : ℕ) (line : Line) → IsInRange line → meaning number (line_text line) ≡ Ok (Some (with_number number line))
-unfolding meaning
-meaning-line_text number line few = rw (not_passed_over line, line_of-line_text number line few) refl
+  meaning-line_text : (number : ℕ) (line : Line) → CanPrint writes line → meaning number (line_text writes line) ≡ Ok (Some (said_again number writes line))
+  unfolding meaning
+  meaning-line_text number line can = rw (not_passed_over writes line, line_of-line_text number line can) refl
 
-first_whole_line : (line : Line) (more : List ℕ) → IsInRange line → whole_lines (line_text line ++ 10 ∷ more) ≡ line_text line ∷ whole_lines more
-first_whole_line line more few =
-    let nowhere : All (λ byte. (byte == 10) ≡ false) (line_text line) = rw (line_text-words line) (line_feed_nowhere (first_word line) (more_words line) (first-visible line few) (more-visible line few)) in
-    first-line (line_text line ++ 10 ∷ more) (line_text line) more (slice_split_at (λ (byte : ℕ). byte == 10) (line_text line) 10 more nowhere refl)
+  first_whole_line : (line : Line) (more : List ℕ) → CanPrint writes line → whole_lines (line_text writes line ++ 10 ∷ more) ≡ line_text writes line ∷ whole_lines more
+  first_whole_line line more can =
+      let nowhere : All (λ byte. (byte == 10) ≡ false) (line_text writes line) = rw (line_text-words writes line) (line_feed_nowhere (first_word line) (more_words writes line) (first-visible line can.range) (more-visible writes line can.range)) in
+      first-line (line_text writes line ++ 10 ∷ more) (line_text writes line) more (slice_split_at (λ (byte : ℕ). byte == 10) (line_text writes line) 10 more nowhere refl)
 
--- ------ scripts
+  -- ------ scripts
 
-lines_from-spellings : (missing : ScriptFault) (number : ℕ) (lines : List Line) → All IsInRange lines
-    → lines_from missing number (whole_lines (flat_map spelling lines ++ codes "stream\n")) ≡ Ok (plain (numbered_from number lines))
-unfolding lines_from
-lines_from-spellings missing number [] few = refl
-lines_from-spellings missing number (line ∷ more) few =
-    let rest : List ℕ = flat_map spelling more ++ codes "stream\n" in
-    let first : IsInRange line = All-head IsInRange line more few in
-    let text : flat_map spelling (line ∷ more) ++ codes "stream\n" ≡ line_text line ++ 10 ∷ (flat_map spelling more ++ codes "stream\n") = simp append_assoc in
-    let whole = first_whole_line line (flat_map spelling more ++ codes "stream\n") first in
-    let later = lines_from-spellings missing (number + 1) more (All-tail IsInRange line more few) in
-    rw (text, whole, not_stream line, meaning-line_text number line first, later) refl
+  lines_from-spellings : (missing : ScriptFault) (number : ℕ) (s : Scripted) (lines : List Line) → All (CanPrint writes) lines
+      → lines_from missing number s (whole_lines (flat_map (spelling writes) lines ++ codes "stream\n")) ≡ Ok (with_all number writes lines s)
+  unfolding lines_from
+  lines_from-spellings missing number s [] can = refl
+  lines_from-spellings missing number s (line ∷ more) can =
+      let first : CanPrint writes line = All-head (CanPrint writes) line more can in
+      let text : flat_map (spelling writes) (line ∷ more) ++ codes "stream\n" ≡ line_text writes line ++ 10 ∷ (flat_map (spelling writes) more ++ codes "stream\n") = simp append_assoc in
+      let whole = first_whole_line line (flat_map (spelling writes) more ++ codes "stream\n") first in
+      let later = lines_from-spellings missing (number + 1) (with_said (Some (said_again number writes line)) s) more (All-tail (CanPrint writes) line more can) in
+      rw (text, whole, not_stream writes line, meaning-line_text number line first) later
 
--- lines that are spelled, and the line `stream` behind them, are read as these lines
-pub grammar-spellings : (lines : List Line) → All IsInRange lines → grammar (flat_map spelling lines ++ codes "stream\n") ≡ Ok (plain (numbered_from 1 lines))
-unfolding grammar
-grammar-spellings lines few = lines_from-spellings _ 1 lines few
+  -- lines that are spelled, and the line `stream` behind them, are read as what they say
+  pub grammar-spellings : (lines : List Line) → All (CanPrint writes) lines → grammar (flat_map (spelling writes) lines ++ codes "stream\n") ≡ Ok (with_all 1 writes lines (plain []))
+  unfolding grammar
+  grammar-spellings lines can = lines_from-spellings _ 1 (plain []) lines can
 
-pub grammar-spelling : (line : Line) → IsInRange line → grammar (spelling line ++ codes "stream\n") ≡ Ok (plain (with_number 1 line ∷ []))
-grammar-spelling line few =
-    let one : flat_map spelling (line ∷ []) ≡ spelling line = append-nil (spelling line) in
-    rw (← one) (grammar-spellings (line ∷ []) (All-cons IsInRange line [] few (All-nil IsInRange)))
+  pub grammar-spelling : (line : Line) → CanPrint writes line → grammar (spelling writes line ++ codes "stream\n") ≡ Ok (with_said (Some (said_again 1 writes line)) (plain []))
+  grammar-spelling line can =
+      let one : flat_map (spelling writes) (line ∷ []) ≡ spelling writes line = append-nil (spelling writes line) in
+      rw (← one) (grammar-spellings (line ∷ []) (All-cons (CanPrint writes) line [] can (All-nil (CanPrint writes))))
+
+-- three facts of lines together
+pub all_can : (writes : List (List (List ℕ))) (lines : List Line) → All IsInRange lines → All IsOnDvr lines → All (HasWrite writes) lines → All (CanPrint writes) lines
+all_can writes lines range on has k d lt = record { range = range k d lt; on_dvr = on k d lt; has = has k d lt }

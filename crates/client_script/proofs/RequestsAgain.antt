@@ -28,7 +28,7 @@ no_dash : (high low : ℕ) (text : List ℕ) → is_word (high ∷ low ∷ text)
 no_dash high low text = grind (arith, nat_tests)
 
 -- and there are some of them
-some_digits : (high low : ℕ) (text : List ℕ) → (length (high ∷ low ∷ text) == 0) ≡ false
+pub some_digits : (high low : ℕ) (text : List ℕ) → (length (high ∷ low ∷ text) == 0) ≡ false
 some_digits high low text = grind (arith, nat_tests)
 
 argument_again : (bytes : List ℕ) → 0 < length bytes → length bytes ≤ 60 → All (λ byte. byte < 256) bytes → argument_named (hex_text bytes) ≡ Some bytes

@@ -6,19 +6,25 @@ use Rattle.dmx_calls.specs.declared.params.Output.TheVariants.{TsTap, TsdemuxTap
 use Rattle.text_forms.specs.Numbers.{number_between}
 use Rattle.client_script.specs.Words.{next_as}
 use Rattle.client_script.specs.Grammar.{meaning}
-use Rattle.client_script.specs.Script.{grammar, plain, split}
+use Rattle.client_script.specs.Script.{grammar, no_writes, plain, split}
+use Rattle.client_script.specs.declared.said.Said.{Said}
+use Rattle.client_script.specs.declared.said.Said.TheVariants.{Asks, Writes}
 use Rattle.client_script.specs.Spelling.{spelling}
 use Rattle.client_script.specs.declared.fault.FaultKind.{FaultKind}
 use Rattle.client_script.specs.declared.fault.FaultKind.TheVariants.{Client, Command as NoCommand, Target as NoTarget, Number, Name, Bytes, Count, NoStream}
 use Rattle.client_script.specs.declared.line.Line.{Line}
 use Rattle.client_script.specs.declared.line.Line.TheVariants.{Feed, Tick, Command}
 use Rattle.client_script.specs.declared.line.Target.TheVariants.{Node, Slot, Dvr}
-use Rattle.client_script.specs.declared.line.Verb.TheVariants.{Once, Drain, ReadWait, GetStc}
+use Rattle.client_script.specs.declared.line.Verb.TheVariants.{Once, Drain, ReadWait, GetStc, Write}
 use Rattle.client_script.specs.declared.line.Want.TheVariants.{Open, Close, Section, Pes, Add, Start, Size}
 
 -- the meanings of these lines, each as the fifth of its script
-abbrev pub meanings : List (List ℕ) → List (Result (Option Line) FaultKind)
+abbrev pub meanings : List (List ℕ) → List (Result (Option Said) FaultKind)
 meanings lines = map (meaning 5) lines
+
+-- a line that asks for something
+abbrev pub asks : Line → Option Said
+asks line = Some (Asks line)
 
 -- each of these lines has a fault of this kind
 abbrev pub HaveFault : FaultKind → List (List ℕ) → Type 0
@@ -43,24 +49,24 @@ abbrev pub PassedOver : Type 0
 PassedOver = meanings ([] ∷ codes "#" ∷ codes "# c9 open" ∷ []) ≡ Ok None ∷ Ok None ∷ Ok None ∷ []
 
 abbrev pub FeedsAndTicks : Type 0
-FeedsAndTicks = meanings (codes "feed 1" ∷ codes "tick 0" ∷ []) ≡ Ok (Some (Feed 1)) ∷ Ok (Some (Tick 0)) ∷ []
+FeedsAndTicks = meanings (codes "feed 1" ∷ codes "tick 0" ∷ []) ≡ Ok (asks (Feed 1)) ∷ Ok (asks (Tick 0)) ∷ []
 
 abbrev pub Commands : Type 0
 Commands =
     meanings (codes "c0 open h31" ∷ codes "c7 close dvr" ∷ codes "c1 drain n2 65536" ∷ codes "c1 readw n31 0" ∷ [])
-    ≡ Ok (Some (Command 5 0 (Slot 31) (Once Open))) ∷ Ok (Some (Command 5 7 Dvr (Once Close)))
-    ∷ Ok (Some (Command 5 1 (Node 2) (Drain 65536))) ∷ Ok (Some (Command 5 1 (Node 31) (ReadWait 0))) ∷ []
+    ≡ Ok (asks (Command 5 0 (Slot 31) (Once Open))) ∷ Ok (asks (Command 5 7 Dvr (Once Close)))
+    ∷ Ok (asks (Command 5 1 (Node 2) (Drain 65536))) ∷ Ok (asks (Command 5 1 (Node 31) (ReadWait 0))) ∷ []
 
 abbrev pub PesFilter : Type 0
 PesFilter =
     meaning 5 (codes "c4 pes n4 256 frontend ts_tap 20 0")
-    ≡ Ok (Some (Command 5 4 (Node 4) (Once (Pes
+    ≡ Ok (asks (Command 5 4 (Node 4) (Once (Pes
     (record { pid = 256; input = Frontend; output = TsTap; pes_type = 20; flags = 0 })))))
 
 abbrev pub SectionFilter : Type 0
 SectionFilter =
     meaning 5 (codes "c0 section n0 16 0 1 0=42/ff/00 3=0a/f0/01")
-    ≡ Ok (Some (Command 5 0 (Node 0) (Once (Section (record {
+    ≡ Ok (asks (Command 5 0 (Node 0) (Once (Section (record {
       pid = 16;
       filter = record {
         filter = 66 ∷ 0 ∷ 0 ∷ 10 ∷ replicate 12 0;
@@ -78,10 +84,10 @@ Requests =
     meanings (codes "c0 ioctl n0 40146f2c 0001000000000000030000001400000000000000" ∷ codes "c0 ioctl n0 00006f29 -"
     ∷ codes "c0 ioctl h3 00006f2d 00200000" ∷ codes "c0 ioctl dvr 40026f33 ff1f"
     ∷ codes "c0 ioctl n0 c0106f32 01000000ffffffff0000000000000001" ∷ [])
-    ≡ Ok (Some (Command 5 0 (Node 0) (Once (Pes
+    ≡ Ok (asks (Command 5 0 (Node 0) (Once (Pes
     (record { pid = 256; input = Frontend; output = TsdemuxTap; pes_type = 20; flags = 0 })))))
-    ∷ Ok (Some (Command 5 0 (Node 0) (Once Start))) ∷ Ok (Some (Command 5 0 (Slot 3) (Once (Size 8192))))
-    ∷ Ok (Some (Command 5 0 Dvr (Once (Add 8191)))) ∷ Ok (Some (Command 5 0 (Node 0) (GetStc 1))) ∷ []
+    ∷ Ok (asks (Command 5 0 (Node 0) (Once Start))) ∷ Ok (asks (Command 5 0 (Slot 3) (Once (Size 8192))))
+    ∷ Ok (asks (Command 5 0 Dvr (Once (Add 8191)))) ∷ Ok (asks (Command 5 0 (Node 0) (GetStc 1))) ∷ []
 
 -- ------ kinds of faults
 
@@ -133,6 +139,18 @@ RequestFaults =
     × HaveFault Count (codes "c0 ioctl n0 00006f29 - x" ∷ codes "c0 ioctl n0 00006f29" ∷ codes "c0 ioctl n0" ∷ [])
     × HaveFault NoTarget (codes "c0 ioctl n32 6f29" ∷ [])
 
+abbrev pub Writing : Type 0
+Writing = meaning 5 (codes "c7 write dvr 00ff47") ≡ Ok (Some (Writes 5 7 (0 ∷ 255 ∷ 71 ∷ [])))
+
+-- another target, also where the bytes are none; bytes that are odd, upper-case, none, or no digits; and a word too many,
+-- or missing
+abbrev pub WriteFaults : Type 0
+WriteFaults =
+    HaveFault NoTarget (codes "c0 write n0 00" ∷ codes "c0 write h0 x" ∷ codes "c0 write n32 00" ∷ codes "c0 write " ∷ [])
+    × HaveFault Bytes (codes "c0 write dvr 0" ∷ codes "c0 write dvr 0A" ∷ codes "c0 write dvr " ∷ codes "c0 write dvr g0 x"
+    ∷ [])
+    × HaveFault Count (codes "c0 write dvr 00 00" ∷ codes "c0 write dvr" ∷ codes "c0 write" ∷ [])
+
 -- ------ scripts
 
 abbrev pub ThirdLine : Type 0
@@ -144,6 +162,15 @@ abbrev pub LinesBehindTheStream : Type 0
 LinesBehindTheStream =
     grammar (text (codes "#" ∷ codes "c1 open n0" ∷ codes "stream" ∷ codes "c9" ∷ []))
     ≡ Ok (plain (Command 2 1 (Node 0) (Once Open) ∷ []))
+
+-- the writes of a client are numbered for themselves
+abbrev pub TwoWriters : Type 0
+TwoWriters =
+    grammar (text (codes "c0 write dvr 01" ∷ codes "c1 write dvr 02" ∷ codes "c0 write dvr 0304" ∷ codes "stream" ∷ []))
+    ≡ Ok (record {
+      lines = Command 1 0 Dvr (Write 0) ∷ Command 2 1 Dvr (Write 0) ∷ Command 3 0 Dvr (Write 1) ∷ [];
+      writes = ((1 ∷ []) ∷ (3 ∷ 4 ∷ []) ∷ []) ∷ ((2 ∷ []) ∷ []) ∷ replicate 6 [];
+    })
 
 abbrev pub NoBytes : Type 0
 NoBytes = grammar [] ≡ Err (record { line = 1; kind = NoStream })
@@ -173,13 +200,13 @@ InputWithoutAStream = split (codes "stream") ≡ record { script = codes "stream
 -- these lines are spelled so, each with its line feed
 abbrev pub Spellings : Type 0
 Spellings =
-    map spelling (Feed 1 ∷ Tick 0 ∷ Command 5 7 Dvr (Once Open) ∷ Command 5 1 (Slot 31) (ReadWait 65536) ∷ [])
+    map (spelling no_writes) (Feed 1 ∷ Tick 0 ∷ Command 5 7 Dvr (Once Open) ∷ Command 5 1 (Slot 31) (ReadWait 65536) ∷ [])
     ≡ map (λ line. line ++ 10 ∷ []) (codes "feed 1" ∷ codes "tick 0" ∷ codes "c7 open dvr" ∷ codes "c1 readw h31 65536"
     ∷ [])
 
 abbrev pub SectionSpelling : Type 0
 SectionSpelling =
-    spelling (Command 5 0 (Node 0) (Once (Section (record {
+    spelling no_writes (Command 5 0 (Node 0) (Once (Section (record {
       pid = 1;
       filter = record {
         filter = 0 ∷ 0 ∷ 0 ∷ 10 ∷ replicate 12 0;
@@ -193,7 +220,7 @@ SectionSpelling =
 
 abbrev pub PesSpelling : Type 0
 PesSpelling =
-    spelling (Command 5 4 (Node 4) (Once (Pes (record {
+    spelling no_writes (Command 5 4 (Node 4) (Once (Pes (record {
       pid = 256;
       input = Frontend;
       output = TsTap;
@@ -206,4 +233,8 @@ PesSpelling =
 -- are 0
 abbrev pub StcSpelling : Type 0
 StcSpelling =
-    spelling (Command 5 0 (Slot 3) (GetStc 1)) ≡ codes "c0 ioctl h3 c0106f32 01000000000000000000000000000000" ++ 10 ∷ []
+    spelling no_writes (Command 5 0 (Slot 3) (GetStc 1)) ≡ codes "c0 ioctl h3 c0106f32 01000000000000000000000000000000" ++ 10 ∷ []
+
+abbrev pub WriteSpelling : Type 0
+WriteSpelling =
+    spelling ([] ∷ ((0 ∷ 255 ∷ []) ∷ []) ∷ []) (Command 5 1 Dvr (Write 0)) ≡ codes "c1 write dvr 00ff" ++ 10 ∷ []

@@ -10,11 +10,14 @@ use Rattle.client_script.specs.Words.{Reading, and_then, mapped, or_fault, next_
 use Rattle.client_script.specs.Places.{filter_in}
 use Rattle.client_script.specs.Requests.{ioctl_in}
 use Rattle.client_script.specs.declared.fault.FaultKind.{FaultKind}
-use Rattle.client_script.specs.declared.fault.FaultKind.TheVariants.{Client, Command as NoCommand, Target as NoTarget, Number, Name, Count}
+use Rattle.client_script.specs.declared.fault.FaultKind.TheVariants.{Client, Command as NoCommand, Target as NoTarget, Number, Name, Bytes, Count}
 use Rattle.client_script.specs.declared.names.CommandName.{CommandName}
 use Rattle.client_script.specs.declared.names.CommandName.TheVariants.{Open as OpenName, Close as CloseName, Section as SectionName, Pes as PesName, Add as AddName, Remove as RemoveName, Start as StartName, Stop as StopName, Size as SizeName, Read as ReadName, ReadWait as ReadWaitName, Drain as DrainName, Poll as PollName, Ioctl as IoctlName}
+use Rattle.client_script.specs.Writes.{written_named, IsWritten}
+use Rattle.client_script.specs.declared.said.Said.{Said}
+use Rattle.client_script.specs.declared.said.Said.TheVariants.{Asks, Writes}
 use Rattle.client_script.specs.declared.line.Verb.{Verb}
-use Rattle.client_script.specs.declared.line.Verb.TheVariants.{Once, ReadWait, Drain, GetStc}
+use Rattle.client_script.specs.declared.line.Verb.TheVariants.{Once, ReadWait, Drain, GetStc, Write}
 use Rattle.client_script.specs.declared.line.Want.{Want}
 use Rattle.client_script.specs.declared.line.Want.TheVariants.{Open, Close, Section, Pes, Add, Remove, Start, Stop, Size, Read, Poll}
 use Rattle.client_script.specs.declared.line.Target.{Target}
@@ -102,21 +105,38 @@ verb_in IoctlName words = ioctl_in words
 
 -- ------ lines
 
--- what stands behind the client: the command, its target, and what the command wants
-unfoldable pub command_in : (line client : ℕ) → List (List ℕ) → Reading Line
-command_in line client words =
-    and_then (next_as NoCommand name_of words) (λ name words.
+-- what stands behind the word of any command but `write`: its target, and what it wants
+unfoldable pub command_in : (line client : ℕ) → (name : Option CommandName) → List (List ℕ) → Reading Line
+command_in line client name words =
+    and_then (or_fault NoCommand name words) (λ name words.
     and_then (next_as NoTarget target_of words) (λ target words.
     and_then (verb_in name words) (λ verb words.
     Ok (Command line client target verb, words))))
 
+-- the only target of a write
+unfoldable pub dvr_named : List ℕ → Option Target
+dvr_named word = if is_word word (codes "dvr") then Some Dvr else None
+
+-- `dvr HEX`
+unfoldable pub write_in : (line client : ℕ) → List (List ℕ) → Reading Said
+write_in line client words =
+    and_then (next_as NoTarget dvr_named words) (λ target words.
+    mapped (Writes line client) (next_as Bytes written_named words))
+
+-- what stands behind the client
+unfoldable pub asked_in : (line client : ℕ) → List (List ℕ) → Reading Said
+asked_in line client words =
+    and_then (word_in words) (λ word words.
+    if is_word word (codes "write") then write_in line client words
+    else mapped Asks (command_in line client (name_of word) words))
+
 -- `feed N`, `tick N`, or a client's command
-unfoldable pub line_in : (line : ℕ) → List (List ℕ) → Reading Line
+unfoldable pub line_in : (line : ℕ) → List (List ℕ) → Reading Said
 line_in line words =
     and_then (word_in words) (λ first words.
-    if is_word first (codes "feed") then mapped Feed (number_in 1 4294967295 words)
-    else (if is_word first (codes "tick") then mapped Tick (count_in words)
-    else and_then (or_fault Client (client_named first) words) (λ client words. command_in line client words)))
+    if is_word first (codes "feed") then mapped (λ n. Asks (Feed n)) (number_in 1 4294967295 words)
+    else (if is_word first (codes "tick") then mapped (λ n. Asks (Tick n)) (count_in words)
+    else and_then (or_fault Client (client_named first) words) (λ client words. asked_in line client words)))
 
 -- a value behind which no word is left; a word too many is a fault of the count
 abbrev pub alone : {A : Type 0} → A → List (List ℕ) → Result A FaultKind
@@ -127,8 +147,8 @@ abbrev pub whole : {A : Type 0} → Reading A → Result A FaultKind
 whole (Ok read) = alone read.0 read.1
 whole (Err kind) = Err kind
 
--- what a whole line asks for: no word is left behind it
-unfoldable pub line_of : (line : ℕ) → List ℕ → Result Line FaultKind
+-- what a whole line says: no word is left behind it
+unfoldable pub line_of : (line : ℕ) → List ℕ → Result Said FaultKind
 line_of line bytes = whole (line_in line (words_of bytes))
 
 -- a line that is passed over: it is empty or a comment, whose first byte is `#`
@@ -136,14 +156,14 @@ abbrev pub is_passed_over : List ℕ → Bool
 is_passed_over [] = true
 is_passed_over (byte ∷ bytes) = byte == 35
 
--- what a line asks for, if anything
-abbrev pub some_asked : Result Line FaultKind → Result (Option Line) FaultKind
-some_asked (Ok asked) = Ok (Some asked)
-some_asked (Err kind) = Err kind
+-- what a line says, if anything
+abbrev pub some_said : Result Said FaultKind → Result (Option Said) FaultKind
+some_said (Ok said) = Ok (Some said)
+some_said (Err kind) = Err kind
 
--- What the line of this number means: nothing, what it asks for, or the kind of its fault.
-unfoldable pub meaning : (line : ℕ) → List ℕ → Result (Option Line) FaultKind
-meaning line bytes = if is_passed_over bytes then Ok None else some_asked (line_of line bytes)
+-- What the line of this number means: nothing, what it says, or the kind of its fault.
+unfoldable pub meaning : (line : ℕ) → List ℕ → Result (Option Said) FaultKind
+meaning line bytes = if is_passed_over bytes then Ok None else some_said (line_of line bytes)
 
 -- ------ ranges
 
@@ -167,6 +187,17 @@ IsVerbInRange (Once want) = IsWantInRange want
 IsVerbInRange (ReadWait n) = n ≤ LARGEST_READ
 IsVerbInRange (Drain n) = n ≤ LARGEST_READ
 IsVerbInRange (GetStc num) = num ≤ 4294967295
+IsVerbInRange (Write write) = write ≤ 4294967295
+
+-- a verb of another line than `write`
+abbrev pub IsPlainVerb : Verb → Type 0
+IsPlainVerb (Write write) = ⊥
+IsPlainVerb _ = Unit {0}
+
+-- another line than `write`
+abbrev pub IsPlain : Line → Type 0
+IsPlain (Command line client target verb) = IsPlainVerb verb
+IsPlain _ = Unit {0}
 
 -- there are 32 nodes and 32 slots
 abbrev pub IsTargetInRange : Target → Type 0
@@ -180,3 +211,8 @@ IsInRange (Feed n) = (1 ≤ n) × (n ≤ 4294967295)
 IsInRange (Tick n) = n ≤ 4294967295
 IsInRange (Command line client target verb) =
     (1 ≤ line) × (line ≤ 1048576) × (client ≤ 7) × IsTargetInRange target × IsVerbInRange verb
+
+-- The ranges of what a line says.
+abbrev pub IsSaidInRange : Said → Type 0
+IsSaidInRange (Asks line) = IsInRange line × IsPlain line
+IsSaidInRange (Writes line client bytes) = (1 ≤ line) × (line ≤ 1048576) × (client ≤ 7) × IsWritten bytes

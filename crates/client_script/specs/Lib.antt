@@ -6,4 +6,5 @@ pub mod Script
 pub mod Spelling
 pub mod FaultNames
 pub mod Words
+pub mod Writes
 pub mod Inside

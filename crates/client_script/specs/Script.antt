@@ -1,9 +1,15 @@
 -- What a script says, and how a session's input falls into a script and a stream (this project's own).
-use Rattle.std.specs.Prelude.{◌≡◌, ℕ, ◌+◌, ◌≤◌, ◌==◌, Bool, List, [], ◌∷◌, ◌++◌, length, take, drop, max, fold, replicate, Option, Some, None, Result, Ok, Err, if◌then◌else◌, codes}
-use Rattle.std.specs.List.{All, slice_split, count_by}
+use Rattle.std.specs.Prelude.{◌≡◌, ℕ, ◌+◌, ◌≤◌, ◌<◌, ◌==◌, Bool, List, [], ◌∷◌, ◌++◌, length, take, drop, max, fold, replicate, nat_eq, slice_index_or, slice_set, Option, Some, None, Result, Ok, Err, if◌then◌else◌, codes}
+use Rattle.std.specs.List.{All, slice_split, count_by, flat_map, range_with_len}
 use Rattle.std.specs.Option.{option_map}
 use Rattle.text_forms.specs.Words.{is_word}
 use Rattle.client_script.specs.Grammar.{meaning, IsInRange}
+use Rattle.client_script.specs.Writes.{IsWritten}
+use Rattle.client_script.specs.declared.said.Said.{Said}
+use Rattle.client_script.specs.declared.said.Said.TheVariants.{Asks, Writes}
+use Rattle.client_script.specs.declared.line.Target.TheVariants.{Dvr}
+use Rattle.client_script.specs.declared.line.Verb.{Verb}
+use Rattle.client_script.specs.declared.line.Verb.TheVariants.{Write}
 use Rattle.client_script.specs.declared.fault.FaultKind.{FaultKind}
 use Rattle.client_script.specs.declared.fault.FaultKind.TheVariants.{NoStream}
 use Rattle.client_script.specs.declared.fault.ScriptFault.{ScriptFault}
@@ -41,6 +47,14 @@ pub record Scripted : Type 0 where
 abbrev pub no_writes : List (List (List ℕ))
 no_writes = replicate 8 []
 
+-- what one client writes
+abbrev pub writes_of : (client : ℕ) → (writes : List (List (List ℕ))) → List (List ℕ)
+writes_of client writes = slice_index_or writes client []
+
+-- the bytes of one of its writes
+abbrev pub written_by : (client : ℕ) → (writes : List (List (List ℕ))) → (write : ℕ) → List ℕ
+written_by client writes write = slice_index_or (writes_of client writes) write []
+
 -- the script of these lines, of which none writes
 abbrev pub plain : List Line → Scripted
 plain lines = record { lines = lines; writes = no_writes }
@@ -51,30 +65,36 @@ plain lines = record { lines = lines; writes = no_writes }
 abbrev pub Parsed : Type 0
 Parsed = Result Scripted ScriptFault
 
--- what a line asks for, if anything
-abbrev pub lines_of : Option Line → List Line
-lines_of None = []
-lines_of (Some asked) = asked ∷ []
+-- A script with a write more: it is the next of its client, by which its line names it.
+abbrev pub with_write : (line client : ℕ) → (bytes : List ℕ) → Scripted → Scripted
+with_write line client bytes s = record {
+  lines = s.lines ++ Command line client Dvr (Write (length (writes_of client s.writes))) ∷ [];
+  writes = slice_set s.writes client (writes_of client s.writes ++ bytes ∷ []);
+}
 
--- what a line means, in front of what the lines behind it mean; its fault goes before theirs
-abbrev pub before : (line : ℕ) → Result (Option Line) FaultKind → Parsed → Parsed
-before line (Err kind) behind = Err (record { line = line; kind = kind })
-before line (Ok asked) (Ok script) = Ok (record script { lines = lines_of asked ++ script.lines })
-before line (Ok asked) (Err fault) = Err fault
+-- a script with what one line more says
+abbrev pub with_said : Option Said → Scripted → Scripted
+with_said None s = s
+with_said (Some (Asks line)) s = record s { lines = s.lines ++ line ∷ [] }
+with_said (Some (Writes line client bytes)) s = with_write line client bytes s
 
--- What whole lines mean, up to the line `stream`, where the first of them has this number; and `missing` where none of
--- them is the line `stream` and none has a fault.
-unfoldable pub lines_from : (missing : ScriptFault) → (line : ℕ) → List (List ℕ) → Parsed
-lines_from missing line [] = Err missing
-lines_from missing line (bytes ∷ more) =
-    if is_stream bytes then Ok (plain []) else before line (meaning line bytes) (lines_from missing (line + 1) more)
+-- What whole lines mean behind this script, up to the line `stream`, where the first of them has this number; and
+-- `missing` where none of them is the line `stream` and none has a fault.
+unfoldable pub lines_from : (missing : ScriptFault) → (line : ℕ) → Scripted → List (List ℕ) → Parsed
+lines_from missing line s [] = Err missing
+lines_from missing line s (bytes ∷ more) =
+    if is_stream bytes then Ok s
+    else (elim (meaning line bytes) [
+      | Err kind ↦ Err (record { line = line; kind = kind })
+      | Ok said ↦ lines_from missing (line + 1) (with_said said s) more
+    ])
 
 -- What a script says, or its first fault. Lines are numbered from 1. Where none is the line
 -- `stream`, and none has a fault, the fault is in the line 1 plus the number of line feeds.
 unfoldable pub grammar : List ℕ → Parsed
 grammar bytes =
     let missing : ScriptFault = record { line = 1 + count_by (λ byte. byte == 10) bytes; kind = NoStream } in
-    lines_from missing 1 (whole_lines bytes)
+    lines_from missing 1 (plain []) (whole_lines bytes)
 
 -- ------ what is known of a script
 
@@ -82,10 +102,53 @@ grammar bytes =
 abbrev pub most_bytes : ℕ
 most_bytes = 1048576
 
--- no more lines than bytes are searched, each in the ranges of the grammar
+-- the writes of a client
+pub record AreWritten (writes : List (List ℕ)) : Type 0 where
+  pub few : length writes ≤ most_bytes
+  pub each : All IsWritten writes
+
+-- the write that a verb names, if it names one, is among so many
+abbrev pub HasVerb : (count : ℕ) → Verb → Type 0
+HasVerb count (Write write) = write < count
+HasVerb count _ = Unit {0}
+
+-- a write is on the dvr node
+abbrev pub IsOnDvr : Line → Type 0
+IsOnDvr (Command line client target (Write write)) = target ≡ Dvr
+IsOnDvr _ = Unit {0}
+
+-- the write that a line names, if it names one, is among those of its client
+abbrev pub HasWrite : (writes : List (List (List ℕ))) → Line → Type 0
+HasWrite writes (Command line client target verb) = HasVerb (length (writes_of client writes)) verb
+HasWrite writes _ = Unit {0}
+
+-- the write that a verb names, if it names one
+abbrev pub named_by : Verb → List ℕ
+named_by (Write write) = write ∷ []
+named_by _ = []
+
+-- the write that a line of this client names, if it names one
+abbrev pub named_in : (client : ℕ) → Line → List ℕ
+named_in client (Command line who target verb) = if nat_eq who client then named_by verb else []
+named_in client _ = []
+
+-- the writes that the lines of a client name, in the order of the lines
+abbrev pub named_among : (client : ℕ) → List Line → List ℕ
+named_among client lines = flat_map (named_in client) lines
+
+-- the lines of each client name its writes in their order, each once
+abbrev pub AreNumbered : Scripted → Type 0
+AreNumbered script = (client : ℕ) → named_among client script.lines ≡ range_with_len 0 (length (writes_of client script.writes))
+
+-- no more lines and writes than bytes are searched, each in the ranges of the grammar
 pub record IsScript (script : Scripted) : Type 0 where
   pub few : length script.lines ≤ most_bytes
   pub ranges : All IsInRange script.lines
+  pub clients : length script.writes ≡ 8
+  pub writes : All AreWritten script.writes
+  pub on_dvr : All IsOnDvr script.lines
+  pub named : All (HasWrite script.writes) script.lines
+  pub numbered : AreNumbered script
 
 -- how many clients there are up to the one that a line names, if it names one
 abbrev pub clients_of : Line → ℕ

@@ -1,6 +1,6 @@
 -- The one spelling of a line (this project's own). Numbers are decimal, but for those of requests. What a request asks by
 -- a call is spelled as the command that makes the call.
-use Rattle.std.specs.Prelude.{ℕ, ◌+◌, List, [], ◌∷◌, ◌++◌, codes}
+use Rattle.std.specs.Prelude.{ℕ, ◌+◌, List, [], ◌∷◌, ◌++◌, Some, codes}
 use Rattle.std.specs.Fmt.{decimal}
 use Rattle.byteorder.specs.Endian.{big_bytes}
 use Rattle.dmx_abi.specs.Written.{number_of, argument_of}
@@ -12,8 +12,11 @@ use Rattle.text_forms.specs.Names.{client_text, demux_text, slot_text}
 use Rattle.text_forms.specs.Places.{filter_text}
 use Rattle.dmx_calls.specs.declared.params.SectionParams.{SectionParams}
 use Rattle.dmx_calls.specs.declared.params.PesParams.{PesParams}
+use Rattle.client_script.specs.Script.{Scripted, with_said, written_by}
+use Rattle.client_script.specs.declared.said.Said.{Said}
+use Rattle.client_script.specs.declared.said.Said.TheVariants.{Asks, Writes}
 use Rattle.client_script.specs.declared.line.Verb.{Verb}
-use Rattle.client_script.specs.declared.line.Verb.TheVariants.{Once, ReadWait, Drain, GetStc}
+use Rattle.client_script.specs.declared.line.Verb.TheVariants.{Once, ReadWait, Drain, GetStc, Write}
 use Rattle.client_script.specs.declared.line.Want.{Want}
 use Rattle.client_script.specs.declared.line.Want.TheVariants.{Open, Close, Section, Pes, Add, Remove, Start, Stop, Size, Read, Poll}
 use Rattle.client_script.specs.declared.line.Target.{Target}
@@ -43,6 +46,7 @@ name_text (Once want) = want_text want
 name_text (ReadWait n) = codes "readw"
 name_text (Drain n) = codes "drain"
 name_text (GetStc num) = codes "ioctl"
+name_text (Write write) = codes "write"
 
 -- a target
 unfoldable pub target_text : Target → List ℕ
@@ -85,29 +89,34 @@ unfoldable pub request_text : Request → List ℕ
 request_text r =
     codes " " ++ (hex_text (big_bytes 4 (number_of r)) ++ (codes " " ++ hex_text (argument_of r)))
 
--- what a command wants behind its target
-unfoldable pub arguments_text : Verb → List ℕ
-arguments_text (Once want) = want_arguments_text want
-arguments_text (ReadWait n) = number_text n
-arguments_text (Drain n) = number_text n
-arguments_text (GetStc num) = request_text (StcRequest num)
+-- ` HEX`: bytes in hexadecimal digits
+unfoldable pub bytes_text : List ℕ → List ℕ
+bytes_text bytes = codes " " ++ hex_text bytes
+
+-- what a command wants behind its target, where these are the bytes of its client's writes
+unfoldable pub arguments_text : (written : ℕ → List ℕ) → Verb → List ℕ
+arguments_text written (Once want) = want_arguments_text want
+arguments_text written (ReadWait n) = number_text n
+arguments_text written (Drain n) = number_text n
+arguments_text written (GetStc num) = request_text (StcRequest num)
+arguments_text written (Write write) = bytes_text (written write)
 
 -- ------ lines
 
 -- a client's command
-unfoldable pub command_text : (client : ℕ) → Target → Verb → List ℕ
-command_text client target verb =
-    client_text client ++ (codes " " ++ (name_text verb ++ (codes " " ++ (target_text target ++ arguments_text verb))))
+unfoldable pub command_text : (written : ℕ → List ℕ) → (client : ℕ) → Target → Verb → List ℕ
+command_text written client target verb =
+    client_text client ++ (codes " " ++ (name_text verb ++ (codes " " ++ (target_text target ++ arguments_text written verb))))
 
--- a line, without its line feed
-unfoldable pub line_text : Line → List ℕ
-line_text (Feed n) = codes "feed" ++ number_text n
-line_text (Tick n) = codes "tick" ++ number_text n
-line_text (Command line client target verb) = command_text client target verb
+-- a line, without its line feed, where these are the writes of the clients
+unfoldable pub line_text : (writes : List (List (List ℕ))) → Line → List ℕ
+line_text writes (Feed n) = codes "feed" ++ number_text n
+line_text writes (Tick n) = codes "tick" ++ number_text n
+line_text writes (Command line client target verb) = command_text (written_by client writes) client target verb
 
 -- The one spelling of a line, with its line feed.
-abbrev pub spelling : Line → List ℕ
-spelling line = line_text line ++ 10 ∷ []
+abbrev pub spelling : (writes : List (List (List ℕ))) → Line → List ℕ
+spelling writes line = line_text writes line ++ 10 ∷ []
 
 -- ------ lines and their numbers
 
@@ -117,7 +126,13 @@ with_number number (Feed n) = Feed n
 with_number number (Tick n) = Tick n
 with_number number (Command line client target verb) = Command number client target verb
 
--- lines with their numbers, of which the first is this one
-abbrev pub numbered_from : ℕ → List Line → List Line
-numbered_from number [] = []
-numbered_from number (line ∷ lines) = with_number number line ∷ numbered_from (number + 1) lines
+-- what a line says, as the one of this number, where these are the writes of the clients
+abbrev pub said_again : (number : ℕ) → (writes : List (List (List ℕ))) → Line → Said
+said_again number writes (Command line client target (Write write)) = Writes number client (written_by client writes write)
+said_again number writes line = Asks (with_number number line)
+
+-- a script with what these lines say, of which the first has this number
+abbrev pub with_all : (number : ℕ) → (writes : List (List (List ℕ))) → List Line → Scripted → Scripted
+with_all number writes [] s = s
+with_all number writes (line ∷ lines) s =
+    with_all (number + 1) writes lines (with_said (Some (said_again number writes line)) s)

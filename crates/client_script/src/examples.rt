@@ -1,7 +1,7 @@
 // Worked examples: what the grammar gives for lines and scripts that were worked out by hand from the rules. Each is a
 // clause of a function that does nothing, so the check computes it.
 
-ghost use Rattle.client_script.specs.Examples.{OneWord, PassedOver, FeedsAndTicks, Commands, PesFilter, SectionFilter, Requests, ClientFaults, CommandFaults, TargetFaults, NumberFaults, NameFaults, BytesFaults, CountFaults, RequestFaults, ThirdLine, LinesBehindTheStream, NoBytes, LineWithoutItsEnd, FaultBeforeTheEnd, InputWithAStream, InputWithoutAStream, Spellings, SectionSpelling, PesSpelling, StcSpelling};
+ghost use Rattle.client_script.specs.Examples.{OneWord, PassedOver, FeedsAndTicks, Commands, PesFilter, SectionFilter, Requests, ClientFaults, CommandFaults, TargetFaults, NumberFaults, NameFaults, BytesFaults, CountFaults, RequestFaults, Writing, WriteFaults, ThirdLine, LinesBehindTheStream, TwoWriters, NoBytes, LineWithoutItsEnd, FaultBeforeTheEnd, InputWithAStream, InputWithoutAStream, Spellings, SectionSpelling, PesSpelling, StcSpelling, WriteSpelling};
 
 /// What words spell, and what lines ask for.
 pub fn lines()
@@ -12,6 +12,7 @@ pub fn lines()
     ensures pes_filter { PesFilter }
     ensures section_filter { SectionFilter }
     ensures requests { Requests }
+    ensures writing { Writing }
 {}
 
 /// The kinds of faults.
@@ -24,12 +25,14 @@ pub fn kinds()
     ensures bytes { BytesFaults }
     ensures count { CountFaults }
     ensures requests { RequestFaults }
+    ensures writes { WriteFaults }
 {}
 
 /// Whole scripts.
 pub fn scripts()
     ensures third_line { ThirdLine }
     ensures lines_behind_the_stream { LinesBehindTheStream }
+    ensures two_writers { TwoWriters }
     ensures no_bytes { NoBytes }
     ensures line_without_its_end { LineWithoutItsEnd }
     ensures fault_before_the_end { FaultBeforeTheEnd }
@@ -47,4 +50,5 @@ pub fn spellings()
     ensures section { SectionSpelling }
     ensures pes { PesSpelling }
     ensures stc { StcSpelling }
+    ensures write { WriteSpelling }
 {}

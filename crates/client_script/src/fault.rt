@@ -3,7 +3,7 @@ ghost use Rattle.std.specs.Prelude.{◌≡◌};
 ghost use Rattle.client_script.specs.FaultNames.{fault_text};
 ghost use Rattle.client_script.specs.declared.fault.ScriptError.TheVariants.{NoMemory as WantOfMemory};
 
-use std::alloc::AllocFailed;
+use std::alloc::{AllocError, AllocFailed};
 
 /// What a script's first fault is.
 #[derive(Clone, Copy, Debug, PartialEq, Eq, Drop)]
@@ -12,13 +12,14 @@ pub enum FaultKind {
     Client,
     /// The second word is no command.
     Command,
-    /// A word in the place of a target is none.
+    /// A word in the place of a target is none, or is another than `dvr` where a client writes.
     Target,
     /// A word in the place of a number is none, or one out of range.
     Number,
     /// A word in the place of an input or an output is no name of one.
     Name,
-    /// A word in the place of a filter's bytes spells none, or names a place that isn't above the one before.
+    /// A word in the place of bytes spells none, or not as many as are asked for; or in the place of a filter's byte it names
+    /// a place that isn't above the one before.
     Bytes,
     /// A word is missing, or there is one too many.
     Count,
@@ -61,6 +62,14 @@ pub enum ScriptError {
     Fault(ScriptFault),
     /// Memory was refused.
     NoMemory,
+}
+
+impl From<AllocError> for ScriptError {
+    ghost from_gives = { λ _ e. e ≡ WantOfMemory };
+
+    fn from(_e: AllocError) -> ScriptError {
+        ScriptError::NoMemory
+    }
 }
 
 impl<T: Drop> From<AllocFailed<T>> for ScriptError {

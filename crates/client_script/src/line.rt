@@ -65,7 +65,7 @@ impl Want {
     }
 }
 
-/// What a command asks of its node: one call, the same read again and again, or a counter without a call.
+/// What a command asks of its node: one call, the same read again and again, a counter without a call, or that packets pass.
 #[derive(Clone, Copy, Debug, PartialEq, Eq, Drop)]
 pub enum Verb {
     /// One call.
@@ -76,6 +76,8 @@ pub enum Verb {
     Drain(u32),
     /// Asks for the system time counter of this number (DMX_GET_STC), and makes no call.
     GetStc(u32),
+    /// Writes to the dvr device: the write of this number among those of its client, counted from 0.
+    Write(u32),
 }
 
 impl Verb {
@@ -89,6 +91,7 @@ impl Verb {
             Verb::ReadWait(_) => "readw",
             Verb::Drain(_) => "drain",
             Verb::GetStc(_) => "ioctl",
+            Verb::Write(_) => "write",
         }
     }
 }

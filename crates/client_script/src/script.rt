@@ -1,15 +1,18 @@
 // The lines of a whole script.
-ghost use Rattle.std.specs.Prelude.{◌≡◌, ◌+◌, ◌≤◌, ◌∷◌, ◌++◌, [], length, map, IfOk, IfSome, OnOk, MatchOption};
+ghost use Rattle.std.specs.Prelude.{◌≡◌, ◌+◌, ◌<◌, ◌≤◌, ◌∷◌, ◌++◌, [], length, IfOk, IfErr, IfSome, OnOk, MatchOption};
 ghost use Rattle.std.specs.List.{All};
-ghost use Rattle.client_script.specs.Grammar.{line_of as line_by_grammar, meaning as meaning_of, is_passed_over, IsInRange};
-ghost use Rattle.client_script.specs.Script.{whole_lines, grammar, most_bytes, clients_of, clients_in, lines_of, IsScript, IsRead};
+ghost use Rattle.client_script.specs.Grammar.{line_of as line_by_grammar, meaning as meaning_of, is_passed_over, IsInRange, IsPlain, IsSaidInRange};
+ghost use Rattle.client_script.specs.Writes.{IsWritten};
+ghost use Rattle.client_script.specs.Script.{whole_lines, grammar, most_bytes, clients_of, clients_in, plain, writes_of, written_by, with_said, with_write, IsScript, IsRead};
 
 use crate::fault::{FaultKind, ScriptError, ScriptFault};
-use crate::line::Line;
+use crate::line::{Line, Target, Verb};
 use crate::pieces::cut_at;
+use crate::said::Said;
 use crate::verbs::read_words;
 use crate::words::Words;
-use std::alloc::{AllocFailed, Global};
+use crate::writes::ClientWrites;
+use std::alloc::Global;
 use std::marker::Model;
 use text_forms::is_word;
 
@@ -20,16 +23,17 @@ pub const MOST_BYTES: usize = 1_048_576;
 #[derive(Debug, Drop)]
 pub struct Script {
     lines: Vec<Line>,
+    writes: [ClientWrites; 8],
 }
 
 impl Model for Script {
-    ghost use Rattle.client_script.specs.Script.{IsScript, Scripted, plain};
+    ghost use Rattle.client_script.specs.Script.{IsScript, Scripted};
 
     ghost Value = { Scripted };
 
-    ghost view = { λ s. plain s.lines.items };
+    ghost view = { λ s. record { lines = s.lines.items; writes = s.writes } };
 
-    ghost invariant = { λ s. IsScript (plain s.lines.items) };
+    ghost invariant = { λ s. IsScript (record { lines = s.lines.items; writes = s.writes }) };
 }
 
 // Whether a line is empty or a comment.
@@ -42,33 +46,33 @@ fn passes_over(line: &[u8]) -> bool
     }
 }
 
-// What a line asks for.
+// What a line says.
 #[tactic(auto, unfolding(crate::specs::Grammar::line_of))]
-fn read_line(number: u32, line: &[u8]) -> Result<Line, FaultKind>
+fn read_line(number: u32, line: &[u8]) -> Result<Said<'_>, FaultKind>
     requires { (1 ≤ number) × (number ≤ 1048576) }
     ensures value { result ≡ line_by_grammar number line.now }
-    ensures range { IfOk result IsInRange }
+    ensures range { IfOk result IsSaidInRange }
 {
     let mut words = Words::of(line);
-    let asked = read_words(number, &mut words)?;
+    let said = read_words(number, &mut words)?;
     match words.next() {
-        None => Ok(asked),
+        None => Ok(said),
         Some(_) => Err(FaultKind::Count),
     }
 }
 
-// What a line means: nothing, or what it asks for.
+// What a line means: nothing, or what it says.
 #[tactic(auto, unfolding(crate::specs::Grammar::meaning))]
-fn meaning(number: u32, line: &[u8]) -> Result<Option<Line>, FaultKind>
+fn meaning(number: u32, line: &[u8]) -> Result<Option<Said<'_>>, FaultKind>
     requires { (1 ≤ number) × (number ≤ 1048576) }
     ensures value { result ≡ meaning_of number line.now }
-    ensures range { IfOk result (λ asked. IfSome asked IsInRange) }
+    ensures range { IfOk result (λ said. IfSome said IsSaidInRange) }
 {
     if passes_over(line) {
         return Ok(None);
     }
-    let asked = read_line(number, line)?;
-    Ok(Some(asked))
+    let said = read_line(number, line)?;
+    Ok(Some(said))
 }
 
 // The first whole line without its line feed, and the bytes behind it; None where there is no line feed.
@@ -78,20 +82,6 @@ fn next_line(bytes: &[u8]) -> Option<(&[u8], &[u8])>
 {
     let (line, behind) = cut_at(b'\n', bytes);
     Some((line, behind?))
-}
-
-// Puts what a line asks for, if anything, behind the lines.
-fn add_line(lines: &mut Vec<Line>, asked: Option<Line>) -> Result<(), AllocFailed<Line>>
-    requires ranges { All IsInRange lines.old.items }
-    requires range { IfSome asked IsInRange }
-    ensures added { OnOk result (lines.new.items ≡ lines.old.items ++ lines_of asked) }
-    ensures ranges { OnOk result (All IsInRange lines.new.items) }
-    ensures longer { OnOk result (length lines.new.items ≤ length lines.old.items + 1) }
-{
-    if let Some(asked) = asked {
-        lines.push(asked)?;
-    }
-    Ok(())
 }
 
 // The fault of this kind in this line.
@@ -114,6 +104,88 @@ fn clients_named(line: &Line) -> u32
 }
 
 impl Script {
+    // Without a line. No memory is taken.
+    #[tactic(auto, using(crate::proofs::Taking::script_none))]
+    fn empty(alloc: Global) -> Script
+        ensures { result ≡ plain [] }
+    {
+        Script {
+            lines: Vec::new(alloc),
+            writes: [
+                ClientWrites::new(alloc),
+                ClientWrites::new(alloc),
+                ClientWrites::new(alloc),
+                ClientWrites::new(alloc),
+                ClientWrites::new(alloc),
+                ClientWrites::new(alloc),
+                ClientWrites::new(alloc),
+                ClientWrites::new(alloc),
+            ],
+        }
+    }
+
+    // Takes a line that asks for something else than a write.
+    #[tactic(auto, using(crate::proofs::Taking::script_line))]
+    fn add_line(&mut self, line: Line) -> Result<(), ScriptError>
+        requires few { length self.old.lines < most_bytes }
+        requires range { IsInRange line }
+        requires plain { IsPlain line }
+        ensures added { OnOk result (self.new ≡ record self.old { lines = self.old.lines ++ line ∷ [] }) }
+        ensures refused { IfErr result (λ error. error ≡ ScriptError.NoMemory) }
+    {
+        self.lines.push(line)?;
+        Ok(())
+    }
+
+    // Takes a line that writes these bytes, which are the client's next write.
+    #[tactic(auto, using(crate::proofs::Taking::script_write))]
+    fn add_write(&mut self, line: u32, client: u32, bytes: Vec<u8>) -> Result<(), ScriptError>
+        requires lines { length self.old.lines < most_bytes }
+        requires writes { length (writes_of client self.old.writes) < most_bytes }
+        requires number { (1 ≤ line) × (line ≤ 1048576) }
+        requires client { client ≤ 7 }
+        requires range { IsWritten bytes.items }
+        ensures added { OnOk result (self.new ≡ with_write line client bytes.items self.old) }
+        ensures refused { IfErr result (λ error. error ≡ ScriptError.NoMemory) }
+    {
+        self.lines.reserve(1)?;
+        let writes = &mut self.writes[client as usize];
+        let verb = Verb::Write(writes.len() as u32);
+        writes.push(bytes)?;
+        self.lines.push_reserved(Line::Command {
+            line,
+            client,
+            target: Target::Dvr,
+            verb,
+        });
+        Ok(())
+    }
+
+    // Takes what a line says.
+    #[tactic(auto, using(crate::proofs::Taking::one_below))]
+    fn add(&mut self, alloc: Global, said: Option<Said<'_>>) -> Result<(), ScriptError>
+        requires lines { length self.old.lines < most_bytes }
+        requires writes { All (λ writes. length writes < most_bytes) self.old.writes }
+        requires range { IfSome said IsSaidInRange }
+        ensures added { OnOk result (self.new ≡ with_said said.entry self.old) }
+        ensures refused { IfErr result (λ error. error ≡ ScriptError.NoMemory) }
+    {
+        match said {
+            None => Ok(()),
+            Some(Said::Asks(line)) => self.add_line(line),
+            Some(
+                Said::Writes {
+                    line,
+                    client,
+                    bytes,
+                },
+            ) => {
+                let bytes = bytes.copied(alloc)?;
+                self.add_write(line, client, bytes)
+            }
+        }
+    }
+
     /// Reads a script: the bytes up to and with its line `stream`, or all bytes that were searched for that line.
     ///
     /// # Errors
@@ -123,21 +195,41 @@ impl Script {
         requires { length bytes.now ≤ most_bytes }
         ensures { IsRead result (grammar bytes.now) }
     {
-        let mut lines = Vec::new(alloc);
+        let mut script = Script::empty(alloc);
         let mut number: u32 = 1;
         let mut rest = bytes;
         'lines: while let Some((line, behind)) = next_line(rest) {
             if is_word(line, "stream") {
-                return Ok(Script { lines });
+                return Ok(script);
             }
             match meaning(number, line) {
-                Ok(asked) => add_line(&mut lines, asked)?,
+                Ok(said) => script.add(alloc, said)?,
                 Err(kind) => return Err(fault(number, kind)),
             }
             number += 1;
             rest = behind;
         }
         Err(fault(number, FaultKind::NoStream))
+    }
+
+    /// How many writes a client makes.
+    pub fn writes(&self, client: u32) -> u32
+        ensures count { result ≡ length (writes_of client self.now.writes) }
+        ensures bound { result ≤ most_bytes }
+    {
+        match self.writes.get(client as usize) {
+            None => 0,
+            Some(writes) => writes.len() as u32,
+        }
+    }
+
+    /// The bytes of a write of a client, which makes more writes than this.
+    pub fn written(&self, client: u32, write: u32) -> &[u8]
+        requires { write < length (writes_of client self.now.writes) }
+        ensures bytes { result.now ≡ written_by client self.now.writes write }
+        ensures known { IsWritten result.now }
+    {
+        self.writes[client as usize].get(write as usize)
     }
 
     /// The lines, in their order.
@@ -152,6 +244,7 @@ impl Script {
     pub fn clients(&self) -> u32
         ensures count { result ≡ clients_in self.now }
         ensures bound { result ≤ 8 }
+        ensures known { IsScript self.now }
     {
         let mut most = 0;
         'lines: for line in &self.lines {

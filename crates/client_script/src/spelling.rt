@@ -1,8 +1,10 @@
 // The one spelling of a line.
-ghost use Rattle.std.specs.Prelude.{◌≡◌, ◌++◌, OnOk, OnErr, IfOk};
-ghost use Rattle.client_script.specs.Spelling.{target_text, number_text, section_text, pes_text, want_arguments_text, request_text, arguments_text, command_text, line_text, spelling as spelling_of};
+ghost use Rattle.std.specs.Prelude.{◌≡◌, ◌++◌, length, OnOk, OnErr, IfOk};
+ghost use Rattle.client_script.specs.Spelling.{target_text, number_text, section_text, pes_text, want_arguments_text, request_text, bytes_text, arguments_text, command_text, line_text, spelling as spelling_of};
+ghost use Rattle.client_script.specs.Script.{writes_of, written_by, HasVerb, HasWrite};
 
 use crate::line::{Line, Target, Verb, Want};
+use crate::script::Script;
 use dmx_abi::{Request, encode};
 use dmx_calls::{PesParams, SectionParams};
 use std::alloc::{AllocError as NoMemory, Global};
@@ -82,12 +84,28 @@ fn add_request(text: &mut Vec<u8>, request: &Request) -> Result<(), NoMemory>
     write_hex(text, &argument[..len as usize])
 }
 
-// What a command wants behind its target.
+// A space and the digits of bytes.
+#[tactic(auto, unfolding(crate::specs::Spelling::bytes_text))]
+fn add_bytes(text: &mut Vec<u8>, bytes: &[u8]) -> Result<(), NoMemory>
+    ensures { OnOk result (text.new.items ≡ text.old.items ++ bytes_text bytes.now) }
+{
+    text.push(b' ')?;
+    write_hex(text, bytes)
+}
+
+// What a command of a client wants behind its target.
 #[tactic(auto, unfolding(crate::specs::Spelling::arguments_text))]
-fn add_arguments(text: &mut Vec<u8>, verb: &Verb) -> Result<(), NoMemory>
-    ensures { OnOk result (text.new.items ≡ text.old.items ++ arguments_text verb.now) }
+fn add_arguments(
+    text: &mut Vec<u8>,
+    script: &Script,
+    client: u32,
+    verb: &Verb,
+) -> Result<(), NoMemory>
+    requires { HasVerb (length (writes_of client script.now.writes)) verb.now }
+    ensures { OnOk result (text.new.items ≡ text.old.items ++ arguments_text (written_by client script.now.writes) verb.now) }
 {
     match verb {
+        Verb::Write(write) => add_bytes(text, script.written(client, *write)),
         Verb::Once(want) => add_want_arguments(text, want),
         Verb::ReadWait(n) => add_number(text, *n as u64),
         Verb::Drain(n) => add_number(text, *n as u64),
@@ -96,20 +114,28 @@ fn add_arguments(text: &mut Vec<u8>, verb: &Verb) -> Result<(), NoMemory>
 }
 
 #[tactic(auto, unfolding(crate::specs::Spelling::command_text))]
-fn add_command(text: &mut Vec<u8>, client: u32, target: Target, verb: &Verb) -> Result<(), NoMemory>
-    ensures { OnOk result (text.new.items ≡ text.old.items ++ command_text client target verb.now) }
+fn add_command(
+    text: &mut Vec<u8>,
+    script: &Script,
+    client: u32,
+    target: Target,
+    verb: &Verb,
+) -> Result<(), NoMemory>
+    requires { HasVerb (length (writes_of client script.now.writes)) verb.now }
+    ensures { OnOk result (text.new.items ≡ text.old.items ++ command_text (written_by client script.now.writes) client target verb.now) }
 {
     write_client(text, client)?;
     text.push(b' ')?;
     text.extend_from_slice(verb.name().as_bytes())?;
     text.push(b' ')?;
     add_target(text, target)?;
-    add_arguments(text, verb)
+    add_arguments(text, script, client, verb)
 }
 
 #[tactic(auto, unfolding(crate::specs::Spelling::line_text))]
-fn add_line(text: &mut Vec<u8>, line: &Line) -> Result<(), NoMemory>
-    ensures { OnOk result (text.new.items ≡ text.old.items ++ line_text line.now) }
+fn add_line(text: &mut Vec<u8>, script: &Script, line: &Line) -> Result<(), NoMemory>
+    requires { HasWrite script.now.writes line.now }
+    ensures { OnOk result (text.new.items ≡ text.old.items ++ line_text script.now.writes line.now) }
 {
     match line {
         Line::Feed(n) => {
@@ -125,29 +151,31 @@ fn add_line(text: &mut Vec<u8>, line: &Line) -> Result<(), NoMemory>
             target,
             verb,
             ..
-        } => add_command(text, *client, *target, verb),
+        } => add_command(text, script, *client, *target, verb),
     }
 }
 
 // The one spelling of a line, with its line feed.
-fn spelling(alloc: Global, line: &Line) -> Result<Vec<u8>, NoMemory>
-    ensures { IfOk result (λ text. text.items ≡ spelling_of line.now) }
+fn spelling(alloc: Global, line: &Line, script: &Script) -> Result<Vec<u8>, NoMemory>
+    requires { HasWrite script.now.writes line.now }
+    ensures { IfOk result (λ text. text.items ≡ spelling_of script.now.writes line.now) }
 {
     let mut text = Vec::new(alloc);
-    add_line(&mut text, line)?;
+    add_line(&mut text, script, line)?;
     text.push(b'\n')?;
     Ok(text)
 }
 
-/// Appends the one spelling of a line, with its line feed.
+/// Appends the one spelling of a line of this script, with its line feed: of a write with the bytes that the script has for it.
 ///
 /// # Errors
 ///
 /// `NoMemory`; `out` is then as it was.
-pub fn print(alloc: Global, line: &Line, out: &mut Vec<u8>) -> Result<(), NoMemory>
-    ensures appended { OnOk result (out.new.items ≡ out.old.items ++ spelling_of line.now) }
+pub fn print(alloc: Global, line: &Line, script: &Script, out: &mut Vec<u8>) -> Result<(), NoMemory>
+    requires { HasWrite script.now.writes line.now }
+    ensures appended { OnOk result (out.new.items ≡ out.old.items ++ spelling_of script.now.writes line.now) }
     ensures unchanged { OnErr result (out.new.items ≡ out.old.items) }
 {
-    let text = spelling(alloc, line)?;
+    let text = spelling(alloc, line, script)?;
     out.extend_from_slice(text.as_slice())
 }

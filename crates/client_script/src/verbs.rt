@@ -2,7 +2,7 @@
 ghost use Rattle.std.specs.Prelude.{◌≡◌, ◌≤◌, IfOk};
 ghost use Rattle.text_forms.specs.Words.{input_named as input_of_word, output_named as output_of_word};
 ghost use Rattle.client_script.specs.Words.{Reads, next_as};
-ghost use Rattle.client_script.specs.Grammar.{number_in, pid_in, count_in, target_of, name_of, section_in, pes_in, verb_in, command_in, line_in, IsWantInRange, IsVerbInRange, IsTargetInRange, IsInRange};
+ghost use Rattle.client_script.specs.Grammar.{number_in, pid_in, count_in, target_of, name_of, section_in, pes_in, verb_in, command_in, dvr_named, write_in, asked_in, line_in, IsWantInRange, IsVerbInRange, IsTargetInRange, IsInRange, IsSaidInRange};
 ghost use Rattle.client_script.specs.declared.fault.FaultKind.TheVariants.{Name as NoName, Target as NoTarget, Command as NoCommand};
 
 use crate::fault::FaultKind;
@@ -10,6 +10,7 @@ use crate::line::{Line, Target, Verb, Want};
 use crate::names::{CommandName, command_named, target_named};
 use crate::places::read_filter;
 use crate::requests::read_ioctl;
+use crate::said::{Said, written_named};
 use crate::words::Words;
 use dmx_calls::limits::LARGEST_READ;
 use dmx_calls::{Input, Output, PesParams, SectionParams};
@@ -66,14 +67,6 @@ fn read_target(words: &mut Words<'_>) -> Result<Target, FaultKind>
 {
     let word = words.word()?;
     target_named(word).ok_or(FaultKind::Target)
-}
-
-// The name of a command.
-fn read_name(words: &mut Words<'_>) -> Result<CommandName, FaultKind>
-    ensures { Reads result words.new (next_as NoCommand name_of words.old) }
-{
-    let word = words.word()?;
-    command_named(word).ok_or(FaultKind::Command)
 }
 
 // The call that sets a section filter.
@@ -138,15 +131,51 @@ fn read_verb(name: CommandName, words: &mut Words<'_>) -> Result<Verb, FaultKind
     }
 }
 
-// A client's command.
-#[tactic(auto, unfolding(crate::specs::Grammar::command_in))]
-fn read_command(line: u32, client: u32, words: &mut Words<'_>) -> Result<Line, FaultKind>
+// The target of a write.
+#[tactic(auto, unfolding(crate::specs::Grammar::dvr_named))]
+fn read_dvr(words: &mut Words<'_>) -> Result<Target, FaultKind>
+    ensures { Reads result words.new (next_as NoTarget dvr_named words.old) }
+{
+    let word = words.word()?;
+    if is_word(word, "dvr") {
+        Ok(Target::Dvr)
+    } else {
+        Err(FaultKind::Target)
+    }
+}
+
+// What a client writes.
+#[tactic(auto, unfolding(crate::specs::Grammar::write_in))]
+fn read_write<'a>(line: u32, client: u32, words: &mut Words<'a>) -> Result<Said<'a>, FaultKind>
     requires number { (1 ≤ line) × (line ≤ 1048576) }
     requires client { client ≤ 7 }
-    ensures value { Reads result words.new (command_in line client words.old) }
+    ensures value { Reads result words.new (write_in line client words.old) }
+    ensures range { IfOk result IsSaidInRange }
+{
+    read_dvr(words)?;
+    let word = words.word()?;
+    let bytes = written_named(word).ok_or(FaultKind::Bytes)?;
+    Ok(Said::Writes {
+        line,
+        client,
+        bytes,
+    })
+}
+
+// A client's command of this name.
+#[tactic(auto, unfolding(crate::specs::Grammar::command_in))]
+fn read_command(
+    line: u32,
+    client: u32,
+    name: Option<CommandName>,
+    words: &mut Words<'_>,
+) -> Result<Line, FaultKind>
+    requires number { (1 ≤ line) × (line ≤ 1048576) }
+    requires client { client ≤ 7 }
+    ensures value { Reads result words.new (command_in line client name words.old) }
     ensures range { IfOk result IsInRange }
 {
-    let name = read_name(words)?;
+    let name = name.ok_or(FaultKind::Command)?;
     let target = read_target(words)?;
     let verb = read_verb(name, words)?;
     Ok(Line::Command {
@@ -157,20 +186,36 @@ fn read_command(line: u32, client: u32, words: &mut Words<'_>) -> Result<Line, F
     })
 }
 
-/// What the words at the front ask for.
+// What stands behind the client.
+#[tactic(auto, unfolding(crate::specs::Grammar::asked_in))]
+fn read_asked<'a>(line: u32, client: u32, words: &mut Words<'a>) -> Result<Said<'a>, FaultKind>
+    requires number { (1 ≤ line) × (line ≤ 1048576) }
+    requires client { client ≤ 7 }
+    ensures value { Reads result words.new (asked_in line client words.old) }
+    ensures range { IfOk result IsSaidInRange }
+{
+    let word = words.word()?;
+    if is_word(word, "write") {
+        return read_write(line, client, words);
+    }
+    let asked = read_command(line, client, command_named(word), words)?;
+    Ok(Said::Asks(asked))
+}
+
+/// What the words at the front say.
 #[tactic(auto, unfolding(crate::specs::Grammar::line_in))]
-pub fn read_words(line: u32, words: &mut Words<'_>) -> Result<Line, FaultKind>
+pub fn read_words<'a>(line: u32, words: &mut Words<'a>) -> Result<Said<'a>, FaultKind>
     requires { (1 ≤ line) × (line ≤ 1048576) }
     ensures value { Reads result words.new (line_in line words.old) }
-    ensures range { IfOk result IsInRange }
+    ensures range { IfOk result IsSaidInRange }
 {
     let first = words.word()?;
     if is_word(first, "feed") {
-        return Ok(Line::Feed(read_number(1, u32::MAX, words)?));
+        return Ok(Said::Asks(Line::Feed(read_number(1, u32::MAX, words)?)));
     }
     if is_word(first, "tick") {
-        return Ok(Line::Tick(read_count(words)?));
+        return Ok(Said::Asks(Line::Tick(read_count(words)?)));
     }
     let client = client_named(first).ok_or(FaultKind::Client)?;
-    read_command(line, client, words)
+    read_asked(line, client, words)
 }

@@ -7,7 +7,7 @@ use Rattle.dmx_calls.specs.History.{History}
 use Rattle.dmx_calls.specs.Rules.{Rules}
 use Rattle.dmx_calls.specs.Answer.{answer}
 use Rattle.dmx_calls.specs.Legal.{May}
-use Rattle.dmx_calls.specs.Log.{IsOfStream, filled_act, act_of}
+use Rattle.dmx_calls.specs.Log.{IsFrom, filled_act, act_of}
 use Rattle.dmx_calls.specs.Laws.{PassesGoBy}
 
 passes : (node : Rules) (h : History) (who : ℕ) (input : Input) (first : ℕ) (packets : List (List ℕ)) (now : ℕ) (r : Response) → May node h who (Pass input first packets now) r → r ≡ Passed
@@ -21,19 +21,19 @@ ends node h who r m = ⊎_elim (λ e. e) (λ e. let no = e.2 in absurd (cc no)) 
 pub go_by : (node : Rules) → PassesGoBy node
 go_by node = record { passes = passes node; ends = ends node }
 
-pub fills : (stream : List (List ℕ)) (call : Invocation) → IsOfStream stream call → filled_act stream (act_of call) ≡ call
-fills stream Open of = refl
-fills stream Close of = refl
-fills stream (SetFilter p now) of = refl
-fills stream (SetPes p now) of = refl
-fills stream (AddPid pid) of = refl
-fills stream (RemovePid pid) of = refl
-fills stream (Start now) of = refl
-fills stream Stop of = refl
-fills stream (SetSize size) of = refl
-fills stream (Read now count) of = refl
-fills stream (Poll now) of = refl
-fills stream (Pass input first packets now) of = ap (λ (ps : List (List ℕ)). Pass input first ps now) (sym of)
-fills stream End of = refl
-fills stream (Attach node pids) of = refl
-fills stream (Detach node) of = refl
+pub fills : (packets : Input → List (List ℕ)) (call : Invocation) → IsFrom packets call → filled_act packets (act_of call) ≡ call
+fills packets Open of = refl
+fills packets Close of = refl
+fills packets (SetFilter p now) of = refl
+fills packets (SetPes p now) of = refl
+fills packets (AddPid pid) of = refl
+fills packets (RemovePid pid) of = refl
+fills packets (Start now) of = refl
+fills packets Stop of = refl
+fills packets (SetSize size) of = refl
+fills packets (Read now count) of = refl
+fills packets (Poll now) of = refl
+fills packets (Pass input first brought now) of = ap (λ (ps : List (List ℕ)). Pass input first ps now) (sym of)
+fills packets End of = refl
+fills packets (Attach node pids) of = refl
+fills packets (Detach node) of = refl

@@ -1,5 +1,6 @@
 -- The entries of a report, and the history that they tell.
 use Rattle.std.specs.Prelude.{ℕ, ◌≡◌, List, length, map, reverse, take, drop}
+use Rattle.dmx_calls.specs.declared.params.Input.{Input}
 use Rattle.dmx_calls.specs.declared.log.Act.{Act}
 use Rattle.dmx_calls.specs.declared.log.Act.TheVariants.{Open as OpenAct, Close as CloseAct, SetFilter as SetFilterAct, SetPes as SetPesAct, AddPid as AddPidAct, RemovePid as RemovePidAct, Start as StartAct, Stop as StopAct, SetSize as SetSizeAct, Read as ReadAct, Poll as PollAct, Pass as PassAct, End as EndAct, Attach as AttachAct, Detach as DetachAct}
 use Rattle.dmx_calls.specs.Invocation.{Invocation, Open, Close, SetFilter, SetPes, AddPid, RemovePid, Start, Stop, SetSize, Read, Poll, Pass, End, Attach, Detach}
@@ -15,8 +16,12 @@ pub record LogEntry : Type 0 where
   pub act : Act
   pub response : Response
 
--- the call, where these are the stream's packets
-abbrev pub filled_act : List (List ℕ) → Act → Invocation
+-- the packets of which a caller's passes bring some, by their input
+abbrev pub Sources : Type 0
+Sources = (who : ℕ) → Input → List (List ℕ)
+
+-- the call, where its caller's passes bring of these packets
+abbrev pub filled_act : (packets : Input → List (List ℕ)) → Act → Invocation
 filled_act packets OpenAct = Open
 filled_act packets CloseAct = Close
 filled_act packets (SetFilterAct p now) = SetFilter p now
@@ -28,16 +33,16 @@ filled_act packets StopAct = Stop
 filled_act packets (SetSizeAct size) = SetSize size
 filled_act packets (ReadAct now count) = Read now count
 filled_act packets (PollAct now) = Poll now
-filled_act packets (PassAct input first count now) = Pass input first (take count (drop first packets)) now
+filled_act packets (PassAct input first count now) = Pass input first (take count (drop first (packets input))) now
 filled_act packets EndAct = End
 filled_act packets (AttachAct node pids) = Attach node pids
 filled_act packets (DetachAct node) = Detach node
 
-abbrev pub filled_entry : List (List ℕ) → LogEntry → Entry
-filled_entry packets e = record { who = e.who; invocation = filled_act packets e.act; response = e.response }
+abbrev pub filled_entry : Sources → LogEntry → Entry
+filled_entry packets e = record { who = e.who; invocation = filled_act (packets e.who) e.act; response = e.response }
 
 -- the history of these entries, which a report has the oldest first
-abbrev pub filled : List (List ℕ) → List LogEntry → History
+abbrev pub filled : Sources → List LogEntry → History
 filled packets entries = reverse (map (filled_entry packets) entries)
 
 -- a call as a report tells it
@@ -58,12 +63,12 @@ act_of End = EndAct
 act_of (Attach node pids) = AttachAct node pids
 act_of (Detach node) = DetachAct node
 
--- the packets that the call brings are those of the stream, from its first on
-abbrev pub IsOfStream : (stream : List (List ℕ)) → Invocation → Type 0
-IsOfStream stream (Pass input first packets now) = packets ≡ take (length packets) (drop first stream)
-IsOfStream stream _ = Unit {0}
+-- the packets that the call brings are of these, from its first on
+abbrev pub IsFrom : (packets : Input → List (List ℕ)) → Invocation → Type 0
+IsFrom packets (Pass input first brought now) = brought ≡ take (length brought) (drop first (packets input))
+IsFrom packets _ = Unit {0}
 
--- A call as a report tells it, filled with the stream's packets, is the call: nothing of it is lost.
+-- A call as a report tells it, filled with the packets that its caller's passes bring, is the call: nothing of it is lost.
 abbrev pub FilledIsTheCall : Type 0
 FilledIsTheCall =
-    (stream : List (List ℕ)) (call : Invocation) → IsOfStream stream call → filled_act stream (act_of call) ≡ call
+    (packets : Input → List (List ℕ)) (call : Invocation) → IsFrom packets call → filled_act packets (act_of call) ≡ call

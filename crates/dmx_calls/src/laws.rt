@@ -59,7 +59,7 @@ pub fn passes_go_by()
     ensures { (node : Rules) → PassesGoBy node }
 {}
 
-/// A report loses nothing of a call: filled with the packets of the stream, it is the call.
+/// A report loses nothing of a call: filled with the packets that its caller brings, it is the call.
 #[tactic(auto, using(crate::proofs::Telling::fills))]
 pub fn filled_calls_are_the_calls()
     ensures { FilledIsTheCall }

@@ -55,7 +55,7 @@ pub enum Act {
     Pass {
         /// Where the packets come from.
         input: Input,
-        /// The number of the first packet in the stream, counted from 0.
+        /// The number of the first packet in the stream, or among all that its client writes, counted from 0.
         first: u64,
         /// How many packets there are.
         count: u32,

@@ -7,9 +7,10 @@ use Rattle.emu_io.specs.Causes.{raised, Rose}
 use Rattle.emu_io.specs.Ends.{SourceEnd, SinkEnd}
 use Rattle.client_script.specs.declared.line.Line.{Line}
 use Rattle.client_script.specs.declared.line.Line.TheVariants.{Feed, Tick, Command as CommandLine}
+use Rattle.client_script.proofs.Spelled.{are_spelled}
 use Rattle.client_script.specs.Script.{split, parted, grammar, most_bytes, script_len, whole_lines, IsScript, Scripted}
 use Rattle.client_script.proofs.Splitting.{split-found}
-use Rattle.script_run.specs.Budget.{most_calls, all_commands}
+use Rattle.script_run.specs.Budget.{most_calls, all_commands, bytes_written}
 use Rattle.command_words.specs.declared.Command.{Command}
 use Rattle.command_words.specs.declared.Command.TheVariants.{Steps, Run, Make, SelfTest, Check}
 use Rattle.command_words.specs.Meant.{meant}
@@ -104,7 +105,7 @@ kept_end end old new status (Err why) kept = (kept.0, ap end kept.1)
 -- ------ what the bytes taken say of the whole input
 
 split_by : (bytes rest : List ℕ) (r : Option ℕ) (stream : List ℕ) → script_len (whole_lines (take most_bytes bytes)) ≡ r → (parted bytes r).stream ≡ Some stream
-    → ((split (bytes ++ rest)).script ≡ (split bytes).script) × (length stream ≤ length bytes)
+    → ((split (bytes ++ rest)).script ≡ (split bytes).script) × (length (split bytes).script + length stream ≤ length bytes)
 split_by bytes rest None stream e is = absurd (cc)
 split_by bytes rest (Some n) stream e is =
     let front = take most_bytes bytes in
@@ -115,9 +116,14 @@ split_by bytes rest (Some n) stream e is =
     let one : (split (front ++ behind)).script ≡ take n front = ap (λ p. p.script) (split-found front behind n few e) in
     let two : (split (front ++ (behind ++ rest))).script ≡ take n front = ap (λ p. p.script) (split-found front (behind ++ rest) n few e) in
     let size : drop n bytes ≡ stream = cc in
-    (ap (λ xs. (split xs).script) (sym longer) ∙ (two ∙ (sym one ∙ ap (λ xs. (split xs).script) whole)), rw (← size) (omega (arith, length-drop n bytes)))
+    let mine : (split bytes).script ≡ take n front = ap (λ xs. (split xs).script) (sym whole) ∙ one in (
+      ap (λ xs. (split xs).script) (sym longer) ∙ (two ∙ (sym one ∙ ap (λ xs. (split xs).script) whole)),
+      subst (λ s. length (split bytes).script + length s ≤ length bytes) size
+          (omega (arith, ap (λ xs. length xs) mine, length-take n front, length-take most_bytes bytes, length-drop n bytes)),
+    )
 
-pub split_more : (bytes rest stream : List ℕ) → (split bytes).stream ≡ Some stream → ((split (bytes ++ rest)).script ≡ (split bytes).script) × (length stream ≤ length bytes)
+pub split_more : (bytes rest stream : List ℕ) → (split bytes).stream ≡ Some stream
+    → ((split (bytes ++ rest)).script ≡ (split bytes).script) × (length (split bytes).script + length stream ≤ length bytes)
 unfolding split
 split_more bytes rest stream is = split_by bytes rest (script_len (whole_lines (take most_bytes bytes))) stream refl is
 
@@ -132,8 +138,9 @@ few_commands (Feed n ∷ lines) = let h = few_commands lines in omega arith
 few_commands (Tick n ∷ lines) = let h = few_commands lines in omega arith
 few_commands (CommandLine line client target verb ∷ lines) = let h = few_commands lines in omega arith
 
-pub not_too_long : (input bytes rest stream : List ℕ) (script : Scripted) (turns : ℕ) → input ≡ bytes ++ rest → length input < 4294967296 → length stream ≤ length bytes → IsScript script
-    → ((turns ≡ 4294967296) × (turns ≤ length bytes)) ⊎ ((turns ≡ 2 ^ 39) × (turns ≤ most_calls (all_commands script.lines) (length stream))) → ⊥
+pub not_too_long : (input bytes rest stream : List ℕ) (script : Scripted) (turns : ℕ) → input ≡ bytes ++ rest → length input < 4294967296
+    → length stream + bytes_written script ≤ length bytes → IsScript script
+    → ((turns ≡ 4294967296) × (turns ≤ length bytes)) ⊎ ((turns ≡ 2 ^ 39) × (turns ≤ most_calls (all_commands script.lines) (length stream + bytes_written script))) → ⊥
 not_too_long input bytes rest stream script turns is short fits known (inl (e, le)) =
     let size : length input ≡ length bytes + length rest = ap length is ∙ length-append bytes rest in
     omega arith
@@ -141,7 +148,7 @@ not_too_long input bytes rest stream script turns is short fits known (inr (e, l
     let size : length input ≡ length bytes + length rest = ap length is ∙ length-append bytes rest in
     let few = few_commands script.lines in
     let known_few = known.few in
-    let big : 2 ^ 39 ≤ 33 * (all_commands script.lines + 2 * length stream + 1) = rw (← e) le in
+    let big : 2 ^ 39 ≤ 33 * (all_commands script.lines + 2 * (length stream + bytes_written script) + 1) = rw (← e) le in
     omega arith
 
 -- ------ the answer that the input determines
@@ -163,7 +170,8 @@ determined out input x y w v (TooLong turns) has fr fw nr nw says =
     let g = says.0 in
     let t = by_taken input y.left g.bytes (subst (λ c. Consumes c y.left g.bytes) has g.taken) in
     let ok = script_of_all input g.bytes t.0 g.stream g.script t.1 g.session.says g.session.behind in
-    let fits = (split_more g.bytes t.0 g.stream g.session.behind).1 in
+    let parts = (split_more g.bytes t.0 g.stream g.session.behind).1 in
+    let fits : length g.stream + bytes_written g.script ≤ length g.bytes = omega (arith, parts, are_spelled (split g.bytes).script g.script g.session.says) in
     inr (rw ok (λ short. absurd (not_too_long input g.bytes t.0 g.stream g.script turns t.1 short fits g.known g.cause)))
 determined out input x y w v ReadFault has fr fw nr nw (steady_writes, inl (text, m, a)) = absurd (steady x.faults fr (subst (λ n. Rose x.faults n) nr m.reads))
 determined out input x y w v ReadFault has fr fw nr nw (steady_writes, inr (f, k)) = absurd (steady x.faults fr (subst (λ n. Rose x.faults n) nr f.rose))

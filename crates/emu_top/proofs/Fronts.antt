@@ -4,8 +4,8 @@ use Rattle.std.proofs.lemmas.List.{take_all, length-drop}
 use Rattle.std.specs.Prelude.{Option, Some, None, IfSome, Result, Ok, Err, unwrap_or, if◌then◌else◌}
 use Rattle.std.specs.Option.{option_map}
 use Rattle.client_script.specs.Grammar.{meaning}
-use Rattle.client_script.specs.Script.{whole_lines, is_stream, script_len, grammar, lines_from, before, Parsed, most_bytes, IsScript, Scripted}
-use Rattle.client_script.specs.declared.line.Line.{Line}
+use Rattle.client_script.specs.Script.{whole_lines, is_stream, script_len, grammar, lines_from, plain, with_said, Parsed, most_bytes, IsScript, Scripted}
+use Rattle.client_script.specs.declared.said.Said.{Said}
 use Rattle.client_script.specs.declared.fault.FaultKind.{FaultKind}
 use Rattle.client_script.specs.declared.fault.ScriptFault.{ScriptFault}
 use Rattle.client_script.proofs.Lengthening.{stream_ends_later}
@@ -38,22 +38,22 @@ parted_by line more true r is e none = absurd (cc)
 parted_by line more false None is e none = (is, e)
 parted_by line more false (Some m) is e none = absurd (cc)
 
-faulty_by : (k : ℕ) (m : Result (Option Line) FaultKind) (rest : Parsed) (asked : Scripted) → ((says : Scripted) → rest ≡ Ok says → ⊥) → before k m rest ≡ Ok asked → ⊥
-faulty_by k (Err kind) rest asked none e = absurd (cc)
-faulty_by k (Ok a) (Ok says) asked none e = none says refl
-faulty_by k (Ok a) (Err fault) asked none e = absurd (cc)
+faulty_by : (k : ℕ) (missing : ScriptFault) (s asked : Scripted) (more : List (List ℕ)) (m : Result (Option Said) FaultKind) → ((t : Scripted) → lines_from missing (k + 1) t more ≡ Ok asked → ⊥)
+    → ◌≡◌ {A = Parsed} (elim m [ Err kind ↦ Err (record { line = k; kind = kind }) | Ok said ↦ lines_from missing (k + 1) (with_said said s) more ]) (Ok asked) → ⊥
+faulty_by k missing s asked more (Err kind) none e = absurd (cc)
+faulty_by k missing s asked more (Ok said) none e = none (with_said said s) e
 
-faulty : (lines : List (List ℕ)) (missing : ScriptFault) (k : ℕ) (asked : Scripted) → script_len lines ≡ None → lines_from missing k lines ≡ Ok asked → ⊥
+faulty : (lines : List (List ℕ)) (missing : ScriptFault) (k : ℕ) (s asked : Scripted) → script_len lines ≡ None → lines_from missing k s lines ≡ Ok asked → ⊥
 unfolding lines_from
-faulty [] missing k asked none e = absurd (cc)
-faulty (line ∷ more) missing k asked none e =
+faulty [] missing k s asked none e = absurd (cc)
+faulty (line ∷ more) missing k s asked none e =
     let o = parted_by line more (is_stream line) (script_len more) refl refl none in
-    let here : before k (meaning k line) (lines_from missing (k + 1) more) ≡ Ok asked = rw o.0 at e in
-    faulty_by k (meaning k line) (lines_from missing (k + 1) more) asked (λ says is. faulty more missing (k + 1) says o.1 is) here
+    let here : ◌≡◌ {A = Parsed} (elim (meaning k line) [ Err kind ↦ Err (record { line = k; kind = kind }) | Ok said ↦ lines_from missing (k + 1) (with_said said s) more ]) (Ok asked) = rw o.0 at e in
+    faulty_by k missing s asked more (meaning k line) (λ t is. faulty more missing (k + 1) t asked o.1 is) here
 
 no_script : (bytes : List ℕ) (script : Scripted) → script_len (whole_lines bytes) ≡ None → grammar bytes ≡ Ok script → ⊥
 unfolding grammar
-no_script bytes script none e = faulty (whole_lines bytes) _ 1 script none e
+no_script bytes script none e = faulty (whole_lines bytes) _ 1 (plain []) script none e
 
 -- ------ the bytes of the script part
 

@@ -1,5 +1,5 @@
 -- The session of a number: its script has no fault, and it is short.
-use Rattle.std.proofs.Common.{◌≡◌, ◌<◌, ◌+◌, ◌*◌, ◌%◌, refl, sym, ap, subst, ◌∙◌, ℕ, suc, zero, Bool, true, false, List, [], ◌∷◌, ◌++◌, length, take, drop, append-nil, arith, length-append}
+use Rattle.std.proofs.Common.{◌≡◌, ◌<◌, ◌≤◌, ◌+◌, ◌*◌, ◌%◌, refl, sym, ap, subst, ◌∙◌, ℕ, suc, zero, Bool, true, false, List, [], ◌∷◌, ◌++◌, length, take, drop, append-nil, arith, length-append}
 use Rattle.std.proofs.lemmas.List.{take_all, length-replicate}
 use Rattle.std.specs.Prelude.{Option, Some, None, Ok, Err, is_ok, replicate}
 use Rattle.std.specs.Io.KnownBytes.{Consumes, IsAtEnd}
@@ -16,14 +16,16 @@ use Rattle.filter_match.specs.Places.{with_place}
 use Rattle.text_forms.specs.Places.{place_with, place_named}
 use Rattle.client_script.specs.Words.{word_in}
 use Rattle.client_script.specs.Places.{places_in, filter_in}
-use Rattle.client_script.specs.Grammar.{number_in, numbered_target, target_of, name_of, section_in, pes_in, verb_in, command_in, line_in, line_of, meaning}
+use Rattle.client_script.specs.Grammar.{number_in, numbered_target, target_of, name_of, section_in, pes_in, verb_in, command_in, asked_in, line_in, line_of, meaning}
 use Rattle.client_script.specs.Script.{split, grammar, script_len, whole_lines, lines_from, Parsed, Scripted}
+use Rattle.client_script.proofs.Spelled.{are_spelled}
 use Rattle.client_script.proofs.Splitting.{split-found}
 use Rattle.report_text.specs.Summary.{summary_of}
 use Rattle.serial_core.specs.declared.run.Left.{Left}
 use Rattle.ts_make.specs.declared.kind.Kind.{Kind}
 use Rattle.ts_make.specs.Made.{made, packets, packet_at, payload, carrying, section, section_front}
 use Rattle.ts_make.specs.Script.{script}
+use Rattle.script_run.specs.Budget.{bytes_written}
 use Rattle.emu_top.specs.Session.{Runs, Refuses, ReadsTo, IsSession, IsSums}
 use Rattle.emu_top.specs.declared.status.Status.{Status}
 use Rattle.emu_top.specs.declared.status.Status.TheVariants.{Usage, Script, TooLong, ReadFault, WriteFault, NoMemory, Ok as Done, Wrong}
@@ -44,7 +46,7 @@ says_if (Ok says) e = (says, refl)
 says_if (Err fault) e = absurd (cc)
 
 has_script : is_ok (grammar script) ≡ true
-unfolding script value_after hex_digit hex_byte word_in place_with place_named places_in with_place filter_in number_in input_named output_named numbered numbered_target target_of name_of section_in pes_in verb_in command_in line_in line_of meaning lines_from grammar
+unfolding script value_after hex_digit hex_byte word_in place_with place_named places_in with_place filter_in number_in input_named output_named numbered numbered_target target_of name_of section_in pes_in verb_in command_in asked_in line_in line_of meaning lines_from grammar
 has_script = refl
 
 parts : (number : ℕ) → split (made number) ≡ record { script = take 656 script; stream = Some (drop 656 script ++ packets number 65536) }
@@ -112,7 +114,8 @@ refused number left Usage r = absurd r
 refused number left (Script line kind) r = absurd (let e : Ok (says_of number).0 ≡ Err (record { line = line; kind = kind }) = sym (says_of number).1 ∙ r.1 in cc)
 refused number left (TooLong turns) g =
     let t = by_taken (made number) left g.bytes g.taken in
-    let fits = (split_more g.bytes t.0 g.stream g.session.behind).1 in
+    let parts = (split_more g.bytes t.0 g.stream g.session.behind).1 in
+    let fits : length g.stream + bytes_written g.script ≤ length g.bytes = omega (arith, parts, are_spelled (split g.bytes).script g.script g.session.says) in
     absurd (not_too_long (made number) g.bytes t.0 g.stream g.script turns t.1 (short number) fits g.known g.cause)
 refused number left ReadFault r = absurd (steady 0 (omega arith) r.rose)
 refused number left WriteFault r = absurd r

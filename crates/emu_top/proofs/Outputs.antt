@@ -1,5 +1,5 @@
 -- What is to be written for a session, and why there is nothing.
-use Rattle.std.proofs.Common.{◌≡◌, ◌<◌, ◌≤◌, ◌^◌, ◌⊎◌, refl, sym, ap, subst, ◌∙◌, ℕ, Bool, true, false, List, [], ◌++◌, length, map, append-nil, arith, length-append, inl, inr, IsTrue}
+use Rattle.std.proofs.Common.{◌≡◌, ◌<◌, ◌≤◌, ◌+◌, ◌^◌, ◌⊎◌, refl, sym, ap, subst, ◌∙◌, ℕ, Bool, true, false, List, [], ◌++◌, length, map, append-nil, arith, length-append, inl, inr, IsTrue}
 use Rattle.std.proofs.lemmas.Bool.{cases_lt}
 use Rattle.std.proofs.KnownBytes.{Consumes-trans}
 use Rattle.std.specs.Prelude.{◌↔◌, Option, Some, None, IfSome, Ok, Err}
@@ -14,11 +14,13 @@ use Rattle.client_script.proofs.Parting.{front_of}
 use Rattle.client_script.proofs.Splitting.{split-found, split-missing}
 use Rattle.client_core.specs.declared.stop.Stop.{Stop}
 use Rattle.client_core.specs.declared.stop.Stop.TheVariants.{NoMemory as NoMemoryToRun, TooLong as RunTooLong}
-use Rattle.script_run.specs.Budget.{most_calls, all_commands, IsTooLong}
+use Rattle.script_run.specs.Budget.{most_calls, all_commands, bytes_written, IsTooLong}
 use Rattle.feed_pull.specs.Pulling.{Pulling}
 use Rattle.feed_pull.specs.Streams.{OfStream}
 use Rattle.serial_core.specs.declared.run.Left.{Left}
-use Rattle.serial_core.specs.Left.{IsLeftBy}
+use Rattle.script_run.proofs.Passing.{writes_pass}
+use Rattle.serial_core.specs.Left.{histories_in, IsLeftBy}
+use Rattle.serial_core.specs.Runs.{IsAccountedRun}
 use Rattle.serial_core.proofs.Runs.{are_runs}
 use Rattle.emu_top.specs.Inside.Part.{IsUnended}
 use Rattle.emu_top.specs.Inside.Reporting.{report_over}
@@ -56,6 +58,8 @@ run_of batch size script puller x y z first ran one takes h of rose later end =
     let taken = of.0 in
     let r : IsLeftBy script batch size (h.ahead ++ taken) ran = subst (λ s. IsLeftBy script batch s (h.ahead ++ taken) ran) h.takes_up (of.2 h.ahead h.pulls) in
     let s = h.splits taken in
+    let packets = (cut size (h.ahead ++ taken)).packets in
+    let whole : IsAccountedRun script batch packets r.run = are_runs script batch packets r.run h.known.ranges one r.serial in
     record {
       bytes = first ++ taken;
       script = script;
@@ -64,10 +68,7 @@ run_of batch size script puller x y z first ran one takes h of rose later end =
       taken = Consumes-trans _ _ _ _ _ takes.taken of.1;
       reads = reads_from ran.head.read_fault x y z takes.steady (reads_to ran.head.read_fault y z rose later end);
       session = session_of (first ++ taken) h.part (h.ahead ++ taken) script s h.says;
-      ran = record {
-        serial = r.serial;
-        whole = are_runs script batch (cut size (h.ahead ++ taken)).packets r.run h.known.ranges one r.serial;
-      };
+      ran = record { serial = r.serial; whole = whole; played = writes_pass script batch packets (histories_in r.run) whole.run };
       histories = r.histories;
       outcomes = r.outcomes;
       head = r.head;
@@ -108,7 +109,7 @@ made_of out size script puller x y z first failed text takes h of rose later end
 -- ------ a run that was given up
 
 cause_of : (script : Scripted) (start turns : ℕ) (ahead taken first : List ℕ) → start ≤ length first → IsTooLong script start turns ahead taken
-    → ((turns ≡ 4294967296) × (turns ≤ length (first ++ taken))) ⊎ ((turns ≡ 2 ^ 39) × (turns ≤ most_calls (all_commands script.lines) (length (ahead ++ taken))))
+    → ((turns ≡ 4294967296) × (turns ≤ length (first ++ taken))) ⊎ ((turns ≡ 2 ^ 39) × (turns ≤ most_calls (all_commands script.lines) (length (ahead ++ taken) + bytes_written script)))
 cause_of script start turns ahead taken first reads (inl (is, le)) = inl (is, omega (arith, length-append first taken))
 cause_of script start turns ahead taken first reads (inr (is, le)) = inr (is, rw (length-append ahead taken, is) le)
 

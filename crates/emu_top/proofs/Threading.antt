@@ -11,6 +11,7 @@ use Rattle.dmx_calls.specs.Calls.{told_entry}
 use Rattle.dmx_calls.specs.Log.{LogEntry}
 use Rattle.client_script.specs.Script.{Scripted}
 use Rattle.script_run.specs.WholeRun.{IsWholeRun}
+use Rattle.script_run.proofs.Passing.{writes_pass}
 use Rattle.feed_pull.specs.Pulling.{Pulling}
 use Rattle.feed_pull.specs.Streams.{OfStream}
 use Rattle.workers.specs.declared.left.Left.{Left}
@@ -38,10 +39,13 @@ module _ (batch : ℕ) (size : PacketSize) (may : ℕ → Bool) (script : Script
     of.1,
     λ ahead pulls.
         let is : IsLeftBy script batch may size (ahead ++ of.0) left = subst (λ s. IsLeftBy script batch may s (ahead ++ of.0) left) takes_up (of.2 ahead pulls) in
+        let packets = (cut size (ahead ++ of.0)).packets in
+        let all : IsWholeRun script batch may packets became histories = whole _ packets is.worked in
         record {
           histories = histories;
           outcomes = became;
-          whole = whole _ (cut size (ahead ++ of.0)).packets is.worked;
+          whole = all;
+          played = writes_pass script batch packets histories all.run;
           report = rw (← is.head) e;
         },
   )

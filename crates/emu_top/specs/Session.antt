@@ -1,5 +1,5 @@
 -- What is read of a session, and what is to be written for it.
-use Rattle.std.specs.Prelude.{◌≡◌, ◌⊎◌, ⊤, ℕ, ◌≤◌, ◌^◌, ◌++◌, Bool, true, false, List, [], length, map, Option, Some, None, Ok, Err, IfSome}
+use Rattle.std.specs.Prelude.{◌≡◌, ◌⊎◌, ⊤, ℕ, ◌+◌, ◌<◌, ◌≤◌, ◌^◌, ◌++◌, Bool, true, false, List, [], length, map, filter_map, slice_get, Option, Some, None, Ok, Err, IfSome}
 use Rattle.std.specs.Io.KnownBytes.{Consumes, IsAtEnd}
 use Rattle.emu_io.specs.Causes.{Rose}
 use Rattle.emu_io.specs.Ends.{SourceEnd}
@@ -8,14 +8,20 @@ use Rattle.ts_packet.specs.declared.size.PacketSize.{PacketSize}
 use Rattle.ts_packet.specs.declared.size.PacketSize.TheVariants.{Of188}
 use Rattle.ts_watch.specs.Head.{told_head, head_of}
 use Rattle.dmx_calls.specs.Log.{LogEntry}
+use Rattle.dmx_calls.specs.declared.limits.TheConstants.{DEMUX_NODES}
 use Rattle.dmx_calls.specs.declared.outcome.Outcome.{Outcome}
 use Rattle.client_script.specs.declared.fault.ScriptFault.{ScriptFault}
 use Rattle.client_script.specs.declared.fault.ScriptError.{ScriptError}
 use Rattle.client_script.specs.declared.fault.ScriptError.TheVariants.{Fault, NoMemory as NoMemoryToRead}
-use Rattle.client_script.specs.Script.{split, grammar, IsScript, Scripted}
+use Rattle.client_script.specs.Script.{clients_in, split, grammar, IsScript, Scripted}
+use Rattle.client_core.specs.Commands.{plays_of}
+use Rattle.client_core.specs.Deeds.{batch_at}
+use Rattle.client_core.specs.Passes.{played_writes}
 use Rattle.client_core.specs.declared.stop.Stop.{Stop}
 use Rattle.client_core.specs.declared.stop.Stop.TheVariants.{NoMemory as NoMemoryToRun, TooLong as RunTooLong}
-use Rattle.script_run.specs.Budget.{most_calls, all_commands}
+use Rattle.script_run.specs.Budget.{most_calls, all_commands, bytes_written}
+use Rattle.script_run.specs.IsRun.{IsRun, replies, sources}
+use Rattle.script_run.specs.Passing.{batches_by}
 use Rattle.script_run.specs.WholeRun.{IsWholeRun}
 use Rattle.feed_pull.specs.Pulling.{Pulling, Pulls}
 use Rattle.serial_core.specs.declared.run.Left.{Left}
@@ -33,12 +39,23 @@ pub record IsSession (bytes : List ℕ) (script : Scripted) (stream : List ℕ) 
   pub says : grammar (split bytes).script ≡ Ok script
   pub behind : (split bytes).stream ≡ Some stream
 
+-- In this run clients play what they write: what passes each demux node by the calls of a client, in the order of the node's
+-- history, are the batches of those of its writes whose poll was answered Ready, each once and in the order of the writes.
+abbrev pub PlayWhatTheyWrite : (script : Scripted) (most : ℕ) (packets : List (List ℕ)) (histories : List (List LogEntry))
+    → IsRun script most packets histories → Type 0
+PlayWhatTheyWrite script most packets histories run =
+    (client : ℕ) (is : client < clients_in script) (node : ℕ) (h : List LogEntry) → node < DEMUX_NODES
+    → slice_get histories node ≡ Some h
+    → batches_by (client + 1) (sources script packets) h
+    ≡ filter_map (batch_at (plays_of client script)) (played_writes client script (replies (run.clients_done client is).made))
+
 -- The serial run of the script over the packets of the stream, each of which takes up so many bytes, in batches of this size.
--- It is a run: 33 legal histories, which every packet passes once, in which each client did just what its commands ask; and
--- each history is accounted.
+-- It is a run: 33 legal histories, which every packet passes once, in which each client did just what its commands ask; each
+-- history is accounted; and clients play what they write.
 pub record IsRunOf (batch : ℕ) (size : PacketSize) (script : Scripted) (stream : List ℕ) (run : Run) : Type 0 where
   pub serial : IsSerialRun script batch (cut size stream).packets run
   pub whole : IsAccountedRun script batch (cut size stream).packets run
+  pub played : PlayWhatTheyWrite script batch (cut size stream).packets (histories_in run) whole.run
 
 -- ------ what is written
 
@@ -54,13 +71,14 @@ pub record IsSerialOutput (batch : ℕ) (size : PacketSize) (script : Scripted) 
   pub report : text ≡ report_of (head_of size stream failed) (outcomes_in script run) (histories_in run)
 
 -- By threads: the report of 33 histories that are those of a run of the script over the packets of the stream, in full
--- batches of this size but for the last, at moments that the clock may give. Each history is accounted, and the
--- outcomes are those of the clients' commands by the replies in the histories.
+-- batches of this size but for the last, at moments that the clock may give. Each history is accounted, the outcomes are
+-- those of the clients' commands by the replies in the histories, and clients play what they write.
 pub record IsThreadOutput (batch : ℕ) (size : PacketSize) (may : ℕ → Bool) (script : Scripted) (stream : List ℕ)
     (failed : Bool) (text : List ℕ) : Type 0 where
   pub histories : List (List LogEntry)
   pub outcomes : List (List Outcome)
   pub whole : IsWholeRun script batch may (cut size stream).packets outcomes histories
+  pub played : PlayWhatTheyWrite script batch (cut size stream).packets histories whole.run
   pub report : text ≡ report_of (head_of size stream failed) outcomes histories
 
 -- the text is the line of sums over the run of the session of a number, whose packets take up their own 188 bytes
@@ -110,8 +128,8 @@ pub record Makes (is_output : Output) (before after : SourceEnd) (failed : Bool)
   pub session : IsSession bytes script stream
   pub output : is_output script stream failed text
 
--- The run of a script without a fault was given up: so many reads were made, each of which took a byte, or its commands
--- and the bytes of the stream allow a client so many calls.
+-- The run of a script without a fault was given up: so many reads were made, each of which took a byte, or its commands,
+-- the bytes of the stream and those of all writes allow a client so many calls.
 pub record GivesUp (before after : SourceEnd) (turns : ℕ) : Type 0 where
   pub bytes : List ℕ
   pub script : Scripted
@@ -120,7 +138,7 @@ pub record GivesUp (before after : SourceEnd) (turns : ℕ) : Type 0 where
   pub session : IsSession bytes script stream
   pub known : IsScript script
   pub cause : ((turns ≡ 4294967296) × (turns ≤ length bytes))
-      ⊎ ((turns ≡ 2 ^ 39) × (turns ≤ most_calls (all_commands script.lines) (length stream)))
+      ⊎ ((turns ≡ 2 ^ 39) × (turns ≤ most_calls (all_commands script.lines) (length stream + bytes_written script)))
 
 -- the script of the input has this fault
 abbrev pub HasFault : ScriptFault → (before after : SourceEnd) → Type 0

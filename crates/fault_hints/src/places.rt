@@ -1,6 +1,6 @@
 // The places of a line, and what each of them asks for.
 use crate::requests::{argument_kind, is_argument, is_known, number_kind};
-use client_script::{FaultKind, request_number};
+use client_script::{FaultKind, request_number, written_named};
 use text_forms::{
     client_named, demux_named, input_named, is_word, number_between, output_named, place_named,
     slot_named,
@@ -29,6 +29,8 @@ pub enum Form {
     Read,
     /// A request, and its number behind the word that spells it.
     Ioctl(Option<u32>),
+    /// A write to the dvr device.
+    Write,
 }
 
 /// What stands in a place of a line.
@@ -40,6 +42,10 @@ pub enum Place {
     Command,
     /// A target.
     Target,
+    /// The only target of a write.
+    Dvr,
+    /// The bytes of a write.
+    Written,
     /// A number in this range, by the name that the forms of lines give it.
     Number {
         /// The name.
@@ -83,6 +89,9 @@ pub fn form_of(command: &[u8]) -> Option<Form> {
     if is_word(command, "ioctl") {
         return Some(Form::Ioctl(None));
     }
+    if is_word(command, "write") {
+        return Some(Form::Write);
+    }
     is_bare(command).then_some(Form::Bare)
 }
 
@@ -118,6 +127,7 @@ impl Form {
             (Form::Tick, 2) => count("N"),
             (Form::Feed | Form::Tick, _) => Place::End,
             (_, 2) => Place::Command,
+            (Form::Write, 3) => Place::Dvr,
             (_, 3) => Place::Target,
             _ => self.argument(number, least),
         }
@@ -137,6 +147,7 @@ impl Form {
             (Form::Size, 4) => count("N"),
             (Form::Read, 4) => range("N", 0, 65536),
             (Form::Ioctl(_), 4) => Place::Request,
+            (Form::Write, 4) => Place::Written,
             (Form::Ioctl(Some(request)), 5) => Place::Argument(request),
             _ => Place::End,
         }
@@ -160,6 +171,7 @@ impl Form {
             Form::OnePid => Some("T PID"),
             Form::Size | Form::Read => Some("T N"),
             Form::Ioctl(_) => Some("T REQ ARG"),
+            Form::Write => Some("dvr HEX"),
         }
     }
 }
@@ -171,6 +183,8 @@ impl Place {
             Place::First => is_first(word),
             Place::Command => form_of(word).is_some(),
             Place::Target => is_target(word),
+            Place::Dvr => is_word(word, "dvr"),
+            Place::Written => written_named(word).is_some(),
             Place::Number { least, most, .. } => {
                 number_between(least as u64, most as u64, word).is_some()
             }
@@ -193,10 +207,10 @@ impl Place {
         match self {
             Place::First => FaultKind::Client,
             Place::Command => FaultKind::Command,
-            Place::Target => FaultKind::Target,
+            Place::Target | Place::Dvr => FaultKind::Target,
             Place::Number { .. } => FaultKind::Number,
             Place::Input | Place::Output => FaultKind::Name,
-            Place::Byte(_) => FaultKind::Bytes,
+            Place::Byte(_) | Place::Written => FaultKind::Bytes,
             Place::Request => number_kind(word),
             Place::Argument(request) => argument_kind(request, word),
             Place::End => FaultKind::Count,

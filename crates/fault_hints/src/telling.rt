@@ -22,9 +22,11 @@ fn asked(place: Place) -> &'static str {
     match place {
         Place::First => "feed, tick, a client c0 to c7, or the line stream",
         Place::Command => {
-            "a command: open, close, section, pes, add, remove, start, stop, size, read, readw, drain, poll or ioctl"
+            "a command: open, close, section, pes, add, remove, start, stop, size, read, readw, drain, poll, ioctl or write"
         }
         Place::Target => "a target: n0 to n31, h0 to h31, or dvr",
+        Place::Dvr => "dvr, to which a client writes",
+        Place::Written => "HEX: 1 to 12,032 bytes, two hexadecimal digits each, in lower case",
         Place::Number { name, .. } => name,
         Place::Input => "INPUT: frontend or dvr",
         Place::Output => "OUTPUT: decoder, tap, ts_tap or tsdemux_tap",

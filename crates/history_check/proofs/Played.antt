@@ -8,21 +8,21 @@ use Rattle.dmx_calls.specs.declared.log.Entry.{Entry as ToldEntry}
 use Rattle.dmx_calls.specs.Calls.{response_of, told_entry}
 use Rattle.dmx_calls.specs.History.{History}
 use Rattle.dmx_calls.specs.Legal.{May, IsLegalFor}
-use Rattle.dmx_calls.specs.Log.{LogEntry, filled_act, filled_entry, filled}
+use Rattle.dmx_calls.specs.Log.{LogEntry, Sources, filled, filled_act, filled_entry}
 use Rattle.dmx_calls.specs.Rules.{Rules}
 use Rattle.history_check.specs.Playing.{played}
 
-filled_append : (packets : List (List ℕ)) (xs ys : List LogEntry) → filled packets (xs ++ ys) ≡ filled packets ys ++ filled packets xs
+filled_append : (packets : Sources) (xs ys : List LogEntry) → filled packets (xs ++ ys) ≡ filled packets ys ++ filled packets xs
 filled_append packets xs ys = rw (map-append (filled_entry packets) xs ys, reverse-append (map (filled_entry packets) xs) (map (filled_entry packets) ys)) refl
 
-filled_more : (packets : List (List ℕ)) (xs : List LogEntry) (e : LogEntry) → filled packets (xs ++ e ∷ []) ≡ filled_entry packets e ∷ filled packets xs
+filled_more : (packets : Sources) (xs : List LogEntry) (e : LogEntry) → filled packets (xs ++ e ∷ []) ≡ filled_entry packets e ∷ filled packets xs
 filled_more packets xs e = filled_append packets xs (e ∷ [])
 
 legal_behind : (node : Rules) (later h : History) → IsLegalFor node (later ++ h) → IsLegalFor node h
 legal_behind node [] h legal = legal
 legal_behind node (e ∷ later) h legal = legal_behind node later h legal.0
 
-may_at : (node : Rules) (packets : List (List ℕ)) (xs : List LogEntry) (e : LogEntry) (ys : List LogEntry) → IsLegalFor node (filled packets (xs ++ e ∷ ys)) → May node (filled packets xs) e.who (filled_act packets e.act) e.response
+may_at : (node : Rules) (packets : Sources) (xs : List LogEntry) (e : LogEntry) (ys : List LogEntry) → IsLegalFor node (filled packets (xs ++ e ∷ ys)) → May node (filled packets xs) e.who (filled_act (packets e.who) e.act) e.response
 may_at node packets xs e ys legal =
     let joined : xs ++ e ∷ ys ≡ (xs ++ e ∷ []) ++ ys = sym (append_assoc xs (e ∷ []) ys) in
     let parts : filled packets (xs ++ e ∷ ys) ≡ filled packets ys ++ (filled_entry packets e ∷ filled packets xs) =
@@ -31,7 +31,7 @@ may_at node packets xs e ys legal =
     here.1
 
 -- with one entry more behind the others
-pub played_more : (packets : List (List ℕ)) (xs : List LogEntry) (e : LogEntry) → played packets (xs ++ e ∷ []) ≡ played packets xs ++ filled_entry packets e ∷ []
+pub played_more : (packets : Sources) (xs : List LogEntry) (e : LogEntry) → played packets (xs ++ e ∷ []) ≡ played packets xs ++ filled_entry packets e ∷ []
 played_more packets xs e = map-append (filled_entry packets) xs (e ∷ [])
 
 -- ------ the entry at an index
@@ -61,8 +61,8 @@ parted es i e at =
     ap (map told_entry) whole ∙ map-append told_entry (take i es) (e ∷ drop (i + 1) es)
 
 -- what a legal history allows at an index
-pub may_there : (node : Rules) (packets : List (List ℕ)) (es : List ToldEntry) (i : ℕ) (e : ToldEntry) → IsAt es i e → IsLegalFor node (filled packets (map told_entry es))
-    → May node (filled packets (map told_entry (take i es))) e.who (filled_act packets e.act) (response_of e.reply)
+pub may_there : (node : Rules) (packets : Sources) (es : List ToldEntry) (i : ℕ) (e : ToldEntry) → IsAt es i e → IsLegalFor node (filled packets (map told_entry es))
+    → May node (filled packets (map told_entry (take i es))) e.who (filled_act (packets e.who) e.act) (response_of e.reply)
 may_there node packets es i e at legal =
     let here : IsLegalFor node (filled packets (map told_entry (take i es) ++ told_entry e ∷ map told_entry (drop (i + 1) es))) = subst (λ (xs : List LogEntry). IsLegalFor node (filled packets xs)) (parted es i e at) legal in
     may_at node packets (map told_entry (take i es)) (told_entry e) (map told_entry (drop (i + 1) es)) here

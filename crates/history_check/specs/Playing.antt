@@ -1,5 +1,9 @@
 -- What it means to play a told history on a machine (this project's own).
-use Rattle.std.specs.Prelude.{ℕ, ◌≡◌, ◌<◌, ◌≤◌, ◌+◌, List, length, map, reverse}
+use Rattle.std.specs.Prelude.{ℕ, ◌≡◌, ◌<◌, ◌≤◌, ◌+◌, ◌^◌, List, [], length, map, reverse, slice_index_or}
+use Rattle.std.specs.List.{All}
+use Rattle.ts_packet.specs.Fields.{IsPacket}
+use Rattle.dmx_calls.specs.declared.params.Input.{Input}
+use Rattle.dmx_calls.specs.declared.params.Input.TheVariants.{Frontend, Dvr}
 use Rattle.dmx_calls.specs.declared.call.Call.{Call}
 use Rattle.dmx_calls.specs.declared.reply.Answer.{Answer}
 use Rattle.dmx_calls.specs.declared.limits.TheConstants.{LARGEST_READ}
@@ -8,17 +12,27 @@ use Rattle.dmx_calls.specs.declared.log.Act.TheVariants.{Read as ReadAct, Pass a
 use Rattle.dmx_calls.specs.Entries.{told}
 use Rattle.dmx_calls.specs.History.{Entry}
 use Rattle.dmx_calls.specs.Legal.{IsLegalFor}
-use Rattle.dmx_calls.specs.Log.{LogEntry, filled_entry}
+use Rattle.dmx_calls.specs.Log.{LogEntry, Sources, filled_entry}
 use Rattle.dmx_calls.specs.Rules.{Rules}
 
--- a call that can be made again: a read is no longer than a read may be, and a pass's packets are 1 to 64 of the stream
-abbrev pub IsCallable : (packets : List (List ℕ)) → Act → Type 0
+-- the packets of which a caller's passes bring some: those of the stream, for the front end, and those that the caller plays, by
+-- its number, for the dvr
+abbrev pub brought_from : (stream : List (List ℕ)) → (played : List (List (List ℕ))) → Sources
+brought_from stream played who Frontend = stream
+brought_from stream played who Dvr = slice_index_or played who []
+
+-- so many packets that their numbers fit
+abbrev pub AreFewPackets : List (List ℕ) → Type 0
+AreFewPackets packets = All IsPacket packets × (length packets < 2 ^ 63)
+
+-- a call that can be made again: a read is no longer than a read may be, and a pass's packets are 1 to 64 of those of its input
+abbrev pub IsCallable : (packets : Input → List (List ℕ)) → Act → Type 0
 IsCallable packets (ReadAct now count) = count ≤ LARGEST_READ
-IsCallable packets (PassAct input first count now) = (0 < count) × (count ≤ 64) × (first + count ≤ length packets)
+IsCallable packets (PassAct input first count now) = (0 < count) × (count ≤ 64) × (first + count ≤ length (packets input))
 IsCallable packets _ = Unit {0}
 
 -- the told entries as those of a machine, the oldest first
-abbrev pub played : (packets : List (List ℕ)) → List LogEntry → List Entry
+abbrev pub played : Sources → List LogEntry → List Entry
 played packets entries = map (filled_entry packets) entries
 
 -- the entries of a machine are the calls of a node

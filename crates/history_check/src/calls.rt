@@ -1,17 +1,39 @@
 // Told calls, to be made again.
-ghost use Rattle.std.specs.Prelude.{◌≡◌, ◌<◌, ◌≤◌, ◌+◌, ◌^◌, length, take, drop, IfOk, All};
+ghost use Rattle.std.specs.Prelude.{◌≡◌, ◌<◌, ◌≤◌, ◌+◌, ◌^◌, length, map, take, drop, IfOk, All};
 ghost use Rattle.dmx_calls.specs.Invocation.{Pass};
 ghost use Rattle.ts_packet.specs.Fields.{IsPacket};
 ghost use Rattle.dmx_calls.specs.Calls.{invocation_of};
 ghost use Rattle.dmx_calls.specs.Log.{filled_act};
-ghost use Rattle.history_check.specs.Playing.{IsCallable};
+ghost use Rattle.history_check.specs.Playing.{AreFewPackets, IsCallable, brought_from};
 
 use dmx_calls::{Act, ByteBuf, Call, Input, KeptAct};
 use std::alloc::{AllocError as NoMemory, Global};
 use ts_batch::Batch;
 use ts_packet::Packet;
 
-// The pass of these packets of the stream.
+// The packets of which a caller's passes bring some.
+#[tactic(auto, using(crate::proofs::Sources::at_caller, crate::proofs::Sources::at_none, crate::proofs::Sources::are_few))]
+fn source<'a>(
+    stream: &'a [Packet],
+    played: &'a [Vec<Packet>],
+    who: u32,
+    input: Input,
+) -> &'a [Packet]
+    requires stream { AreFewPackets stream.now }
+    requires played { All AreFewPackets (map (λ p. p.items) played.now) }
+    ensures value { result.now ≡ brought_from stream.now (map (λ p. p.items) played.now) who input }
+    ensures few { AreFewPackets result.now }
+{
+    match input {
+        Input::Frontend => stream,
+        Input::Dvr => match played.get(who as usize) {
+            None => &[],
+            Some(packets) => packets.as_slice(),
+        },
+    }
+}
+
+// The pass of some of these packets.
 fn pass(
     alloc: Global,
     packets: &[Packet],
@@ -32,12 +54,19 @@ fn pass(
     Ok(Call::Pass { input, batch, now })
 }
 
-/// The call that an act tells, with the stream's packets for a pass.
-pub fn call_told(alloc: Global, packets: &[Packet], act: &KeptAct) -> Result<Call, NoMemory>
-    requires callable { IsCallable packets.now act.now }
-    requires packets { All IsPacket packets.now }
-    requires long { length packets.now < 2 ^ 63 }
-    ensures { IfOk result (λ call. invocation_of call ≡ filled_act packets.now act.now) }
+/// The call that an act of a caller tells, with packets for a pass: those of the stream for the front end, and for the dvr those that
+/// the caller plays.
+pub fn call_told(
+    alloc: Global,
+    stream: &[Packet],
+    played: &[Vec<Packet>],
+    who: u32,
+    act: &KeptAct,
+) -> Result<Call, NoMemory>
+    requires callable { IsCallable (brought_from stream.now (map (λ p. p.items) played.now) who) act.now }
+    requires stream { AreFewPackets stream.now }
+    requires played { All AreFewPackets (map (λ p. p.items) played.now) }
+    ensures { IfOk result (λ call. invocation_of call ≡ filled_act (brought_from stream.now (map (λ p. p.items) played.now) who) act.now) }
 {
     Ok(match act.act() {
         Act::Open => Call::Open,
@@ -59,7 +88,10 @@ pub fn call_told(alloc: Global, packets: &[Packet], act: &KeptAct) -> Result<Cal
             first,
             count,
             now,
-        } => pass(alloc, packets, input, first, count, now)?,
+        } => {
+            let packets = source(stream, played, who, input);
+            pass(alloc, packets, input, first, count, now)?
+        }
         Act::End => Call::End,
         Act::Attach { node, pids } => Call::Attach { node, pids },
         Act::Detach { node } => Call::Detach { node },

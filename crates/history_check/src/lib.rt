@@ -5,12 +5,13 @@
 //! `is_same_reply` compares two replies. What is played on is any `Machine` whose calls and answers are those of a node, so both
 //! kinds of node serve.
 //!
-//! What a contract sees: the entries as those of a log, the stream's packets as lists of bytes, and a machine by the members of
-//! its trait. `IsToldBy` says that the machine's entries are calls of a node, and `PlaysBy` that all histories for which it stands
-//! are legal by the rules of a kind of node (`specs/Playing.antt`). A call can be made again where a read's count is one that a
-//! buffer has, and a pass's packets are 1 to 64 of the stream's (`IsCallable`).
+//! What a contract sees: the entries as those of a log, packets as lists of bytes, those of the stream and those that each caller
+//! plays (`brought_from`), and a machine by the members of its trait. `IsToldBy` says that the machine's entries are calls of a
+//! node, and `PlaysBy` that all histories for which it stands are legal by the rules of a kind of node (`specs/Playing.antt`). A
+//! call can be made again where a read's count is one that a buffer has, and a pass's packets are 1 to 64 of those of its input: of
+//! the stream's for the front end, and for the dvr of those that its caller plays (`IsCallable`).
 //!
-//! What is proved: `is_played` answers true exactly where the told history, with the stream's packets filled in, is legal by the
+//! What is proved: `is_played` answers true exactly where the told history, with these packets filled in, is legal by the
 //! machine's rules and no reply is want of memory; `agrees` answers true exactly where the told reply is one that the history
 //! before it allows, and isn't want of memory. Where the machine answers want of memory, so do both, and no clause says anything.
 //!

@@ -1,13 +1,12 @@
 // A told history, played again.
 ghost use Rattle.std.specs.Prelude.{◌≡◌, ◌≢◌, ◌+◌, ◌<◌, ◌^◌, ◌∷◌, ◌++◌, [], List, length, map, reverse, true, false, IfOk, All};
-ghost use Rattle.ts_packet.specs.Fields.{IsPacket};
 ghost use Rattle.dmx_calls.specs.Calls.{invocation_of, response_of, told_entry};
 ghost use Rattle.dmx_calls.specs.History.{Entry as HistoryEntry, entry_of};
 ghost use Rattle.dmx_calls.specs.Legal.{May, IsLegalFor};
 ghost use Rattle.dmx_calls.specs.Log.{filled};
 ghost use Rattle.dmx_calls.specs.Response as response;
 ghost use Rattle.dmx_calls.specs.Rules.{Rules};
-ghost use Rattle.history_check.specs.Playing.{IsCallable, IsToldBy, PlaysBy, played};
+ghost use Rattle.history_check.specs.Playing.{AreFewPackets, IsCallable, IsToldBy, PlaysBy, brought_from, played as played_by};
 
 use crate::calls::call_told;
 use crate::same::is_same_reply;
@@ -44,29 +43,32 @@ pub fn agrees<M: Machine<Call = Call, Answer = Answer, Entry = Told>, L: Ledger>
 }
 
 /// Plays told entries, the oldest first, on a machine on which no call was made: true exactly where their history is legal by
-/// the machine's rules, and none of the replies is want of memory.
+/// the machine's rules, and none of the replies is want of memory. A pass of the front end brings packets of the stream, and one of
+/// the dvr packets that its caller plays.
 pub fn is_played<M: Machine<Call = Call, Answer = Answer, Entry = Told>, L: Ledger>(
     alloc: Global,
     core: &mut M,
-    packets: &[Packet],
+    stream: &[Packet],
+    played: &[Vec<Packet>],
     entries: &[Entry],
     steps: &mut Steps<L>,
 ) -> Result<bool, NoMemory>
     requires entries { IsToldBy M.entry_of }
     requires begun { M.stands_for core.old [] }
-    requires callable { All (λ e. IsCallable packets.now e.act) (map told_entry entries.now) }
-    requires packets { All IsPacket packets.now }
-    requires long { length packets.now < 2 ^ 63 }
+    requires callable { All (λ e. IsCallable (brought_from stream.now (map (λ p. p.items) played.now) e.who) e.act) (map told_entry entries.now) }
+    requires stream { AreFewPackets stream.now }
+    requires played { All AreFewPackets (map (λ p. p.items) played.now) }
     requires few { length entries.now < 2 ^ 50 }
-    ensures legal { IfOk result (λ b. b ≡ true → (rules : Rules) → PlaysBy rules M.stands_for → IsLegalFor rules (filled packets.now (map told_entry entries.now))) }
+    ensures legal { IfOk result (λ b. b ≡ true → (rules : Rules) → PlaysBy rules M.stands_for
+        → IsLegalFor rules (filled (brought_from stream.now (map (λ p. p.items) played.now)) (map told_entry entries.now))) }
     ensures found { IfOk result (λ b. b ≡ true → All (λ e. e.response ≢ response.NoMemory) (map told_entry entries.now)) }
-    ensures stands { IfOk result (λ b. b ≡ true → M.stands_for core.new (played packets.now (map told_entry entries.now))) }
+    ensures stands { IfOk result (λ b. b ≡ true → M.stands_for core.new (played_by (brought_from stream.now (map (λ p. p.items) played.now)) (map told_entry entries.now))) }
     ensures other { IfOk result (λ b. b ≡ false → (rules : Rules) → PlaysBy rules M.stands_for
-        → IsLegalFor rules (filled packets.now (map told_entry entries.now))
+        → IsLegalFor rules (filled (brought_from stream.now (map (λ p. p.items) played.now)) (map told_entry entries.now))
         → All (λ e. e.response ≢ response.NoMemory) (map told_entry entries.now) → ⊥) }
 {
     'entries: for entry in entries {
-        let call = call_told(alloc, packets, &entry.act)?;
+        let call = call_told(alloc, stream, played, entry.who, &entry.act)?;
         if !agrees(core, entry.who, call, &entry.reply, steps)? {
             return Ok(false);
         }

@@ -1,34 +1,41 @@
 -- Each entry of a run is one of its callers, and can be made again.
-use Rattle.std.proofs.Common.{◌≡◌, ◌<◌, ◌≤◌, ◌+◌, refl, sym, subst, ℕ, zero, suc, List, [], ◌∷◌, Bool, true, false, nat_eq, nat_lt, length, map, sum, take, arith}
+use Rattle.std.proofs.Common.{◌≡◌, ◌<◌, ◌≤◌, ◌+◌, refl, sym, ap, ◌∙◌, subst, ℕ, zero, suc, List, [], ◌∷◌, Bool, true, false, nat_eq, nat_lt, length, map, sum, take, drop, arith, length-take}
 use Rattle.std.proofs.lemmas.Bool.Decides.{nat_tests}
-use Rattle.std.proofs.lemmas.List.Elements.{All-head, All-tail, All-nil, All-cons}
+use Rattle.std.proofs.lemmas.List.Elements.{All-head, All-tail, All-nil, All-cons, All-weaker}
 use Rattle.std.proofs.lemmas.List.Sums.{sum_by-cons}
-use Rattle.std.specs.Prelude.{Option, Some, None, slice_get, nat_le}
-use Rattle.std.specs.List.{All}
+use Rattle.std.specs.Prelude.{Option, Some, None, IsSome, IfSome, slice_get, slice_index_or, nat_le}
+use Rattle.std.specs.List.{All, range_with_len}
+use Rattle.std.proofs.lemmas.List.{length-drop}
+use Rattle.std.proofs.lemmas.List.FromFn.{get_or-map-range_with_len}
+use Rattle.ts_batch.specs.Batch.{Packets}
+use Rattle.dvr_play.specs.Laws.{IsPlayed as IsPlayedBatch, StandsAmong}
+use Rattle.dvr_play.proofs.Joining.{are_few, are_placed}
 use Rattle.dmx_calls.specs.declared.limits.TheConstants.{LARGEST_READ}
 use Rattle.dmx_calls.specs.Log.{LogEntry, act_of}
 use Rattle.client_script.specs.declared.line.Want.{Want}
 use Rattle.client_script.specs.declared.line.Want.TheVariants.{Read}
-use Rattle.client_script.specs.Grammar.{IsInRange}
-use Rattle.client_script.specs.Script.{clients_in, Scripted}
+use Rattle.client_script.specs.Script.{clients_in, IsScript, Scripted, writes_of}
+use Rattle.client_script.specs.Writes.{IsWritten}
 use Rattle.client_core.specs.declared.event.Event.{Event}
 use Rattle.client_core.specs.declared.event.Request.{Request}
-use Rattle.client_core.specs.declared.event.Request.TheVariants.{Own, Attach, Detach}
-use Rattle.client_core.specs.Commands.{call_of, own_call, IsRequestInRange}
+use Rattle.client_core.specs.declared.event.Request.TheVariants.{Own, Attach, Detach, Pass}
+use Rattle.client_core.specs.Deeds.{Batches, batch_at}
+use Rattle.client_core.specs.Commands.{call_of, own_call, pass_of, played, plays_of, IsRequestInRange, IsRequestOf}
 use Rattle.client_core.specs.Events.{next_event}
 use Rattle.script_run.specs.IsRun.{Batch, Step, feeding, steps_of, IsRun, replies, IsEvent}
-use Rattle.report_check.specs.Inside.Parts.{is_callable, are_sound}
+use Rattle.script_run.proofs.Clients.{few_in_all}
+use Rattle.report_check.specs.Inside.Parts.{all_played, is_callable, are_sound}
 use Rattle.report_check.proofs.Feeding.{Fits, size_of}
 use Rattle.report_check.proofs.Ranges.{asks_in_range}
 
 -- ------ the feeder
 
-abbrev pub CanStep : (packets : ℕ) → Step → Type 0
-CanStep packets s = is_callable packets s.act ≡ true
+abbrev pub CanStep : (packets : ℕ) → (counts : List ℕ) → Step → Type 0
+CanStep packets counts s = is_callable packets counts 0 s.act ≡ true
 
-pub feeding_can : (packets first step : ℕ) (bs : List Batch) → All Fits bs → first + sum (map size_of bs) ≤ packets → All (CanStep packets) (feeding first step bs)
-feeding_can packets first step [] sizes within = All-cons (CanStep packets) _ [] refl (All-nil (CanStep packets))
-feeding_can packets first step (b ∷ bs) sizes within =
+pub feeding_can : (packets : ℕ) (counts : List ℕ) (first step : ℕ) (bs : List Batch) → All Fits bs → first + sum (map size_of bs) ≤ packets → All (CanStep packets counts) (feeding first step bs)
+feeding_can packets counts first step [] sizes within = All-cons (CanStep packets counts) _ [] refl (All-nil (CanStep packets counts))
+feeding_can packets counts first step (b ∷ bs) sizes within =
     let fits = All-head Fits b bs sizes in
     let all : sum (map size_of (b ∷ bs)) ≡ b.size + sum (map size_of bs) = sum_by-cons (λ (x : ℕ). x) b.size (map size_of bs) in
     let rest : first + b.size + sum (map size_of bs) ≤ packets = omega (arith, all, within) in
@@ -36,50 +43,94 @@ feeding_can packets first step (b ∷ bs) sizes within =
     let few : nat_le b.size 64 ≡ true = grind (arith, nat_tests, fits.1) in
     let low : first + b.size ≤ packets = omega (arith, rest) in
     let inside : nat_le (first + b.size) packets ≡ true = grind (arith, nat_tests, low) in
-    All-cons (CanStep packets) _ (feeding (first + b.size) (suc step) bs) (rw (some, few, inside) refl)
-    (feeding_can packets (first + b.size) (suc step) bs (All-tail Fits b bs sizes) rest)
+    All-cons (CanStep packets counts) _ (feeding (first + b.size) (suc step) bs) (rw (some, few, inside) refl)
+    (feeding_can packets counts (first + b.size) (suc step) bs (All-tail Fits b bs sizes) rest)
 
-fed_one : (packets : ℕ) (f : LogEntry) (es : List LogEntry) → (b : Bool) → nat_eq f.who 0 ≡ b → All (CanStep packets) (steps_of 0 (f ∷ es)) → All (CanStep packets) (steps_of 0 es)
-fed_one packets f es true t all =
-    let there : All (CanStep packets) (record { step = f.step; act = f.act } ∷ steps_of 0 es) = rw t at all in
-    All-tail (CanStep packets) (record { step = f.step; act = f.act }) (steps_of 0 es) there
-fed_one packets f es false t all = rw t at all
+fed_one : (packets : ℕ) (counts : List ℕ) (f : LogEntry) (es : List LogEntry) → (b : Bool) → nat_eq f.who 0 ≡ b → All (CanStep packets counts) (steps_of 0 (f ∷ es)) → All (CanStep packets counts) (steps_of 0 es)
+fed_one packets counts f es true t all =
+    let there : All (CanStep packets counts) (record { step = f.step; act = f.act } ∷ steps_of 0 es) = rw t at all in
+    All-tail (CanStep packets counts) (record { step = f.step; act = f.act }) (steps_of 0 es) there
+fed_one packets counts f es false t all = rw t at all
 
 -- an entry of the feeder has one of its calls
-pub fed_can : (packets : ℕ) (es : List LogEntry) → All (CanStep packets) (steps_of 0 es) → (i : ℕ) (e : LogEntry) → slice_get es i ≡ Some e → e.who ≡ 0 → is_callable packets e.act ≡ true
-fed_can packets [] all i e at who = absurd (cc)
-fed_can packets (f ∷ es) all zero e at who =
+pub fed_can : (packets : ℕ) (counts : List ℕ) (es : List LogEntry) → All (CanStep packets counts) (steps_of 0 es) → (i : ℕ) (e : LogEntry) → slice_get es i ≡ Some e → e.who ≡ 0 → is_callable packets counts e.who e.act ≡ true
+fed_can packets counts [] all i e at who = absurd (cc)
+fed_can packets counts (f ∷ es) all zero e at who =
     let same : f ≡ e = cc in
     let t : nat_eq f.who 0 ≡ true = rw same (grind (arith, nat_tests, who)) in
-    let there : All (CanStep packets) (record { step = f.step; act = f.act } ∷ steps_of 0 es) = rw t at all in
-    subst (λ (x : LogEntry). is_callable packets x.act ≡ true) same (All-head (CanStep packets) (record { step = f.step; act = f.act }) (steps_of 0 es) there)
-fed_can packets (f ∷ es) all (suc i) e at who = fed_can packets es (fed_one packets f es (nat_eq f.who 0) refl all) i e at who
+    let there : All (CanStep packets counts) (record { step = f.step; act = f.act } ∷ steps_of 0 es) = rw t at all in
+    let mine : is_callable packets counts 0 f.act ≡ true = All-head (CanStep packets counts) (record { step = f.step; act = f.act }) (steps_of 0 es) there in
+    subst (λ (k : ℕ). is_callable packets counts k e.act ≡ true) (sym who) (subst (λ (x : LogEntry). is_callable packets counts 0 x.act ≡ true) same mine)
+fed_can packets counts (f ∷ es) all (suc i) e at who = fed_can packets counts es (fed_one packets counts f es (nat_eq f.who 0) refl all) i e at who
 
 -- ------ a client
 
-want_can : (packets : ℕ) (w : Want) (moment : ℕ) → IsRequestInRange (Own w) → is_callable packets (act_of (own_call w moment)) ≡ true
-want_can packets (Read count) moment is =
+want_can : (packets : ℕ) (counts : List ℕ) (who : ℕ) (w : Want) (moment : ℕ) → IsRequestInRange (Own w) → is_callable packets counts who (act_of (own_call w moment)) ≡ true
+want_can packets counts who (Read count) moment is =
     let low : nat_le count LARGEST_READ ≡ true = grind (arith, nat_tests, is) in
     low
-want_can packets _ moment is = refl
+want_can packets counts who _ moment is = refl
 
-request_can : (packets : ℕ) (r : Request) (moment : ℕ) → IsRequestInRange r → is_callable packets (act_of (call_of r moment)) ≡ true
-request_can packets (Own w) moment is = want_can packets w moment is
-request_can packets (Attach node pids) moment is = refl
-request_can packets (Detach node) moment is = refl
+-- a batch that stands among what is played
+pass_can : (packets : ℕ) (counts : List ℕ) (who : ℕ) (all : List (List ℕ)) (o : Option Packets) (moment : ℕ) → slice_index_or counts who 0 ≡ length all → IsSome o → IfSome o IsPlayedBatch → IfSome o (StandsAmong all)
+    → is_callable packets counts who (act_of (pass_of o moment)) ≡ true
+pass_can packets counts who all None moment count some is stands = absurd (cc some)
+pass_can packets counts who all (Some batch) moment count some is stands =
+    let long : length batch.packets ≡ length (take (length batch.packets) (drop batch.first all)) = ap (λ (ps : List (List ℕ)). length ps) stands in
+    let inside : batch.first + length batch.packets ≤ slice_index_or counts who 0 =
+    omega (arith, count, is.some, long, length-take (length batch.packets) (drop batch.first all), length-drop batch.first all) in
+    let some' : nat_lt 0 (length batch.packets) ≡ true = grind (arith, nat_tests, is.some) in
+    let few : nat_le (length batch.packets) 64 ≡ true = grind (arith, nat_tests, is.few) in
+    let within : nat_le (batch.first + length batch.packets) (slice_index_or counts who 0) ≡ true = grind (arith, nat_tests, inside) in
+    rw (some', few, within) refl
 
-event_can : (packets : ℕ) (o : Option Event) (e : LogEntry) → ((event : Event) → o ≡ Some event → IsRequestInRange event.want) → IsEvent o e → is_callable packets e.act ≡ true
-event_can packets None e range is = absurd is
-event_can packets (Some event) e range is = rw is.1.1 (request_can packets event.want is.1.0 (range event refl))
+-- what holds of all batches holds of one
+at_write : (P : Packets → Type 0) (batches : Batches) (write : ℕ) → All (λ batch. IfSome batch P) batches → IfSome (batch_at batches write) P
+at_write P [] write all = tt
+at_write P (b ∷ bs) zero all = All-head (λ batch. IfSome batch P) b bs all
+at_write P (b ∷ bs) (suc write) all = at_write P bs write (All-tail (λ batch. IfSome batch P) b bs all)
+
+module _ (script : Scripted) (known : IsScript script) (packets : ℕ) (c : ℕ) (low : c < 8) where
+  abbrev counts : List ℕ
+  counts = map (λ ps. length ps) (all_played script)
+
+  -- what the client plays is counted
+  counted : slice_index_or counts (suc c) 0 ≡ length (played c script)
+  counted = length_at (map (λ client. played client script) (range_with_len 0 8)) c ∙ ap (λ (ps : List (List ℕ)). length ps) (get_or-map-range_with_len (λ client. played client script) 0 8 c c [] low (omega arith)) where
+    length_at : (xs : List (List (List ℕ))) (i : ℕ) → slice_index_or (map (λ ps. length ps) xs) i 0 ≡ length (slice_index_or xs i [])
+    length_at [] i = refl
+    length_at (x ∷ xs) zero = refl
+    length_at (x ∷ xs) (suc i) = length_at xs i
+
+  -- no write is too long
+  short : All (λ bytes. length bytes ≤ 12032) (writes_of c script.writes)
+  short = All-weaker IsWritten (λ bytes. length bytes ≤ 12032) (λ bytes is. is.few) (writes_of c script.writes) (known.writes c [] (omega (arith, low, known.clients))).each
+
+  request_can : (r : Request) (moment : ℕ) → IsRequestInRange r → IsRequestOf (plays_of c script) r → is_callable packets counts (suc c) (act_of (call_of (plays_of c script) r moment)) ≡ true
+  request_can (Own w) moment is of = want_can packets counts (suc c) w moment is
+  request_can (Attach node pids) moment is of = refl
+  request_can (Detach node) moment is of = refl
+  request_can (Pass write) moment is of =
+      pass_can packets counts (suc c) (played c script) (batch_at (plays_of c script) write) moment counted of
+      (at_write IsPlayedBatch (plays_of c script) write (are_few (writes_of c script.writes) short))
+      (at_write (StandsAmong (played c script)) (plays_of c script) write (are_placed (writes_of c script.writes)))
+
+  event_can : (o : Option Event) (e : LogEntry) → ((event : Event) → o ≡ Some event → IsRequestInRange event.want × IsRequestOf (plays_of c script) event.want) → IsEvent (plays_of c script) o e
+      → is_callable packets counts (suc c) e.act ≡ true
+  event_can None e range is = absurd is
+  event_can (Some event) e range is = (let r = range event refl in rw is.1.1 (request_can event.want is.1.0 r.0 r.1))
 
 -- ------ a run
 
-module _ (script : Scripted) (packets : List (List ℕ)) (hs : List (List LogEntry)) (ranges : All IsInRange script.lines) (run : IsRun script 64 packets hs) where
-  can_by : (node place : ℕ) (h : List LogEntry) (e : LogEntry) → slice_get hs node ≡ Some h → slice_get h place ≡ Some e → (who : ℕ) → e.who ≡ who → is_callable (length packets) e.act ≡ true
+module _ (script : Scripted) (packets : List (List ℕ)) (hs : List (List LogEntry)) (known : IsScript script) (run : IsRun script 64 packets hs) where
+  abbrev amounts : List ℕ
+  amounts = map (λ ps. length ps) (all_played script)
+
+  can_by : (node place : ℕ) (h : List LogEntry) (e : LogEntry) → slice_get hs node ≡ Some h → slice_get h place ≡ Some e → (who : ℕ) → e.who ≡ who → is_callable (length packets) amounts e.who e.act ≡ true
   can_by node place h e at here zero is =
-      let all : All (CanStep (length packets)) (feeding 0 0 run.fed.batches) = feeding_can (length packets) 0 0 run.fed.batches run.fed.each_size (omega (arith, run.fed.whole)) in
-      let mine : All (CanStep (length packets)) (steps_of 0 h) = subst (λ (ss : List Step). All (CanStep (length packets)) ss) (sym (run.fed.on_each node h at)) all in
-      fed_can (length packets) h mine place e here is
+      let all : All (CanStep (length packets) amounts) (feeding 0 0 run.fed.batches) = feeding_can (length packets) amounts 0 0 run.fed.batches run.fed.each_size (omega (arith, run.fed.whole)) in
+      let mine : All (CanStep (length packets) amounts) (steps_of 0 h) = subst (λ (ss : List Step). All (CanStep (length packets) amounts) ss) (sym (run.fed.on_each node h at)) all in
+      fed_can (length packets) amounts h mine place e here is
   can_by node place h e at here (suc c) is =
       let places = run.places node place h e at here in
       let low : c < clients_in script = omega (arith, places.2, is) in
@@ -87,10 +138,12 @@ module _ (script : Scripted) (packets : List (List ℕ)) (hs : List (List LogEnt
       let number : e.who ≡ c + 1 = omega (arith, is) in
       let made = d.only node place h e at here number in
       let s = d.steps e.step e made in
-      event_can (length packets) (next_event c script (replies (take e.step d.made))) e (λ event at'. asks_in_range c script (replies (take e.step d.made)) ranges event at') s.3
+      let eight : c < 8 = omega (arith, low, few_in_all script known.ranges) in
+      subst (λ (k : ℕ). is_callable (length packets) amounts k e.act ≡ true) (sym is)
+      (event_can script known (length packets) c eight (next_event c script (replies (take e.step d.made))) e (λ event at'. asks_in_range c script (replies (take e.step d.made)) known.ranges event at') s.3)
 
   sound_from : (node place : ℕ) (h rest : List LogEntry) → slice_get hs node ≡ Some h → ((i : ℕ) (e : LogEntry) → slice_get rest i ≡ Some e → slice_get h (place + i) ≡ Some e)
-      → are_sound (clients_in script) (length packets) rest ≡ true
+      → are_sound (clients_in script) (length packets) amounts rest ≡ true
   sound_from node place h [] at there = refl
   sound_from node place h (e ∷ es) at there =
       let here = there 0 e refl in
@@ -99,5 +152,5 @@ module _ (script : Scripted) (packets : List (List ℕ)) (hs : List (List LogEnt
       let later = sound_from node (suc place) h es at (λ i f at'. let sum : place + suc i ≡ suc place + i = omega arith in subst (λ (k : ℕ). slice_get h k ≡ Some f) sum (there (suc i) f at')) in
       rw (who, can, later) refl
 
-  pub sound : (node : ℕ) (h : List LogEntry) → slice_get hs node ≡ Some h → are_sound (clients_in script) (length packets) h ≡ true
+  pub sound : (node : ℕ) (h : List LogEntry) → slice_get hs node ≡ Some h → are_sound (clients_in script) (length packets) amounts h ≡ true
   sound node h at = sound_from node 0 h h at (λ i e here. let sum : i ≡ 0 + i = omega arith in subst (λ (k : ℕ). slice_get h k ≡ Some e) sum here)

@@ -9,12 +9,12 @@ use Rattle.dmx_calls.specs.declared.limits.TheConstants.{DEMUX_NODES}
 use Rattle.dmx_calls.specs.declared.outcome.Outcome.{Outcome}
 use Rattle.dmx_calls.specs.History.{History}
 use Rattle.dmx_calls.specs.Legal.{IsLegalFor}
-use Rattle.dmx_calls.specs.Log.{LogEntry, filled}
+use Rattle.dmx_calls.specs.Log.{LogEntry, Sources, filled}
 use Rattle.dmx_calls.specs.Response.{NoMemory, Passed}
 use Rattle.dmx_calls.specs.Rules.{rules_at}
 use Rattle.client_script.specs.Script.{clients_in, Scripted}
 use Rattle.client_core.specs.Outcomes.{outcomes}
-use Rattle.script_run.specs.IsRun.{feeding, steps_of, HasDone, replies}
+use Rattle.script_run.specs.IsRun.{feeding, steps_of, HasDone, replies, sources}
 use Rattle.report_text.specs.Told.{ToldNode, Told}
 use Rattle.report_read.specs.Ranges.{IsNodeInRange, IsEntryOf}
 use Rattle.report_read.specs.Report.{are_nodes}
@@ -26,46 +26,55 @@ use Rattle.walk_check.specs.Laws.{AreInPlace}
 use Rattle.walk_check.specs.Walk.{IsRest, queues_in}
 use Rattle.walk_check.proofs.Doing.{walked_is_done}
 use Rattle.report_check.specs.Inside.Feeding.{step_of}
-use Rattle.report_check.specs.Inside.Parts.{is_callable, is_sound, are_sound, IsSoundNode, AreSoundNodes, IsPlayed, dealt, IsDoneAs, HasPassed}
+use Rattle.report_check.specs.Inside.Parts.{all_played, is_callable, is_sound, are_sound, IsSoundNode, AreSoundNodes, IsPlayed, dealt, IsDoneAs, HasPassed}
 use Rattle.report_check.proofs.Lists.{both, all_at}
 use Rattle.report_check.proofs.Feeding.{feeds_is}
 use Rattle.report_check.proofs.Nodes.{TellsOrNot, complete_at, complete_long, each_whole, in_place, same_queues}
 use Rattle.report_check.proofs.Fed.{IsFeeder, node_feeder, tiled_feeder}
 use Rattle.report_check.proofs.Passed.{done_at}
+use Rattle.report_check.proofs.Players.{same_filled, same_sources}
+use Rattle.history_check.specs.Playing.{brought_from}
 
 -- ------ entries
 
-sound_at : (clients packets : ℕ) (es : List LogEntry) → are_sound clients packets es ≡ true → (i : ℕ) (e : LogEntry) → slice_get es i ≡ Some e → e.who ≤ clients
-sound_at clients packets [] all i e at = absurd (cc)
-sound_at clients packets (f ∷ es) all zero e at =
+sound_at : (clients packets : ℕ) (counts : List ℕ) (es : List LogEntry) → are_sound clients packets counts es ≡ true → (i : ℕ) (e : LogEntry) → slice_get es i ≡ Some e → e.who ≤ clients
+sound_at clients packets counts [] all i e at = absurd (cc)
+sound_at clients packets counts (f ∷ es) all zero e at =
     let same : f ≡ e = cc in
-    let front = both (is_sound clients packets f) (are_sound clients packets es) all in
-    let parts = both (nat_le f.who clients) (is_callable packets f.act) front.0 in
+    let front = both (is_sound clients packets counts f) (are_sound clients packets counts es) all in
+    let parts = both (nat_le f.who clients) (is_callable packets counts f.who f.act) front.0 in
     let low : f.who ≤ clients = grind (arith, nat_tests, parts.0) in
     subst (λ (x : LogEntry). x.who ≤ clients) same low
-sound_at clients packets (f ∷ es) all (suc i) e at = sound_at clients packets es (both (is_sound clients packets f) (are_sound clients packets es) all).1 i e at
+sound_at clients packets counts (f ∷ es) all (suc i) e at = sound_at clients packets counts es (both (is_sound clients packets counts f) (are_sound clients packets counts es) all).1 i e at
 
 -- ------ nodes
 
-feeder_by : (clients : ℕ) (packets : List (List ℕ)) (count : ℕ) → count ≡ length packets → (ns : List ToldNode) → AreSoundNodes clients (length packets) ns → All (IsPlayed packets) ns
-    → IsFeeder (length packets) (feeder_of count ns)
-feeder_by clients packets count is [] sound played = subst (λ (k : ℕ). IsFeeder k (tiled count 0 0 count)) is (tiled_feeder count)
-feeder_by clients packets count is (n ∷ ns) sound played =
-    node_feeder n.node packets n.entries (All-head (IsPlayed packets) n ns played).0 (feeds_is (length packets) 0 0 (steps_of 0 n.entries) sound.0)
+feeder_by : (clients : ℕ) (packets : List (List ℕ)) (all : List (List (List ℕ))) (counts : List ℕ) (count : ℕ) → count ≡ length packets → (ns : List ToldNode) → AreSoundNodes clients (length packets) counts ns
+    → All (IsPlayed (brought_from packets all)) ns → IsFeeder (length packets) (feeder_of count ns)
+feeder_by clients packets all counts count is [] sound played = subst (λ (k : ℕ). IsFeeder k (tiled count 0 0 count)) is (tiled_feeder count)
+feeder_by clients packets all counts count is (n ∷ ns) sound played =
+    node_feeder n.node (brought_from packets all) (length packets) n.entries (All-head (IsPlayed (brought_from packets all)) n ns played).0 (feeds_is (length packets) 0 0 (steps_of 0 n.entries) sound.0)
 
-sound_nodes : (clients packets count : ℕ) (ns : List ToldNode) → AreSoundNodes clients packets ns → (i : ℕ) (n : ToldNode) → slice_get ns i ≡ Some n
-    → (are_sound clients packets n.entries ≡ true) × (steps_of 0 n.entries ≡ map step_of (feeder_of count ns))
-sound_nodes clients packets count [] sound i n at = absurd (cc)
-sound_nodes clients packets count (m ∷ ns) sound i n at =
-    let one = all_at (IsSoundNode clients packets m.entries) (m ∷ ns) sound.1 i n at in
+sound_nodes : (clients packets : ℕ) (counts : List ℕ) (count : ℕ) (ns : List ToldNode) → AreSoundNodes clients packets counts ns → (i : ℕ) (n : ToldNode) → slice_get ns i ≡ Some n
+    → (are_sound clients packets counts n.entries ≡ true) × (steps_of 0 n.entries ≡ map step_of (feeder_of count ns))
+sound_nodes clients packets counts count [] sound i n at = absurd (cc)
+sound_nodes clients packets counts count (m ∷ ns) sound i n at =
+    let one = all_at (IsSoundNode clients packets counts m.entries) (m ∷ ns) sound.1 i n at in
     (one.0, one.1)
 
 -- ------ the run
 
-module _ (script : Scripted) (packets : List (List ℕ)) (t : Told) (nodes : All IsNodeInRange t.nodes) (order : are_nodes 0 t.nodes ≡ true)
+module _ (script : Scripted) (eight : length script.writes ≡ 8) (packets : List (List ℕ)) (t : Told) (nodes : All IsNodeInRange t.nodes) (order : are_nodes 0 t.nodes ≡ true)
     (count : t.head.tally.packets ≡ length packets) (p : HasPassed script packets t) where
+  -- the packets of all callers, and how many they are
+  abbrev given : Sources
+  given = brought_from packets (all_played script)
+
+  abbrev counts : List ℕ
+  counts = map (λ ps. length ps) (all_played script)
+
   feeder : IsFeeder (length packets) (feeder_of t.head.tally.packets t.nodes)
-  feeder = feeder_by (clients_in script) packets t.head.tally.packets count t.nodes p.nodes p.played
+  feeder = feeder_by (clients_in script) packets (all_played script) counts t.head.tally.packets count t.nodes p.nodes p.played
 
   there : (node : ℕ) (h : List LogEntry) → slice_get (completed t) node ≡ Some h → TellsOrNot t.nodes (feeder_of t.head.tally.packets t.nodes) node h
   unfolding completed
@@ -79,11 +88,11 @@ module _ (script : Scripted) (packets : List (List ℕ)) (t : Told) (nodes : All
       let at : slice_get is.node.entries place ≡ Some e = subst (λ (es : List LogEntry). slice_get es place ≡ Some e) is.entries here in
       let range = all_at IsNodeInRange t.nodes nodes is.index is.node is.at in
       let one = all_at (IsEntryOf is.node.node) is.node.entries range.entries place e at in
-      let sound = sound_nodes (clients_in script) (length packets) t.head.tally.packets t.nodes p.nodes is.index is.node is.at in
-      let played = all_at (IsPlayed packets) t.nodes p.played is.index is.node is.at in (
+      let sound = sound_nodes (clients_in script) (length packets) counts t.head.tally.packets t.nodes p.nodes is.index is.node is.at in
+      let played = all_at (IsPlayed given) t.nodes p.played is.index is.node is.at in (
         one.1 ∙ is.number,
         in_place is.node (each_whole 0 t.nodes order is.index is.node is.at) place e at,
-        sound_at (clients_in script) (length packets) is.node.entries sound.0 place e at,
+        sound_at (clients_in script) (length packets) counts is.node.entries sound.0 place e at,
         all_at (λ x. x.response ≢ NoMemory) is.node.entries played.1 place e at,
       )
   places_by node place h e (inr same) here =
@@ -99,20 +108,23 @@ module _ (script : Scripted) (packets : List (List ℕ)) (t : Told) (nodes : All
       → (e.node ≡ node) × (e.place ≡ place) × (e.who ≤ clients_in script) × (e.response ≢ NoMemory)
   places node place h e at here = places_by node place h e (there node h at) here
 
-  legal_by : (node : ℕ) (h : List LogEntry) → TellsOrNot t.nodes (feeder_of t.head.tally.packets t.nodes) node h → IsLegalFor (rules_at node) (filled packets h)
-  legal_by node h (inl is) =
-      let played = all_at (IsPlayed packets) t.nodes p.played is.index is.node is.at in
-      let mine : IsLegalFor (rules_at node) (filled packets is.node.entries) = subst (λ (k : ℕ). IsLegalFor (rules_at k) (filled packets is.node.entries)) is.number played.0 in
-      subst (λ (es : List LogEntry). IsLegalFor (rules_at node) (filled packets es)) (sym is.entries) mine
-  legal_by node h (inr same) =
-      let legal = legal_on (rules_at node) packets node 0 (feeder_of t.head.tally.packets t.nodes) [] tt feeder.plain in
-      let mine : IsLegalFor (rules_at node) (filled packets (renumbered node 0 (feeder_of t.head.tally.packets t.nodes))) =
-      subst (λ (g : History). IsLegalFor (rules_at node) g) (append-nil (filled packets (renumbered node 0 (feeder_of t.head.tally.packets t.nodes)))) legal in
-      subst (λ (es : List LogEntry). IsLegalFor (rules_at node) (filled packets es)) (sym same) mine
+  legal_given : (node : ℕ) (h : List LogEntry) → TellsOrNot t.nodes (feeder_of t.head.tally.packets t.nodes) node h → IsLegalFor (rules_at node) (filled given h)
+  legal_given node h (inl is) =
+      let played = all_at (IsPlayed given) t.nodes p.played is.index is.node is.at in
+      let mine : IsLegalFor (rules_at node) (filled given is.node.entries) = subst (λ (k : ℕ). IsLegalFor (rules_at k) (filled given is.node.entries)) is.number played.0 in
+      subst (λ (es : List LogEntry). IsLegalFor (rules_at node) (filled given es)) (sym is.entries) mine
+  legal_given node h (inr same) =
+      let legal = legal_on (rules_at node) given node 0 (feeder_of t.head.tally.packets t.nodes) [] tt feeder.plain in
+      let mine : IsLegalFor (rules_at node) (filled given (renumbered node 0 (feeder_of t.head.tally.packets t.nodes))) =
+      subst (λ (g : History). IsLegalFor (rules_at node) g) (append-nil (filled given (renumbered node 0 (feeder_of t.head.tally.packets t.nodes)))) legal in
+      subst (λ (es : List LogEntry). IsLegalFor (rules_at node) (filled given es)) (sym same) mine
+
+  legal_by : (node : ℕ) (h : List LogEntry) → TellsOrNot t.nodes (feeder_of t.head.tally.packets t.nodes) node h → IsLegalFor (rules_at node) (filled (sources script packets) h)
+  legal_by node h is = subst (λ (g : History). IsLegalFor (rules_at node) g) (same_filled given (sources script packets) (same_sources script eight packets) h) (legal_given node h is)
 
   steps_by : (node : ℕ) (h : List LogEntry) → TellsOrNot t.nodes (feeder_of t.head.tally.packets t.nodes) node h → steps_of 0 h ≡ feeding 0 0 feeder.fed.batches
   steps_by node h (inl is) =
-      let sound = sound_nodes (clients_in script) (length packets) t.head.tally.packets t.nodes p.nodes is.index is.node is.at in
+      let sound = sound_nodes (clients_in script) (length packets) counts t.head.tally.packets t.nodes p.nodes is.index is.node is.at in
       ap (steps_of 0) is.entries ∙ (sound.1 ∙ feeder.fed.same)
   steps_by node h (inr same) = ap (steps_of 0) same ∙ (steps_there node 0 (feeder_of t.head.tally.packets t.nodes) feeder.plain ∙ feeder.fed.same)
 

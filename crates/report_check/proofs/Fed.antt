@@ -1,7 +1,7 @@
 -- The feeder's entries, on whatever node.
-use Rattle.std.proofs.Common.{◌≡◌, ◌+◌, sym, subst, ℕ, List, [], ◌∷◌, length, map, sum, arith}
+use Rattle.std.proofs.Common.{◌≡◌, ◌+◌, sym, subst, ℕ, List, [], ◌∷◌, map, sum, arith}
 use Rattle.dmx_calls.specs.Legal.{IsLegalFor}
-use Rattle.dmx_calls.specs.Log.{LogEntry, filled}
+use Rattle.dmx_calls.specs.Log.{LogEntry, Sources, filled}
 use Rattle.dmx_calls.specs.Rules.{rules_at}
 use Rattle.script_run.specs.IsRun.{steps_of}
 use Rattle.report_runs.specs.Completed.{of_feeder, tiled}
@@ -21,9 +21,9 @@ plain_zip [] a b = tt
 plain_zip (e ∷ es) a b = (a.0, a.1, b.0, plain_zip es a.2 b.1)
 
 -- on a node whose history is legal
-pub node_feeder : (node : ℕ) (packets : List (List ℕ)) (h : List LogEntry) → IsLegalFor (rules_at node) (filled packets h)
-    → IsFeedingFrom (length packets) 0 0 (steps_of 0 h) → IsFeeder (length packets) (of_feeder h)
-node_feeder node packets h legal f =
+pub node_feeder : (node : ℕ) (packets : Sources) (count : ℕ) (h : List LogEntry) → IsLegalFor (rules_at node) (filled packets h)
+    → IsFeedingFrom count 0 0 (steps_of 0 h) → IsFeeder count (of_feeder h)
+node_feeder node packets count h legal f =
     let feeds : AllFeed (map step_of (of_feeder h)) = subst AllFeed (sym f.same) (feeding_feeds 0 0 f.batches) in
     let passed : ArePassed (of_feeder h) = passed_from h (λ i e at. passed_at (rules_at node) packets h i e at legal) feeds in
     record { plain = plain_zip (of_feeder h) passed feeds; fed = record { batches = f.batches; sizes = f.sizes; whole = f.whole; same = f.same } }

@@ -10,4 +10,5 @@ pub mod Deciding
 pub mod Few
 pub mod Checking
 pub mod Playing
+pub mod Players
 pub mod Dealt

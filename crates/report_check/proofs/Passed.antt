@@ -1,16 +1,18 @@
 -- What a report of a run tells passes each test.
-use Rattle.std.proofs.Common.{◌≡◌, ◌<◌, ◌+◌, refl, sym, subst, ◌∙◌, ℕ, zero, suc, List, [], ◌∷◌, true, length, arith}
+use Rattle.std.proofs.Common.{◌≡◌, ◌<◌, ◌+◌, refl, sym, subst, ◌∙◌, ℕ, zero, suc, List, [], ◌∷◌, true, length, map, arith}
 use Rattle.std.specs.Prelude.{Some, slice_get, ◌≢◌}
 use Rattle.std.proofs.lemmas.Option.{slice_get_within}
 use Rattle.std.specs.List.{All}
 use Rattle.dmx_calls.specs.declared.limits.TheConstants.{DEMUX_NODES}
 use Rattle.dmx_calls.specs.declared.outcome.Outcome.{Outcome}
+use Rattle.dmx_calls.specs.History.{History}
+use Rattle.dmx_calls.specs.Legal.{IsLegalFor}
 use Rattle.dmx_calls.specs.Log.{LogEntry}
 use Rattle.dmx_calls.specs.Response.{NoMemory}
-use Rattle.client_script.specs.Grammar.{IsInRange}
-use Rattle.client_script.specs.Script.{clients_in, Scripted}
+use Rattle.dmx_calls.specs.Rules.{rules_at}
+use Rattle.client_script.specs.Script.{clients_in, IsScript, Scripted}
 use Rattle.client_core.specs.Outcomes.{outcomes}
-use Rattle.script_run.specs.IsRun.{Step, feeding, steps_of, replies}
+use Rattle.script_run.specs.IsRun.{Step, feeding, steps_of, replies, sources}
 use Rattle.report_text.specs.Told.{ToldNode, Told}
 use Rattle.report_read.specs.Ranges.{IsNodeInRange}
 use Rattle.report_read.specs.Report.{are_nodes}
@@ -20,11 +22,13 @@ use Rattle.report_runs.proofs.Right.{all_below, zero_fed}
 use Rattle.walk_check.specs.Walk.{IsRest, queues_in}
 use Rattle.walk_check.proofs.Doing.{done_is_walked}
 use Rattle.report_check.specs.Inside.Feeding.{feeds}
-use Rattle.report_check.specs.Inside.Parts.{IsSoundNode, AreSoundNodes, IsPlayed, dealt, IsDoneAs, AreDoneAs, HasPassed}
+use Rattle.report_check.specs.Inside.Parts.{all_played, IsSoundNode, AreSoundNodes, IsPlayed, dealt, IsDoneAs, AreDoneAs, HasPassed}
 use Rattle.report_check.proofs.Lists.{at_all}
 use Rattle.report_check.proofs.Feeding.{is_feeds}
 use Rattle.report_check.proofs.Nodes.{told_at, same_queues}
+use Rattle.history_check.specs.Playing.{brought_from}
 use Rattle.report_check.proofs.Callable.{sound}
+use Rattle.report_check.proofs.Players.{same_filled, same_sources}
 
 -- ------ clients
 
@@ -50,7 +54,7 @@ done_at script hs client (p ∷ told) all (suc i) o at =
 
 -- ------ all tests
 
-module _ (script : Scripted) (packets : List (List ℕ)) (t : Told) (ranges : All IsInRange script.lines) (nodes : All IsNodeInRange t.nodes) (order : are_nodes 0 t.nodes ≡ true)
+module _ (script : Scripted) (packets : List (List ℕ)) (t : Told) (known : IsScript script) (nodes : All IsNodeInRange t.nodes) (order : are_nodes 0 t.nodes ≡ true)
     (r : IsRunOf script packets t.outcomes (completed t)) where
   stands : (i : ℕ) (n : ToldNode) → slice_get t.nodes i ≡ Some n → slice_get (completed t) n.node ≡ Some n.entries
   unfolding completed
@@ -59,20 +63,20 @@ module _ (script : Scripted) (packets : List (List ℕ)) (t : Told) (ranges : Al
   fed : (i : ℕ) (n : ToldNode) → slice_get t.nodes i ≡ Some n → steps_of 0 n.entries ≡ feeding 0 0 r.run.fed.batches
   fed i n at = r.run.fed.on_each n.node n.entries (stands i n at)
 
-  nodes_by : (ns : List ToldNode) → ((i : ℕ) (n : ToldNode) → slice_get ns i ≡ Some n → slice_get t.nodes i ≡ Some n) → AreSoundNodes (clients_in script) (length packets) ns
+  nodes_by : (ns : List ToldNode) → ((i : ℕ) (n : ToldNode) → slice_get ns i ≡ Some n → slice_get t.nodes i ≡ Some n) → AreSoundNodes (clients_in script) (length packets) (map (λ ps. length ps) (all_played script)) ns
   nodes_by [] there = tt
   nodes_by (n ∷ ns) there =
       let first : steps_of 0 n.entries ≡ feeding 0 0 r.run.fed.batches = fed 0 n (there 0 n refl) in
       let all : feeds (length packets) 0 0 (feeding 0 0 r.run.fed.batches) ≡ true = is_feeds (length packets) 0 0 r.run.fed.batches r.run.fed.each_size (omega (arith, r.run.fed.whole)) in (
         subst (λ (ss : List Step). feeds (length packets) 0 0 ss ≡ true) (sym first) all,
-        at_all (IsSoundNode (clients_in script) (length packets) n.entries) (n ∷ ns) (λ i m at.
-            (sound script packets (completed t) ranges r.run m.node m.entries (stands i m (there i m at)), fed i m (there i m at) ∙ sym first)),
+        at_all (IsSoundNode (clients_in script) (length packets) (map (λ ps. length ps) (all_played script)) n.entries) (n ∷ ns) (λ i m at.
+            (sound script packets (completed t) known r.run m.node m.entries (stands i m (there i m at)), fed i m (there i m at) ∙ sym first)),
       )
 
-  played : (i : ℕ) (n : ToldNode) → slice_get t.nodes i ≡ Some n → IsPlayed packets n
+  played : (i : ℕ) (n : ToldNode) → slice_get t.nodes i ≡ Some n → IsPlayed (brought_from packets (all_played script)) n
   played i n at =
       let here = stands i n at in
-      (r.run.legal n.node n.entries here, at_all (λ e. e.response ≢ NoMemory) n.entries (λ j e there. (r.run.places n.node j n.entries e here there).3))
+      (subst (λ (h : History). IsLegalFor (rules_at n.node) h) (sym (same_filled (brought_from packets (all_played script)) (sources script packets) (same_sources script known.clients packets) n.entries)) (r.run.legal n.node n.entries here), at_all (λ e. e.response ≢ NoMemory) n.entries (λ j e there. (r.run.places n.node j n.entries e here there).3))
 
   done : (i : ℕ) (o : List Outcome) → slice_get t.outcomes i ≡ Some o → IsDoneAs script (dealt t.nodes) i o
   unfolding completed
@@ -93,5 +97,5 @@ module _ (script : Scripted) (packets : List (List ℕ)) (t : Told) (ranges : Al
     clients = r.clients;
     nodes = nodes_by t.nodes (λ i n at. at);
     done = done_from script (dealt t.nodes) 0 t.outcomes (λ i o at. let sum : i ≡ 0 + i = omega arith in subst (λ (c : ℕ). IsDoneAs script (dealt t.nodes) c o) sum (done i o at));
-    played = at_all (IsPlayed packets) t.nodes played;
+    played = at_all (IsPlayed (brought_from packets (all_played script))) t.nodes played;
   }

@@ -3,7 +3,8 @@
 //! `first_fault` reads a report and compares its head with the stream's. Of the nodes that it shows it asks that the feeder passes
 //! the stream's packets on the first, and the same on each other; that each entry's caller is the feeder or a client of the script;
 //! that each client's entries are just what its commands ask for, and this became of them; and that each reply is the one that the
-//! node's entries before it give, by playing them again. `check` says whether it finds nothing. All of it is this project's own.
+//! node's entries before it give, by playing them again: with the stream's packets for a pass of the front end, and for one of the
+//! dvr with those that its client plays. `check` says whether it finds nothing. All of it is this project's own.
 //!
 //! What a contract sees: the report as the list of its bytes, the script as what it says, the stream's packets as lists of
 //! bytes, and the head as a record of numbers and rows. `IsRightReport` of `report_runs` says what is right: it names the text, the
@@ -17,8 +18,9 @@
 //! What isn't proved: which line and which kind `first_fault` tells. The line is 0 where none is known. What is only tested, in
 //! `check_tests`: that a report worked out by hand is right, and that line and kind are those of what is changed in it.
 //!
-//! The cost is linear in the report and the packets that its nodes are passed: nothing is sorted, and the stream isn't walked for
-//! itself. All memory is what was read of the report, its text once more, and a batch or a buffer at a time.
+//! The cost is linear in the report, the packets that its nodes are passed and the bytes of writes: nothing is sorted, and the stream
+//! isn't walked for itself. All memory is what was read of the report, its text once more, the packets that clients play, and a batch
+//! or a buffer at a time.
 #![tactic(auto)]
 
 mod client;
@@ -28,6 +30,7 @@ mod head;
 mod line;
 mod node;
 mod play;
+mod played;
 mod report;
 mod stop;
 

@@ -1,8 +1,8 @@
 // The nodes' told entries, played again.
 ghost use Rattle.std.specs.Prelude.{◌≡◌, ◌<◌, ◌≤◌, ◌^◌, ℕ, length, map, true, IfOk, MatchOption, All};
-ghost use Rattle.ts_packet.specs.Fields.{IsPacket};
 ghost use Rattle.dmx_calls.specs.declared.limits.TheConstants.{DEMUX_NODES as nodes_of_demux};
 ghost use Rattle.dmx_calls.specs.Calls.{told_entry};
+ghost use Rattle.history_check.specs.Playing.{AreFewPackets, brought_from};
 ghost use Rattle.report_check.specs.Inside.Parts.{told_nodes, are_sound, IsPlayed};
 
 use crate::fault::{FaultKind, Odd};
@@ -23,18 +23,19 @@ fn odd_of_demux<L: Ledger>(
     node: u32,
     entries: &[Entry],
     packets: &[Packet],
+    played: &[Vec<Packet>],
     steps: &mut Steps<L>,
 ) -> Result<Option<u64>, NoMemory>
     requires node { node < nodes_of_demux }
-    requires sound { (clients : ℕ) × (are_sound clients (length packets.now) (map told_entry entries.now) ≡ true) }
-    requires packets { All IsPacket packets.now }
-    requires long { length packets.now < 2 ^ 63 }
+    requires sound { (clients : ℕ) × (are_sound clients (length packets.now) (map (λ ps. length ps) (map (λ p. p.items) played.now)) (map told_entry entries.now) ≡ true) }
+    requires stream { AreFewPackets packets.now }
+    requires played { All AreFewPackets (map (λ p. p.items) played.now) }
     requires few { length entries.now < 2 ^ 50 }
-    ensures { IfOk result (λ odd. MatchOption odd (IsPlayed packets.now (record { node = node; entries = map told_entry entries.now }))
-        (λ _. IsPlayed packets.now (record { node = node; entries = map told_entry entries.now }) → ⊥)) }
+    ensures { IfOk result (λ odd. MatchOption odd (IsPlayed (brought_from packets.now (map (λ p. p.items) played.now)) (record { node = node; entries = map told_entry entries.now }))
+        (λ _. IsPlayed (brought_from packets.now (map (λ p. p.items) played.now)) (record { node = node; entries = map told_entry entries.now }) → ⊥)) }
 {
     let mut core = NodeCore::new(alloc, node);
-    if is_played(alloc, &mut core, packets, entries, steps)? {
+    if is_played(alloc, &mut core, packets, played, entries, steps)? {
         return Ok(None);
     }
     Ok(Some(core.entries().saturating_sub(1)))
@@ -45,17 +46,18 @@ fn odd_of_dvr<L: Ledger>(
     alloc: Global,
     entries: &[Entry],
     packets: &[Packet],
+    played: &[Vec<Packet>],
     steps: &mut Steps<L>,
 ) -> Result<Option<u64>, NoMemory>
-    requires sound { (clients : ℕ) × (are_sound clients (length packets.now) (map told_entry entries.now) ≡ true) }
-    requires packets { All IsPacket packets.now }
-    requires long { length packets.now < 2 ^ 63 }
+    requires sound { (clients : ℕ) × (are_sound clients (length packets.now) (map (λ ps. length ps) (map (λ p. p.items) played.now)) (map told_entry entries.now) ≡ true) }
+    requires stream { AreFewPackets packets.now }
+    requires played { All AreFewPackets (map (λ p. p.items) played.now) }
     requires few { length entries.now < 2 ^ 50 }
-    ensures { IfOk result (λ odd. MatchOption odd (IsPlayed packets.now (record { node = nodes_of_demux; entries = map told_entry entries.now }))
-        (λ _. IsPlayed packets.now (record { node = nodes_of_demux; entries = map told_entry entries.now }) → ⊥)) }
+    ensures { IfOk result (λ odd. MatchOption odd (IsPlayed (brought_from packets.now (map (λ p. p.items) played.now)) (record { node = nodes_of_demux; entries = map told_entry entries.now }))
+        (λ _. IsPlayed (brought_from packets.now (map (λ p. p.items) played.now)) (record { node = nodes_of_demux; entries = map told_entry entries.now }) → ⊥)) }
 {
     let mut core = DvrCore::new(alloc);
-    if is_played(alloc, &mut core, packets, entries, steps)? {
+    if is_played(alloc, &mut core, packets, played, entries, steps)? {
         return Ok(None);
     }
     Ok(Some(core.entries().saturating_sub(1)))
@@ -67,22 +69,23 @@ fn odd_with<L: Ledger>(
     node: u32,
     entries: &[Entry],
     packets: &[Packet],
+    played: &[Vec<Packet>],
     blank: Blank,
 ) -> Result<Option<u64>, NoMemory>
     requires node { node ≤ nodes_of_demux }
-    requires sound { (clients : ℕ) × (are_sound clients (length packets.now) (map told_entry entries.now) ≡ true) }
-    requires packets { All IsPacket packets.now }
-    requires long { length packets.now < 2 ^ 63 }
+    requires sound { (clients : ℕ) × (are_sound clients (length packets.now) (map (λ ps. length ps) (map (λ p. p.items) played.now)) (map told_entry entries.now) ≡ true) }
+    requires stream { AreFewPackets packets.now }
+    requires played { All AreFewPackets (map (λ p. p.items) played.now) }
     requires few { length entries.now < 2 ^ 50 }
     requires ledger { (blank.name ≡ L.name) × (blank.parts ≡ L.parts) × (0 < L.parts) }
-    ensures { IfOk result (λ odd. MatchOption odd (IsPlayed packets.now (record { node = node; entries = map told_entry entries.now }))
-        (λ _. IsPlayed packets.now (record { node = node; entries = map told_entry entries.now }) → ⊥)) }
+    ensures { IfOk result (λ odd. MatchOption odd (IsPlayed (brought_from packets.now (map (λ p. p.items) played.now)) (record { node = node; entries = map told_entry entries.now }))
+        (λ _. IsPlayed (brought_from packets.now (map (λ p. p.items) played.now)) (record { node = node; entries = map told_entry entries.now }) → ⊥)) }
 {
     let mut steps: Steps<L> = Steps::new(blank);
     if node < DEMUX_NODES {
-        odd_of_demux(alloc, node, entries, packets, &mut steps)
+        odd_of_demux(alloc, node, entries, packets, played, &mut steps)
     } else {
-        odd_of_dvr(alloc, entries, packets, &mut steps)
+        odd_of_dvr(alloc, entries, packets, played, &mut steps)
     }
 }
 
@@ -92,16 +95,17 @@ fn odd_reply(
     node: u32,
     entries: &[Entry],
     packets: &[Packet],
+    played: &[Vec<Packet>],
 ) -> Result<Option<u64>, NoMemory>
     requires node { node ≤ nodes_of_demux }
-    requires sound { (clients : ℕ) × (are_sound clients (length packets.now) (map told_entry entries.now) ≡ true) }
-    requires packets { All IsPacket packets.now }
-    requires long { length packets.now < 2 ^ 63 }
+    requires sound { (clients : ℕ) × (are_sound clients (length packets.now) (map (λ ps. length ps) (map (λ p. p.items) played.now)) (map told_entry entries.now) ≡ true) }
+    requires stream { AreFewPackets packets.now }
+    requires played { All AreFewPackets (map (λ p. p.items) played.now) }
     requires few { length entries.now < 2 ^ 50 }
-    ensures { IfOk result (λ odd. MatchOption odd (IsPlayed packets.now (record { node = node; entries = map told_entry entries.now }))
-        (λ _. IsPlayed packets.now (record { node = node; entries = map told_entry entries.now }) → ⊥)) }
+    ensures { IfOk result (λ odd. MatchOption odd (IsPlayed (brought_from packets.now (map (λ p. p.items) played.now)) (record { node = node; entries = map told_entry entries.now }))
+        (λ _. IsPlayed (brought_from packets.now (map (λ p. p.items) played.now)) (record { node = node; entries = map told_entry entries.now }) → ⊥)) }
 {
-    odd_with::<Brand>(alloc, node, entries, packets, Blank::new(1))
+    odd_with::<Brand>(alloc, node, entries, packets, played, Blank::new(1))
 }
 
 /// The first reply on the nodes that isn't the one that the entries before it give.
@@ -109,17 +113,18 @@ pub fn odd_play(
     alloc: Global,
     nodes: &[(u32, Vec<Entry>)],
     packets: &[Packet],
+    played: &[Vec<Packet>],
 ) -> Result<Option<Odd>, NoMemory>
     requires nodes { All (λ n. (n.node ≤ nodes_of_demux) × (length n.entries < 2 ^ 50)) (told_nodes nodes.now) }
-    requires sound { (clients : ℕ) × All (λ n. are_sound clients (length packets.now) n.entries ≡ true) (told_nodes nodes.now) }
-    requires packets { All IsPacket packets.now }
-    requires long { length packets.now < 2 ^ 63 }
-    ensures { IfOk result (λ odd. MatchOption odd (All (IsPlayed packets.now) (told_nodes nodes.now))
-        (λ _. All (IsPlayed packets.now) (told_nodes nodes.now) → ⊥)) }
+    requires sound { (clients : ℕ) × All (λ n. are_sound clients (length packets.now) (map (λ ps. length ps) (map (λ p. p.items) played.now)) n.entries ≡ true) (told_nodes nodes.now) }
+    requires stream { AreFewPackets packets.now }
+    requires played { All AreFewPackets (map (λ p. p.items) played.now) }
+    ensures { IfOk result (λ odd. MatchOption odd (All (IsPlayed (brought_from packets.now (map (λ p. p.items) played.now))) (told_nodes nodes.now))
+        (λ _. All (IsPlayed (brought_from packets.now (map (λ p. p.items) played.now))) (told_nodes nodes.now) → ⊥)) }
 {
     let mut rest = nodes;
     'nodes: while let [node, after @ ..] = rest {
-        if let Some(place) = odd_reply(alloc, node.0, &node.1, packets)? {
+        if let Some(place) = odd_reply(alloc, node.0, &node.1, packets, played)? {
             return Ok(Some(Odd::Entry {
                 node: node.0,
                 place,

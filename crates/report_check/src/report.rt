@@ -15,6 +15,7 @@ use crate::head::is_same_head;
 use crate::line::{line_of_client, line_of_entry};
 use crate::node::odd_node;
 use crate::play::odd_play;
+use crate::played::all_played;
 use client_script::Script;
 use report_read::{Told, read_report};
 use std::alloc::{AllocError as NoMemory, Global};
@@ -42,13 +43,15 @@ fn odd_part(
             kind,
         }));
     }
-    if let Some(odd) = odd_node(&told.nodes, clients, packets.len() as u64) {
+    let all = all_played(alloc, script)?;
+    let played = all.as_slice();
+    if let Some(odd) = odd_node(&told.nodes, clients, packets.len() as u64, played) {
         return Ok(Some(odd));
     }
     if let Some(odd) = odd_client(alloc, script, &told.nodes, &told.outcomes)? {
         return Ok(Some(odd));
     }
-    odd_play(alloc, &told.nodes, packets)
+    odd_play(alloc, &told.nodes, packets, played)
 }
 
 fn fault_at(line: u64, kind: FaultKind) -> Fault {
@@ -89,7 +92,7 @@ pub fn first_fault(
     if !is_same_head(&told.head, head) {
         return Ok(Some(fault_at(0, FaultKind::Head)));
     }
-    // Each line is in the ranges of the grammar, so that each call of a run is one that can be made again.
+    // Each line is in the ranges of the grammar, and each write is short, so that each call of a run is one that can be made again.
     let _lines = script.lines();
     match odd_part(alloc, &told, script, packets)? {
         None => Ok(None),

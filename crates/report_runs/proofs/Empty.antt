@@ -15,10 +15,10 @@ use Rattle.dmx_calls.specs.Response.{Response, Passed, NoMemory}
 use Rattle.dmx_calls.specs.Rules.{Rules, rules_at}
 use Rattle.dmx_calls.specs.Answer.{answer}
 use Rattle.dmx_calls.specs.Legal.{May, IsLegalFor}
-use Rattle.dmx_calls.specs.Log.{LogEntry, filled_act, filled_entry, filled}
+use Rattle.dmx_calls.specs.Log.{LogEntry, Sources, filled, filled_act, filled_entry}
 use Rattle.client_script.specs.Script.{Scripted}
 use Rattle.client_core.specs.Events.{next_event}
-use Rattle.script_run.specs.IsRun.{Batch, feeding, steps_of, HasDone, IsRun, replies, StandsIn}
+use Rattle.script_run.specs.IsRun.{Batch, feeding, steps_of, HasDone, IsRun, replies, sources, StandsIn}
 use Rattle.report_text.specs.Entries.{is_of_client}
 use Rattle.report_text.specs.Told.{ToldNode}
 use Rattle.report_runs.specs.Completed.{shown, renumbered, tiled, feeder_of, complete, completed}
@@ -125,18 +125,18 @@ unfolding tiled
 plain zero first step packets = (refl, refl, tt, tt)
 plain (suc left) first step packets = plain_one left first step packets (λ f s. plain left f s packets) (nat_lt first packets) refl
 
-goes : (node : Rules) (packets : List (List ℕ)) (h : History) (who : ℕ) (a : Act) → IsFeed a → May node h who (filled_act packets a) Passed
+goes : (node : Rules) (packets : Sources) (h : History) (who : ℕ) (a : Act) → IsFeed a → May node h who (filled_act (packets who) a) Passed
 unfolding answer
 goes node packets h who (PassAct input first count now) f = inl refl
 goes node packets h who EndAct f = inl refl
 goes node packets h who _ f = absurd f
 
 -- a history of such calls is legal, on whatever node
-pub legal_on : (node : Rules) (packets : List (List ℕ)) (n place : ℕ) (es : List LogEntry) (h : History) → IsLegalFor node h → ArePlain es → IsLegalFor node (filled packets (renumbered n place es) ++ h)
+pub legal_on : (node : Rules) (packets : Sources) (n place : ℕ) (es : List LogEntry) (h : History) → IsLegalFor node h → ArePlain es → IsLegalFor node (filled packets (renumbered n place es) ++ h)
 legal_on node packets n place [] h legal all = legal
 legal_on node packets n place (e ∷ es) h legal all =
     let x : LogEntry = record e { node = n; place = place } in
-    let may : May node h e.who (filled_act packets e.act) e.response = subst (λ (r : Response). May node h e.who (filled_act packets e.act) r) (sym all.1) (goes node packets h e.who e.act all.2) in
+    let may : May node h e.who (filled_act (packets e.who) e.act) e.response = subst (λ (r : Response). May node h e.who (filled_act (packets e.who) e.act) r) (sym all.1) (goes node packets h e.who e.act all.2) in
     let later : IsLegalFor node (filled packets (renumbered n (suc place) es) ++ filled_entry packets x ∷ h) = legal_on node packets n (suc place) es (filled_entry packets x ∷ h) (legal, may) all.3 in
     let same : filled packets (x ∷ renumbered n (suc place) es) ++ h ≡ filled packets (renumbered n (suc place) es) ++ filled_entry packets x ∷ h =
     ap (λ (g : History). g ++ h) (filled_append packets (x ∷ []) (renumbered n (suc place) es)) ∙ append_assoc (filled packets (renumbered n (suc place) es)) (filled_entry packets x ∷ []) h in
@@ -225,9 +225,9 @@ idle_runs script most packets head outcomes hs count run none =
           (omega (arith, t.0), omega (arith, t.1), omega (arith, t.2), λ no. absurd (apart (sym passed ∙ no)));
       legal = λ node h at.
           let same : h ≡ renumbered (0 + node) 0 feeder = idle_at (DEMUX_NODES + 1) 0 feeder node h at in
-          let legal = legal_on (rules_at node) packets (0 + node) 0 feeder [] tt all in
-          let plain' : IsLegalFor (rules_at node) (filled packets (renumbered (0 + node) 0 feeder)) = subst (λ (g : History). IsLegalFor (rules_at node) g) (append-nil (filled packets (renumbered (0 + node) 0 feeder))) legal in
-          subst (λ (es : List LogEntry). IsLegalFor (rules_at node) (filled packets es)) (sym same) plain';
+          let legal = legal_on (rules_at node) (sources script packets) (0 + node) 0 feeder [] tt all in
+          let plain' : IsLegalFor (rules_at node) (filled (sources script packets) (renumbered (0 + node) 0 feeder)) = subst (λ (g : History). IsLegalFor (rules_at node) g) (append-nil (filled (sources script packets) (renumbered (0 + node) 0 feeder))) legal in
+          subst (λ (es : List LogEntry). IsLegalFor (rules_at node) (filled (sources script packets) es)) (sym same) plain';
       fed = record {
         batches = tiles n 0 n;
         each_size = sizes n 0 n;

@@ -12,10 +12,10 @@ use Rattle.dmx_calls.specs.History.{History}
 use Rattle.dmx_calls.specs.Response.{Response, Passed}
 use Rattle.dmx_calls.specs.Rules.{Rules, rules_at}
 use Rattle.dmx_calls.specs.Legal.{May, IsLegalFor}
-use Rattle.dmx_calls.specs.Log.{LogEntry, filled_act, filled_entry, filled}
+use Rattle.dmx_calls.specs.Log.{LogEntry, Sources, filled, filled_act, filled_entry}
 use Rattle.dmx_calls.proofs.Telling.{go_by}
 use Rattle.client_script.specs.Script.{Scripted}
-use Rattle.script_run.specs.IsRun.{Batch, Step, feeding, IsRun}
+use Rattle.script_run.specs.IsRun.{Batch, Step, feeding, IsRun, sources}
 use Rattle.report_text.specs.Entries.{is_of_client}
 use Rattle.report_text.specs.Told.{ToldNode}
 use Rattle.report_runs.specs.Completed.{shown, renumbered, of_feeder, feeder_of, complete, completed}
@@ -24,14 +24,14 @@ use Rattle.report_runs.proofs.Completing.{step_of, AreFeeders, ArePassed, same_f
 
 -- ------ an entry in a legal history
 
-pub filled_append : (packets : List (List ℕ)) (xs ys : List LogEntry) → filled packets (xs ++ ys) ≡ filled packets ys ++ filled packets xs
+pub filled_append : (packets : Sources) (xs ys : List LogEntry) → filled packets (xs ++ ys) ≡ filled packets ys ++ filled packets xs
 filled_append packets xs ys = rw (map-append (filled_entry packets) xs ys, reverse-append (map (filled_entry packets) xs) (map (filled_entry packets) ys)) refl
 
 legal_behind : (node : Rules) (later h : History) → IsLegalFor node (later ++ h) → IsLegalFor node h
 legal_behind node [] h legal = legal
 legal_behind node (e ∷ later) h legal = legal_behind node later h legal.0
 
-may_at : (node : Rules) (packets : List (List ℕ)) (xs : List LogEntry) (e : LogEntry) (ys : List LogEntry) → IsLegalFor node (filled packets (xs ++ e ∷ ys)) → May node (filled packets xs) e.who (filled_act packets e.act) e.response
+may_at : (node : Rules) (packets : Sources) (xs : List LogEntry) (e : LogEntry) (ys : List LogEntry) → IsLegalFor node (filled packets (xs ++ e ∷ ys)) → May node (filled packets xs) e.who (filled_act (packets e.who) e.act) e.response
 may_at node packets xs e ys legal =
     let joined : xs ++ e ∷ ys ≡ (xs ++ e ∷ []) ++ ys = sym (append_assoc xs (e ∷ []) ys) in
     let parts : filled packets (xs ++ e ∷ ys) ≡ filled packets ys ++ (filled_entry packets e ∷ filled packets xs) =
@@ -60,12 +60,12 @@ IsFeed (PassAct input first count now) = Unit {0}
 IsFeed EndAct = Unit {0}
 IsFeed _ = ⊥
 
-passes_by : (node : Rules) (packets : List (List ℕ)) (h : History) (who : ℕ) (a : Act) (r : Response) → IsFeed a → May node h who (filled_act packets a) r → r ≡ Passed
+passes_by : (node : Rules) (packets : Sources) (h : History) (who : ℕ) (a : Act) (r : Response) → IsFeed a → May node h who (filled_act (packets who) a) r → r ≡ Passed
 passes_by node packets h who (PassAct input first count now) r f m = (go_by node).passes h who input first _ now r m
 passes_by node packets h who EndAct r f m = (go_by node).ends h who r m
 passes_by node packets h who _ r f m = absurd f
 
-pub passed_at : (node : Rules) (packets : List (List ℕ)) (h : List LogEntry) (i : ℕ) (e : LogEntry) → slice_get h i ≡ Some e → IsLegalFor node (filled packets h) → IsFeed e.act → e.response ≡ Passed
+pub passed_at : (node : Rules) (packets : Sources) (h : List LogEntry) (i : ℕ) (e : LogEntry) → slice_get h i ≡ Some e → IsLegalFor node (filled packets h) → IsFeed e.act → e.response ≡ Passed
 passed_at node packets h i e at legal feed =
     let p = parted h i e at in
     passes_by node packets (filled packets p.before) e.who e.act e.response feed
@@ -166,8 +166,8 @@ module _ (script : Scripted) (most : ℕ) (packets : List (List ℕ)) (hs : List
       let feeds' : AllFeed (map step_of (of_feeder n.entries)) = subst AllFeed (sym theirs) (feeding_feeds 0 0 run.fed.batches) in
       let feeders : AreFeeders i 0 h = feeders_from i 0 h zeros feeds (λ j e here.
       let places = run.places i j h e at here in
-      (places.0, omega (arith, places.1), passed_at (rules_at i) packets h j e here (run.legal i h at))) in
-      let passed : ArePassed (of_feeder n.entries) = passed_from n.entries (λ j e here. passed_at (rules_at s.index) packets n.entries j e here (run.legal s.index n.entries s.at)) feeds' in
+      (places.0, omega (arith, places.1), passed_at (rules_at i) (sources script packets) h j e here (run.legal i h at))) in
+      let passed : ArePassed (of_feeder n.entries) = passed_from n.entries (λ j e here. passed_at (rules_at s.index) (sources script packets) n.entries j e here (run.legal s.index n.entries s.at)) feeds' in
       let sum : 0 + i ≡ i = omega arith in
       same_feeders i 0 h (of_feeder n.entries) feeders passed (alone ∙ sym theirs) ∙ ap (λ (k : ℕ). renumbered k 0 (of_feeder n.entries)) (sym sum)
 

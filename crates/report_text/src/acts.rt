@@ -102,7 +102,7 @@ fn add_pes(out: &mut Vec<u8>, params: &PesParams, now: u64) -> Result<(), NoMemo
     add_field(out, b" at=", now)
 }
 
-/// So many packets of the stream from this one on that pass at this moment.
+/// So many packets of the stream, or of what a client writes, from this one on that pass at this moment.
 pub fn add_pass(
     out: &mut Vec<u8>,
     input: Input,

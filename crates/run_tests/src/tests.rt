@@ -60,9 +60,13 @@ fn stream_of(alloc: Global, packets: &[(u8, u8)]) -> Result<Vec<u8>, NoMemory> {
     Ok(stream)
 }
 
-// The script of these bytes, at most 1000, where it has no fault.
+// The script of this text, at most 1000 bytes, where it has no fault.
 fn script_of(alloc: Global, text: &str) -> Option<Script> {
-    let bytes = text.as_bytes();
+    script_in(alloc, text.as_bytes())
+}
+
+// The same of bytes.
+fn script_in(alloc: Global, bytes: &[u8]) -> Option<Script> {
     if bytes.len() > 1000 {
         return None;
     }

@@ -7,7 +7,9 @@ use native.Mathlib.Decide.{ℕ_discrete}
 use Rattle.dmx_calls.specs.declared.limits.TheConstants.{DEMUX_NODES}
 use Rattle.client_script.specs.declared.line.Target.{Target}
 use Rattle.client_script.specs.declared.line.Target.TheVariants.{Slot}
-use Rattle.script_nodes.specs.Named.{is_for, is_named}
+use Rattle.client_script.specs.declared.line.Verb.{Verb}
+use Rattle.client_script.specs.declared.line.Verb.TheVariants.{Write}
+use Rattle.script_nodes.specs.Named.{is_for, is_named, passes_all}
 
 -- whether a node is among these
 abbrev is_in : List Bool → (node : ℕ) → Bool
@@ -49,3 +51,12 @@ any_node nodes target slot node is low = all_in node low ∙ sym (ap (λ t. is_i
   or_true : (b : Bool) → (b || true) ≡ true
   or_true true = refl
   or_true false = refl
+
+-- what is written may pass any node
+pub any_write : (nodes : List Bool) (target : Target) (verb : Verb) (write node : ℕ) → verb ≡ Write write → node ≤ DEMUX_NODES
+    → is_in (replicate (DEMUX_NODES + 1) true) node ≡ (is_in nodes node || (is_for target node || passes_all verb))
+any_write nodes target verb write node is low =
+    all_in node low ∙ sym (ap (λ v. is_in nodes node || (is_for target node || passes_all v)) is ∙ (ap (λ b. is_in nodes node || b) (or_true (is_for target node)) ∙ or_true (is_in nodes node))) where
+      or_true : (b : Bool) → (b || true) ≡ true
+      or_true true = refl
+      or_true false = refl

@@ -6,6 +6,8 @@ use Rattle.client_script.specs.declared.line.Line.{Line}
 use Rattle.client_script.specs.declared.line.Line.TheVariants.{Command}
 use Rattle.client_script.specs.declared.line.Target.{Target}
 use Rattle.client_script.specs.declared.line.Target.TheVariants.{Node, Slot, Dvr}
+use Rattle.client_script.specs.declared.line.Verb.{Verb}
+use Rattle.client_script.specs.declared.line.Verb.TheVariants.{Write}
 
 -- a command for this target may call this node; a slot may be bound to any
 abbrev pub is_for : Target → (node : ℕ) → Bool
@@ -13,8 +15,13 @@ is_for (Node n) node = nat_eq n node
 is_for (Slot slot) node = true
 is_for Dvr node = false
 
+-- what a client writes may pass each demux node
+abbrev pub passes_all : Verb → Bool
+passes_all (Write write) = true
+passes_all _ = false
+
 abbrev pub names : (node : ℕ) → Line → Bool
-names node (Command line client target verb) = is_for target node
+names node (Command line client target verb) = is_for target node || passes_all verb
 names node _ = false
 
 -- Some command of the script may call this node. The dvr node is always one of them, since it is told of the demux

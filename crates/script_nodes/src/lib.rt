@@ -1,8 +1,8 @@
 //! The nodes that a script can name: those on which its clients may make calls.
 //!
-//! A command for a demux node may call that node, and one for a slot any of them. The dvr node is told of the demux nodes' taps,
-//! so a command for any node may call it too. `workers`, which runs a script by threads, passes the stream through these nodes
-//! and no other. This is this project's own.
+//! A command for a demux node may call that node, one for a slot any of them, and what is written may pass all. The dvr node is
+//! told of the demux nodes' taps, so a command for any node may call it too. `workers`, which runs a script by threads, passes
+//! the stream through these nodes and no other. This is this project's own.
 //!
 //! What a contract sees: `is_named script.lines node` (`specs/Named.antt`).
 //!

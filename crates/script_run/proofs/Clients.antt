@@ -1,9 +1,11 @@
 -- A script has all clients that its lines name.
 use Rattle.std.proofs.Common.{ℕ, ◌≤◌, List, [], ◌∷◌, fold, max, arith}
 use Rattle.std.specs.List.{All}
-use Rattle.std.proofs.lemmas.List.Elements.{All-nil, All-cons}
+use Rattle.std.proofs.lemmas.List.Elements.{All-nil, All-cons, All-head, All-tail}
 use Rattle.client_script.specs.Script.{clients_of, clients_in, Scripted}
+use Rattle.client_script.specs.Grammar.{IsInRange}
 use Rattle.client_script.specs.declared.line.Line.{Line}
+use Rattle.client_script.specs.declared.line.Line.TheVariants.{Feed, Tick, Command}
 
 most_first : (m : ℕ) (lines : List Line) → m ≤ fold (λ most line. max most (clients_of line)) m lines
 most_first m [] = omega arith
@@ -16,3 +18,17 @@ each_client m (line ∷ lines) =
 
 pub clients_within : (script : Scripted) → All (λ line. clients_of line ≤ clients_in script) script.lines
 clients_within script = each_client 0 script.lines
+
+-- ------ there are eight at most
+
+few_in : (line : Line) → IsInRange line → clients_of line ≤ 8
+few_in (Feed k) is = omega arith
+few_in (Tick k) is = omega arith
+few_in (Command line client target verb) is = omega (arith, is.2)
+
+few_clients : (lines : List Line) (m : ℕ) → m ≤ 8 → All IsInRange lines → fold (λ most line. max most (clients_of line)) m lines ≤ 8
+few_clients [] m le ranges = le
+few_clients (line ∷ lines) m le ranges = few_clients lines (max m (clients_of line)) (omega (arith, le, few_in line (All-head IsInRange line lines ranges))) (All-tail IsInRange line lines ranges)
+
+pub few_in_all : (script : Scripted) → All IsInRange script.lines → clients_in script ≤ 8
+few_in_all script ranges = few_clients script.lines 0 (omega arith) ranges

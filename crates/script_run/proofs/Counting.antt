@@ -81,6 +81,11 @@ pub total_one : (c n : ℕ) → total (one_at c) n ≤ 1
 total_one c zero = omega arith
 total_one c (suc n) = one_more c n (total_one c n)
 
+-- the first of them by itself
+pub total_first : (f : ℕ → ℕ) (n : ℕ) → total f (suc n) ≡ f 0 + total (λ i. f (suc i)) n
+total_first f zero = refl
+total_first f (suc n) = let deeper = total_first f n in omega (arith, deeper)
+
 -- ------ tokens
 
 -- the sum of these over a list
@@ -110,10 +115,6 @@ module _ {T : Type 0} (weight : T → ℕ) where
   weight_at [] i = 0
   weight_at (x ∷ xs) zero = weight x
   weight_at (x ∷ xs) (suc i) = weight_at xs i
-
-  total_first : (f : ℕ → ℕ) (n : ℕ) → total f (suc n) ≡ f 0 + total (λ i. f (suc i)) n
-  total_first f zero = refl
-  total_first f (suc n) = let deeper = total_first f n in omega (arith, deeper)
 
   pub weigh_places : (xs : List T) → weigh xs ≡ total (weight_at xs) (length xs)
   weigh_places [] = refl

@@ -8,6 +8,7 @@ use Rattle.dmx_calls.specs.Legal.{IsLegalFor}
 use Rattle.dmx_calls.specs.Log.{filled}
 use Rattle.dmx_calls.specs.Rules.{demux, dvr, rules_at}
 use Rattle.dmx_calls.proofs.LawsHold.{demux_accounted, dvr_accounted}
+use Rattle.script_run.specs.IsRun.{sources}
 use Rattle.script_run.specs.SoFar.{RunsEnd, RunsAreAccounted}
 
 pub runs_end : RunsEnd
@@ -43,4 +44,4 @@ accounted_at node h legal = go (nat_lt node DEMUX_NODES) legal where
   go false l = dvr_accounted h l
 
 pub are_accounted : RunsAreAccounted
-are_accounted script most stream hs run node h at = accounted_at node (filled stream h) (run.legal node h at)
+are_accounted script most stream hs run node h at = accounted_at node (filled (sources script stream) h) (run.legal node h at)

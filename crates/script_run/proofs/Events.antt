@@ -1,33 +1,65 @@
--- A client's calls bring no packets.
-use Rattle.std.proofs.Common.{◌≡◌, refl, sym, ap, subst, ℕ, List, [], length, Option, Some, None}
+-- What the calls of a client bring: some of the packets that it plays.
+use Rattle.std.proofs.Common.{refl, sym, subst, ℕ, zero, suc, ◌+◌, ◌≤◌, List, [], ◌∷◌, length, drop, Option, Some, None, add-one, arith, length-take}
+use Rattle.std.specs.List.{All}
+use Rattle.std.specs.Option.{IfSome}
+use Rattle.std.proofs.lemmas.List.Elements.{All-head, All-tail, All-nil}
+use Rattle.ts_packet.specs.Fields.{IsPacket}
+use Rattle.ts_batch.specs.Batch.{Packets}
+use Rattle.dvr_play.specs.Laws.{StandsAmong}
+use Rattle.dvr_play.specs.Plays.{joined}
+use Rattle.dvr_play.proofs.Joining.{are_packets, are_placed}
+use Rattle.dmx_calls.specs.declared.params.Input.{Input}
+use Rattle.dmx_calls.specs.declared.params.Input.TheVariants.{Frontend, Dvr}
 use Rattle.dmx_calls.specs.declared.log.Act.{Act}
 use Rattle.dmx_calls.specs.declared.log.Act.TheVariants as act
-use Rattle.dmx_calls.specs.Invocation as call
-use Rattle.dmx_calls.specs.Invocation.{Invocation, brought}
-use Rattle.dmx_calls.specs.Log.{LogEntry, IsOfStream, act_of, filled_act}
-use Rattle.client_core.specs.declared.event.Event.{Event}
-use Rattle.client_core.specs.declared.event.Request.{Request}
-use Rattle.client_core.specs.declared.event.Request.TheVariants.{Own}
+use Rattle.dmx_calls.specs.Invocation.{brought}
+use Rattle.dmx_calls.specs.Log.{IsFrom, filled_act}
+use Rattle.client_script.specs.Script.{Scripted, writes_of}
 use Rattle.client_script.specs.declared.line.Want.TheVariants.{Open}
-use Rattle.client_core.specs.Commands.{call_of}
-use Rattle.script_run.specs.IsRun.{IsEvent}
-use Rattle.script_run.specs.SoFar.{PassesNone}
+use Rattle.client_core.specs.declared.event.Request.{Request}
+use Rattle.client_core.specs.declared.event.Request.TheVariants.{Own, Pass}
+use Rattle.client_core.specs.Deeds.{Batches, batch_at}
+use Rattle.client_core.specs.Commands.{call_of, pass_of, played, plays_of}
+use Rattle.script_run.specs.IsRun.{sources}
 
-pub no_pass : (w : Request) (now : ℕ) → PassesNone (act_of (call_of w now))
-no_pass (Own Open) now = tt
-no_pass _ now = tt
+-- ------ the packets
 
-pub of_stream : (stream : List (List ℕ)) (c : Invocation) → PassesNone (act_of c) → IsOfStream stream c
-of_stream stream (call.Pass i first ps now) bare = absurd bare
-of_stream stream _ bare = tt
+-- what passes bring are packets
+pub all_packets : (script : Scripted) (stream : List (List ℕ)) → All IsPacket stream → (who : ℕ) (input : Input) → All IsPacket (sources script stream who input)
+all_packets script stream are who Frontend = are
+all_packets script stream are zero Dvr = All-nil IsPacket
+all_packets script stream are (suc client) Dvr = are_packets (joined (writes_of client script.writes))
 
-pub event_passes_none : (o : Option Event) (e : LogEntry) → IsEvent o e → PassesNone e.act
-event_passes_none None e is = absurd is
-event_passes_none (Some event) e is = subst PassesNone (sym is.1.1) (no_pass event.want is.1.0)
+batch_stands : (all : List (List ℕ)) (batches : Batches) (write : ℕ) → All (λ batch. IfSome batch (StandsAmong all)) batches → IfSome (batch_at batches write) (StandsAmong all)
+batch_stands all [] write stand = tt
+batch_stands all (b ∷ bs) zero stand = All-head (λ batch. IfSome batch (StandsAmong all)) b bs stand
+batch_stands all (b ∷ bs) (suc write) stand = batch_stands all bs write (All-tail (λ batch. IfSome batch (StandsAmong all)) b bs stand)
 
-none_brought : (stream : List (List ℕ)) (a : Act) → PassesNone a → brought (filled_act stream a) ≡ []
-none_brought stream (act.Pass i first n now) bare = absurd bare
-none_brought stream _ bare = refl
+pass_from : (all : Input → List (List ℕ)) (o : Option Packets) (moment : ℕ) → IfSome o (StandsAmong (all Dvr)) → IsFrom all (pass_of o moment)
+pass_from all None moment stands = refl
+pass_from all (Some batch) moment stands = stands
 
-pub event_brings_none : (stream : List (List ℕ)) (o : Option Event) (e : LogEntry) → IsEvent o e → length (brought (filled_act stream e.act)) ≡ 0
-event_brings_none stream o e is = ap (λ ps. length ps) (none_brought stream e.act (event_passes_none o e is))
+-- a client's call brings some of the packets that it plays
+pub from_client : (script : Scripted) (stream : List (List ℕ)) (client : ℕ) (w : Request) (moment : ℕ) → IsFrom (sources script stream (client + 1)) (call_of (plays_of client script) w moment)
+from_client script stream client w moment = subst (λ n. IsFrom (sources script stream n) (call_of (plays_of client script) w moment)) (sym (add-one client)) (go w) where
+  go : (w : Request) → IsFrom (sources script stream (suc client)) (call_of (plays_of client script) w moment)
+  go (Pass write) =
+      pass_from (sources script stream (suc client)) (batch_at (plays_of client script) write) moment
+      (batch_stands (played client script) (plays_of client script) write (are_placed (writes_of client script.writes)))
+  go (Own Open) = tt
+  go _ = tt
+
+-- the same with its number behind another
+pub is_from : (script : Scripted) (stream : List (List ℕ)) (client : ℕ) (w : Request) (moment : ℕ) → IsFrom (sources script stream (suc client)) (call_of (plays_of client script) w moment)
+is_from script stream client w moment = subst (λ n. IsFrom (sources script stream n) (call_of (plays_of client script) w moment)) (add-one client) (from_client script stream client w moment)
+
+-- ------ how many
+
+-- how many packets a call brings
+abbrev pub count_of : Act → ℕ
+count_of (act.Pass input first count now) = count
+count_of _ = 0
+
+pub brings_few : (packets : Input → List (List ℕ)) (a : Act) → length (brought (filled_act packets a)) ≤ count_of a
+brings_few packets (act.Pass input first count now) = omega (arith, length-take count (drop first (packets input)))
+brings_few packets _ = omega arith

@@ -1,8 +1,7 @@
 -- The packets that a node's history brings and the bytes that it answers, entry by entry.
-use Rattle.std.proofs.Common.{◌≡◌, ◌≢◌, refl, sym, ap, subst, ℕ, suc, ◌+◌, ◌*◌, ◌≤◌, Bool, true, false, nat_eq, nat_lt, List, [], ◌∷◌, ◌++◌, length, map, filter, drop, arith, length-append, length-take}
+use Rattle.std.proofs.Common.{◌≡◌, refl, sym, ap, subst, ℕ, suc, ◌+◌, ◌*◌, ◌≤◌, Bool, true, false, nat_eq, nat_lt, List, [], ◌∷◌, ◌++◌, length, map, filter, drop, arith, length-append}
 use Rattle.std.specs.Prelude.{sum, if◌then◌else◌}
 use Rattle.std.specs.List.{All}
-use Rattle.std.proofs.lemmas.Bool.Decides.{nat_tests}
 use Rattle.std.proofs.lemmas.List.{reverse-append, length-map}
 use Rattle.std.proofs.lemmas.List.Sums.{sum_by-cons}
 use Rattle.std.proofs.lemmas.List.Elements.{All-nil, All-append, All-take, All-drop, All-head, All-tail}
@@ -12,13 +11,15 @@ use Rattle.dmx_calls.specs.declared.log.Act.TheVariants as act
 use Rattle.dmx_calls.specs.declared.limits.TheConstants.{DEMUX_NODES}
 use Rattle.dmx_calls.specs.Invocation.{brought}
 use Rattle.dmx_calls.specs.History.{Entry, History, brought_by}
-use Rattle.dmx_calls.specs.Log.{LogEntry, filled_act, filled_entry, filled}
+use Rattle.dmx_calls.specs.Log.{LogEntry, Sources, filled, filled_act, filled_entry}
+use Rattle.dmx_calls.specs.declared.params.Input.{Input}
 use Rattle.dmx_calls.specs.Rules.{demux, dvr, rules_at}
 use Rattle.dmx_calls.specs.Legal.{IsLegalFor}
 use Rattle.dmx_calls.specs.Bytes.{bytes_answered}
 use Rattle.dmx_calls.proofs.Bytes.{demux_answers_fit, dvr_answers_fit}
 use Rattle.script_run.specs.Budget.{bytes_in}
 use Rattle.script_run.specs.IsRun.{Batch, Step, feeding, steps_of}
+use Rattle.script_run.proofs.Events.{brings_few, count_of}
 use Rattle.script_run.proofs.Counting.{sum_of, weigh_append, weigh_reverse, weigh_map}
 use Rattle.script_run.proofs.ReadReplies.{bytes_same}
 
@@ -45,79 +46,76 @@ answers_fit node h legal are = go (nat_lt node DEMUX_NODES) legal where
   go true l = demux_answers_fit h l are
   go false l = dvr_answers_fit h l are
 
--- ------ filled with the packets of the stream
+-- ------ filled with the packets that passes bring
 
-module _ (stream : List (List ℕ)) where
-  -- the packets that a call brings
-  abbrev act_packets : Act → ℕ
-  act_packets a = length (brought (filled_act stream a))
+-- how many packets an entry brings
+abbrev pub packets_of : LogEntry → ℕ
+packets_of e = count_of e.act
 
-  abbrev step_packets : Step → ℕ
-  step_packets s = act_packets s.act
+abbrev step_packets : Step → ℕ
+step_packets s = count_of s.act
 
-  abbrev packets_of : LogEntry → ℕ
-  packets_of e = act_packets e.act
+fed_packets : (first step : ℕ) (bs : List Batch) → sum_of step_packets (feeding first step bs) ≤ sum (map (λ b. b.size) bs)
+fed_packets first step [] = omega arith
+fed_packets first step (b ∷ bs) = omega (arith, sum_by-cons (λ n. n) b.size (map (λ b. b.size) bs), fed_packets (first + b.size) (suc step) bs)
 
-  fed_packets : (first step : ℕ) (bs : List Batch) → sum_of step_packets (feeding first step bs) ≤ sum (map (λ b. b.size) bs)
-  fed_packets first step [] = omega arith
-  fed_packets first step (b ∷ bs) = omega (arith, length-take b.size (drop first stream), sum_by-cons (λ n. n) b.size (map (λ b. b.size) bs), fed_packets (first + b.size) (suc step) bs)
+-- the feeder brings no more than the batches have
+pub feeder_brings : (es : List LogEntry) (bs : List Batch) → (later : List Step) × (steps_of 0 es ++ later ≡ feeding 0 0 bs) → sum_of packets_of (filter (λ e. nat_eq e.who 0) es) ≤ sum (map (λ b. b.size) bs)
+feeder_brings es bs fed =
+    omega (
+      arith,
+      weigh_map step_packets (λ (e : LogEntry). step_at e) packets_of (λ e. refl) (filter (λ e. nat_eq e.who 0) es),
+      weigh_append step_packets (steps_of 0 es) fed.0,
+      ap (sum_of step_packets) fed.1,
+      fed_packets 0 0 bs,
+    ) where
+      step_at : LogEntry → Step
+      step_at e = record { step = e.step; act = e.act }
 
-  -- only the feeder brings packets
-  abbrev pub OnlyFeederBrings : List LogEntry → Type 0
-  OnlyFeederBrings [] = Unit {0}
-  OnlyFeederBrings (e ∷ es) = (e.who ≢ 0 → packets_of e ≡ 0) × OnlyFeederBrings es
+module _ (packets : Sources) (are : (who : ℕ) (input : Input) → All IsPacket (packets who input)) where
+  act_brings : (who : ℕ) (a : Act) → All IsPacket (brought (filled_act (packets who) a))
+  act_brings who (act.Pass input first count now) = All-take IsPacket count (drop first (packets who input)) (All-drop IsPacket first (packets who input) (are who input))
+  act_brings who _ = All-nil IsPacket
 
-  by_feeder : (es : List LogEntry) → OnlyFeederBrings es → sum_of packets_of es ≤ sum_of step_packets (steps_of 0 es)
-  by_feeder [] only = omega arith
-  by_feeder (e ∷ es) only = go (by_feeder es only.1) (nat_eq e.who 0) refl where
-    go : sum_of packets_of es ≤ sum_of step_packets (steps_of 0 es) → (b : Bool) → nat_eq e.who 0 ≡ b
-        → packets_of e + sum_of packets_of es ≤ sum_of step_packets (map (λ e. record { step = e.step; act = e.act }) (if b then e ∷ filter (λ e. nat_eq e.who 0) es else filter (λ e. nat_eq e.who 0) es))
-    go deeper true yea = omega (arith, deeper)
-    go deeper false nay = omega (arith, deeper, only.0 (λ is. grind (arith, nat_tests, nay, is)))
+  -- each entry brings packets
+  abbrev BringPackets : History → Type 0
+  BringPackets [] = Unit {0}
+  BringPackets (e ∷ h) = All IsPacket (brought e.invocation) × BringPackets h
 
-  module _ (are : All IsPacket stream) where
-    act_brings : (a : Act) → All IsPacket (brought (filled_act stream a))
-    act_brings (act.Pass input first count now) = All-take IsPacket count (drop first stream) (All-drop IsPacket first stream are)
-    act_brings _ = All-nil IsPacket
+  both_bring : (g h : History) → BringPackets g → BringPackets h → BringPackets (g ++ h)
+  both_bring [] h a b = b
+  both_bring (e ∷ g) h a b = (a.0, both_bring g h a.1 b)
 
-    -- each entry brings packets
-    abbrev BringPackets : History → Type 0
-    BringPackets [] = Unit {0}
-    BringPackets (e ∷ h) = All IsPacket (brought e.invocation) × BringPackets h
+  filled_brings : (es : List LogEntry) → BringPackets (filled packets es)
+  filled_brings [] = tt
+  filled_brings (e ∷ es) =
+      subst BringPackets (sym (reverse-append (filled_entry packets e ∷ []) (map (filled_entry packets) es)))
+      (both_bring (filled packets es) (filled_entry packets e ∷ []) (filled_brings es) (act_brings e.who e.act, tt))
 
-    both_bring : (g h : History) → BringPackets g → BringPackets h → BringPackets (g ++ h)
-    both_bring [] h a b = b
-    both_bring (e ∷ g) h a b = (a.0, both_bring g h a.1 b)
+  all_brought : (h : History) → BringPackets h → All IsPacket (brought_by h)
+  all_brought [] bring = All-nil IsPacket
+  all_brought (e ∷ h) bring = All-append IsPacket (brought_by h) (brought e.invocation) (all_brought h bring.1) bring.0
 
-    filled_brings : (es : List LogEntry) → BringPackets (filled stream es)
-    filled_brings [] = tt
-    filled_brings (e ∷ es) =
-        subst BringPackets (sym (reverse-append (filled_entry stream e ∷ []) (map (filled_entry stream) es)))
-        (both_bring (filled stream es) (filled_entry stream e ∷ []) (filled_brings es) (act_brings e.act, tt))
+  few_packets : (es : List LogEntry) → sum_of (λ e. packets_in (filled_entry packets e)) es ≤ sum_of packets_of es
+  few_packets [] = omega arith
+  few_packets (e ∷ es) = omega (arith, brings_few (packets e.who) e.act, few_packets es)
 
-    all_packets : (h : History) → BringPackets h → All IsPacket (brought_by h)
-    all_packets [] bring = All-nil IsPacket
-    all_packets (e ∷ h) bring = All-append IsPacket (brought_by h) (brought e.invocation) (all_packets h bring.1) bring.0
-
-    -- The node is brought no more packets than the batches have, and answers no more bytes than they have.
-    pub bytes_fit : (node : ℕ) (es : List LogEntry) (bs : List Batch) (packets : ℕ) → IsLegalFor (rules_at node) (filled stream es) → OnlyFeederBrings es
-        → (later : List Step) × (steps_of 0 es ++ later ≡ feeding 0 0 bs) → sum (map (λ b. b.size) bs) ≤ packets → sum_of (λ e. bytes_in e.response) es ≤ 188 * packets
-    bytes_fit node es bs packets legal only fed le =
-        omega (
-          arith,
-          answers_fit node (filled stream es) legal (all_packets (filled stream es) (filled_brings es)),
-          count_bytes (filled stream es),
-          weigh_reverse answers_in (map (filled_entry stream) es),
-          weigh_map answers_in (filled_entry stream) (λ e. bytes_in e.response) (λ e. refl) es,
-          count_brought (filled stream es),
-          weigh_reverse packets_in (map (filled_entry stream) es),
-          weigh_map packets_in (filled_entry stream) packets_of (λ e. refl) es,
-          by_feeder es only,
-          weigh_append step_packets (steps_of 0 es) fed.0,
-          ap (sum_of step_packets) fed.1,
-          fed_packets 0 0 bs,
-          le,
-        )
+  -- The node answers no more bytes than the packets have that its entries bring.
+  pub bytes_fit : (node : ℕ) (es : List LogEntry) (most : ℕ) → IsLegalFor (rules_at node) (filled packets es) → sum_of packets_of es ≤ most
+      → sum_of (λ e. bytes_in e.response) es ≤ 188 * most
+  bytes_fit node es most legal le =
+      omega (
+        arith,
+        answers_fit node (filled packets es) legal (all_brought (filled packets es) (filled_brings es)),
+        count_bytes (filled packets es),
+        weigh_reverse answers_in (map (filled_entry packets) es),
+        weigh_map answers_in (filled_entry packets) (λ e. bytes_in e.response) (λ e. refl) es,
+        count_brought (filled packets es),
+        weigh_reverse packets_in (map (filled_entry packets) es),
+        weigh_map packets_in (filled_entry packets) (λ e. packets_in (filled_entry packets e)) (λ e. refl) es,
+        few_packets es,
+        le,
+      )
 
 -- ------ how many entries the feeder has made
 

@@ -5,5 +5,8 @@ pub mod Events
 pub mod ReadReplies
 pub mod HistoryBytes
 pub mod Repeating
+pub mod OnNodes
+pub mod Passing
+pub mod Played
 pub mod Paying
 pub mod Ending

@@ -1,6 +1,6 @@
 -- At each moment of a run, the commands and the bytes pay for the calls of a client: a repeat that follows bytes is paid for by
 -- them, and a repeat that follows Again by the entry right behind the read, which is the feeder's or adds no repeat to its own client's.
-use Rattle.std.proofs.Common.{◌≡◌, ◌≢◌, refl, sym, ap, subst, ◌∙◌, ℕ, zero, suc, ◌+◌, ◌*◌, ◌<◌, ◌≤◌, Bool, true, false, nat_eq, List, [], ◌∷◌, ◌++◌, Some, length, filter, take, slice_get, inl, inr, arith}
+use Rattle.std.proofs.Common.{◌≡◌, ◌≢◌, refl, sym, ap, subst, ◌∙◌, ℕ, zero, suc, ◌+◌, ◌*◌, ◌<◌, ◌≤◌, Bool, true, false, nat_eq, List, [], ◌∷◌, ◌++◌, Option, Some, None, length, filter, take, slice_get, inl, inr, arith}
 use Rattle.std.specs.Prelude.{◌⊎◌, if◌then◌else◌}
 use Rattle.std.specs.List.{All}
 use Rattle.std.proofs.lemmas.Bool.Decides.{nat_tests}
@@ -10,8 +10,7 @@ use Rattle.lemmas.specs.Lists.{Has}
 use Rattle.lemmas.proofs.Lists.{at_place, one_value, has_at}
 use Rattle.ts_packet.specs.Fields.{IsPacket}
 use Rattle.dmx_calls.specs.declared.reply.Errno.TheVariants.{Ebadf}
-use Rattle.dmx_calls.specs.Invocation.{brought}
-use Rattle.dmx_calls.specs.Log.{LogEntry, filled_act, filled_entry}
+use Rattle.dmx_calls.specs.Log.{LogEntry, Sources, act_of, filled_act, filled_entry}
 use Rattle.dmx_calls.specs.Owning.{HasRead}
 use Rattle.dmx_calls.specs.Response.{Response, Refused}
 use Rattle.client_script.specs.declared.line.Line.{Line}
@@ -20,50 +19,104 @@ use Rattle.client_script.specs.declared.line.Target.{Target}
 use Rattle.client_script.specs.declared.line.Verb.{Verb}
 use Rattle.client_script.specs.Script.{clients_in, Scripted}
 use Rattle.client_core.specs.declared.command.Command.{Command as ClientCommand}
-use Rattle.client_core.specs.Commands.{commands_among, ends_drain}
-use Rattle.client_core.specs.Events.{next_event}
-use Rattle.script_run.specs.Budget.{all_commands, most_calls, bytes_in}
-use Rattle.script_run.specs.IsRun.{IsEvent, StandsIn, replies}
+use Rattle.client_core.specs.declared.event.Event.{Event}
+use Rattle.client_core.specs.declared.event.Request.{Request}
+use Rattle.client_core.specs.declared.event.Request.TheVariants.{Own, Pass}
+use Rattle.client_script.specs.declared.line.Want.TheVariants.{Open}
+use Rattle.ts_batch.specs.Batch.{Packets}
+use Rattle.dvr_play.specs.Laws.{packets_in}
+use Rattle.client_core.specs.Deeds.{Batches, batch_at, deed_of}
+use Rattle.client_core.specs.Commands.{call_of, commands_among, commands_of, ends_drain, pass_of, played, plays_of}
+use Rattle.client_core.specs.Events.{next_event, no_slots}
+use Rattle.script_run.specs.Budget.{all_commands, bytes_in, most_calls}
+use Rattle.script_run.specs.IsRun.{IsEvent, StandsIn, replies, sources}
 use Rattle.script_run.specs.SoFar.{Payers, feeder, others, MayPay, IsPaidBehind, HasDoneSoFar, IsSoFar, commands_for, CallsArePaid}
 use Rattle.script_run.proofs.Lists.{has_filter}
-use Rattle.script_run.proofs.Counting.{total, total_le, total_add, total_same, total_33, total_but, total_one, one_at, but, sum_of, Pool, both, all_pools, HaveTokens, counts_fit}
+use Rattle.script_run.proofs.Counting.{total, total_le, total_add, total_same, total_33, total_but, total_one, one_at, but, sum_of, Pool, both, all_pools, HaveTokens, counts_fit, weigh_places, weight_at, weight_got}
 use Rattle.script_run.proofs.ReadReplies.{read_there, next_is_refused}
-use Rattle.script_run.proofs.HistoryBytes.{OnlyFeederBrings, bytes_fit, feeder_long}
-use Rattle.script_run.proofs.Events.{event_brings_none}
+use Rattle.script_run.proofs.HistoryBytes.{bytes_fit, feeder_brings, feeder_long, packets_of}
+use Rattle.script_run.proofs.Events.{all_packets, count_of}
+use Rattle.script_run.proofs.Played.{all_few, named_once}
+use Rattle.script_run.proofs.Passing.{asked_to, from_worth, passes_by, worth_all, worth_of}
 use Rattle.script_run.proofs.Repeating.{adds, quiet, IsGoing, going, quiet_calls, grows, but_one, calls_and_repeats, by_bytes, by_again, both_kinds, bytes_pay, IsWaiting, waiting}
 
 -- ------ the commands of all clients
 
-abbrev commands_by : (lines : List Line) → ℕ → ℕ
-commands_by lines c = length (commands_among c lines)
+abbrev commands_by : Scripted → (lines : List Line) → ℕ → ℕ
+commands_by script lines c = length (commands_among c (plays_of c script) lines)
 
 -- a line's command is one client's
-one_command : (line who : ℕ) (target : Target) (verb : Verb) (lines : List Line) (c : ℕ) → commands_by (Command line who target verb ∷ lines) c ≤ commands_by lines c + one_at who c
-one_command line who target verb lines c = go (nat_eq who c) refl where
+one_command : (script : Scripted) (line who : ℕ) (target : Target) (verb : Verb) (lines : List Line) (c : ℕ) → commands_by script (Command line who target verb ∷ lines) c ≤ commands_by script lines c + one_at who c
+one_command script line who target verb lines c = go (nat_eq who c) refl where
   one : ClientCommand
-  one = record { line = line; target = target; verb = verb }
+  one = record { line = line; target = target; deed = deed_of (plays_of c script) verb }
 
-  go : (b : Bool) → nat_eq who c ≡ b → length ((if b then one ∷ [] else []) ++ commands_among c lines) ≤ commands_by lines c + one_at who c
+  go : (b : Bool) → nat_eq who c ≡ b → length ((if b then one ∷ [] else []) ++ commands_among c (plays_of c script) lines) ≤ commands_by script lines c + one_at who c
   go true yea = let here : nat_eq c who ≡ true = grind (arith, nat_tests, yea) in rw here (omega arith)
   go false nay = omega arith
 
 -- all clients have no more commands than the script
-pub commands_shared : (lines : List Line) (n : ℕ) → total (commands_by lines) n ≤ all_commands lines
-commands_shared [] n = omega (arith, total_same 0 n)
-commands_shared (Feed count ∷ lines) n = commands_shared lines n
-commands_shared (Tick time ∷ lines) n = commands_shared lines n
-commands_shared (Command line who target verb ∷ lines) n =
+pub commands_shared : (script : Scripted) (lines : List Line) (n : ℕ) → total (commands_by script lines) n ≤ all_commands lines
+commands_shared script [] n = omega (arith, total_same 0 n)
+commands_shared script (Feed count ∷ lines) n = commands_shared script lines n
+commands_shared script (Tick time ∷ lines) n = commands_shared script lines n
+commands_shared script (Command line who target verb ∷ lines) n =
     omega (
       arith,
-      total_le (commands_by (Command line who target verb ∷ lines)) (λ c. commands_by lines c + one_at who c) n (λ c lt. one_command line who target verb lines c),
-      total_add (commands_by lines) (one_at who) n,
+      total_le (commands_by script (Command line who target verb ∷ lines)) (λ c. commands_by script lines c + one_at who c) n (λ c lt. one_command script line who target verb lines c),
+      total_add (commands_by script lines) (one_at who) n,
       total_one who n,
-      commands_shared lines n,
+      commands_shared script lines n,
     )
 
 -- the first calls of a client
-abbrev firsts : List Line → ℕ → ℕ
-firsts lines d = 33 * commands_by lines d
+abbrev firsts : Scripted → ℕ → ℕ
+firsts script d = 33 * commands_by script script.lines d
+
+-- ------ the packets that clients play
+
+-- how many packets a write of a client has
+abbrev write_size : Batches → (write : ℕ) → ℕ
+write_size batches write = length (packets_in (batch_at batches write))
+
+-- how many packets a client's writes in these lines have
+abbrev pub plays_by : Scripted → (lines : List Line) → ℕ → ℕ
+plays_by script lines c = sum_of (λ (x : ClientCommand). worth_of (write_size (plays_of c script)) x.deed) (commands_among c (plays_of c script) lines)
+
+-- how many packets a call on a node brings
+abbrev brings_on : (node : ℕ) → LogEntry → ℕ
+brings_on node e = if nat_eq e.node node then packets_of e else 0
+
+brings_less : (node : ℕ) (e : LogEntry) → brings_on node e ≤ packets_of e
+brings_less node e = go (nat_eq e.node node) where
+  go : (b : Bool) → (if b then packets_of e else 0) ≤ packets_of e
+  go true = omega arith
+  go false = omega arith
+
+pass_size : (o : Option Packets) (moment : ℕ) → count_of (act_of (pass_of o moment)) ≡ length (packets_in o)
+pass_size None moment = refl
+pass_size (Some batch) moment = refl
+
+zero_either : (b : Bool) → (if b then 0 else 0) ≤ 0
+zero_either true = omega arith
+zero_either false = omega arith
+
+asked_size : (batches : Batches) (node at moment : ℕ) (w : Request) → (if nat_eq at node then count_of (act_of (call_of batches w moment)) else 0) ≤ sum_of (write_size batches) (asked_to node at w)
+asked_size batches node at moment (Pass write) = go (nat_eq at node) where
+  go : (b : Bool) → (if b then count_of (act_of (pass_of (batch_at batches write) moment)) else 0) ≤ sum_of (write_size batches) (if b then write ∷ [] else [])
+  go true = omega (arith, pass_size (batch_at batches write) moment)
+  go false = omega arith
+asked_size batches node at moment (Own Open) = zero_either (nat_eq at node)
+asked_size batches node at moment _ = zero_either (nat_eq at node)
+
+event_size : (batches : Batches) (node : ℕ) (e : LogEntry) (w : Event) (moment : ℕ) → e.node ≡ w.node → e.act ≡ act_of (call_of batches w.want moment) → brings_on node e ≤ sum_of (write_size batches) (passes_by node w)
+event_size batches node e w moment on is =
+    omega (
+      arith,
+      asked_size batches node w.node moment w.want,
+      ap (λ k. if nat_eq k node then count_of e.act else 0) on,
+      ap (λ a. if nat_eq w.node node then count_of a else 0) is,
+    )
 
 -- ------ one call
 
@@ -71,8 +124,8 @@ firsts lines d = 33 * commands_by lines d
 not_refused : (r : Response) → ends_drain r ≡ false → r ≢ Refused Ebadf
 not_refused r goes_on is = (let k : ends_drain (Refused Ebadf) ≡ false = sym (ap ends_drain is) ∙ goes_on in absurd (cc k))
 
-reads_on : (stream : List (List ℕ)) (e : LogEntry) → IsGoing e.act e.response → HasRead e.who (filled_entry stream e)
-reads_on stream e g = record { by = refl; read = (g.now, g.count, ap (filled_act stream) g.read); response = not_refused e.response g.goes_on }
+reads_on : (packets : Sources) (e : LogEntry) → IsGoing e.act e.response → HasRead e.who (filled_entry packets e)
+reads_on packets e g = record { by = refl; read = (g.now, g.count, ap (filled_act (packets e.who)) g.read); response = not_refused e.response g.goes_on }
 
 pays_not_itself : (payers : Payers) (client who : ℕ) → MayPay payers client who → who ≢ client + 1
 pays_not_itself feeder client who is same = absurd (omega (arith, is, same))
@@ -97,15 +150,6 @@ module _ (payers : Payers) (script : Scripted) (most : ℕ) (stream : List (List
         let who : e.who ≡ d + 1 = omega (arith, is) in
         record { client = d; low = low; who = who; made = λ is. (s.clients d is).only e.node e.place h e log at who }
 
-  brings_none : (e : LogEntry) → StandsIn hs e → e.who ≢ 0 → length (brought (filled_act stream e.act)) ≡ 0
-  brings_none e stands not =
-      let m : IsMade e = made_by e stands not in
-      event_brings_none stream (next_event m.client script (replies (take e.step (s.clients m.client m.low).made))) e ((s.clients m.client m.low).steps e.step e (m.made m.low)).3
-
-  only_feeder : (es : List LogEntry) → ((i : ℕ) (e : LogEntry) → slice_get es i ≡ Some e → StandsIn hs e) → OnlyFeederBrings stream es
-  only_feeder [] each = tt
-  only_feeder (e ∷ es) each = (λ not. brings_none e (each 0 e refl) not, only_feeder es (λ i x at. each (suc i) x at))
-
   -- the entry at a place of a node's history stands in the histories
   stands_at : (node : ℕ) (h : List LogEntry) → slice_get hs node ≡ Some h → (i : ℕ) (e : LogEntry) → slice_get h i ≡ Some e → StandsIn hs e
   stands_at node h log i e at =
@@ -127,18 +171,92 @@ module _ (payers : Payers) (script : Scripted) (most : ℕ) (stream : List (List
   abbrev bytes_of : LogEntry → ℕ
   bytes_of e = bytes_in e.response
 
+  -- ------ what clients play
+
+  -- an entry of a client
+  abbrev IsClients : (client : ℕ) → LogEntry → Type 0
+  IsClients client e = (low : client < clients_in script) → Has (s.clients client low).made e
+
+  -- no more packets stand behind a client's entries on a node than its writes have
+  client_brings : (node client : ℕ) → client < clients_in script → Pool (brings_on node) (IsClients client) (plays_by script script.lines client)
+  client_brings node client low =
+      let batches : Batches = plays_of client script in
+      let made : List LogEntry = (s.clients client low).made in
+      record {
+        tokens = made;
+        within = omega (
+          arith,
+          worth_all script client made (λ i e at. ((s.clients client low).steps i e at).3) node (brings_on node) (write_size batches) (event_size batches node),
+          from_worth node (write_size batches) no_slots 0 (commands_of client script) (replies made),
+        );
+        all = λ t is. is low;
+      }
+
+  abbrev SomeClients : LogEntry → Type 0
+  SomeClients e = (client : ℕ) × (client < clients_in script) × IsClients client e
+
+  clients_bring : (node : ℕ) → Pool (brings_on node) SomeClients (total (plays_by script script.lines) (clients_in script))
+  clients_bring node = all_pools (brings_on node) IsClients (plays_by script script.lines) (clients_in script) (client_brings node)
+
+  -- those of the feeder
+  feeders_bring : (node : ℕ) (h : List LogEntry) → slice_get hs node ≡ Some h → Pool (brings_on node) (λ e. Has h e × (e.who ≡ 0)) (length stream)
+  feeders_bring node h log = record {
+    tokens = filter (λ e. nat_eq e.who 0) h;
+    within = omega (arith, all_less node (filter (λ e. nat_eq e.who 0) h), feeder_brings h s.fed.batches (s.fed.on_each node h log), s.fed.within);
+    all = λ t is. has_filter (λ e. nat_eq e.who 0) h t (grind (arith, nat_tests, is.1)) is.0;
+  } where
+    all_less : (node : ℕ) (es : List LogEntry) → sum_of (brings_on node) es ≤ sum_of packets_of es
+    all_less node [] = omega arith
+    all_less node (e ∷ es) = omega (arith, brings_less node e, all_less node es)
+
+  -- the packets that pass a node
+  abbrev pub most_packets : ℕ
+  most_packets = length stream + total (plays_by script script.lines) (clients_in script)
+
+  abbrev IsOfEither : List LogEntry → LogEntry → Type 0
+  IsOfEither h e = (Has h e × (e.who ≡ 0)) ⊎ SomeClients e
+
+  node_brings : (node : ℕ) (h : List LogEntry) → slice_get hs node ≡ Some h → sum_of packets_of h ≤ most_packets
+  node_brings node h log = omega (arith, on_node h (λ i e at. (s.places node i h e log at).0), weigh_places (brings_on node) h, counts_fit (brings_on node) (length h) (weight_at (brings_on node) h) (λ i t. slice_get h i ≡ Some t) pool.tokens tokens, pool.within) where
+    pool : Pool (brings_on node) (IsOfEither h) most_packets
+    pool = both (brings_on node) (λ e. Has h e × (e.who ≡ 0)) SomeClients (length stream) (total (plays_by script script.lines) (clients_in script)) (feeders_bring node h log) (clients_bring node)
+
+    on_node : (es : List LogEntry) → ((i : ℕ) (e : LogEntry) → slice_get es i ≡ Some e → e.node ≡ node) → sum_of packets_of es ≤ sum_of (brings_on node) es
+    on_node [] each = omega arith
+    on_node (e ∷ es) each =
+        let here : nat_eq e.node node ≡ true = (let same : e.node ≡ node = each 0 e refl in grind (arith, nat_tests, same)) in
+        let one : brings_on node e ≡ packets_of e = ap (λ b. if b then packets_of e else 0) here in
+        omega (arith, one, on_node es (λ i x at. each (suc i) x at))
+
+    kind : (e : LogEntry) → StandsIn hs e → Has h e → (b : Bool) → nat_eq e.who 0 ≡ b → IsOfEither h e
+    kind e stands has true yea = inl (has, grind (arith, nat_tests, yea))
+    kind e stands has false nay =
+        let m : IsMade e = made_by e stands (λ none. grind (arith, nat_tests, nay, none)) in
+        inr (m.client, m.low, (λ low. has_at (s.clients m.client low).made e e.step (m.made low)))
+
+    there : (i : ℕ) → i < length h → (t : LogEntry) × Has pool.tokens t × (weight_at (brings_on node) h i ≤ brings_on node t) × (slice_get h i ≡ Some t)
+    there i lt =
+        let x = at_place h i lt in
+        (x.0, pool.all x.0 (kind x.0 (stands_at node h log i x.0 x.1) (has_at h x.0 i x.1) (nat_eq x.0.who 0) refl), omega (arith, weight_got (brings_on node) h i x.0 x.1), x.1)
+
+    twice : (i j : ℕ) (t : LogEntry) → i < j → slice_get h i ≡ Some t → slice_get h j ≡ Some t → ⊥
+    twice i j t less a b = omega (arith, less, (s.places node i h t log a).1, (s.places node j h t log b).1)
+
+    tokens : HaveTokens (brings_on node) (length h) (weight_at (brings_on node) h) (λ i t. slice_get h i ≡ Some t) pool.tokens
+    tokens = record { differ = λ i j t less lt a b. twice i j t less a b; has = λ i lt more. there i lt }
+
   module _ (are : All IsPacket stream) where
-    bytes_at : (node : ℕ) → node < 33 → Pool bytes_of (StandsOn node) (188 * length stream)
+    bytes_at : (node : ℕ) → node < 33 → Pool bytes_of (StandsOn node) (188 * most_packets)
     bytes_at node lt =
         let h = at_place hs node (omega (arith, lt, s.nodes)) in
         record {
           tokens = h.0;
-          within = bytes_fit stream are node h.0 s.fed.batches (length stream) (s.legal node h.0 h.1) (only_feeder h.0 (stands_at node h.0 h.1)) (s.fed.on_each node h.0 h.1) s.fed.within;
+          within = bytes_fit (sources script stream) (all_packets script stream are) node h.0 most_packets (s.legal node h.0 h.1) (node_brings node h.0 h.1);
           all = λ t is. subst (λ l. Has l t) (one_value hs node is.0 h.0 is.1 h.1) is.2;
         }
 
-    all_bytes : Pool bytes_of (λ t. (node : ℕ) × (node < 33) × StandsOn node t) (total (λ node. 188 * length stream) 33)
-    all_bytes = all_pools bytes_of StandsOn (λ node. 188 * length stream) 33 bytes_at
+    all_bytes : Pool bytes_of (λ t. (node : ℕ) × (node < 33) × StandsOn node t) (total (λ node. 188 * most_packets) 33)
+    all_bytes = all_pools bytes_of StandsOn (λ node. 188 * most_packets) 33 bytes_at
 
   abbrev is_feeder : LogEntry → Bool
   is_feeder e = nat_eq e.who 0
@@ -183,10 +301,10 @@ module _ (payers : Payers) (script : Scripted) (most : ℕ) (stream : List (List
     abbrev OtherPays : LogEntry → Type 0
     OtherPays e = (d : ℕ) × (d < clients_in script) × ClientPays d e
 
-    events : (d : ℕ) (low : d < clients_in script) (i : ℕ) (e : LogEntry) → slice_get (s.clients d low).made i ≡ Some e → IsEvent (next_event d script (replies (take i (s.clients d low).made))) e
+    events : (d : ℕ) (low : d < clients_in script) (i : ℕ) (e : LogEntry) → slice_get (s.clients d low).made i ≡ Some e → IsEvent (plays_of d script) (next_event d script (replies (take i (s.clients d low).made))) e
     events d low i e at = ((s.clients d low).steps i e at).3
 
-    client_at : (d : ℕ) → d < clients_in script → (same : Bool) → nat_eq d c ≡ same → Pool quiet (ClientPays d) (if same then 0 else firsts script.lines d)
+    client_at : (d : ℕ) → d < clients_in script → (same : Bool) → nat_eq d c ≡ same → Pool quiet (ClientPays d) (if same then 0 else firsts script d)
     client_at d low true yea = record { tokens = []; within = omega arith; all = λ t pays. absurd (pays.0 (grind (arith, nat_tests, yea))) }
     client_at d low false nay = record {
       tokens = (s.clients d low).made;
@@ -194,8 +312,8 @@ module _ (payers : Payers) (script : Scripted) (most : ℕ) (stream : List (List
       all = λ t pays. pays.1 low;
     }
 
-    other_pool : Pool quiet OtherPays (total (but c (firsts script.lines)) (clients_in script))
-    other_pool = all_pools quiet ClientPays (but c (firsts script.lines)) (clients_in script) (λ d low. client_at d low (nat_eq d c) refl)
+    other_pool : Pool quiet OtherPays (total (but c (firsts script)) (clients_in script))
+    other_pool = all_pools quiet ClientPays (but c (firsts script)) (clients_in script) (λ d low. client_at d low (nat_eq d c) refl)
 
     -- ------ the entry behind a read
 
@@ -207,8 +325,8 @@ module _ (payers : Payers) (script : Scripted) (most : ℕ) (stream : List (List
         let one : xs.0 ≡ es.0 = one_value hs e.node xs.0 es.0 there es.1 in
         let next : x.place ≡ suc e.place = omega (arith, place) in
         absurd (
-        next_is_refused e.node stream es.0 (s.legal e.node es.0 es.1) e.place e x es.2 (subst (λ l. slice_get l (suc e.place) ≡ Some x) one (ap (λ k. slice_get xs.0 k) (sym next) ∙ xs.2)) differ
-        (reads_on stream e on) (reads_on stream x (going x.act x.response (omega (arith, more))))
+        next_is_refused e.node (sources script stream) es.0 (s.legal e.node es.0 es.1) e.place e x es.2 (subst (λ l. slice_get l (suc e.place) ≡ Some x) one (ap (λ k. slice_get xs.0 k) (sym next) ∙ xs.2)) differ
+        (reads_on (sources script stream) e on) (reads_on (sources script stream) x (going x.act x.response (omega (arith, more))))
         )
 
     abbrev my_bytes : ℕ → ℕ
@@ -219,8 +337,8 @@ module _ (payers : Payers) (script : Scripted) (most : ℕ) (stream : List (List
 
     -- ------ bytes
 
-    bytes_count : All IsPacket stream → (k : ℕ) → k ≤ length me.made → total my_bytes k ≤ 33 * (188 * length stream)
-    bytes_count are k le = omega (arith, counts_fit bytes_of k my_bytes (λ i t. slice_get me.made i ≡ Some t) (all_bytes are).tokens tokens, (all_bytes are).within, total_same (188 * length stream) 33) where
+    bytes_count : All IsPacket stream → (k : ℕ) → k ≤ length me.made → total my_bytes k ≤ 33 * (188 * most_packets)
+    bytes_count are k le = omega (arith, counts_fit bytes_of k my_bytes (λ i t. slice_get me.made i ≡ Some t) (all_bytes are).tokens tokens, (all_bytes are).within, total_same (188 * most_packets) 33) where
       twice : (i j : ℕ) (t : LogEntry) → i < j → slice_get me.made i ≡ Some t → slice_get me.made j ≡ Some t → ⊥
       twice i j t less a b = let up = me.in_order i j t t less a b refl in omega (arith, up)
 
@@ -229,7 +347,7 @@ module _ (payers : Payers) (script : Scripted) (most : ℕ) (stream : List (List
           let stands = (me.steps i e at).2 in (
             e,
             (all_bytes are).all e (stands_on e stands),
-            bytes_pay script c me.made (events c is) i e at (λ now count read. read_there e.node stream stands.0 (s.legal e.node stands.0 stands.1) e.place e now count stands.2 read) more,
+            bytes_pay script c me.made (events c is) i e at (λ now count read. read_there e.node (sources script stream) stands.0 (s.legal e.node stands.0 stands.1) e.place e now count stands.2 read) more,
             at,
           )
 
@@ -270,12 +388,12 @@ module _ (payers : Payers) (script : Scripted) (most : ℕ) (stream : List (List
 
       -- ------ the bound
 
-      within_to : firsts script.lines c + bound ≤ 33 * commands_for payers c script + 33 * (length stream + 1) → All IsPacket stream → (n : ℕ) → length me.made ≡ n
-          → length me.made ≤ firsts script.lines c + total (grows script c me.made (events c is)) (but_one script c me.made (events c is) n) → length me.made ≤ most_calls (commands_for payers c script) (188 * length stream)
+      within_to : firsts script c + bound ≤ 33 * commands_for payers c script + 33 * (length stream + 1) → All IsPacket stream → (n : ℕ) → length me.made ≡ n
+          → length me.made ≤ firsts script c + total (grows script c me.made (events c is)) (but_one script c me.made (events c is) n) → length me.made ≤ most_calls (commands_for payers c script) (188 * most_packets)
       within_to enough are zero long few = omega (arith, long)
       within_to enough are (suc k) long few = omega (arith, few, both_kinds script c me.made (events c is) k, bytes_count are k (omega (arith, long)), again_count k (omega (arith, long)), enough)
 
-      pub within : firsts script.lines c + bound ≤ 33 * commands_for payers c script + 33 * (length stream + 1) → All IsPacket stream → length me.made ≤ most_calls (commands_for payers c script) (188 * length stream)
+      pub within : firsts script c + bound ≤ 33 * commands_for payers c script + 33 * (length stream + 1) → All IsPacket stream → length me.made ≤ most_calls (commands_for payers c script) (188 * most_packets)
       within enough are = within_to enough are (length me.made) refl (calls_and_repeats script c me.made (events c is))
 
     feeders : (x : LogEntry) → StandsIn hs x → x.who ≡ 0 → FeederPays x
@@ -287,20 +405,32 @@ module _ (payers : Payers) (script : Scripted) (most : ℕ) (stream : List (List
         let m : IsMade x = made_by x stands (λ none. grind (arith, nat_tests, nay, none)) in
         inr (m.client, m.low, ((λ same. may (m.who ∙ ap (λ n. n + 1) same)), (λ low. has_at (s.clients m.client low).made x x.step (m.made low))))
 
-pub calls_are_paid : CallsArePaid
-calls_are_paid feeder script most stream hs s are c is =
+-- Whatever writes the lines name, the packets pay that they complete.
+pub calls_are_bounded : (payers : Payers) (script : Scripted) (most : ℕ) (stream : List (List ℕ)) (hs : List (List LogEntry)) (s : IsSoFar payers script most stream hs) → All IsPacket stream
+    → (c : ℕ) (is : c < clients_in script)
+    → length (s.clients c is).made ≤ most_calls (commands_for payers c script) (188 * (length stream + total (plays_by script script.lines) (clients_in script)))
+calls_are_bounded feeder script most stream hs s are c is =
     within feeder script most stream hs s c is (FeederPays feeder script most stream hs s) (total (λ node. length stream + 1) 33) (feeder_pool feeder script most stream hs s)
     (feeders feeder script most stream hs s c is) (omega (arith, total_same (length stream + 1) 33)) are
-calls_are_paid others script most stream hs s are c is =
+calls_are_bounded others script most stream hs s are c is =
     within others script most stream hs s c is (λ x. FeederPays others script most stream hs s x ⊎ OtherPays others script most stream hs s c is x)
-    (total (λ node. length stream + 1) 33 + total (but c (firsts script.lines)) (clients_in script))
-    (both quiet (FeederPays others script most stream hs s) (OtherPays others script most stream hs s c is) (total (λ node. length stream + 1) 33) (total (but c (firsts script.lines)) (clients_in script))
+    (total (λ node. length stream + 1) 33 + total (but c (firsts script)) (clients_in script))
+    (both quiet (FeederPays others script most stream hs s) (OtherPays others script most stream hs s c is) (total (λ node. length stream + 1) 33) (total (but c (firsts script)) (clients_in script))
     (feeder_pool others script most stream hs s) (other_pool others script most stream hs s c is))
     (λ x stands may. either others script most stream hs s c is x stands may (nat_eq x.who 0) refl)
     (omega (
       arith,
       total_same (length stream + 1) 33,
-      total_but c (firsts script.lines) (clients_in script) is,
-      total_33 (commands_by script.lines) (clients_in script),
-      commands_shared script.lines (clients_in script),
+      total_but c (firsts script) (clients_in script) is,
+      total_33 (commands_by script script.lines) (clients_in script),
+      commands_shared script script.lines (clients_in script),
     )) are
+
+pub calls_are_paid : CallsArePaid
+calls_are_paid payers script most stream hs s numbered are c is =
+    omega (
+      arith,
+      calls_are_bounded payers script most stream hs s are c is,
+      total_le (plays_by script script.lines) (λ d. length (played d script)) (clients_in script) (λ d lt. (let same : plays_by script script.lines d ≡ length (played d script) = named_once d script (numbered d) in omega (arith, same))),
+      all_few script (clients_in script),
+    )

@@ -19,7 +19,7 @@ use Rattle.dmx_calls.specs.Bytes.{OverflowNamesAByte}
 use Rattle.dmx_calls.proofs.Reading.{read_each}
 use Rattle.client_core.specs.Commands.{ends_drain}
 use Rattle.script_run.specs.Budget.{bytes_in}
-use Rattle.dmx_calls.specs.Log.{LogEntry, filled_act, filled_entry, filled}
+use Rattle.dmx_calls.specs.Log.{LogEntry, Sources, filled, filled_act, filled_entry}
 use Rattle.dmx_calls.specs.Owning.{HasRead}
 use Rattle.dmx_calls.proofs.Nodes.{demux_keeps, dvr_keeps}
 use Rattle.dmx_calls.proofs.Pending.{names_a_byte}
@@ -158,15 +158,15 @@ module _ (node : ℕ) where
       readers_call_between (rules_at node) (reverse s.front) [] one other e x
       (behind_it s.back s.front e x (subst (λ l. IsLegalFor (rules_at node) (reverse l)) s.whole legal) (s.next x there)) differ read again tt
 
-  -- ------ filled with the packets of the stream
+  -- ------ filled with the packets that passes bring
 
-  module _ (stream : List (List ℕ)) (es : List LogEntry) (legal : IsLegalFor (rules_at node) (filled stream es)) where
+  module _ (packets : Sources) (es : List LogEntry) (legal : IsLegalFor (rules_at node) (filled packets es)) where
     -- the response to a read
     pub read_there : (i : ℕ) (e : LogEntry) (now count : ℕ) → slice_get es i ≡ Some e → e.act ≡ ReadAct now count → IsAnyReadReply e.response
     read_there i e now count is read =
-        read_in (map (filled_entry stream) es) i (filled_entry stream e) now count legal (at_map (filled_entry stream) es i e is) (ap (filled_act stream) read)
+        read_in (map (filled_entry packets) es) i (filled_entry packets e) now count legal (at_map (filled_entry packets) es i e is) (ap (filled_act (packets e.who)) read)
 
     -- Right behind a read that wasn't refused a read by another is refused.
-    pub next_is_refused : (i : ℕ) (e x : LogEntry) → slice_get es i ≡ Some e → slice_get es (suc i) ≡ Some x → e.who ≢ x.who → HasRead e.who (filled_entry stream e) → HasRead x.who (filled_entry stream x) → ⊥
+    pub next_is_refused : (i : ℕ) (e x : LogEntry) → slice_get es i ≡ Some e → slice_get es (suc i) ≡ Some x → e.who ≢ x.who → HasRead e.who (filled_entry packets e) → HasRead x.who (filled_entry packets x) → ⊥
     next_is_refused i e x is next =
-        refused_in (map (filled_entry stream) es) i e.who x.who (filled_entry stream e) (filled_entry stream x) legal (at_map (filled_entry stream) es i e is) (at_map (filled_entry stream) es (suc i) x next)
+        refused_in (map (filled_entry packets) es) i e.who x.who (filled_entry packets e) (filled_entry packets x) legal (at_map (filled_entry packets) es i e is) (at_map (filled_entry packets) es (suc i) x next)

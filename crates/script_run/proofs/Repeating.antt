@@ -10,9 +10,11 @@ use Rattle.dmx_calls.specs.Response.{Response, Done, Busy, Refused, NoMemory, Da
 use Rattle.client_script.specs.Script.{Scripted}
 use Rattle.client_core.specs.declared.event.Event.{Event}
 use Rattle.client_core.specs.declared.event.Request.{Request}
-use Rattle.client_core.specs.declared.event.Request.TheVariants.{Own}
+use Rattle.client_core.specs.declared.event.Request.TheVariants.{Own, Pass}
 use Rattle.client_script.specs.declared.line.Want.TheVariants.{Open}
-use Rattle.client_core.specs.Commands.{call_of, commands_of, ends_drain}
+use Rattle.ts_batch.specs.Batch.{Packets}
+use Rattle.client_core.specs.Deeds.{Batches, batch_at}
+use Rattle.client_core.specs.Commands.{call_of, commands_of, ends_drain, pass_of, plays_of}
 use Rattle.client_core.specs.Events.{Standing, progress, next_event, waits_on, no_slots}
 use Rattle.script_run.specs.IsRun.{IsEvent, replies}
 use Rattle.client_core.specs.Repeats.{repeats}
@@ -35,9 +37,15 @@ adds_to _ r = 0
 abbrev pub adds : LogEntry → ℕ
 adds e = adds_to e.act e.response
 
-asked : (w : Request) (moment : ℕ) (r : Response) → adds_to (act_of (call_of w moment)) r ≡ added_by w r
-asked (Own Open) m r = refl
-asked _ m r = refl
+-- a pass adds none
+passed_adds : (batch : Option Packets) (moment : ℕ) (r : Response) → adds_to (act_of (pass_of batch moment)) r ≡ 0
+passed_adds None m r = refl
+passed_adds (Some batch) m r = refl
+
+asked : (batches : Batches) (w : Request) (moment : ℕ) (r : Response) → adds_to (act_of (call_of batches w moment)) r ≡ added_by w r
+asked batches (Own Open) m r = refl
+asked batches (Pass write) m r = passed_adds (batch_at batches write) m r
+asked batches _ m r = refl
 
 if_one : (b : Bool) → (if b then 0 else 1) ≤ 1
 if_one true = omega arith
@@ -79,20 +87,20 @@ again_at None = false
 again_at (Some e) = is_again e.response
 
 -- what the client's commands ask for
-pub record Asked (o : Option Event) (e : LogEntry) : Type 0 where
+pub record Asked (batches : Batches) (o : Option Event) (e : LogEntry) : Type 0 where
   pub event : Event
   pub is : o ≡ Some event
   pub node : e.node ≡ event.node
   pub moment : ℕ
-  pub act : e.act ≡ act_of (call_of event.want moment)
+  pub act : e.act ≡ act_of (call_of batches event.want moment)
 
-pub asked_by : (o : Option Event) (e : LogEntry) → IsEvent o e → Asked o e
-asked_by None e is = absurd is
-asked_by (Some event) e is = record { event = event; is = refl; node = is.0; moment = is.1.0; act = is.1.1 }
+pub asked_by : (batches : Batches) (o : Option Event) (e : LogEntry) → IsEvent batches o e → Asked batches o e
+asked_by batches None e is = absurd is
+asked_by batches (Some event) e is = record { event = event; is = refl; node = is.0; moment = is.1.0; act = is.1.1 }
 
 -- ------ along the log
 
-module _ (script : Scripted) (client : ℕ) (log : List LogEntry) (events : (i : ℕ) (e : LogEntry) → slice_get log i ≡ Some e → IsEvent (next_event client script (replies (take i log))) e) where
+module _ (script : Scripted) (client : ℕ) (log : List LogEntry) (events : (i : ℕ) (e : LogEntry) → slice_get log i ≡ Some e → IsEvent (plays_of client script) (next_event client script (replies (take i log))) e) where
   -- the repeats after so many calls
   abbrev pub repeats_after : ℕ → ℕ
   repeats_after i = repeats client script (replies (take i log))
@@ -109,11 +117,11 @@ module _ (script : Scripted) (client : ℕ) (log : List LogEntry) (events : (i :
 
   pub one_call : (i : ℕ) (e : LogEntry) → slice_get log i ≡ Some e → OneCall i e
   one_call i e is =
-      let a : Asked (next_event client script (replies (take i log))) e = asked_by (next_event client script (replies (take i log))) e (events i e is) in
+      let a : Asked (plays_of client script) (next_event client script (replies (take i log))) e = asked_by (plays_of client script) (next_event client script (replies (take i log))) e (events i e is) in
       let s = some_of (progress client script (replies (take i log))).standing a.event a.is in
       let next : replies (take (suc i) log) ≡ replies (take i log) ++ e.response ∷ [] = ap replies (take_next log i e is) ∙ map-append (λ (x : LogEntry). x.response) (take i log) (e ∷ []) in
       let more = one_reply_more client script (replies (take i log)) e.response a.event a.is in
-      let added : adds e ≡ added_by a.event.want e.response = ap (λ x. adds_to x e.response) a.act ∙ asked a.event.want a.moment e.response in
+      let added : adds e ≡ added_by a.event.want e.response = ap (λ x. adds_to x e.response) a.act ∙ asked (plays_of client script) a.event.want a.moment e.response in
       let grown : repeats_after (suc i) ≡ repeats client script (replies (take i log) ++ e.response ∷ []) = ap (λ rs. repeats client script rs) next in
       let long : length (replies (take i log)) ≡ i = length_taken (λ (x : LogEntry). x.response) log i e is in
       record {
@@ -122,10 +130,10 @@ module _ (script : Scripted) (client : ℕ) (log : List LogEntry) (events : (i :
         waits = λ again none. omega (arith, grown, more.1 again (sym (ap (λ rs. waits_on client script rs) next) ∙ none));
         stays = λ again less f there. still a s.0 s.1 s.2 (next ∙ ap (λ r. replies (take i log) ++ r ∷ []) again) less f there;
       } where
-        still : (a : Asked (next_event client script (replies (take i log))) e) (s : Standing) → (progress client script (replies (take i log))).standing ≡ Some s → s.event ≡ a.event
+        still : (a : Asked (plays_of client script) (next_event client script (replies (take i log))) e) (s : Standing) → (progress client script (replies (take i log))).standing ≡ Some s → s.event ≡ a.event
             → replies (take (suc i) log) ≡ replies (take i log) ++ Again false ∷ [] → repeats_after i < repeats_after (suc i) → (f : LogEntry) → slice_get log (suc i) ≡ Some f → f.node ≡ e.node
         still a s stood same next less f there =
-            let b : Asked (next_event client script (replies (take (suc i) log))) f = asked_by (next_event client script (replies (take (suc i) log))) f (events (suc i) f there) in
+            let b : Asked (plays_of client script) (next_event client script (replies (take (suc i) log))) f = asked_by (plays_of client script) (next_event client script (replies (take (suc i) log))) f (events (suc i) f there) in
             let t = some_of (progress client script (replies (take (suc i) log))).standing b.event b.is in
             let kept : t.0.event.node ≡ s.event.node =
             stays_on client script (replies (take i log)) s stood (subst (λ rs. repeats_after i < repeats client script rs) next less) t.0 (sym (ap (λ rs. (progress client script rs).standing) next) ∙ t.1) in

@@ -1,16 +1,17 @@
 -- What it means that 33 histories are those of a run of a script over the packets of a stream.
-use Rattle.std.specs.Prelude.{◌≡◌, ◌≢◌, ◌<◌, ◌≤◌, ◌+◌, ℕ, suc, List, [], ◌∷◌, length, map, filter, sum, take, nat_eq, slice_get, Some, None, Option, All}
-use Rattle.dmx_calls.specs.declared.params.Input.TheVariants.{Frontend}
+use Rattle.std.specs.Prelude.{◌≡◌, ◌≢◌, ◌<◌, ◌≤◌, ◌+◌, ℕ, zero, suc, List, [], ◌∷◌, length, map, filter, sum, take, nat_eq, slice_get, Some, None, Option, All}
+use Rattle.dmx_calls.specs.declared.params.Input.TheVariants.{Frontend, Dvr}
 use Rattle.dmx_calls.specs.declared.limits.TheConstants.{DEMUX_NODES}
 use Rattle.dmx_calls.specs.Response.{Response, NoMemory}
 use Rattle.dmx_calls.specs.Legal.{IsLegalFor}
 use Rattle.dmx_calls.specs.declared.log.Act.{Act}
 use Rattle.dmx_calls.specs.declared.log.Act.TheVariants.{Pass as PassAct, End as EndAct}
-use Rattle.dmx_calls.specs.Log.{LogEntry, act_of, filled}
+use Rattle.dmx_calls.specs.Log.{LogEntry, Sources, act_of, filled}
 use Rattle.dmx_calls.specs.Rules.{rules_at}
 use Rattle.client_script.specs.Script.{clients_in, Scripted}
 use Rattle.client_core.specs.declared.event.Event.{Event}
-use Rattle.client_core.specs.Commands.{call_of}
+use Rattle.client_core.specs.Deeds.{Batches}
+use Rattle.client_core.specs.Commands.{call_of, played, plays_of}
 use Rattle.client_core.specs.Events.{next_event}
 
 -- ------ the feeder
@@ -48,10 +49,10 @@ pub record IsFed (most packets : ℕ) (hs : List (List LogEntry)) : Type 0 where
 abbrev pub StandsIn : List (List LogEntry) → LogEntry → Type 0
 StandsIn hs e = (h : List LogEntry) × (slice_get hs e.node ≡ Some h) × (slice_get h e.place ≡ Some e)
 
--- the entry is that event, at some moment
-abbrev pub IsEvent : Option Event → LogEntry → Type 0
-IsEvent None e = ⊥
-IsEvent (Some event) e = (e.node ≡ event.node) × ((moment : ℕ) × (e.act ≡ act_of (call_of event.want moment)))
+-- the entry is that event of a client that plays these batches, at some moment
+abbrev pub IsEvent : Batches → Option Event → LogEntry → Type 0
+IsEvent batches None e = ⊥
+IsEvent batches (Some event) e = (e.node ≡ event.node) × ((moment : ℕ) × (e.act ≡ act_of (call_of batches event.want moment)))
 
 -- the replies to these calls
 abbrev pub replies : List LogEntry → List Response
@@ -64,7 +65,7 @@ pub record HasDone (script : Scripted) (client : ℕ) (hs : List (List LogEntry)
   -- its steps are 0, 1, .., and each is the call that its commands ask for after the replies before it
   pub steps : (i : ℕ) (e : LogEntry) → slice_get made i ≡ Some e
       → (e.step ≡ i) × (e.who ≡ client + 1) × StandsIn hs e
-      × IsEvent (next_event client script (replies (take i made))) e
+      × IsEvent (plays_of client script) (next_event client script (replies (take i made))) e
   -- after all of them the commands are through
   pub ends : next_event client script (replies made) ≡ None
   -- the histories have no other call of this client
@@ -76,18 +77,25 @@ pub record HasDone (script : Scripted) (client : ℕ) (hs : List (List LogEntry)
 
 -- ------ the run
 
+-- the packets of which a caller's passes bring some: those of the stream, for the front end, and those that a client plays, for
+-- the dvr
+abbrev pub sources : Scripted → (stream : List (List ℕ)) → Sources
+sources script stream who Frontend = stream
+sources script stream zero Dvr = []
+sources script stream (suc client) Dvr = played client script
+
 -- each entry stands on its node and at its place, its caller is the feeder or a client, and memory was found
 abbrev pub ArePlaced : Scripted → List (List LogEntry) → Type 0
 ArePlaced script hs =
     (node place : ℕ) (h : List LogEntry) (e : LogEntry) → slice_get hs node ≡ Some h → slice_get h place ≡ Some e
     → (e.node ≡ node) × (e.place ≡ place) × (e.who ≤ clients_in script) × (e.response ≢ NoMemory)
 
--- These histories are those of a run of the script: `most` is the greatest number of packets of a batch, and
+-- These histories are those of a run of the script: `most` is the greatest number of packets of the stream's batches, and
 -- `stream` is the packets of the stream.
 pub record IsRun (script : Scripted) (most : ℕ) (stream : List (List ℕ)) (hs : List (List LogEntry)) : Type 0 where
   pub nodes : length hs ≡ DEMUX_NODES + 1
   pub places : ArePlaced script hs
   -- each response is the one that the entries before it give
-  pub legal : (node : ℕ) (h : List LogEntry) → slice_get hs node ≡ Some h → IsLegalFor (rules_at node) (filled stream h)
+  pub legal : (node : ℕ) (h : List LogEntry) → slice_get hs node ≡ Some h → IsLegalFor (rules_at node) (filled (sources script stream) h)
   pub fed : IsFed most (length stream) hs
   pub clients_done : (c : ℕ) → c < clients_in script → HasDone script c hs

@@ -2,3 +2,4 @@ pub mod IsRun
 pub mod WholeRun
 pub mod Budget
 pub mod SoFar
+pub mod Passing

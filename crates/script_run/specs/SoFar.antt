@@ -2,17 +2,15 @@
 use Rattle.std.specs.Prelude.{◌≡◌, ◌≢◌, ◌<◌, ◌≤◌, ◌+◌, ◌*◌, ℕ, suc, List, ◌++◌, length, map, sum, take, slice_get, Some, None, IsSome, All}
 use Rattle.ts_packet.specs.Fields.{IsPacket}
 use Rattle.dmx_calls.specs.declared.limits.TheConstants.{DEMUX_NODES}
-use Rattle.dmx_calls.specs.declared.log.Act.{Act}
-use Rattle.dmx_calls.specs.declared.log.Act.TheVariants.{Pass as PassAct}
 use Rattle.dmx_calls.specs.Accounted.{IsAccounted}
 use Rattle.dmx_calls.specs.Legal.{IsLegalFor}
 use Rattle.dmx_calls.specs.Log.{LogEntry, filled}
 use Rattle.dmx_calls.specs.Rules.{rules_at}
-use Rattle.client_script.specs.Script.{clients_in, Scripted}
-use Rattle.client_core.specs.Commands.{commands_of}
+use Rattle.client_script.specs.Script.{AreNumbered, clients_in, Scripted}
+use Rattle.client_core.specs.Commands.{commands_of, plays_of}
 use Rattle.client_core.specs.Events.{next_event, waits_on}
-use Rattle.script_run.specs.Budget.{all_commands, most_calls}
-use Rattle.script_run.specs.IsRun.{ArePlaced, Batch, Step, IsEvent, IsRun, StandsIn, feeding, replies, steps_of}
+use Rattle.script_run.specs.Budget.{all_commands, bytes_written, most_calls}
+use Rattle.script_run.specs.IsRun.{ArePlaced, Batch, Step, IsEvent, IsRun, StandsIn, feeding, replies, sources, steps_of}
 
 -- ------ the feeder
 
@@ -26,11 +24,6 @@ pub record IsFedSoFar (most packets : ℕ) (hs : List (List LogEntry)) : Type 0 
       → (later : List Step) × (steps_of 0 h ++ later ≡ feeding 0 0 batches)
 
 -- ------ a client
-
--- no packets pass by this call
-abbrev pub PassesNone : Act → Type 0
-PassesNone (PassAct input first count now) = ⊥
-PassesNone _ = Unit {0}
 
 -- whose entries pay for the reads that a client repeats: the feeder's alone, or those of all others
 pub data Payers : Type 0 where
@@ -53,7 +46,7 @@ pub record HasDoneSoFar (payers : Payers) (script : Scripted) (client : ℕ)
   -- its steps are 0, 1, .., and each is the call that its commands ask for after the replies before it
   pub steps : (i : ℕ) (e : LogEntry) → slice_get made i ≡ Some e
       → (e.step ≡ i) × (e.who ≡ client + 1) × StandsIn hs e
-      × IsEvent (next_event client script (replies (take i made))) e
+      × IsEvent (plays_of client script) (next_event client script (replies (take i made))) e
   -- the histories have no other call of this client
   pub only : (node place : ℕ) (h : List LogEntry) (e : LogEntry) → slice_get hs node ≡ Some h
       → slice_get h place ≡ Some e → e.who ≡ client + 1 → slice_get made e.step ≡ Some e
@@ -73,7 +66,7 @@ pub record IsSoFar (payers : Payers) (script : Scripted) (most : ℕ) (stream : 
     (hs : List (List LogEntry)) : Type 0 where
   pub nodes : length hs ≡ DEMUX_NODES + 1
   pub places : ArePlaced script hs
-  pub legal : (node : ℕ) (h : List LogEntry) → slice_get hs node ≡ Some h → IsLegalFor (rules_at node) (filled stream h)
+  pub legal : (node : ℕ) (h : List LogEntry) → slice_get hs node ≡ Some h → IsLegalFor (rules_at node) (filled (sources script stream) h)
   pub fed : IsFedSoFar most (length stream) hs
   pub clients : (c : ℕ) → c < clients_in script → HasDoneSoFar payers script c hs
 
@@ -99,16 +92,17 @@ abbrev pub commands_for : Payers → (client : ℕ) → Scripted → ℕ
 commands_for feeder client script = length (commands_of client script)
 commands_for others client script = all_commands script.lines
 
--- At each moment of a run a client has made no more calls than these commands and the bytes of the packets allow.
+-- At each moment of a run a client has made no more calls than these commands, the bytes of the packets and those of all writes
+-- allow, where the lines of each client name its writes in their order, each once.
 abbrev pub CallsArePaid : Type 0
 CallsArePaid =
     (payers : Payers) (script : Scripted) (most : ℕ) (stream : List (List ℕ)) (hs : List (List LogEntry))
-    (s : IsSoFar payers script most stream hs) → All IsPacket stream
+    (s : IsSoFar payers script most stream hs) → AreNumbered script → All IsPacket stream
     → (c : ℕ) (is : c < clients_in script)
-    → length (s.clients c is).made ≤ most_calls (commands_for payers c script) (188 * length stream)
+    → length (s.clients c is).made ≤ most_calls (commands_for payers c script) (188 * length stream + bytes_written script)
 
 -- Each history of a run is accounted.
 abbrev pub RunsAreAccounted : Type 0
 RunsAreAccounted =
     (script : Scripted) (most : ℕ) (stream : List (List ℕ)) (hs : List (List LogEntry)) → IsRun script most stream hs
-    → (node : ℕ) (h : List LogEntry) → slice_get hs node ≡ Some h → IsAccounted (rules_at node) (filled stream h)
+    → (node : ℕ) (h : List LogEntry) → slice_get hs node ≡ Some h → IsAccounted (rules_at node) (filled (sources script stream) h)

@@ -9,7 +9,7 @@ use Rattle.dmx_calls.specs.Log.{LogEntry, filled}
 use Rattle.dmx_calls.specs.Rules.{rules_at}
 use Rattle.client_script.specs.Script.{clients_in, Scripted}
 use Rattle.client_core.specs.Outcomes.{outcomes}
-use Rattle.script_run.specs.IsRun.{Batch, IsRun, replies}
+use Rattle.script_run.specs.IsRun.{Batch, IsRun, replies, sources}
 
 -- the moment of the call, if it has one, is a number that the clock may give
 abbrev pub IsGiven : (may : ℕ → Bool) → Act → Type 0
@@ -33,7 +33,7 @@ pub record IsWholeRun (script : Scripted) (most : ℕ) (may : ℕ → Bool) (str
     (told : List (List Outcome)) (hs : List (List LogEntry)) : Type 0 where
   pub run : IsRun script most stream hs
   pub accounted : (node : ℕ) (h : List LogEntry) → slice_get hs node ≡ Some h
-      → IsAccounted (rules_at node) (filled stream h)
+      → IsAccounted (rules_at node) (filled (sources script stream) h)
   pub full : AreFull most run.fed.batches
   pub moments : (node place : ℕ) (h : List LogEntry) (e : LogEntry) → slice_get hs node ≡ Some h
       → slice_get h place ≡ Some e → IsGiven may e.act

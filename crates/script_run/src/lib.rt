@@ -11,17 +11,20 @@
 //! not be over: some batches have passed a node, then the end has or has not, and each client has made some of its
 //! calls; and where a client repeats a read that found nothing, another's entry stands between, the feeder's or any
 //! other caller's (`Payers`). `most_calls` (`specs/Budget.antt`) is the most calls of a client, for so many commands
-//! and bytes.
+//! and bytes. The passes of a node bring the stream's packets, where they come from the front end, and those that their client
+//! plays, where they come from the dvr (`sources`).
 //!
-//! What is proved, as laws of the definitions: a run so far that is over is a run (`runs_end`); each history of a
-//! run is accounted (`runs_are_accounted`); and at each moment of a run a client has made at most `most_calls` calls
-//! (`calls_are_paid`). For its calls beside those that repeat a read are at most 33 a command; a repeat that follows bytes is paid
-//! for by these bytes, of which a node answers no more than it was brought; and one that follows Again by the entry right behind
-//! the read, which is the feeder's, or a call by which no other client repeats a read.
+//! What is proved, as laws of the definitions: a run so far that is over is a run (`runs_end`); each history of a run is
+//! accounted (`runs_are_accounted`); and at each moment of a run a client has made at most `most_calls` calls (`calls_are_paid`).
+//! For its calls beside those that repeat a read are at most 33 a command; a repeat that follows bytes is paid for by these
+//! bytes, of which a node answers no more than the stream and all writes of clients bring it, where each write is named once; and
+//! one that follows Again by the entry right behind the read, which is the feeder's, or a call by which no other client repeats a
+//! read. And what a client plays is what it wrote where the dvr node was its own: in each demux node's history its passes bring, each
+//! once and in order, the batches of the writes whose poll was answered Ready (`writes_pass`).
 //!
 //! No code of the crate runs, so nothing of it is tested.
 #![tactic(auto)]
 
 mod laws;
 
-pub use laws::{calls_are_paid, runs_are_accounted, runs_end};
+pub use laws::{calls_are_paid, runs_are_accounted, runs_end, writes_pass};

@@ -2,3 +2,4 @@
 
 mod clients;
 mod scripts;
+mod writes;

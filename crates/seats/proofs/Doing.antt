@@ -24,7 +24,7 @@ use Rattle.seats.specs.declared.seat.Seat.{Seat}
 use Rattle.seats.specs.Answered.{act_behind, IsBehind, IsCommand, is_busy, AreBusy, IsClosing, AreClosings, refusal, told_opened, IsOpened, IsFull, IsAnsweredBy, IsAnswered}
 use Rattle.seats.specs.Doing.{HasMade, Does, MakesOne, DoesCommand, HasAnswered, KeepsBy}
 use Rattle.seats.specs.Seated.{log_of, told_made}
-use Rattle.seats.specs.Spelled.{deeds_of, AreKept}
+use Rattle.seats.specs.Spelled.{commands_done_by, AreKept}
 use Rattle.seats.specs.Told.{data_read, call_at}
 
 -- ------ the last calls
@@ -270,7 +270,7 @@ has_answered ask now old mid new t bytes same told k d = record {
   log = log_more mid new d.more d.has ∙ ap (λ (l : List LogEntry). l ++ map (told_made mid.who) d.more) same;
   is = d.is;
   kept =
-      let ds = deeds_of ask (map (told_made mid.who) d.more) in
+      let ds = commands_done_by ask (map (told_made mid.who) d.more) in
       subst (λ (l : List LogEntry). AreKept (length l) ds old.outcomes.items new.outcomes.items) same
       (subst (λ (os : List Outcome). AreKept (length (log_of mid)) ds os new.outcomes.items) told (k (map (told_made mid.who) d.more) (log_more mid new d.more d.has)));
 }

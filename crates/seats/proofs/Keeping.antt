@@ -20,15 +20,15 @@ use Rattle.seats.specs.declared.seat.Seat.{Seat}
 use Rattle.seats.specs.Answered.{IsCommand, is_busy, IsClosing, AreClosings}
 use Rattle.seats.specs.Doing.{Does, DoesCommand, Keeps, KeepsOne, KeepsOpened, KeepsClosed}
 use Rattle.seats.specs.Seated.{log_of, told_made}
-use Rattle.seats.specs.Spelled.{Deed, deed, calls_in, target_of, deed_by, opened_kind, Closings, closings, deeds_of, outcome_at, outcomes_by, AreKept}
+use Rattle.seats.specs.Spelled.{DoneCommand, done_command, calls_in, target_of, done_command_by, opened_kind, Closings, closings, commands_done_by, outcome_at, outcomes_by, AreKept}
 use Rattle.seats.proofs.Doing.{log_more, made_kept, made_trans, read_at, HaveTried}
 use Rattle.seats.proofs.Going.{log_long}
-use Rattle.seats.proofs.Deeds.{kind_busy, kind_free}
+use Rattle.seats.proofs.DoneCommands.{kind_busy, kind_free}
 use Rattle.seats.proofs.Spelling.{one_closed, closings_both, closing_none, leaving_calls}
 
 -- ------ lists of outcomes
 
-pub outcomes_both : (n s : ℕ) (ds es : List Deed) → outcomes_by n s (ds ++ es) ≡ outcomes_by n s ds ++ outcomes_by (n + length ds) (s + length (calls_in ds)) es
+pub outcomes_both : (n s : ℕ) (ds es : List DoneCommand) → outcomes_by n s (ds ++ es) ≡ outcomes_by n s ds ++ outcomes_by (n + length ds) (s + length (calls_in ds)) es
 outcomes_both n s [] es =
     let a : n ≡ n + 0 = omega arith in let b : s ≡ s + 0 = omega arith in
     ap (λ k. outcomes_by k s es) a ∙ ap (λ k. outcomes_by (n + 0) k es) b
@@ -41,12 +41,12 @@ outcomes_both n s (d ∷ ds) es =
     ∙ (ap (λ k. outcomes_by (n + 1) (s + length d.calls) ds ++ outcomes_by k ((s + length d.calls) + length (calls_in ds)) es) a
     ∙ ap (λ k. outcomes_by (n + 1) (s + length d.calls) ds ++ outcomes_by (n + length (d ∷ ds)) k es) b))
 
-pub outcomes_long : (n s : ℕ) (ds : List Deed) → length (outcomes_by n s ds) ≡ length ds
+pub outcomes_long : (n s : ℕ) (ds : List DoneCommand) → length (outcomes_by n s ds) ≡ length ds
 outcomes_long n s [] = refl
 outcomes_long n s (d ∷ ds) = let more = outcomes_long (n + 1) (s + length d.calls) ds in omega (arith, more)
 
 -- one after another
-pub kept_trans : (step then : ℕ) (ds es : List Deed) (was mid now : List Outcome) → AreKept step ds was mid → AreKept then es mid now → then ≡ step + length (calls_in ds) → AreKept step (ds ++ es) was now
+pub kept_trans : (step then : ℕ) (ds es : List DoneCommand) (was mid now : List Outcome) → AreKept step ds was mid → AreKept then es mid now → then ≡ step + length (calls_in ds) → AreKept step (ds ++ es) was now
 kept_trans step then ds es was mid now a b is =
     let size = length-append was (outcomes_by (length was) step ds) in
     let more = outcomes_long (length was) step ds in let grown = ap length a in
@@ -68,21 +68,21 @@ the_calls : (old new : Seat) (calls others : List LogEntry) → log_of new ≡ l
 the_calls old new calls others a b = append_cancel_left (log_of old) calls others (sym a ∙ b)
 
 -- no call, and no command
-pub keeps_none : (deeds : List LogEntry → List Deed) (old new : Seat) → deeds [] ≡ [] → log_of new ≡ log_of old → new.outcomes.items ≡ old.outcomes.items → Keeps deeds old new
-keeps_none deeds old new none same told calls is =
+pub keeps_none : (commands : List LogEntry → List DoneCommand) (old new : Seat) → commands [] ≡ [] → log_of new ≡ log_of old → new.outcomes.items ≡ old.outcomes.items → Keeps commands old new
+keeps_none commands old new none same told calls is =
     let no : calls ≡ [] = the_calls old new calls [] is (same ∙ sym (append-nil (log_of old))) in
-    subst (λ (ds : List Deed). AreKept (length (log_of old)) ds old.outcomes.items new.outcomes.items) (sym (ap deeds no ∙ none)) (kept_none (length (log_of old)) old.outcomes.items new.outcomes.items told)
+    subst (λ (ds : List DoneCommand). AreKept (length (log_of old)) ds old.outcomes.items new.outcomes.items) (sym (ap commands no ∙ none)) (kept_none (length (log_of old)) old.outcomes.items new.outcomes.items told)
 
 -- no call is no command
-pub deeds_none : (ask : Ask) → deeds_of ask [] ≡ []
-deeds_none OpenDemux = refl
-deeds_none (Call node want) = refl
-deeds_none Leave = refl
-deeds_none (Refused code) = refl
+pub none_done : (ask : Ask) → commands_done_by ask [] ≡ []
+none_done OpenDemux = refl
+none_done (Call node want) = refl
+none_done Leave = refl
+none_done (Refused code) = refl
 
 -- what is kept by a command that ends so
 abbrev pub KeepsSo : OutcomeKind → (old new : Seat) → Type 0
-KeepsSo kind old new = (target : Target) (want : Want) → Keeps (λ calls. deed target want calls kind ∷ []) old new
+KeepsSo kind old new = (target : Target) (want : Want) → Keeps (λ calls. done_command target want calls kind ∷ []) old new
 
 pub keeps_so : (kind : OutcomeKind) (old mid new : Seat) (from : ℕ) → from ≡ length old.log.items + length old.made.items → mid.outcomes.items ≡ old.outcomes.items
     → new.outcomes.items ≡ mid.outcomes.items ++ outcome_at (length mid.outcomes.items) from (length mid.log.items + length mid.made.items) kind ∷ []
@@ -98,10 +98,10 @@ keeps_so kind old mid new from begins same told log made target want calls is =
 
 -- a command on a node
 pub keeps_command : (node : ℕ) (act : Act) (at : ℕ) (target : Target) (want : Want) (old new : Seat) → DoesCommand node act at old new → KeepsOne old new
-    → Keeps (λ calls. deed_by target want WasDone calls) old new
+    → Keeps (λ calls. done_command_by target want WasDone calls) old new
 keeps_command node act at target want old new d k calls is =
     let same : calls ≡ map (told_made old.who) (d.own ∷ d.behind) = the_calls old new calls (map (told_made old.who) (d.own ∷ d.behind)) is (log_more old new (d.own ∷ d.behind) d.has) in
-    subst (λ (l : List LogEntry). AreKept (length (log_of old)) (deed_by target want WasDone l) old.outcomes.items new.outcomes.items) (sym same)
+    subst (λ (l : List LogEntry). AreKept (length (log_of old)) (done_command_by target want WasDone l) old.outcomes.items new.outcomes.items) (sym same)
     (k target want (map (told_made old.who) (d.own ∷ d.behind)) (is ∙ ap (λ (l : List LogEntry). log_of old ++ l) same))
 
 -- ------ closing
@@ -112,8 +112,8 @@ keeps_closed node at old new d k calls is =
     let same : calls ≡ all = the_calls old new calls all is (log_more old new (d.own ∷ d.behind) d.has) in
     let command : IsCommand node CloseAct (told_made old.who d.own) all = record { node = d.node; act = d.act; behind = map (told_made old.who) d.behind; calls = refl; is = d.is } in
     let one = one_closed node (told_made old.who d.own) all command in
-    let ds : (closings calls).deeds ≡ deed (target_of d.own.node) Close all WasDone ∷ [] = ap (λ (l : List LogEntry). (closings l).deeds) same ∙ ap (λ (c : Closings). c.deeds) one in
-    subst (λ (l : List Deed). AreKept (length (log_of old)) l old.outcomes.items new.outcomes.items) (sym ds)
+    let ds : (closings calls).commands ≡ done_command (target_of d.own.node) Close all WasDone ∷ [] = ap (λ (l : List LogEntry). (closings l).commands) same ∙ ap (λ (c : Closings). c.commands) one in
+    subst (λ (l : List DoneCommand). AreKept (length (log_of old)) l old.outcomes.items new.outcomes.items) (sym ds)
     (k (target_of d.own.node) Close all (is ∙ ap (λ (l : List LogEntry). log_of old ++ l) same))
 
 -- nodes that were closed, and one more
@@ -124,9 +124,9 @@ keeps_more n a b c x y k l calls is =
     let all : calls ≡ xs ++ ys = the_calls a c calls (xs ++ ys) is (then ∙ (ap (λ (z : List LogEntry). z ++ ys) first ∙ append_assoc (log_of a) xs ys)) in
     let both = closings_both xs ys (closing_none n ys y.is) in
     let size = length-append (log_of a) xs in let grown = ap length first in let own = ap length (leaving_calls n xs x.is) in
-    let long : length (log_of b) ≡ length (log_of a) + length (calls_in (closings xs).deeds) = omega (arith, size, grown, own) in
-    subst (λ (ds : List Deed). AreKept (length (log_of a)) ds a.outcomes.items c.outcomes.items) (sym (ap (λ (z : List LogEntry). (closings z).deeds) all ∙ both.1))
-    (kept_trans (length (log_of a)) (length (log_of b)) (closings xs).deeds (closings ys).deeds a.outcomes.items b.outcomes.items c.outcomes.items (k xs first) (l ys then) long)
+    let long : length (log_of b) ≡ length (log_of a) + length (calls_in (closings xs).commands) = omega (arith, size, grown, own) in
+    subst (λ (ds : List DoneCommand). AreKept (length (log_of a)) ds a.outcomes.items c.outcomes.items) (sym (ap (λ (z : List LogEntry). (closings z).commands) all ∙ both.1))
+    (kept_trans (length (log_of a)) (length (log_of b)) (closings xs).commands (closings ys).commands a.outcomes.items b.outcomes.items c.outcomes.items (k xs first) (l ys then) long)
 
 -- ------ opening
 
@@ -138,8 +138,8 @@ pub keeps_opened : (kind : OutcomeKind) (old new : Seat) → GrownBy kind old ne
 keeps_opened kind old new (others, log, ended, (e, es, first)) k calls is =
     let all : calls ≡ e ∷ es = the_calls old new calls others is log ∙ first in
     let so : opened_kind (e ∷ es) ≡ kind = ap opened_kind (sym first) ∙ ended in
-    subst (λ (l : List LogEntry). AreKept (length (log_of old)) (deed_by (Slot 0) Open (opened_kind l) l) old.outcomes.items new.outcomes.items) (sym all)
-    (subst (λ (z : OutcomeKind). AreKept (length (log_of old)) (deed (Slot 0) Open (e ∷ es) z ∷ []) old.outcomes.items new.outcomes.items) (sym so)
+    subst (λ (l : List LogEntry). AreKept (length (log_of old)) (done_command_by (Slot 0) Open (opened_kind l) l) old.outcomes.items new.outcomes.items) (sym all)
+    (subst (λ (z : OutcomeKind). AreKept (length (log_of old)) (done_command (Slot 0) Open (e ∷ es) z ∷ []) old.outcomes.items new.outcomes.items) (sym so)
     (k (Slot 0) Open (e ∷ es) (is ∙ ap (λ (l : List LogEntry). log_of old ++ l) all)))
 
 some_first : (f : Made → LogEntry) (xs : List Made) (y : Made) (ys : List Made) → (e : LogEntry) × (es : List LogEntry) × (map f (xs ++ y ∷ ys) ≡ e ∷ es)

@@ -1,4 +1,4 @@
-pub mod Deeds
+pub mod DoneCommands
 pub mod Doing
 pub mod Going
 pub mod Holding

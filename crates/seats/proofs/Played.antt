@@ -10,11 +10,11 @@ use Rattle.client_script.specs.Script.{Scripted}
 use Rattle.client_core.specs.Commands.{commands_of}
 use Rattle.seats.specs.Scripts.{IsPlayed}
 use Rattle.seats.specs.Seated.{AreOnNodes}
-use Rattle.seats.specs.Spelled.{Deed, calls_in, commands_by, outcomes_by}
+use Rattle.seats.specs.Spelled.{DoneCommand, calls_in, commands_by, outcomes_by}
 use Rattle.seats.specs.Turns.{Turn, IsTurn, calls_of, spelled, AreTold, IsLast, HasAnsweredAll}
-use Rattle.seats.proofs.Spelling.{spelled_deeds, lines_are_played}
+use Rattle.seats.proofs.Spelling.{spelled_commands, lines_are_played}
 
-commands_none : (n : ℕ) (ds : List Deed) → commands_by n ds ≡ [] → ds ≡ []
+commands_none : (n : ℕ) (ds : List DoneCommand) → commands_by n ds ≡ [] → ds ≡ []
 commands_none n [] is = refl
 commands_none n (d ∷ ds) is = absurd (cc is)
 
@@ -49,6 +49,6 @@ module _ {T : Type 0} (source : T → SourceEnd) (sink : T → SinkEnd) (may : �
     pub answers_idle : commands_by 0 (spelled (a.turns ++ a.last) a.leaving) ≡ [] → (book ≡ []) × (told ≡ [])
     answers_idle none =
         let no = commands_none 0 (spelled (a.turns ++ a.last) a.leaving) none in (
-          calls ∙ (sym (spelled_deeds may (a.turns ++ a.last) a.leaving turns a.closed on_nodes).1 ∙ ap calls_in no),
+          calls ∙ (sym (spelled_commands may (a.turns ++ a.last) a.leaving turns a.closed on_nodes).1 ∙ ap calls_in no),
           a.kept ∙ ap (outcomes_by 0 0) no,
         )

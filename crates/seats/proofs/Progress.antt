@@ -8,24 +8,24 @@ use Rattle.dmx_calls.specs.declared.outcome.Outcome.{Outcome}
 use Rattle.dmx_calls.specs.declared.outcome.OutcomeKind.{OutcomeKind}
 use Rattle.dmx_calls.specs.Log.{LogEntry}
 use Rattle.dmx_calls.specs.Response.{Response, Again}
-use Rattle.client_script.specs.declared.line.Verb.TheVariants.{Once}
 use Rattle.client_core.specs.declared.command.Command.{Command}
+use Rattle.client_core.specs.declared.deed.Deed.TheVariants.{Once}
 use Rattle.client_core.specs.declared.event.Event.{Event}
 use Rattle.client_core.specs.Commands.{stands, Slots, done}
 use Rattle.client_core.specs.Events.{Standing, Ended, Progress, with_ended, slots_after, progress_from, waits_after}
 use Rattle.client_core.specs.Outcomes.{Counters, outcome_by}
 use Rattle.client_core.proofs.GoesOn.{progress_of, waits_not}
-use Rattle.script_run.specs.IsRun.{IsEvent, replies}
+use Rattle.script_run.specs.IsRun.{replies}
 use Rattle.script_run.specs.WholeRun.{IsGiven}
-use Rattle.seats.specs.Spelled.{Deed, calls_in, line_behind, commands_by, outcomes_by}
-use Rattle.seats.proofs.Deeds.{IsDone}
+use Rattle.seats.specs.Spelled.{DoneCommand, calls_in, line_behind, commands_by, outcomes_by}
+use Rattle.seats.proofs.DoneCommands.{IsDone, IsEventOf}
 
 -- each of these was done
-abbrev pub AreDone : (may : ℕ → Bool) → List Deed → Type 0
+abbrev pub AreDone : (may : ℕ → Bool) → List DoneCommand → Type 0
 AreDone may [] = Unit {0}
 AreDone may (d ∷ ds) = IsDone may d × AreDone may ds
 
-pub done_both : (may : ℕ → Bool) (ds es : List Deed) → AreDone may ds → AreDone may es → AreDone may (ds ++ es)
+pub done_both : (may : ℕ → Bool) (ds es : List DoneCommand) → AreDone may ds → AreDone may es → AreDone may (ds ++ es)
 done_both may [] es a b = b
 done_both may (d ∷ ds) es a b = (a.0, done_both may ds es a.1 b)
 
@@ -45,9 +45,9 @@ in_rest xs ys k a at = ⊎_elim (λ here. absurd (let low = slice_get_within xs 
 
 -- ------ behind one command
 
-module _ (may : ℕ → Bool) (slots : Slots) (count step : ℕ) (d : Deed) (is : IsDone may d) (cs : List Command) where
+module _ (may : ℕ → Bool) (slots : Slots) (count step : ℕ) (d : DoneCommand) (is : IsDone may d) (cs : List Command) where
   abbrev c : Command
-  c = record { line = line_behind count; target = d.target; verb = Once d.want }
+  c = record { line = line_behind count; target = d.target; deed = Once d.want }
 
   abbrev after : Slots
   after = slots_after is.ending slots
@@ -72,7 +72,7 @@ module _ (may : ℕ → Bool) (slots : Slots) (count step : ℕ) (d : Deed) (is 
 -- ------ all of them
 
 -- what became of them, whatever the counters are, and none of them stands
-pub outcomes_are : (may : ℕ → Bool) (slots : Slots) (count step : ℕ) (ds : List Deed) → AreDone may ds → (counters : Ended → Counters)
+pub outcomes_are : (may : ℕ → Bool) (slots : Slots) (count step : ℕ) (ds : List DoneCommand) → AreDone may ds → (counters : Ended → Counters)
     → (map (λ e. outcome_by (counters e) e) (progress_from slots step (commands_by count ds) (replies (calls_in ds))).ended ≡ outcomes_by count step ds)
     × ((progress_from slots step (commands_by count ds) (replies (calls_in ds))).standing ≡ None)
 outcomes_are may slots count step [] are counters = (refl, refl)
@@ -97,12 +97,12 @@ calm_waits s _ not = refl
 pub record Stands (may : ℕ → Bool) (p : Progress) (calls : List LogEntry) (i : ℕ) (e : LogEntry) : Type 0 where
   pub at : Standing
   pub is : p.standing ≡ Some at
-  pub event : IsEvent (Some at.event) e
+  pub event : IsEventOf at.event e
   pub given : IsGiven may e.act
   pub first : i ≡ 0 → at.event.step ≤ at.from
   pub calm : (j : ℕ) (f : LogEntry) → suc j ≡ i → slice_get calls j ≡ Some f → waits_after (Some at) (f.response ∷ []) ≡ None
 
-pub stands_before : (may : ℕ → Bool) (slots : Slots) (count step : ℕ) (ds : List Deed) → AreDone may ds → (i : ℕ) (e : LogEntry) → slice_get (calls_in ds) i ≡ Some e
+pub stands_before : (may : ℕ → Bool) (slots : Slots) (count step : ℕ) (ds : List DoneCommand) → AreDone may ds → (i : ℕ) (e : LogEntry) → slice_get (calls_in ds) i ≡ Some e
     → Stands may (progress_from slots step (commands_by count ds) (replies (take i (calls_in ds)))) (calls_in ds) i e
 stands_before may slots count step [] are i e at = absurd (cc at)
 stands_before may slots count step (d ∷ ds) are i e at = ⊎_elim (λ here. mine here) (λ more. behind more.0 more.1 (stands_before may (slots_after are.0.ending slots) (count + 1) (step + length d.calls) ds are.1 more.0 e more.2)) (in_either d.calls (calls_in ds) i e at) where

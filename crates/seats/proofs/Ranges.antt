@@ -1,9 +1,12 @@
--- What a request asks for is in the range of a client's requests.
+-- What a request asks for is in the range of a client's requests, and passes no packets.
+use Rattle.std.proofs.Common.{ℕ}
+use Rattle.dmx_calls.specs.Log.{act_of}
 use Rattle.client_script.specs.declared.line.Want.{Want}
 use Rattle.client_script.specs.declared.line.Want.TheVariants as want
-use Rattle.client_core.specs.Commands.{IsRequestInRange}
+use Rattle.client_core.specs.Commands.{IsRequestInRange, own_call}
 use Rattle.client_core.specs.declared.event.Request.TheVariants.{Own}
 use Rattle.serve_frames.specs.Asks.{IsWantInRange}
+use Rattle.seats.specs.Calls.{PassesNone}
 
 pub in_range : (w : Want) → IsWantInRange w → IsRequestInRange (Own w)
 in_range want.Open r = tt
@@ -17,3 +20,7 @@ in_range want.Stop r = tt
 in_range (want.Size size) r = tt
 in_range (want.Read count) r = r
 in_range want.Poll r = tt
+
+pub no_pass : (w : Want) (moment : ℕ) → PassesNone (act_of (own_call w moment))
+no_pass want.Open moment = tt
+no_pass _ moment = tt

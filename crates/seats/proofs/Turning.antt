@@ -18,7 +18,7 @@ use Rattle.dmx_calls.specs.declared.outcome.Outcome.{Outcome}
 use Rattle.seats.specs.Doing.{Does, HasAnswered, KeepsClosed}
 use Rattle.seats.specs.Seated.{log_of, told_made}
 use Rattle.seats.specs.Told.{reply_bytes}
-use Rattle.seats.specs.Spelled.{Deed, calls_in, closings, deeds_of, AreKept}
+use Rattle.seats.specs.Spelled.{DoneCommand, calls_in, closings, commands_done_by, AreKept}
 use Rattle.seats.specs.Turns.{Turn, IsTurn, calls_of, spelled_by, IsAsked, IsTold, AreTold, IsLast, HasTurned, HasAnsweredAll}
 use Rattle.seats.proofs.Doing.{log_more}
 use Rattle.seats.proofs.Keeping.{kept_none, kept_trans}
@@ -51,8 +51,8 @@ module _ {T : Type 0} (source : T → SourceEnd) (sink : T → SinkEnd) (may : �
     unfolding turn
     its_ask = record { turn = record { long = long; moment = given; is = subst (λ (k : Ask). IsAnswered k now a.calls t bytes) is a.is }; taken = taken }
 
-    its_kept : AreKept (length (log_of old)) (deeds_of (ask_of request) a.calls) old.outcomes.items new.outcomes.items
-    its_kept = subst (λ (k : Ask). AreKept (length (log_of old)) (deeds_of k a.calls) old.outcomes.items new.outcomes.items) is a.kept
+    its_kept : AreKept (length (log_of old)) (commands_done_by (ask_of request) a.calls) old.outcomes.items new.outcomes.items
+    its_kept = subst (λ (k : Ask). AreKept (length (log_of old)) (commands_done_by k a.calls) old.outcomes.items new.outcomes.items) is a.kept
 
     -- its reply was written whole, or not
     pub turned_one : (on : Bool) → (on ≡ true → Appends (sink asked).written (sink after).written (reply_bytes t bytes))
@@ -63,7 +63,7 @@ module _ {T : Type 0} (source : T → SourceEnd) (sink : T → SinkEnd) (may : �
       turn ∷ [],
       (asked, its_ask),
       a.log ∙ ap (λ (l : List LogEntry). log_of old ++ l) (sym (append-nil a.calls)),
-      subst (λ (ds : List Deed). AreKept (length (log_of old)) ds old.outcomes.items new.outcomes.items) (sym (append-nil (deeds_of (ask_of request) a.calls))) its_kept,
+      subst (λ (ds : List DoneCommand). AreKept (length (log_of old)) ds old.outcomes.items new.outcomes.items) (sym (append-nil (commands_done_by (ask_of request) a.calls))) its_kept,
     )
 
   -- ------ one after another
@@ -87,14 +87,14 @@ module _ {T : Type 0} (source : T → SourceEnd) (sink : T → SinkEnd) (may : �
   calls_more ts us = flat_map-append (λ (t : Turn). t.calls) ts us
 
   spelled_more : (ts us : List Turn) → spelled_by (ts ++ us) ≡ spelled_by ts ++ spelled_by us
-  spelled_more ts us = flat_map-append (λ (t : Turn). deeds_of (ask_of t.request) t.calls) ts us
+  spelled_more ts us = flat_map-append (λ (t : Turn). commands_done_by (ask_of t.request) t.calls) ts us
 
-  calls_both : (ds es : List Deed) → calls_in (ds ++ es) ≡ calls_in ds ++ calls_in es
-  calls_both ds es = flat_map-append (λ (d : Deed). d.calls) ds es
+  calls_both : (ds es : List DoneCommand) → calls_in (ds ++ es) ≡ calls_in ds ++ calls_in es
+  calls_both ds es = flat_map-append (λ (d : DoneCommand). d.calls) ds es
 
   -- the calls of a turn are those of its commands
   turn_calls : (t : Turn) → IsTurn may t → calls_in (spelled_by (t ∷ [])) ≡ calls_of (t ∷ [])
-  turn_calls t is = ap calls_in (append-nil (deeds_of (ask_of t.request) t.calls)) ∙ (answered_calls (ask_of t.request) t.now t.calls t.told t.bytes is.is ∙ sym (append-nil t.calls))
+  turn_calls t is = ap calls_in (append-nil (commands_done_by (ask_of t.request) t.calls)) ∙ (answered_calls (ask_of t.request) t.now t.calls t.told t.bytes is.is ∙ sym (append-nil t.calls))
 
   more_calls : (ts us : List Turn) → calls_in (spelled_by ts) ≡ calls_of ts → calls_in (spelled_by us) ≡ calls_of us → calls_in (spelled_by (ts ++ us)) ≡ calls_of (ts ++ us)
   more_calls ts us a b = ap calls_in (spelled_more ts us) ∙ (calls_both (spelled_by ts) (spelled_by us) ∙ (ap (λ (l : List LogEntry). l ++ calls_in (spelled_by us)) a ∙ (ap (λ (l : List LogEntry). calls_of ts ++ l) b ∙ sym (calls_more ts us))))
@@ -109,8 +109,8 @@ module _ {T : Type 0} (source : T → SourceEnd) (sink : T → SinkEnd) (may : �
     told = told_last line at next h.turns one.0 h.told one.1;
     log = one.2 ∙ (ap (λ (l : List LogEntry). l ++ one.0.calls) h.log ∙ (append_assoc a (calls_of h.turns) one.0.calls
         ∙ (ap (λ (l : List LogEntry). a ++ (calls_of h.turns ++ l)) (sym (append-nil one.0.calls)) ∙ ap (λ (l : List LogEntry). a ++ l) (sym (calls_more h.turns (one.0 ∷ []))))));
-    kept = subst (λ (ds : List Deed). AreKept (length a) ds was now) (ap (λ (ds : List Deed). spelled_by h.turns ++ ds) (sym (append-nil (deeds_of (ask_of one.0.request) one.0.calls))) ∙ sym (spelled_more h.turns (one.0 ∷ [])))
-        (kept_trans (length a) (length b) (spelled_by h.turns) (deeds_of (ask_of one.0.request) one.0.calls) was mid now h.kept one.3 (count_calls a b h.turns h.log h.calls));
+    kept = subst (λ (ds : List DoneCommand). AreKept (length a) ds was now) (ap (λ (ds : List DoneCommand). spelled_by h.turns ++ ds) (sym (append-nil (commands_done_by (ask_of one.0.request) one.0.calls))) ∙ sym (spelled_more h.turns (one.0 ∷ [])))
+        (kept_trans (length a) (length b) (spelled_by h.turns) (commands_done_by (ask_of one.0.request) one.0.calls) was mid now h.kept one.3 (count_calls a b h.turns h.log h.calls));
     calls = more_calls h.turns (one.0 ∷ []) h.calls (turn_calls one.0 one.1.is.turn);
   }
   told_more line at next a b c was mid now false h one is = absurd (cc is)
@@ -135,8 +135,8 @@ module _ {T : Type 0} (source : T → SourceEnd) (sink : T → SinkEnd) (may : �
     log = log_more new last d.more d.has ∙ (ap (λ (l : List LogEntry). l ++ leaving) one.2 ∙ (ap (λ (l : List LogEntry). (l ++ calls_of one.0) ++ leaving) h.log
         ∙ (ap (λ (l : List LogEntry). l ++ leaving) (append_assoc (log_of old) (calls_of h.turns) (calls_of one.0))
         ∙ (append_assoc (log_of old) (calls_of h.turns ++ calls_of one.0) leaving ∙ ap (λ (l : List LogEntry). log_of old ++ l) (append_assoc (calls_of h.turns) (calls_of one.0) leaving)))));
-    kept = kept_trans (length (log_of old)) (length (log_of new)) (spelled_by (h.turns ++ one.0)) (closings leaving).deeds old.outcomes.items new.outcomes.items last.outcomes.items
-        (subst (λ (ds : List Deed). AreKept (length (log_of old)) ds old.outcomes.items new.outcomes.items) (sym (spelled_more h.turns one.0))
+    kept = kept_trans (length (log_of old)) (length (log_of new)) (spelled_by (h.turns ++ one.0)) (closings leaving).commands old.outcomes.items new.outcomes.items last.outcomes.items
+        (subst (λ (ds : List DoneCommand). AreKept (length (log_of old)) ds old.outcomes.items new.outcomes.items) (sym (spelled_more h.turns one.0))
         (kept_trans (length (log_of old)) (length (log_of mid)) (spelled_by h.turns) (spelled_by one.0) old.outcomes.items mid.outcomes.items new.outcomes.items h.kept one.3 (count_calls (log_of old) (log_of mid) h.turns h.log h.calls)))
         (k leaving (log_more new last d.more d.has))
         (count_calls (log_of old) (log_of new) (h.turns ++ one.0)

@@ -1,10 +1,16 @@
 -- The calls of a caller: how it comes from one state to another, call by call.
 use Rattle.std.specs.Prelude.{◌≡◌, ◌+◌, ℕ, List, [], ◌∷◌}
+use Rattle.dmx_calls.specs.declared.log.Act.{Act}
+use Rattle.dmx_calls.specs.declared.log.Act.TheVariants.{Pass as PassAct}
 use Rattle.dmx_calls.specs.History.{Entry}
 use Rattle.dmx_calls.specs.Log.{LogEntry, act_of}
-use Rattle.script_run.specs.SoFar.{PassesNone}
 use Rattle.adapter.specs.Callers.{Caller, IsSameCaller}
 use Rattle.adapter.specs.Nodes.{MakesEntry}
+
+-- no packets pass by this call
+abbrev pub PassesNone : Act → Type 0
+PassesNone (PassAct input first count now) = ⊥
+PassesNone _ = Unit {0}
 
 -- A caller has made one call, and is d then: its entry stands in the history of the node of this log entry, at its place,
 -- and tells the same caller, call and response. No other pass is changed, and by the call no packets pass.

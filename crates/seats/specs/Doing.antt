@@ -13,7 +13,7 @@ use Rattle.seats.specs.declared.made.Made.{Made}
 use Rattle.seats.specs.declared.seat.Seat.{Seat}
 use Rattle.seats.specs.Answered.{act_behind, IsBehind, IsAnswered}
 use Rattle.seats.specs.Seated.{log_of, told_made}
-use Rattle.seats.specs.Spelled.{Deed, deed, deeds_of, AreKept}
+use Rattle.seats.specs.Spelled.{DoneCommand, done_command, commands_done_by, AreKept}
 
 -- these were put behind its last calls, and its log is the same
 pub record HasMade (more : List Made) (old new : Seat) : Type 0 where
@@ -47,18 +47,18 @@ pub record DoesCommand (on : ℕ) (does : Act) (place : ℕ) (old new : Seat) : 
 -- ------ commands
 
 -- What is told of its commands has grown by these of the calls by which its log has grown.
-abbrev pub Keeps : (deeds : List LogEntry → List Deed) → (old new : Seat) → Type 0
-Keeps deeds old new =
+abbrev pub Keeps : (commands : List LogEntry → List DoneCommand) → (old new : Seat) → Type 0
+Keeps commands old new =
     (calls : List LogEntry) → log_of new ≡ log_of old ++ calls
-    → AreKept (length (log_of old)) (deeds calls) old.outcomes.items new.outcomes.items
+    → AreKept (length (log_of old)) (commands calls) old.outcomes.items new.outcomes.items
 
 -- by one command, which was done by all of them
 abbrev pub KeepsOne : (old new : Seat) → Type 0
-KeepsOne old new = (target : Target) (want : Want) → Keeps (λ calls. deed target want calls WasDone ∷ []) old new
+KeepsOne old new = (target : Target) (want : Want) → Keeps (λ calls. done_command target want calls WasDone ∷ []) old new
 
 -- by those that this request spells
 abbrev pub KeepsBy : Ask → (old new : Seat) → Type 0
-KeepsBy ask old new = Keeps (deeds_of ask) old new
+KeepsBy ask old new = Keeps (commands_done_by ask) old new
 
 abbrev pub KeepsOpened : (old new : Seat) → Type 0
 KeepsOpened old new = KeepsBy OpenDemux old new
@@ -71,4 +71,4 @@ pub record HasAnswered (ask : Ask) (now : ℕ) (old new : Seat) (t : Tell) (byte
   pub calls : List LogEntry
   pub log : log_of new ≡ log_of old ++ calls
   pub is : IsAnswered ask now calls t bytes
-  pub kept : AreKept (length (log_of old)) (deeds_of ask calls) old.outcomes.items new.outcomes.items
+  pub kept : AreKept (length (log_of old)) (commands_done_by ask calls) old.outcomes.items new.outcomes.items

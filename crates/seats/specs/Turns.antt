@@ -11,7 +11,7 @@ use Rattle.serve_frames.specs.declared.ask.Ask.TheVariants.{Leave}
 use Rattle.serve_frames.specs.declared.numbers.TheConstants.{REQUEST_LEN}
 use Rattle.serve_frames.specs.declared.tell.Tell.{Tell}
 use Rattle.seats.specs.Answered.{IsAnswered, AreClosings}
-use Rattle.seats.specs.Spelled.{Deed, deeds_of, AreKept}
+use Rattle.seats.specs.Spelled.{DoneCommand, commands_done_by, AreKept}
 use Rattle.seats.specs.Told.{reply_bytes}
 
 -- a request, the moment, the calls that were made for it, what was told, and the bytes that were read
@@ -33,12 +33,12 @@ abbrev pub calls_of : List Turn → List LogEntry
 calls_of turns = flat_map (λ t. t.calls) turns
 
 -- the commands that these turns spell, one after another
-abbrev pub spelled_by : List Turn → List Deed
-spelled_by turns = flat_map (λ t. deeds_of (ask_of t.request) t.calls) turns
+abbrev pub spelled_by : List Turn → List DoneCommand
+spelled_by turns = flat_map (λ t. commands_done_by (ask_of t.request) t.calls) turns
 
 -- and then those by which all nodes are closed
-abbrev pub spelled : List Turn → (leaving : List LogEntry) → List Deed
-spelled turns leaving = spelled_by turns ++ deeds_of Leave leaving
+abbrev pub spelled : List Turn → (leaving : List LogEntry) → List DoneCommand
+spelled turns leaving = spelled_by turns ++ commands_done_by Leave leaving
 
 module _ {T : Type 0} (source : T → SourceEnd) (sink : T → SinkEnd) (may : ℕ → Bool) where
   -- the request is taken from the line
@@ -68,7 +68,7 @@ module _ {T : Type 0} (source : T → SourceEnd) (sink : T → SinkEnd) (may : �
   abbrev pub HasTurned : (on : Bool) → (before after : T) → (old new : List LogEntry) → (was now : List Outcome) → Type 0
   HasTurned true before after old new was now =
       (t : Turn) × IsTold t before after × (new ≡ old ++ t.calls)
-      × AreKept (length old) (deeds_of (ask_of t.request) t.calls) was now
+      × AreKept (length old) (commands_done_by (ask_of t.request) t.calls) was now
   HasTurned false before after old new was now =
       (ts : List Turn) × IsLast before ts × (new ≡ old ++ calls_of ts) × AreKept (length old) (spelled_by ts) was now
 

@@ -5,11 +5,11 @@ ghost use Rattle.dmx_calls.specs.Log.{act_of};
 ghost use Rattle.dmx_calls.specs.declared.limits.TheConstants.{DEMUX_NODES as nodes};
 ghost use Rattle.dmx_calls.specs.Invocation as asks;
 ghost use Rattle.client_core.specs.Commands.{own_call as own_call_by};
-ghost use Rattle.script_run.specs.SoFar.{PassesNone};
 ghost use Rattle.serve_frames.specs.Asks.{IsAskInRange, IsWantInRange};
 ghost use Rattle.serve_frames.specs.Tells.{told_of};
 ghost use Rattle.seats.specs.declared.made.Made.{Made};
 ghost use Rattle.seats.specs.Answered.{is_busy as is_busy_by, refusal, told_opened, AreClosings, IsAnswered, IsClosing, IsFull, IsOpened};
+ghost use Rattle.seats.specs.Calls.{PassesNone};
 ghost use Rattle.seats.specs.Doing.{Does, DoesCommand, HasAnswered, KeepsBy, KeepsClosed, KeepsOne, KeepsOpened};
 ghost use Rattle.seats.specs.Holding.{HasLeft};
 ghost use Rattle.seats.specs.Seated.{IsFit, HasRoom, GoesOn};
@@ -17,7 +17,7 @@ ghost use Rattle.seats.specs.Told.{data_read, call_at};
 
 use crate::seat::{MOST_CALLS, Seat};
 use adapter::Adapter;
-use client_core::{Request, call_of};
+use client_core::call_of_want;
 use client_script::Want;
 use dmx_calls::limits::{DEMUX_NODES, NODES};
 use dmx_calls::{Call, OutcomeKind, Reply};
@@ -53,8 +53,7 @@ fn own_call(alloc: Global, want: Want, now: u64) -> Result<Call, NoMemory>
     ensures bare { IfOk result (λ call. PassesNone (act_of (invocation_of call))) }
     ensures value { IfOk result (λ call. invocation_of call ≡ own_call_by want now) }
 {
-    let call = call_of(alloc, &Request::Own(want), now)?;
-    Ok(call)
+    call_of_want(alloc, want, now)
 }
 
 // Whether the node has an owner, as this reply says.

@@ -23,9 +23,9 @@
 //! read whole is answered by the calls of the table, or, for want of memory, by none; and the bytes written for it are the reply of
 //! the call whose place they name. Only the last reply of a line may be cut off. Behind them each node is closed at most once.
 //!
-//! The requests of a line are the commands of a client of a script (`deeds_of` in `specs/Spelled.antt` says which): where a script's
-//! client has just these, its commands ask for just these calls, by the replies before each, and what the seat keeps of commands is
-//! what became of them (`lines_are_played`). The moment of a call is one of the clock.
+//! The requests of a line are the commands of a client of a script (`commands_done_by` in `specs/Spelled.antt` says which): where a
+//! script's client has just these, its commands ask for just these calls, by the replies before each, and what the seat keeps of
+//! commands is what became of them (`lines_are_played`). The moment of a call is one of the clock.
 //!
 //! What is only tested, in `serve_tests`: that no Close is made on a node that the program hasn't opened, and that a request to leave
 //! within a line closes all nodes of its program.

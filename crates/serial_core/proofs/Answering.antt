@@ -1,8 +1,8 @@
 -- Which calls leave the packets of a node and its end as they were.
-use Rattle.std.proofs.Common.{◌≡◌, refl, ap, ◌∙◌, ℕ, Bool, true, false, [], ◌∷◌}
+use Rattle.std.proofs.Common.{◌≡◌, refl, ap, ◌∙◌, ℕ, Bool, true, false, [], ◌∷◌, Option, Some, None}
 use Rattle.std.specs.Prelude.{◌||◌}
 use Rattle.dmx_calls.specs.Invocation as call
-use Rattle.dmx_calls.specs.Invocation.{Invocation, brought}
+use Rattle.dmx_calls.specs.Invocation.{Invocation}
 use Rattle.dmx_calls.specs.Response.{Response, Passed, is_accepted}
 use Rattle.dmx_calls.specs.History.{History, event, entry_of}
 use Rattle.dmx_calls.specs.Tenure.{is_end, has_ended}
@@ -11,9 +11,12 @@ use Rattle.dmx_calls.specs.Facts.{facts}
 use Rattle.dmx_calls.specs.Answer.{answer}
 use Rattle.dmx_calls.proofs.Going.{has_ended_refused, has_ended_after}
 use Rattle.client_core.specs.declared.event.Request.{Request}
-use Rattle.client_core.specs.declared.event.Request.TheVariants.{Own}
+use Rattle.client_core.specs.declared.event.Request.TheVariants.{Own, Pass}
+use Rattle.client_core.specs.Deeds.{Batches, batch_at}
+use Rattle.ts_batch.specs.Batch.{Packets}
 use Rattle.client_script.specs.declared.line.Want.TheVariants.{Open}
-use Rattle.client_core.specs.Commands.{call_of}
+use Rattle.client_core.specs.Commands.{call_of, pass_of}
+use Rattle.serial_core.specs.Inside.Legal.{from_frontend}
 
 -- ------ calls of the feeder and of clients
 
@@ -31,12 +34,22 @@ end_stays who c r h isnt = go (is_accepted r) refl where
 pub ends : (who : ℕ) (r : Response) (h : History) → is_accepted r ≡ true → has_ended (entry_of who call.End r ∷ h) ≡ true
 ends who r h ok = has_ended_after (entry_of who call.End r) h ok
 
--- a client brings no packets
-pub none_brought : (w : Request) (now : ℕ) → brought (call_of w now) ≡ []
-none_brought (Own Open) now = refl
-none_brought _ now = refl
+-- a client brings no packets of the front end
+pass_brings : (o : Option Packets) (now : ℕ) → from_frontend (pass_of o now) ≡ []
+pass_brings None now = refl
+pass_brings (Some batch) now = refl
+
+pub none_brought : (batches : Batches) (w : Request) (now : ℕ) → from_frontend (call_of batches w now) ≡ []
+none_brought batches (Own Open) now = refl
+none_brought batches (Pass write) now = pass_brings (batch_at batches write) now
+none_brought batches _ now = refl
 
 -- and doesn't end the stream
-pub no_end : (w : Request) (now who : ℕ) (r : Response) (h : History) → is_end (event (entry_of who (call_of w now) r) h) ≡ false
-no_end (Own Open) now who r h = refl
-no_end _ now who r h = refl
+pass_ends : (o : Option Packets) (now who : ℕ) (r : Response) (h : History) → is_end (event (entry_of who (pass_of o now) r) h) ≡ false
+pass_ends None now who r h = refl
+pass_ends (Some batch) now who r h = refl
+
+pub no_end : (batches : Batches) (w : Request) (now who : ℕ) (r : Response) (h : History) → is_end (event (entry_of who (call_of batches w now) r) h) ≡ false
+no_end batches (Own Open) now who r h = refl
+no_end batches (Pass write) now who r h = pass_ends (batch_at batches write) now who r h
+no_end batches _ now who r h = refl

@@ -1,10 +1,10 @@
 -- Wherever the serial run of a script has come: its nodes, its feeder and its clients.
-use Rattle.std.proofs.Common.{◌≡◌, ◌≢◌, refl, sym, ap, subst, ◌∙◌, ℕ, ◌+◌, ◌<◌, ◌≤◌, Bool, true, false, nat_eq, List, [], ◌∷◌, ◌++◌, Option, Some, None, length, length-append, take, drop, fold, min, max, ◌⊎◌, inl, inr, arith, length-take-le, length-drop}
+use Rattle.std.proofs.Common.{◌≡◌, ◌≢◌, refl, sym, ap, subst, ◌∙◌, ℕ, ◌+◌, ◌<◌, ◌≤◌, Bool, true, false, nat_eq, List, [], ◌∷◌, ◌++◌, Option, Some, None, length, length-append, take, drop, min, ◌⊎◌, inl, inr, arith, length-take-le, length-drop}
 use Rattle.std.specs.Prelude.{IsSome, is_some, if◌then◌else◌, slice_get, slice_index_or}
 use Rattle.std.specs.List.{All}
 use Rattle.std.proofs.lemmas.Bool.Decides.{nat_tests}
 use Rattle.std.proofs.lemmas.List.{length-map, length-set, get_or-set_same, get_or-set_other, drop-drop}
-use Rattle.std.proofs.lemmas.List.Elements.{All-nil, All-head, All-tail}
+use Rattle.std.proofs.lemmas.List.Elements.{All-nil}
 use Rattle.std.proofs.lemmas.List.FromFn.{get_or-map-range_with_len}
 use Rattle.lemmas.proofs.Lists.{at_last}
 use Rattle.dmx_calls.specs.declared.limits.TheConstants.{DEMUX_NODES}
@@ -16,19 +16,18 @@ use Rattle.dmx_calls.specs.History.{entry_of}
 use Rattle.dmx_calls.specs.Tenure.{has_ended}
 use Rattle.dmx_calls.specs.Rules.{rules_at}
 use Rattle.dmx_calls.specs.declared.log.Act.TheVariants.{Pass as PassAct}
-use Rattle.dmx_calls.specs.Log.{LogEntry, IsOfStream, act_of}
+use Rattle.dmx_calls.specs.Log.{IsFrom, LogEntry, act_of}
 use Rattle.client_script.specs.Grammar.{IsInRange}
-use Rattle.client_script.specs.Script.{clients_of, clients_in, Scripted}
-use Rattle.client_script.specs.declared.line.Line.{Line}
-use Rattle.client_script.specs.declared.line.Line.TheVariants.{Feed, Tick, Command}
+use Rattle.client_script.specs.Script.{Scripted}
 use Rattle.client_core.specs.declared.event.Event.{Event}
-use Rattle.client_core.specs.Commands.{call_of}
+use Rattle.client_core.specs.Deeds.{Batches}
+use Rattle.client_core.specs.Commands.{call_of, plays_of}
 use Rattle.client_core.specs.Events.{Standing, progress, next_event, waits_after, waits_on}
-use Rattle.script_run.specs.IsRun.{steps_of}
+use Rattle.script_run.specs.IsRun.{sources, steps_of}
 use Rattle.client_core.proofs.GoesOn.{last_counts}
 use Rattle.client_core.proofs.Numbering.{next_is_numbered}
 use Rattle.lemmas.proofs.Options.{same_some}
-use Rattle.script_run.proofs.Events.{no_pass, of_stream}
+use Rattle.script_run.proofs.Events.{from_client}
 use Rattle.serial_core.specs.Nodes.{Node, uncalled, history_of, answer_by, answered}
 use Rattle.serial_core.specs.SerialRun.{Run, begun, fed_to_all, passed, ended, turned, ticked, node_at, replies_of, reply_to, called, after_waiting, IsSerialRun}
 use Rattle.serial_core.specs.Budget.{IsMoment}
@@ -39,20 +38,6 @@ use Rattle.serial_core.proofs.Making.{IsOpenBehind, Waits, AreMade, others_made,
 use Rattle.serial_core.proofs.Feeding.{AreFed, fed_pass, fed_end, fed_other, none_fed}
 use Rattle.serial_core.proofs.Keeping.{AreBelow, IsKept, OnlyWaits, kept, kept_moment, waiting_replies}
 use Rattle.serial_core.proofs.Replies.{none_said}
-
--- ------ clients
-
-few_in : (line : Line) → IsInRange line → clients_of line ≤ 8
-few_in (Feed k) is = omega arith
-few_in (Tick k) is = omega arith
-few_in (Command line client target verb) is = omega (arith, is.2)
-
-few_clients : (lines : List Line) (m : ℕ) → m ≤ 8 → All IsInRange lines → fold (λ most line. max most (clients_of line)) m lines ≤ 8
-few_clients [] m le ranges = le
-few_clients (line ∷ lines) m le ranges = few_clients lines (max m (clients_of line)) (omega (arith, le, few_in line (All-head IsInRange line lines ranges))) (All-tail IsInRange line lines ranges)
-
-pub few_in_all : (script : Scripted) → All IsInRange script.lines → clients_in script ≤ 8
-few_in_all script ranges = few_clients script.lines 0 (omega arith) ranges
 
 -- ------ the end of the stream
 
@@ -79,7 +64,7 @@ module _ (script : Scripted) (batch : ℕ) (packets : List (List ℕ)) (clients 
     pub left : r.left ≡ drop r.first packets
     pub first : r.first + length r.left ≡ length packets
     pub ended : r.has_ended ≡ true → length r.left ≡ 0
-    pub sound : (node : ℕ) → node ≤ DEMUX_NODES → IsSound packets clients r.has_ended node (node_at node r)
+    pub sound : (node : ℕ) → node ≤ DEMUX_NODES → IsSound (sources script packets) clients r.has_ended node (node_at node r)
     pub fed : AreFed batch (λ node. entries_at node r) r.turns r.first r.has_ended
     pub made : (client : ℕ) → client < clients → AreMade script client (λ node. entries_at node r) r.has_ended (replies_of client r)
     pub silent : (client : ℕ) → clients ≤ client → replies_of client r ≡ []
@@ -88,11 +73,11 @@ module _ (script : Scripted) (batch : ℕ) (packets : List (List ℕ)) (clients 
   fed_entries : (node : ℕ) (c : Invocation) (r : Run) → length r.nodes ≡ DEMUX_NODES + 1 → node ≤ DEMUX_NODES → entries_at node (fed_to_all c r) ≡ entries_at node r ++ entry_for 0 r.turns c (node_at node r) ∷ []
   fed_entries node c r long le = ap entries_of (fed_at node c r long le) ∙ entries_answered 0 r.turns c (node_at node r)
 
-  fed_sound : (over : Bool) (node : ℕ) (c : Invocation) (r : Run) → length r.nodes ≡ DEMUX_NODES + 1 → node ≤ DEMUX_NODES → IsOfStream packets c
-      → (has_ended (entry_of 0 c (answer_by 0 c (node_at node r)) ∷ history_of (node_at node r)) ≡ over) → IsSound packets clients r.has_ended node (node_at node r)
-      → IsSound packets clients over node (node_at node (fed_to_all c r))
+  fed_sound : (over : Bool) (node : ℕ) (c : Invocation) (r : Run) → length r.nodes ≡ DEMUX_NODES + 1 → node ≤ DEMUX_NODES → IsFrom (sources script packets 0) c
+      → (has_ended (entry_of 0 c (answer_by 0 c (node_at node r)) ∷ history_of (node_at node r)) ≡ over) → IsSound (sources script packets) clients r.has_ended node (node_at node r)
+      → IsSound (sources script packets) clients over node (node_at node (fed_to_all c r))
   fed_sound over node c r long le of is s =
-      subst (IsSound packets clients over node) (sym (fed_at node c r long le)) (sound_answered packets clients r.has_ended over node (node_at node r) 0 r.turns c (omega arith) of is s)
+      subst (IsSound (sources script packets) clients over node) (sym (fed_at node c r long le)) (sound_answered (sources script packets) clients r.has_ended over node (node_at node r) 0 r.turns c (omega arith) of is s)
 
   fed_made : (over : Bool) (client : ℕ) (c : Invocation) (r : Run) → length r.nodes ≡ DEMUX_NODES + 1 → AreMade script client (λ node. entries_at node r) r.has_ended (replies_of client r)
       → AreMade script client (λ node. entries_at node (fed_to_all c r)) over (replies_of client r)
@@ -182,28 +167,31 @@ module _ (script : Scripted) (batch : ℕ) (packets : List (List ℕ)) (clients 
   module _ (r : Run) (client : ℕ) (e : Event) (lt : client < clients) (stands : next_event client script (replies_of client r) ≡ Some e) (p : HasCome r) (only : OnlyWaits script batch client r)
       (fed : Waits script client (replies_of client r) → r.has_ended ≡ false → (node : ℕ) → node ≤ DEMUX_NODES → IsFedLast node r) where
     abbrev after : Run
-    after = called client e r
+    after = called client (plays_of client script) e r
+
+    abbrev batches : Batches
+    batches = plays_of client script
 
     abbrev c : Invocation
-    c = call_of e.want r.moment
+    c = call_of batches e.want r.moment
 
     numbered : (e.step ≡ length (replies_of client r)) × (e.node ≤ DEMUX_NODES)
     numbered = next_is_numbered client script (replies_of client r) e ranges stands
 
-    at : (node : ℕ) → IsCalledAt client e r node
-    at node = called_at client e r node p.nodes numbered.1
+    at : (node : ℕ) → IsCalledAt client batches e r node
+    at node = called_at client batches e r node p.nodes numbered.1
 
-    call_sound : (node : ℕ) → node ≤ DEMUX_NODES → IsCalledAt client e r node → IsSound packets clients r.has_ended node (node_at node after)
+    call_sound : (node : ℕ) → node ≤ DEMUX_NODES → IsCalledAt client batches e r node → IsSound (sources script packets) clients r.has_ended node (node_at node after)
     call_sound node le (inl here) =
         let n : Node = node_at node r in
         let s = p.sound node le in
-        let stays = end_stays (client + 1) c (answer_by (client + 1) c n) (history_of n) (no_end e.want r.moment (client + 1) (answer_by (client + 1) c n) (history_of n)) in
-        subst (IsSound packets clients r.has_ended node) (sym here.1)
-        (sound_answered packets clients r.has_ended r.has_ended node n (client + 1) e.step c (omega (arith, lt)) (of_stream packets c (no_pass e.want r.moment)) (stays ∙ s.ended) s)
-    call_sound node le (inr there) = subst (IsSound packets clients r.has_ended node) (sym there.1) (p.sound node le)
+        let stays = end_stays (client + 1) c (answer_by (client + 1) c n) (history_of n) (no_end batches e.want r.moment (client + 1) (answer_by (client + 1) c n) (history_of n)) in
+        subst (IsSound (sources script packets) clients r.has_ended node) (sym here.1)
+        (sound_answered (sources script packets) clients r.has_ended r.has_ended node n (client + 1) e.step c (omega (arith, lt)) (from_client script packets client e.want r.moment) (stays ∙ s.ended) s)
+    call_sound node le (inr there) = subst (IsSound (sources script packets) clients r.has_ended node) (sym there.1) (p.sound node le)
 
     -- the log of a node has the call's entry behind it, or is the same
-    call_fed : (node : ℕ) → IsCalledAt client e r node → steps_of 0 (entries_at node after) ≡ steps_of 0 (entries_at node r)
+    call_fed : (node : ℕ) → IsCalledAt client batches e r node → steps_of 0 (entries_at node after) ≡ steps_of 0 (entries_at node r)
     call_fed node (inl here) =
         ap (steps_of 0) (ap entries_of here.1 ∙ entries_answered (client + 1) e.step c (node_at node r))
         ∙ none_fed (entries_at node r) (entry_for (client + 1) e.step c (node_at node r)) (λ is. absurd (omega (arith, is)))
@@ -212,19 +200,19 @@ module _ (script : Scripted) (batch : ℕ) (packets : List (List ℕ)) (clients 
     abbrev x : LogEntry
     x = record { node = e.node; place = length (entries_at e.node r); step = e.step; who = client + 1; act = act_of c; response = answer_by (client + 1) c (node_at e.node r) }
 
-    here : IsCalledAt client e r e.node → entries_at e.node after ≡ entries_at e.node r ++ x ∷ []
+    here : IsCalledAt client batches e r e.node → entries_at e.node after ≡ entries_at e.node r ++ x ∷ []
     here (inl is) =
         ap entries_of is.1 ∙ entries_answered (client + 1) e.step c (node_at e.node r)
         ∙ ap (λ n. entries_at e.node r ++ record { node = n; place = length (entries_at e.node r); step = e.step; who = client + 1; act = act_of c; response = answer_by (client + 1) c (node_at e.node r) } ∷ []) (p.sound e.node numbered.1).number
     here (inr not) = absurd (not.0 refl)
 
-    elsewhere : (node : ℕ) → node ≢ e.node → IsCalledAt client e r node → entries_at node after ≡ entries_at node r
+    elsewhere : (node : ℕ) → node ≢ e.node → IsCalledAt client batches e r node → entries_at node after ≡ entries_at node r
     elsewhere node ne (inl is) = absurd (ne is.0)
     elsewhere node ne (inr not) = ap entries_of not.1
 
     my_replies : replies_of client after ≡ replies_of client r ++ x.response ∷ []
     my_replies =
-        get_or-set_same r.replies client (replies_of client r ++ reply_to client e r ∷ []) [] (omega (arith, lt, few, p.eight))
+        get_or-set_same r.replies client (replies_of client r ++ reply_to client (plays_of client script) e r ∷ []) [] (omega (arith, lt, few, p.eight))
 
     -- the feeder has had its turn where the client waited
     not_last : (x : LogEntry) → x.node ≤ DEMUX_NODES → x.who ≡ client + 1 → slice_get (entries_at x.node r) x.place ≡ Some x → Waits script client (replies_of client r)
@@ -252,11 +240,11 @@ module _ (script : Scripted) (batch : ℕ) (packets : List (List ℕ)) (clients 
         (here (at e.node)) (λ node le ne. elsewhere node ne (at node)) not_last still_open))
     call_made other less false nay =
         let ne : other ≢ client = λ is. grind (arith, nat_tests, nay, is) in
-        let theirs : replies_of other after ≡ replies_of other r = get_or-set_other r.replies client other (replies_of client r ++ reply_to client e r ∷ []) [] ne in
+        let theirs : replies_of other after ≡ replies_of other r = get_or-set_other r.replies client other (replies_of client r ++ reply_to client (plays_of client script) e r ∷ []) [] ne in
         subst (λ rs. AreMade script other (λ node. entries_at node after) r.has_ended rs) (sym theirs)
         (others_made script other (λ node. entries_at node r) (λ node. entries_at node after) r.has_ended r.has_ended (replies_of other r) (λ node le. others node ne (at node))
         (λ x le waits unended. absurd (let k : true ≡ false = sym waits ∙ ap is_some (only other ne) in cc k)) (p.made other less)) where
-          others : (node : ℕ) → other ≢ client → IsCalledAt client e r node
+          others : (node : ℕ) → other ≢ client → IsCalledAt client batches e r node
               → (entries_at node after ≡ entries_at node r) ⊎ ((y : LogEntry) × (entries_at node after ≡ entries_at node r ++ y ∷ []) × (y.who ≢ other + 1))
           others node ne (inl is) =
               inr (entry_for (client + 1) e.step c (node_at node r), ap entries_of is.1 ∙ entries_answered (client + 1) e.step c (node_at node r), λ eq. absurd (ne (omega (arith, eq))))
@@ -265,14 +253,14 @@ module _ (script : Scripted) (batch : ℕ) (packets : List (List ℕ)) (clients 
     call_keeps : HasCome after
     call_keeps = record {
       nodes = length-set r.nodes e.node (answered (client + 1) e.step c (node_at e.node r)) ∙ p.nodes;
-      eight = length-set r.replies client (replies_of client r ++ reply_to client e r ∷ []) ∙ p.eight;
+      eight = length-set r.replies client (replies_of client r ++ reply_to client (plays_of client script) e r ∷ []) ∙ p.eight;
       left = p.left;
       first = p.first;
       ended = p.ended;
       sound = λ node le. call_sound node le (at node);
       fed = fed_other batch (λ node. entries_at node r) (λ node. entries_at node after) r.turns r.first r.has_ended p.fed (λ node le. call_fed node (at node));
       made = λ other less. call_made other less (nat_eq other client) refl;
-      silent = λ other above. get_or-set_other r.replies client other (replies_of client r ++ reply_to client e r ∷ []) [] (λ same. absurd (omega (arith, same, above, lt))) ∙ p.silent other above;
+      silent = λ other above. get_or-set_other r.replies client other (replies_of client r ++ reply_to client (plays_of client script) e r ∷ []) [] (λ same. absurd (omega (arith, same, above, lt))) ∙ p.silent other above;
     }
 
   -- ------ at the beginning
@@ -291,7 +279,7 @@ module _ (script : Scripted) (batch : ℕ) (packets : List (List ℕ)) (clients 
     left = refl;
     first = omega arith;
     ended = λ is. absurd (cc);
-    sound = λ node le. subst (IsSound packets clients false node) (sym (begun_at node le)) (record { number = refl; legal = tt; good = tt; ended = refl });
+    sound = λ node le. subst (IsSound (sources script packets) clients false node) (sym (begun_at node le)) (record { number = refl; legal = tt; good = tt; ended = refl });
     fed = record { batches = []; each_size = All-nil (λ b. (1 ≤ b.size) × (b.size ≤ batch)); whole = refl; counted = refl; on_each = λ node le. ap (λ n. steps_of 0 (entries_of n)) (begun_at node le) };
     made = λ client lt. record {
       made = [];

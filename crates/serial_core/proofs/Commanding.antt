@@ -1,10 +1,12 @@
 -- How the calls of a command bring the run further.
-use Rattle.std.proofs.Common.{◌≡◌, refl, sym, ap, subst, ◌∙◌, ℕ, ◌<◌, ◌≤◌, Bool, true, false, List, [], ◌∷◌, ◌++◌, Option, Some, None, length, if◌then◌else◌, arith}
+use Rattle.std.proofs.Common.{◌≡◌, refl, sym, ap, subst, ◌∙◌, ℕ, ◌<◌, ◌≤◌, Bool, true, false, [], ◌∷◌, ◌++◌, Option, Some, None, length, if◌then◌else◌, arith}
 use Rattle.std.specs.Prelude.{is_some, slice_index_or}
 use Rattle.std.proofs.lemmas.List.{get_or-set_same, get_or-set_other, length-set}
 use Rattle.emu_io.specs.Ends.{SourceEnd}
 use Rattle.client_script.specs.Script.{Scripted}
 use Rattle.client_core.specs.declared.event.Event.{Event}
+use Rattle.client_core.specs.Deeds.{Batches}
+use Rattle.client_core.specs.Commands.{plays_of}
 use Rattle.client_core.specs.Inside.Core.{Core, IsAfter}
 use Rattle.client_core.specs.Events.{next_of_line, waits_on}
 use Rattle.serial_core.specs.declared.nodes.Nodes.{Nodes}
@@ -18,16 +20,16 @@ use Rattle.serial_core.proofs.Keeping.{begun_on, waiting_replies}
 
 -- ------ one call
 
-pub moves_called : (x : SourceEnd) (old : Runner) (v : Nodes) (client : ℕ) (e : Event) (P : Run → Type 0)
+pub moves_called : (x : SourceEnd) (old : Runner) (v : Nodes) (client : ℕ) (batches : Batches) (e : Event) (P : Run → Type 0)
     → IsSound old → AreCounted v → v.has_ended ≡ old.nodes.has_ended
-    → ((r : Run) → old.moment ≡ r.moment → IsNodes old.nodes r → IsNodes v (made client e r)) → ((r : Run) → old.moment ≡ r.moment → IsNodes old.nodes r → P r)
-    → Moves x x old (record { nodes = v; puller = old.puller; moment = old.moment }) (λ r s. (s ≡ called client e r) × P r)
-moves_called x old v client e P sound counted same goes says = record {
+    → ((r : Run) → old.moment ≡ r.moment → IsNodes old.nodes r → IsNodes v (made client batches e r)) → ((r : Run) → old.moment ≡ r.moment → IsNodes old.nodes r → P r)
+    → Moves x x old (record { nodes = v; puller = old.puller; moment = old.moment }) (λ r s. (s ≡ called client batches e r) × P r)
+moves_called x old v client batches e P sound counted same goes says = record {
   packets = [];
   draws = draws_none x old.puller;
   at = λ ahead taken given later r pulls stops at left.
       let k = goes r at.moment at.nodes in (
-        called client e r,
+        called client batches e r,
         (refl, says r at.moment at.nodes),
         record { nodes = record { seats = k.seats; turns = k.turns; has_ended = k.has_ended }; first = at.first; moment = at.moment },
         left,
@@ -50,22 +52,22 @@ wait_none script batch client r is = sym (by (is_some (waits_on client script (r
 
 -- ------ calls one after another
 
-replies_called : (client : ℕ) (e : Event) (r : Run) → client < length r.replies → replies_of client (called client e r) ≡ replies_of client r ++ reply_to client e r ∷ []
-replies_called client e r lt = get_or-set_same r.replies client (replies_of client r ++ reply_to client e r ∷ []) [] lt
+replies_called : (client : ℕ) (batches : Batches) (e : Event) (r : Run) → client < length r.replies → replies_of client (called client batches e r) ≡ replies_of client r ++ reply_to client batches e r ∷ []
+replies_called client batches e r lt = get_or-set_same r.replies client (replies_of client r ++ reply_to client batches e r ∷ []) [] lt
 
 pub comes_none : (script : Scripted) (batch client line : ℕ) (r : Run) (core : Core) → length r.replies ≡ 8 → IsAfter client script (replies_of client r) core → ComesByCalls script batch client line r r core
 comes_none script batch client line r core clients after = record { after = after; clients = clients; others = λ other ne. refl; worked = λ s w. w; begun = no_call r }
 
 pub comes_on : (script : Scripted) (batch client line : ℕ) (first now s : Run) (core next : Core) (e : Event)
     → client < 8 → ComesByCalls script batch client line first now core → next_of_line client script line (replies_of client now) ≡ Some e
-    → s ≡ called client e (after_waiting script batch client now) → IsAfter client script (replies_of client now ++ reply_to client e (after_waiting script batch client now) ∷ []) next
+    → s ≡ called client (plays_of client script) e (after_waiting script batch client now) → IsAfter client script (replies_of client now ++ reply_to client (plays_of client script) e (after_waiting script batch client now) ∷ []) next
     → ComesByCalls script batch client line first s next
 comes_on script batch client line first now s core next e lt comes is to after =
     let waited : Run = after_waiting script batch client now in
     let same : waited.replies ≡ now.replies = waiting_replies script batch client now in
     let long : length waited.replies ≡ 8 = ap length same ∙ comes.clients in
-    let those : replies_of client (called client e waited) ≡ replies_of client now ++ reply_to client e waited ∷ [] =
-    replies_called client e waited (omega (arith, lt, long)) ∙ ap (λ rs. slice_index_or rs client [] ++ reply_to client e waited ∷ []) same in
+    let those : replies_of client (called client (plays_of client script) e waited) ≡ replies_of client now ++ reply_to client (plays_of client script) e waited ∷ [] =
+    replies_called client (plays_of client script) e waited (omega (arith, lt, long)) ∙ ap (λ rs. slice_index_or rs client [] ++ reply_to client (plays_of client script) e waited ∷ []) same in
     subst (λ r. ComesByCalls script batch client line first r next) (sym to) record {
       after = subst (λ rs. IsAfter client script rs next) (sym those) after;
       clients = length-set waited.replies client _ ∙ long;

@@ -13,12 +13,12 @@ use Rattle.dmx_calls.specs.declared.log.Act.{Act}
 use Rattle.dmx_calls.specs.Histories.{feeder_acts, histories_of, woven, woven_nodes}
 use Rattle.emu_io.specs.Ends.{SourceEnd}
 use Rattle.client_script.specs.Grammar.{IsInRange}
-use Rattle.client_script.specs.Script.{Scripted}
+use Rattle.client_script.specs.Script.{AreNumbered, Scripted}
 use Rattle.serial_core.specs.declared.seat.Seat.{Seat}
 use Rattle.serial_core.specs.declared.nodes.Nodes.{Nodes}
 use Rattle.client_core.specs.Inside.Core.{Core, IsAfter}
 use Rattle.client_core.specs.Outcomes.{outcomes}
-use Rattle.script_run.specs.Budget.{most_calls, all_commands}
+use Rattle.script_run.specs.Budget.{all_commands, bytes_written, most_calls}
 use Rattle.ts_watch.specs.Head.{told_head, head_of}
 use Rattle.feed_pull.specs.Pulling.{Pulls, IsDone}
 use Rattle.feed_pull.proofs.PullLemmas.{Pulls-done, Pulls-front, Pulls-size}
@@ -102,16 +102,16 @@ module _ (script : Scripted) (batch : ℕ) (x y : SourceEnd) (old new : Runner) 
         head = head ahead taken ps p ∙ ap (λ size. head_of size (ahead ++ taken) left.head.read_fault) kept;
       })
 
-  pub overrun_is : All IsInRange script.lines → 1 ≤ batch → Moves x y old new (AllOverrunBy batch script.lines cores)
-      → OfStream x y old.puller (λ ahead taken. 2 ^ 39 ≤ most_calls (all_commands script.lines) (length ahead + length taken))
-  overrun_is ranges one moves =
-      of_run (AllOverrunBy batch script.lines cores) (λ ahead taken. 2 ^ 39 ≤ most_calls (all_commands script.lines) (length ahead + length taken)) moves
+  pub overrun_is : All IsInRange script.lines → AreNumbered script → 1 ≤ batch → Moves x y old new (AllOverrunBy batch script.lines cores)
+      → OfStream x y old.puller (λ ahead taken. 2 ^ 39 ≤ most_calls (all_commands script.lines) (length ahead + length taken + bytes_written script))
+  overrun_is ranges numbered one moves =
+      of_run (AllOverrunBy batch script.lines cores) (λ ahead taken. 2 ^ 39 ≤ most_calls (all_commands script.lines) (length ahead + length taken + bytes_written script)) moves
       (λ ahead taken ps r p goes at.
       let front = Pulls-front ahead taken ps new.puller p in
       let packets : All IsPacket ps = All-take_front ps front.0 (subst (λ qs. All IsPacket qs) front.1 (are_packets new.puller.cutting.size (ahead ++ taken))) in
       let o = goes script refl (fresh_after script ps cores fresh) in
-      let few = within_budget.moments script batch ps r ranges one packets o.way o.client in
-      omega (arith, few, o.calls, commands_shared script.lines (suc o.client), Pulls-size ahead taken ps new.puller p))
+      let few = within_budget.moments script batch ps r ranges numbered one packets o.way o.client in
+      omega (arith, few, o.calls, commands_shared script script.lines (suc o.client), Pulls-size ahead taken ps new.puller p))
     where
       All-take_front : (xs ys : List (List ℕ)) → All IsPacket (xs ++ ys) → All IsPacket xs
       All-take_front xs ys all k d lt = subst IsPacket (get_or_append_left xs ys d k lt) (all k d (omega (arith, lt, length-append xs ys)))

@@ -6,48 +6,50 @@ use Rattle.std.proofs.lemmas.List.{length-set, get_or-set_same}
 use Rattle.std.proofs.lemmas.List.Elements.{All-head, All-tail}
 use Rattle.ts_packet.specs.Fields.{IsPacket}
 use Rattle.client_script.specs.Grammar.{IsInRange}
-use Rattle.client_script.specs.Script.{Scripted}
+use Rattle.client_script.specs.Script.{clients_in, Scripted}
 use Rattle.client_script.specs.declared.line.Line.{Line}
 use Rattle.client_script.specs.declared.line.Line.TheVariants.{Feed, Tick, Command}
 use Rattle.client_core.specs.declared.event.Event.{Event}
-use Rattle.client_core.specs.Commands.{commands_of}
+use Rattle.client_core.specs.Commands.{commands_of, plays_of}
 use Rattle.client_core.specs.Events.{next_of_line}
 use Rattle.script_run.specs.Budget.{most_calls}
+use Rattle.script_run.proofs.Counting.{total}
+use Rattle.script_run.proofs.Paying.{plays_by}
 use Rattle.serial_core.specs.SerialRun.{Run, begun, fed, ticked, replies_of, reply_to, called, after_waiting, IsWorked, through, calls, AreDone, finished}
 use Rattle.serial_core.specs.Budget.{IsBegun, no_call, one_call, IsOnTheWay, IsMoment}
 use Rattle.serial_core.specs.Runs.{HaveSerialRuns}
 use Rattle.serial_core.proofs.Keeping.{fed_replies, waiting_replies, way_fed, way_ticked, way_worked, way_begun}
-use Rattle.serial_core.proofs.Runs.{within_budget}
+use Rattle.serial_core.proofs.Runs.{moments_bounded}
 
 module _ (script : Scripted) (batch : ℕ) (packets : List (List ℕ)) (ranges : All IsInRange script.lines) (are : All IsPacket packets) (one : 1 ≤ batch) where
   -- the most calls of a client
   abbrev most : (client : ℕ) → ℕ
-  most client = most_calls (length (commands_of client script)) (188 * length packets)
+  most client = most_calls (length (commands_of client script)) (188 * (length packets + total (plays_by script script.lines) (clients_in script)))
 
   calls_most : (client : ℕ) (r : Run) → IsMoment script batch packets r → length (replies_of client r) ≤ most client
-  calls_most client r moment = within_budget.moments script batch packets r ranges one are moment client
+  calls_most client r moment = moments_bounded script batch packets r ranges one are moment client
 
   -- a call leaves eight clients, and gives the caller one reply
-  call_clients : (client : ℕ) (e : Event) (r : Run) → length r.replies ≡ 8 → length (called client e (after_waiting script batch client r)).replies ≡ 8
+  call_clients : (client : ℕ) (e : Event) (r : Run) → length r.replies ≡ 8 → length (called client (plays_of client script) e (after_waiting script batch client r)).replies ≡ 8
   call_clients client e r eight =
       let w : Run = after_waiting script batch client r in
-      length-set w.replies client (replies_of client w ++ reply_to client e w ∷ []) ∙ ap length (waiting_replies script batch client r) ∙ eight
+      length-set w.replies client (replies_of client w ++ reply_to client (plays_of client script) e w ∷ []) ∙ ap length (waiting_replies script batch client r) ∙ eight
 
-  call_replies : (client : ℕ) (e : Event) (r : Run) → client < 8 → length r.replies ≡ 8 → length (replies_of client (called client e (after_waiting script batch client r))) ≡ length (replies_of client r) + 1
+  call_replies : (client : ℕ) (e : Event) (r : Run) → client < 8 → length r.replies ≡ 8 → length (replies_of client (called client (plays_of client script) e (after_waiting script batch client r))) ≡ length (replies_of client r) + 1
   call_replies client e r lt eight =
       let w : Run = after_waiting script batch client r in
       let same : w.replies ≡ r.replies = waiting_replies script batch client r in
       let there : client < length w.replies = omega (arith, lt, ap length same, eight) in
-      ap length (get_or-set_same w.replies client (replies_of client w ++ reply_to client e w ∷ []) [] there) ∙ length-append (replies_of client w) (reply_to client e w ∷ [])
+      ap length (get_or-set_same w.replies client (replies_of client w ++ reply_to client (plays_of client script) e w ∷ []) [] there) ∙ length-append (replies_of client w) (reply_to client (plays_of client script) e w ∷ [])
       ∙ ap (λ rs. length (slice_index_or rs client []) + 1) same
 
   command_ends : (fuel client line : ℕ) (r : Run) → client < 8 → length r.replies ≡ 8 → ((s : Run) → IsBegun script batch client line r s → IsMoment script batch packets s)
       → length (replies_of client r) + fuel ≡ most client + 1 → (s : Run) × IsWorked script batch client line r s
   command_ends zero client line r lt eight moment is = absurd (omega (arith, is, calls_most client r (moment r (no_call r))))
   command_ends (suc fuel) client line r lt eight moment is =
-      go (λ e at. command_ends fuel client line (called client e (after_waiting script batch client r)) lt (call_clients client e r eight) (λ s begun. moment s (one_call r s e at begun))
+      go (λ e at. command_ends fuel client line (called client (plays_of client script) e (after_waiting script batch client r)) lt (call_clients client e r eight) (λ s begun. moment s (one_call r s e at begun))
       (omega (arith, is, call_replies client e r lt eight))) (next_of_line client script line (replies_of client r)) refl where
-        go : ((e : Event) → next_of_line client script line (replies_of client r) ≡ Some e → (s : Run) × IsWorked script batch client line (called client e (after_waiting script batch client r)) s)
+        go : ((e : Event) → next_of_line client script line (replies_of client r) ≡ Some e → (s : Run) × IsWorked script batch client line (called client (plays_of client script) e (after_waiting script batch client r)) s)
             → (o : Option Event) → next_of_line client script line (replies_of client r) ≡ o → (s : Run) × IsWorked script batch client line r s
         go deeper None none = (r, through r none)
         go deeper (Some e) some = let later = deeper e some in (later.0, calls r later.0 e some later.1)

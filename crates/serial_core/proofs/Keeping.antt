@@ -15,6 +15,7 @@ use Rattle.client_script.specs.declared.line.Target.{Target}
 use Rattle.client_script.specs.declared.line.Verb.{Verb}
 use Rattle.std.proofs.lemmas.List.{get_or-set_other}
 use Rattle.client_core.specs.declared.event.Event.{Event}
+use Rattle.client_core.specs.Commands.{plays_of}
 use Rattle.client_core.specs.Events.{progress, next_event, next_of_line, waits_on}
 use Rattle.client_core.proofs.Ended.{ended_waits_not}
 use Rattle.client_core.proofs.GoesOn.{none_waits as before_first}
@@ -159,22 +160,22 @@ module _ (script : Scripted) (batch : ℕ) where
   waited_only client r only other ne = ap (λ rs. waits_on other script (slice_index_or rs other [])) (waiting_replies script batch client r) ∙ only other ne
 
   -- a client's call leaves the others' replies
-  called_only : (client : ℕ) (e : Event) (r : Run) → OnlyWaits client r → OnlyWaits client (called client e r)
+  called_only : (client : ℕ) (e : Event) (r : Run) → OnlyWaits client r → OnlyWaits client (called client (plays_of client script) e r)
   called_only client e r only other ne =
-      ap (λ rs. waits_on other script rs) (get_or-set_other r.replies client other (replies_of client r ++ reply_to client e r ∷ []) [] ne) ∙ only other ne
+      ap (λ rs. waits_on other script rs) (get_or-set_other r.replies client other (replies_of client r ++ reply_to client (plays_of client script) e r ∷ []) [] ne) ∙ only other ne
 
   -- where the command of this line is through, the client doesn't wait
   abbrev WaitsIn : (client line : ℕ) → Run → Type 0
   WaitsIn client line r = next_of_line client script line (replies_of client r) ≡ None → waits_on client script (replies_of client r) ≡ None
 
-  called_in : (client line : ℕ) (e : Event) (r : Run) → next_of_line client script line (replies_of client r) ≡ Some e → WaitsIn client line (called client e r)
-  called_in client line e r is none = go (index_set r.replies client client (replies_of client r ++ reply_to client e r ∷ [])) where
-    go : (replies_of client (called client e r) ≡ replies_of client r) ⊎ (client ≡ client) × (replies_of client (called client e r) ≡ replies_of client r ++ reply_to client e r ∷ [])
-        → waits_on client script (replies_of client (called client e r)) ≡ None
+  called_in : (client line : ℕ) (e : Event) (r : Run) → next_of_line client script line (replies_of client r) ≡ Some e → WaitsIn client line (called client (plays_of client script) e r)
+  called_in client line e r is none = go (index_set r.replies client client (replies_of client r ++ reply_to client (plays_of client script) e r ∷ [])) where
+    go : (replies_of client (called client (plays_of client script) e r) ≡ replies_of client r) ⊎ (client ≡ client) × (replies_of client (called client (plays_of client script) e r) ≡ replies_of client r ++ reply_to client (plays_of client script) e r ∷ [])
+        → waits_on client script (replies_of client (called client (plays_of client script) e r)) ≡ None
     go (inl same) = absurd (none-some e (sym none ∙ ap (λ rs. next_of_line client script line rs) same ∙ is))
     go (inr mine) =
         ap (λ rs. waits_on client script rs) mine.1
-        ∙ ended_waits_not client script line (replies_of client r) (reply_to client e r) e is (sym (ap (λ rs. next_of_line client script line rs) mine.1) ∙ none)
+        ∙ ended_waits_not client script line (replies_of client r) (reply_to client (plays_of client script) e r) e is (sym (ap (λ rs. next_of_line client script line rs) mine.1) ∙ none)
 
   none_waits : (client : ℕ) (r : Run) → OnlyWaits client r → waits_on client script (replies_of client r) ≡ None → NoneWaits r
   none_waits client r only none other = go (nat_eq other client) refl where
@@ -192,7 +193,7 @@ pub record IsKept (script : Scripted) (batch clients : ℕ) (P : Run → Type 0)
   pub feeds : IsFedOn batch P
   pub ticks : (r : Run) (time : ℕ) → P r → P (ticked time r)
   pub calls : (r : Run) (client : ℕ) (e : Event) → client < clients → next_event client script (replies_of client (after_waiting script batch client r)) ≡ Some e
-      → OnlyWaits script batch client (after_waiting script batch client r) → P r → P (after_waiting script batch client r) → P (called client e (after_waiting script batch client r))
+      → OnlyWaits script batch client (after_waiting script batch client r) → P r → P (after_waiting script batch client r) → P (called client (plays_of client script) e (after_waiting script batch client r))
 
 module _ (script : Scripted) (batch clients : ℕ) (P : Run → Type 0) (keeps : IsKept script batch clients P) where
   kept_waited : (client : ℕ) (r : Run) → P r → P (after_waiting script batch client r)
@@ -207,7 +208,7 @@ module _ (script : Scripted) (batch clients : ℕ) (P : Run → Type 0) (keeps :
     only : OnlyWaits script batch client r
 
   work_called : (client line : ℕ) (r : Run) (e : Event) → client < clients → next_of_line client script line (replies_of client r) ≡ Some e → IsAtWork client r
-      → IsAtWork client (called client e (after_waiting script batch client r)) × WaitsIn script batch client line (called client e (after_waiting script batch client r))
+      → IsAtWork client (called client (plays_of client script) e (after_waiting script batch client r)) × WaitsIn script batch client line (called client (plays_of client script) e (after_waiting script batch client r))
   work_called client line r e lt is w =
       let x : Run = after_waiting script batch client r in
       let same : replies_of client x ≡ replies_of client r = ap (λ rs. slice_index_or rs client []) (waiting_replies script batch client r) in
@@ -279,6 +280,6 @@ module _ (script : Scripted) (batch : ℕ) where
 
   -- one call more
   pub begun_on : (client line : ℕ) (r s : Run) (e : Event) → IsBegun script batch client line r s → next_of_line client script line (replies_of client s) ≡ Some e
-      → IsBegun script batch client line r (called client e (after_waiting script batch client s))
+      → IsBegun script batch client line r (called client (plays_of client script) e (after_waiting script batch client s))
   begun_on client line r s e (no_call _) is = one_call r _ e is (no_call _)
   begun_on client line r s e (one_call _ _ x at more) is = one_call r _ x at (begun_on client line _ s e more is)

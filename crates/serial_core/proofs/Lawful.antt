@@ -7,15 +7,16 @@ use Rattle.std.proofs.lemmas.List.Elements.{All-head, All-tail, All-map, All-wea
 use Rattle.std.proofs.Math.Seq.{map-set_same}
 use Rattle.dmx_calls.specs.declared.limits.TheConstants.{DEMUX_NODES}
 use Rattle.dmx_calls.specs.Invocation as call
-use Rattle.dmx_calls.specs.Invocation.{Invocation, brought}
+use Rattle.dmx_calls.specs.Invocation.{Invocation}
 use Rattle.dmx_calls.specs.Rules.{rules_at}
 use Rattle.dmx_calls.specs.Legal.{IsLegalFor}
 use Rattle.client_script.specs.Script.{clients_in, Scripted}
-use Rattle.client_core.specs.Commands.{call_of}
+use Rattle.client_core.specs.Deeds.{Batches}
+use Rattle.client_core.specs.Commands.{call_of, plays_of}
 use Rattle.serial_core.specs.Nodes.{Node, uncalled, history_of, answered}
 use Rattle.serial_core.specs.SerialRun.{Run, fed_to_all, ended, all_passed, node_at, after_waiting, IsSerialRun}
 use Rattle.serial_core.specs.Laws.{HistoriesAreLegal, PacketsPass}
-use Rattle.serial_core.specs.Inside.Legal.{AreLegal, packets_through}
+use Rattle.serial_core.specs.Inside.Legal.{AreLegal, from_frontend, packets_through}
 use Rattle.serial_core.proofs.Answering.{none_brought}
 use Rattle.serial_core.proofs.Keeping.{IsKept, all_below, kept, none_left}
 
@@ -35,14 +36,14 @@ same_numbers : (who step : ℕ) (c : Invocation) (ns : List Node) → map (λ n.
 same_numbers who step c [] = refl
 same_numbers who step c (n ∷ ns) = ap (λ ms. n.number ∷ ms) (same_numbers who step c ns)
 
-to_all : (step : ℕ) (c : Invocation) (ns : List Node) (n : ℕ) (gone : List (List ℕ)) → map packets_through ns ≡ replicate n gone → map packets_through (map (answered 0 step c) ns) ≡ replicate n (gone ++ brought c)
+to_all : (step : ℕ) (c : Invocation) (ns : List Node) (n : ℕ) (gone : List (List ℕ)) → map packets_through ns ≡ replicate n gone → map packets_through (map (answered 0 step c) ns) ≡ replicate n (gone ++ from_frontend c)
 to_all step c [] zero gone is = refl
 to_all step c [] (suc n) gone is = absurd (cc)
 to_all step c (x ∷ xs) zero gone is = absurd (cc)
 to_all step c (x ∷ xs) (suc n) gone is =
     let first : packets_through x ≡ gone = cc in
     let others : map packets_through xs ≡ replicate n gone = cc in
-    rw (to_all step c xs n gone others) (ap (λ p. (p ++ brought c) ∷ replicate n (gone ++ brought c)) first)
+    rw (to_all step c xs n gone others) (ap (λ p. (p ++ from_frontend c) ∷ replicate n (gone ++ from_frontend c)) first)
 
 fed_legal : (c : Invocation) (r : Run) → AreLegal r → AreLegal (fed_to_all c r)
 fed_legal c r p = record {
@@ -50,7 +51,7 @@ fed_legal c r p = record {
   legal = All-map IsLegalNode (answered 0 r.turns c) r.nodes (All-weaker IsLegalNode (λ n. IsLegalNode (answered 0 r.turns c n)) (λ n legal. (legal, inl refl)) r.nodes p.legal);
 }
 
--- ------ a call of a client, which brings no packets
+-- ------ a call of a client, which brings no packets of the front end
 
 one_legal : (i number : ℕ) (ns : List Node) → All IsLegalNode ns → IsLegalNode (get_or ns i (uncalled number))
 one_legal i number [] all = tt
@@ -82,10 +83,11 @@ module _ (packets : List (List ℕ)) where
     };
     ticks = λ r time p. record { legal = record { numbers = p.legal.numbers; legal = p.legal.legal }; gone = p.gone; through = p.through; whole = p.whole };
     calls = λ before client e lt stands only was p. let r = after_waiting script batch client before in
-        let c : Invocation = call_of e.want r.moment in
+        let batches : Batches = plays_of client script in
+        let c : Invocation = call_of batches e.want r.moment in
         let n : Node = node_at e.node r in
         let m : Node = answered (client + 1) e.step c n in
-        let same : packets_through n ++ brought c ≡ packets_through n = ap (λ more. packets_through n ++ more) (none_brought e.want r.moment) ∙ append-nil (packets_through n) in
+        let same : packets_through n ++ from_frontend c ≡ packets_through n = ap (λ more. packets_through n ++ more) (none_brought batches e.want r.moment) ∙ append-nil (packets_through n) in
         record {
           legal = record {
             numbers = map-set_same (λ n. n.number) r.nodes e.node m (uncalled e.node) refl ∙ p.legal.numbers;

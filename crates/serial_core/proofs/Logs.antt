@@ -8,6 +8,7 @@ use Rattle.dmx_calls.specs.declared.limits.TheConstants.{DEMUX_NODES}
 use Rattle.dmx_calls.specs.Invocation.{Invocation}
 use Rattle.dmx_calls.specs.Log.{LogEntry, act_of}
 use Rattle.client_core.specs.declared.event.Event.{Event}
+use Rattle.client_core.specs.Deeds.{Batches}
 use Rattle.client_core.specs.Commands.{call_of}
 use Rattle.lemmas.proofs.Options.{same_some}
 use Rattle.serial_core.specs.Nodes.{Told, Node, uncalled, answer_by, answered, log_in, log_of}
@@ -21,21 +22,21 @@ pub fed_at : (node : ℕ) (c : Invocation) (r : Run) → length r.nodes ≡ DEMU
 fed_at node c r long le = get_or-map (answered 0 r.turns c) r.nodes node (uncalled node) (uncalled node) (omega (arith, le, long))
 
 -- a call of a client
-abbrev pub IsCalledAt : (client : ℕ) → Event → Run → (node : ℕ) → Type 0
-IsCalledAt client e r node =
-    (node ≡ e.node) × (node_at node (called client e r) ≡ answered (client + 1) e.step (call_of e.want r.moment) (node_at node r))
-    ⊎ (node ≢ e.node) × (node_at node (called client e r) ≡ node_at node r)
+abbrev pub IsCalledAt : (client : ℕ) → Batches → Event → Run → (node : ℕ) → Type 0
+IsCalledAt client batches e r node =
+    (node ≡ e.node) × (node_at node (called client batches e r) ≡ answered (client + 1) e.step (call_of batches e.want r.moment) (node_at node r))
+    ⊎ (node ≢ e.node) × (node_at node (called client batches e r) ≡ node_at node r)
 
-pub called_at : (client : ℕ) (e : Event) (r : Run) (node : ℕ) → length r.nodes ≡ DEMUX_NODES + 1 → e.node ≤ DEMUX_NODES → IsCalledAt client e r node
-called_at client e r node long there = go (nat_eq node e.node) refl where
-  go : (b : Bool) → nat_eq node e.node ≡ b → IsCalledAt client e r node
+pub called_at : (client : ℕ) (batches : Batches) (e : Event) (r : Run) (node : ℕ) → length r.nodes ≡ DEMUX_NODES + 1 → e.node ≤ DEMUX_NODES → IsCalledAt client batches e r node
+called_at client batches e r node long there = go (nat_eq node e.node) refl where
+  go : (b : Bool) → nat_eq node e.node ≡ b → IsCalledAt client batches e r node
   go true same =
       let eq : node ≡ e.node = grind (arith, nat_tests, same) in
       let lt : e.node < length r.nodes = omega (arith, there, long) in
-      inl (eq, subst (λ n. node_at n (called client e r) ≡ answered (client + 1) e.step (call_of e.want r.moment) (node_at n r)) (sym eq) (get_or-set_same r.nodes e.node (answered (client + 1) e.step (call_of e.want r.moment) (node_at e.node r)) (uncalled e.node) lt))
+      inl (eq, subst (λ n. node_at n (called client batches e r) ≡ answered (client + 1) e.step (call_of batches e.want r.moment) (node_at n r)) (sym eq) (get_or-set_same r.nodes e.node (answered (client + 1) e.step (call_of batches e.want r.moment) (node_at e.node r)) (uncalled e.node) lt))
   go false other =
       let ne : node ≢ e.node = λ same. grind (arith, nat_tests, other, same) in
-      inr (ne, get_or-set_other r.nodes e.node node (answered (client + 1) e.step (call_of e.want r.moment) (node_at e.node r)) (uncalled node) ne)
+      inr (ne, get_or-set_other r.nodes e.node node (answered (client + 1) e.step (call_of batches e.want r.moment) (node_at e.node r)) (uncalled node) ne)
 
 -- ------ their entries
 

@@ -10,7 +10,7 @@ use Rattle.dmx_calls.specs.Response.{Response}
 use Rattle.dmx_calls.specs.Log.{LogEntry, act_of}
 use Rattle.client_script.specs.Script.{Scripted}
 use Rattle.client_core.specs.declared.event.Event.{Event}
-use Rattle.client_core.specs.Commands.{call_of}
+use Rattle.client_core.specs.Commands.{call_of, plays_of}
 use Rattle.client_core.specs.Events.{next_event, waits_on}
 use Rattle.script_run.specs.IsRun.{IsEvent, replies}
 use Rattle.lemmas.proofs.Lists.{at_before, at_last as got_last, at_end}
@@ -34,7 +34,7 @@ module _ (script : Scripted) (client : ℕ) where
     pub who : e.who ≡ client + 1
     pub within : e.node ≤ DEMUX_NODES
     pub there : slice_get (logs e.node) e.place ≡ Some e
-    pub event : IsEvent (next_event client script before) e
+    pub event : IsEvent (plays_of client script) (next_event client script before) e
 
   -- the calls that a client has made, by the logs of the nodes and its replies, where the stream has ended or not
   pub record AreMade (logs : ℕ → List LogEntry) (ended : Bool) (got : List Response) : Type 0 where
@@ -83,7 +83,7 @@ module _ (script : Scripted) (client : ℕ) where
 
   module _ (logs after : ℕ → List LogEntry) (got : List Response) (x : LogEntry) (event : Event) (moment : ℕ) (ended : Bool) (m : AreMade logs ended got)
       (stands : next_event client script got ≡ Some event) (on : x.node ≡ event.node) (within : x.node ≤ DEMUX_NODES) (step : x.step ≡ length got) (who : x.who ≡ client + 1)
-      (place : x.place ≡ length (logs x.node)) (act : x.act ≡ act_of (call_of event.want moment)) (here : after x.node ≡ logs x.node ++ x ∷ [])
+      (place : x.place ≡ length (logs x.node)) (act : x.act ≡ act_of (call_of (plays_of client script) event.want moment)) (here : after x.node ≡ logs x.node ++ x ∷ [])
       (elsewhere : (node : ℕ) → node ≤ DEMUX_NODES → node ≢ x.node → after node ≡ logs node)
       (fed : (e : LogEntry) → e.node ≤ DEMUX_NODES → e.who ≡ client + 1 → slice_get (logs e.node) e.place ≡ Some e → Waits got → IsOpenBehind logs ended e → ⊥)
       (unended : Waits (got ++ x.response ∷ []) → ended ≡ false) where
@@ -122,10 +122,10 @@ module _ (script : Scripted) (client : ℕ) where
     seam : take (length m.made) all ≡ m.made
     seam = take-append_seam m.made (x ∷ [])
 
-    is_event : IsEvent (next_event client script (replies (take (length m.made) all))) x
+    is_event : IsEvent (plays_of client script) (next_event client script (replies (take (length m.made) all))) x
     is_event =
         let next : next_event client script (replies (take (length m.made) all)) ≡ Some event = ap (λ l. next_event client script (replies l)) seam ∙ ap (λ rs. next_event client script rs) m.same ∙ stands in
-        subst (λ o. IsEvent o x) (sym next) (on, (moment, act))
+        subst (λ o. IsEvent (plays_of client script) o x) (sym next) (on, (moment, act))
 
     at_last : IsMadeAt after (replies (take (length m.made) all)) (length m.made) x
     at_last = record {
@@ -145,7 +145,7 @@ module _ (script : Scripted) (client : ℕ) where
           who = at.who;
           within = at.within;
           there = stays_here e.node e.place e at.within at.there;
-          event = subst (λ l. IsEvent (next_event client script (replies l)) e) (sym (take-append-le i m.made (x ∷ []) lt)) at.event;
+          event = subst (λ l. IsEvent (plays_of client script) (next_event client script (replies l)) e) (sym (take-append-le i m.made (x ∷ []) lt)) at.event;
         }
     new_steps i e (inr new) = subst (λ y. IsMadeAt after (replies (take i all)) i y) new.1 (subst (λ k. IsMadeAt after (replies (take k all)) k x) (sym new.0) at_last)
 

@@ -10,17 +10,19 @@ use Rattle.dmx_calls.specs.Rules.{rules_at}
 use Rattle.dmx_calls.specs.Legal.{IsLegalFor}
 use Rattle.dmx_calls.specs.Log.{LogEntry, filled}
 use Rattle.client_script.specs.Grammar.{IsInRange}
-use Rattle.client_script.specs.Script.{clients_in, Scripted}
+use Rattle.client_script.specs.Script.{AreNumbered, clients_in, Scripted}
 use Rattle.client_core.specs.Commands.{commands_of}
 use Rattle.client_core.specs.Events.{next_event}
-use Rattle.script_run.specs.Budget.{most_calls}
-use Rattle.script_run.specs.IsRun.{Batch, Step, feeding, replies, steps_of}
+use Rattle.script_run.specs.Budget.{bytes_written, most_calls}
+use Rattle.script_run.specs.IsRun.{Batch, Step, feeding, replies, sources, steps_of}
 use Rattle.script_run.specs.SoFar.{feeder, IsPaidBehind, IsFedSoFar, HasDoneSoFar, IsSoFar, IsOver}
 use Rattle.script_run.proofs.Ending.{runs_end, are_accounted}
-use Rattle.script_run.proofs.Paying.{calls_are_paid}
+use Rattle.script_run.proofs.Clients.{few_in_all}
+use Rattle.script_run.proofs.Counting.{total}
+use Rattle.script_run.proofs.Paying.{calls_are_bounded, calls_are_paid, plays_by}
 use Rattle.serial_core.specs.Nodes.{history_of}
 use Rattle.serial_core.specs.SerialRun.{Run, all_passed, node_at, replies_of}
-use Rattle.serial_core.specs.Budget.{IsWithinBudget}
+use Rattle.serial_core.specs.Budget.{IsMoment, IsWithinBudget}
 use Rattle.serial_core.specs.Left.{histories_in}
 use Rattle.serial_core.specs.Runs.{IsAccountedRun, SerialRunsAreRuns}
 use Rattle.serial_core.proofs.Logs.{entries_of, entries_at, histories_get, histories_is}
@@ -29,20 +31,20 @@ use Rattle.serial_core.proofs.Making.{AreMade, IsFedBehind, IsOpenBehind}
 use Rattle.serial_core.proofs.Feeding.{all_fed, passes_of, end_of}
 use Rattle.serial_core.proofs.Keeping.{all_below}
 use Rattle.serial_core.proofs.Throughout.{none_stands}
-use Rattle.serial_core.proofs.Coming.{HasCome, few_in_all, ended_over, moment_come, run_come}
+use Rattle.serial_core.proofs.Coming.{HasCome, ended_over, moment_come, run_come}
 
 module _ (script : Scripted) (batch : ℕ) (packets : List (List ℕ)) (few : clients_in script ≤ 8) (ranges : All IsInRange script.lines) (r : Run) (p : HasCome script batch packets (clients_in script) few ranges r) where
-  placed : (node place : ℕ) (h : List LogEntry) (e : LogEntry) → slice_get (histories_in r) node ≡ Some h → slice_get h place ≡ Some e → IsPlaced packets (clients_in script) node place e
+  placed : (node place : ℕ) (h : List LogEntry) (e : LogEntry) → slice_get (histories_in r) node ≡ Some h → slice_get h place ≡ Some e → IsPlaced (sources script packets) (clients_in script) node place e
   placed node place h e log is =
       let w = histories_is r node h p.nodes log in
-      sound_placed packets (clients_in script) r.has_ended node (node_at node r) (p.sound node w.0) place e (subst (λ l. slice_get l place ≡ Some e) (sym w.1) is)
+      sound_placed (sources script packets) (clients_in script) r.has_ended node (node_at node r) (p.sound node w.0) place e (subst (λ l. slice_get l place ≡ Some e) (sym w.1) is)
 
-  legal : (node : ℕ) (h : List LogEntry) → slice_get (histories_in r) node ≡ Some h → IsLegalFor (rules_at node) (filled packets h)
+  legal : (node : ℕ) (h : List LogEntry) → slice_get (histories_in r) node ≡ Some h → IsLegalFor (rules_at node) (filled (sources script packets) h)
   legal node h log =
       let w = histories_is r node h p.nodes log in
       let s = p.sound node w.0 in
-      subst (λ l. IsLegalFor (rules_at node) (filled packets l)) w.1
-      (subst (IsLegalFor (rules_at node)) (sym (sound_filled packets (clients_in script) r.has_ended node (node_at node r) s)) (subst (λ n. IsLegalFor (rules_at n) (history_of (node_at node r))) s.number s.legal))
+      subst (λ l. IsLegalFor (rules_at node) (filled (sources script packets) l)) w.1
+      (subst (IsLegalFor (rules_at node)) (sym (sound_filled (sources script packets) (clients_in script) r.has_ended node (node_at node r) s)) (subst (λ n. IsLegalFor (rules_at n) (history_of (node_at node r))) s.number s.legal))
 
   -- ------ the feeder
 
@@ -101,14 +103,25 @@ module _ (script : Scripted) (batch : ℕ) (packets : List (List ℕ)) (few : cl
   so_far = record { nodes = length-map r.nodes entries_of ∙ p.nodes; places = placed; legal = legal; fed = fed; clients = done }
 
   -- its calls are paid
-  bound : All IsPacket packets → (client : ℕ) → length (replies_of client r) ≤ most_calls (length (commands_of client script)) (188 * length packets)
+  calls_within : (bytes : ℕ) → ((client : ℕ) (lt : client < clients_in script) → length (so_far.clients client lt).made ≤ most_calls (length (commands_of client script)) bytes)
+      → (client : ℕ) → length (replies_of client r) ≤ most_calls (length (commands_of client script)) bytes
   unfolding so_far done
-  bound are client = elim (cases_lt client (clients_in script)) [
+  calls_within bytes few client = elim (cases_lt client (clients_in script)) [
     | inl lt ↦
         let count : length (p.made client lt).made ≡ length (replies_of client r) = sym (length-map (p.made client lt).made (λ e. e.response)) ∙ ap length (p.made client lt).same in
-        omega (arith, count, calls_are_paid feeder script batch packets (histories_in r) so_far are client lt)
+        omega (arith, count, few client lt)
     | inr above ↦ omega (arith, ap length (p.silent client above))
   ]
+
+  bound : AreNumbered script → All IsPacket packets → (client : ℕ) → length (replies_of client r) ≤ most_calls (length (commands_of client script)) (188 * length packets + bytes_written script)
+  bound numbered are = calls_within (188 * length packets + bytes_written script) (λ client lt. calls_are_paid feeder script batch packets (histories_in r) so_far numbered are client lt)
+
+  -- and they are bounded, whatever writes the lines name
+  bounded : All IsPacket packets → (client : ℕ)
+      → length (replies_of client r) ≤ most_calls (length (commands_of client script)) (188 * (length packets + total (plays_by script script.lines) (clients_in script)))
+  bounded are =
+      calls_within (188 * (length packets + total (plays_by script script.lines) (clients_in script)))
+      (λ client lt. calls_are_bounded feeder script batch packets (histories_in r) so_far are client lt)
 
   -- where it is over it is a run
   over : ((client : ℕ) → next_event client script (replies_of client r) ≡ None) → r.has_ended ≡ true → IsOver so_far
@@ -127,13 +140,20 @@ module _ (script : Scripted) (batch : ℕ) (packets : List (List ℕ)) (few : cl
 
 pub within_budget : IsWithinBudget
 within_budget = record {
-  moments = λ script batch packets r ranges one are moment client.
+  moments = λ script batch packets r ranges numbered one are moment client.
       let few = few_in_all script ranges in
-      bound script batch packets few ranges r (moment_come script batch packets (clients_in script) few ranges one r (all_below script) moment) are client;
-  runs = λ script batch packets r ranges one are run client.
+      bound script batch packets few ranges r (moment_come script batch packets (clients_in script) few ranges one r (all_below script) moment) numbered are client;
+  runs = λ script batch packets r ranges numbered one are run client.
       let few = few_in_all script ranges in
-      bound script batch packets few ranges r (run_come script batch packets (clients_in script) few ranges one r (all_below script) run) are client;
+      bound script batch packets few ranges r (run_come script batch packets (clients_in script) few ranges one r (all_below script) run) numbered are client;
 }
+
+-- at each moment the calls of a client are bounded
+pub moments_bounded : (script : Scripted) (batch : ℕ) (packets : List (List ℕ)) (r : Run) → All IsInRange script.lines → 1 ≤ batch → All IsPacket packets → IsMoment script batch packets r → (client : ℕ)
+    → length (replies_of client r) ≤ most_calls (length (commands_of client script)) (188 * (length packets + total (plays_by script script.lines) (clients_in script)))
+moments_bounded script batch packets r ranges one are moment client =
+    let few = few_in_all script ranges in
+    bounded script batch packets few ranges r (moment_come script batch packets (clients_in script) few ranges one r (all_below script) moment) are client
 
 pub are_runs : SerialRunsAreRuns
 are_runs script batch packets r ranges one run =

@@ -1,4 +1,4 @@
--- Each node's history is legal, finds memory, brings packets of the stream, and its end or not; and its log tells it.
+-- Each node's history is legal, finds memory, brings the packets of its callers, and its end or not; and its log tells it.
 use Rattle.std.proofs.Common.{◌≡◌, ◌≢◌, refl, sym, ap, subst, ◌∙◌, ℕ, ◌≤◌, Bool, true, false, nat_eq, List, [], ◌∷◌, Option, Some, None, length, map, reverse, inl, inr}
 use Rattle.std.specs.Prelude.{if◌then◌else◌, slice_get}
 use Rattle.std.proofs.lemmas.List.{map-append, reverse-append}
@@ -12,7 +12,7 @@ use Rattle.dmx_calls.specs.Rules.{Rules, rules_at}
 use Rattle.dmx_calls.specs.Facts.{Ledger, Facts, facts}
 use Rattle.dmx_calls.specs.Answer.{ReadTerms, read_terms, answer, with_call, response_unless, refusal_to, response_to, response_of_read, expired_of, open_response, done_dropping}
 use Rattle.dmx_calls.specs.Legal.{IsLegalFor}
-use Rattle.dmx_calls.specs.Log.{LogEntry, IsOfStream, act_of, filled_entry, filled}
+use Rattle.dmx_calls.specs.Log.{IsFrom, LogEntry, Sources, act_of, filled, filled_entry}
 use Rattle.dmx_calls.proofs.Reading.{read_each}
 use Rattle.dmx_calls.proofs.Telling.{fills}
 use Rattle.serial_core.specs.Nodes.{Told, Node, history_in, history_of, answer_by, answered, log_in}
@@ -78,11 +78,11 @@ answer_open node h who c same = sym (subst (IsFit (has_ended h)) same (answer_fi
 
 -- ------ a node
 
-module _ (packets : List (List ℕ)) (clients : ℕ) where
-  -- callers are the feeder and the clients, memory was found, and the packets are the stream's
+module _ (packets : Sources) (clients : ℕ) where
+  -- callers are the feeder and the clients, memory was found, and the packets are those of the caller
   abbrev pub AreGood : List Told → Type 0
   AreGood [] = Unit {0}
-  AreGood (told ∷ calls) = AreGood calls × (told.entry.who ≤ clients) × (told.entry.response ≢ NoMemory) × IsOfStream packets told.entry.invocation
+  AreGood (told ∷ calls) = AreGood calls × (told.entry.who ≤ clients) × (told.entry.response ≢ NoMemory) × IsFrom (packets told.entry.who) told.entry.invocation
 
   pub record IsSound (over : Bool) (node : ℕ) (n : Node) : Type 0 where
     pub number : n.number ≡ node
@@ -90,7 +90,7 @@ module _ (packets : List (List ℕ)) (clients : ℕ) where
     pub good : AreGood n.calls
     pub ended : has_ended (history_of n) ≡ over
 
-  pub sound_answered : (ended over : Bool) (node : ℕ) (n : Node) (who step : ℕ) (c : Invocation) → who ≤ clients → IsOfStream packets c
+  pub sound_answered : (ended over : Bool) (node : ℕ) (n : Node) (who step : ℕ) (c : Invocation) → who ≤ clients → IsFrom (packets who) c
       → has_ended (entry_of who c (answer_by who c n) ∷ history_of n) ≡ over → IsSound ended node n → IsSound over node (answered who step c n)
   sound_answered ended over node n who step c le of is s = record {
     number = s.number;
@@ -124,7 +124,7 @@ module _ (packets : List (List ℕ)) (clients : ℕ) where
   pub sound_placed : (ended : Bool) (node : ℕ) (n : Node) → IsSound ended node n → (place : ℕ) (e : LogEntry) → slice_get (entries_of n) place ≡ Some e → IsPlaced node place e
   sound_placed ended node n s place e is = subst (λ k. IsPlaced k place e) s.number (placed n.number n.calls s.good place e is)
 
-  -- filled with the packets of the stream, a log is the history
+  -- filled with the packets of the callers, a log is the history
   fills_log : (number : ℕ) (calls : List Told) → AreGood calls → filled packets (log_in number calls).entries ≡ history_in calls
   fills_log number [] good = refl
   fills_log number (told ∷ calls) good =
@@ -132,7 +132,7 @@ module _ (packets : List (List ℕ)) (clients : ℕ) where
       ap reverse (map-append (filled_entry packets) (log_in number calls).entries (x ∷ []))
       ∙ reverse-append (map (filled_entry packets) (log_in number calls).entries) (filled_entry packets x ∷ [])
       ∙ ap (λ h. filled_entry packets x ∷ h) (fills_log number calls good.0)
-      ∙ ap (λ c. record { who = told.entry.who; invocation = c; response = told.entry.response } ∷ history_in calls) (fills packets told.entry.invocation good.3)
+      ∙ ap (λ c. record { who = told.entry.who; invocation = c; response = told.entry.response } ∷ history_in calls) (fills (packets told.entry.who) told.entry.invocation good.3)
 
   pub sound_filled : (ended : Bool) (node : ℕ) (n : Node) → IsSound ended node n → filled packets (entries_of n) ≡ history_of n
   sound_filled ended node n s = fills_log n.number n.calls s.good

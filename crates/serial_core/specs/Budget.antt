@@ -1,14 +1,14 @@
 -- How many calls clients make in the serial run (this project's own).
-use Rattle.std.specs.Prelude.{ℕ, ◌≡◌, ◌≤◌, ◌*◌, List, ◌∷◌, ◌++◌, length, Some, All}
+use Rattle.std.specs.Prelude.{ℕ, ◌≡◌, ◌+◌, ◌≤◌, ◌*◌, List, ◌∷◌, ◌++◌, length, Some, All}
 use Rattle.ts_packet.specs.Fields.{IsPacket}
 use Rattle.client_script.specs.Grammar.{IsInRange}
-use Rattle.client_script.specs.Script.{Scripted}
+use Rattle.client_script.specs.Script.{AreNumbered, Scripted}
 use Rattle.client_script.specs.declared.line.Line.{Line}
 use Rattle.client_script.specs.declared.line.Line.TheVariants.{Command}
-use Rattle.client_core.specs.Commands.{commands_of}
+use Rattle.client_core.specs.Commands.{commands_of, plays_of}
 use Rattle.client_core.specs.declared.event.Event.{Event}
 use Rattle.client_core.specs.Events.{next_of_line}
-use Rattle.script_run.specs.Budget.{most_calls}
+use Rattle.script_run.specs.Budget.{bytes_written, most_calls}
 use Rattle.serial_core.specs.SerialRun.{Run, begun, replies_of, called, after_waiting, AreDone, IsSerialRun}
 
 module _ (script : Scripted) (batch : ℕ) where
@@ -16,7 +16,8 @@ module _ (script : Scripted) (batch : ℕ) where
   pub data IsBegun (client line : ℕ) : Run → Run → Type 0 where
     no_call : (r : Run) → IsBegun client line r r
     one_call : (r s : Run) (e : Event) → next_of_line client script line (replies_of client r) ≡ Some e
-        → IsBegun client line (called client e (after_waiting script batch client r)) s → IsBegun client line r s
+        → IsBegun client line (called client (plays_of client script) e (after_waiting script batch client r)) s
+        → IsBegun client line r s
 
   -- some calls of the next line are made, where it is a command
   abbrev pub AreBegun : List Line → Run → Run → Type 0
@@ -34,13 +35,14 @@ module _ (script : Scripted) (batch : ℕ) where
   IsMoment packets s = IsOnTheWay script.lines (begun packets) s
 
 -- At each moment of the serial run of a script's lines, and at its end, a client has made no more calls than its
--- commands and the bytes of the packets allow, where a batch has at least one packet.
+-- commands, the bytes of the packets and those of all writes allow, where the lines of each client name its writes in their
+-- order, each once, and a batch has at least one packet.
 pub record IsWithinBudget : Type 0 where
-  pub moments : (script : Scripted) (batch : ℕ) (packets : List (List ℕ)) (r : Run) → All IsInRange script.lines → 1 ≤ batch
-      → All IsPacket packets → IsMoment script batch packets r
+  pub moments : (script : Scripted) (batch : ℕ) (packets : List (List ℕ)) (r : Run) → All IsInRange script.lines
+      → AreNumbered script → 1 ≤ batch → All IsPacket packets → IsMoment script batch packets r
       → (client : ℕ) → length (replies_of client r)
-      ≤ most_calls (length (commands_of client script)) (188 * length packets)
-  pub runs : (script : Scripted) (batch : ℕ) (packets : List (List ℕ)) (r : Run) → All IsInRange script.lines → 1 ≤ batch
-      → All IsPacket packets → IsSerialRun script batch packets r
+      ≤ most_calls (length (commands_of client script)) (188 * length packets + bytes_written script)
+  pub runs : (script : Scripted) (batch : ℕ) (packets : List (List ℕ)) (r : Run) → All IsInRange script.lines
+      → AreNumbered script → 1 ≤ batch → All IsPacket packets → IsSerialRun script batch packets r
       → (client : ℕ) → length (replies_of client r)
-      ≤ most_calls (length (commands_of client script)) (188 * length packets)
+      ≤ most_calls (length (commands_of client script)) (188 * length packets + bytes_written script)

@@ -6,7 +6,7 @@ use Rattle.dmx_calls.specs.Rules.{rules_at}
 use Rattle.dmx_calls.specs.Accounted.{IsAccounted}
 use Rattle.client_script.specs.Grammar.{IsInRange}
 use Rattle.client_script.specs.Script.{clients_in, Scripted}
-use Rattle.script_run.specs.IsRun.{IsRun, replies}
+use Rattle.script_run.specs.IsRun.{IsRun, replies, sources}
 use Rattle.serial_core.specs.Left.{histories_in}
 use Rattle.serial_core.specs.SerialRun.{Run, replies_of, IsSerialRun}
 
@@ -17,7 +17,7 @@ pub record IsAccountedRun (script : Scripted) (batch : ℕ) (packets : List (Lis
   pub replies : (client : ℕ) (is : client < clients_in script)
       → replies (run.clients_done client is).made ≡ replies_of client r
   pub accounted : (node : ℕ) (h : List LogEntry) → slice_get (histories_in r) node ≡ Some h
-      → IsAccounted (rules_at node) (filled packets h)
+      → IsAccounted (rules_at node) (filled (sources script packets) h)
 
 -- The serial run of a script is a run of it, where a batch has at least one packet.
 abbrev pub SerialRunsAreRuns : Type 0

@@ -2,7 +2,7 @@
 ghost use Rattle.std.specs.Prelude.{◌≡◌, ℕ, ◌+◌, ◌-◌, ◌<◌, ◌≤◌, ◌^◌, List, [], ◌∷◌, ◌++◌, length, IsSome, OnOk, OnErr, IsErrOf};
 ghost use Rattle.dmx_calls.specs.declared.limits.TheConstants.{DEMUX_NODES as nodes};
 ghost use Rattle.client_script.specs.Script.{Scripted};
-ghost use Rattle.client_core.specs.Commands.{IsRequestInRange};
+ghost use Rattle.client_core.specs.Commands.{IsRequestInRange, IsRequestOf};
 ghost use Rattle.client_core.specs.Inside.Core.{IsAfter};
 ghost use Rattle.serial_core.specs.Inside.Moving.{ComesBy, HasDrawn, MadeAtMost, IsDoneBy, IsReady, Moves};
 ghost use Rattle.serial_core.specs.SerialRun.{after_waiting, called, replies_of, reply_to};
@@ -52,11 +52,12 @@ impl Runner {
         requires client { client < 8 }
         requires node { event.node ≤ nodes }
         requires range { IsRequestInRange event.want }
+        requires played { IsRequestOf core.old.plays event.want }
         requires begun { IsSome core.old.current }
         requires taken { core.old.step < 2 ^ 46 }
         ensures moves { OnOk result (Moves (S.end source.old) (S.end source.new) self.old self.new
-            (λ r s. (script : Scripted) → IsAfter client script (replies_of client r) core.old → (s ≡ called client event (after_waiting script batch client r))
-            × IsAfter client script (replies_of client r ++ reply_to client event (after_waiting script batch client r) ∷ []) core.new)) }
+            (λ r s. (script : Scripted) → IsAfter client script (replies_of client r) core.old → (s ≡ called client core.old.plays event (after_waiting script batch client r))
+            × IsAfter client script (replies_of client r ++ reply_to client core.old.plays event (after_waiting script batch client r) ∷ []) core.new)) }
         ensures draws { OnErr result (HasDrawn (S.end source.old) (S.end source.new) self.old.puller self.new.puller) }
         ensures moment { OnOk result (self.new.moment ≡ self.old.moment) }
         ensures made { OnOk result ((calls : ℕ) → MadeAtMost self.old calls → MadeAtMost self.new (calls + 1)) }

@@ -14,7 +14,7 @@ pub fn what_is_tried_is_the_run()
 {}
 
 /// Each client of the serial run of a script's lines makes at most `most_calls` calls, for its own commands and the bytes
-/// of the stream's packets.
+/// of the stream's packets and of all writes, where the lines of each client name its writes in their order, each once.
 pub fn clients_are_within_budget()
     ensures { IsWithinBudget }
 {}
@@ -24,8 +24,8 @@ pub fn every_script_has_a_serial_run()
     ensures { HaveSerialRuns }
 {}
 
-/// The serial run of a script is a run of it: the histories of its nodes are legal and accounted, every packet passes each node
-/// once and in order, and each client did just what its commands ask.
+/// The serial run of a script is a run of it: the histories of its nodes are legal and accounted, every packet of the stream passes
+/// each node once and in order, and each client did just what its commands ask.
 pub fn the_serial_run_is_a_run()
     ensures { SerialRunsAreRuns }
 {}
@@ -36,8 +36,8 @@ pub fn serial_histories_are_legal()
     ensures { HistoriesAreLegal }
 {}
 
-/// Every packet passes each of the 33 nodes of a serial run once, in the order of the stream: the packets that the passes of
-/// a node bring are the stream's.
+/// Every packet of the stream passes each of the 33 nodes of a serial run once, in the order of the stream: the packets that the
+/// passes of the front end bring on a node are the stream's.
 pub fn every_packet_passes_each_node_once()
     ensures { PacketsPass }
 {}

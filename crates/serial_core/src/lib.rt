@@ -3,7 +3,8 @@
 //!
 //! A line `feed` passes its packets through all nodes in batches, a line `tick` lets time go by, and a command is done to its
 //! end. Where a client waits, the feeder has a turn before the read is repeated: a batch passes, or the end of the stream.
-//! After the last line the rest of the stream passes, and then its end, once.
+//! After the last line the rest of the stream passes, and then its end, once. A write that completes packets passes them
+//! through the demux nodes 0 to 31 by calls of its client, where the dvr node is the client's own.
 //!
 //! What a contract sees: the serial run (`specs/SerialRun.antt`) as a relation between a script, the size of a batch, the
 //! packets of a stream and a `Run`. It runs no node: each reply in it is the answer that the history of its node gives, and
@@ -15,9 +16,9 @@
 //! nothing left. However it ends, at most one read has failed: after it nothing more is read. `TooLong` comes only where so
 //! many reads were made, or where the commands and the bytes allow a client so many calls. Where the run stops early, what
 //! was taken of the source is told as the puller's pulls tell it. Laws of each serial run: its 33 histories are legal, and
-//! every packet passes each node once and in order. Of a script's lines it is a run as `script_run` says it, and each of its
-//! moments is a run so far: so no client makes more calls than its commands and the bytes allow. Worked runs are computed by
-//! the check.
+//! every packet of the stream passes each node once and in order. Of a script's lines it is a run as `script_run` says it,
+//! and each of its moments is a run so far: so no client makes more calls than its commands and the bytes, those of writes
+//! too, allow. Worked runs are computed by the check.
 //!
 //! What is only tested, in `run_tests`: that memory isn't refused where there is enough of it.
 //!

@@ -8,7 +8,7 @@ ghost use Rattle.dmx_calls.specs.Invocation as asks;
 ghost use Rattle.dmx_calls.specs.declared.log.Act.{Act as ToldAct};
 ghost use Rattle.dmx_calls.specs.declared.log.Act.TheVariants.{End as EndAct, Pass as PassAct};
 ghost use Rattle.client_script.specs.Script.{Scripted};
-ghost use Rattle.client_core.specs.Commands.{IsRequestInRange};
+ghost use Rattle.client_core.specs.Commands.{IsRequestInRange, IsRequestOf};
 ghost use Rattle.client_core.specs.Inside.Core.{IsAfter};
 ghost use Rattle.dmx_calls.specs.Response.{Response};
 ghost use Rattle.serial_core.specs.Nodes.{Node as RunNode, answered, uncalled};
@@ -164,18 +164,19 @@ impl Nodes {
         requires client { client < 8 }
         requires node { event.node ≤ nodes }
         requires range { IsRequestInRange event.want }
+        requires played { IsRequestOf core.old.plays event.want }
         requires some { IsSome core.old.current }
         requires taken { core.old.step < 2 ^ 46 }
-        ensures at { OnOk result ((r : Run) → now ≡ r.moment → IsNodes self.old r → IsNodes self.new (made client event r)) }
+        ensures at { OnOk result ((r : Run) → now ≡ r.moment → IsNodes self.old r → IsNodes self.new (made client core.old.plays event r)) }
         ensures core { OnOk result ((r : Run) (script : Scripted) (replies : List Response) → now ≡ r.moment → IsNodes self.old r
-            → IsAfter client script replies core.old → IsAfter client script (replies ++ reply_to client event r ∷ []) core.new) }
+            → IsAfter client script replies core.old → IsAfter client script (replies ++ reply_to client core.old.plays event r ∷ []) core.new) }
         ensures step { OnOk result (core.new.step ≡ core.old.step + 1) }
         ensures counted { OnOk result (AreCounted self.new) }
         ensures made { OnOk result (self.new.made ≡ self.old.made + 1) }
         ensures same { OnOk result (self.new.has_ended ≡ self.old.has_ended) }
     {
         let Event { step, node, want } = event;
-        let call = call_of(self.alloc, &want, now)?;
+        let call = call_of(self.alloc, core, &want, now)?;
         let alloc = self.alloc;
         self.seats[node as usize].call(alloc, core, client + 1, step, call, steps)?;
         self.made += 1;

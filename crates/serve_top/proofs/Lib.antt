@@ -1,4 +1,5 @@
 mod Books
+mod Filled
 mod Logged
 mod Playing
 mod Reporting

@@ -1,17 +1,16 @@
 -- From the calls of a seat to what its passes know of them.
 use Rattle.std.proofs.Common.{◌≡◌, ℕ, ◌+◌, List, [], ◌∷◌, ◌++◌, length, refl, sym, ◌∙◌, subst, arith, length-append}
-use Rattle.std.specs.Prelude.{All}
 use Rattle.std.proofs.lemmas.List.{append-nil, append_assoc}
-use Rattle.std.proofs.lemmas.List.Elements.{All-push}
-use Rattle.dmx_calls.specs.Log.{LogEntry}
-use Rattle.script_run.specs.SoFar.{PassesNone}
+use Rattle.dmx_calls.specs.declared.params.Input.{Input}
+use Rattle.dmx_calls.specs.Invocation.{Invocation, Open, Pass}
+use Rattle.dmx_calls.specs.Log.{IsFrom, LogEntry, act_of}
 use Rattle.adapter.specs.Callers.{Caller, IsSameCaller}
 use Rattle.adapter.specs.Nodes.{IsLegalAt}
 use Rattle.adapter.proofs.Everybody.{same_trans}
-use Rattle.workers.specs.Logged.{IsLogged}
-use Rattle.workers.proofs.Logging.{logged_more}
+use Rattle.workers.specs.Logged.{BringFrom, IsLogged}
+use Rattle.workers.proofs.Logging.{brings_more, logged_more}
 use Rattle.workers.proofs.Working.{same_self}
-use Rattle.seats.specs.Calls.{MakesCalls}
+use Rattle.seats.specs.Calls.{MakesCalls, PassesNone}
 
 -- it is the same caller
 pub same_calls : (n : ℕ) (c : Caller) (es : List LogEntry) (d : Caller) → MakesCalls n c es d → IsSameCaller c d
@@ -27,9 +26,16 @@ logged_calls n c log (e ∷ es) d is l m =
     let long : n + 1 ≡ length (log ++ e ∷ []) = omega (arith, is, length-append log (e ∷ [])) in
     subst (IsLogged d) (append_assoc log (e ∷ []) es) (logged_calls (n + 1) m.0 (log ++ e ∷ []) es d long here m.3)
 
--- by none of them packets pass
-pub passes_calls : (n : ℕ) (c : Caller) (log es : List LogEntry) (d : Caller) → All (λ (e : LogEntry). PassesNone e.act) log → MakesCalls n c es d → All (λ (e : LogEntry). PassesNone e.act) (log ++ es)
-passes_calls n c log [] d all m = subst (All (λ (e : LogEntry). PassesNone e.act)) (sym (append-nil log)) all
-passes_calls n c log (e ∷ es) d all m =
-    subst (All (λ (z : LogEntry). PassesNone z.act)) (append_assoc log (e ∷ []) es)
-    (passes_calls (n + 1) m.0 (log ++ e ∷ []) es d (All-push (λ (z : LogEntry). PassesNone z.act) log e all m.2.none) m.3)
+-- a call by which no packets pass brings some of any
+brings_none : (packets : Input → List (List ℕ)) (i : Invocation) → PassesNone (act_of i) → IsFrom packets i
+brings_none packets (Pass input first brought now) none = absurd none
+brings_none packets Open none = tt
+brings_none packets _ none = tt
+
+-- they bring no packets
+pub brings_calls : (packets : Input → List (List ℕ)) (n : ℕ) (c : Caller) (log es : List LogEntry) (d : Caller) → BringFrom packets c log → MakesCalls n c es d → BringFrom packets d (log ++ es)
+brings_calls packets n c log [] d l m = subst (λ (k : Caller). BringFrom packets k (log ++ [])) (sym m) (subst (BringFrom packets c) (sym (append-nil log)) l)
+brings_calls packets n c log (e ∷ es) d l m =
+    let k = m.2 in
+    let here : BringFrom packets m.0 (log ++ e ∷ []) = brings_more c m.0 (IsLegalAt e.node) e.node e.place k.entry k.made k.same.0 packets log e l refl refl (brings_none packets k.entry.invocation (subst PassesNone k.act k.none)) in
+    subst (BringFrom packets d) (append_assoc log (e ∷ []) es) (brings_calls packets (n + 1) m.0 (log ++ e ∷ []) es d here m.3)

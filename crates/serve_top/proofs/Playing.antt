@@ -1,5 +1,5 @@
 -- What was called for the requests of the lines is a run of the script of their commands.
-use Rattle.std.proofs.Common.{◌≡◌, ◌≢◌, ◌⊎◌, ⊎_elim, ℕ, zero, suc, ◌+◌, ◌<◌, ◌≤◌, Bool, true, false, nat_lt, set, List, [], ◌∷◌, ◌++◌, length, map, take, replicate, Option, Some, None, All, refl, ap, sym, ◌∙◌, subst, arith}
+use Rattle.std.proofs.Common.{◌≡◌, ◌≢◌, ℕ, zero, suc, ◌+◌, ◌<◌, ◌≤◌, Bool, true, false, nat_lt, set, List, [], ◌∷◌, length, take, Option, Some, None, All, refl, ap, sym, ◌∙◌, subst, arith}
 use Rattle.std.specs.Prelude.{slice_get, get_or, IsSome}
 use Rattle.std.proofs.lemmas.Bool.Decides.{nat_tests}
 use Rattle.std.proofs.lemmas.List.{append-nil, length-set}
@@ -10,36 +10,44 @@ use Rattle.adapter.proofs.Lists.{at_place, one_value, set_there, set_elsewhere}
 use Rattle.adapter.specs.Callers.{Caller}
 use Rattle.dmx_calls.specs.declared.histories.Fed.{Fed}
 use Rattle.dmx_calls.specs.declared.outcome.Outcome.{Outcome}
-use Rattle.dmx_calls.specs.Log.{LogEntry}
+use Rattle.dmx_calls.specs.declared.params.Input.{Input}
+use Rattle.dmx_calls.specs.Accounted.{IsAccounted}
+use Rattle.dmx_calls.specs.History.{History}
+use Rattle.dmx_calls.specs.Legal.{IsLegalFor}
+use Rattle.dmx_calls.specs.Log.{LogEntry, Sources, filled}
+use Rattle.dmx_calls.specs.Rules.{rules_at}
 use Rattle.dmx_calls.specs.Response.{Response, NoMemory}
 use Rattle.client_script.specs.Script.{Scripted, plain, clients_in}
 use Rattle.client_core.specs.declared.command.Command.{Command}
 use Rattle.client_core.specs.declared.event.Event.{Event}
-use Rattle.client_core.specs.Commands.{commands_of}
+use Rattle.client_core.specs.Commands.{commands_of, plays_of}
 use Rattle.client_core.specs.Events.{next_event}
 use Rattle.client_core.specs.Outcomes.{outcomes}
-use Rattle.script_run.specs.IsRun.{IsRun, IsEvent, HasDone, replies}
+use Rattle.script_run.specs.IsRun.{IsRun, IsEvent, HasDone, replies, sources}
 use Rattle.script_run.specs.WholeRun.{IsGiven, IsWholeRun}
 use Rattle.workers.specs.Feeding.{HasFedAll}
 use Rattle.workers.specs.Left.{HasWorked, AreWorked}
-use Rattle.workers.specs.Logged.{HasCalled}
-use Rattle.workers.specs.Telling.{HasLogged, HaveCalled, IsLoggedIn}
+use Rattle.workers.specs.Logged.{BringFrom}
+use Rattle.workers.specs.Telling.{HasLogged, HaveCalled}
 use Rattle.seats.specs.Scripts.{IsPlayed}
-use Rattle.serve_top.specs.Reported.{every, FindMemory, IsRunOf}
-use Rattle.serve_top.proofs.Scripting.{lines_of, lines_at, clients_low, behind_none, question, asked_last, asked_others, asked_own, asked_clients, next_same, outcomes_same, none_next, question_next, NothingFrom, Parted, parted_at}
+use Rattle.serve_top.specs.Reported.{every, fed_by, FindMemory, IsRunOf}
+use Rattle.serve_top.proofs.Filled.{same_filled, same_sources}
+use Rattle.serve_top.proofs.Scripting.{AreCalls, lines_of, lines_at, clients_low, behind_none, question, asked_last, asked_others, asked_own, asked_clients, next_same, outcomes_same, none_next, question_next, Parted, parted_at}
 
 -- a fact of each member
 every_member : {A : Type 0} (P : A → Type 0) (xs : List A) → ((i : ℕ) (x : A) → slice_get xs i ≡ Some x → P x) → All P xs
 every_member P xs each i d low = each i (get_or xs i d) (slice_get-get_or xs i d low)
 
--- what a client has logged, where it is what its commands in this script ask for
-pub has_worked : (may : ℕ → Bool) (client : ℕ) (script : Scripted) (c : Caller) (log : List LogEntry) (told : List Outcome) → HasLogged client c log → IsPlayed may client script log told
+-- what a client has logged, where it is what its commands in this script ask for, and brings no packets
+pub has_worked : (may : ℕ → Bool) (packets : Sources) (client : ℕ) (script : Scripted) (c : Caller) (log : List LogEntry) (told : List Outcome) → HasLogged packets client c log
+    → ((given : Input → List (List ℕ)) → BringFrom given c log) → IsPlayed may client script log told
     → ((i : ℕ) (e : LogEntry) → slice_get log i ≡ Some e → e.response ≢ NoMemory) → HasWorked script client may c log told
-has_worked may client script c log told l p found = record {
+has_worked may packets client script c log told l bare p found = record {
   called = record {
     who = l.who;
     logged = l.logged;
     events = p.events;
+    brought = λ stream. bare (sources script stream (suc client));
     found = every_member (λ (e : LogEntry). e.response ≢ NoMemory) log found;
     moments = every_member (λ (e : LogEntry). IsGiven may e.act) log p.moments;
     paid = λ i e f at next waits. absurd (let some : IsSome {T = ℕ} None = subst (λ (o : Option ℕ). IsSome o) (p.once i f next) waits in cc some);
@@ -49,7 +57,9 @@ has_worked may client script c log told l p found = record {
 }
 
 module _ (may : ℕ → Bool) (stream : List (List ℕ)) (feeder : Caller) (feeding : List Fed) (clients : List Caller) (books : List (List LogEntry)) (hs : List (List LogEntry)) (told : List (List Outcome))
-    (fed : HasFedAll every 64 may stream feeder feeding) (called : HaveCalled every stream feeder feeding clients books) (long : length told ≡ length books) (found : FindMemory books)
+    (fed : HasFedAll every 64 may stream feeder feeding) (called : HaveCalled every (fed_by stream) feeder feeding clients books)
+    (bare : (c : ℕ) (client : Caller) (log : List LogEntry) → slice_get clients c ≡ Some client → slice_get books c ≡ Some log → (given : Input → List (List ℕ)) → BringFrom given client log)
+    (long : length told ≡ length books) (found : FindMemory books)
     (runs : (script : Scripted) (outs : List (List Outcome)) → AreWorked script every 64 may stream feeder feeding clients books outs → IsWholeRun script 64 may stream outs hs) where
   -- each client has done what its commands in this script ask for
   worked : (script : Scripted) (outs : List (List Outcome)) → clients_in script ≡ length books → length outs ≡ length books
@@ -60,11 +70,11 @@ module _ (may : ℕ → Bool) (stream : List (List ℕ)) (feeder : Caller) (feed
     clients = sym called.logs ∙ sym many;
     logs = sym many;
     outcomes = size ∙ sym many;
-    each = λ c client log became at book out. has_worked may c script client log became (called.each c client log at book) (played c log became book out) (λ i e there. found e (c, log, i, book, there));
+    each = λ c client log became at book out. has_worked may (fed_by stream) c script client log became (called.each c client log at book) (bare c client log at book) (played c log became book out) (λ i e there. found e (c, log, i, book, there));
   }
 
   -- f has the commands of each client, which are what it has done
-  module _ (f : ℕ → List Command) (played : (c : ℕ) (book : List LogEntry) (out : List Outcome) → slice_get books c ≡ Some book → slice_get told c ≡ Some out
+  module _ (f : ℕ → List Command) (are : (c : ℕ) → AreCalls (f c)) (played : (c : ℕ) (book : List LogEntry) (out : List Outcome) → slice_get books c ≡ Some book → slice_get told c ≡ Some out
       → (script : Scripted) → commands_of c script ≡ f c → IsPlayed may c script book out)
       (idle : (c : ℕ) (book : List LogEntry) (out : List Outcome) → slice_get books c ≡ Some book → slice_get told c ≡ Some out → f c ≡ [] → (book ≡ []) × (out ≡ [])) where
     abbrev n : ℕ
@@ -77,7 +87,7 @@ module _ (may : ℕ → Bool) (stream : List (List ℕ)) (feeder : Caller) (feed
     m = clients_in script
 
     here : (c : ℕ) (book : List LogEntry) → slice_get books c ≡ Some book → commands_of c script ≡ f c
-    here c book at = lines_at f n c (slice_get_within books c book at)
+    here c book at = lines_at f are (plays_of c script) n c (slice_get_within books c book at)
 
     -- each client has a command
     all_run : m ≡ n → IsRunOf script may stream told hs
@@ -100,7 +110,7 @@ module _ (may : ℕ → Bool) (stream : List (List ℕ)) (feeder : Caller) (feed
       many = asked_clients last (lines_of f n) low ∙ sym is
 
       own : commands_of last more ≡ question ∷ []
-      own = asked_own last (lines_of f n) (lines_at f n last (omega (arith, is)) ∙ behind_none f n last (omega (arith, is)) low)
+      own = asked_own last (lines_of f n) (lines_at f are (plays_of last script) n last (omega (arith, is)) ∙ behind_none f n last (omega (arith, is)) low)
 
       others : (c : ℕ) → last ≢ c → commands_of c more ≡ commands_of c script
       others c not = asked_others last c (lines_of f n) not
@@ -138,11 +148,11 @@ module _ (may : ℕ → Bool) (stream : List (List ℕ)) (feeder : Caller) (feed
           let top = (r.run.places node place h e at there).2 in
           let d = r.run.clients_done c (omega (arith, who, top)) in
           let stands = d.only node place h e at there (omega (arith, who)) in
-          subst (λ (o : Option Event). IsEvent o e) (nothing c (omega (arith, less)) (omega (arith, who, top, many)) (replies (take e.step d.made))) (d.steps e.step e stands).3 where
+          subst (λ (o : Option Event). IsEvent (plays_of c more) o e) (nothing c (omega (arith, less)) (omega (arith, who, top, many)) (replies (take e.step d.made))) (d.steps e.step e stands).3 where
             nothing : (c : ℕ) → m ≤ c → c < n → (rs : List Response) → next_event c more rs ≡ None
             nothing c less low rs = dite (ℕ_discrete last c)
                 (λ same. subst (λ k. next_event k more rs ≡ None) same (question_next last more own rs))
-                (λ not. none_next c more (others c not ∙ (lines_at f n c low ∙ behind_none f n c low less)) rs)
+                (λ not. none_next c more (others c not ∙ (lines_at f are (plays_of c script) n c low ∙ behind_none f n c low less)) rs)
 
       who_low : (e : LogEntry) (node place : ℕ) (h : List LogEntry) → slice_get hs node ≡ Some h → slice_get h place ≡ Some e → (b : Bool) → nat_lt m e.who ≡ b → e.who ≤ m
       who_low e node place h at there true less = absurd (no_call e.who e node place h refl (grind (arith, nat_tests, less)) at there)
@@ -156,17 +166,21 @@ module _ (may : ℕ → Bool) (stream : List (List ℕ)) (feeder : Caller) (feed
           let d = r.run.clients_done c (omega (arith, less, low, many, is)) in
           record {
             made = d.made;
-            steps = λ i e at. let s = d.steps i e at in (s.0, s.1, s.2, subst (λ (o : Option Event). IsEvent o e) (next_same c more script (same c less) (replies (take i d.made))) s.3);
+            steps = λ i e at. let s = d.steps i e at in (s.0, s.1, s.2, subst (λ (o : Option Event). IsEvent (plays_of c script) o e) (next_same c more script (same c less) (replies (take i d.made))) s.3);
             ends = sym (next_same c more script (same c less) (replies d.made)) ∙ d.ends;
             only = d.only;
             in_order = d.in_order;
           }
 
+      -- it is filled with the same packets, since neither script writes
+      filled_same : (h : List LogEntry) → filled (sources more stream) h ≡ filled (sources script stream) h
+      filled_same h = same_filled (sources more stream) (sources script stream) (same_sources more.lines script.lines stream) h
+
       abbrev run_is : IsRun script 64 stream hs
       run_is = record {
         nodes = r.run.nodes;
         places = λ node place h e at there. let q = r.run.places node place h e at there in (q.0, q.1, who_low e node place h at there (nat_lt m e.who) refl, q.3);
-        legal = r.run.legal;
+        legal = λ node h at. subst (λ (g : History). IsLegalFor (rules_at node) g) (filled_same h) (r.run.legal node h at);
         fed = r.run.fed;
         clients_done = done_at;
       }
@@ -183,7 +197,7 @@ module _ (may : ℕ → Bool) (stream : List (List ℕ)) (feeder : Caller) (feed
         all = parted.all;
         run = record {
           run = run_is;
-          accounted = r.accounted;
+          accounted = λ node h at. subst (λ (g : History). IsAccounted (rules_at node) g) (filled_same h) (r.accounted node h at);
           full = r.full;
           moments = r.moments;
           clients = parted.long;

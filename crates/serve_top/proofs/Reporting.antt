@@ -1,5 +1,5 @@
 -- From what the threads have left to what the report tells.
-use Rattle.std.proofs.Common.{Vec, Global, ◌≡◌, ◌≤◌, ◌<◌, ◌-◌, ◌^◌, ◌+◌, ℕ, length, None, sym, Bool, true, false, List, [], ◌∷◌, ◌++◌, map, replicate, reverse, Option, ap, ◌∙◌, subst, arith}
+use Rattle.std.proofs.Common.{Vec, Global, ◌≡◌, ◌≤◌, ◌<◌, ◌-◌, ◌^◌, ◌+◌, ℕ, length, None, refl, sym, Bool, true, false, List, [], ◌∷◌, ◌++◌, map, replicate, reverse, Option, ap, ◌∙◌, subst, arith}
 use Rattle.std.specs.Prelude.{slice_index_or, option_map, All}
 use Rattle.std.proofs.lemmas.List.{get_or-replicate, length-map}
 use Rattle.std.proofs.lemmas.Option.{slice_get-map, slice_get-get_or}
@@ -19,7 +19,7 @@ use Rattle.adapter.specs.Callers.{Caller, IsSameCaller, AreFreshCallers, AreAllC
 use Rattle.workers.specs.declared.feeder_worker.FeederWorker.{FeederWorker}
 use Rattle.workers.specs.Feeding.{HasFedAll}
 use Rattle.workers.specs.Telling.{HaveCalled}
-use Rattle.workers.specs.Inside.FeederWork.{IsFitFeeder, HasPassed, HasPassedAll, HasFedToEnd, MayPass}
+use Rattle.workers.specs.Inside.FeederWork.{HasPassed, HasPassedAll, HasFedToEnd, MayPass}
 use Rattle.workers.proofs.Beginning.{begun_feeder, begun_passed}
 use Rattle.workers.proofs.FeederWork.{as_named}
 use Rattle.client_script.specs.Script.{plain}
@@ -28,9 +28,9 @@ use Rattle.seats.specs.declared.run.Desk.{Desk}
 use Rattle.seats.specs.Seated.{log_of, AreOnNodes, IsReady, AreReady}
 use Rattle.seats.specs.Served.{HaveServed}
 use Rattle.serve_top.specs.declared.left.Left.{Left}
-use Rattle.serve_top.specs.Reported.{every, HasReported, IsNewFeeder, IsLeftBy}
+use Rattle.serve_top.specs.Reported.{every, fed_by, HasReported, IsNewFeeder, IsLeftBy}
 use Rattle.serve_top.proofs.Playing.{is_run}
-use Rattle.serve_top.proofs.Seating.{have_called, have_left, have_answered, have_played, have_idled, commands_at, the_script, still_callers, all_nodes}
+use Rattle.serve_top.proofs.Seating.{bring_none, have_called, have_left, have_answered, have_played, have_idled, commands_at, calls_at, the_script, still_callers, all_nodes}
 
 -- a row that has all nodes
 pub all_in : (node : ℕ) → node ≤ DEMUX_NODES → is_in (replicate (DEMUX_NODES + 1) true) node ≡ every node
@@ -53,7 +53,7 @@ module _ {T : Type 0} (source : T → SourceEnd) (sink : T → SinkEnd) (may : �
   unfolding taken
   fed = subst (λ (s : PacketSize). HasFedAll every 64 may (cut s taken).packets f.feeder f.feeding.items) size (worked_feeder every 64 may x y first f passed [] pulls)
 
-  called : HaveCalled every (cut Of188 taken).packets f.feeder f.feeding.items (map (λ (d : Desk T). d.seat.client) new) (map (λ (d : Desk T). log_of d.seat) new)
+  called : HaveCalled every (fed_by (cut Of188 taken).packets) f.feeder f.feeding.items (map (λ (d : Desk T). d.seat.client) new) (map (λ (d : Desk T). log_of d.seat) new)
   called = have_called source sink may locks n feeder clients fresh all old new ready served 64 (cut Of188 taken).packets f.feeder f.feeding.items fed
 
   head : told_head what.head ≡ head_of Of188 taken (has_failed f.puller.reading)
@@ -79,14 +79,17 @@ module _ {T : Type 0} (source : T → SourceEnd) (sink : T → SinkEnd) (may : �
     books = map (λ (d : Desk T). log_of d.seat) new;
     called = called;
     script = the_script source sink may locks n feeder clients fresh all old new ready served lines are;
+    writes = refl;
     told = told;
     asked = have_answered source sink may locks n feeder clients fresh all old new ready served lines are;
     left = have_left source sink may locks n feeder clients fresh all old new ready served;
     histories = what.histories;
-    tells = is.tells every (cut Of188 taken).packets called;
-    run = λ found. is_run may (cut Of188 taken).packets f.feeder f.feeding.items (map (λ (d : Desk T). d.seat.client) new) (map (λ (d : Desk T). log_of d.seat) new) what.histories told fed called long found
+    tells = is.tells every (fed_by (cut Of188 taken).packets) called;
+    run = λ found. is_run may (cut Of188 taken).packets f.feeder f.feeding.items (map (λ (d : Desk T). d.seat.client) new) (map (λ (d : Desk T). log_of d.seat) new) what.histories told fed called
+        (bring_none source sink may locks n feeder clients fresh all old new ready served) long found
         (λ script outs worked. is.runs script every 64 may (cut Of188 taken).packets outs worked)
         (commands_at source sink may locks n feeder clients fresh all old new ready served lines are)
+        (calls_at source sink may locks n feeder clients fresh all old new ready served lines are)
         (have_played source sink may locks n feeder clients fresh all old new ready served lines are)
         (have_idled source sink may locks n feeder clients fresh all old new ready served lines are);
     written = subst (λ h. Appends was now (report_of h told what.histories)) head

@@ -1,39 +1,78 @@
 -- A script of which each client has given commands.
-use Rattle.std.proofs.Common.{◌≡◌, ◌≢◌, ℕ, zero, suc, ◌+◌, ◌<◌, ◌≤◌, Bool, true, false, nat_eq, eq-eqb, ne_eqb, List, [], ◌∷◌, ◌++◌, length, map, take, replicate, fold, max, Option, Some, None, refl, ap, sym, ◌∙◌, subst, arith}
+use Rattle.std.proofs.Common.{◌≡◌, ◌≢◌, ℕ, zero, suc, ◌+◌, ◌<◌, ◌≤◌, eq-eqb, ne_eqb, List, [], ◌∷◌, ◌++◌, length, map, take, replicate, fold, max, Option, Some, None, refl, ap, sym, ◌∙◌, subst, arith}
 use Rattle.std.specs.Prelude.{slice_get, option_map, if◌then◌else◌}
-use Rattle.std.proofs.lemmas.List.{append-nil, append_assoc}
+use Rattle.std.proofs.lemmas.List.{append-nil}
 use Rattle.std.proofs.lemmas.List.Concat.{flat_map-append}
 use mathlib.Core.Logic.{dite}
 use native.Mathlib.Decide.{ℕ_discrete}
 use Rattle.dmx_calls.specs.declared.outcome.Outcome.{Outcome}
 use Rattle.dmx_calls.specs.Response.{Response}
-use Rattle.client_script.specs.Script.{Scripted, plain, clients_of, clients_among, clients_in}
+use Rattle.client_script.specs.Script.{Scripted, plain, clients_of, clients_in}
 use Rattle.client_script.specs.declared.line.Line.{Line}
 use Rattle.client_script.specs.declared.line.Line.TheVariants.{Command as CommandLine}
 use Rattle.client_script.specs.declared.line.Target.TheVariants.{Dvr}
-use Rattle.client_script.specs.declared.line.Verb.TheVariants.{GetStc}
+use Rattle.client_script.specs.declared.line.Verb.{Verb}
+use Rattle.client_script.specs.declared.line.Verb.TheVariants as verb
+use Rattle.client_script.specs.declared.line.Want.{Want}
 use Rattle.client_core.specs.declared.command.Command.{Command}
+use Rattle.client_core.specs.declared.deed.Deed.{Deed}
+use Rattle.client_core.specs.declared.deed.Deed.TheVariants.{Once, ReadWait, Drain, GetStc, Write}
 use Rattle.client_core.specs.declared.event.Event.{Event}
-use Rattle.client_core.specs.Commands.{commands_in, commands_among, commands_of}
+use Rattle.client_core.specs.Deeds.{Batches, deed_of}
+use Rattle.client_core.specs.Commands.{commands_in, commands_among, commands_of, plays_of}
 use Rattle.client_core.specs.Events.{Ended, Progress, progress, progress_from, no_slots, next_event}
 use Rattle.client_core.specs.Outcomes.{outcome_by, outcome_of, outcomes}
-use Rattle.client_core.specs.Stc.{Exchange, with_reply, exchanges_after, exchanges, stc}
+use Rattle.client_core.specs.Stc.{Exchange, with_reply, exchanges_after, stc}
+use Rattle.seats.specs.Spelled.{DoneCommand, commands_by}
 
 -- ------ the lines of one client
 
+-- each of these commands is one call
+abbrev pub AreCalls : List Command → Type 0
+AreCalls [] = Unit {0}
+AreCalls (c ∷ cs) = ((want : Want) × (c.deed ≡ Once want)) × AreCalls cs
+
+-- those that a line spells are
+pub spelled_calls : (count : ℕ) (ds : List DoneCommand) → AreCalls (commands_by count ds)
+spelled_calls count [] = tt
+spelled_calls count (d ∷ ds) = ((d.want, refl), spelled_calls (count + 1) ds)
+
+-- the verb by which a script asks for it
+abbrev pub verb_of : Deed → Verb
+verb_of (Once want) = verb.Once want
+verb_of (ReadWait count) = verb.ReadWait count
+verb_of (Drain count) = verb.Drain count
+verb_of (GetStc num) = verb.GetStc num
+verb_of (Write write has_batch) = verb.Write write
+
+call_verb : (batches : Batches) (deed : Deed) (want : Want) → deed ≡ Once want → deed_of batches (verb_of deed) ≡ deed
+call_verb batches deed want is = subst (λ (d : Deed). deed_of batches (verb_of d) ≡ d) (sym is) refl
+
 abbrev pub line_of : (client : ℕ) → Command → Line
-line_of client c = CommandLine c.line client c.target c.verb
+line_of client c = CommandLine c.line client c.target (verb_of c.deed)
 
-pub own_lines : (client : ℕ) (cs : List Command) → commands_among client (map (line_of client) cs) ≡ cs
-own_lines client [] = refl
-own_lines client (c ∷ cs) = ap (λ b. (if b then c ∷ [] else []) ++ commands_among client (map (line_of client) cs)) (eq-eqb client client refl) ∙ ap (λ (l : List Command). c ∷ l) (own_lines client cs)
+abbrev with_deed : Command → Deed → Command
+with_deed c deed = record { line = c.line; target = c.target; deed = deed }
 
-pub other_lines : (client other : ℕ) (cs : List Command) → other ≢ client → commands_among client (map (line_of other) cs) ≡ []
-other_lines client other [] not = refl
-other_lines client other (c ∷ cs) not = ap (λ b. (if b then c ∷ [] else []) ++ commands_among client (map (line_of other) cs)) (ne_eqb other client not) ∙ other_lines client other cs not
+-- the command that its line has
+abbrev read : Batches → Command → Command
+read batches c = with_deed c (deed_of batches (verb_of c.deed))
 
-among_both : (client : ℕ) (xs ys : List Line) → commands_among client (xs ++ ys) ≡ commands_among client xs ++ commands_among client ys
-among_both client xs ys = flat_map-append (commands_in client) xs ys
+pub own_lines : (client : ℕ) (batches : Batches) (cs : List Command) → AreCalls cs → commands_among client batches (map (line_of client) cs) ≡ cs
+own_lines client batches [] are = refl
+own_lines client batches (c ∷ cs) are =
+    let same : read batches c ≡ c = ap (λ (d : Deed). with_deed c d) (call_verb batches c.deed are.0.0 are.0.1) in
+    ap (λ b. (if b then read batches c ∷ [] else []) ++ commands_among client batches (map (line_of client) cs)) (eq-eqb client client refl)
+    ∙ (ap (λ (x : Command). x ∷ commands_among client batches (map (line_of client) cs)) same
+    ∙ ap (λ (l : List Command). c ∷ l) (own_lines client batches cs are.1))
+
+pub other_lines : (client other : ℕ) (batches : Batches) (cs : List Command) → other ≢ client → commands_among client batches (map (line_of other) cs) ≡ []
+other_lines client other batches [] not = refl
+other_lines client other batches (c ∷ cs) not =
+    ap (λ b. (if b then read batches c ∷ [] else []) ++ commands_among client batches (map (line_of other) cs)) (ne_eqb other client not) ∙ other_lines client other batches cs not
+
+among_both : (client : ℕ) (batches : Batches) (xs ys : List Line) → commands_among client batches (xs ++ ys) ≡ commands_among client batches xs ++ commands_among client batches ys
+among_both client batches xs ys = flat_map-append (commands_in client batches) xs ys
 
 -- ------ the lines of all clients
 
@@ -42,22 +81,23 @@ module _ (f : ℕ → List Command) where
   lines_of zero = []
   lines_of (suc n) = lines_of n ++ map (line_of n) (f n)
 
-  pub lines_none : (n k : ℕ) → n ≤ k → commands_among k (lines_of n) ≡ []
-  lines_none zero k low = refl
-  lines_none (suc n) k low =
-      among_both k (lines_of n) (map (line_of n) (f n))
-      ∙ (ap (λ (l : List Command). l ++ commands_among k (map (line_of n) (f n))) (lines_none n k (omega (arith, low)))
-      ∙ other_lines k n (f n) (λ same. absurd (omega (arith, low, same))))
+  pub lines_none : (batches : Batches) (n k : ℕ) → n ≤ k → commands_among k batches (lines_of n) ≡ []
+  lines_none batches zero k low = refl
+  lines_none batches (suc n) k low =
+      among_both k batches (lines_of n) (map (line_of n) (f n))
+      ∙ (ap (λ (l : List Command). l ++ commands_among k batches (map (line_of n) (f n))) (lines_none batches n k (omega (arith, low)))
+      ∙ other_lines k n batches (f n) (λ same. absurd (omega (arith, low, same))))
 
-  pub lines_at : (n k : ℕ) → k < n → commands_among k (lines_of n) ≡ f k
-  lines_at zero k low = absurd (omega (arith, low))
-  lines_at (suc n) k low = among_both k (lines_of n) (map (line_of n) (f n)) ∙ dite (ℕ_discrete n k)
+  -- each client has its own
+  pub lines_at : (are : (k : ℕ) → AreCalls (f k)) (batches : Batches) (n k : ℕ) → k < n → commands_among k batches (lines_of n) ≡ f k
+  lines_at are batches zero k low = absurd (omega (arith, low))
+  lines_at are batches (suc n) k low = among_both k batches (lines_of n) (map (line_of n) (f n)) ∙ dite (ℕ_discrete n k)
       (λ here.
-      ap (λ (l : List Command). l ++ commands_among k (map (line_of n) (f n))) (lines_none n k (omega (arith, here)))
-      ∙ subst (λ i. commands_among i (map (line_of n) (f n)) ≡ f i) here (own_lines n (f n)))
+      ap (λ (l : List Command). l ++ commands_among k batches (map (line_of n) (f n))) (lines_none batches n k (omega (arith, here)))
+      ∙ subst (λ i. commands_among i batches (map (line_of n) (f n)) ≡ f i) here (own_lines n batches (f n) (are n)))
       (λ not.
-      ap (λ (l : List Command). l ++ commands_among k (map (line_of n) (f n))) (lines_at n k (omega (arith, low, not)))
-      ∙ (ap (λ (l : List Command). f k ++ l) (other_lines k n (f n) not) ∙ append-nil (f k)))
+      ap (λ (l : List Command). l ++ commands_among k batches (map (line_of n) (f n))) (lines_at are batches n k (omega (arith, low, not)))
+      ∙ (ap (λ (l : List Command). f k ++ l) (other_lines k n batches (f n) not) ∙ append-nil (f k)))
 
 -- ------ how many clients there are
 
@@ -110,24 +150,27 @@ behind_none f (suc n) k low most = dite (ℕ_discrete n k)
 
 -- with a question of the last client, which is no call
 abbrev pub asked_last : (last : ℕ) → List Line → Scripted
-asked_last last lines = plain (lines ++ CommandLine 1 last Dvr (GetStc 0) ∷ [])
+asked_last last lines = plain (lines ++ CommandLine 1 last Dvr (verb.GetStc 0) ∷ [])
 
 abbrev pub question : Command
-question = record { line = 1; target = Dvr; verb = GetStc 0 }
+question = record { line = 1; target = Dvr; deed = GetStc 0 }
 
+-- what is played is the same in each script that writes nothing
 pub asked_others : (last k : ℕ) (lines : List Line) → last ≢ k → commands_of k (asked_last last lines) ≡ commands_of k (plain lines)
 asked_others last k lines not =
-    among_both k lines (CommandLine 1 last Dvr (GetStc 0) ∷ [])
-    ∙ (ap (λ b. commands_among k lines ++ ((if b then question ∷ [] else []) ++ [])) (ne_eqb last k not) ∙ append-nil (commands_among k lines))
+    let batches : Batches = plays_of k (plain lines) in
+    among_both k batches lines (CommandLine 1 last Dvr (verb.GetStc 0) ∷ [])
+    ∙ (ap (λ b. commands_among k batches lines ++ ((if b then question ∷ [] else []) ++ [])) (ne_eqb last k not) ∙ append-nil (commands_among k batches lines))
 
 pub asked_own : (last : ℕ) (lines : List Line) → commands_of last (plain lines) ≡ [] → commands_of last (asked_last last lines) ≡ question ∷ []
 asked_own last lines none =
-    among_both last lines (CommandLine 1 last Dvr (GetStc 0) ∷ [])
-    ∙ (ap (λ b. commands_among last lines ++ ((if b then question ∷ [] else []) ++ [])) (eq-eqb last last refl) ∙ ap (λ (l : List Command). l ++ question ∷ []) none)
+    let batches : Batches = plays_of last (plain lines) in
+    among_both last batches lines (CommandLine 1 last Dvr (verb.GetStc 0) ∷ [])
+    ∙ (ap (λ b. commands_among last batches lines ++ ((if b then question ∷ [] else []) ++ [])) (eq-eqb last last refl) ∙ ap (λ (l : List Command). l ++ question ∷ []) none)
 
 pub asked_clients : (last : ℕ) (lines : List Line) → clients_in (plain lines) ≤ last → clients_in (asked_last last lines) ≡ last + 1
 asked_clients last lines low =
-    most_both 0 lines (CommandLine 1 last Dvr (GetStc 0) ∷ []) ∙ is where
+    most_both 0 lines (CommandLine 1 last Dvr (verb.GetStc 0) ∷ []) ∙ is where
       is : max (clients_in (plain lines)) (last + 1) ≡ last + 1
       is = omega (arith, low)
 

@@ -1,24 +1,23 @@
 -- The seats at their end: what they have called, that they are still the adapter's callers, and that they own no node.
-use Rattle.std.proofs.Common.{◌≡◌, ⊎_elim, ℕ, Bool, true, ◌+◌, ◌<◌, ◌≤◌, ◌^◌, List, [], ◌∷◌, ◌++◌, length, map, Vec, Global, Some, refl, ap, sym, ◌∙◌, subst, arith, length-append, None}
+use Rattle.std.proofs.Common.{◌≡◌, ⊎_elim, ℕ, Bool, true, ◌+◌, ◌≤◌, ◌^◌, List, [], ◌∷◌, ◌++◌, length, map, Some, refl, ap, sym, ◌∙◌, subst, arith, length-append, None}
 use Rattle.std.specs.Prelude.{slice_get, slice_index_or, option_map, reverse, All, Option}
 use Rattle.std.proofs.lemmas.Option.{slice_get-map, get_or_from_slice_get, slice_get_within}
 use Rattle.std.proofs.lemmas.List.{length-map}
-use Rattle.std.proofs.lemmas.List.Elements.{All-nil}
 use Rattle.atomic_table.specs.Seated.{TableId}
 use Rattle.emu_io.specs.Ends.{SourceEnd, SinkEnd}
 use Rattle.dmx_calls.specs.declared.histories.Fed.{Fed}
 use Rattle.dmx_calls.specs.declared.limits.TheConstants.{DEMUX_NODES}
-use Rattle.dmx_calls.specs.Log.{LogEntry}
+use Rattle.dmx_calls.specs.declared.params.Input.{Input}
+use Rattle.dmx_calls.specs.Log.{LogEntry, Sources}
 use Rattle.dmx_calls.specs.declared.outcome.Outcome.{Outcome}
 use Rattle.client_script.specs.Script.{Scripted, plain}
 use Rattle.client_core.specs.declared.command.Command.{Command}
-use Rattle.client_core.specs.Commands.{commands_of}
-use Rattle.script_run.specs.SoFar.{PassesNone}
+use Rattle.client_core.specs.Commands.{commands_of, plays_of}
 use Rattle.adapter.specs.Callers.{Caller, IsSameCaller, AreFreshCallers, AreAllCallers}
 use Rattle.adapter.proofs.Everybody.{still_all}
 use Rattle.adapter.proofs.Lists.{at_place, at_end, one_value}
 use Rattle.workers.specs.Feeding.{HasFedAll}
-use Rattle.workers.specs.Logged.{IsLogged}
+use Rattle.workers.specs.Logged.{BringFrom, IsLogged}
 use Rattle.workers.specs.Telling.{HasLogged, HaveCalled}
 use Rattle.workers.proofs.Beginning.{called_none}
 use Rattle.workers.proofs.Lists.{mapped}
@@ -26,15 +25,15 @@ use Rattle.seats.specs.declared.run.Desk.{Desk}
 use Rattle.seats.specs.declared.seat.Seat.{Seat}
 use Rattle.seats.specs.Calls.{MakesCalls}
 use Rattle.seats.specs.Holding.{HasLeft}
-use Rattle.seats.specs.Seated.{log_of, AreOnNodes, IsReady, AreReady, GoesOn}
+use Rattle.seats.specs.Seated.{log_of, AreOnNodes, AreReady, GoesOn}
 use Rattle.seats.specs.Served.{HasServed, HaveServed}
 use Rattle.seats.specs.Scripts.{IsPlayed}
 use Rattle.seats.specs.Spelled.{commands_by}
 use Rattle.seats.specs.Turns.{HasAnsweredAll, spelled}
 use Rattle.seats.proofs.Played.{answers_played, answers_idle}
-use Rattle.serve_top.specs.Reported.{every, IsServed}
-use Rattle.serve_top.proofs.Scripting.{lines_of, lines_at}
-use Rattle.serve_top.proofs.Logged.{same_calls, logged_calls, passes_calls}
+use Rattle.serve_top.specs.Reported.{every, fed_by, IsServed}
+use Rattle.serve_top.proofs.Scripting.{AreCalls, spelled_calls, lines_of, lines_at}
+use Rattle.serve_top.proofs.Logged.{same_calls, logged_calls, brings_calls}
 
 module _ {T : Type 0} (source : T → SourceEnd) (sink : T → SinkEnd) (may : ℕ → Bool) (locks : List TableId) (n : ℕ) (feeder : Caller) (clients : List Caller) (fresh : AreFreshCallers locks n feeder clients) (all : AreAllCallers locks (clients ++ feeder ∷ []))
     (old new : List (Desk T)) (ready : AreReady locks clients (map (λ (d : Desk T). d.seat) old)) (h : HaveServed source sink may locks old new) where
@@ -77,15 +76,15 @@ module _ {T : Type 0} (source : T → SourceEnd) (sink : T → SinkEnd) (may : �
     pub client_same : IsSameCaller b.seat.client d.seat.client
     client_same = same_calls 0 b.seat.client goes.calls d.seat.client made
 
-    pub has_logged : HasLogged k d.seat.client (log_of d.seat)
+    pub has_logged : (packets : Sources) → HasLogged packets k d.seat.client (log_of d.seat)
     unfolding b served_at
-    has_logged =
+    has_logged packets =
         let f = fresh.each k b.seat.client (client_at k b (served_at k d at).1) in
         record {
           who = client_same.0 ∙ f.number;
           logged = subst (IsLogged d.seat.client) (sym log_is) (logged_calls 0 b.seat.client [] goes.calls d.seat.client refl
               (called_none locks (n + 1) (k + 1) (2 ^ 40) b.seat.client f (plain []) k (λ (m : ℕ). true) refl).logged made);
-          passes = subst (All (λ (e : LogEntry). PassesNone e.act)) (sym log_is) (passes_calls 0 b.seat.client [] goes.calls d.seat.client (All-nil (λ (e : LogEntry). PassesNone e.act)) made);
+          brought = subst (BringFrom (packets d.seat.client.who) d.seat.client) (sym log_is) (brings_calls (packets d.seat.client.who) 0 b.seat.client [] goes.calls d.seat.client (λ i e here. absurd (cc here)) made);
         }
 
   its_clients : List Caller
@@ -119,17 +118,27 @@ module _ {T : Type 0} (source : T → SourceEnd) (sink : T → SinkEnd) (may : �
   pub all_nodes : All (λ (d : Desk T). AreOnNodes (log_of d.seat)) new
   all_nodes k d low = let long = h.long in (h.each k d (omega arith)).fit.nodes
 
+  -- a client and its log
+  logged_at : (packets : Sources) (k : ℕ) (client : Caller) (log : List LogEntry) → slice_get (map (λ (d : Desk T). d.seat.client) new) k ≡ Some client
+      → slice_get (map (λ (d : Desk T). log_of d.seat) new) k ≡ Some log → HasLogged packets k client log
+  logged_at packets k client log at there =
+      let v = mapped (λ (x : Desk T). x.seat.client) new k client at in
+      let w = mapped (λ (x : Desk T). log_of x.seat) new k log there in
+      let same : v.0 ≡ w.0 = one_value new k v.0 w.0 v.1 w.1 in
+      subst (λ (x : Caller). HasLogged packets k x log) v.2 (subst (HasLogged packets k v.0.seat.client) w.2 (subst (λ (x : Desk T). HasLogged packets k v.0.seat.client (log_of x.seat)) same (has_logged k v.0 v.1 packets)))
+
+  -- whatever the packets are of which a client may bring some: it brings none
+  pub bring_none : (k : ℕ) (client : Caller) (log : List LogEntry) → slice_get (map (λ (d : Desk T). d.seat.client) new) k ≡ Some client
+      → slice_get (map (λ (d : Desk T). log_of d.seat) new) k ≡ Some log → (given : Input → List (List ℕ)) → BringFrom given client log
+  bring_none k client log at there given = (logged_at (λ (who : ℕ). given) k client log at there).brought
+
   -- what was called
   pub have_called : (most : ℕ) (stream : List (List ℕ)) (g : Caller) (feeding : List Fed) → HasFedAll every most may stream g feeding
-      → HaveCalled every stream g feeding (map (λ (d : Desk T). d.seat.client) new) (map (λ (d : Desk T). log_of d.seat) new)
+      → HaveCalled every (fed_by stream) g feeding (map (λ (d : Desk T). d.seat.client) new) (map (λ (d : Desk T). log_of d.seat) new)
   have_called most stream g feeding fed = record {
     fed = fed.fed.made;
     logs = length-map new (λ (d : Desk T). log_of d.seat) ∙ sym (length-map new (λ (d : Desk T). d.seat.client));
-    each = λ k client log at there.
-        let v = mapped (λ (x : Desk T). x.seat.client) new k client at in
-        let w = mapped (λ (x : Desk T). log_of x.seat) new k log there in
-        let same : v.0 ≡ w.0 = one_value new k v.0 w.0 v.1 w.1 in
-        subst (λ (x : Caller). HasLogged k x log) v.2 (subst (HasLogged k v.0.seat.client) w.2 (subst (λ (x : Desk T). HasLogged k v.0.seat.client (log_of x.seat)) same (has_logged k v.0 v.1)));
+    each = λ k client log at there. logged_at (fed_by stream) k client log at there;
     named = λ e is. refl;
   }
 
@@ -162,20 +171,25 @@ module _ {T : Type 0} (source : T → SourceEnd) (sink : T → SinkEnd) (may : �
         )
 
     -- the commands of the seat in this place, if there is one
-    choose : (k : ℕ) (o : Option (Desk T)) → slice_get new k ≡ o → (cs : List Command) × ((d : Desk T) → o ≡ Some d → IsAt k lines d cs)
-    choose k None at = ([], λ d some. absurd (cc some))
+    choose : (k : ℕ) (o : Option (Desk T)) → slice_get new k ≡ o → (cs : List Command) × AreCalls cs × ((d : Desk T) → o ≡ Some d → IsAt k lines d cs)
+    choose k None at = ([], tt, λ d some. absurd (cc some))
     choose k (Some d) at =
         let a = answers_at k d at in (
           commands_by 0 (spelled (a.2.turns ++ a.2.last) a.2.leaving),
+          spelled_calls 0 (spelled (a.2.turns ++ a.2.last) a.2.leaving),
           λ x same. let one : d ≡ x = cc same in subst (λ (z : Desk T). IsAt k lines z (commands_by 0 (spelled (a.2.turns ++ a.2.last) a.2.leaving))) one (record { line = a.0; there = a.1; answers = a.2; are = refl }),
         )
 
     pub commands_at : (k : ℕ) → List Command
     commands_at k = (choose k (slice_get new k) refl).0
 
+    pub calls_at : (k : ℕ) → AreCalls (commands_at k)
+    unfolding commands_at
+    calls_at k = (choose k (slice_get new k) refl).1
+
     pub seat_is : (k : ℕ) (d : Desk T) → slice_get new k ≡ Some d → IsAt k lines d (commands_at k)
     unfolding commands_at
-    seat_is k d at = (choose k (slice_get new k) refl).1 d at
+    seat_is k d at = (choose k (slice_get new k) refl).2 d at
 
     abbrev pub the_books : List (List LogEntry)
     the_books = map (λ (d : Desk T). log_of d.seat) new
@@ -223,5 +237,5 @@ module _ {T : Type 0} (source : T → SourceEnd) (sink : T → SinkEnd) (may : �
           v.0.seat.outcomes.items,
           slice_get-map (λ (x : Desk T). x.seat.outcomes.items) new k ∙ ap (option_map (λ (x : Desk T). x.seat.outcomes.items)) v.1,
           subst (λ (b : List LogEntry). IsServed source sink may the_script k s.line b v.0.seat.outcomes.items) v.2
-              (record { answers = s.answers; spells = lines_at commands_at (length the_books) k (slice_get_within the_books k book at) ∙ s.are }),
+              (record { answers = s.answers; spells = lines_at commands_at calls_at (plays_of k the_script) (length the_books) k (slice_get_within the_books k book at) ∙ s.are }),
         )

@@ -10,9 +10,10 @@ use Rattle.dmx_calls.specs.declared.histories.Fed.{Fed}
 use Rattle.dmx_calls.specs.declared.limits.TheConstants.{DEMUX_NODES}
 use Rattle.dmx_calls.specs.declared.outcome.Outcome.{Outcome}
 use Rattle.dmx_calls.specs.Calls.{told_entry}
-use Rattle.dmx_calls.specs.Log.{LogEntry}
+use Rattle.dmx_calls.specs.declared.params.Input.TheVariants.{Frontend, Dvr}
+use Rattle.dmx_calls.specs.Log.{LogEntry, Sources}
 use Rattle.dmx_calls.specs.Response.{NoMemory}
-use Rattle.client_script.specs.Script.{Scripted}
+use Rattle.client_script.specs.Script.{Scripted, no_writes}
 use Rattle.client_core.specs.Commands.{commands_of}
 use Rattle.script_run.specs.WholeRun.{IsWholeRun}
 use Rattle.report_text.specs.Report.{report_of}
@@ -32,6 +33,11 @@ use Rattle.serve_top.specs.declared.left.Left.{Left}
 -- all nodes
 abbrev pub every : (node : ℕ) → Bool
 every node = true
+
+-- the packets of the stream, which the feeder brings; a program brings none
+abbrev pub fed_by : (stream : List (List ℕ)) → Sources
+fed_by stream who Frontend = stream
+fed_by stream who Dvr = []
 
 -- A seat has served its line: it has made just these calls, and told these of its commands; and the commands of the script's
 -- client are those that the requests of the line spell, in their order.
@@ -67,10 +73,11 @@ pub record HasReported {T : Type 0} (source : T → SourceEnd) (sink : T → Sin
   -- each client has made just the calls of its log
   pub clients : List Caller
   pub books : List (List LogEntry)
-  pub called : HaveCalled every (cut Of188 taken).packets feeder feeding clients books
+  pub called : HaveCalled every (fed_by (cut Of188 taken).packets) feeder feeding clients books
   -- these are the calls that the requests of its line ask for, one after another, each told in its reply, and then those by which
-  -- all nodes were closed; and the script has the commands that these spell
+  -- all nodes were closed; and the script has the commands that these spell, and no client of it writes
   pub script : Scripted
+  pub writes : script.writes ≡ no_writes
   pub told : List (List Outcome)
   pub asked : (c : ℕ) (book : List LogEntry) → slice_get books c ≡ Some book
       → (line : T) × (slice_get (reverse lines) c ≡ Some line) × (became : List Outcome) × (slice_get told c ≡ Some became)
@@ -80,7 +87,7 @@ pub record HasReported {T : Type 0} (source : T → SourceEnd) (sink : T → Sin
       → HasLeft node client
   -- the report tells these calls and no others, as the locks of the nodes have them
   pub histories : List (List LogEntry)
-  pub tells : TellWhatWasCalled every (cut Of188 taken).packets feeder feeding clients books histories
+  pub tells : TellWhatWasCalled every (fed_by (cut Of188 taken).packets) feeder feeding clients books histories
   -- it is a run of the script, where no call has found memory wanting
   pub run : FindMemory books → IsRunOf script may (cut Of188 taken).packets told histories
   pub written : Appends was now (report_of (head_of Of188 taken failed) told histories)
@@ -106,9 +113,9 @@ module _ {T : Type 0} where
   pub record IsLeftBy (feeder : FeederWorker) (desks : List (Desk T)) (left : Left) : Type 0 where
     pub head : (taken : List ℕ) (given : List (List ℕ)) → Pulls [] taken given feeder.puller
         → told_head left.head ≡ head_of feeder.puller.cutting.size taken (has_failed feeder.puller.reading)
-    pub tells : (among : ℕ → Bool) (stream : List (List ℕ))
-        → HaveCalled among stream feeder.feeder feeder.feeding.items (map (λ d. d.seat.client) desks) (map (λ d. log_of d.seat) desks)
-        → TellWhatWasCalled among stream feeder.feeder feeder.feeding.items (map (λ d. d.seat.client) desks) (map (λ d. log_of d.seat) desks) left.histories
+    pub tells : (among : ℕ → Bool) (packets : Sources)
+        → HaveCalled among packets feeder.feeder feeder.feeding.items (map (λ d. d.seat.client) desks) (map (λ d. log_of d.seat) desks)
+        → TellWhatWasCalled among packets feeder.feeder feeder.feeding.items (map (λ d. d.seat.client) desks) (map (λ d. log_of d.seat) desks) left.histories
     pub outcomes : map (λ those. those.items) left.outcomes.items ≡ map (λ d. d.seat.outcomes.items) desks
     pub runs : (script : Scripted) (among : ℕ → Bool) (most : ℕ) (may : ℕ → Bool) (stream : List (List ℕ))
         (told : List (List Outcome))

@@ -12,10 +12,11 @@
 //! `seats`). Nothing is written where there was no memory.
 //!
 //! A served run is a run of the script of its requests: there is a script whose commands are, client by client and in their order,
-//! those that the requests on the client's line spell, with a close behind them for each node that was closed. Where no call has
-//! found memory wanting, the report's histories, and what it tells of commands, are those of a run of this script over the packets of
-//! the stream, in batches of 64 at moments of the clock (`IsRunOf`); behind the last client that made a call the report tells of
-//! clients with no command. A call that found memory wanting stands in the report too, and is none of a run.
+//! those that the requests on the client's line spell, with a close behind them for each node that was closed; no client of it
+//! writes to the dvr device. Where no call has found memory wanting, the report's histories, and what it tells of commands, are those
+//! of a run of this script over the packets of the stream, in batches of 64 at moments of the clock (`IsRunOf`); behind the last
+//! client that made a call the report tells of clients with no command. A call that found memory wanting stands in the report too,
+//! and is none of a run.
 #![tactic(auto)]
 
 mod left;

@@ -25,6 +25,8 @@ mod made_reads;
 #[cfg(test)]
 mod node_tests;
 #[cfg(test)]
+mod play_tests;
+#[cfg(test)]
 mod reply_tests;
 #[cfg(test)]
 mod report_lines;

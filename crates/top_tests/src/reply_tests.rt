@@ -320,7 +320,7 @@ static CALLS: [Session; 17] = [
     },
     Session {
         rows: "c0 open n0 = done drop=0..0 tap=keep\n\
-            c0 pes n0 256 dvr tap 20 0 = EINVAL\n",
+            c0 pes n0 256 dvr ts_tap 20 0 = EINVAL\n",
         ..BATCHES
     },
     // PIDs of a section filter, and PIDs without a filter

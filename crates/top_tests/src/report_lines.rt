@@ -1,4 +1,5 @@
-// What the lines of a report tell.
+// What the lines of a report tell, and texts with pieces that stand often.
+use std::alloc::AllocError as NoMemory;
 
 /// A line of a node in a report.
 #[derive(Clone, Copy)]
@@ -64,7 +65,18 @@ fn times(piece: &str) -> (&str, usize) {
     }
 }
 
-/// Whether bytes are this text. In it `|` parts pieces, and `0*368` is 368 times `0`.
+/// Appends a text in which `|` parts pieces, and `0*368` is 368 times `0`.
+pub fn put_text(out: &mut String, text: &str) -> Result<(), NoMemory> {
+    for piece in text.split("|") {
+        let (word, count) = times(piece);
+        for _ in 0..count {
+            out.push_str(word)?;
+        }
+    }
+    Ok(())
+}
+
+/// Whether bytes are such a text.
 pub fn is_text(bytes: &[u8], want: &str) -> bool {
     let mut rest = bytes;
     for piece in want.split("|") {

@@ -1,6 +1,6 @@
 // Sessions as rows: the lines of a script, and what the calls that each makes are answered.
 use crate::in_memory::{Ends, FAULTLESS, Part, input_of, told};
-use crate::report_lines::{command_in, is_text, reply_to};
+use crate::report_lines::{command_in, is_text, put_text, reply_to};
 use emu_top::Status;
 use std::alloc::{AllocError as NoMemory, Global};
 use std::sync::Wait;
@@ -11,8 +11,8 @@ pub struct Session {
     /// The words, those of each run on a line.
     pub words: &'static str,
     pub ends: &'static Ends,
-    /// The lines of the script but `stream`. Behind ` = ` stand the replies to the line's calls, parted by ` ; `, as `is_text`
-    /// reads them. A line without replies makes no call.
+    /// The lines of the script but `stream`, as `put_text` writes them. Behind ` = ` stand the replies to the line's calls, parted
+    /// by ` ; `, as `is_text` reads them. A line without replies makes no call.
     pub rows: &'static str,
     pub stream: &'static [Part],
     pub status: Status,
@@ -44,7 +44,7 @@ fn row_in(row: &str) -> (&str, &str) {
 fn script_of(alloc: Global, session: &Session) -> Result<String, NoMemory> {
     let mut script = String::new(alloc);
     for row in session.rows.lines() {
-        script.push_str(row_in(row).0)?;
+        put_text(&mut script, row_in(row).0)?;
         script.push_str("\n")?;
     }
     script.push_str("stream\n")?;

@@ -18,8 +18,8 @@ use std::thread::Threads;
 // What a report has room for.
 const ROOM: usize = 60_000_000;
 
-// The report of an input with this clock and this gate, where it is `Ok`.
-fn ran<R: AllocGlobal + Threads + Wait + Sync, C: Clock + Sync, G: Gate + Sync>(
+/// The report of an input with this clock and this gate, where it is `Ok`.
+pub fn ran<R: AllocGlobal + Threads + Wait + Sync, C: Clock + Sync, G: Gate + Sync>(
     rt: &R,
     words: &str,
     input: Vec<u8>,
@@ -106,15 +106,15 @@ fn the_end_passes_before_or_behind_a_call(rt: HostRuntime) {
     assert_eq!(rt; seen, (Some(true), Some(true)));
 }
 
-// A clock that gives how often it was asked before, or the greatest moment less that.
+/// A clock that gives how often it was asked before, or the greatest moment less that.
 #[derive(Drop)]
-struct CountingClock {
+pub struct CountingClock {
     asked: AtomicU64,
     is_backwards: bool,
 }
 
 impl CountingClock {
-    fn new(is_backwards: bool) -> CountingClock {
+    pub fn new(is_backwards: bool) -> CountingClock {
         CountingClock {
             asked: AtomicU64::new(0),
             is_backwards,
@@ -173,8 +173,8 @@ struct Held {
     replies: &'static [(&'static str, u64, &'static str)],
 }
 
-// Whether a report has these replies.
-fn has_replies(report: &str, replies: &[(&str, u64, &str)]) -> bool {
+/// Whether a report has these replies.
+pub fn has_replies(report: &str, replies: &[(&str, u64, &str)]) -> bool {
     replies.iter().all(|(who, step, want)| match reply_to(report, who, *step) {
         Some(reply) => is_text(reply.as_bytes(), want),
         None => false,

@@ -6,6 +6,7 @@ use Rattle.std.specs.Prelude.{Some, None, filter, slice_get, slice_set, option_m
 use Rattle.dmx_calls.specs.Log.{LogEntry}
 use Rattle.dmx_calls.specs.Response.{Response}
 use Rattle.client_script.specs.Script.{Scripted}
+use Rattle.client_core.specs.Commands.{plays_of}
 use Rattle.client_core.specs.Events.{next_event}
 use Rattle.script_run.specs.IsRun.{IsEvent, StandsIn, HasDone, replies}
 use Rattle.walk_check.specs.Walk.{IsRest, of_client, queues_in}
@@ -150,7 +151,7 @@ more_replies done e made = append_assoc done (e.response ∷ []) (replies made)
 
 record Walked (client : ℕ) (script : Scripted) (done : List Response) (qs : List (List LogEntry)) (made : List LogEntry) : Type 0 where
   steps : (i : ℕ) (e : LogEntry) → slice_get made i ≡ Some e
-      → (e.step ≡ length done + i) × IsEvent (next_event client script (done ++ replies (take i made))) e × ((q : List LogEntry) × (slice_get qs e.node ≡ Some q) × In e q)
+      → (e.step ≡ length done + i) × IsEvent (plays_of client script) (next_event client script (done ++ replies (take i made))) e × ((q : List LogEntry) × (slice_get qs e.node ≡ Some q) × In e q)
   ends : next_event client script (done ++ replies made) ≡ None
   only : (node : ℕ) (q : List LogEntry) (e : LogEntry) → slice_get qs node ≡ Some q → In e q → In e made
   in_order : (i j : ℕ) (e f : LogEntry) → i < j → slice_get made i ≡ Some e → slice_get made j ≡ Some f → e.node ≡ f.node → e.place < f.place
@@ -179,19 +180,19 @@ module _ (client : ℕ) (script : Scripted) where
       }
     where
       steps_of : (later : List LogEntry) → slice_get qs e.node ≡ Some (e ∷ later) → Walked client script (done ++ e.response ∷ []) (slice_set qs e.node later) made → (i : ℕ) (f : LogEntry) → slice_get (e ∷ made) i ≡ Some f
-          → (f.step ≡ length done + i) × IsEvent (next_event client script (done ++ replies (take i (e ∷ made)))) f × ((q : List LogEntry) × (slice_get qs f.node ≡ Some q) × In f q)
+          → (f.step ≡ length done + i) × IsEvent (plays_of client script) (next_event client script (done ++ replies (take i (e ∷ made)))) f × ((q : List LogEntry) × (slice_get qs f.node ≡ Some q) × In f q)
       steps_of later at w zero f here =
           let same : e ≡ f = cc in
           let step : e.step ≡ length done = rest.1 in
-          let event : IsEvent (next_event client script (done ++ [])) e = subst (λ (rs : List Response). IsEvent (next_event client script rs) e) (sym (append-nil done)) rest.0 in
+          let event : IsEvent (plays_of client script) (next_event client script (done ++ [])) e = subst (λ (rs : List Response). IsEvent (plays_of client script) (next_event client script rs) e) (sym (append-nil done)) rest.0 in
           let step' : e.step ≡ length done + 0 = omega arith in
-          subst (λ (g : LogEntry). (g.step ≡ length done + 0) × IsEvent (next_event client script (done ++ [])) g × ((q : List LogEntry) × (slice_get qs g.node ≡ Some q) × In g q)) same
+          subst (λ (g : LogEntry). (g.step ≡ length done + 0) × IsEvent (plays_of client script) (next_event client script (done ++ [])) g × ((q : List LogEntry) × (slice_get qs g.node ≡ Some q) × In g q)) same
           (step', event, (e ∷ later, at, in_head e later))
       steps_of later at w (suc i) f here =
           let s = w.steps i f here in
           let step : f.step ≡ length (done ++ e.response ∷ []) + i = s.0 in
           let step' : f.step ≡ length done + suc i = omega (arith, length-append done (e.response ∷ [])) in
-          let event = subst (λ (rs : List Response). IsEvent (next_event client script rs) f) (more_replies done e (take i made)) s.1 in (
+          let event = subst (λ (rs : List Response). IsEvent (plays_of client script) (next_event client script rs) f) (more_replies done e (take i made)) s.1 in (
             step',
             event,
             by_node (λ (q : List LogEntry). In f q → (p : List LogEntry) × (slice_get qs f.node ≡ Some p) × In f p) qs e.node (e ∷ later) later at f.node s.2.0 s.2.1
@@ -315,7 +316,7 @@ on node es = filter (λ e. nat_eq e.node node) es
 
 module _ (client : ℕ) (script : Scripted) where
   rest_of : (made : List LogEntry) (done : List Response) (qs : List (List LogEntry))
-      → ((i : ℕ) (e : LogEntry) → slice_get made i ≡ Some e → (e.step ≡ length done + i) × IsEvent (next_event client script (done ++ replies (take i made))) e × ((q : List LogEntry) × (slice_get qs e.node ≡ Some q)))
+      → ((i : ℕ) (e : LogEntry) → slice_get made i ≡ Some e → (e.step ≡ length done + i) × IsEvent (plays_of client script) (next_event client script (done ++ replies (take i made))) e × ((q : List LogEntry) × (slice_get qs e.node ≡ Some q)))
       → next_event client script (done ++ replies made) ≡ None
       → ((node : ℕ) (q : List LogEntry) → slice_get qs node ≡ Some q → on node made ≡ q)
       → IsRest client script done qs made
@@ -323,7 +324,7 @@ module _ (client : ℕ) (script : Scripted) where
   rest_of [] done qs steps ends each = (subst (λ (rs : List Response). next_event client script rs ≡ None) (append-nil done) ends, λ node q at. sym (each node q at))
   rest_of (e ∷ made) done qs steps ends each =
       let s = steps 0 e refl in
-      let event : IsEvent (next_event client script done) e = subst (λ (rs : List Response). IsEvent (next_event client script rs) e) (append-nil done) s.1 in
+      let event : IsEvent (plays_of client script) (next_event client script done) e = subst (λ (rs : List Response). IsEvent (plays_of client script) (next_event client script rs) e) (append-nil done) s.1 in
       let step : e.step ≡ length done = omega (arith, s.0) in
       let mine : nat_eq e.node e.node ≡ true = grind (arith, nat_tests) in
       let front : on e.node (e ∷ made) ≡ e ∷ on e.node made = rw mine refl in
@@ -339,7 +340,7 @@ module _ (client : ℕ) (script : Scripted) where
               let t = steps (suc i) f here in
               let long : length (done ++ e.response ∷ []) ≡ length done + 1 = length-append done (e.response ∷ []) in (
                 omega (arith, t.0, long),
-                subst (λ (rs : List Response). IsEvent (next_event client script rs) f) (sym (more_replies done e (take i made))) t.1,
+                subst (λ (rs : List Response). IsEvent (plays_of client script) (next_event client script rs) f) (sym (more_replies done e (take i made))) t.1,
                 still f.node t.2.0 t.2.1 at,
               ))
               (subst (λ (rs : List Response). next_event client script rs ≡ None) (sym (more_replies done e made)) ends)

@@ -5,22 +5,24 @@ use Rattle.dmx_calls.specs.Log.{LogEntry}
 use Rattle.dmx_calls.specs.Response.{Response}
 use Rattle.client_script.specs.Script.{Scripted}
 use Rattle.client_core.specs.declared.event.Event.{Event}
+use Rattle.client_core.specs.Deeds.{Batches}
+use Rattle.client_core.specs.Commands.{plays_of}
 use Rattle.client_core.specs.Events.{next_event}
 use Rattle.script_run.specs.IsRun.{IsEvent}
 use Rattle.walk_check.specs.Walk.{IsRest}
 
 -- one event stands on one node
-same_node : (o : Option Event) (e f : LogEntry) → IsEvent o e → IsEvent o f → e.node ≡ f.node
-same_node None e f a b = absurd a
-same_node (Some event) e f a b = a.0 ∙ sym b.0
+same_node : (batches : Batches) (o : Option Event) (e f : LogEntry) → IsEvent batches o e → IsEvent batches o f → e.node ≡ f.node
+same_node batches None e f a b = absurd a
+same_node batches (Some event) e f a b = a.0 ∙ sym b.0
 
 module _ (client : ℕ) (script : Scripted) where
   pub one_walk_from : (made others : List LogEntry) (done : List Response) (queues : List (List LogEntry)) → IsRest client script done queues made → IsRest client script done queues others → made ≡ others
   one_walk_from [] [] done queues a b = refl
-  one_walk_from [] (f ∷ others) done queues a b = absurd (subst (λ (o : Option Event). IsEvent o f) a.0 b.0)
-  one_walk_from (e ∷ made) [] done queues a b = absurd (subst (λ (o : Option Event). IsEvent o e) b.0 a.0)
+  one_walk_from [] (f ∷ others) done queues a b = absurd (subst (λ (o : Option Event). IsEvent (plays_of client script) o f) a.0 b.0)
+  one_walk_from (e ∷ made) [] done queues a b = absurd (subst (λ (o : Option Event). IsEvent (plays_of client script) o e) b.0 a.0)
   one_walk_from (e ∷ made) (f ∷ others) done queues a b =
-      let node : e.node ≡ f.node = same_node (next_event client script done) e f a.0 b.0 in
+      let node : e.node ≡ f.node = same_node (plays_of client script) (next_event client script done) e f a.0 b.0 in
       let here : slice_get queues e.node ≡ Some (e ∷ a.2.0) = a.2.1 in
       let there : slice_get queues e.node ≡ Some (f ∷ b.2.0) = subst (λ (n : ℕ). slice_get queues n ≡ Some (f ∷ b.2.0)) (sym node) b.2.1 in
       let both : Some (e ∷ a.2.0) ≡ Some (f ∷ b.2.0) = sym here ∙ there in

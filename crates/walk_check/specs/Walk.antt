@@ -3,6 +3,7 @@ use Rattle.std.specs.Prelude.{◌≡◌, ℕ, ◌+◌, List, [], ◌∷◌, ◌+
 use Rattle.dmx_calls.specs.Log.{LogEntry}
 use Rattle.dmx_calls.specs.Response.{Response}
 use Rattle.client_script.specs.Script.{Scripted}
+use Rattle.client_core.specs.Commands.{plays_of}
 use Rattle.client_core.specs.Events.{next_event}
 use Rattle.client_core.specs.Inside.Core.{Core, IsAfter}
 use Rattle.script_run.specs.IsRun.{IsEvent, replies}
@@ -26,7 +27,7 @@ abbrev pub IsRest : (client : ℕ) → Scripted → (done : List Response) → (
 IsRest client script done queues [] =
     (next_event client script done ≡ None) × ((node : ℕ) (q : List LogEntry) → slice_get queues node ≡ Some q → q ≡ [])
 IsRest client script done queues (e ∷ made) =
-    IsEvent (next_event client script done) e × (e.step ≡ length done)
+    IsEvent (plays_of client script) (next_event client script done) e × (e.step ≡ length done)
     × ((later : List LogEntry) × (slice_get queues e.node ≡ Some (e ∷ later))
     × IsRest client script (done ++ e.response ∷ []) (slice_set queues e.node later) made)
 

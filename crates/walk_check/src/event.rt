@@ -1,14 +1,17 @@
 // Whether a told call is the one that is asked for.
 ghost use Rattle.std.specs.Prelude.{◌≡◌, ◌≢◌, ◌≤◌, true, false, Some};
+ghost use Rattle.std.specs.Option.{option_map};
 ghost use Rattle.dmx_calls.specs.Calls.{told_entry};
 ghost use Rattle.dmx_calls.specs.Log.{act_of};
-ghost use Rattle.client_core.specs.Commands.{call_of, own_call};
+ghost use Rattle.client_core.specs.Commands.{call_of, own_call, pass_of, IsRequestOf};
 ghost use Rattle.script_run.specs.IsRun.{IsEvent};
 ghost use Rattle.walk_check.specs.Inside.Steps.{asked_at, moment_in};
 
-use client_core::{Event, Request};
+use client_core::{ClientCore, Event, Request};
 use client_script::Want;
-use dmx_calls::{Act, Entry, KeptAct};
+use dmx_calls::{Act, Entry, Input, KeptAct};
+use std::sync::Arc;
+use ts_batch::Batch;
 
 // The moment of a call; 0 where it has none.
 fn moment_of(act: &Act) -> u64
@@ -44,9 +47,31 @@ fn asked_by_command(want: Want, now: u64) -> Act
     }
 }
 
-// What is asked for, made at this moment.
-fn asked(request: &Request, now: u64) -> Act
-    ensures { result ≡ act_of (call_of request.now now) }
+// A pass of this batch, made at this moment.
+fn passed(batch: Option<&Arc<Batch>>, now: u64) -> Act
+    ensures { result ≡ act_of (pass_of (option_map (λ b. b.now.value) batch.entry) now) }
+{
+    match batch {
+        Some(batch) => Act::Pass {
+            input: Input::Dvr,
+            first: batch.first(),
+            count: batch.count(),
+            now,
+        },
+        None => Act::Pass {
+            input: Input::Dvr,
+            first: 0,
+            count: 0,
+            now,
+        },
+    }
+}
+
+// What is asked for by this client, made at this moment.
+#[tactic(auto, using(crate::proofs::Asked::written_rules))]
+fn asked(core: &ClientCore, request: &Request, now: u64) -> Act
+    requires played { IsRequestOf core.now.plays request.now }
+    ensures { result ≡ act_of (call_of core.now.plays request.now now) }
 {
     match request {
         Request::Own(want) => asked_by_command(*want, now),
@@ -55,6 +80,7 @@ fn asked(request: &Request, now: u64) -> Act
             pids: pids.copied(),
         },
         Request::Detach { node } => Act::Detach { node: *node },
+        Request::Pass { write } => passed(core.batch(*write), now),
     }
 }
 
@@ -66,20 +92,22 @@ fn is_same(this: &Act, other: &Act) -> bool
     this == other
 }
 
-// Whether a told call is this one, at its own moment.
-fn is_asked(request: &Request, told: &KeptAct) -> bool
-    ensures same { result ≡ true → told.now ≡ asked_at request.now told.now }
-    ensures differs { result ≡ false → told.now ≢ asked_at request.now told.now }
+// Whether a told call is this one of the client, at its own moment.
+fn is_asked(core: &ClientCore, request: &Request, told: &KeptAct) -> bool
+    requires played { IsRequestOf core.now.plays request.now }
+    ensures same { result ≡ true → told.now ≡ asked_at core.now.plays request.now told.now }
+    ensures differs { result ≡ false → told.now ≢ asked_at core.now.plays request.now told.now }
 {
     let act = told.act();
-    is_same(&act, &asked(request, moment_of(&act)))
+    is_same(&act, &asked(core, request, moment_of(&act)))
 }
 
-/// Whether a told entry is this event of its client: on its node, with its step, and the call that is asked for, at some moment.
+/// Whether a told entry is this event of the client: on its node, with its step, and the call that is asked for, at some moment.
 #[tactic(auto, using(crate::proofs::Asked::asked_rules))]
-pub fn is_event(event: &Event, entry: &Entry) -> bool
-    ensures is { result ≡ true → IsEvent (Some event.now) (told_entry entry.now) × (entry.now.step ≡ event.now.step) }
-    ensures other { result ≡ false → IsEvent (Some event.now) (told_entry entry.now) → entry.now.step ≢ event.now.step }
+pub fn is_event(core: &ClientCore, event: &Event, entry: &Entry) -> bool
+    requires played { IsRequestOf core.now.plays event.now.want }
+    ensures is { result ≡ true → IsEvent core.now.plays (Some event.now) (told_entry entry.now) × (entry.now.step ≡ event.now.step) }
+    ensures other { result ≡ false → IsEvent core.now.plays (Some event.now) (told_entry entry.now) → entry.now.step ≢ event.now.step }
 {
-    entry.node == event.node && entry.step == event.step && is_asked(&event.want, &entry.act)
+    entry.node == event.node && entry.step == event.step && is_asked(core, &event.want, &entry.act)
 }

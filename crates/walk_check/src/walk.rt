@@ -28,7 +28,7 @@ pub fn is_walked(core: &mut ClientCore, client: u32, nodes: &mut Vec<&[Entry]>) 
         let Some(entry) = take_next(nodes, event.node, client) else {
             return false;
         };
-        if !is_event(&event, entry) {
+        if !is_event(core, &event, entry) {
             return false;
         }
         core.take(entry.reply.told());

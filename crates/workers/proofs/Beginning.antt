@@ -51,6 +51,7 @@ module _ (locks : List TableId) (callers who left : ℕ) (c : Caller) (f : IsFre
     who = f.number ∙ is;
     logged = logged_none;
     events = λ i e at. absurd (cc at);
+    brought = λ stream i e at. absurd (cc at);
     found = All-nil (λ (e : LogEntry). e.response ≢ NoMemory);
     moments = All-nil (λ (e : LogEntry). IsGiven may e.act);
     paid = λ i e g at next waits. absurd (cc at);

@@ -1,5 +1,5 @@
 -- A client of a run by threads keeps to its budget, at each moment.
-use Rattle.std.proofs.Common.{◌≡◌, refl, sym, subst, ◌∙◌, ℕ, ◌*◌, ◌<◌, ◌≤◌, Bool, true, false, List, [], ◌∷◌, ◌++◌, length, take, slice_get, Some, inl, inr, arith}
+use Rattle.std.proofs.Common.{◌≡◌, refl, sym, subst, ◌∙◌, ℕ, ◌+◌, ◌*◌, ◌<◌, ◌≤◌, Bool, true, false, List, [], ◌∷◌, ◌++◌, length, take, slice_get, Some, inl, inr, arith}
 use Rattle.std.specs.Prelude.{◌⊎◌, if◌then◌else◌}
 use Rattle.std.proofs.lemmas.Option.{slice_get_within}
 use Rattle.lemmas.proofs.Lists.{has_at}
@@ -8,7 +8,7 @@ use Rattle.dmx_calls.specs.declared.limits.TheConstants.{DEMUX_NODES}
 use Rattle.dmx_calls.specs.History.{Entry}
 use Rattle.dmx_calls.specs.Log.{LogEntry}
 use Rattle.client_script.specs.Script.{clients_in, Scripted}
-use Rattle.script_run.specs.Budget.{all_commands, most_calls}
+use Rattle.script_run.specs.Budget.{all_commands, bytes_written, most_calls}
 use Rattle.script_run.specs.SoFar.{others as Others}
 use Rattle.script_run.proofs.Paying.{calls_are_paid}
 use Rattle.adapter.specs.Callers.{Caller}
@@ -17,7 +17,7 @@ use Rattle.adapter.proofs.Lists.{at_place, one_value}
 use Rattle.adapter.specs.Ends.{HaveHistories}
 use Rattle.atomic_table.specs.Seated.{TableId}
 use Rattle.node_lock.specs.declared.view.View.{View}
-use Rattle.script_run.specs.IsRun.{replies}
+use Rattle.script_run.specs.IsRun.{replies, sources}
 use Rattle.workers.specs.Budget.{IsRunning, CallsAreWithinBudget, FewBytesAreFewCalls, ManyCallsAreTooLong}
 use Rattle.workers.specs.Feeding.{HasMade, fed_entries}
 use Rattle.workers.specs.Telling.{HasLogged, IsLoggedIn}
@@ -47,38 +47,38 @@ module _ (script : Scripted) (among : ℕ → Bool) (most : ℕ) (may : ℕ → 
       let client = at_place others c (omega (arith, slice_get_within books c log book, r.logs, r.clients)) in
       r.named e.node (named_call script c (replies (take i log)) e ((r.called c client.0 log client.1 book).events i e at))
 
-  logged_each : (c : ℕ) (client : Caller) (log : List LogEntry) → slice_get others c ≡ Some client → slice_get books c ≡ Some log → HasLogged c client log
-  logged_each c client log at book = has_logged script c may client log (r.called c client log at book)
+  logged_each : (c : ℕ) (client : Caller) (log : List LogEntry) → slice_get others c ≡ Some client → slice_get books c ≡ Some log → HasLogged (sources script packets) c client log
+  logged_each c client log at book = has_logged script packets c may client log (r.called c client log at book)
 
   histories : HaveHistories (others ++ whole among (made_by over packets fs) feeder ∷ [])
-  histories = whole_have among (made_by over packets fs) feeder others (feeders_calls over packets fs) made (idle_there among others books (r.logs ∙ sym r.clients) logged_each named_in) r.histories
+  histories = whole_have among (made_by over packets fs) feeder others (feeders_calls over packets fs) made (idle_there among others books (r.logs ∙ sym r.clients) (sources script packets) logged_each named_in) r.histories
 
   abbrev m : Moment
   m = record {
-    stream = packets;
+    packets = sources script packets;
     acts = acts_of over fs;
     feeder = whole among (made_by over packets fs) feeder;
     others = others;
     books = books;
-    fed = λ node p at. subst (λ es. HasMade es p) (fed_is over packets fs) (whole_made among (made_by over packets fs) feeder made node p at);
+    fed = λ node p at. subst (λ es. HasMade es p) (fed_is over (sources script packets) fs) (whole_made among (made_by over packets fs) feeder made node p at);
     logs = r.logs ∙ sym r.clients;
     each = logged_each;
   }
 
-  of_script : IsOfScript script most may over fs m
-  of_script = record { acts = refl; tiles = r.fed.tiles; count = r.logs; calls = r.called }
+  of_script : IsOfScript script packets most may over fs m
+  of_script = record { packets = refl; acts = refl; tiles = r.fed.tiles; count = r.logs; calls = r.called }
 
   low : (e : LogEntry) → IsLoggedIn books e → e.node ≤ DEMUX_NODES
   low e (c, log, i, book, at) = has_all (λ (e : LogEntry). e.node ≤ DEMUX_NODES) log (r.nodes c log book) e (has_at log e i at)
 
-  within : (c : ℕ) (log : List LogEntry) → slice_get books c ≡ Some log → length log ≤ most_calls (all_commands script.lines) (188 * length packets)
+  within : (c : ℕ) (log : List LogEntry) → slice_get books c ≡ Some log → length log ≤ most_calls (all_commands script.lines) (188 * length packets + bytes_written script)
   unfolding so_far done
   within c log book =
       let hs = are_woven m histories in
       let is : c < clients_in script = omega (arith, slice_get_within books c log book, r.logs) in
-      let here = log_at script most may over fs m of_script histories low hs.0 hs.1 c is in
-      let bound = calls_are_paid Others script most packets hs.0 (so_far script most may over fs m of_script histories low hs.0 hs.1) r.are_packets c is in
-      subst (λ l. length l ≤ most_calls (all_commands script.lines) (188 * length packets)) (one_value books c here.0 log here.1 book) bound
+      let here = log_at script packets most may over fs m of_script histories low hs.0 hs.1 c is in
+      let bound = calls_are_paid Others script most packets hs.0 (so_far script packets most may over fs m of_script histories low hs.0 hs.1) r.numbered r.are_packets c is in
+      subst (λ l. length l ≤ most_calls (all_commands script.lines) (188 * length packets + bytes_written script)) (one_value books c here.0 log here.1 book) bound
 
 pub calls_within : CallsAreWithinBudget
 calls_within script among most may packets behind feeder fs others books r c log book = within script among most may packets behind feeder fs others books r c log book

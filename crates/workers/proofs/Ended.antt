@@ -11,7 +11,7 @@ use Rattle.dmx_calls.specs.Log.{LogEntry}
 use Rattle.client_script.specs.Script.{clients_in, Scripted}
 use Rattle.client_core.specs.Events.{next_event}
 use Rattle.client_core.specs.Outcomes.{outcomes}
-use Rattle.script_run.specs.IsRun.{Batch, replies}
+use Rattle.script_run.specs.IsRun.{Batch, replies, sources}
 use Rattle.script_run.specs.WholeRun.{AreFull, IsWholeRun}
 use Rattle.script_run.specs.SoFar.{others as Others, IsSoFar, IsOver}
 use Rattle.script_run.proofs.Ending.{runs_end, are_accounted}
@@ -42,7 +42,7 @@ pub have_called : WorkersHaveCalled
 have_called script among most may stream feeder fs others books told w = record {
   fed = w.fed.fed.made;
   logs = w.logs ∙ sym w.clients;
-  each = λ c client log at book. has_logged script c may client log (became script among most may stream feeder fs others books told w c client log at book).2.called;
+  each = λ c client log at book. has_logged script stream c may client log (became script among most may stream feeder fs others books told w c client log at book).2.called;
   named = named_in;
 } where
   named_in : (e : LogEntry) → IsLoggedIn books e → among e.node ≡ true
@@ -54,16 +54,17 @@ module _ (script : Scripted) (among : ℕ → Bool) (most : ℕ) (may : ℕ → 
     (w : AreWorked script among most may stream feeder fs others books told) (full_row : (node : ℕ) → node ≤ DEMUX_NODES → (p : TableId × View Entry) × (slice_get feeder.passes node ≡ Some p))
     (had : HaveHistories (others ++ feeder ∷ [])) (low : (e : LogEntry) → IsLoggedIn books e → e.node ≤ DEMUX_NODES) where
   abbrev pub m : Moment
-  m = at_end among stream feeder fs others books (have_called script among most may stream feeder fs others books told w)
+  m = at_end among (sources script stream) feeder fs others books (have_called script among most may stream feeder fs others books told w)
 
   have : HaveHistories (others ++ whole among (made_by true stream fs) feeder ∷ [])
-  have = have_whole among stream feeder fs others books (have_called script among most may stream feeder fs others books told w) had
+  have = have_whole among (sources script stream) feeder fs others books (have_called script among most may stream feeder fs others books told w) had
 
   full : (node : ℕ) → node ≤ DEMUX_NODES → (p : TableId × View Entry) × (slice_get (whole among (made_by true stream fs) feeder).passes node ≡ Some p)
   full = whole_full among (made_by true stream fs) feeder full_row
 
-  of_script : IsOfScript script most may true fs m
+  of_script : IsOfScript script stream most may true fs m
   of_script = record {
+    packets = refl;
     acts = refl;
     tiles = w.fed.fed.tiles;
     count = w.logs;
@@ -72,7 +73,7 @@ module _ (script : Scripted) (among : ℕ → Bool) (most : ℕ) (may : ℕ → 
 
   module _ (hs : List (List LogEntry)) (woven : AreWoven m hs) where
     now : IsSoFar Others script most stream hs
-    now = so_far script most may true fs m of_script have low hs woven
+    now = so_far script stream most may true fs m of_script have low hs woven
 
     -- what became of the client of a log
     out_of : (c : ℕ) (log : List LogEntry) → slice_get books c ≡ Some log → (out : List Outcome) × (slice_get told c ≡ Some out) × (next_event c script (replies log) ≡ None) × (out ≡ outcomes c script (replies log))
@@ -91,7 +92,7 @@ module _ (script : Scripted) (among : ℕ → Bool) (most : ℕ) (may : ℕ → 
       ended = λ node h at.
           (there m have low hs woven node h at).2.steps ∙ ap (λ o. steps_from 0 (acts_by m o)) (full node (node_low m have low hs woven node h at)).1
           ∙ steps_tile most 0 (length stream) 0 fs w.fed.fed.tiles;
-      through = λ c is. let log = log_at script most may true fs m of_script have low hs woven c is in (out_of c log.0 log.1).2;
+      through = λ c is. let log = log_at script stream most may true fs m of_script have low hs woven c is in (out_of c log.0 log.1).2;
     }
 
     pub whole_run : IsWholeRun script most may stream told hs
@@ -102,13 +103,13 @@ module _ (script : Scripted) (among : ℕ → Bool) (most : ℕ) (may : ℕ → 
           run = ends.0;
           accounted = are_accounted script most stream hs ends.0;
           full = subst (AreFull most) (sym ends.1) w.fed.full;
-          moments = moment_at script most may true fs m of_script have low hs woven w.fed.fed.moments;
+          moments = moment_at script stream most may true fs m of_script have low hs woven w.fed.fed.moments;
           clients = w.outcomes;
           outcomes = λ c is. told_of c is (ends.2 c is);
         } where
           told_of : (c : ℕ) (is : c < clients_in script) → ((runs_end Others script most stream hs now over).0.clients_done c is).made ≡ (now.clients c is).made
               → slice_get told c ≡ Some (outcomes c script (replies ((runs_end Others script most stream hs now over).0.clients_done c is).made))
           told_of c is same =
-              let log = log_at script most may true fs m of_script have low hs woven c is in
+              let log = log_at script stream most may true fs m of_script have low hs woven c is in
               let o = out_of c log.0 log.1 in
               o.1 ∙ ap (λ z. Some z) (o.3 ∙ ap (λ made. outcomes c script (replies made)) (sym same))

@@ -10,7 +10,9 @@ use lib.ListN.{get_elem?}
 use Rattle.lemmas.specs.Lists.{Has}
 use Rattle.node_lock.proofs.Views.{prefix_at}
 use Rattle.dmx_calls.specs.declared.histories.Fed.{Fed}
+use Rattle.dmx_calls.specs.declared.params.Input.TheVariants.{Frontend}
 use Rattle.dmx_calls.specs.History.{Entry}
+use Rattle.dmx_calls.specs.Log.{Sources}
 use Rattle.dmx_calls.specs.declared.log.Act.{Act}
 use Rattle.dmx_calls.specs.declared.log.Act.TheVariants.{End as EndAct}
 use Rattle.dmx_calls.specs.Histories.{pass_act}
@@ -134,11 +136,11 @@ acts_behind false = []
 abbrev pub acts_of : (over : Bool) → List Fed → List Act
 acts_of over fs = map pass_act fs ++ acts_behind over
 
-pub fed_is : (over : Bool) (stream : List (List ℕ)) (fs : List Fed) → fed_entries stream fs ++ behind_of over ≡ fed_of stream (acts_of over fs)
-fed_is true stream [] = refl
-fed_is false stream [] = refl
-fed_is over stream (f ∷ fs) = ap (λ l. fed_entry stream f ∷ l) (fed_is over stream fs)
+pub fed_is : (over : Bool) (packets : Sources) (fs : List Fed) → fed_entries (packets 0 Frontend) fs ++ behind_of over ≡ fed_of packets (acts_of over fs)
+fed_is true packets [] = refl
+fed_is false packets [] = refl
+fed_is over packets (f ∷ fs) = ap (λ l. fed_entry (packets 0 Frontend) f ∷ l) (fed_is over packets fs)
 
-pub fed_zero : (stream : List (List ℕ)) (acts : List Act) → AllByRecursion (λ (x : Entry). x.who ≡ 0) (fed_of stream acts)
-fed_zero stream [] = tt
-fed_zero stream (a ∷ acts) = (refl, fed_zero stream acts)
+pub fed_zero : (packets : Sources) (acts : List Act) → AllByRecursion (λ (x : Entry). x.who ≡ 0) (fed_of packets acts)
+fed_zero packets [] = tt
+fed_zero packets (a ∷ acts) = (refl, fed_zero packets acts)

@@ -6,6 +6,7 @@ pub mod Columns
 pub mod Completing
 pub mod Naming
 pub mod Owning
+mod Playing
 pub mod Batches
 pub mod Merged
 pub mod SoFar

@@ -1,5 +1,5 @@
 -- One call more in a client's log, and one look more.
-use Rattle.std.proofs.Common.{append_assoc, ◌≡◌, ◌≢◌, ⊎_elim, ℕ, nat_eq, Bool, eq-eqb, ne_eqb, ◌+◌, ◌<◌, ◌≤◌, true, false, List, [], ◌∷◌, ◌++◌, length, take, slice_get, set, Some, refl, ap, sym, ◌∙◌, subst, arith, length-append}
+use Rattle.std.proofs.Common.{append_assoc, ◌≡◌, ◌≢◌, ⊎_elim, ℕ, nat_eq, Bool, eq-eqb, ne_eqb, suc, ◌+◌, ◌<◌, ◌≤◌, true, false, List, [], ◌∷◌, ◌++◌, length, take, slice_get, set, Some, refl, ap, sym, ◌∙◌, subst, arith, length-append}
 use Rattle.std.specs.Prelude.{if◌then◌else◌, IsSome}
 use Rattle.std.proofs.lemmas.List.{take-append-le}
 use Rattle.std.proofs.Math.Seq.{take-append_seam}
@@ -14,18 +14,20 @@ use Rattle.atomic_table.specs.Seated.{TableId}
 use Rattle.atomic_table.proofs.Lists.{at_last}
 use Rattle.node_lock.specs.declared.view.View.{View}
 use Rattle.node_lock.proofs.Views.{at_below, prefix_at}
+use Rattle.dmx_calls.specs.declared.params.Input.{Input}
 use Rattle.dmx_calls.specs.History.{Entry}
-use Rattle.dmx_calls.specs.Log.{LogEntry}
+use Rattle.dmx_calls.specs.Log.{IsFrom, LogEntry}
 use Rattle.dmx_calls.specs.Response.{NoMemory}
 use Rattle.dmx_calls.specs.Entries.{caller_of}
 use Rattle.client_script.specs.Script.{Scripted}
 use Rattle.client_core.specs.Events.{next_event, waits_on}
-use Rattle.script_run.specs.IsRun.{IsEvent, replies}
+use Rattle.client_core.specs.Commands.{plays_of}
+use Rattle.script_run.specs.IsRun.{IsEvent, replies, sources}
 use Rattle.script_run.specs.WholeRun.{IsGiven}
 use Rattle.adapter.specs.Callers.{Caller}
 use Rattle.adapter.specs.Rows.{OneCalls, OneLooks}
 use Rattle.adapter.proofs.Lists.{set_there, set_elsewhere, one_value, at_end}
-use Rattle.workers.specs.Logged.{Tells, TellsIn, calls_on, IsLogged, HasCalled}
+use Rattle.workers.specs.Logged.{BringFrom, BringsIn, HasCalled, IsLogged, Tells, TellsIn, calls_on}
 
 pub prefix_long : {A : Type 0} (xs ys : List A) → IsPrefix xs ys → length xs ≤ length ys
 prefix_long xs ys p = let e : length xs + length p.0 ≡ length ys = sym (length-append xs p.0) ∙ ap length p.1 in omega arith
@@ -62,8 +64,9 @@ module _ (ps qs : List (TableId × View Entry)) (node : ℕ) (first now : TableI
       (λ away. all i q (sym (else_there i away) ∙ at))
 
   -- what was seen is still seen
-  pub still : (f : LogEntry) (p : TableId × View Entry) → slice_get ps f.node ≡ Some p → TellsIn p.1.seen f → (q : TableId × View Entry) × (slice_get qs f.node ≡ Some q) × TellsIn q.1.seen f
-  still f p at t = dite (ℕ_discrete f.node node)
+  pub still : (P : Entry → Type 0) (f : LogEntry) (p : TableId × View Entry) → slice_get ps f.node ≡ Some p → (x : Entry) × (get_elem? p.1.seen f.place ≡ some x) × P x
+      → (q : TableId × View Entry) × (slice_get qs f.node ≡ Some q) × ((x : Entry) × (get_elem? q.1.seen f.place ≡ some x) × P x)
+  still P f p at t = dite (ℕ_discrete f.node node)
       (λ here. let same : first ≡ p = one_value ps node first p was (ap (slice_get ps) (sym here) ∙ at) in
       let old : get_elem? first.1.seen f.place ≡ some t.0 = ap (λ (z : TableId × View Entry). get_elem? z.1.seen f.place) same ∙ t.1 in
       (now, ap (slice_get qs) here ∙ now_there, (t.0, prefix_at first.1.seen now.1.seen f.place t.0 seen old, t.2)))
@@ -86,15 +89,27 @@ module _ (c d : Caller) (S : List Entry → Type 0) (node place : ℕ) (x : Entr
   pub past : (last : ℕ) → last < length o.first.1.seen → last < place
   past last low = let long = prefix_long o.first.1.seen o.more.before o.more.seen in let at = o.more.at in omega arith
 
+  -- this entry is seen at its place
+  now_seen : (at : ℕ) → at ≡ place → get_elem? o.then.1.seen at ≡ some x
+  now_seen at is = ap (get_elem? o.then.1.seen) (is ∙ o.more.at) ∙ ap (λ (h : List Entry). get_elem? h (length o.more.before)) o.more.now ∙ at_last o.more.before x (length o.more.before) refl
+
+  -- what the calls bring is still of these packets
+  pub brings_more : (packets : Input → List (List ℕ)) (log : List LogEntry) (e : LogEntry) → BringFrom packets c log → e.node ≡ node → e.place ≡ place → IsFrom packets x.invocation → BringFrom packets d (log ++ e ∷ [])
+  brings_more packets log e l node_is place_is from i f at = ⊎_elim
+      (λ old. let t = l i f old in still c.passes d.passes node o.first o.then o.was o.is longer (λ (y : Entry). IsFrom packets y.invocation) f t.0 t.1 t.2)
+      (λ last. subst (λ (z : LogEntry). (p : TableId × View Entry) × (slice_get d.passes z.node ≡ Some p) × BringsIn packets p.1.seen z) last.1
+      (o.then, ap (slice_get d.passes) node_is ∙ now_there c.passes d.passes node o.first o.then o.was o.is longer, (x, now_seen e.place place_is, from)))
+      (at_end log e f i at)
+
   pub logged_more : (log : List LogEntry) (e : LogEntry) → IsLogged c log → e.node ≡ node → e.place ≡ place → e.step ≡ length log → e.who ≡ c.who → Tells e x → IsLogged d (log ++ e ∷ [])
   logged_more log e l node_is place_is step_is who_is tells =
       let there = now_there c.passes d.passes node o.first o.then o.was o.is longer in
       let elsewhere = else_there c.passes d.passes node o.first o.then o.was o.is longer in record {
         mine = still_each c.passes d.passes node o.first o.then o.was o.is longer (λ i (p : TableId × View Entry). p.1.number ≡ d.who) (o.more.same.1 ∙ (l.mine node o.first o.was ∙ sym who)) (λ i p at. l.mine i p at ∙ sym who);
         steps = λ i f at. ⊎_elim (λ old. let s = l.steps i f old in (s.0, s.1 ∙ sym who)) (λ last. subst (λ z. (z.step ≡ i) × (z.who ≡ d.who)) last.1 (step_is ∙ sym last.0, who_is ∙ sym who)) (at_end log e f i at);
-        tells = λ i f at. ⊎_elim (λ old. let t = l.tells i f old in still c.passes d.passes node o.first o.then o.was o.is longer f t.0 t.1 t.2)
+        tells = λ i f at. ⊎_elim (λ old. let t = l.tells i f old in still c.passes d.passes node o.first o.then o.was o.is longer (Tells f) f t.0 t.1 t.2)
             (λ last. subst (λ (z : LogEntry). (p : TableId × View Entry) × (slice_get d.passes z.node ≡ Some p) × TellsIn p.1.seen z) last.1
-            (o.then, ap (slice_get d.passes) node_is ∙ there, (x, ap (get_elem? o.then.1.seen) (place_is ∙ o.more.at) ∙ ap (λ (h : List Entry). get_elem? h (length o.more.before)) o.more.now ∙ at_last o.more.before x (length o.more.before) refl, tells)))
+            (o.then, ap (slice_get d.passes) node_is ∙ there, (x, now_seen e.place place_is, tells)))
             (at_end log e f i at);
         rises = λ i j f g low a b same. ⊎_elim
             (λ old_i. ⊎_elim (λ old_j. l.rises i j f g low old_i old_j same)
@@ -115,15 +130,16 @@ module _ (c d : Caller) (S : List Entry → Type 0) (node place : ℕ) (x : Entr
   -- one call of a client of a script
   module _ (script : Scripted) (client : ℕ) (may : ℕ → Bool) (log : List LogEntry) (e : LogEntry) where
     pub called_more : HasCalled script client may c log → e.node ≡ node → e.place ≡ place → e.step ≡ length log → e.who ≡ c.who → Tells e x
-        → IsEvent (next_event client script (replies log)) e → e.response ≢ NoMemory → IsGiven may e.act
+        → IsEvent (plays_of client script) (next_event client script (replies log)) e → ((stream : List (List ℕ)) → IsFrom (sources script stream (suc client)) x.invocation) → e.response ≢ NoMemory → IsGiven may e.act
         → (IsSome (waits_on client script (replies log)) → (last : LogEntry) (i : ℕ) → slice_get log i ≡ Some last → i + 1 ≡ length log → last.place + 1 < place)
         → HasCalled script client may d (log ++ e ∷ [])
-    called_more l node_is place_is step_is who_is tells event found given turn = record {
+    called_more l node_is place_is step_is who_is tells event from found given turn = record {
       who = who ∙ l.who;
       logged = logged_more log e l.logged node_is place_is step_is who_is tells;
+      brought = λ stream. brings_more (sources script stream (suc client)) log e (l.brought stream) node_is place_is (from stream);
       events = λ i f at. ⊎_elim
-          (λ old. subst (λ (m : List LogEntry). IsEvent (next_event client script (replies m)) f) (sym (front i (below i f old))) (l.events i f old))
-          (λ last. subst (λ (m : List LogEntry). IsEvent (next_event client script (replies m)) f) (sym (all i last.0)) (subst (IsEvent (next_event client script (replies log))) last.1 event))
+          (λ old. subst (λ (m : List LogEntry). IsEvent (plays_of client script) (next_event client script (replies m)) f) (sym (front i (below i f old))) (l.events i f old))
+          (λ last. subst (λ (m : List LogEntry). IsEvent (plays_of client script) (next_event client script (replies m)) f) (sym (all i last.0)) (subst (IsEvent (plays_of client script) (next_event client script (replies log))) last.1 event))
           (at_end log e f i at);
       found = All-push (λ (z : LogEntry). z.response ≢ NoMemory) log e l.found found;
       moments = All-push (λ (z : LogEntry). IsGiven may z.act) log e l.moments given;
@@ -155,13 +171,16 @@ module _ (c d : Caller) (S : List Entry → Type 0) (node len : ℕ) (o : OneLoo
   logged_looked log l = record {
     mine = still_each c.passes d.passes node o.first o.then o.was o.is o.looked.seen (λ i (p : TableId × View Entry). p.1.number ≡ d.who) (o.looked.same.1 ∙ (l.mine node o.first o.was ∙ sym who)) (λ i p at. l.mine i p at ∙ sym who);
     steps = λ i f at. let s = l.steps i f at in (s.0, s.1 ∙ sym who);
-    tells = λ i f at. let t = l.tells i f at in still c.passes d.passes node o.first o.then o.was o.is o.looked.seen f t.0 t.1 t.2;
+    tells = λ i f at. let t = l.tells i f at in still c.passes d.passes node o.first o.then o.was o.is o.looked.seen (Tells f) f t.0 t.1 t.2;
     rises = l.rises;
     just = still_each c.passes d.passes node o.first o.then o.was o.is o.looked.seen (λ i (p : TableId × View Entry). p.1.own ≡ calls_on i log) (o.looked.own ∙ l.just node o.first o.was) l.just;
   }
 
+  brings_looked : (packets : Input → List (List ℕ)) (log : List LogEntry) → BringFrom packets c log → BringFrom packets d log
+  brings_looked packets log l i f at = let t = l i f at in still c.passes d.passes node o.first o.then o.was o.is o.looked.seen (λ (y : Entry). IsFrom packets y.invocation) f t.0 t.1 t.2
+
   pub called_looked : (script : Scripted) (client : ℕ) (may : ℕ → Bool) (log : List LogEntry) → HasCalled script client may c log → HasCalled script client may d log
-  called_looked script client may log l = record { who = who ∙ l.who; logged = logged_looked log l.logged; events = l.events; found = l.found; moments = l.moments; paid = l.paid }
+  called_looked script client may log l = record { who = who ∙ l.who; logged = logged_looked log l.logged; events = l.events; brought = λ stream. brings_looked (sources script stream (suc client)) log (l.brought stream); found = l.found; moments = l.moments; paid = l.paid }
 
   -- how many entries the pass has seen there
   pub seen_there : (p : TableId × View Entry) → slice_get d.passes node ≡ Some p → length p.1.seen ≡ len

@@ -13,7 +13,8 @@ use Rattle.dmx_calls.specs.declared.log.Act.{Act}
 use Rattle.dmx_calls.specs.declared.log.Entry.{Entry as ToldEntry}
 use Rattle.dmx_calls.specs.Calls.{told_entry}
 use Rattle.dmx_calls.specs.History.{Entry}
-use Rattle.dmx_calls.specs.Log.{LogEntry, filled_entry}
+use Rattle.dmx_calls.specs.declared.params.Input.TheVariants.{Frontend}
+use Rattle.dmx_calls.specs.Log.{LogEntry, Sources, filled_entry}
 use Rattle.dmx_calls.specs.Histories.{feeder_acts, feeder_entry, histories_of, woven, AreInPlace}
 use Rattle.dmx_calls.proofs.Weaving.{in_place-at, woven_nodes-at, woven_nodes-length}
 use Rattle.script_run.specs.IsRun.{StandsIn, steps_of}
@@ -50,7 +51,7 @@ module _ (m : Moment) where
   -- this list tells the history of a node: each entry stands at its place, and is one of a log or of the feeder's calls
   pub record TellsNode (acts : List Act) (node : ℕ) (l : List LogEntry) (h : List Entry) : Type 0 where
     pub place : AreInPlace 0 l
-    pub is : map (filled_entry m.stream) l ≡ h
+    pub is : map (filled_entry m.packets) l ≡ h
     pub told : (i : ℕ) (e : LogEntry) → slice_get l i ≡ Some e → IsToldBy node acts e
     pub logged : (e : LogEntry) → IsLoggedIn m.books e → e.node ≡ node → slice_get l e.place ≡ Some e
     pub steps : steps_of 0 l ≡ steps_from 0 acts
@@ -62,7 +63,7 @@ module _ (m : Moment) where
   module _ (node : ℕ) (h : List Entry) (is : IsHistory node (passes_on m node) h) where
     pub tells_node : (calls : List LogEntry) → AreCallsOn node calls → TellsNode (acts_on node) node (woven node (acts_on node) calls) h
     tells_node calls on =
-        let w = weaves m.stream node h 0 0 (acts_on node) calls on.rise (told_here m node h is calls on.of_some on.merged) in
+        let w = weaves m.packets node h 0 0 (acts_on node) calls on.rise (told_here m node h is calls on.of_some on.merged) in
         record {
           place = w.0;
           is = w.1;
@@ -113,7 +114,7 @@ module _ (m : Moment) where
     one_entry e f (c, a, i, at_c, at) (d, b, j, at_d, bt) on on_f same =
         let x = logged_there m node h is c a i e at_c at on in
         let y = logged_there m node h is d b j f at_d bt on_f in
-        let one : filled_entry m.stream e ≡ filled_entry m.stream f = one_value h f.place (filled_entry m.stream e) (filled_entry m.stream f) (subst (λ n. slice_get h n ≡ Some (filled_entry m.stream e)) same x) y in
+        let one : filled_entry m.packets e ≡ filled_entry m.packets f = one_value h f.place (filled_entry m.packets e) (filled_entry m.packets f) (subst (λ n. slice_get h n ≡ Some (filled_entry m.packets e)) same x) y in
         let client : c ≡ d = omega (arith, ap (λ (z : Entry). z.who) one, (called m c a i e at_c at).1, (called m d b j f at_d bt).1) in
         let log : b ≡ a = one_value m.books d b a at_d (subst (λ n. slice_get m.books n ≡ Some a) client at_c) in
         in_log (subst (λ l. slice_get l j ≡ Some f) log bt) (nat_lt i j) refl (nat_lt j i) refl where
@@ -130,7 +131,7 @@ module _ (m : Moment) where
           found : (f : CallsFrom 0 h) (c : ℕ) (log : List LogEntry) (i : ℕ) (e : LogEntry) → slice_get m.books c ≡ Some log → slice_get log i ≡ Some e → e.node ≡ node → (j : ℕ) × (slice_get f.calls j ≡ Some e)
           found f c log i e at there on =
               let who = (called m c log i e at there).1 in
-              let g = f.all e.place (filled_entry m.stream e) (logged_there m node h is c log i e at there on) (λ none. absurd (omega (arith, who, none))) in
+              let g = f.all e.place (filled_entry m.packets e) (logged_there m node h is c log i e at there on) (λ none. absurd (omega (arith, who, none))) in
               let o = f.of_some g.0 g.1 g.2 in
               (g.0, g.2 ∙ ap (λ z. Some z) (one_entry g.1 e o.1 (c, log, i, at, there) o.0 on (omega (arith, g.3))))
 
@@ -183,27 +184,27 @@ pub full : (locks : List TableId) (others : List Caller) (feeder : Caller) → A
 full locks others feeder all long node low = at_place feeder.passes node (omega (arith, (all.fits (length others) feeder (at_last others feeder)).0, long, low))
 
 -- where the feeder has called some nodes, and the clients none but these, all of it stands in histories as if it had called all
-pub have_whole : (among : ℕ → Bool) (stream : List (List ℕ)) (feeder : Caller) (fs : List Fed) (others : List Caller) (books : List (List LogEntry)) → HaveCalled among stream feeder fs others books
-    → HaveHistories (others ++ feeder ∷ []) → HaveHistories (others ++ whole among (made_by true stream fs) feeder ∷ [])
-have_whole among stream feeder fs others books c have =
-    whole_have among (made_by true stream fs) feeder others (feeders_calls true stream fs) c.fed (idle_there among others books c.logs c.each c.named) have
+pub have_whole : (among : ℕ → Bool) (packets : Sources) (feeder : Caller) (fs : List Fed) (others : List Caller) (books : List (List LogEntry)) → HaveCalled among packets feeder fs others books
+    → HaveHistories (others ++ feeder ∷ []) → HaveHistories (others ++ whole among (made_by true (packets 0 Frontend) fs) feeder ∷ [])
+have_whole among packets feeder fs others books c have =
+    whole_have among (made_by true (packets 0 Frontend) fs) feeder others (feeders_calls true (packets 0 Frontend) fs) c.fed (idle_there among others books c.logs packets c.each c.named) have
 
-module _ (among : ℕ → Bool) (stream : List (List ℕ)) (feeder : Caller) (fs : List Fed) (others : List Caller) (books : List (List LogEntry)) (c : HaveCalled among stream feeder fs others books)
+module _ (among : ℕ → Bool) (packets : Sources) (feeder : Caller) (fs : List Fed) (others : List Caller) (books : List (List LogEntry)) (c : HaveCalled among packets feeder fs others books)
     (full_row : (node : ℕ) → node ≤ DEMUX_NODES → (p : TableId × View Entry) × (slice_get feeder.passes node ≡ Some p)) (had : HaveHistories (others ++ feeder ∷ [])) (low : (e : LogEntry) → IsLoggedIn books e → e.node ≤ DEMUX_NODES) where
   abbrev when : Moment
-  when = at_end among stream feeder fs others books c
+  when = at_end among packets feeder fs others books c
 
-  have : HaveHistories (others ++ whole among (made_by true stream fs) feeder ∷ [])
-  have = have_whole among stream feeder fs others books c had
+  have : HaveHistories (others ++ whole among (made_by true (packets 0 Frontend) fs) feeder ∷ [])
+  have = have_whole among packets feeder fs others books c had
 
-  all : (node : ℕ) → node ≤ DEMUX_NODES → (p : TableId × View Entry) × (slice_get (whole among (made_by true stream fs) feeder).passes node ≡ Some p)
-  all = whole_full among (made_by true stream fs) feeder full_row
+  all : (node : ℕ) → node ≤ DEMUX_NODES → (p : TableId × View Entry) × (slice_get (whole among (made_by true (packets 0 Frontend) fs) feeder).passes node ≡ Some p)
+  all = whole_full among (made_by true (packets 0 Frontend) fs) feeder full_row
 
   -- an entry of a node that nobody has called is the feeder's
   idle_zero : (node : ℕ) → among node ≡ false → (e : LogEntry) → IsToldBy when node (acts_on when node) e → e.who ≡ 0
   idle_zero node off e t = ⊎_elim (λ l. let both : true ≡ false = sym (c.named e l.1) ∙ (ap among l.0 ∙ off) in absurd (cc both)) (λ f. ap (λ (z : LogEntry). z.who) f.0) t
 
-  pub tell : (hs : List (List LogEntry)) → AreWoven when hs → TellWhatWasCalled among stream feeder fs others books hs
+  pub tell : (hs : List (List LogEntry)) → AreWoven when hs → TellWhatWasCalled among packets feeder fs others books hs
   tell hs w = record {
     nodes = w.many;
     logged = stands when have low hs w;
@@ -214,21 +215,21 @@ module _ (among : ℕ → Bool) (stream : List (List ℕ)) (feeder : Caller) (fs
     fed = λ node h at. let t = there when have low hs w node h at in t.2.steps ∙ ap (λ o. steps_from 0 (acts_by when o)) (all node (node_low when have low hs w node h at)).1;
     locks = λ node h at called.
         let t = there when have low hs w node h at in
-        subst (λ ps. IsTheHistory node ps (map (filled_entry stream) h))
-        (same_column among (made_by true stream fs) feeder others (feeders_calls true stream fs) c.fed (idle_there among others books c.logs c.each c.named) had node called)
+        subst (λ ps. IsTheHistory node ps (map (filled_entry packets) h))
+        (same_column among (made_by true (packets 0 Frontend) fs) feeder others (feeders_calls true (packets 0 Frontend) fs) c.fed (idle_there among others books c.logs packets c.each c.named) had node called)
         (subst (IsHistory node (passes_on when node)) (sym t.2.is) t.1, λ other is. sym (tells when node h (w.each node h at) other is).is);
     idle = λ node h at off.
         let t = there when have low hs w node h at in (
-          nothing among (made_by true stream fs) feeder others (feeders_calls true stream fs) c.fed (idle_there among others books c.logs c.each c.named) had node off (node_low when have low hs w node h at),
+          nothing among (made_by true (packets 0 Frontend) fs) feeder others (feeders_calls true (packets 0 Frontend) fs) c.fed (idle_there among others books c.logs packets c.each c.named) had node off (node_low when have low hs w node h at),
           subst (IsLegalAt node) (sym t.2.is) t.1.legal,
           all_has (λ (e : LogEntry). e.who ≡ 0) h (λ e has. let i = at_has h e has in idle_zero node off e (t.2.told i.0 e i.1)),
         );
   }
 
-module _ (among : ℕ → Bool) (stream : List (List ℕ)) (feeder : Caller) (fs : List Fed) (others : List Caller) (logs : List (List ToldEntry)) (c : HaveCalled among stream feeder fs others (books_of logs))
+module _ (among : ℕ → Bool) (packets : Sources) (feeder : Caller) (fs : List Fed) (others : List Caller) (logs : List (List ToldEntry)) (c : HaveCalled among packets feeder fs others (books_of logs))
     (full_row : (node : ℕ) → node ≤ DEMUX_NODES → (p : TableId × View Entry) × (slice_get feeder.passes node ≡ Some p)) (nodes : List (List ToldEntry)) (merged : AreByPlace logs nodes) (had : HaveHistories (others ++ feeder ∷ [])) where
   abbrev m : Moment
-  m = at_end among stream feeder fs others (books_of logs) c
+  m = at_end among packets feeder fs others (books_of logs) c
 
   -- the entry of a log, as the code keeps it
   book_at : (c : ℕ) (log : List LogEntry) (i : ℕ) (e : LogEntry) → slice_get (books_of logs) c ≡ Some log → slice_get log i ≡ Some e → (l : List ToldEntry) × (slice_get logs c ≡ Some l) × ((x : ToldEntry) × (slice_get l i ≡ Some x) × (told_entry x ≡ e))
@@ -276,14 +277,14 @@ module _ (among : ℕ → Bool) (stream : List (List ℕ)) (feeder : Caller) (fs
         let within = slice_get_within (histories_of fs nodes) node l at in
         let low : node ≤ DEMUX_NODES = omega (arith, within, long, merged.many) in
         let calls = at_place nodes node (omega (arith, within, long)) in
-        let h = have_whole among stream feeder fs others (books_of logs) c had node low in
+        let h = have_whole among packets feeder fs others (books_of logs) c had node low in
         let zero_on : 0 + node ≡ node = omega arith in
         let here : slice_get (histories_of fs nodes) node ≡ Some (woven node (feeder_acts fs) (map told_entry calls.0)) =
         woven_nodes-at 0 (feeder_acts fs) (map (λ calls. map told_entry calls) nodes) node (map told_entry calls.0) (at_map (λ calls. map told_entry calls) nodes node calls.0 calls.1)
         ∙ ap (λ n. Some (woven n (feeder_acts fs) (map told_entry calls.0))) zero_on in (
           map told_entry calls.0,
           are_calls node calls.0 calls.1 h.0 h.1,
-          ap (λ o. woven node (acts_by m o) (map told_entry calls.0)) (whole_full among (made_by true stream fs) feeder full_row node low).1 ∙ one_value (histories_of fs nodes) node (woven node (feeder_acts fs) (map told_entry calls.0)) l here at,
+          ap (λ o. woven node (acts_by m o) (map told_entry calls.0)) (whole_full among (made_by true (packets 0 Frontend) fs) feeder full_row node low).1 ∙ one_value (histories_of fs nodes) node (woven node (feeder_acts fs) (map told_entry calls.0)) l here at,
         )
 
 -- ------ the logs as the code keeps them

@@ -4,13 +4,15 @@ use Rattle.dmx_calls.specs.Response.{Response}
 use Rattle.dmx_calls.specs.Log.{LogEntry}
 use Rattle.client_script.specs.Script.{Scripted}
 use Rattle.client_core.specs.declared.event.Event.{Event}
+use Rattle.client_core.specs.Deeds.{Batches}
+use Rattle.client_core.specs.Commands.{plays_of}
 use Rattle.client_core.specs.Events.{next_event}
 use Rattle.script_run.specs.IsRun.{IsEvent}
 use Rattle.script_nodes.specs.Named.{is_named}
 use Rattle.script_nodes.proofs.Naming.{named_next}
 
-pub named_call : (script : Scripted) (client : ℕ) (rs : List Response) (e : LogEntry) → IsEvent (next_event client script rs) e → is_named script.lines e.node ≡ true
-named_call script client rs e is = of_event (next_event client script rs) (named_next script client rs) is where
-  of_event : (o : Option Event) → ((event : Event) → o ≡ Some event → is_named script.lines event.node ≡ true) → IsEvent o e → is_named script.lines e.node ≡ true
-  of_event None named is = absurd is
-  of_event (Some event) named is = subst (λ n. is_named script.lines n ≡ true) (sym is.0) (named event refl)
+pub named_call : (script : Scripted) (client : ℕ) (rs : List Response) (e : LogEntry) → IsEvent (plays_of client script) (next_event client script rs) e → is_named script.lines e.node ≡ true
+named_call script client rs e is = of_event (plays_of client script) (next_event client script rs) (named_next script client rs) is where
+  of_event : (batches : Batches) (o : Option Event) → ((event : Event) → o ≡ Some event → is_named script.lines event.node ≡ true) → IsEvent batches o e → is_named script.lines e.node ≡ true
+  of_event batches None named is = absurd is
+  of_event batches (Some event) named is = subst (λ n. is_named script.lines n ≡ true) (sym is.0) (named event refl)

@@ -3,39 +3,42 @@ use Rattle.std.proofs.Common.{◌≡◌, ◌≢◌, ◌⊎◌, inl, inr, ⊎_eli
 use Rattle.std.specs.Prelude.{if◌then◌else◌}
 use Rattle.std.proofs.lemmas.Option.{slice_get_within}
 use mathlib.Core.Logic.{dite}
+use mathlib.Core.Option.{some, some-injective}
+use lib.ListN.{get_elem?}
 use mathlib.Core.List.{IsPrefix}
 use native.Mathlib.Decide.{ℕ_discrete}
 use Rattle.atomic_table.specs.Seated.{TableId}
 use Rattle.node_lock.specs.declared.view.View.{View}
 use Rattle.lemmas.specs.Lists.{Has}
-use Rattle.lemmas.proofs.Lists.{has_at}
 use Rattle.node_lock.proofs.Views.{prefix_at}
 use Rattle.dmx_calls.specs.declared.histories.Fed.{Fed}
 use Rattle.dmx_calls.specs.declared.log.Act.{Act}
 use Rattle.dmx_calls.specs.History.{Entry, entry_of}
-use Rattle.dmx_calls.specs.Log.{LogEntry, filled_act, filled_entry}
+use Rattle.dmx_calls.specs.declared.params.Input.TheVariants.{Frontend}
+use Rattle.dmx_calls.specs.Log.{IsFrom, LogEntry, Sources, filled_act, filled_entry}
 use Rattle.dmx_calls.proofs.Telling.{fills}
-use Rattle.script_run.proofs.Events.{of_stream}
 use Rattle.adapter.specs.Rows.{column}
 use Rattle.adapter.specs.Callers.{Caller}
 use Rattle.adapter.specs.Ends.{IsHistory, rows_of}
 use Rattle.adapter.proofs.Lists.{at_place, at_either, at_last, at_before, one_value}
 use Rattle.workers.specs.Logged.{Tells, calls_on}
 use Rattle.workers.specs.Feeding.{HasMade, fed_entries}
-use Rattle.script_run.specs.SoFar.{PassesNone}
 use Rattle.workers.specs.Telling.{HasLogged, HaveCalled, IsLoggedIn}
 use Rattle.workers.proofs.Weaves.{AreTold, fed_of, by_feeder}
-use Rattle.workers.proofs.Calls.{has_all}
 use Rattle.adapter.proofs.Everybody.{in_column, of_column}
 use Rattle.workers.proofs.Columns.{some_calls}
 use Rattle.workers.proofs.Feeders.{got, got_back, ups_from, picked, stand_picks, has_own, fed_is, fed_zero, acts_of, behind_of}
 use Rattle.workers.proofs.Completing.{whole, whole_made}
 
--- an entry of a client, filled with the stream, is the one that it tells
-fills_entry : (stream : List (List ℕ)) (e : LogEntry) (x : Entry) → Tells e x → PassesNone e.act → filled_entry stream e ≡ x
-fills_entry stream e x t bare =
-    ap (λ w. entry_of w (filled_act stream e.act) e.response) t.who ∙ ap (λ a. entry_of x.who (filled_act stream a) e.response) t.act
-    ∙ ap (λ c. entry_of x.who c e.response) (fills stream x.invocation (of_stream stream x.invocation (subst PassesNone t.act bare))) ∙ ap (entry_of x.who x.invocation) t.response
+-- an entry of a client, filled with the packets that its caller brings, is the one that it tells
+fills_entry : (packets : Sources) (e : LogEntry) (x : Entry) → Tells e x → IsFrom (packets e.who) x.invocation → filled_entry packets e ≡ x
+fills_entry packets e x t from =
+    ap (λ w. entry_of w (filled_act (packets e.who) e.act) e.response) t.who ∙ ap (λ a. entry_of x.who (filled_act (packets e.who) a) e.response) t.act
+    ∙ ap (λ c. entry_of x.who c e.response) (fills (packets e.who) x.invocation from) ∙ ap (entry_of x.who x.invocation) t.response
+
+-- what is seen at a place is one entry
+one_seen : (h : List Entry) (place : ℕ) (x y : Entry) → get_elem? h place ≡ some x → get_elem? h place ≡ some y → x ≡ y
+one_seen h place x y at there = some-injective x y (sym at ∙ there)
 
 -- ------ the entries of logs
 
@@ -57,7 +60,7 @@ calls_none node (e ∷ log) none = ap (λ b. if b then (e.who, e.place) ∷ call
 
 -- where no entry of a log is on a node, no client has called it
 module _ (among : ℕ → Bool) (others : List Caller) (books : List (List LogEntry)) (logs : length books ≡ length others)
-    (each : (c : ℕ) (client : Caller) (log : List LogEntry) → slice_get others c ≡ Some client → slice_get books c ≡ Some log → HasLogged c client log)
+    (packets : Sources) (each : (c : ℕ) (client : Caller) (log : List LogEntry) → slice_get others c ≡ Some client → slice_get books c ≡ Some log → HasLogged packets c client log)
     (named : (e : LogEntry) → IsLoggedIn books e → among e.node ≡ true) where
   pub idle_there : (node : ℕ) → among node ≡ false → (k : ℕ) (c : Caller) (p : TableId × View Entry) → slice_get others k ≡ Some c → slice_get c.passes node ≡ Some p → p.1.own ≡ []
   idle_there node off k c p at is =
@@ -81,28 +84,28 @@ pub record IsLoggedAt (books : List (List LogEntry)) (node who place : ℕ) : Ty
 
 -- The feeder's calls so far on the nodes of which it has a pass, and each client's, as its log has them.
 pub record Moment : Type 0 where
-  pub stream : List (List ℕ)
+  pub packets : Sources
   pub acts : List Act
   pub feeder : Caller
   pub others : List Caller
   pub books : List (List LogEntry)
-  pub fed : (node : ℕ) (p : TableId × View Entry) → slice_get feeder.passes node ≡ Some p → HasMade (fed_of stream acts) p
+  pub fed : (node : ℕ) (p : TableId × View Entry) → slice_get feeder.passes node ≡ Some p → HasMade (fed_of packets acts) p
   pub logs : length books ≡ length others
-  pub each : (c : ℕ) (client : Caller) (log : List LogEntry) → slice_get others c ≡ Some client → slice_get books c ≡ Some log → HasLogged c client log
+  pub each : (c : ℕ) (client : Caller) (log : List LogEntry) → slice_get others c ≡ Some client → slice_get books c ≡ Some log → HasLogged packets c client log
 
 -- what the feeder makes of its batches, and then of the end or not yet
 abbrev pub made_by : (over : Bool) (stream : List (List ℕ)) → List Fed → List Entry
 made_by over stream feeding = fed_entries stream feeding ++ behind_of over
 
 -- The moment at which all was called. The feeder is seen as if it had called every node.
-abbrev pub at_end : (among : ℕ → Bool) (stream : List (List ℕ)) (feeder : Caller) (feeding : List Fed) (others : List Caller) (books : List (List LogEntry)) → HaveCalled among stream feeder feeding others books → Moment
-at_end among stream feeder feeding others books w = record {
-  stream = stream;
+abbrev pub at_end : (among : ℕ → Bool) (packets : Sources) (feeder : Caller) (feeding : List Fed) (others : List Caller) (books : List (List LogEntry)) → HaveCalled among packets feeder feeding others books → Moment
+at_end among packets feeder feeding others books w = record {
+  packets = packets;
   acts = acts_of true feeding;
-  feeder = whole among (made_by true stream feeding) feeder;
+  feeder = whole among (made_by true (packets 0 Frontend) feeding) feeder;
   others = others;
   books = books;
-  fed = λ node p at. subst (λ es. HasMade es p) (fed_is true stream feeding) (whole_made among (made_by true stream feeding) feeder w.fed node p at);
+  fed = λ node p at. subst (λ es. HasMade es p) (fed_is true packets feeding) (whole_made among (made_by true (packets 0 Frontend) feeding) feeder w.fed node p at);
   logs = w.logs;
   each = w.each;
 }
@@ -118,13 +121,13 @@ module _ (m : Moment) where
   acts_by (Some p) = m.acts
 
   -- the client of a log
-  client_of : (c : ℕ) (log : List LogEntry) → slice_get m.books c ≡ Some log → (client : Caller) × (slice_get m.others c ≡ Some client) × HasLogged c client log
+  client_of : (c : ℕ) (log : List LogEntry) → slice_get m.books c ≡ Some log → (client : Caller) × (slice_get m.others c ≡ Some client) × HasLogged m.packets c client log
   client_of c log at =
       let low = slice_get_within m.books c log at in let n = m.logs in
       let client = at_place m.others c (omega arith) in
       (client.0, client.1, m.each c client.0 log client.1 at)
 
-  log_of : (c : ℕ) (client : Caller) → slice_get m.others c ≡ Some client → (log : List LogEntry) × (slice_get m.books c ≡ Some log) × HasLogged c client log
+  log_of : (c : ℕ) (client : Caller) → slice_get m.others c ≡ Some client → (log : List LogEntry) × (slice_get m.books c ≡ Some log) × HasLogged m.packets c client log
   log_of c client at =
       let low = slice_get_within m.others c client at in let n = m.logs in
       let log = at_place m.books c (omega arith) in
@@ -142,12 +145,16 @@ module _ (m : Moment) where
     begins k c p at there = let j = of_column node (m.others ++ m.feeder ∷ []) k c p at there in is.begins j.0 p j.1
 
     -- the entry of a log stands at its place
-    pub logged_there : (c : ℕ) (log : List LogEntry) (i : ℕ) (e : LogEntry) → slice_get m.books c ≡ Some log → slice_get log i ≡ Some e → e.node ≡ node → slice_get h e.place ≡ Some (filled_entry m.stream e)
+    pub logged_there : (c : ℕ) (log : List LogEntry) (i : ℕ) (e : LogEntry) → slice_get m.books c ≡ Some log → slice_get log i ≡ Some e → e.node ≡ node → slice_get h e.place ≡ Some (filled_entry m.packets e)
     logged_there c log i e at there on =
         let k = client_of c log at in let t = k.2.logged.tells i e there in
         let begun = begins c k.0 t.0 (at_before m.others (m.feeder ∷ []) c k.0 k.1) (subst (λ n. slice_get k.0.passes n ≡ Some t.0) on t.1) in
-        got h e.place t.2.0 (prefix_at t.0.1.seen h e.place t.2.0 begun t.2.1)
-        ∙ ap (λ z. Some z) (sym (fills_entry m.stream e t.2.0 t.2.2 (has_all (λ (e : LogEntry). PassesNone e.act) log k.2.passes e (has_at log e i there))))
+        let b = k.2.brought i e there in
+        let pass : b.0 ≡ t.0 = one_value k.0.passes e.node b.0 t.0 b.1 t.1 in
+        let one : b.2.0 ≡ t.2.0 = one_seen t.0.1.seen e.place b.2.0 t.2.0 (subst (λ (p : TableId × View Entry). get_elem? p.1.seen e.place ≡ some b.2.0) pass b.2.1) t.2.1 in
+        let from : IsFrom (m.packets e.who) t.2.0.invocation =
+        subst (λ who. IsFrom (m.packets who) t.2.0.invocation) (sym (k.2.logged.steps i e there).1) (subst (λ (x : Entry). IsFrom (m.packets k.0.who) x.invocation) one b.2.2) in
+        got h e.place t.2.0 (prefix_at t.0.1.seen h e.place t.2.0 begun t.2.1) ∙ ap (λ z. Some z) (sym (fills_entry m.packets e t.2.0 t.2.2 from))
 
     -- a call of the feeder's pass
     abbrev pub IsFeeders : (who place : ℕ) → Type 0
@@ -167,13 +174,13 @@ module _ (m : Moment) where
     not_client place l = let c = called l.client l.log l.index l.entry l.book l.at in let b = l.by in absurd (omega (arith, c.1, b))
 
     -- the feeder's entries are just those that its pass has made
-    made_is : (p : TableId × View Entry) → slice_get m.feeder.passes node ≡ Some p → filter by_feeder h ≡ fed_of m.stream m.acts
+    made_is : (p : TableId × View Entry) → slice_get m.feeder.passes node ≡ Some p → filter by_feeder h ≡ fed_of m.packets m.acts
     made_is p there =
         let made = m.fed node p there in
         let begun = begins (length m.others) m.feeder p (at_last m.others m.feeder) there in
-        picked h 0 (fed_of m.stream m.acts) made.places (ups_from 0 made.places (λ i q at. omega arith) made.rise) (stand_picks p.1.seen h begun (fed_of m.stream m.acts) made.places made.stand) (fed_zero m.stream m.acts)
+        picked h 0 (fed_of m.packets m.acts) made.places (ups_from 0 made.places (λ i q at. omega arith) made.rise) (stand_picks p.1.seen h begun (fed_of m.packets m.acts) made.places made.stand) (fed_zero m.packets m.acts)
         (λ i x at zero_is. ⊎_elim (λ l. absurd (not_client i (subst (λ n. IsLoggedAt m.books node n i) zero_is l))) (λ f. mine made i x.who f) (owner i x at)) where
-          mine : (made : HasMade (fed_of m.stream m.acts) p) (i who : ℕ) → IsFeeders who i → Has made.places (0 + i)
+          mine : (made : HasMade (fed_of m.packets m.acts) p) (i who : ℕ) → IsFeeders who i → Has made.places (0 + i)
           mine made i who f =
               let same : f.0 ≡ p = one_value m.feeder.passes node f.0 p f.1 there in
               let has : Has {A = ℕ × ℕ} p.1.own (who, i) = subst (λ (z : TableId × View Entry). Has {A = ℕ × ℕ} z.1.own (who, i)) same f.2 in
@@ -183,7 +190,7 @@ module _ (m : Moment) where
     pub feeders_zero : (who place : ℕ) → IsFeeders who place → who ≡ 0
     feeders_zero who place f = let made = m.fed node f.0 f.1 in (has_own made.places who place (subst (λ (z : List (ℕ × ℕ)). Has z (who, place)) made.own f.2)).0
 
-    fed_by : (o : Option (TableId × View Entry)) → slice_get m.feeder.passes node ≡ o → filter by_feeder h ≡ fed_of m.stream (acts_by o)
+    fed_by : (o : Option (TableId × View Entry)) → slice_get m.feeder.passes node ≡ o → filter by_feeder h ≡ fed_of m.packets (acts_by o)
     fed_by (Some p) is = made_is p is
     fed_by None is =
         picked h 0 [] [] tt tt tt
@@ -197,7 +204,7 @@ module _ (m : Moment) where
       not_feeder j e at zero_is = let s = of_some j e at in let c = called s.1.0 s.1.1 s.1.2 e s.1.3 s.1.4 in absurd (omega (arith, c.1, zero_is))
 
       -- the feeder's calls and the logs tell the history
-      pub told_here : AreTold m.stream 0 (acts_by (slice_get m.feeder.passes node)) calls h
+      pub told_here : AreTold m.packets 0 (acts_by (slice_get m.feeder.passes node)) calls h
       told_here = record {
         feeder = fed_by (slice_get m.feeder.passes node) refl;
         callers = not_feeder;

@@ -16,34 +16,33 @@ use Rattle.dmx_calls.specs.History.{Entry}
 use Rattle.dmx_calls.specs.Response.{NoMemory}
 use Rattle.dmx_calls.specs.Rules.{rules_at}
 use Rattle.dmx_calls.specs.Legal.{IsLegalFor}
-use Rattle.dmx_calls.specs.Log.{LogEntry}
+use Rattle.dmx_calls.specs.Log.{LogEntry, Sources, filled}
 use Rattle.dmx_calls.specs.Histories.{feeder_acts, feeder_entry, pass_act}
 use Rattle.dmx_calls.proofs.Weaving.{in_place-at}
 use Rattle.client_script.specs.Script.{clients_in, Scripted}
-use Rattle.client_core.specs.Events.{next_event, waits_on}
-use Rattle.script_run.specs.IsRun.{Step, feeding, replies, steps_of}
+use Rattle.client_core.specs.Events.{waits_on}
+use Rattle.script_run.specs.IsRun.{Step, feeding, replies, sources, steps_of}
 use Rattle.script_run.specs.WholeRun.{IsGiven}
-use Rattle.script_run.specs.SoFar.{PassesNone, others as Others, IsPaidBehind, IsFedSoFar, HasDoneSoFar, IsSoFar}
-use Rattle.script_run.proofs.Events.{event_passes_none}
+use Rattle.script_run.specs.SoFar.{others as Others, IsPaidBehind, IsFedSoFar, HasDoneSoFar, IsSoFar}
 use Rattle.adapter.specs.Callers.{Caller}
 use Rattle.adapter.specs.Ends.{HaveHistories}
 use Rattle.adapter.proofs.Lists.{at_place, one_value}
-use Rattle.workers.specs.Logged.{HasCalled}
+use Rattle.workers.specs.Logged.{BringFrom, HasCalled}
 use Rattle.workers.specs.Feeding.{Tiles, batch_of}
 use Rattle.workers.specs.Telling.{HasLogged, IsLoggedIn, steps_from}
 use Rattle.workers.proofs.Members.{all_at, at_has, steps_tile}
-use Rattle.workers.proofs.Calls.{has_all, all_has}
+use Rattle.workers.proofs.Calls.{has_all}
 use Rattle.workers.proofs.Batches.{sizes, total_is, given}
 use Rattle.workers.proofs.Feeders.{acts_of}
 use Rattle.workers.proofs.Owning.{Moment, acts_by, called}
 use Rattle.workers.proofs.Merged.{AreWoven, there, stands}
 
 -- a client of a script has made just the calls of its log
-pub has_logged : (script : Scripted) (c : ℕ) (may : ℕ → Bool) (client : Caller) (log : List LogEntry) → HasCalled script c may client log → HasLogged c client log
-has_logged script c may client log k = record {
+pub has_logged : (script : Scripted) (stream : List (List ℕ)) (c : ℕ) (may : ℕ → Bool) (client : Caller) (log : List LogEntry) → HasCalled script c may client log → HasLogged (sources script stream) c client log
+has_logged script stream c may client log k = record {
   who = k.who;
   logged = k.logged;
-  passes = all_has (λ (e : LogEntry). PassesNone e.act) log (λ e has. let i = at_has log e has in event_passes_none (next_event c script (replies (take i.0 log))) e (k.events i.0 e i.1));
+  brought = let number : suc c ≡ client.who = omega (arith, k.who) in subst (λ who. BringFrom (sources script stream who) client log) number (k.brought stream);
 }
 
 -- the steps of the first calls begin those of all
@@ -66,13 +65,14 @@ all_given may true fs times a has = given_has may (feeder_acts fs) (given may fs
 all_given may false fs times a has = given_has may (feeder_acts fs) (given may fs times) a (has_left (map pass_act fs) (EndAct ∷ []) a (subst (λ acts. Has acts a) (append-nil (map pass_act fs)) has))
 
 -- what was called at a moment is what a script asks for, and the feeder has passed these batches, and the end or not yet
-pub record IsOfScript (script : Scripted) (most : ℕ) (may : ℕ → Bool) (over : Bool) (fs : List Fed) (m : Moment) : Type 0 where
+pub record IsOfScript (script : Scripted) (stream : List (List ℕ)) (most : ℕ) (may : ℕ → Bool) (over : Bool) (fs : List Fed) (m : Moment) : Type 0 where
+  pub packets : m.packets ≡ sources script stream
   pub acts : m.acts ≡ acts_of over fs
-  pub tiles : Tiles most 0 (length m.stream) fs
+  pub tiles : Tiles most 0 (length stream) fs
   pub count : length m.books ≡ clients_in script
   pub calls : (c : ℕ) (client : Caller) (log : List LogEntry) → slice_get m.others c ≡ Some client → slice_get m.books c ≡ Some log → HasCalled script c may client log
 
-module _ (script : Scripted) (most : ℕ) (may : ℕ → Bool) (over : Bool) (fs : List Fed) (m : Moment) (s : IsOfScript script most may over fs m)
+module _ (script : Scripted) (stream : List (List ℕ)) (most : ℕ) (may : ℕ → Bool) (over : Bool) (fs : List Fed) (m : Moment) (s : IsOfScript script stream most may over fs m)
     (have : HaveHistories (m.others ++ m.feeder ∷ [])) (low : (e : LogEntry) → IsLoggedIn m.books e → e.node ≤ DEMUX_NODES) (hs : List (List LogEntry)) (w : AreWoven m hs) where
   -- the caller of a log
   pub client_of : (c : ℕ) (log : List LogEntry) → slice_get m.books c ≡ Some log → (client : Caller) × HasCalled script c may client log
@@ -125,18 +125,18 @@ module _ (script : Scripted) (most : ℕ) (may : ℕ → Bool) (over : Bool) (fs
 
   -- ------ the feeder
 
-  unfoldable pub fed : IsFedSoFar most (length m.stream) hs
+  unfoldable pub fed : IsFedSoFar most (length stream) hs
   fed = record {
     batches = map batch_of fs;
-    each_size = sizes most 0 (length m.stream) fs s.tiles;
-    within = let t = total_is most 0 (length m.stream) fs s.tiles in omega (arith, t);
+    each_size = sizes most 0 (length stream) fs s.tiles;
+    within = let t = total_is most 0 (length stream) fs s.tiles in omega (arith, t);
     on_each = λ node h at. begun (slice_get m.feeder.passes node) (steps_of 0 h) (there m have low hs w node h at).2.steps;
   } where
     begun : (o : Option (TableId × View Entry)) (steps : List Step) → steps ≡ steps_from 0 (acts_by m o) → (later : List Step) × (steps ++ later ≡ feeding 0 0 (map batch_of fs))
     begun None steps is = (feeding 0 0 (map batch_of fs), ap (λ l. l ++ feeding 0 0 (map batch_of fs)) is)
     begun (Some p) steps is =
         let k = steps_so_far over fs in
-        (k.0, ap (λ l. l ++ k.0) (is ∙ ap (steps_from 0) s.acts) ∙ k.1 ∙ steps_tile most 0 (length m.stream) 0 fs s.tiles)
+        (k.0, ap (λ l. l ++ k.0) (is ∙ ap (steps_from 0) s.acts) ∙ k.1 ∙ steps_tile most 0 (length stream) 0 fs s.tiles)
 
   -- ------ a client
 
@@ -186,11 +186,12 @@ module _ (script : Scripted) (most : ℕ) (may : ℕ → Bool) (over : Bool) (fs
       }
 
   -- They are the histories of a run so far.
-  unfoldable pub so_far : IsSoFar Others script most m.stream hs
+  unfoldable pub so_far : IsSoFar Others script most stream hs
   so_far = record {
     nodes = w.many;
     places = λ node place h e at here. let r = entry_at node place h e at here in (r.1.on, r.0, r.1.by, r.1.found);
-    legal = λ node h at. let t = there m have low hs w node h at in subst (λ g. IsLegalFor (rules_at node) (reverse g)) (sym t.2.is) t.1.legal;
+    legal = λ node h at. let t = there m have low hs w node h at in
+        subst (λ (packets : Sources). IsLegalFor (rules_at node) (filled packets h)) s.packets (subst (λ g. IsLegalFor (rules_at node) (reverse g)) (sym t.2.is) t.1.legal);
     fed = fed;
     clients = done;
   }

@@ -11,7 +11,7 @@ use Rattle.dmx_calls.specs.Calls.{told_entry}
 use Rattle.dmx_calls.specs.Log.{LogEntry}
 use Rattle.dmx_calls.specs.declared.limits.TheConstants.{DEMUX_NODES}
 use Rattle.dmx_calls.specs.declared.log.Entry.{Entry as ToldEntry}
-use Rattle.client_script.specs.Script.{clients_in, Scripted}
+use Rattle.client_script.specs.Script.{AreNumbered, clients_in, Scripted}
 use Rattle.script_run.specs.Budget.{IsTooLong}
 use Rattle.client_core.specs.declared.stop.TheConstants.{MOST_CALLS}
 use Rattle.client_core.specs.declared.stop.Stop.TheVariants.{NoMemory}
@@ -41,7 +41,7 @@ use Rattle.workers.proofs.Leaving.{come_at, many}
 module _ (script : Scripted) (locks : List TableId) (n : ℕ) (feeder : Caller) (clients : List Caller) (fresh : AreFreshCallers locks n feeder clients) (all : AreAllCallers locks (clients ++ feeder ∷ []))
     (may : ℕ → Bool) (old new : List ClientWorker) (b : AreFreshWorkers script clients old) (h : HaveCome may locks old new)
     (most : ℕ) (x y : SourceEnd) (first : Pulling) (f : FeederWorker) (k : HasPassedAll (is_named script.lines) most may x y first f)
-    (found : (i : ℕ) (w : ClientWorker) → slice_get new i ≡ Some w → w.stop ≢ Some NoMemory) (is : n ≡ clients_in script) (histories : HaveHistories (map (λ (w : ClientWorker). w.client) new ++ f.feeder ∷ [])) where
+    (found : (i : ℕ) (w : ClientWorker) → slice_get new i ≡ Some w → w.stop ≢ Some NoMemory) (is : n ≡ clients_in script) (numbered : AreNumbered script) (histories : HaveHistories (map (λ (w : ClientWorker). w.client) new ++ f.feeder ∷ [])) where
   now_pulls : (ahead : List ℕ) → Pulls ahead [] [] first → Pulls ahead k.draws.carries.more k.packets f.puller
   now_pulls ahead pulls = k.draws.carries.pulls ahead [] [] pulls
 
@@ -54,6 +54,7 @@ module _ (script : Scripted) (locks : List TableId) (n : ℕ) (feeder : Caller) 
 
   running : (ahead : List ℕ) → Pulls ahead [] [] first → IsRunning script (is_named script.lines) most may k.packets (ended ∷ []) f.feeder f.feeding.items (map (λ (w : ClientWorker). w.client) new) (map log_of new)
   running ahead pulls = record {
+    numbered = numbered;
     are_packets = subst (All IsPacket) (Pulls-done ahead k.draws.carries.more k.packets f.puller (now_pulls ahead pulls) k.done).packets (are_packets f.puller.cutting.size (ahead ++ k.draws.carries.more));
     end = inr refl;
     fed = k.fed;

@@ -7,12 +7,12 @@ use native.Mathlib.Decide.{ℕ_discrete}
 use Rattle.dmx_calls.specs.History.{Entry, entry_of}
 use Rattle.dmx_calls.specs.Response.{Passed}
 use Rattle.dmx_calls.specs.declared.log.Act.{Act}
-use Rattle.dmx_calls.specs.Log.{LogEntry, filled_act, filled_entry}
+use Rattle.dmx_calls.specs.Log.{LogEntry, Sources, filled_act, filled_entry}
 use Rattle.dmx_calls.specs.Histories.{feeder_entry, before_entry, woven_from, AreInPlace}
 
--- the entries of the feeder's calls, over the stream
-abbrev pub fed_of : (stream : List (List ℕ)) → List Act → List Entry
-fed_of stream acts = map (λ a. entry_of 0 (filled_act stream a) Passed) acts
+-- the entries of the feeder's calls, with its packets
+abbrev pub fed_of : (packets : Sources) → List Act → List Entry
+fed_of packets acts = map (λ a. entry_of 0 (filled_act (packets 0) a) Passed) acts
 
 abbrev pub by_feeder : Entry → Bool
 by_feeder x = nat_eq x.who 0
@@ -32,15 +32,15 @@ rises_at place (c ∷ calls) up zero e at = let same : c ≡ e = cc at in subst 
 rises_at place (c ∷ calls) up (suc j) e at = let low = up.0 in let more = rises_at (suc c.place) calls up.1 j e at in omega arith
 
 -- These calls of the feeder and entries of the clients tell a history from a place on: its entries of caller 0 are the feeder's, in their order; each entry of a client stands there at its place; and every entry of another caller is one of them.
-pub record AreTold (stream : List (List ℕ)) (place : ℕ) (acts : List Act) (calls : List LogEntry) (h : List Entry) : Type 0 where
-  pub feeder : filter by_feeder h ≡ fed_of stream acts
+pub record AreTold (packets : Sources) (place : ℕ) (acts : List Act) (calls : List LogEntry) (h : List Entry) : Type 0 where
+  pub feeder : filter by_feeder h ≡ fed_of packets acts
   pub callers : (j : ℕ) (e : LogEntry) → slice_get calls j ≡ Some e → e.who ≢ 0
-  pub each : (j : ℕ) (e : LogEntry) → slice_get calls j ≡ Some e → (i : ℕ) × (e.place ≡ place + i) × (slice_get h i ≡ Some (filled_entry stream e))
+  pub each : (j : ℕ) (e : LogEntry) → slice_get calls j ≡ Some e → (i : ℕ) × (e.place ≡ place + i) × (slice_get h i ≡ Some (filled_entry packets e))
   pub only : (i : ℕ) (x : Entry) → slice_get h i ≡ Some x → x.who ≢ 0 → (j : ℕ) × (e : LogEntry) × (slice_get calls j ≡ Some e) × (e.place ≡ place + i)
 
 -- woven of them, each entry stands at its place, and tells that of the history
-abbrev pub IsWoven : (stream : List (List ℕ)) → (node place step : ℕ) → (acts : List Act) → (calls : List LogEntry) → List Entry → Type 0
-IsWoven stream node place step acts calls h = AreInPlace place (woven_from node calls place step acts) × (map (filled_entry stream) (woven_from node calls place step acts) ≡ h)
+abbrev pub IsWoven : (packets : Sources) → (node place step : ℕ) → (acts : List Act) → (calls : List LogEntry) → List Entry → Type 0
+IsWoven packets node place step acts calls h = AreInPlace place (woven_from node calls place step acts) × (map (filled_entry packets) (woven_from node calls place step acts) ≡ h)
 
 -- where no entry of a client stands at this place, the feeder's does
 feeder_first : (node place step : ℕ) (a : Act) (acts : List Act) (calls : List LogEntry) → Rises (suc place) calls
@@ -67,37 +67,37 @@ later_call : (c : LogEntry) (calls : List LogEntry) (place i : ℕ) → c.place 
 later_call c calls place i here (zero, e, at, is) = let same : c ≡ e = cc at in let p : e.place ≡ c.place = ap (λ (z : LogEntry). z.place) (sym same) in absurd (omega arith)
 later_call c calls place i here (suc j, e, at, is) = (j, e, at, omega arith)
 
-module _ (stream : List (List ℕ)) (node : ℕ) (x : Entry) (h : List Entry)
-    (later : (place step : ℕ) (acts : List Act) (calls : List LogEntry) → Rises place calls → AreTold stream place acts calls h → IsWoven stream node place step acts calls h) where
-  put : (place step : ℕ) (acts bs : List Act) (calls more : List LogEntry) (e : LogEntry) (t : ℕ) → woven_from node calls place step acts ≡ e ∷ woven_from node more (suc place) t bs → e.place ≡ place → filled_entry stream e ≡ x
-      → IsWoven stream node (suc place) t bs more h → IsWoven stream node place step acts calls (x ∷ h)
+module _ (packets : Sources) (node : ℕ) (x : Entry) (h : List Entry)
+    (later : (place step : ℕ) (acts : List Act) (calls : List LogEntry) → Rises place calls → AreTold packets place acts calls h → IsWoven packets node place step acts calls h) where
+  put : (place step : ℕ) (acts bs : List Act) (calls more : List LogEntry) (e : LogEntry) (t : ℕ) → woven_from node calls place step acts ≡ e ∷ woven_from node more (suc place) t bs → e.place ≡ place → filled_entry packets e ≡ x
+      → IsWoven packets node (suc place) t bs more h → IsWoven packets node place step acts calls (x ∷ h)
   put place step acts bs calls more e t is at fills w =
-      subst (λ l. AreInPlace place l × (map (filled_entry stream) l ≡ x ∷ h)) (sym is) ((at, w.0), ap (λ y. y ∷ map (filled_entry stream) (woven_from node more (suc place) t bs)) fills ∙ ap (λ l. x ∷ l) w.1)
+      subst (λ l. AreInPlace place l × (map (filled_entry packets) l ≡ x ∷ h)) (sym is) ((at, w.0), ap (λ y. y ∷ map (filled_entry packets) (woven_from node more (suc place) t bs)) fills ∙ ap (λ l. x ∷ l) w.1)
 
   -- no entry of a client stands where the feeder's does
-  apart : (place : ℕ) (acts : List Act) (calls : List LogEntry) → x.who ≡ 0 → Rises place calls → AreTold stream place acts calls (x ∷ h) → Rises (suc place) calls
+  apart : (place : ℕ) (acts : List Act) (calls : List LogEntry) → x.who ≡ 0 → Rises place calls → AreTold packets place acts calls (x ∷ h) → Rises (suc place) calls
   apart place acts [] is up t = tt
   apart place acts (e ∷ calls) is up t = let m = t.each 0 e refl in (past m.0 m.1 m.2, up.1) where
-    past : (i : ℕ) → e.place ≡ place + i → slice_get (x ∷ h) i ≡ Some (filled_entry stream e) → suc place ≤ e.place
-    past zero at is_there = let same : x ≡ filled_entry stream e = cc is_there in absurd (t.callers 0 e refl (ap (λ (z : Entry). z.who) (sym same) ∙ is))
+    past : (i : ℕ) → e.place ≡ place + i → slice_get (x ∷ h) i ≡ Some (filled_entry packets e) → suc place ≤ e.place
+    past zero at is_there = let same : x ≡ filled_entry packets e = cc is_there in absurd (t.callers 0 e refl (ap (λ (z : Entry). z.who) (sym same) ∙ is))
     past (suc i) at is_there = omega arith
 
-  feeder_here : (place step : ℕ) (acts : List Act) (calls : List LogEntry) → x.who ≡ 0 → Rises place calls → AreTold stream place acts calls (x ∷ h) → IsWoven stream node place step acts calls (x ∷ h)
+  feeder_here : (place step : ℕ) (acts : List Act) (calls : List LogEntry) → x.who ≡ 0 → Rises place calls → AreTold packets place acts calls (x ∷ h) → IsWoven packets node place step acts calls (x ∷ h)
   feeder_here place step acts calls is up t = go acts (apart place acts calls is up t) t (sym (ap (λ b. if b then x ∷ filter by_feeder h else filter by_feeder h) (eq-eqb x.who 0 is)) ∙ t.feeder) where
-    go : (acts : List Act) → Rises (suc place) calls → AreTold stream place acts calls (x ∷ h) → x ∷ filter by_feeder h ≡ fed_of stream acts → IsWoven stream node place step acts calls (x ∷ h)
+    go : (acts : List Act) → Rises (suc place) calls → AreTold packets place acts calls (x ∷ h) → x ∷ filter by_feeder h ≡ fed_of packets acts → IsWoven packets node place step acts calls (x ∷ h)
     go [] late t first = absurd (cc first)
     go (a ∷ acts) late t first =
-        let fills : entry_of 0 (filled_act stream a) Passed ≡ x = cc first in
-        let rest : filter by_feeder h ≡ fed_of stream acts = cc first in
+        let fills : entry_of 0 (filled_act (packets 0) a) Passed ≡ x = cc first in
+        let rest : filter by_feeder h ≡ fed_of packets acts = cc first in
         put place step (a ∷ acts) acts calls calls (feeder_entry node place step a) (suc step) (feeder_first node place step a acts calls late) refl fills
         (later (suc place) (suc step) acts calls late (record {
           feeder = rest;
           callers = t.callers;
-          each = λ j e at. let m = t.each j e at in behind x (filled_entry stream e) h place e.place m.0 m.1 (rises_at (suc place) calls late j e at) m.2;
+          each = λ j e at. let m = t.each j e at in behind x (filled_entry packets e) h place e.place m.0 m.1 (rises_at (suc place) calls late j e at) m.2;
           only = λ i y at not. let o = t.only (suc i) y at not in (o.0, o.1, o.2, (let p = o.3 in omega arith));
         }))
 
-  call_here : (place step : ℕ) (acts : List Act) (calls : List LogEntry) → x.who ≢ 0 → Rises place calls → AreTold stream place acts calls (x ∷ h) → IsWoven stream node place step acts calls (x ∷ h)
+  call_here : (place step : ℕ) (acts : List Act) (calls : List LogEntry) → x.who ≢ 0 → Rises place calls → AreTold packets place acts calls (x ∷ h) → IsWoven packets node place step acts calls (x ∷ h)
   call_here place step acts [] not up t = let o = t.only 0 x refl not in absurd (cc (o.2))
   call_here place step acts (c ∷ calls) not up t =
       let o = t.only 0 x refl not in let here = first o.0 o.1 o.2 o.3 in let m = t.each 0 c refl in
@@ -105,21 +105,21 @@ module _ (stream : List (List ℕ)) (node : ℕ) (x : Entry) (h : List Entry)
       (later (suc place) step acts calls (subst (λ p. Rises (suc p) calls) here up.1) (record {
         feeder = sym (ap (λ b. if b then x ∷ filter by_feeder h else filter by_feeder h) (ne_eqb x.who 0 not)) ∙ t.feeder;
         callers = λ j e at. t.callers (suc j) e at;
-        each = λ j e at. let n = t.each (suc j) e at in behind x (filled_entry stream e) h place e.place n.0 n.1 (rises_at (suc place) calls (subst (λ p. Rises (suc p) calls) here up.1) j e at) n.2;
+        each = λ j e at. let n = t.each (suc j) e at in behind x (filled_entry packets e) h place e.place n.0 n.1 (rises_at (suc place) calls (subst (λ p. Rises (suc p) calls) here up.1) j e at) n.2;
         only = λ i y at other. later_call c calls place i here (t.only (suc i) y at other);
       })) where
         first : (j : ℕ) (e : LogEntry) → slice_get (c ∷ calls) j ≡ Some e → e.place ≡ place + 0 → c.place ≡ place
         first zero e at is = let same : c ≡ e = cc at in let p : c.place ≡ e.place = ap (λ (z : LogEntry). z.place) same in omega arith
         first (suc j) e at is = let low = up.0 in let l = rises_at (suc c.place) calls up.1 j e at in absurd (omega arith)
 
-        stands : (i : ℕ) → c.place ≡ place + i → c.place ≡ place → slice_get (x ∷ h) i ≡ Some (filled_entry stream c) → filled_entry stream c ≡ x
+        stands : (i : ℕ) → c.place ≡ place + i → c.place ≡ place → slice_get (x ∷ h) i ≡ Some (filled_entry packets c) → filled_entry packets c ≡ x
         stands zero at here is = cc is
         stands (suc i) at here is = absurd (omega arith)
 
-pub weaves : (stream : List (List ℕ)) (node : ℕ) (h : List Entry) (place step : ℕ) (acts : List Act) (calls : List LogEntry) → Rises place calls → AreTold stream place acts calls h → IsWoven stream node place step acts calls h
-weaves stream node [] place step [] [] up t = (tt, refl)
-weaves stream node [] place step (a ∷ acts) [] up t = let no = t.feeder in absurd (cc no)
-weaves stream node [] place step acts (e ∷ calls) up t = let m = t.each 0 e refl in absurd (cc (m.2))
-weaves stream node (x ∷ h) place step acts calls up t = dite (ℕ_discrete x.who 0)
-    (λ is. feeder_here stream node x h (λ p s bs cs r u. weaves stream node h p s bs cs r u) place step acts calls is up t)
-    (λ not. call_here stream node x h (λ p s bs cs r u. weaves stream node h p s bs cs r u) place step acts calls not up t)
+pub weaves : (packets : Sources) (node : ℕ) (h : List Entry) (place step : ℕ) (acts : List Act) (calls : List LogEntry) → Rises place calls → AreTold packets place acts calls h → IsWoven packets node place step acts calls h
+weaves packets node [] place step [] [] up t = (tt, refl)
+weaves packets node [] place step (a ∷ acts) [] up t = let no = t.feeder in absurd (cc no)
+weaves packets node [] place step acts (e ∷ calls) up t = let m = t.each 0 e refl in absurd (cc (m.2))
+weaves packets node (x ∷ h) place step acts calls up t = dite (ℕ_discrete x.who 0)
+    (λ is. feeder_here packets node x h (λ p s bs cs r u. weaves packets node h p s bs cs r u) place step acts calls is up t)
+    (λ not. call_here packets node x h (λ p s bs cs r u. weaves packets node h p s bs cs r u) place step acts calls not up t)

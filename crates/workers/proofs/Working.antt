@@ -1,5 +1,5 @@
 -- The steps of a client at work.
-use Rattle.std.proofs.Common.{◌≡◌, ◌+◌, ℕ, List, [], ◌∷◌, ◌++◌, length, map, Some, refl, ap, sym, ◌∙◌, subst, arith}
+use Rattle.std.proofs.Common.{◌≡◌, suc, ◌+◌, ℕ, List, [], ◌∷◌, ◌++◌, length, map, Option, Some, refl, ap, sym, ◌∙◌, subst, arith}
 use Rattle.std.specs.Prelude.{option_map, slice_get}
 use Rattle.std.proofs.lemmas.Option.{slice_get-map}
 use Rattle.atomic_table.specs.Seated.{TableId}
@@ -17,12 +17,18 @@ use Rattle.workers.proofs.Logging.{called_looked}
 use Rattle.std.proofs.lemmas.List.{map-append, append-nil}
 use Rattle.dmx_calls.specs.Calls.{told_entry}
 use Rattle.dmx_calls.specs.declared.log.Entry.{Entry as ToldEntry}
-use Rattle.dmx_calls.specs.Log.{LogEntry}
+use Rattle.dmx_calls.specs.Invocation.{Invocation}
+use Rattle.dmx_calls.specs.Log.{IsFrom, LogEntry, act_of}
 use Rattle.dmx_calls.specs.Response.{Response}
 use Rattle.client_script.specs.Script.{Scripted}
 use Rattle.client_core.specs.declared.event.Event.{Event}
+use Rattle.client_core.specs.declared.event.Request.{Request}
+use Rattle.client_core.specs.Deeds.{Batches}
+use Rattle.client_core.specs.Commands.{call_of, plays_of}
 use Rattle.client_core.specs.Inside.Core.{Core, IsAfter, next_of, coming, behind}
 use Rattle.client_core.specs.Events.{next_event, progress, Progress}
+use Rattle.script_run.specs.IsRun.{IsEvent, sources}
+use Rattle.script_run.proofs.Events.{is_from}
 
 -- the next call of a core that stands after these replies is the one that the script asks for
 pub next_is : (script : Scripted) (client : ℕ) (rs : List Response) (c : Core) → IsAfter client script rs c → next_event client script rs ≡ next_of c
@@ -30,8 +36,18 @@ next_is script client rs c after =
     let same : progress client script rs ≡ behind after.ended (coming c []) = ap (progress client script) (sym (append-nil rs)) ∙ after.goes_on [] in
     ap (λ (p : Progress). option_map (λ s. s.event) p.standing) same
 
-pub event_now : (script : Scripted) (client : ℕ) (rs : List Response) (c : Core) (e : Event) → IsAfter client script rs c → next_of c ≡ Some e → next_event client script rs ≡ Some e
-event_now script client rs c e after is = next_is script client rs c after ∙ is
+-- a call that it asks for, whatever its moment, is an event of the script
+pub is_event : (script : Scripted) (client : ℕ) (rs : List Response) (c : Core) (event : Event) (e : LogEntry) (moment : ℕ) → IsAfter client script rs c → next_of c ≡ Some event
+    → e.node ≡ event.node → e.act ≡ act_of (call_of c.plays event.want moment) → IsEvent (plays_of client script) (next_event client script rs) e
+is_event script client rs c event e moment after is node act =
+    subst (λ (o : Option Event). IsEvent (plays_of client script) o e) (sym (next_is script client rs c after ∙ is))
+    (node, (moment, act ∙ ap (λ (batches : Batches). act_of (call_of batches event.want moment)) after.plays))
+
+-- and brings packets that the client plays
+pub brings_played : (script : Scripted) (stream : List (List ℕ)) (client : ℕ) (rs : List Response) (c : Core) (want : Request) (moment : ℕ) {call : Invocation} → IsAfter client script rs c
+    → call ≡ call_of c.plays want moment → IsFrom (sources script stream (suc client)) call
+brings_played script stream client rs c want moment after is =
+    subst (IsFrom (sources script stream (suc client))) (sym (is ∙ ap (λ (batches : Batches). call_of batches want moment) after.plays)) (is_from script stream client want moment)
 
 pub logs_one : (es : List ToldEntry) (e : ToldEntry) (now : List ToldEntry) → now ≡ es ++ e ∷ [] → map told_entry now ≡ map told_entry es ++ told_entry e ∷ []
 logs_one es e now is = ap (map told_entry) is ∙ map-append told_entry es (e ∷ [])

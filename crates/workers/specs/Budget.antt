@@ -5,9 +5,9 @@ use Rattle.dmx_calls.specs.declared.histories.Fed.{Fed}
 use Rattle.dmx_calls.specs.declared.limits.TheConstants.{DEMUX_NODES}
 use Rattle.dmx_calls.specs.History.{Entry}
 use Rattle.dmx_calls.specs.Log.{LogEntry}
-use Rattle.client_script.specs.Script.{clients_in, Scripted}
+use Rattle.client_script.specs.Script.{AreNumbered, clients_in, Scripted}
 use Rattle.client_core.specs.declared.stop.TheConstants.{MOST_CALLS}
-use Rattle.script_run.specs.Budget.{most_calls, all_commands, IsTooLong}
+use Rattle.script_run.specs.Budget.{IsTooLong, all_commands, bytes_written, most_calls}
 use Rattle.adapter.specs.Callers.{Caller}
 use Rattle.adapter.specs.Ends.{HaveHistories}
 use Rattle.adapter.specs.Nodes.{ended}
@@ -17,9 +17,10 @@ use Rattle.workers.specs.Feeding.{HasFed}
 
 -- A moment of a run by threads, or its end: the feeder has passed these packets through the nodes that are among these, with all
 -- that the script can name, and the end of the stream or not yet; each client has made the calls of its log; and each node has a
--- legal history of just the calls of all of them.
+-- legal history of just the calls of all of them. The script's lines name the writes of each client in their order.
 pub record IsRunning (script : Scripted) (among : ℕ → Bool) (most : ℕ) (may : ℕ → Bool) (packets : List (List ℕ)) (behind : List Entry)
     (feeder : Caller) (feeding : List Fed) (others : List Caller) (books : List (List LogEntry)) : Type 0 where
+  pub numbered : AreNumbered script
   pub are_packets : All IsPacket packets
   pub end : (behind ≡ []) ⊎ (behind ≡ ended ∷ [])
   pub fed : HasFed among most may packets behind feeder feeding
@@ -32,14 +33,14 @@ pub record IsRunning (script : Scripted) (among : ℕ → Bool) (most : ℕ) (ma
   pub histories : HaveHistories (others ++ feeder ∷ [])
 
 -- At each moment of a run by threads, in whatever order the threads act, a client has made no more calls than the
--- commands of all clients and the bytes of the packets allow.
+-- commands of all clients and the bytes of the packets and of all writes allow.
 abbrev pub CallsAreWithinBudget : Type 0
 CallsAreWithinBudget =
     (script : Scripted) (among : ℕ → Bool) (most : ℕ) (may : ℕ → Bool) (packets : List (List ℕ)) (behind : List Entry)
     (feeder : Caller) (feeding : List Fed) (others : List Caller) (books : List (List LogEntry))
     → IsRunning script among most may packets behind feeder feeding others books
     → (c : ℕ) (log : List LogEntry) → slice_get books c ≡ Some log
-    → length log ≤ most_calls (all_commands script.lines) (188 * length packets)
+    → length log ≤ most_calls (all_commands script.lines) (188 * length packets + bytes_written script)
 
 -- Where commands and bytes are fewer than 2^32 together, no client comes to 549,755,813,888 calls.
 abbrev pub FewBytesAreFewCalls : Type 0
@@ -47,11 +48,11 @@ FewBytesAreFewCalls =
     (script : Scripted) (among : ℕ → Bool) (most : ℕ) (may : ℕ → Bool) (packets : List (List ℕ)) (behind : List Entry)
     (feeder : Caller) (feeding : List Fed) (others : List Caller) (books : List (List LogEntry))
     → IsRunning script among most may packets behind feeder feeding others books
-    → all_commands script.lines + 188 * length packets < 2 ^ 32
+    → all_commands script.lines + 188 * length packets + bytes_written script < 2 ^ 32
     → (c : ℕ) (log : List LogEntry) → slice_get books c ≡ Some log → length log < MOST_CALLS
 
 -- Where a client comes to 549,755,813,888 calls, the run is too long: its cause is in the commands and in
--- the bytes of which the packets were cut.
+-- the bytes of which the packets were cut and those of all writes.
 abbrev pub ManyCallsAreTooLong : Type 0
 ManyCallsAreTooLong =
     (script : Scripted) (among : ℕ → Bool) (most : ℕ) (may : ℕ → Bool) (packets : List (List ℕ)) (behind : List Entry)

@@ -1,16 +1,18 @@
 -- The log of a client, and how it is tied to what its passes know. A history is the
 -- list of a node's entries, the oldest first.
-use Rattle.std.specs.Prelude.{◌≡◌, ◌≢◌, ◌<◌, ◌+◌, ℕ, Bool, List, [], ◌∷◌, take, nat_eq, if◌then◌else◌, slice_get, Some, IsSome, All}
+use Rattle.std.specs.Prelude.{◌≡◌, ◌≢◌, ◌<◌, ◌+◌, ℕ, suc, Bool, List, [], ◌∷◌, take, nat_eq, if◌then◌else◌, slice_get, Some, IsSome, All}
 use mathlib.Core.Option.{some}
 use lib.ListN.{get_elem?}
 use Rattle.atomic_table.specs.Seated.{TableId}
 use Rattle.node_lock.specs.declared.view.View.{View}
+use Rattle.dmx_calls.specs.declared.params.Input.{Input}
 use Rattle.dmx_calls.specs.History.{Entry}
-use Rattle.dmx_calls.specs.Log.{LogEntry, act_of}
+use Rattle.dmx_calls.specs.Log.{IsFrom, LogEntry, act_of}
 use Rattle.dmx_calls.specs.Response.{NoMemory}
 use Rattle.client_script.specs.Script.{Scripted}
+use Rattle.client_core.specs.Commands.{plays_of}
 use Rattle.client_core.specs.Events.{next_event, waits_on}
-use Rattle.script_run.specs.IsRun.{IsEvent, replies}
+use Rattle.script_run.specs.IsRun.{IsEvent, replies, sources}
 use Rattle.script_run.specs.WholeRun.{IsGiven}
 use Rattle.adapter.specs.Callers.{Caller}
 
@@ -40,13 +42,25 @@ pub record IsLogged (c : Caller) (log : List LogEntry) : Type 0 where
       → e.place < f.place
   pub just : (node : ℕ) (p : TableId × View Entry) → slice_get c.passes node ≡ Some p → p.1.own ≡ calls_on node log
 
+-- the entry at its place brings packets of these, if it brings any
+abbrev pub BringsIn : (packets : Input → List (List ℕ)) → List Entry → LogEntry → Type 0
+BringsIn packets h e = (x : Entry) × (get_elem? h e.place ≡ some x) × IsFrom packets x.invocation
+
+-- each call of the log brings packets of these, if it brings any
+abbrev pub BringFrom : (packets : Input → List (List ℕ)) → Caller → List LogEntry → Type 0
+BringFrom packets c log =
+    (i : ℕ) (e : LogEntry) → slice_get log i ≡ Some e
+    → (p : TableId × View Entry) × (slice_get c.passes e.node ≡ Some p) × BringsIn packets p.1.seen e
+
 -- The calls so far of a client of a script: each is the one that its commands ask for after the replies before it, at a
 -- moment that the clock may give, and memory was found.
 pub record HasCalled (script : Scripted) (client : ℕ) (may : ℕ → Bool) (c : Caller) (log : List LogEntry) : Type 0 where
   pub who : c.who ≡ client + 1
   pub logged : IsLogged c log
   pub events : (i : ℕ) (e : LogEntry) → slice_get log i ≡ Some e
-      → IsEvent (next_event client script (replies (take i log))) e
+      → IsEvent (plays_of client script) (next_event client script (replies (take i log))) e
+  -- packets that it brings are those that the client plays, whatever the stream is
+  pub brought : (stream : List (List ℕ)) → BringFrom (sources script stream (suc client)) c log
   pub found : All (λ e. e.response ≢ NoMemory) log
   pub moments : All (λ e. IsGiven may e.act) log
   -- where a read is repeated, another caller's entry stands between: it pays for the repeat

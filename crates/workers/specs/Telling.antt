@@ -8,41 +8,41 @@ use Rattle.dmx_calls.specs.declared.log.Act.{Act}
 use Rattle.dmx_calls.specs.declared.outcome.Outcome.{Outcome}
 use Rattle.dmx_calls.specs.Histories.{feeder_acts, feeder_entry}
 use Rattle.dmx_calls.specs.History.{Entry}
-use Rattle.dmx_calls.specs.Log.{LogEntry, filled_entry}
-use Rattle.script_run.specs.IsRun.{Step, StandsIn, steps_of}
-use Rattle.script_run.specs.SoFar.{PassesNone}
+use Rattle.dmx_calls.specs.declared.params.Input.TheVariants.{Frontend}
+use Rattle.dmx_calls.specs.Log.{LogEntry, Sources, filled_entry}
+use Rattle.script_run.specs.IsRun.{Step, StandsIn, sources, steps_of}
 use Rattle.client_script.specs.Script.{Scripted}
 use Rattle.adapter.specs.Rows.{column}
 use Rattle.adapter.specs.Callers.{Caller}
 use Rattle.adapter.specs.Ends.{IsHistory, rows_of}
 use Rattle.adapter.specs.Nodes.{IsLegalAt, ended}
-use Rattle.workers.specs.Logged.{IsLogged}
+use Rattle.workers.specs.Logged.{BringFrom, IsLogged}
 use Rattle.workers.specs.Feeding.{HasMade, fed_entries}
 use Rattle.workers.specs.Left.{AreWorked}
 
 -- ------ what was called
 
--- A client has made just the calls of this log, each at the place and with the reply that it was told (IsLogged); by
--- none of them packets pass.
-pub record HasLogged (client : ℕ) (c : Caller) (log : List LogEntry) : Type 0 where
+-- A client has made just the calls of this log, each at the place and with the reply that it was told (IsLogged); the
+-- packets that it brings are of these.
+pub record HasLogged (packets : Sources) (client : ℕ) (c : Caller) (log : List LogEntry) : Type 0 where
   pub who : c.who ≡ client + 1
   pub logged : IsLogged c log
-  pub passes : All (λ e. PassesNone e.act) log
+  pub brought : BringFrom (packets c.who) c log
 
 -- the entry is one of a client's log
 abbrev pub IsLoggedIn : List (List LogEntry) → LogEntry → Type 0
 IsLoggedIn books e =
     (c : ℕ) × (log : List LogEntry) × (i : ℕ) × (slice_get books c ≡ Some log) × (slice_get log i ≡ Some e)
 
--- The feeder has passed these batches of the stream through the nodes that are among these, and then the end, and has
+-- The feeder has passed these batches of its packets through the nodes that are among these, and then the end, and has
 -- made no other call; each client has made just the calls of its log, all of them on such nodes.
-pub record HaveCalled (among : ℕ → Bool) (stream : List (List ℕ)) (feeder : Caller) (feeding : List Fed)
+pub record HaveCalled (among : ℕ → Bool) (packets : Sources) (feeder : Caller) (feeding : List Fed)
     (clients : List Caller) (books : List (List LogEntry)) : Type 0 where
   pub fed : (node : ℕ) (p : TableId × View Entry) → slice_get feeder.passes node ≡ Some p
-      → HasMade (if among node then fed_entries stream feeding ++ ended ∷ [] else []) p
+      → HasMade (if among node then fed_entries (packets 0 Frontend) feeding ++ ended ∷ [] else []) p
   pub logs : length books ≡ length clients
   pub each : (c : ℕ) (client : Caller) (log : List LogEntry) → slice_get clients c ≡ Some client
-      → slice_get books c ≡ Some log → HasLogged c client log
+      → slice_get books c ≡ Some log → HasLogged packets c client log
   pub named : (e : LogEntry) → IsLoggedIn books e → among e.node ≡ true
 
 -- What the threads of a run of a script leave was called so.
@@ -51,7 +51,7 @@ WorkersHaveCalled =
     (script : Scripted) (among : ℕ → Bool) (most : ℕ) (may : ℕ → Bool) (stream : List (List ℕ)) (feeder : Caller)
     (feeding : List Fed) (clients : List Caller) (books : List (List LogEntry)) (told : List (List Outcome))
     → AreWorked script among most may stream feeder feeding clients books told
-    → HaveCalled among stream feeder feeding clients books
+    → HaveCalled among (sources script stream) feeder feeding clients books
 
 -- ------ what is told
 
@@ -67,7 +67,7 @@ IsTheHistory node passes h =
 
 -- The histories tell what these callers have called, and nothing else; and what the nodes that nobody has called would have
 -- answered to the feeder.
-pub record TellWhatWasCalled (among : ℕ → Bool) (stream : List (List ℕ)) (feeder : Caller) (feeding : List Fed)
+pub record TellWhatWasCalled (among : ℕ → Bool) (packets : Sources) (feeder : Caller) (feeding : List Fed)
     (clients : List Caller) (books : List (List LogEntry)) (hs : List (List LogEntry)) : Type 0 where
   -- there is a list for each of the 33 nodes
   pub nodes : length hs ≡ DEMUX_NODES + 1
@@ -79,10 +79,10 @@ pub record TellWhatWasCalled (among : ℕ → Bool) (stream : List (List ℕ)) (
   -- the feeder's calls on each node are that its batches pass, one after another, and then End
   pub fed : (node : ℕ) (h : List LogEntry) → slice_get hs node ≡ Some h
       → steps_of 0 h ≡ steps_from 0 (feeder_acts feeding)
-  -- the list of each node that is among these, with the packets of the stream, is the history of its lock, entry by entry
+  -- the list of each node that is among these, with the packets that were brought, is the history of its lock, entry by entry
   pub locks : (node : ℕ) (h : List LogEntry) → slice_get hs node ≡ Some h → among node ≡ true
-      → IsTheHistory node (column node (rows_of (clients ++ feeder ∷ []))) (map (filled_entry stream) h)
+      → IsTheHistory node (column node (rows_of (clients ++ feeder ∷ []))) (map (filled_entry packets) h)
   -- the lock of another node has had no call of anybody; its list is legal, and has the feeder's calls alone
   pub idle : (node : ℕ) (h : List LogEntry) → slice_get hs node ≡ Some h → among node ≡ false
       → IsTheHistory node (column node (rows_of (clients ++ feeder ∷ []))) []
-      × IsLegalAt node (map (filled_entry stream) h) × All (λ e. e.who ≡ 0) h
+      × IsLegalAt node (map (filled_entry packets) h) × All (λ e. e.who ≡ 0) h

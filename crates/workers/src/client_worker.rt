@@ -7,7 +7,7 @@ ghost use Rattle.dmx_calls.specs.Log.{act_of};
 ghost use Rattle.dmx_calls.specs.declared.limits.TheConstants.{DEMUX_NODES as nodes};
 ghost use Rattle.client_script.specs.Script.{Scripted};
 ghost use Rattle.client_core.specs.declared.stop.TheConstants.{MOST_CALLS as most_calls};
-ghost use Rattle.client_core.specs.Commands.{IsRequestInRange, call_of as call_at};
+ghost use Rattle.client_core.specs.Commands.{IsRequestInRange, IsRequestOf, call_of as call_at};
 ghost use Rattle.client_core.specs.Inside.Core.{next_of};
 ghost use Rattle.client_core.specs.Events.{next_event};
 ghost use Rattle.script_run.specs.IsRun.{replies};
@@ -71,15 +71,16 @@ impl ClientWorker {
         requires node { event.node ≤ nodes }
         requires step { event.step ≡ self.old.core.step }
         requires range { IsRequestInRange event.want }
+        requires played { IsRequestOf self.old.core.plays event.want }
         ensures same { IsSameCaller self.old.client self.new.client }
         ensures fit { OnOk result (IsFit adapter.now self.new) }
-        ensures works { OnOk result ((may : ℕ → Bool) (script : Scripted) (client : ℕ) → IsGiven may (act_of (call_at event.want now)) → MayCallNow script client event.node self.old
+        ensures works { OnOk result ((may : ℕ → Bool) (script : Scripted) (client : ℕ) → IsGiven may (act_of (call_at self.old.core.plays event.want now)) → MayCallNow script client event.node self.old
             → IsWorking script client may self.old → IsWorking script client may self.new) }
         ensures step { OnOk result (self.new.core.step ≡ self.old.core.step + 1) }
     {
         self.log.reserve(1)?;
         let Event { step, node, want } = event;
-        let call = call_of(alloc, &want, now)?;
+        let call = call_of(alloc, &self.core, &want, now)?;
         let asked = Act::of(&call);
         let act = KeptAct::of(alloc, asked)?;
         let (place, answer) = self.client.call(rt, adapter, node, call, steps);

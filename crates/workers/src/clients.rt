@@ -1,6 +1,6 @@
 // The clients' workers before their first calls, and what is left of them.
 ghost use Rattle.std.specs.Prelude.{◌≡◌, length, IfOk};
-ghost use Rattle.client_script.specs.Script.{clients_in};
+ghost use Rattle.client_script.specs.Script.{AreNumbered, clients_in};
 ghost use Rattle.workers.specs.Inside.Begun.{AreFreshWorkers, IsLeftByClients};
 
 use crate::client_worker::ClientWorker;
@@ -25,7 +25,8 @@ pub fn workers_of(
     script: &Script,
 ) -> Result<Vec<ClientWorker>, NoMemory>
     requires { length clients.items ≡ clients_in script.now }
-    ensures { IfOk result (λ workers. AreFreshWorkers script.now clients.items workers.items) }
+    ensures fresh { IfOk result (λ workers. AreFreshWorkers script.now clients.items workers.items) }
+    ensures numbered { IfOk result (λ workers. AreNumbered script.now) }
 {
     let mut workers = Vec::with_capacity(alloc, script.clients() as usize)?;
     let mut number = 0u32;

@@ -1,6 +1,7 @@
 //! The end of a run: the adapter ends, and the calls of all callers are brought together.
 ghost use Rattle.std.specs.Prelude.{◌≡◌, ◌++◌, ◌∷◌, [], ℕ, Bool, List, map, All, IfOk};
 ghost use Rattle.dmx_calls.specs.Calls.{told_entry};
+ghost use Rattle.dmx_calls.specs.Log.{Sources};
 ghost use Rattle.dmx_calls.specs.declared.outcome.Outcome.{Outcome};
 ghost use Rattle.client_script.specs.Script.{Scripted};
 ghost use Rattle.script_run.specs.WholeRun.{IsWholeRun};
@@ -34,8 +35,8 @@ pub fn histories_of_run(
     requires all { AreAllCallers adapter (clients.items ++ feeder ∷ []) }
     requires nodes { All (λ log. AreOnNodes log.items) logs.items }
     // They tell what was called, and nothing else; it needs no script.
-    ensures tells { IfOk result (λ hs. (among : ℕ → Bool) (stream : List (List ℕ)) → HaveCalled among stream feeder feeding.items clients.items (map (λ log. map told_entry log.items) logs.items)
-        → TellWhatWasCalled among stream feeder feeding.items clients.items (map (λ log. map told_entry log.items) logs.items) hs) }
+    ensures tells { IfOk result (λ hs. (among : ℕ → Bool) (packets : Sources) → HaveCalled among packets feeder feeding.items clients.items (map (λ log. map told_entry log.items) logs.items)
+        → TellWhatWasCalled among packets feeder feeding.items clients.items (map (λ log. map told_entry log.items) logs.items) hs) }
     ensures run { IfOk result (λ hs. (script : Scripted) (among : ℕ → Bool) (most : ℕ) (may : ℕ → Bool) (stream : List (List ℕ)) (told : List (List Outcome))
         → AreWorked script among most may stream feeder feeding.items clients.items (map (λ log. map told_entry log.items) logs.items) told
         → IsWholeRun script most may stream told hs) }

@@ -3,7 +3,7 @@ ghost use Rattle.workers.specs.Budget.{CallsAreWithinBudget, FewBytesAreFewCalls
 ghost use Rattle.workers.specs.Telling.{WorkersHaveCalled};
 
 /// At each moment of a run by threads, whatever the order of the threads, a client has made no more calls than the commands of
-/// all clients and the bytes of the packets allow.
+/// all clients and the bytes of the packets and of all writes allow.
 pub fn calls_are_within_budget()
     ensures { CallsAreWithinBudget }
 {}
@@ -13,7 +13,8 @@ pub fn few_bytes_are_few_calls()
     ensures { FewBytesAreFewCalls }
 {}
 
-/// Where a client comes to 549,755,813,888 calls, the commands and the bytes of the stream show that the run is too long.
+/// Where a client comes to 549,755,813,888 calls, the commands, the bytes of the stream and those of all writes show that the run
+/// is too long.
 pub fn many_calls_are_too_long()
     ensures { ManyCallsAreTooLong }
 {}

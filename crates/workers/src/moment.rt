@@ -1,4 +1,5 @@
 // The moments of calls.
+ghost use Rattle.client_core.specs.Deeds.{Batches};
 ghost use Rattle.client_core.specs.Commands.{call_of};
 ghost use Rattle.script_run.specs.WholeRun.{IsGiven};
 ghost use Rattle.dmx_calls.specs.Log.{act_of};
@@ -8,11 +9,14 @@ use client_script::Want;
 use emu_io::Clock;
 
 /// The moment at which a call is made. The clock is read where the call carries one, anew each time.
+#[tactic(auto, using(crate::proofs::Playing::pass_is_given))]
 pub fn moment_of<C: Clock>(clock: &C, request: &Request) -> u64
-    ensures { IsGiven (C.may_give clock.now) (act_of (call_of request.now result)) }
+    ensures { (batches : Batches) → IsGiven (C.may_give clock.now) (act_of (call_of batches request.now result)) }
 {
-    let Request::Own(want) = request else {
-        return 0;
+    let want = match request {
+        Request::Own(want) => want,
+        Request::Pass { .. } => return clock.now(),
+        _ => return 0,
     };
     match want {
         Want::Section(_) | Want::Pes(_) | Want::Start | Want::Read(_) | Want::Poll => clock.now(),

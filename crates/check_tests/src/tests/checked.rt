@@ -112,12 +112,16 @@ fn text_with(alloc: Global, changes: &[Change]) -> Result<Vec<u8>, NoMemory> {
     Ok(text)
 }
 
-// The first fault of a text by the session, and whether it is right; None where it can't be asked.
-fn asked(alloc: Global, text: &[u8]) -> Result<Option<(Option<Fault>, bool)>, NoMemory> {
-    if SCRIPT.len() > MOST_BYTES || text.len() > 1_000_000 {
+// The first fault of a text by the session of this script, and whether it is right; None where it can't be asked.
+fn asked(
+    alloc: Global,
+    script: &[u8],
+    text: &[u8],
+) -> Result<Option<(Option<Fault>, bool)>, NoMemory> {
+    if script.len() > MOST_BYTES || text.len() > 1_000_000 {
         return Ok(None);
     }
-    let Ok(script) = Script::read(alloc, SCRIPT) else {
+    let Ok(script) = Script::read(alloc, script) else {
         return Ok(None);
     };
     let stream = stream();
@@ -259,7 +263,7 @@ fn odd_row(alloc: Global) -> Result<Option<usize>, NoMemory> {
     for (number, (changes, wanted)) in ROWS.iter().enumerate() {
         let text = text_with(alloc, changes)?;
         let wanted = wanted.map(|(line, kind)| Fault { line, kind });
-        if asked(alloc, &text)? != Some((wanted, wanted.is_none())) {
+        if asked(alloc, SCRIPT, &text)? != Some((wanted, wanted.is_none())) {
             return Ok(Some(number));
         }
     }
@@ -296,7 +300,7 @@ const OTHERS: &[(&[Change], FaultKind)] = &[
 fn odd_other(alloc: Global) -> Result<Option<usize>, NoMemory> {
     for (number, (changes, kind)) in OTHERS.iter().enumerate() {
         let text = text_with(alloc, changes)?;
-        match asked(alloc, &text)? {
+        match asked(alloc, SCRIPT, &text)? {
             Some((Some(fault), false)) if fault.kind == *kind => {}
             _ => return Ok(Some(number)),
         }
@@ -307,6 +311,132 @@ fn odd_other(alloc: Global) -> Result<Option<usize>, NoMemory> {
 #[test]
 fn texts_that_are_no_report_of_the_stream_are_refused(rt: HostRuntime) -> Result<(), NoMemory> {
     let odd = odd_other(rt.alloc())?;
+    assert_eq!(rt; odd, None);
+    Ok(())
+}
+
+// A client writes a packet that begins with these bytes in hexadecimal digits, and reads what comes of it.
+fn playing(alloc: Global, header: &str) -> Result<Vec<u8>, NoMemory> {
+    let mut script = Vec::new(alloc);
+    script.extend_from_slice(b"c0 open dvr\nc0 open n0\nc0 pes n0 256 dvr tsdemux_tap 20 4\n")?;
+    script.extend_from_slice(b"c0 write dvr ")?;
+    script.extend_from_slice(header.as_bytes())?;
+    script.extend_from_slice(&[b'0'; 368])?;
+    script.extend_from_slice(b"\nc0 read n0 4\nstream\n")?;
+    Ok(script)
+}
+
+// The first lines of its report, up to those of node 1. The head is that of the other report.
+static PLAYING: [&str; 13] = [
+    "client 0",
+    "line 1 steps 0..1 done",
+    "line 2 steps 1..2 done",
+    "line 3 steps 2..3 done",
+    "line 4 steps 3..36 done",
+    "line 5 steps 36..37 done",
+    "node 0",
+    "0 c0 1 open = done drop=0..0 tap=keep",
+    "1 c0 2 pes pid=256 input=dvr output=tsdemux_tap type=20 flags=4 at=0 = done drop=0..0 tap=keep",
+    "2 c0 4 pass input=dvr first=0 count=1 at=0 = passed",
+    "3 feed 0 pass input=frontend first=0 count=2 at=0 = passed",
+    "4 c0 36 read 4 at=0 = data 47010017",
+    "5 feed 1 end = passed",
+];
+
+// Its last lines, those of the dvr node.
+static PLAYED: [&str; 6] = [
+    "node dvr",
+    "0 c0 0 open = done drop=0..0 tap=keep",
+    "1 c0 3 poll at=0 = ready readable=0 error=none at=0 ended=0",
+    "2 feed 0 pass input=frontend first=0 count=2 at=0 = passed",
+    "3 feed 1 end = passed",
+    "end",
+];
+
+// Adds a number below 100.
+fn add_number(text: &mut Vec<u8>, number: u8) -> Result<(), NoMemory>
+    requires { number < 100 }
+{
+    if number >= 10 {
+        text.push(b'0' + number / 10)?;
+    }
+    text.push(b'0' + number % 10)?;
+    Ok(())
+}
+
+// Adds the lines of a demux node by which only the passes go, the client's behind so many of its calls.
+fn add_node(text: &mut Vec<u8>, node: u8, step: u8) -> Result<(), NoMemory>
+    requires node { node < 100 }
+    requires step { step < 100 }
+{
+    text.extend_from_slice(b"node ")?;
+    add_number(text, node)?;
+    text.extend_from_slice(b"\n0 c0 ")?;
+    add_number(text, step)?;
+    let passes = [
+        " pass input=dvr first=0 count=1 at=0 = passed",
+        "1 feed 0 pass input=frontend first=0 count=2 at=0 = passed",
+        "2 feed 1 end = passed",
+    ];
+    add_lines(text, &passes)
+}
+
+// The report of that session, with another line in this place of its first lines.
+fn played_text(alloc: Global, place: usize, line: &'static str) -> Result<Vec<u8>, NoMemory> {
+    let mut text = Vec::new(alloc);
+    if let Some(head) = REPORT.get(..4) {
+        add_lines(&mut text, head)?;
+    }
+    for (number, same) in PLAYING.iter().enumerate() {
+        add_lines(&mut text, &[if number == place { line } else { *same }])?;
+    }
+    for node in 1..32 {
+        add_node(&mut text, node, node + 4)?;
+    }
+    add_lines(&mut text, &PLAYED)?;
+    Ok(text)
+}
+
+// How the packet begins, a line in this place of the report's first lines, and the line and the kind of the first fault.
+type PlayedRow = (&'static str, usize, &'static str, Option<(u64, FaultKind)>);
+
+const PLAYED_ROWS: &[PlayedRow] = &[
+    ("47010017", 0, "client 0", None),
+    // one byte of the packet is another
+    ("47010016", 0, "client 0", Some((16, FaultKind::Reply))),
+    (
+        "47010017",
+        11,
+        "4 c0 36 read 4 at=0 = data 47010010",
+        Some((16, FaultKind::Reply)),
+    ),
+    // the client has no second packet
+    (
+        "47010017",
+        9,
+        "2 c0 4 pass input=dvr first=1 count=1 at=0 = passed",
+        Some((14, FaultKind::Place)),
+    ),
+    // a packet that isn't whole passes no node
+    ("470100", 0, "client 0", Some((14, FaultKind::Place))),
+];
+
+// The number of the first row with another answer than is wanted.
+fn odd_played(alloc: Global) -> Result<Option<usize>, NoMemory> {
+    for (number, (header, place, line, wanted)) in PLAYED_ROWS.iter().enumerate() {
+        let script = playing(alloc, header)?;
+        let text = played_text(alloc, *place, *line)?;
+        let wanted = wanted.map(|(line, kind)| Fault { line, kind });
+        if asked(alloc, &script, &text)? != Some((wanted, wanted.is_none())) {
+            return Ok(Some(number));
+        }
+    }
+    Ok(None)
+}
+
+#[test]
+fn what_clients_write_is_played_again(rt: HostRuntime) -> Result<(), NoMemory> {
+    let odd = odd_played(rt.alloc())?;
     assert_eq!(rt; odd, None);
     Ok(())
 }

@@ -1,11 +1,11 @@
 //! Told histories, played again. What is told was worked out by hand from the rules.
 
-ghost use Rattle.std.specs.Prelude.{◌≡◌, ◌<◌, [], map, true, All};
+ghost use Rattle.std.specs.Prelude.{◌≡◌, ◌<◌, map, true, IfOk, All};
 ghost use Rattle.dmx_calls.specs.Calls.{told_entry};
-ghost use Rattle.history_check.specs.Playing.{IsCallable, IsToldBy};
+ghost use Rattle.history_check.specs.Playing.{AreFewPackets, IsCallable, IsToldBy, brought_from};
 
 use crate::tests::told::{DONE, Made, Row, Said, data, entry_of};
-use dmx_calls::{Act, Answer, Call, Entry, Errno, PollError, SharedReply, Told};
+use dmx_calls::{Act, Answer, Call, Entry, Errno, Input, PollError, SharedReply, Told};
 use dvr_core::DvrCore;
 use history_check::is_played;
 use machine::Machine;
@@ -19,6 +19,9 @@ use ts_packet::{Packet, PacketBuf, PacketRoom};
 // The packets of the stream: the PID is 256 or 257, and the counter.
 static STREAM: [(u8, u8); 5] = [(0, 0), (1, 0), (0, 1), (0, 2), (0, 3)];
 
+// The packets that each caller plays: the feeder none.
+static PLAYED: [&[(u8, u8)]; 3] = [&[], &[(0, 7), (1, 0)], &[(0, 8)]];
+
 // The 188 bytes of a packet, whose payload's are its counter and 0x20 more.
 fn bytes_of(pid: u8, counter: u8) -> [u8; 188] {
     let mut bytes = [0x20 + counter % 16; 188];
@@ -29,9 +32,10 @@ fn bytes_of(pid: u8, counter: u8) -> [u8; 188] {
     bytes
 }
 
-fn stream() -> PacketBuf {
+// The packets of these PIDs and counters.
+fn packets_of(rows: &[(u8, u8)]) -> PacketBuf {
     let mut packets = PacketBuf::new();
-    for (pid, counter) in STREAM.iter() {
+    for (pid, counter) in rows {
         if let Some(packet) = Packet::of(bytes_of(*pid, *counter)) {
             if packets.len() < 64 {
                 packets.push(packet);
@@ -41,29 +45,73 @@ fn stream() -> PacketBuf {
     packets
 }
 
-// Whether a call can be made again.
-fn is_callable(packets: &[Packet], act: &Act) -> bool
-    ensures { result ≡ true → IsCallable packets.now act.now }
+// The packets of these PIDs and counters, as a caller plays them.
+fn played_of(alloc: Global, rows: &[(u8, u8)]) -> Result<Vec<Packet>, NoMemory>
+    ensures { IfOk result (λ own. AreFewPackets own.items) }
+{
+    let packets = packets_of(rows);
+    let mut own = Vec::new(alloc);
+    own.extend_from_slice(packets.as_slice())?;
+    Ok(own)
+}
+
+// What the callers play.
+fn played(alloc: Global) -> Result<Vec<Vec<Packet>>, NoMemory>
+    ensures { IfOk result (λ all. All AreFewPackets (map (λ p. p.items) all.items)) }
+{
+    let mut all = Vec::new(alloc);
+    'callers: for rows in PLAYED.iter() {
+        let own = played_of(alloc, rows)?;
+        all.push(own)?;
+    }
+    Ok(all)
+}
+
+// The packets of which a caller's passes bring some.
+#[tactic(auto, using(history_check::proofs::Sources::at_caller, history_check::proofs::Sources::at_none))]
+fn source<'a>(
+    stream: &'a [Packet],
+    played: &'a [Vec<Packet>],
+    who: u32,
+    input: Input,
+) -> &'a [Packet]
+    ensures { result.now ≡ brought_from stream.now (map (λ p. p.items) played.now) who input }
+{
+    match input {
+        Input::Frontend => stream,
+        Input::Dvr => match played.get(who as usize) {
+            None => &[],
+            Some(packets) => packets.as_slice(),
+        },
+    }
+}
+
+// Whether a caller's call can be made again.
+fn is_callable(stream: &[Packet], played: &[Vec<Packet>], who: u32, act: &Act) -> bool
+    ensures { result ≡ true → IsCallable (brought_from stream.now (map (λ p. p.items) played.now) who) act.now }
 {
     match act {
         Act::Read { count, .. } => *count <= 65_536,
-        Act::Pass { first, count, .. } => {
-            *count > 0
-                && *count <= 64
-                && *first <= 64
-                && *first + u64::from(*count) <= packets.len() as u64
+        Act::Pass {
+            input,
+            first,
+            count,
+            ..
+        } => {
+            let most = source(stream, played, who, *input).len() as u64;
+            *count > 0 && *count <= 64 && *first <= 64 && *first + u64::from(*count) <= most
         }
         _ => true,
     }
 }
 
-fn are_callable(packets: &[Packet], entries: &[Entry]) -> bool
-    ensures { result ≡ true → All (λ e. IsCallable packets.now e.act) (map told_entry entries.now) }
+fn are_callable(stream: &[Packet], played: &[Vec<Packet>], entries: &[Entry]) -> bool
+    ensures { result ≡ true → All (λ e. IsCallable (brought_from stream.now (map (λ p. p.items) played.now) e.who) e.act) (map told_entry entries.now) }
 {
     match entries.split_first() {
         None => true,
-        Some((first, later)) => is_callable(packets, &first.act.act())
-            && are_callable(packets, later),
+        Some((first, later)) => is_callable(stream, played, first.who, &first.act.act())
+            && are_callable(stream, played, later),
     }
 }
 
@@ -78,14 +126,16 @@ fn plays_with<M: Machine<Call = Call, Answer = Answer, Entry = Told> + Drop, L: 
     requires begun { M.stands_for core [] }
     requires ledger { (blank.name ≡ L.name) × (blank.parts ≡ L.parts) × (0 < L.parts) }
 {
-    let stream = stream();
+    let stream = packets_of(&STREAM);
     let packets = stream.as_slice();
-    if entries.len() > 1_000_000 || !are_callable(packets, entries) {
+    let all = played(alloc)?;
+    let played = all.as_slice();
+    if entries.len() > 1_000_000 || !are_callable(packets, played, entries) {
         return Ok(None);
     }
     let mut core = core;
     let mut steps: Steps<L> = Steps::new(blank);
-    let is = is_played(alloc, &mut core, packets, entries, &mut steps)?;
+    let is = is_played(alloc, &mut core, packets, played, entries, &mut steps)?;
     Ok(Some(is))
 }
 
@@ -218,6 +268,21 @@ const RECORDING: &[Row] = &[
     (1, Made::Close, DONE),
 ];
 
+const PLAYING: &[Row] = &[
+    (1, Made::Open, DONE),
+    (1, Made::Written(256), DONE),
+    (1, Made::Start(0), DONE),
+    // nothing of the stream is taken
+    (0, Made::Pass(0, 3), Said::Passed),
+    (1, Made::Play(0, 1), Said::Passed),
+    // what another client writes is taken too
+    (2, Made::Play(0, 1), Said::Passed),
+    (1, Made::Play(1, 1), Said::Passed),
+    (1, Made::Read(0, 4), Said::Data(&[0x47, 1, 0, 0x17])),
+    (1, Made::Poll(0), Said::Ready(true, QUIET, 4, false)),
+    (1, Made::Close, Said::Done(4, 376)),
+];
+
 const DVR: &[Row] = &[
     (1, Made::Open, DONE),
     (1, Made::Attach(0, &[256]), DONE),
@@ -239,6 +304,7 @@ const RIGHT: &[(Kind, &[Row])] = &[
     (Kind::Demux, DEMUX),
     (Kind::Demux, TIMEOUT),
     (Kind::Demux, RECORDING),
+    (Kind::Demux, PLAYING),
     (Kind::Dvr, &[]),
     (Kind::Dvr, DVR),
 ];
@@ -362,6 +428,20 @@ const OTHER_RECORDING: &[Changed] = &[
     (5, Change::Said(Said::Attach(&[]))),
 ];
 
+const OTHER_PLAYING: &[Changed] = &[
+    (1, Change::Made(Made::Whole(256))),
+    (1, Change::Made(Made::Written(257))),
+    (4, Change::Made(Made::Play(1, 1))),
+    (4, Change::Made(Made::Pass(0, 1))),
+    (4, Change::Caller(2)),
+    (4, Change::Later),
+    (5, Change::Made(Made::Pass(0, 1))),
+    (6, Change::Made(Made::Play(0, 1))),
+    (7, Change::Said(Said::Data(&[0x47, 1, 0, 0x10]))),
+    (7, Change::Said(Said::Data(&[0x47, 1, 0, 0x16]))),
+    (9, Change::Said(Said::Done(4, 188))),
+];
+
 const OTHER_DVR: &[Changed] = &[
     (0, Change::Caller(2)),
     (1, Change::Made(Made::Attach(0, &[258]))),
@@ -383,6 +463,7 @@ const WRONG: &[(Kind, &[Row], &[Changed])] = &[
     (Kind::Demux, DEMUX, OTHER_DEMUX),
     (Kind::Demux, TIMEOUT, OTHER_TIMEOUT),
     (Kind::Demux, RECORDING, OTHER_RECORDING),
+    (Kind::Demux, PLAYING, OTHER_PLAYING),
     (Kind::Dvr, DVR, OTHER_DVR),
 ];
 

@@ -19,6 +19,8 @@ pub enum Made {
     Whole(u16),
     /// A filter that records by a tap: the PID.
     Record(u16),
+    /// A filter of whole packets that clients write: the PID.
+    Written(u16),
     /// A filter of all sections: the PID, the timeout.
     Sections(u16, u32),
     /// The PID that is added.
@@ -33,8 +35,10 @@ pub enum Made {
     Read(u64, u32),
     /// The moment.
     Poll(u64),
-    /// The number of the first packet, how many there are.
+    /// Packets of the stream: the number of the first, how many there are.
     Pass(u64, u32),
+    /// Packets that the caller plays: the number of the first, how many there are.
+    Play(u64, u32),
     /// The stream has ended.
     End,
     /// The demux node, the PIDs.
@@ -87,16 +91,26 @@ fn pids_of(pids: &[u16]) -> Pids {
     set
 }
 
-// A filter of packets of the frontend, to be started.
-fn packets_of(pid: u16, output: Output) -> Act {
+// A filter of packets of this input, to be started.
+fn packets_of(pid: u16, input: Input, output: Output) -> Act {
     let params = PesParams {
         pid,
-        input: Input::Frontend,
+        input,
         output,
         pes_type: 20,
         flags: 0,
     };
     Act::SetPes { params, now: 0 }
+}
+
+// The pass of so many packets.
+fn pass_of(input: Input, first: u64, count: u32) -> Act {
+    Act::Pass {
+        input,
+        first,
+        count,
+        now: 0,
+    }
 }
 
 // A filter of all sections, to be started.
@@ -121,8 +135,9 @@ pub fn act_of(made: Made) -> Act {
     match made {
         Made::Open => Act::Open,
         Made::Close => Act::Close,
-        Made::Whole(pid) => packets_of(pid, Output::TsdemuxTap),
-        Made::Record(pid) => packets_of(pid, Output::TsTap),
+        Made::Whole(pid) => packets_of(pid, Input::Frontend, Output::TsdemuxTap),
+        Made::Record(pid) => packets_of(pid, Input::Frontend, Output::TsTap),
+        Made::Written(pid) => packets_of(pid, Input::Dvr, Output::TsdemuxTap),
         Made::Sections(pid, timeout) => sections_of(pid, timeout),
         Made::Add(pid) => Act::AddPid(pid),
         Made::Start(now) => Act::Start { now },
@@ -130,12 +145,8 @@ pub fn act_of(made: Made) -> Act {
         Made::Size(size) => Act::SetSize(size),
         Made::Read(now, count) => Act::Read { now, count },
         Made::Poll(now) => Act::Poll { now },
-        Made::Pass(first, count) => Act::Pass {
-            input: Input::Frontend,
-            first,
-            count,
-            now: 0,
-        },
+        Made::Pass(first, count) => pass_of(Input::Frontend, first, count),
+        Made::Play(first, count) => pass_of(Input::Dvr, first, count),
         Made::End => Act::End,
         Made::Attach(node, pids) => Act::Attach {
             node,

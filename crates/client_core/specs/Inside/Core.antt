@@ -1,18 +1,21 @@
 -- What a client core keeps, and the replies after which it stands.
 use Rattle.std.specs.Prelude.{ℕ, false, ◌≡◌, ◌≤◌, ◌*◌, ◌⊎◌, List, [], ◌∷◌, ◌++◌, length, map, Option, Some, None, option_map, All, IfSome, IfNone}
 use Rattle.dmx_calls.specs.Response.{Response, Again}
-use Rattle.client_script.specs.Grammar.{IsVerbInRange, IsTargetInRange}
-use Rattle.client_script.specs.Script.{Scripted}
+use Rattle.client_script.specs.Grammar.{IsTargetInRange}
+use Rattle.client_core.specs.Deeds.{Batches, IsDeedInRange, IsDeedOf}
+use Rattle.client_script.specs.Script.{Scripted, HasVerb}
+use Rattle.client_script.specs.declared.line.Line.{Line}
+use Rattle.client_script.specs.declared.line.Line.TheVariants.{Command as CommandLine}
 use Rattle.client_core.specs.declared.command.Command.{Command}
 use Rattle.dmx_calls.specs.declared.outcome.Outcome.{Outcome}
 use Rattle.client_core.specs.declared.event.Event.{Event}
 use Rattle.client_core.specs.declared.machine.Current.{Current}
-use Rattle.client_core.specs.Commands.{Doing, stands, through, Slots}
+use Rattle.client_core.specs.Commands.{Doing, stands, through, Slots, plays_of}
 use Rattle.client_core.specs.Events.{Ended, Progress, with_ended, slots_after, progress_from, waits_after, waits_on, progress}
 use Rattle.client_core.specs.Stc.{Exchange, with_reply, exchanges}
 use Rattle.client_core.specs.Outcomes.{outcome_by, outcome_of}
 use Rattle.client_core.specs.Inside.Clocks.{NodeClock, counter_in, HaveFollowed, AreFew}
-use Rattle.client_core.specs.Inside.Tasks.{resumed, IsTaskInRange, IsCallEnding, CanAsk, HasClock, AreSlots}
+use Rattle.client_core.specs.Inside.Tasks.{resumed, IsTaskInRange, IsTaskOf, IsCallEnding, CanAsk, HasClock, AreSlots}
 
 -- a command that is begun, and the commands behind it
 abbrev pub ahead : (line from : ℕ) → Slots → List Command → Doing → Progress
@@ -32,7 +35,8 @@ abbrev pub behind : List Ended → Progress → Progress
 behind ended p = record { ended = ended ++ p.ended; standing = p.standing }
 
 -- What a contract sees of a core: the commands that aren't begun, the one that is, the slots, how many replies were
--- taken, the node on which it waits, the clocks that it keeps, and the outcomes of the commands that are through.
+-- taken, the node on which it waits, the clocks that it keeps, the batches of its writes, and the outcomes of the commands
+-- that are through.
 pub record Core : Type 0 where
   pub left : List Command
   pub current : Option Current
@@ -40,6 +44,7 @@ pub record Core : Type 0 where
   pub step : ℕ
   pub waits : Option ℕ
   pub clocks : List NodeClock
+  pub plays : Batches
   pub outcomes : List Outcome
 
 -- how far the client comes from here on by these replies
@@ -47,11 +52,20 @@ abbrev pub coming : Core → List Response → Progress
 coming c replies = coming_from c.current c.step c.slots c.left replies
 
 abbrev pub IsCommandInRange : Command → Type 0
-IsCommandInRange c = IsTargetInRange c.target × IsVerbInRange c.verb
+IsCommandInRange c = IsTargetInRange c.target × IsDeedInRange c.deed
 
 -- where it asks for a counter, so many kept clocks are enough
 abbrev pub CanBegin : (kept : ℕ) → Command → Type 0
-CanBegin kept c = CanAsk kept c.verb
+CanBegin kept c = CanAsk kept c.deed
+
+-- a line's command of this client names one of so many writes, if it names one
+abbrev pub IsMade : (client count : ℕ) → Line → Type 0
+IsMade client count (CommandLine line who target verb) = who ≡ client → HasVerb count verb
+IsMade client count _ = Unit {0}
+
+-- where it is to pass a batch, this is among these
+abbrev pub IsCommandOf : Batches → Command → Type 0
+IsCommandOf batches c = IsDeedOf batches c.deed
 
 abbrev pub one_if_some : {A : Type 0} → Option A → ℕ
 one_if_some None = 0
@@ -66,6 +80,9 @@ pub record IsSound (c : Core) : Type 0 where
   pub ended : IfNone c.current (c.left ≡ [])
   -- where a command asks for a counter, the clocks are kept
   pub asked : All (CanBegin (length c.clocks)) c.left
+  -- the batches that are to pass are there
+  pub played : All (IsCommandOf c.plays) c.left
+  pub playing : IfSome c.current (λ cur. IsTaskOf c.plays cur.task)
   -- a reply has at most 65,536 bytes
   pub few : AreFew (65536 * c.step) c.clocks
 
@@ -79,6 +96,7 @@ pub record IsAfter (client : ℕ) (script : Scripted) (replies : List Response) 
   pub early : All (λ e. e.from ≤ length replies) ended
   pub followed : HaveFollowed (exchanges client script replies) c.clocks
   pub steps : c.step ≡ length replies
+  pub plays : c.plays ≡ plays_of client script
   pub waits : c.waits ≡ waits_on client script replies
 
 -- the call before which it stands
@@ -100,10 +118,10 @@ pub record HasBegun (clocks : List NodeClock) (step : ℕ) (slots_before slots :
   pub told : outcomes ≡ outcomes_before ++ map (outcome_by (counter_in clocks)) passed
   pub late : All (IsLate (length clocks) step) passed
 
--- the node on which a client waits after this reply, where the read on this node is repeated
-abbrev pub waits_with : Response → (node : ℕ) → Option ℕ
-waits_with (Again false) node = Some node
-waits_with _ node = None
+-- the node on which a client waits after this reply, where its command goes on, by a read of this node if by one
+abbrev pub waits_with : Response → (read : Option ℕ) → Option ℕ
+waits_with (Again false) read = read
+waits_with _ read = None
 
 -- One reply is taken: whatever replies come, the new core goes on as the old one does where this reply comes first. The
 -- clocks have followed it, and the outcomes of the commands that are through by it are by these clocks.
@@ -115,3 +133,4 @@ pub record HasTaken (reply : Response) (old new : Core) : Type 0 where
   pub followed : (xs : List Exchange) → HaveFollowed xs old.clocks
       → HaveFollowed (with_reply (next_of old) reply xs) new.clocks
   pub waits : new.waits ≡ waits_after (coming new []).standing (reply ∷ [])
+  pub plays : new.plays ≡ old.plays

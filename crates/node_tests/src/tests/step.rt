@@ -23,7 +23,7 @@ pub enum Step {
     Decoder,
     /// A PES type.
     Type(u32),
-    /// Input DVR.
+    /// Input DVR, DMX_OUT_TS_TAP.
     FromDvr,
     /// A PES filter.
     Pes(PesParams),
@@ -109,7 +109,7 @@ fn pes_of(step: Step) -> Option<PesParams> {
         Step::Record(pid, flags) => Some(pes(pid, frontend, Output::TsTap, 20, flags)),
         Step::Decoder => Some(pes(256, frontend, Output::Decoder, 20, 0)),
         Step::Type(pes_type) => Some(pes(256, frontend, Output::Tap, pes_type, 0)),
-        Step::FromDvr => Some(pes(256, Input::Dvr, Output::Tap, 20, 0)),
+        Step::FromDvr => Some(pes(256, Input::Dvr, Output::TsTap, 20, 0)),
         _ => None,
     }
 }

@@ -1,19 +1,23 @@
 -- The parts of a report, as they are asked.
-use Rattle.std.specs.Prelude.{◌≡◌, ◌≢◌, ℕ, ◌+◌, ◌&&◌, Bool, true, List, [], ◌∷◌, length, map, nat_le, nat_lt, Vec}
-use Rattle.std.specs.List.{All}
+use Rattle.std.specs.Prelude.{◌≡◌, ◌≢◌, ℕ, ◌+◌, ◌&&◌, Bool, true, List, [], ◌∷◌, length, map, nat_le, nat_lt, slice_index_or, Vec}
+use Rattle.std.specs.List.{All, range_with_len}
 use Rattle.std.specs.declared.alloc.Global.{Global}
 use Rattle.dmx_calls.specs.declared.limits.TheConstants.{DEMUX_NODES, LARGEST_READ}
 use Rattle.dmx_calls.specs.declared.outcome.Outcome.{Outcome}
+use Rattle.dmx_calls.specs.declared.params.Input.{Input}
+use Rattle.dmx_calls.specs.declared.params.Input.TheVariants.{Frontend, Dvr as FromDvr}
 use Rattle.dmx_calls.specs.declared.log.Act.{Act}
 use Rattle.dmx_calls.specs.declared.log.Entry.{Entry as ToldEntry}
 use Rattle.dmx_calls.specs.declared.log.Act.TheVariants.{Read as ReadAct, Pass as PassAct}
 use Rattle.dmx_calls.specs.Calls.{told_entry}
 use Rattle.dmx_calls.specs.Legal.{IsLegalFor}
-use Rattle.dmx_calls.specs.Log.{LogEntry, filled}
+use Rattle.dmx_calls.specs.Log.{LogEntry, Sources, filled}
 use Rattle.dmx_calls.specs.Response.{NoMemory}
 use Rattle.dmx_calls.specs.Rules.{rules_at}
 use Rattle.client_script.specs.Script.{clients_in, Scripted}
+use Rattle.client_core.specs.Commands.{played as played_of}
 use Rattle.client_core.specs.Outcomes.{outcomes}
+use Rattle.history_check.specs.Playing.{brought_from}
 use Rattle.script_run.specs.IsRun.{replies, steps_of}
 use Rattle.report_text.specs.Told.{ToldNode, Told}
 use Rattle.report_runs.specs.Completed.{complete}
@@ -22,19 +26,29 @@ use Rattle.report_check.specs.Inside.Feeding.{feeds, IsFedAlike}
 
 -- ------ entries
 
--- whether the call can be made again: a read is no longer than a read may be, and a pass has 1 to 64 of so many packets
-abbrev pub is_callable : (packets : ℕ) → Act → Bool
-is_callable packets (ReadAct now count) = nat_le count LARGEST_READ
-is_callable packets (PassAct input first count now) = nat_lt 0 count && (nat_le count 64 && nat_le (first + count) packets)
-is_callable packets _ = true
+-- what each caller plays, by its number: the feeder nothing, and each client the packets of its writes
+abbrev pub all_played : Scripted → List (List (List ℕ))
+all_played script = [] ∷ map (λ client. played_of client script) (range_with_len 0 8)
+
+-- how many packets there are of which a caller's passes bring some, where the stream has so many, and each caller plays so many
+abbrev pub count_for : (packets : ℕ) → (counts : List ℕ) → (who : ℕ) → Input → ℕ
+count_for packets counts who Frontend = packets
+count_for packets counts who FromDvr = slice_index_or counts who 0
+
+-- whether a caller's call can be made again: a read is no longer than a read may be, and a pass has 1 to 64 of so many packets
+abbrev pub is_callable : (packets : ℕ) → (counts : List ℕ) → (who : ℕ) → Act → Bool
+is_callable packets counts who (ReadAct now count) = nat_le count LARGEST_READ
+is_callable packets counts who (PassAct input first count now) =
+    nat_lt 0 count && (nat_le count 64 && nat_le (first + count) (count_for packets counts who input))
+is_callable packets counts who _ = true
 
 -- whether the entry is one of the feeder or of so many clients, and can be made again
-abbrev pub is_sound : (clients packets : ℕ) → LogEntry → Bool
-is_sound clients packets e = nat_le e.who clients && is_callable packets e.act
+abbrev pub is_sound : (clients packets : ℕ) → (counts : List ℕ) → LogEntry → Bool
+is_sound clients packets counts e = nat_le e.who clients && is_callable packets counts e.who e.act
 
-abbrev pub are_sound : (clients packets : ℕ) → List LogEntry → Bool
-are_sound clients packets [] = true
-are_sound clients packets (e ∷ es) = is_sound clients packets e && are_sound clients packets es
+abbrev pub are_sound : (clients packets : ℕ) → (counts : List ℕ) → List LogEntry → Bool
+are_sound clients packets counts [] = true
+are_sound clients packets counts (e ∷ es) = is_sound clients packets counts e && are_sound clients packets counts es
 
 -- ------ nodes
 
@@ -46,17 +60,17 @@ abbrev pub told_nodes : List (ℕ × Vec ToldEntry Global) → List ToldNode
 told_nodes nodes = map told_node nodes
 
 -- a node with sound entries, on which the feeder's calls are the same as in these others
-abbrev pub IsSoundNode : (clients packets : ℕ) → (others : List LogEntry) → ToldNode → Type 0
-IsSoundNode clients packets others n = (are_sound clients packets n.entries ≡ true) × IsFedAlike others n.entries
+abbrev pub IsSoundNode : (clients packets : ℕ) → (counts : List ℕ) → (others : List LogEntry) → ToldNode → Type 0
+IsSoundNode clients packets counts others n = (are_sound clients packets counts n.entries ≡ true) × IsFedAlike others n.entries
 
 -- all nodes are, as the first is, on which the feeder passes so many packets
-abbrev pub AreSoundNodes : (clients packets : ℕ) → List ToldNode → Type 0
-AreSoundNodes clients packets [] = Unit {0}
-AreSoundNodes clients packets (n ∷ ns) =
-    (feeds packets 0 0 (steps_of 0 n.entries) ≡ true) × All (IsSoundNode clients packets n.entries) (n ∷ ns)
+abbrev pub AreSoundNodes : (clients packets : ℕ) → (counts : List ℕ) → List ToldNode → Type 0
+AreSoundNodes clients packets counts [] = Unit {0}
+AreSoundNodes clients packets counts (n ∷ ns) =
+    (feeds packets 0 0 (steps_of 0 n.entries) ≡ true) × All (IsSoundNode clients packets counts n.entries) (n ∷ ns)
 
 -- each reply on the node is the one that the entries before it give, and memory was found
-abbrev pub IsPlayed : (packets : List (List ℕ)) → ToldNode → Type 0
+abbrev pub IsPlayed : (packets : Sources) → ToldNode → Type 0
 IsPlayed packets n =
     IsLegalFor (rules_at n.node) (filled packets n.entries) × All (λ e. e.response ≢ NoMemory) n.entries
 
@@ -82,6 +96,6 @@ AreDoneAs script hs client (told ∷ more) = IsDoneAs script hs client told × A
 -- all that is asked of what a report tells
 pub record HasPassed (script : Scripted) (packets : List (List ℕ)) (t : Told) : Type 0 where
   pub clients : length t.outcomes ≡ clients_in script
-  pub nodes : AreSoundNodes (clients_in script) (length packets) t.nodes
+  pub nodes : AreSoundNodes (clients_in script) (length packets) (map (λ ps. length ps) (all_played script)) t.nodes
   pub done : AreDoneAs script (dealt t.nodes) 0 t.outcomes
-  pub played : All (IsPlayed packets) t.nodes
+  pub played : All (IsPlayed (brought_from packets (all_played script))) t.nodes

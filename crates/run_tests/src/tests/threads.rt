@@ -1,9 +1,10 @@
 //! Small scripts, run by threads. The replies are worked out by hand from the rules of the nodes.
 ghost use Rattle.std.specs.Prelude.{◌≤◌, true, length};
 
-use super::{comes_to, script_of, stream_of};
+use super::{comes_to, is_packet, script_in, script_of, stream_of};
 use adapter::Adapter;
-use dmx_calls::{Act, Entry, Errno, OutcomeKind, Reply};
+use client_script::Script;
+use dmx_calls::{Act, Entry, Errno, Input, OutcomeKind, Reply};
 use emu_io::{Clock, FixedClock, Gate, MemSource, NoGate};
 use feed_pull::Puller;
 use std::alloc::Global;
@@ -82,9 +83,21 @@ fn left_by<R: Threads + Wait + Sync, C: Clock + Sync, G: Gate + Sync>(
     clock: &C,
     gate: &G,
 ) -> Option<Left> {
+    let script = script_of(alloc, script)?;
+    left_by_script(rt, alloc, &script, packets, clock, gate)
+}
+
+// The same of a script that was read.
+fn left_by_script<R: Threads + Wait + Sync, C: Clock + Sync, G: Gate + Sync>(
+    rt: &R,
+    alloc: Global,
+    script: &Script,
+    packets: &[(u8, u8)],
+    clock: &C,
+    gate: &G,
+) -> Option<Left> {
     let stream = stream_of(alloc, packets).ok()?;
     let mut source = MemSource::new(stream, 100, Vec::new(alloc));
-    let script = script_of(alloc, script)?;
     let puller = Puller::new(alloc, Vec::new(alloc), 0, PacketSize::Of188).ok()?;
     let Ok((adapter, feeder, clients)) = Adapter::new(alloc, script.clients()) else {
         return None;
@@ -95,7 +108,7 @@ fn left_by<R: Threads + Wait + Sync, C: Clock + Sync, G: Gate + Sync>(
         &adapter,
         feeder,
         clients,
-        &script,
+        script,
         &mut source,
         puller,
         1,
@@ -324,4 +337,63 @@ fn a_client_waits_until_a_batch_has_passed(rt: HostRuntime) {
     let left = left_by(&rt, rt.alloc(), script, &[(0, 0), (0, 1)], &clock, &gate);
     assert_eq!(rt; gate.ran_out.load(SeqCst), 0);
     assert!(rt; matches!(&left, Some(left) if has_waited(left) && has_passed_two(left)));
+}
+
+// A script that writes a packet of PID 256, and reads what comes of it.
+fn playing(alloc: Global) -> Option<Script> {
+    let mut text = Vec::new(alloc);
+    text.extend_from_slice(
+        b"c0 open dvr\nc0 open n3\nc0 pes n3 256 dvr tsdemux_tap 20 4\nc0 write dvr 47010010",
+    ).ok()?;
+    text.extend_from_slice(&[b'0'; 368]).ok()?;
+    text.extend_from_slice(b"\nc0 read n3 188\nstream\n").ok()?;
+    script_in(alloc, &text)
+}
+
+// Whether a call is that the client's first packet passes.
+fn is_first_pass(entry: &Entry) -> bool {
+    matches!(
+        entry.act.act(),
+        Act::Pass {
+            input: Input::Dvr,
+            first: 0,
+            count: 1,
+            now: 7,
+        }
+    ) && matches!(entry.reply.told(), Reply::Passed)
+}
+
+// Whether the packet passed the 32 demux nodes behind a poll of the dvr node, and came to the filter, and nothing of the stream did.
+fn has_played(left: &Left) -> bool {
+    let [_, _, _, poll, passes @ .., read] = log_of(left, 0) else {
+        return false;
+    };
+    let Reply::Data(buf) = read.reply.told() else {
+        return false;
+    };
+    poll.node == 32
+        && passes.len() == 32
+        && passes.iter().all(is_first_pass)
+        && passes
+            .iter()
+            .zip(0..32)
+            .all(|(pass, node)| pass.node == node)
+        && is_packet(buf.bytes(), (0, 0))
+}
+
+#[test]
+fn what_a_client_writes_passes_the_demux_nodes(rt: HostRuntime) {
+    let script = playing(rt.alloc());
+    let clock = FixedClock::new(7);
+    let left = script.and_then(|script| {
+        left_by_script(
+            &rt,
+            rt.alloc(),
+            &script,
+            &[(0, 1), (0, 2)],
+            &clock,
+            &NoGate::new(),
+        )
+    });
+    assert!(rt; matches!(&left, Some(left) if has_played(left)));
 }

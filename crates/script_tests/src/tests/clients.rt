@@ -9,8 +9,8 @@ use pid_set::{KeptPids, Pids};
 use std::alloc::{AllocError as NoMemory, Global};
 use std::process::Abort;
 
-// A client of the script of these bytes, before its first call.
-fn client_of(rt: &impl Abort, alloc: Global, script: &[u8], client: u32) -> ClientCore {
+/// A client of the script of these bytes, before its first call.
+pub fn client_of(rt: &impl Abort, alloc: Global, script: &[u8], client: u32) -> ClientCore {
     assert!(rt; script.len() <= MOST_BYTES);
     let Ok(script) = Script::read(alloc, script) else {
         panic!(rt; "a fault, or no memory");
@@ -29,21 +29,21 @@ const fn done(tap: LogTap) -> LogReply {
     }
 }
 
-// The client takes a reply.
-fn take(rt: &impl Abort, core: &mut ClientCore, reply: LogReply) {
+/// The client takes a reply.
+pub fn take(rt: &impl Abort, core: &mut ClientCore, reply: LogReply) {
     assert!(rt; core.next().is_some(), "a reply to no call");
     assert!(rt; core.steps() < 1_000_000);
     core.take(&reply);
 }
 
-// The client takes a reply, and this call has to be its next.
-fn answer(rt: &impl Abort, core: &mut ClientCore, reply: LogReply, next: &Option<Event>) {
+/// The client takes a reply, and this call has to be its next.
+pub fn answer(rt: &impl Abort, core: &mut ClientCore, reply: LogReply, next: &Option<Event>) {
     take(rt, core, reply);
     assert!(rt; core.next() == *next, "the call {}", core.steps());
 }
 
-// A command that is through.
-const fn through(line: u32, from: u64, to: u64, kind: OutcomeKind) -> Outcome {
+/// A command that is through.
+pub const fn through(line: u32, from: u64, to: u64, kind: OutcomeKind) -> Outcome {
     Outcome {
         line,
         from,
@@ -52,8 +52,8 @@ const fn through(line: u32, from: u64, to: u64, kind: OutcomeKind) -> Outcome {
     }
 }
 
-// The call that a client makes next, for a command of its own.
-const fn event(step: u64, node: u32, want: Want) -> Option<Event> {
+/// The call that a client makes next, for a command of its own.
+pub const fn event(step: u64, node: u32, want: Want) -> Option<Event> {
     Some(Event {
         step,
         node,
@@ -315,7 +315,8 @@ fn is_empty_read(call: &Call, moment: u64, count: u32) -> bool {
 
 #[test]
 fn a_read_comes_with_an_empty_buffer(rt: HostRuntime) -> Result<(), Stop> {
-    let call = call_of(rt.alloc(), &Request::Own(Want::Read(65_536)), 9)?;
+    let core = client_of(&rt, rt.alloc(), b"stream\n", 0);
+    let call = call_of(rt.alloc(), &core, &Request::Own(Want::Read(65_536)), 9)?;
     assert!(rt; is_empty_read(&call, 9, 65_536));
     Ok(())
 }

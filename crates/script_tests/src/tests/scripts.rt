@@ -227,7 +227,7 @@ fn printed(alloc: Global, bytes: &[u8]) -> Result<Vec<u8>, Fail> {
     let mut out = Vec::new(alloc);
     if let Ok(script) = read(alloc, bytes)? {
         for line in script.lines() {
-            print(alloc, line, &mut out)?;
+            print(alloc, line, &script, &mut out)?;
         }
     }
     Ok(out)
@@ -298,8 +298,46 @@ fn places_of_zeros_are_not_printed(rt: HostRuntime) -> Result<(), Fail> {
 #[test]
 fn a_line_is_printed_behind_what_is_there(rt: HostRuntime) -> Result<(), Fail> {
     let mut out = joined(rt.alloc(), &[b"feed 1\n"])?;
-    print(rt.alloc(), &Line::Tick(20), &mut out)?;
+    let script = Script::read(rt.alloc(), b"stream\n")?;
+    print(rt.alloc(), &Line::Tick(20), &script, &mut out)?;
     assert_eq!(rt; out.as_slice(), b"feed 1\ntick 20\n".as_slice());
+    Ok(())
+}
+
+// Whether a line `write` with so many bytes of this kind is read, and printed as it was spelled.
+fn is_written(alloc: Global, count: usize, line: &[u8]) -> Result<bool, Fail> {
+    let digits = repeated(alloc, b'7', 2 * count)?;
+    let line = joined(alloc, &[line, &digits])?;
+    is_its_spelling(alloc, &line)
+}
+
+#[test]
+fn a_write_has_1_to_12032_bytes(rt: HostRuntime) -> Result<(), Fail> {
+    for (count, is) in [(0, false), (1, true), (12_032, true), (12_033, false)] {
+        assert_eq!(rt;
+            is_written(rt.alloc(), count, b"c3 write dvr ")?,
+            is,
+            "{count}"
+        );
+    }
+    let command: &[u8] = b"c3 write dvr ";
+    let digits = repeated(rt.alloc(), b'7', 24_066)?;
+    assert!(rt; line_has_fault(rt.alloc(), &[command, &digits], FaultKind::Bytes)?);
+    Ok(())
+}
+
+#[test]
+fn a_script_has_the_bytes_of_its_writes(rt: HostRuntime) -> Result<(), Fail> {
+    let bytes = b"c0 write dvr 01\nc7 write dvr 02\nfeed 1\nc0 write dvr 03ff\nstream\n";
+    let script = Script::read(rt.alloc(), bytes)?;
+    assert_eq!(rt;
+        (script.writes(0), script.writes(1), script.writes(7)),
+        (2, 0, 1)
+    );
+    assert_eq!(rt;
+        printed(rt.alloc(), bytes)?.as_slice(),
+        &bytes[..bytes.len() - 7]
+    );
     Ok(())
 }
 

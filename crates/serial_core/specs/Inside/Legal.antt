@@ -1,8 +1,10 @@
 -- What holds of the 33 histories of a run.
-use Rattle.std.specs.Prelude.{ℕ, ◌≡◌, ◌+◌, List, map, replicate, All}
+use Rattle.std.specs.Prelude.{ℕ, ◌≡◌, ◌+◌, List, [], ◌∷◌, ◌++◌, map, replicate, All}
 use Rattle.std.specs.List.{range_with_len}
 use Rattle.dmx_calls.specs.declared.limits.TheConstants.{DEMUX_NODES}
-use Rattle.dmx_calls.specs.History.{brought_by}
+use Rattle.dmx_calls.specs.declared.params.Input.TheVariants.{Frontend}
+use Rattle.dmx_calls.specs.Invocation.{Invocation, Pass}
+use Rattle.dmx_calls.specs.History.{History}
 use Rattle.dmx_calls.specs.Rules.{rules_at}
 use Rattle.dmx_calls.specs.Legal.{IsLegalFor}
 use Rattle.serial_core.specs.Nodes.{Node, history_of}
@@ -13,10 +15,20 @@ pub record AreLegal (r : Run) : Type 0 where
   pub numbers : map (λ node. node.number) r.nodes ≡ range_with_len 0 (DEMUX_NODES + 1)
   pub legal : All (λ node. IsLegalFor (rules_at node.number) (history_of node)) r.nodes
 
--- the packets of all passes on a node, in the order of the passes
-abbrev pub packets_through : Node → List (List ℕ)
-packets_through node = brought_by (history_of node)
+-- the packets that a call brings of the front end, which are the stream's; what a client plays comes from the dvr
+abbrev pub from_frontend : Invocation → List (List ℕ)
+from_frontend (Pass Frontend first packets now) = packets
+from_frontend _ = []
 
--- just these packets have passed each of the 33 nodes, each once and in their order
+-- those that these calls bring, in the order of the calls
+abbrev pub fed_by : History → List (List ℕ)
+fed_by [] = []
+fed_by (entry ∷ history) = fed_by history ++ from_frontend entry.invocation
+
+-- the packets of all passes of the front end on a node
+abbrev pub packets_through : Node → List (List ℕ)
+packets_through node = fed_by (history_of node)
+
+-- just these packets of the front end have passed each of the 33 nodes, each once and in their order
 abbrev pub HavePassed : (packets : List (List ℕ)) → Run → Type 0
 HavePassed packets r = map packets_through r.nodes ≡ replicate (DEMUX_NODES + 1) packets

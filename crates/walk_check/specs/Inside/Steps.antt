@@ -4,6 +4,7 @@ use Rattle.dmx_calls.specs.declared.log.Act.{Act}
 use Rattle.dmx_calls.specs.declared.log.Act.TheVariants.{SetFilter as SetFilterAct, SetPes as SetPesAct, Start as StartAct, Read as ReadAct, Poll as PollAct, Pass as PassAct}
 use Rattle.dmx_calls.specs.Log.{LogEntry, act_of}
 use Rattle.client_core.specs.declared.event.Request.{Request}
+use Rattle.client_core.specs.Deeds.{Batches}
 use Rattle.client_core.specs.Commands.{call_of}
 
 -- the moment of a call; 0 where it has none
@@ -16,9 +17,9 @@ moment_in (PollAct now) = now
 moment_in (PassAct input first count now) = now
 moment_in _ = 0
 
--- the call that is asked for, made at the moment of this one
-abbrev pub asked_at : Request → Act → Act
-asked_at request act = act_of (call_of request (moment_in act))
+-- the call that is asked for by a client that plays these batches, made at the moment of this one
+abbrev pub asked_at : Batches → Request → Act → Act
+asked_at batches request act = act_of (call_of batches request (moment_in act))
 
 -- an entry was taken from the front of a node's queue, and nothing else
 pub record IsTaken (node : ℕ) (e : LogEntry) (old new : List (List LogEntry)) : Type 0 where

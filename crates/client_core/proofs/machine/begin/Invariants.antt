@@ -8,7 +8,8 @@ use Rattle.client_core.specs.Events.{Ended, progress_from}
 use Rattle.client_core.specs.Outcomes.{outcome_by}
 use Rattle.client_core.specs.Inside.Tasks.{AreSlots}
 use Rattle.client_core.specs.Inside.Clocks.{NodeClock, counter_in}
-use Rattle.client_core.specs.Inside.Core.{behind, IsLate, IsCommandInRange, CanBegin}
+use Rattle.client_core.specs.Deeds.{Batches}
+use Rattle.client_core.specs.Inside.Core.{behind, IsLate, IsCommandInRange, IsCommandOf, CanBegin}
 use Rattle.client_core.proofs.machine.begin.Given as goal
 
 -- the commands that were begun are through, and the client goes on as at first
@@ -20,6 +21,7 @@ pub record Beginning (clocks : List NodeClock) (step : ℕ) (slots_before slots 
   pub ranges : All IsCommandInRange left
   pub asked : All (CanBegin (length clocks)) left
   pub bound : AreSlots slots
+  pub played : (batches : Batches) → All (IsCommandOf batches) left_before → All (IsCommandOf batches) left
   pub enough : length outcomes + length left ≤ room
 
 abbrev pub invariant-commands : goal.invariant-commands

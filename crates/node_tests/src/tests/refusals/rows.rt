@@ -105,6 +105,9 @@ pub const SETS: &[Row] = &[
     (Sections, sections!(256, 263), NOT_DVR),
     (Sections, packets!(256, Frontend, Tap, 20, 256), NOT_DVR),
     (SEVERAL, packets!(256, Frontend, TsTap, 20, 260), NOT_DVR),
+    // what is played through the dvr, but for its recording
+    (Sections, packets!(256, Dvr, Tap, 20, 0), NOT_DVR),
+    (SEVERAL, packets!(256, Dvr, TsdemuxTap, 20, 4), NOT_DVR),
 ];
 
 /// PIDs that are added and removed.
@@ -176,7 +179,6 @@ pub const OUT_OF_RANGE: &[Row] = &[
     (Sections, sections!(256, 768), REFUSED),
     (SEVERAL, sections!(256, 4_294_967_295), REFUSED),
     (SEVERAL, packets!(8193, Frontend, Tap, 20, 0), REFUSED),
-    (SEVERAL, packets!(256, Dvr, Tap, 20, 0), REFUSED),
     (SEVERAL, packets!(256, Dvr, TsTap, 20, 0), REFUSED),
     (SEVERAL, packets!(256, Frontend, Decoder, 20, 0), REFUSED),
     (SEVERAL, packets!(256, Frontend, Tap, 21, 0), REFUSED),

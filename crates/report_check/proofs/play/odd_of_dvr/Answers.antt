@@ -7,7 +7,7 @@ use Rattle.report_check.proofs.Playing.{dvr_plays}
 use Rattle.report_check.proofs.play.odd_of_dvr.Goals as goal
 
 pub is_played-requires-clause-callable : goal.is_played-requires-clause-callable
-is_played-requires-clause-callable g c lives within = can_all c.requires.sound.0 c.args.packets.now (map told_entry c.args.entries.now) c.requires.sound.1
+is_played-requires-clause-callable g c lives within = can_all c.args.packets.now (map (λ p. p.items) c.args.played.now) c.requires.sound.0 (map told_entry c.args.entries.now) c.requires.sound.1
 
 pub returns-then-branch : goal.returns-then-branch
 returns-then-branch g c = (

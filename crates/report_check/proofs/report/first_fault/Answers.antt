@@ -1,7 +1,5 @@
 use Rattle.std.proofs.Common.{◌<◌, ◌^◌, List, ℕ, length, subst}
 use Rattle.ts_watch.specs.Head.{told_head}
-use Rattle.std.specs.List.{All}
-use Rattle.client_script.specs.Grammar.{IsInRange}
 use Rattle.report_read.specs.Report.{told_of, IsNoReport, IsReport}
 use Rattle.report_check.specs.Inside.Parts.{HasPassed}
 use Rattle.report_check.proofs.Checking.{right, no_report, other_head, not_passed}
@@ -33,12 +31,11 @@ returns-in-None c =
     let report : IsReport (told_of c.in-Some.told) c.args.bytes.now = rw c.in-Some.is at c.in_ok-told.ensures in
     let Passed : Type 0 = HasPassed c.args.script.now c.args.packets.now (told_of c.in-Some.told) in
     let passed : HasPassed c.args.script.now c.args.packets.now (told_of c.in-Some.told) = at_none c.in_ok-odd_part.field-0 Passed (Passed → ⊥) c.in_ok-odd_part.ensures c.in-None.is in
-    right c.args.script.now c.args.packets.now (told_head c.args.head.now) c.args.bytes.now (told_of c.in-Some.told) report (c.is_same_head.ensures.same c.if-not-is_same_head.false) c.requires.count passed
+    right c.args.script.now c.lines-lines.ensures.known.clients c.args.packets.now (told_head c.args.head.now) c.args.bytes.now (told_of c.in-Some.told) report (c.is_same_head.ensures.same c.if-not-is_same_head.false) c.requires.count passed
 
 pub returns : goal.returns
 returns c r =
     let report : IsReport (told_of c.in-Some.told) c.args.bytes.now = rw c.in-Some.is at c.in_ok-told.ensures in
     let Passed : Type 0 = HasPassed c.args.script.now c.args.packets.now (told_of c.in-Some.told) in
     let never : HasPassed c.args.script.now c.args.packets.now (told_of c.in-Some.told) → ⊥ = at_some c.in_ok-odd_part.field-0 c.in-Some-2.odd Passed (Passed → ⊥) c.in_ok-odd_part.ensures c.in-Some-2.is in
-    let ranges : All IsInRange c.args.script.now.lines = c.lines-lines.ensures.known.ranges in
-    not_passed c.args.script.now c.args.packets.now (told_head c.args.head.now) c.args.bytes.now (told_of c.in-Some.told) report ranges never r
+    not_passed c.args.script.now c.args.packets.now (told_head c.args.head.now) c.args.bytes.now (told_of c.in-Some.told) report c.lines-lines.ensures.known never r

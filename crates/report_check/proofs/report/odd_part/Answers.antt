@@ -1,4 +1,4 @@
-use Rattle.std.proofs.Common.{◌≡◌, ◌<◌, ◌^◌, List, map, length, sym, subst, arith}
+use Rattle.std.proofs.Common.{◌≡◌, ◌<◌, ◌^◌, ◌∙◌, ℕ, List, map, length, sym, ap, subst, arith}
 use Rattle.std.proofs.lemmas.List.{length-map}
 use Rattle.std.specs.Prelude.{IfOk, MatchOption, Vec}
 use Rattle.std.specs.declared.alloc.Global.{Global}
@@ -7,7 +7,8 @@ use Rattle.std.specs.List.{All}
 use Rattle.client_script.specs.Script.{clients_in}
 use Rattle.report_text.specs.Told.{ToldNode}
 use Rattle.report_read.specs.Report.{told_of}
-use Rattle.report_check.specs.Inside.Parts.{told_nodes, AreSoundNodes, IsPlayed, dealt, AreDoneAs, HasPassed}
+use Rattle.history_check.specs.Playing.{AreFewPackets, brought_from}
+use Rattle.report_check.specs.Inside.Parts.{all_played, told_nodes, AreSoundNodes, IsPlayed, dealt, AreDoneAs, HasPassed}
 use Rattle.walk_check.specs.Inside.Steps.{left_on}
 use Rattle.report_check.proofs.Dealt.{Node}
 use Rattle.report_check.proofs.Few.{few_left}
@@ -23,8 +24,10 @@ returns-then-len-clients c passed =
 
 pub returns-in-Some : goal.returns-in-Some
 returns-in-Some c passed =
-    let there : AreSoundNodes (clients_in c.args.script.now) (length c.args.packets.now) (told_nodes c.args.told.now.nodes.items) = passed.nodes in
-    c.in-Some.ensures (rw (c.clients-clients.ensures.count, c.deref.ensures.value) there)
+    let there : AreSoundNodes (clients_in c.args.script.now) (length c.args.packets.now) (map (λ ps. length ps) (all_played c.args.script.now)) (told_nodes c.args.told.now.nodes.items) = passed.nodes in
+    let counts : map (λ ps. length ps) (map (λ p. p.items) c.as_slice-played.result.now) ≡ map (λ ps. length ps) (all_played c.args.script.now) =
+    ap (λ (xs : List (Vec (List ℕ) Global)). map (λ ps. length ps) (map (λ p. p.items) xs)) c.as_slice-played.ensures.value ∙ ap (λ (xs : List (List (List ℕ))). map (λ ps. length ps) xs) c.in_ok-all.ensures.played in
+    c.in-Some.ensures (rw (c.clients-clients.ensures.count, c.deref.ensures.value, counts) there)
 
 pub odd_client-requires-clause-few : goal.odd_client-requires-clause-few
 odd_client-requires-clause-few c =
@@ -43,13 +46,19 @@ odd_play-requires-clause-nodes c = rw c.deref-4.ensures.value (bounds (told_of c
 
 pub odd_play-requires-clause-sound : goal.odd_play-requires-clause-sound
 odd_play-requires-clause-sound c =
-    let sound : AreSoundNodes c.clients-clients.result (length c.args.packets.now) (told_nodes c.args.told.now.nodes.items) = rw c.deref.ensures.value at c.in_default.ensures in
-    (c.clients-clients.result, rw c.deref-4.ensures.value (sound_all c.clients-clients.result (length c.args.packets.now) (told_nodes c.args.told.now.nodes.items) sound))
+    let counts : List ℕ = map (λ ps. length ps) (map (λ p. p.items) c.as_slice-played.result.now) in
+    let sound : AreSoundNodes c.clients-clients.result (length c.args.packets.now) counts (told_nodes c.args.told.now.nodes.items) = rw c.deref.ensures.value at c.in_default.ensures in
+    (c.clients-clients.result, rw c.deref-4.ensures.value (sound_all c.clients-clients.result (length c.args.packets.now) counts (told_nodes c.args.told.now.nodes.items) sound))
+
+pub odd_play-requires-clause-played : goal.odd_play-requires-clause-played
+odd_play-requires-clause-played c =
+    subst (λ (xs : List (Vec (List ℕ) Global)). All AreFewPackets (map (λ p. p.items) xs)) (sym c.as_slice-played.ensures.value) c.in_ok-all.ensures.few
 
 pub returns : goal.returns
 returns c =
     let ns : List ToldNode = told_nodes c.args.told.now.nodes.items in
-    let sound : AreSoundNodes (clients_in c.args.script.now) (length c.args.packets.now) (told_nodes c.args.told.now.nodes.items) = rw (c.clients-clients.ensures.count, c.deref.ensures.value) at c.in_default.ensures in
+    let all : map (λ p. p.items) c.as_slice-played.result.now ≡ all_played c.args.script.now = ap (λ (xs : List (Vec (List ℕ) Global)). map (λ p. p.items) xs) c.as_slice-played.ensures.value ∙ c.in_ok-all.ensures.played in
+    let sound : AreSoundNodes (clients_in c.args.script.now) (length c.args.packets.now) (map (λ ps. length ps) (all_played c.args.script.now)) (told_nodes c.args.told.now.nodes.items) = rw (c.clients-clients.ensures.count, c.deref.ensures.value, all) at c.in_default.ensures in
     let Done : List Node → List (Vec Outcome Global) → Type 0 = λ ns os. AreDoneAs c.args.script.now (dealt (told_nodes ns)) 0 (map (λ o. o.items) os) in
     let there : Done c.deref-2.result.now c.deref-3.result.now =
     at_none c.in_ok-odd.field-0 (Done c.deref-2.result.now c.deref-3.result.now) (Done c.deref-2.result.now c.deref-3.result.now → ⊥) c.in_ok-odd.ensures c.in_default-2.is in
@@ -57,6 +66,6 @@ returns c =
     subst (λ (ns : List Node). Done ns c.args.told.now.outcomes.items) c.deref-2.ensures.value (subst (λ (os : List (Vec Outcome Global)). Done c.deref-2.result.now os) c.deref-3.ensures.value there) in
     let same : length c.args.told.now.outcomes.items ≡ clients_in c.args.script.now = omega (arith, c.if-len-clients.false, c.args.told.now.outcomes.ok.0) in
     let clients : length (map (λ o. o.items) c.args.told.now.outcomes.items) ≡ clients_in c.args.script.now = rw length-map same in
-    let played : IfOk c.odd_play.result (λ odd. MatchOption odd (All (IsPlayed c.args.packets.now) (told_nodes c.args.told.now.nodes.items)) (λ _. All (IsPlayed c.args.packets.now) (told_nodes c.args.told.now.nodes.items) → ⊥)) = rw c.deref-4.ensures.value at c.odd_play.ensures in
-    ok_by_other c.odd_play.result (All (IsPlayed c.args.packets.now) (told_nodes c.args.told.now.nodes.items)) (HasPassed c.args.script.now c.args.packets.now (told_of c.args.told.now))
+    let played : IfOk c.odd_play.result (λ odd. MatchOption odd (All (IsPlayed (brought_from c.args.packets.now (all_played c.args.script.now))) (told_nodes c.args.told.now.nodes.items)) (λ _. All (IsPlayed (brought_from c.args.packets.now (all_played c.args.script.now))) (told_nodes c.args.told.now.nodes.items) → ⊥)) = rw (c.deref-4.ensures.value, all) at c.odd_play.ensures in
+    ok_by_other c.odd_play.result (All (IsPlayed (brought_from c.args.packets.now (all_played c.args.script.now))) (told_nodes c.args.told.now.nodes.items)) (HasPassed c.args.script.now c.args.packets.now (told_of c.args.told.now))
     (λ all. record { clients = clients; nodes = sound; done = done; played = all }) (λ passed. passed.played) played

@@ -8,7 +8,7 @@ use std::alloc::Global;
 use std::test::Fail;
 
 const COMMANDS: &str =
-    "a command: open, close, section, pes, add, remove, start, stop, size, read, readw, drain, poll or ioctl";
+    "a command: open, close, section, pes, add, remove, start, stop, size, read, readw, drain, poll, ioctl or write";
 
 const FIRST: &str = "feed, tick, a client c0 to c7, or the line stream";
 
@@ -20,10 +20,12 @@ const REQUEST: &str = "REQ: the number of a request in eight hexadecimal digits,
 
 const PLACES: &str = "I=FF/MM/DD, two hexadecimal digits each, places rising";
 
+const WRITTEN: &str = "HEX: 1 to 12,032 bytes, two hexadecimal digits each, in lower case";
+
 const NO_STREAM: &str = "expected that line at the end of the script, and the packets behind it";
 
 // Lines with a fault, what the line behind it says of the word, what was expected, and what stands behind that.
-static LINES: [(&[u8], &str, &str, &str); 32] = [
+static LINES: [(&[u8], &str, &str, &str); 37] = [
     (b"client0 open n0", "word 1 is 'client0'", FIRST, ""),
     (b"c0 strat n0", "word 2 is 'strat'", COMMANDS, ""),
     (b"c0 open n32", "word 3 is 'n32'", TARGET, ""),
@@ -136,6 +138,26 @@ static LINES: [(&[u8], &str, &str, &str); 32] = [
         "the line ends in front of word 5",
         "ARG of DMX_GET_STC, 16 bytes in two hexadecimal digits each",
         "; the line is cK ioctl T REQ ARG",
+    ),
+    (
+        b"c0 write n0 00",
+        "word 3 is 'n0'",
+        "dvr, to which a client writes",
+        "",
+    ),
+    (b"c0 write dvr 470", "word 4 is '470'", WRITTEN, ""),
+    (b"c0 write dvr 4G", "word 4 is '4G'", WRITTEN, ""),
+    (
+        b"c0 write dvr",
+        "the line ends in front of word 4",
+        WRITTEN,
+        "; the line is cK write dvr HEX",
+    ),
+    (
+        b"c0 write dvr 47 01",
+        "word 5 is '01'",
+        "the end of the line",
+        "; the line is cK write dvr HEX",
     ),
     (
         b"c0 add n0",

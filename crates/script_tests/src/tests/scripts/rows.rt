@@ -89,7 +89,7 @@ const COMMAND_FAULTS: [&[u8]; 7] = [
     b"c0 strat n32 x",
 ];
 
-const TARGET_FAULTS: [&[u8]; 10] = [
+const TARGET_FAULTS: [&[u8]; 14] = [
     b"c0 open n32",
     b"c0 open h32",
     b"c0 open n",
@@ -100,6 +100,10 @@ const TARGET_FAULTS: [&[u8]; 10] = [
     b"c0 read m0 65537",
     b"c0 open n32 x",
     b"c0 ioctl n32 6f29",
+    b"c0 write n0 00",
+    b"c0 write h0",
+    b"c0 write dvr0 0",
+    b"c0 write  00",
 ];
 
 const NUMBER_FAULTS: [&[u8]; 26] = [
@@ -145,7 +149,7 @@ const NAME_FAULTS: [&[u8]; 11] = [
     b"c0 ioctl n0 40146f2c 0001000000000000040000001400000000000000 x",
 ];
 
-const BYTES_FAULTS: [&[u8]; 21] = [
+const BYTES_FAULTS: [&[u8]; 26] = [
     b"c0 section n0 1 0 0 3=00/ff/00 3=00/ff/00",
     b"c0 section n0 1 0 0 4=00/ff/00 3=00/ff/00",
     b"c0 section n0 1 0 0 16=00/ff/00",
@@ -167,9 +171,14 @@ const BYTES_FAULTS: [&[u8]; 21] = [
     b"c0 ioctl n0 40026f33 FF1f",
     b"c0 ioctl n0 40026f33 ff1f00",
     b"c0 ioctl n0 403c6f2b 00000000000000000000000000000000000000000000000000000000000000000000000000000000000000000000000000000000000000000000000000",
+    b"c0 write dvr 0",
+    b"c0 write dvr 000",
+    b"c0 write dvr 0A",
+    b"c0 write dvr ",
+    b"c0 write dvr 0x00 x",
 ];
 
-const COUNT_FAULTS: [&[u8]; 28] = [
+const COUNT_FAULTS: [&[u8]; 32] = [
     b"feed",
     b"tick",
     b"feed 1 1",
@@ -198,6 +207,10 @@ const COUNT_FAULTS: [&[u8]; 28] = [
     b"c0 ioctl n0 00006f29",
     b"c0 ioctl n0 00006f29 - x",
     b"c0 ioctl n0 c0106f32 00000000000000000000000000000000 ",
+    b"c0 write",
+    b"c0 write dvr",
+    b"c0 write dvr 00 00",
+    b"c0 write dvr 00 ",
 ];
 
 // Lines of requests, each with its one spelling: DMX_START, DMX_STOP, DMX_SET_BUFFER_SIZE, DMX_ADD_PID, DMX_REMOVE_PID,

@@ -1,14 +1,15 @@
-use Rattle.std.proofs.Common.{subst, sym}
+use Rattle.std.proofs.Common.{◌≡◌, subst, sym}
+use Rattle.std.proofs.lemmas.Result.{IfOk-weaker}
 use Rattle.dmx_calls.specs.Invocation.{Invocation}
+use Rattle.dmx_calls.specs.Calls.{invocation_of}
 use Rattle.dmx_calls.specs.Log.{act_of}
-use Rattle.script_run.specs.SoFar.{PassesNone}
-use Rattle.script_run.proofs.Events.{no_pass}
-use Rattle.client_core.specs.declared.event.Request.TheVariants.{Own}
-use Rattle.seats.proofs.Ranges.{in_range}
+use Rattle.client_core.specs.Commands.{own_call}
+use Rattle.seats.specs.Calls.{PassesNone}
+use Rattle.seats.proofs.Ranges.{in_range, no_pass}
 use Rattle.seats.proofs.answers.own_call.Goals as goal
 
-pub call_of-requires : goal.call_of-requires
-call_of-requires c = record { range = in_range c.args.want c.requires }
+pub call_of_want-requires : goal.call_of_want-requires
+call_of_want-requires c = record { range = in_range c.args.want c.requires }
 
 pub returns-clause-bare : goal.returns-clause-bare
-returns-clause-bare c = subst (λ (i : Invocation). PassesNone (act_of i)) (sym c.in_ok-call.ensures.call) (no_pass (Own c.args.want) c.args.now)
+returns-clause-bare c = IfOk-weaker c.call_of_want.result _ _ (λ call (is : invocation_of call ≡ own_call c.args.want c.args.now). subst (λ (i : Invocation). PassesNone (act_of i)) (sym is) (no_pass c.args.want c.args.now)) c.call_of_want.ensures.call

@@ -1,4 +1,4 @@
-use Rattle.std.proofs.Common.{◌≡◌, List, map}
+use Rattle.std.proofs.Common.{◌≡◌, map}
 use Rattle.std.specs.List.{range_with_len}
 use Rattle.client_script.specs.Script.{Scripted}
 use Rattle.client_core.specs.Outcomes.{outcomes}

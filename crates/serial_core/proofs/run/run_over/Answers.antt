@@ -6,7 +6,7 @@ use Rattle.feed_pull.specs.Pulling.{Pulls, has_failed}
 use Rattle.ts_watch.specs.Head.{told_head, head_of}
 use Rattle.feed_pull.specs.declared.fault.Reading.TheVariants.{TooMany}
 use Rattle.client_core.specs.declared.stop.Stop.TheVariants.{TooLong}
-use Rattle.script_run.specs.Budget.{most_calls, all_commands, IsTooLong}
+use Rattle.script_run.specs.Budget.{all_commands, bytes_written, IsTooLong, most_calls}
 use Rattle.script_run.proofs.Clients.{clients_within}
 use Rattle.serial_core.specs.declared.run.Left.{Left}
 use Rattle.serial_core.specs.SerialRun.{Run, replies_of}
@@ -60,8 +60,8 @@ pub returns-clause-too_long : goal.returns-clause-too_long
 returns-clause-too_long g c turns is =
     let same : c.in-Err.stop ≡ TooLong turns = cc in
     let k = c.whole.ensures.too_long turns (c.in-Err.is ∙ ap Err same) in
-    of_stream (g.S.Source.end c.args.source.now) (g.S.Source.end c.whole.new.source) c.args.runner.puller _ (IsTooLong c.args.script.now c.args.runner.puller.start turns) (λ ahead taken (q : 2 ^ 39 ≤ most_calls (all_commands c.args.script.now.lines) (length ahead + length taken)). inr (k.0, q))
-    (overrun_is c.args.script.now c.args.batch _ _ c.args.runner c.whole.new.self c.args.cores.now c.requires.begun c.requires.fresh c.lines.ensures.known.ranges c.requires.some (rw c.lines.ensures.lines at k.1))
+    of_stream (g.S.Source.end c.args.source.now) (g.S.Source.end c.whole.new.source) c.args.runner.puller _ (IsTooLong c.args.script.now c.args.runner.puller.start turns) (λ ahead taken (q : 2 ^ 39 ≤ most_calls (all_commands c.args.script.now.lines) (length ahead + length taken + bytes_written c.args.script.now)). inr (k.0, q))
+    (overrun_is c.args.script.now c.args.batch _ _ c.args.runner c.whole.new.self c.args.cores.now c.requires.begun c.requires.fresh c.lines.ensures.known.ranges c.lines.ensures.known.numbered c.requires.some (rw c.lines.ensures.lines at k.1))
 
 pub returns-clause-draws : goal.returns-clause-draws
 returns-clause-draws g c = let d = c.in-Err.ensures.draws in (d.0, (c.whole.new.self.puller, d.1))

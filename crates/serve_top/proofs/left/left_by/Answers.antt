@@ -1,5 +1,4 @@
 use Rattle.std.proofs.Common.{[], ◌∷◌, ◌++◌, List, map, sym, subst}
-use Rattle.dmx_calls.specs.Calls.{told_entry}
 use Rattle.dmx_calls.specs.Log.{LogEntry}
 use Rattle.adapter.specs.Callers.{Caller, AreAllCallers}
 use Rattle.workers.specs.Left.{AreWorked}
@@ -19,11 +18,11 @@ returns g c =
     let k = c.in_ok-books.ensures in let f = c.args.feeder in
     record {
       head = λ taken given p. c.in_ok-head.ensures.head [] taken given p;
-      tells = λ among stream called.
-          let were = subst (λ (l : List (List LogEntry)). HaveCalled among stream f.feeder f.feeding.items c.in_ok-books.books.clients.items l) (sym k.logs) (subst (λ (l : List Caller). HaveCalled among stream f.feeder f.feeding.items l (map (λ d. log_of d.seat) c.args.desks.items)) (sym k.clients) called) in
-          let told = c.in_ok-histories_of_run.ensures.tells among stream were in
-          subst (λ (l : List Caller). TellWhatWasCalled among stream f.feeder f.feeding.items l (map (λ d. log_of d.seat) c.args.desks.items) c.in_ok-histories_of_run.field-0) k.clients
-          (subst (λ (l : List (List LogEntry)). TellWhatWasCalled among stream f.feeder f.feeding.items c.in_ok-books.books.clients.items l c.in_ok-histories_of_run.field-0) k.logs told);
+      tells = λ among packets called.
+          let were = subst (λ (l : List (List LogEntry)). HaveCalled among packets f.feeder f.feeding.items c.in_ok-books.books.clients.items l) (sym k.logs) (subst (λ (l : List Caller). HaveCalled among packets f.feeder f.feeding.items l (map (λ d. log_of d.seat) c.args.desks.items)) (sym k.clients) called) in
+          let told = c.in_ok-histories_of_run.ensures.tells among packets were in
+          subst (λ (l : List Caller). TellWhatWasCalled among packets f.feeder f.feeding.items l (map (λ d. log_of d.seat) c.args.desks.items) c.in_ok-histories_of_run.field-0) k.clients
+          (subst (λ (l : List (List LogEntry)). TellWhatWasCalled among packets f.feeder f.feeding.items c.in_ok-books.books.clients.items l c.in_ok-histories_of_run.field-0) k.logs told);
       outcomes = k.outcomes;
       runs = λ script among most may stream told worked.
           let were = subst (λ (l : List (List LogEntry)). AreWorked script among most may stream f.feeder f.feeding.items c.in_ok-books.books.clients.items l told) (sym k.logs) (subst (λ (l : List Caller). AreWorked script among most may stream f.feeder f.feeding.items l (map (λ d. log_of d.seat) c.args.desks.items) told) (sym k.clients) worked) in

@@ -6,6 +6,8 @@ use Rattle.dmx_calls.specs.Calls.{told_entry, response_of}
 use Rattle.dmx_calls.specs.Log.{LogEntry}
 use Rattle.dmx_calls.specs.Response.{Response}
 use Rattle.client_core.specs.declared.event.Event.{Event}
+use Rattle.client_core.specs.Deeds.{Batches}
+use Rattle.client_core.specs.Commands.{plays_of}
 use Rattle.client_core.specs.Events.{next_event}
 use Rattle.client_core.specs.Inside.Core.{IsAfter}
 use Rattle.script_run.specs.IsRun.{IsEvent, replies}
@@ -27,7 +29,8 @@ returns-then-not-is_event-clause-other c t script after can =
     let next : next_event c.args.client script (replies on.made) ≡ Some c.in-Some.event = sym (c.in-Some.ensures.tied c.args.client script (replies on.made) on.after) in
     let s = step_on c.args.client script (replies on.made) (queues_in c.args.client (map told_of c.walk.nodes.items)) c.in-Some.event (told_entry c.in-Some-take_next.entry.now)
     (queues_in c.args.client (map told_of c.take_next.new.nodes.items)) next c.in-Some-take_next.ensures.next (on.on can) in
-    c.is_event.ensures.other c.if-not-is_event.true s.0 (s.1 ∙ (sym on.after.steps ∙ sym c.in-Some.ensures.node.0))
+    c.is_event.ensures.other c.if-not-is_event.true
+    (subst (λ (batches : Batches). IsEvent batches (Some c.in-Some.event) (told_entry c.in-Some-take_next.entry.now)) (sym on.after.plays) s.0) (s.1 ∙ (sym on.after.steps ∙ sym c.in-Some.ensures.node.0))
 
 pub walk-preserved : goal.walk-preserved
 walk-preserved c =
@@ -46,7 +49,8 @@ walk-preserved c =
           let first : List (List LogEntry) = queues_in c.args.client (map told_of c.args.nodes.now.items) in
           let here : List (List LogEntry) = queues_in c.args.client (map told_of c.walk.nodes.items) in
           let behind : List (List LogEntry) = queues_in c.args.client (map told_of c.take_next.new.nodes.items) in
-          let event : IsEvent (next_event c.args.client script (replies on.made)) e = subst (λ (o : Option Event). IsEvent o e) (sym next) is.0 in
+          let own : IsEvent (plays_of c.args.client script) (Some c.in-Some.event) e = subst (λ (batches : Batches). IsEvent batches (Some c.in-Some.event) e) on.after.plays is.0 in
+          let event : IsEvent (plays_of c.args.client script) (next_event c.args.client script (replies on.made)) e = subst (λ (o : Option Event). IsEvent (plays_of c.args.client script) o e) (sym next) own in
           let taken : IsTaken e.node e here behind = subst (λ (n : ℕ). IsTaken n e here behind) (sym is.0.0) c.in-Some-take_next.ensures.next in
           let step : e.step ≡ length (replies on.made) = is.1 ∙ (c.in-Some.ensures.node.0 ∙ on.after.steps) in
           let more : replies (on.made ++ e ∷ []) ≡ replies on.made ++ e.response ∷ [] = map-append (λ (f : LogEntry). f.response) on.made (e ∷ []) in

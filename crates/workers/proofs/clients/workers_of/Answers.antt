@@ -18,6 +18,9 @@ overflow_add-number c =
     let size : length c.callers.workers.items ≡ length c.callers.yielded = sym (length-map c.callers.workers.items (λ (v : ClientWorker). v.client)) ∙ ap length i.are in
     omega (arith, below, size, i.number, c.requires, c.clients.ensures.count, c.clients.ensures.bound)
 
+pub returns-clause-numbered : goal.returns-clause-numbered
+returns-clause-numbered c = c.clients.ensures.known.numbered
+
 pub callers-preserved : goal.callers-preserved
 callers-preserved c =
     let i = c.callers.invariant in

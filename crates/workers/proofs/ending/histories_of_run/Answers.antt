@@ -5,6 +5,7 @@ use Rattle.std.proofs.lemmas.Simd.{map-map}
 use Rattle.dmx_calls.specs.declared.log.Entry.{Entry as ToldEntry}
 use Rattle.dmx_calls.specs.Calls.{told_entry}
 use Rattle.dmx_calls.specs.Histories.{histories_of}
+use Rattle.script_run.specs.IsRun.{sources}
 use Rattle.script_run.specs.WholeRun.{IsWholeRun}
 use Rattle.trace_merge.specs.Merging.{AreOnNodes}
 use Rattle.workers.specs.Left.{AreWorked}
@@ -14,16 +15,16 @@ use Rattle.workers.proofs.Merged.{books_of, full, merged_woven, nodes_low, tell}
 use Rattle.workers.proofs.ending.histories_of_run.Goals as goal
 
 pub returns-clause-tells : goal.returns-clause-tells
-returns-clause-tells c = IfOk-weaker c.histories.result _ _ (λ hs m among stream called.
+returns-clause-tells c = IfOk-weaker c.histories.result _ _ (λ hs m among packets called.
     let logs = map (λ log. log.items) c.args.logs.items in
     let same = map-map (λ (log : List ToldEntry). map told_entry log) (λ log. log.items) c.args.logs.items in
     let feeder = c.args.feeder in let feeding = c.args.feeding.items in let clients = c.args.clients.items in
     let all = full c.args.adapter clients feeder c.requires.all c.gather.ensures.locks in
-    let was : HaveCalled among stream feeder feeding clients (books_of logs) = subst (λ books. HaveCalled among stream feeder feeding clients books) (sym same) called in
-    subst (λ h. TellWhatWasCalled among stream feeder feeding clients (map (λ log. map told_entry log.items) c.args.logs.items) h) (sym m.2)
-    (subst (λ books. TellWhatWasCalled among stream feeder feeding clients books (histories_of feeding m.0)) same
-    (tell among stream feeder feeding clients (books_of logs) was all c.gather.ensures.histories (nodes_low logs (All-map AreOnNodes (λ log. log.items) c.args.logs.items c.requires.nodes))
-    (histories_of feeding m.0) (merged_woven among stream feeder feeding clients logs was all m.0 m.1 c.gather.ensures.histories)))) c.histories.ensures
+    let was : HaveCalled among packets feeder feeding clients (books_of logs) = subst (λ books. HaveCalled among packets feeder feeding clients books) (sym same) called in
+    subst (λ h. TellWhatWasCalled among packets feeder feeding clients (map (λ log. map told_entry log.items) c.args.logs.items) h) (sym m.2)
+    (subst (λ books. TellWhatWasCalled among packets feeder feeding clients books (histories_of feeding m.0)) same
+    (tell among packets feeder feeding clients (books_of logs) was all c.gather.ensures.histories (nodes_low logs (All-map AreOnNodes (λ log. log.items) c.args.logs.items c.requires.nodes))
+    (histories_of feeding m.0) (merged_woven among packets feeder feeding clients logs was all m.0 m.1 c.gather.ensures.histories)))) c.histories.ensures
 
 pub returns-clause-run : goal.returns-clause-run
 returns-clause-run c = IfOk-weaker c.histories.result _ _ (λ hs m script among most may stream told w.
@@ -34,4 +35,4 @@ returns-clause-run c = IfOk-weaker c.histories.result _ _ (λ hs m script among 
     subst (λ books. AreWorked script among most may stream feeder feeding clients books told) (sym (map-map (λ (log : List ToldEntry). map told_entry log) (λ log. log.items) c.args.logs.items)) w in
     subst (λ h. IsWholeRun script most may stream told h) (sym m.2)
     (whole_run script among most may stream feeder feeding clients (books_of logs) told were all c.gather.ensures.histories (nodes_low logs (All-map AreOnNodes (λ log. log.items) c.args.logs.items c.requires.nodes))
-    (histories_of feeding m.0) (merged_woven among stream feeder feeding clients logs (have_called script among most may stream feeder feeding clients (books_of logs) told were) all m.0 m.1 c.gather.ensures.histories))) c.histories.ensures
+    (histories_of feeding m.0) (merged_woven among (sources script stream) feeder feeding clients logs (have_called script among most may stream feeder feeding clients (books_of logs) told were) all m.0 m.1 c.gather.ensures.histories))) c.histories.ensures

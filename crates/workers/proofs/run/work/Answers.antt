@@ -43,7 +43,7 @@ work_all-requires-clause-begun g c κs within =
 pub work_all-requires-clause-clients : goal.work_all-requires-clause-clients
 work_all-requires-clause-clients g c κs within k d low =
     let r = c.requires in let ws = c.in_ok-workers.workers.items in
-    let b = c.in_ok-workers.ensures in
+    let b = c.in_ok-workers.ensures.fresh in
     let at = slice_get-get_or ws k d low in
     record {
       fit = begun_fit c.args.script.now c.args.adapter.now _ c.args.feeder c.args.clients.items r.fresh r.all ws b k (slice_index_or ws k d) at;
@@ -55,7 +55,7 @@ returns-in_ok-left_by-in-None-clause-left g c =
     let r = c.requires in let ws = c.in_ok-workers.workers.items in let vs = c.work_all.new.clients.items in
     let f = c.work_all.new.feeder in let fed = c.work_all.ensures.feeder in
     let may = g.C.Clock.may_give c.args.clock.now in
-    let b = c.in_ok-workers.ensures in
+    let b = c.in_ok-workers.ensures.fresh in
     let stop : c.stop_of.result ≡ None = search rules in
     let s : StopsBy f.stop vs c.stop_of.result = rw (← c.deref.ensures.value) c.stop_of.ensures in
     let none = s.none stop in
@@ -75,7 +75,7 @@ pub returns-in_ok-left_by-in-None-clause-all : goal.returns-in_ok-left_by-in-Non
 returns-in_ok-left_by-in-None-clause-all g c =
     let r = c.requires in let ws = c.in_ok-workers.workers.items in let vs = c.work_all.new.clients.items in let f = c.work_all.new.feeder in
     let may = g.C.Clock.may_give c.args.clock.now in
-    let b = c.in_ok-workers.ensures in
+    let b = c.in_ok-workers.ensures.fresh in
     let stop : c.stop_of.result ≡ None = search rules in
     let s : StopsBy f.stop vs c.stop_of.result = rw (← c.deref.ensures.value) c.stop_of.ensures in
     all_same c.args.script.now c.args.adapter.now _ c.args.feeder c.args.clients.items r.fresh r.all may ws vs b c.work_all.ensures.clients f c.in_ok-left_by-in-None.field-0 c.in_ok-left_by-in-None.ensures (s.none stop).1 c.work_all.ensures.feeder.same
@@ -84,7 +84,7 @@ pub returns-in_ok-left_by-in-None-clause-nodes : goal.returns-in_ok-left_by-in-N
 returns-in_ok-left_by-in-None-clause-nodes g c =
     let r = c.requires in let ws = c.in_ok-workers.workers.items in let vs = c.work_all.new.clients.items in let f = c.work_all.new.feeder in
     let may = g.C.Clock.may_give c.args.clock.now in
-    let b = c.in_ok-workers.ensures in
+    let b = c.in_ok-workers.ensures.fresh in
     let stop : c.stop_of.result ≡ None = search rules in
     let s : StopsBy f.stop vs c.stop_of.result = rw (← c.deref.ensures.value) c.stop_of.ensures in
     all_on_nodes c.args.script.now c.args.adapter.now _ c.args.feeder c.args.clients.items r.fresh r.all may ws vs b c.work_all.ensures.clients f c.in_ok-left_by-in-None.field-0 c.in_ok-left_by-in-None.ensures (s.none stop).1
@@ -92,7 +92,7 @@ returns-in_ok-left_by-in-None-clause-nodes g c =
 pub gather-requires : goal.gather-requires
 gather-requires g c =
     let r = c.requires in
-    still_callers c.args.script.now c.args.adapter.now _ c.args.feeder c.args.clients.items r.fresh r.all (g.C.Clock.may_give c.args.clock.now) c.in_ok-workers.workers.items c.work_all.new.clients.items c.in_ok-workers.ensures c.work_all.ensures.clients
+    still_callers c.args.script.now c.args.adapter.now _ c.args.feeder c.args.clients.items r.fresh r.all (g.C.Clock.may_give c.args.clock.now) c.in_ok-workers.workers.items c.work_all.new.clients.items c.in_ok-workers.ensures.fresh c.work_all.ensures.clients
     c.work_all.new.feeder.feeder c.work_all.ensures.feeder.same
 
 pub returns-in_ok-gather-in-Some-clause-too_long : goal.returns-in_ok-gather-in-Some-clause-too_long
@@ -108,6 +108,6 @@ returns-in_ok-gather-in-Some-clause-too_long g c turns is =
     ⊎_elim
     (λ first. let k = fed.too_long turns first in of_stream (g.S.Source.end c.args.source.now) (g.S.Source.end c.work_all.new.source) c.args.puller _ (IsTooLong c.args.script.now c.args.puller.start turns) (λ ahead taken (q : 2 ^ 32 ≤ c.args.puller.start + length taken). inl (k.0, q))
     (many_reads _ _ c.args.puller f.puller fed.draws.0 fed.draws.1 k.1))
-    (λ many. calls_by c.args.script.now c.args.adapter.now _ c.args.feeder c.args.clients.items r.fresh r.all may ws vs c.in_ok-workers.ensures c.work_all.ensures.clients
-    c.args.batch _ _ c.args.puller f all memory.1 refl c.in_ok-gather-in-Some.ensures many_calls turns many.1.0 many.1.1 many.1.2 many.1.3 many.0)
+    (λ many. calls_by c.args.script.now c.args.adapter.now _ c.args.feeder c.args.clients.items r.fresh r.all may ws vs c.in_ok-workers.ensures.fresh c.work_all.ensures.clients
+    c.args.batch _ _ c.args.puller f all memory.1 refl c.in_ok-workers.ensures.numbered c.in_ok-gather-in-Some.ensures many_calls turns many.1.0 many.1.1 many.1.2 many.1.3 many.0)
     (one_of_both may c.args.adapter.now ws vs c.work_all.ensures.clients f.stop c.stop_of.result turns s stop)

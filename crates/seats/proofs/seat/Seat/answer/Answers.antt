@@ -1,7 +1,7 @@
 use Rattle.seats.proofs.Doing.{has_answered, answered_wanting}
 use Rattle.std.proofs.Common.{refl}
-use Rattle.seats.specs.Spelled.{deeds_of}
-use Rattle.seats.proofs.Keeping.{keeps_none, deeds_none}
+use Rattle.seats.specs.Spelled.{commands_done_by}
+use Rattle.seats.proofs.Keeping.{keeps_none, none_done}
 use Rattle.seats.proofs.Going.{goes_trans}
 use Rattle.seats.proofs.seat.Seat.answer.Goals as goal
 
@@ -13,7 +13,7 @@ returns-in-Ok-clause-answered g c = has_answered c.args.ask c.args.now c.args.se
 
 pub returns-in-Err-clause-answered : goal.returns-in-Err-clause-answered
 returns-in-Err-clause-answered g c = has_answered c.args.ask c.args.now c.args.self.now c.reserve.new.self c.reserve.new.self _ _ c.reserve.ensures.same c.reserve.ensures.told
-    (keeps_none (deeds_of c.args.ask) c.reserve.new.self c.reserve.new.self (deeds_none c.args.ask) refl refl) (answered_wanting c.args.ask c.args.now c.reserve.new.self _ _ c.refused.ensures)
+    (keeps_none (commands_done_by c.args.ask) c.reserve.new.self c.reserve.new.self (none_done c.args.ask) refl refl) (answered_wanting c.args.ask c.args.now c.reserve.new.self _ _ c.refused.ensures)
 
 pub returns-in-Err-clause-room : goal.returns-in-Err-clause-room
 returns-in-Err-clause-room g c = c.reserve.ensures.still 66 c.requires.room

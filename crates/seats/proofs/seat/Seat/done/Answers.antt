@@ -1,8 +1,8 @@
 use Rattle.std.proofs.Common.{ap, sym, subst, refl}
 use Rattle.serve_frames.specs.declared.ask.Ask.{Ask}
 use Rattle.seats.specs.Doing.{KeepsBy}
-use Rattle.seats.specs.Spelled.{deeds_of, target_of}
-use Rattle.seats.proofs.Keeping.{keeps_none, keeps_command, deeds_none}
+use Rattle.seats.specs.Spelled.{commands_done_by, target_of}
+use Rattle.seats.proofs.Keeping.{keeps_none, keeps_command, none_done}
 use Rattle.dmx_calls.specs.Log.{act_of}
 use Rattle.seats.proofs.Doing.{answered_open, answered_call, answered_leave, answered_refused, answered_wanting}
 use Rattle.seats.proofs.Going.{goes_self}
@@ -37,10 +37,10 @@ returns-in-Ok-clause-kept g c =
     (keeps_command c.in-Call.node _ c.command-at.result (target_of c.in-Call.node) c.in-Call.want c.args.self.now c.command-at.new.self c.command-at.ensures.did c.command-at.ensures.kept)
 
 pub returns-in_default-clause-kept : goal.returns-in_default-clause-kept
-returns-in_default-clause-kept g c = keeps_none (deeds_of c.args.ask) c.args.self.now c.args.self.now (deeds_none c.args.ask) refl refl
+returns-in_default-clause-kept g c = keeps_none (commands_done_by c.args.ask) c.args.self.now c.args.self.now (none_done c.args.ask) refl refl
 
 pub returns-in-Leave-clause-kept : goal.returns-in-Leave-clause-kept
 returns-in-Leave-clause-kept g c = subst (λ (a : Ask). KeepsBy a c.args.self.now c.leave.new.self) (sym c.in-Leave.is) c.leave.ensures.kept
 
 pub returns-in-Refused-clause-kept : goal.returns-in-Refused-clause-kept
-returns-in-Refused-clause-kept g c = keeps_none (deeds_of c.args.ask) c.args.self.now c.args.self.now (deeds_none c.args.ask) refl refl
+returns-in-Refused-clause-kept g c = keeps_none (commands_done_by c.args.ask) c.args.self.now c.args.self.now (none_done c.args.ask) refl refl

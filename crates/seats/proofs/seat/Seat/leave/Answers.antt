@@ -4,7 +4,7 @@ use native.Mathlib.Decide.{ℕ_discrete}
 use Rattle.seats.specs.Holding.{HasLeft}
 use Rattle.seats.proofs.Doing.{closings_none, closings_more}
 use Rattle.serve_frames.specs.declared.ask.Ask.TheVariants.{Leave}
-use Rattle.seats.specs.Spelled.{deeds_of}
+use Rattle.seats.specs.Spelled.{commands_done_by}
 use Rattle.seats.proofs.Keeping.{keeps_none, keeps_more}
 use Rattle.seats.proofs.Going.{goes_self, goes_trans}
 use Rattle.seats.proofs.seat.Seat.leave.Goals as goal
@@ -18,7 +18,7 @@ nodes-init g c = record {
   told = search rules;
   room = search rules;
   did = closings_none c.args.self.now;
-  kept = keeps_none (deeds_of Leave) c.args.self.now c.args.self.now refl refl refl;
+  kept = keeps_none (commands_done_by Leave) c.args.self.now c.args.self.now refl refl refl;
   gone = λ i low. absurd (omega arith);
 }
 

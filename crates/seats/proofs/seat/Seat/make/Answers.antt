@@ -6,8 +6,8 @@ use Rattle.dmx_calls.specs.Calls.{told_entry}
 use Rattle.dmx_calls.specs.Entries.{told}
 use Rattle.dmx_calls.specs.Log.{LogEntry}
 use Rattle.dmx_calls.specs.declared.limits.TheConstants.{DEMUX_NODES}
-use Rattle.script_run.specs.SoFar.{PassesNone}
 use Rattle.seats.specs.declared.made.Made.{Made}
+use Rattle.seats.specs.Calls.{PassesNone}
 use Rattle.seats.specs.Seated.{told_made, log_of, AreOnNodes}
 use Rattle.seats.proofs.Going.{log_long, log_one}
 use Rattle.seats.proofs.Holding.{left_call, closed_call, knows_made}

@@ -29,7 +29,7 @@ returns-clause-at g c r moment at =
     let count : length old.seats.items ≡ DEMUX_NODES + 1 = seats_count old.seats.items old.made c.requires.counted in
     let there : node < length old.seats.items = omega (arith, count, c.requires.node) in
     let before : IsSeat (acts_on old) c.index_mut.result.now (node_at node r) = rw c.index_mut.ensures.value (pair_at (IsSeat (acts_on old)) node old.seats.items r.nodes c.index_mut.result.now (uncalled node) there at.seats) in
-    let same = c.in_ok-call.ensures.call ∙ ap (λ now. call_of c.args.event.want now) moment in
+    let same = c.in_ok-call.ensures.call ∙ ap (λ now. call_of c.args.core.now.plays c.args.event.want now) moment in
     let after = subst (λ v. IsSeat (acts_on old) c.call.new.self (answered (c.args.client + 1) c.args.event.step v (node_at node r))) same (c.in_ok-call-2.ensures.at (acts_on old) (node_at node r) before) in
     nodes_called old _ r _ (set_pair (IsSeat (acts_on old)) node old.seats.items r.nodes _ _ after at.seats) refl refl at
 
@@ -40,7 +40,7 @@ returns-clause-core g c r script replies moment at after =
     let count : length old.seats.items ≡ DEMUX_NODES + 1 = seats_count old.seats.items old.made c.requires.counted in
     let there : node < length old.seats.items = omega (arith, count, c.requires.node) in
     let before : IsSeat (acts_on old) c.index_mut.result.now (node_at node r) = rw c.index_mut.ensures.value (pair_at (IsSeat (acts_on old)) node old.seats.items r.nodes c.index_mut.result.now (uncalled node) there at.seats) in
-    let same = c.in_ok-call.ensures.call ∙ ap (λ now. call_of c.args.event.want now) moment in
+    let same = c.in_ok-call.ensures.call ∙ ap (λ now. call_of c.args.core.now.plays c.args.event.want now) moment in
     subst (λ v. IsAfter c.args.client script (replies ++ answer_by (c.args.client + 1) v (node_at node r) ∷ []) c.call.new.client) same
     (c.in_ok-call-2.ensures.client (acts_on old) (node_at node r) c.args.client script replies before after)
 

@@ -15,14 +15,15 @@ returns-clause-moves g c =
     let batch = c.args.batch in
     let old = c.args.core.now in
     let new = c.call.new.core in
-    let P : Run → Type 0 = λ r. (script : Scripted) (replies : List Response) → IsAfter client script replies old → IsAfter client script (replies ++ reply_to client e r ∷ []) new in
+    let batches = old.plays in
+    let P : Run → Type 0 = λ r. (script : Scripted) (replies : List Response) → IsAfter client script replies old → IsAfter client script (replies ++ reply_to client batches e r ∷ []) new in
     let k = c.in_ok-call.ensures in
     moves_then _ _ _ _ _ _ _ _ _
-    (λ (r s t : Run) (a : (who : ℕ) (script : Scripted) → IsAfter who script (replies_of who r) old → s ≡ after_waiting script batch who r) (b : (t ≡ called client e s) × P s) (script : Scripted) (after : IsAfter client script (replies_of client r) old).
+    (λ (r s t : Run) (a : (who : ℕ) (script : Scripted) → IsAfter who script (replies_of who r) old → s ≡ after_waiting script batch who r) (b : (t ≡ called client batches e s) × P s) (script : Scripted) (after : IsAfter client script (replies_of client r) old).
     let w = a client script after in
-    (b.0 ∙ ap (called client e) w, subst (λ x. IsAfter client script (replies_of client r ++ reply_to client e x ∷ []) new) w (b.1 script (replies_of client r) after)))
+    (b.0 ∙ ap (called client batches e) w, subst (λ x. IsAfter client script (replies_of client r ++ reply_to client batches e x ∷ []) new) w (b.1 script (replies_of client r) after)))
     c.in_ok-wait.ensures.moves
-    (moves_called _ c.wait.new.self c.call.new.self client e P c.in_ok-wait.ensures.moves.sound k.counted k.same k.at (λ r moment at script replies after. k.core r script replies moment at after))
+    (moves_called _ c.wait.new.self c.call.new.self client batches e P c.in_ok-wait.ensures.moves.sound k.counted k.same k.at (λ r moment at script replies after. k.core r script replies moment at after))
 
 pub call-requires-clause-few : goal.call-requires-clause-few
 call-requires-clause-few g c =

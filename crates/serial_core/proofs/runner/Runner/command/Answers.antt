@@ -1,5 +1,6 @@
-use Rattle.std.proofs.Common.{◌^◌, ◌≡◌, refl, sym, ◌∙◌, ◌+◌, List, [], ◌∷◌, ◌++◌, length, arith}
+use Rattle.std.proofs.Common.{◌^◌, ◌≡◌, refl, sym, subst, ◌∙◌, ◌+◌, [], ◌∷◌, ◌++◌, length, arith}
 use Rattle.client_script.specs.Script.{Scripted}
+use Rattle.client_core.specs.Deeds.{Batches}
 use Rattle.client_core.specs.Inside.Core.{IsAfter}
 use Rattle.serial_core.specs.SerialRun.{Run, called, replies_of, reply_to, after_waiting}
 use Rattle.serial_core.specs.Inside.Moving.{ComesBy}
@@ -27,10 +28,10 @@ calls-preserved g c =
     record {
       moves = moves_then _ _ _ _ _ _ _ _ _
           (λ (r s t : Run) (a : ComesBy batch client line c.args.core.now core r s)
-          (b : (script : Scripted) → IsAfter client script (replies_of client s) core → (t ≡ called client e (after_waiting script batch client s)) × IsAfter client script (replies_of client s ++ reply_to client e (after_waiting script batch client s) ∷ []) next)
+          (b : (script : Scripted) → IsAfter client script (replies_of client s) core → (t ≡ called client core.plays e (after_waiting script batch client s)) × IsAfter client script (replies_of client s ++ reply_to client core.plays e (after_waiting script batch client s) ∷ []) next)
           (script : Scripted) (clients : length r.replies ≡ 8) (after : IsAfter client script (replies_of client r) c.args.core.now).
           let come = a script clients after in
-          let n = b script come.after in
+          let n = subst (λ (p : Batches). (t ≡ called client p e (after_waiting script batch client s)) × IsAfter client script (replies_of client s ++ reply_to client p e (after_waiting script batch client s) ∷ []) next) come.after.plays (b script come.after) in
           comes_on script batch client line r s t core next e c.requires.client come (sym (c.next_at.ensures.tied client script _ come.after) ∙ c.in-Some.is) n.0 n.1)
           c.calls.invariant.moves k.moves;
       moment = k.moment ∙ c.calls.invariant.moment;

@@ -1,4 +1,4 @@
-use Rattle.std.proofs.Common.{◌≡◌, sym, ap, ◌∙◌, ℕ, min, List, length}
+use Rattle.std.proofs.Common.{◌≡◌, sym, ap, ◌∙◌, ℕ, min, length}
 use Rattle.std.specs.Prelude.{is_some}
 use Rattle.client_script.specs.Script.{Scripted}
 use Rattle.client_core.specs.Inside.Core.{IsAfter}

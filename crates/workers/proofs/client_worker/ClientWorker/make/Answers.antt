@@ -1,4 +1,4 @@
-use Rattle.std.proofs.Common.{rules, arith, ◌+◌, ◌≤◌, Option, ◌≡◌, [], ◌∷◌, ◌++◌, length, subst, sym, ap, ◌∙◌, refl}
+use Rattle.std.proofs.Common.{rules, arith, ◌+◌, ◌≤◌, ◌≡◌, [], ◌∷◌, ◌++◌, length, subst, sym, ap, ◌∙◌, refl}
 use Rattle.std.proofs.lemmas.List.{map-append, length-map, length-append}
 use Rattle.std.proofs.lemmas.List.Elements.{All-append, All-cons, All-nil}
 use Rattle.dmx_calls.specs.declared.limits.TheConstants.{DEMUX_NODES}
@@ -6,15 +6,14 @@ use Rattle.dmx_calls.specs.Calls.{told_entry, response_of}
 use Rattle.dmx_calls.specs.Entries.{told}
 use Rattle.dmx_calls.specs.Log.{LogEntry, act_of}
 use Rattle.dmx_calls.specs.declared.log.Entry.{Entry as ToldEntry}
-use Rattle.client_core.specs.declared.event.Event.{Event}
 use Rattle.client_core.specs.Commands.{call_of as call_at}
 use Rattle.client_core.specs.Inside.Core.{IsAfter}
-use Rattle.script_run.specs.IsRun.{IsEvent, replies}
+use Rattle.script_run.specs.IsRun.{replies}
 use Rattle.script_run.specs.WholeRun.{IsGiven}
 use Rattle.adapter.specs.Nodes.{IsLegalAt}
 use Rattle.workers.specs.Inside.Working.{log_of}
 use Rattle.workers.proofs.Logging.{called_more, past}
-use Rattle.workers.proofs.Working.{event_now, logs_one}
+use Rattle.workers.proofs.Working.{brings_played, is_event, logs_one}
 use Rattle.workers.proofs.client_worker.ClientWorker.make.Goals as goal
 
 pub returns-clause-works : goal.returns-clause-works
@@ -28,10 +27,9 @@ returns-clause-works g c may script client given turn works =
     let items : c.push_reserved.new.self.items ≡ w.log.items ++ entry ∷ [] = search rules in
     let logs = logs_one w.log.items entry c.push_reserved.new.self.items items in
     let told_act_is = c.in_ok-act.ensures ∙ c.of-asked.ensures in
-    let is_next = event_now script client (replies (log_of w)) w.core event works.after c.requires.next in
     let after : IsAfter client script (replies (log_of w) ++ response_of c.in_ok-kept.kept ∷ []) c.take.new.self =
     subst (λ r. IsAfter client script (replies (log_of w) ++ response_of r ∷ []) c.take.new.self) c.told.ensures (c.take.ensures.after client script (replies (log_of w)) works.after) in
-    let act_is : c.in_ok-act.act ≡ act_of (call_at event.want c.args.now) = told_act_is ∙ ap act_of c.in_ok-call.ensures.call in
+    let act_is : c.in_ok-act.act ≡ act_of (call_at w.core.plays event.want c.args.now) = told_act_is ∙ ap act_of c.in_ok-call.ensures.call in
     let kept : response_of c.in_ok-kept.kept ≡ response_of c.in_ok-reply.reply = c.in_ok-kept.ensures ∙ c.in_ok-fitting.ensures in
     let one : replies (log_of w ++ told_entry entry ∷ []) ≡ replies (log_of w) ++ response_of c.in_ok-kept.kept ∷ [] =
     map-append (λ (x : LogEntry). x.response) (log_of w) (told_entry entry ∷ []) in
@@ -41,7 +39,8 @@ returns-clause-works g c may script client given turn works =
           (c.requires.step ∙ (c.requires.fit.steps ∙ sym (length-map w.log.items told_entry)))
           c.requires.fit.who
           record { who = c.requires.fit.who; act = told_act_is; response = response }
-          (subst (λ (o : Option Event). IsEvent o (told_entry entry)) (sym is_next) (refl, (c.args.now, act_is)))
+          (is_event script client (replies (log_of w)) w.core event (told_entry entry) c.args.now works.after c.requires.next refl act_is)
+          (λ stream. brings_played script stream client (replies (log_of w)) w.core event.want c.args.now works.after c.in_ok-call.ensures.call)
           (λ none. c.in_ok-reply.ensures.some (sym kept ∙ none))
           (subst (IsGiven may) (sym act_is) given)
           (λ waits last i at long. past k d (IsLegalAt node) node place (told k.who call answer) e.entry e.same.0 (last.place + 1)

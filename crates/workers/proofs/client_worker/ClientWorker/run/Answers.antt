@@ -12,7 +12,7 @@ calls-preserved g c =
       fit = c.in_ok-make.ensures.fit;
       few = search rules;
       goes_on = λ script client works. let k = i.goes_on script client works in
-          c.in_ok-make.ensures.works may script client c.moment_of-now.ensures (c.wait.ensures.may may script client k) (c.wait.ensures.looked.goes_on may script client k);
+          c.in_ok-make.ensures.works may script client (c.moment_of-now.ensures c.wait.new.self.core.plays) (c.wait.ensures.may may script client k) (c.wait.ensures.looked.goes_on may script client k);
     }
 
 pub returns-in_err-make-clause-same : goal.returns-in_err-make-clause-same

@@ -1,0 +1,8 @@
+use Rattle.std.proofs.Common.{take}
+use Rattle.client_script.specs.Script.{writes_of}
+use Rattle.dvr_play.specs.Plays.{HasPlayed}
+use Rattle.client_core.proofs.client.plays_of.Given as goal
+
+-- the first writes were made
+abbrev pub invariant-writes : goal.invariant-writes
+invariant-writes l = HasPlayed (take l.write (writes_of l.client l.script.writes)) l.plays

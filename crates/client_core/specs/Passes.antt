@@ -1,0 +1,67 @@
+-- The packets that a client plays, on each demux node (this project's own).
+use Rattle.std.specs.Prelude.{ℕ, ◌≡◌, ◌<◌, true, List, [], ◌∷◌, ◌++◌, Option, Some, None, nat_eq, slice_index_or, if◌then◌else◌}
+use Rattle.dmx_calls.specs.declared.limits.TheConstants.{DEMUX_NODES}
+use Rattle.dmx_calls.specs.Response.{Response, Ready}
+use Rattle.client_script.specs.Script.{Scripted}
+use Rattle.client_script.specs.declared.line.Target.{Target}
+use Rattle.client_script.specs.declared.line.Target.TheVariants.{Slot}
+use Rattle.client_core.specs.declared.deed.Deed.{Deed}
+use Rattle.client_core.specs.declared.deed.Deed.TheVariants.{Write}
+use Rattle.client_core.specs.declared.command.Command.{Command}
+use Rattle.client_core.specs.declared.event.Event.{Event}
+use Rattle.client_core.specs.declared.event.Request.{Request}
+use Rattle.client_core.specs.declared.event.Request.TheVariants.{Pass}
+use Rattle.client_core.specs.Commands.{Slots, stands, through, done, commands_of}
+use Rattle.client_core.specs.Events.{slots_after, no_slots, next_event}
+use Rattle.client_core.specs.Stc.{Exchange, exchanges}
+
+-- ------ the passes of a client
+
+-- the write whose batch passes, if a pass is asked for
+abbrev pub pass_in : Request → List ℕ
+pass_in (Pass write) = write ∷ []
+pass_in _ = []
+
+-- the write whose batch passes this node by this call, if one does
+abbrev pub pass_at : (node : ℕ) → Event → List ℕ
+pass_at node event = if nat_eq event.node node then pass_in event.want else []
+
+-- the writes whose batches passed this node, in the order of the calls
+abbrev pub passes_on : (node : ℕ) → List Exchange → List ℕ
+passes_on node [] = []
+passes_on node (x ∷ older) = passes_on node older ++ pass_at node x.event
+
+-- ------ the writes that are played
+
+-- a write that completes a packet, where the first of its replies, that to its poll, is Ready
+abbrev pub played_on : Deed → List Response → List ℕ
+played_on (Write write true) (Ready readable error at ended ∷ replies) = write ∷ []
+played_on _ replies = []
+
+-- a command on an unbound slot makes no call
+abbrev pub played_at : Option ℕ → Deed → List Response → List ℕ
+played_at None deed replies = []
+played_at (Some node) deed replies = played_on deed replies
+
+abbrev pub played_in : Slots → Target → Deed → List Response → List ℕ
+played_in slots (Slot slot) deed replies = played_at (slice_index_or slots slot None) deed replies
+played_in slots _ deed replies = played_on deed replies
+
+-- the writes of these commands that are played, in the order of their lines
+abbrev pub played_from : Slots → (step : ℕ) → List Command → List Response → List ℕ
+played_from slots step [] replies = []
+played_from slots step (c ∷ cs) replies =
+    played_in slots c.target c.deed replies ++ (elim (done slots c.target c.deed step replies) [
+      | stands event ↦ []
+      | through ending next left ↦ played_from (slots_after ending slots) next cs left
+    ])
+
+unfoldable pub played_writes : (client : ℕ) → Scripted → List Response → List ℕ
+played_writes client script replies = played_from no_slots 0 (commands_of client script) replies
+
+-- Once the commands of a client are through, its passes on each demux node are, in order and each once, those of its
+-- writes whose poll was Ready and which complete a packet.
+abbrev pub WritesPass : Type 0
+WritesPass = (client : ℕ) (script : Scripted) (replies : List Response) (node : ℕ)
+    → next_event client script replies ≡ None → node < DEMUX_NODES
+    → passes_on node (exchanges client script replies) ≡ played_writes client script replies

@@ -1,0 +1,274 @@
+-- The lines of a client name its writes in their order, each once.
+use Rattle.std.proofs.Common.{◌≡◌, ◌≢◌, ◌<◌, ◌≤◌, ◌+◌, ◌⊎◌, inl, inr, refl, sym, ap, subst, ◌∙◌, ℕ, Bool, true, false, nat_eq, List, [], ◌∷◌, ◌++◌, length, map, codes, arith, length-append, append-nil}
+use Rattle.std.proofs.lemmas.Bool.{cases_eq, cases_lt, eq-eqb}
+use Rattle.std.proofs.lemmas.Bool.Decides.{nat_tests}
+use Rattle.std.proofs.lemmas.Grind.{flat_map-append}
+use Rattle.std.proofs.lemmas.List.{map-id, length-set, get_or-set_same, get_or-set_other, get_or_past, get_or-replicate}
+use Rattle.std.proofs.lemmas.List.FromFn.{map-range_with_len_more}
+use Rattle.std.specs.Prelude.{Option, Some, None, Result, Ok, Err, if◌then◌else◌, slice_index_or, slice_set, replicate}
+use Rattle.std.specs.List.{flat_map, range_with_len}
+use Rattle.std.specs.Option.{option_map}
+use Rattle.dmx_calls.specs.declared.limits.TheConstants.{LARGEST_READ}
+use Rattle.dmx_abi.specs.declared.request.Request.{Request}
+use Rattle.dmx_abi.specs.declared.request.Request.TheVariants as request
+use Rattle.text_forms.specs.Words.{is_word}
+use Rattle.text_forms.specs.Names.{client_named}
+use Rattle.client_script.specs.Words.{Reading, and_then, mapped, or_fault, next_as, word_in, words_of}
+use Rattle.client_script.specs.Requests.{want_of, verb_of, request_number_in, request_in, ioctl_in}
+use Rattle.client_script.specs.Writes.{written_named}
+use Rattle.client_script.specs.Grammar.{number_in, pid_in, count_in, target_of, name_of, section_in, pes_in, verb_in, command_in, dvr_named, write_in, asked_in, line_in, line_of, whole, alone, is_passed_over, some_said, meaning, IsPlainVerb, IsPlain}
+use Rattle.client_script.specs.Script.{AreNumbered, Parsed, Scripted, plain, no_writes, with_said, with_write, writes_of, named_by, named_in, named_among, whole_lines, is_stream, lines_from, grammar}
+use Rattle.client_script.specs.declared.fault.FaultKind.{FaultKind}
+use Rattle.client_script.specs.declared.fault.FaultKind.TheVariants.{Client, Command as NoCommand, Target as NoTarget, Name, Bytes}
+use Rattle.client_script.specs.declared.fault.ScriptFault.{ScriptFault}
+use Rattle.client_script.specs.declared.names.CommandName.{CommandName}
+use Rattle.client_script.specs.declared.names.CommandName.TheVariants.{Open as OpenName, Close as CloseName, Section as SectionName, Pes as PesName, Add as AddName, Remove as RemoveName, Start as StartName, Stop as StopName, Size as SizeName, Read as ReadName, ReadWait as ReadWaitName, Drain as DrainName, Poll as PollName, Ioctl as IoctlName}
+use Rattle.client_script.specs.declared.said.Said.{Said}
+use Rattle.client_script.specs.declared.said.Said.TheVariants.{Asks, Writes}
+use Rattle.client_script.specs.declared.line.Verb.{Verb}
+use Rattle.client_script.specs.declared.line.Verb.TheVariants.{Once, ReadWait, Drain, GetStc, Write}
+use Rattle.client_script.specs.declared.line.Want.{Want}
+use Rattle.client_script.specs.declared.line.Want.TheVariants.{Add, Remove, Size, Read}
+use Rattle.client_script.specs.declared.line.Target.{Target}
+use Rattle.client_script.specs.declared.line.Target.TheVariants.{Dvr}
+use Rattle.client_script.specs.declared.line.Line.{Line}
+use Rattle.client_script.specs.declared.line.Line.TheVariants.{Feed, Tick, Command}
+
+-- ------ another line than `write` has another verb
+
+-- what was read is of this kind
+abbrev pub Gives : {A : Type 0} → (A → Type 0) → Reading A → Type 0
+Gives P (Ok r) = P r.0
+Gives P (Err kind) = Unit {0}
+
+-- what follows from what was read
+then_gives : {A B : Type 0} (P : A → Type 0) (Q : B → Type 0) (r : Reading A) (next : A → List (List ℕ) → Reading B) → Gives P r → ((x : A) (words : List (List ℕ)) → P x → Gives Q (next x words)) → Gives Q (and_then r next)
+then_gives P Q (Ok r) next first each = each r.0 r.1 first
+then_gives P Q (Err kind) next first each = tt
+
+-- whatever that is
+any_gives : {A B : Type 0} (Q : B → Type 0) (r : Reading A) (next : A → List (List ℕ) → Reading B) → ((x : A) (words : List (List ℕ)) → Gives Q (next x words)) → Gives Q (and_then r next)
+any_gives Q (Ok r) next each = each r.0 r.1
+any_gives Q (Err kind) next each = tt
+
+pub under_a_name : {A B : Type 0} (Q : B → Type 0) (name : A → B) (r : Reading A) → ((x : A) → Q (name x)) → Gives Q (mapped name r)
+under_a_name Q name (Ok r) each = each r.0
+under_a_name Q name (Err kind) each = tt
+
+pub if_gives : {A : Type 0} (Q : A → Type 0) (b : Bool) (r s : Reading A) → Gives Q r → Gives Q s → Gives Q (if b then r else s)
+if_gives Q true r s first second = first
+if_gives Q false r s first second = second
+
+once_plain : (want : Option Want) (words : List (List ℕ)) → Gives IsPlainVerb (or_fault Name (option_map Once want) words)
+once_plain (Some want) words = tt
+once_plain None words = tt
+
+asked_plain : (r : Request) (words : List (List ℕ)) → Gives IsPlainVerb (or_fault Name (verb_of r) words)
+asked_plain (request.GetStc num) words = tt
+asked_plain (request.SetFilter pid filter mask mode timeout flags) words = tt
+asked_plain (request.SetPes pid input output pes_type flags) words = once_plain (want_of (request.SetPes pid input output pes_type flags)) words
+asked_plain (request.SetSize size) words = tt
+asked_plain request.Start words = tt
+asked_plain request.Stop words = tt
+asked_plain (request.AddPid pid) words = tt
+asked_plain (request.RemovePid pid) words = tt
+
+ioctl_plain : (words : List (List ℕ)) → Gives IsPlainVerb (ioctl_in words)
+unfolding ioctl_in
+ioctl_plain words =
+    any_gives {A = ℕ} IsPlainVerb (request_number_in words) (λ number words. and_then (request_in number words) (λ request words. or_fault Name (verb_of request) words)) (λ number words.
+    any_gives {A = Request} IsPlainVerb (request_in number words) (λ request words. or_fault Name (verb_of request) words) (λ request words. asked_plain request words))
+
+verb_plain : (name : CommandName) (words : List (List ℕ)) → Gives IsPlainVerb (verb_in name words)
+unfolding verb_in
+verb_plain OpenName words = tt
+verb_plain CloseName words = tt
+verb_plain SectionName words = under_a_name {A = Want} IsPlainVerb Once (section_in words) (λ x. tt)
+verb_plain PesName words = under_a_name {A = Want} IsPlainVerb Once (pes_in words) (λ x. tt)
+verb_plain AddName words = under_a_name {A = ℕ} IsPlainVerb (λ pid. Once (Add pid)) (pid_in words) (λ x. tt)
+verb_plain RemoveName words = under_a_name {A = ℕ} IsPlainVerb (λ pid. Once (Remove pid)) (pid_in words) (λ x. tt)
+verb_plain StartName words = tt
+verb_plain StopName words = tt
+verb_plain SizeName words = under_a_name {A = ℕ} IsPlainVerb (λ n. Once (Size n)) (count_in words) (λ x. tt)
+verb_plain ReadName words = under_a_name {A = ℕ} IsPlainVerb (λ n. Once (Read n)) (number_in 0 LARGEST_READ words) (λ x. tt)
+verb_plain ReadWaitName words = under_a_name {A = ℕ} IsPlainVerb ReadWait (number_in 0 LARGEST_READ words) (λ x. tt)
+verb_plain DrainName words = under_a_name {A = ℕ} IsPlainVerb Drain (number_in 0 LARGEST_READ words) (λ x. tt)
+verb_plain PollName words = tt
+verb_plain IoctlName words = ioctl_plain words
+
+module _ (line client : ℕ) where
+  abbrev with_verb : CommandName → Target → List (List ℕ) → Reading Line
+  with_verb name target words = and_then (verb_in name words) (λ verb words. Ok (Command line client target verb, words))
+
+  abbrev with_target : CommandName → List (List ℕ) → Reading Line
+  with_target name words = and_then (next_as NoTarget target_of words) (λ target words. with_verb name target words)
+
+  pub command_plain : (name : Option CommandName) (words : List (List ℕ)) → Gives IsPlain (command_in line client name words)
+  unfolding command_in
+  command_plain name words =
+      any_gives {A = CommandName} IsPlain (or_fault NoCommand name words) with_target (λ name words.
+      any_gives {A = Target} IsPlain (next_as NoTarget target_of words) (with_verb name) (λ target words.
+      then_gives {A = Verb} IsPlainVerb IsPlain (verb_in name words) (λ verb words. Ok (Command line client target verb, words)) (verb_plain name words) (λ verb words is. is)))
+
+-- what a line says asks for a write by no other way
+abbrev IsPlainSaid : Said → Type 0
+IsPlainSaid (Asks line) = IsPlain line
+IsPlainSaid (Writes line client bytes) = Unit {0}
+
+write_plain : (line client : ℕ) (words : List (List ℕ)) → Gives IsPlainSaid (write_in line client words)
+unfolding write_in
+write_plain line client words =
+    any_gives {A = Target} IsPlainSaid (next_as NoTarget dvr_named words) (λ target words. mapped (Writes line client) (next_as Bytes written_named words)) (λ target words.
+    under_a_name {A = List ℕ} IsPlainSaid (Writes line client) (next_as Bytes written_named words) (λ bytes. tt))
+
+asked_in-plain : (line client : ℕ) (words : List (List ℕ)) → Gives IsPlainSaid (asked_in line client words)
+unfolding asked_in
+asked_in-plain line client words =
+    any_gives {A = List ℕ} IsPlainSaid (word_in words) (λ word words. if is_word word (codes "write") then write_in line client words else mapped Asks (command_in line client (name_of word) words)) (λ word words.
+    if_gives IsPlainSaid (is_word word (codes "write")) (write_in line client words) (mapped Asks (command_in line client (name_of word) words)) (write_plain line client words)
+    (then_gives {A = Line} IsPlain IsPlainSaid (command_in line client (name_of word) words) (λ asked words. Ok (Asks asked, words)) (command_plain line client (name_of word) words) (λ asked words is. is)))
+
+module _ (line : ℕ) where
+  abbrev by_a_client : List ℕ → List (List ℕ) → Reading Said
+  by_a_client first words = and_then (or_fault Client (client_named first) words) (λ client words. asked_in line client words)
+
+  abbrev by_the_clock : List ℕ → List (List ℕ) → Reading Said
+  by_the_clock first words = if is_word first (codes "tick") then mapped (λ n. Asks (Tick n)) (count_in words) else by_a_client first words
+
+  line_in-plain : (words : List (List ℕ)) → Gives IsPlainSaid (line_in line words)
+  unfolding line_in
+  line_in-plain words =
+      any_gives {A = List ℕ} IsPlainSaid (word_in words) (λ first words. if is_word first (codes "feed") then mapped (λ n. Asks (Feed n)) (number_in 1 4294967295 words) else by_the_clock first words) (λ first words.
+      if_gives IsPlainSaid (is_word first (codes "feed")) (mapped (λ n. Asks (Feed n)) (number_in 1 4294967295 words)) (by_the_clock first words)
+      (under_a_name {A = ℕ} IsPlainSaid (λ n. Asks (Feed n)) (number_in 1 4294967295 words) (λ n. tt))
+      (if_gives IsPlainSaid (is_word first (codes "tick")) (mapped (λ n. Asks (Tick n)) (count_in words)) (by_a_client first words)
+      (under_a_name {A = ℕ} IsPlainSaid (λ n. Asks (Tick n)) (count_in words) (λ n. tt))
+      (any_gives {A = ℕ} IsPlainSaid (or_fault Client (client_named first) words) (λ client words. asked_in line client words) (λ client words. asked_in-plain line client words))))
+
+-- what a line means asks for a write by no other way
+abbrev IsPlainMeaning : Result (Option Said) FaultKind → Type 0
+IsPlainMeaning (Ok (Some said)) = IsPlainSaid said
+IsPlainMeaning _ = Unit {0}
+
+whole_plain : (r : Reading Said) → Gives IsPlainSaid r → IsPlainMeaning (some_said (whole r))
+whole_plain (Ok (said, [])) is = is
+whole_plain (Ok (said, word ∷ words)) is = tt
+whole_plain (Err kind) is = tt
+
+meaning_plain : (line : ℕ) (bytes : List ℕ) → IsPlainMeaning (meaning line bytes)
+unfolding meaning line_of
+meaning_plain line bytes = go (is_passed_over bytes) where
+  go : (b : Bool) → IsPlainMeaning (if b then Ok None else some_said (whole (line_in line (words_of bytes))))
+  go true = tt
+  go false = whole_plain (line_in line (words_of bytes)) (line_in-plain line (words_of bytes))
+
+-- ------ one line more
+
+either_way : (b : Bool) (ns : List ℕ) → (if b then ns else ns) ≡ ns
+either_way true ns = refl
+either_way false ns = refl
+
+names_none : (client : ℕ) (line : Line) → IsPlain line → named_in client line ≡ []
+names_none client (Feed n) is = refl
+names_none client (Tick n) is = refl
+names_none client (Command line who target (Once want)) is = either_way (nat_eq who client) []
+names_none client (Command line who target (ReadWait n)) is = either_way (nat_eq who client) []
+names_none client (Command line who target (Drain n)) is = either_way (nat_eq who client) []
+names_none client (Command line who target (GetStc num)) is = either_way (nat_eq who client) []
+names_none client (Command line who target (Write write)) is = absurd is
+
+named_more : (client : ℕ) (lines : List Line) (line : Line) → named_among client (lines ++ line ∷ []) ≡ named_among client lines ++ named_in client line
+named_more client lines line = flat_map-append (named_in client) lines (line ∷ []) ∙ ap (λ ns. named_among client lines ++ ns) (append-nil (named_in client line))
+
+one_more : (n : ℕ) → range_with_len 0 (n + 1) ≡ range_with_len 0 n ++ n ∷ []
+one_more n = sym (map-id (range_with_len 0 (n + 1))) ∙ (map-range_with_len_more (λ (k : ℕ). k) 0 n n (omega arith) ∙ ap (λ ns. ns ++ n ∷ []) (map-id (range_with_len 0 n)))
+
+-- the lines of this client name its writes in their order
+abbrev IsNumbered : Scripted → (client : ℕ) → Type 0
+IsNumbered s client = named_among client s.lines ≡ range_with_len 0 (length (writes_of client s.writes))
+
+-- with another line than `write`
+plain_more : (s : Scripted) (line : Line) (client : ℕ) → IsPlain line → IsNumbered s client → IsNumbered (record s { lines = s.lines ++ line ∷ [] }) client
+plain_more s line client only is =
+    named_more client s.lines line ∙ (ap (λ ns. named_among client s.lines ++ ns) (names_none client line only) ∙ (append-nil (named_among client s.lines) ∙ is))
+
+-- with a write
+write_more : (s : Scripted) (line who : ℕ) (bytes : List ℕ) (client : ℕ) → (client ≡ who → who < length s.writes) → IsNumbered s client → IsNumbered (with_write line who bytes s) client
+write_more s line who bytes client there is = named_more client s.lines asked ∙ go (cases_eq client who) where
+  more : List (List ℕ)
+  more = writes_of who s.writes ++ bytes ∷ []
+
+  asked : Line
+  asked = Command line who Dvr (Write (length (writes_of who s.writes)))
+
+  go : (client ≡ who) ⊎ (client ≢ who) → named_among client s.lines ++ named_in client asked ≡ range_with_len 0 (length (writes_of client (slice_set s.writes who more)))
+  go (inl same) =
+      let mine : ℕ = length (writes_of who s.writes) in
+      let count : ℕ = length (writes_of client s.writes) in
+      let here : nat_eq who client ≡ true = eq-eqb who client (sym same) in
+      let names : named_in client asked ≡ mine ∷ [] = ap (λ (b : Bool). if b then mine ∷ [] else []) here in
+      let now : writes_of client (slice_set s.writes who more) ≡ more = ap (λ c. writes_of c (slice_set s.writes who more)) same ∙ get_or-set_same s.writes who more [] (there same) in
+      let long : length more ≡ count + 1 = length-append (writes_of who s.writes) (bytes ∷ []) ∙ ap (λ c. length (writes_of c s.writes) + 1) (sym same) in
+      ap (λ ns. named_among client s.lines ++ ns) names ∙ (ap (λ ns. ns ++ mine ∷ []) is
+      ∙ (ap (λ k. range_with_len 0 count ++ k ∷ []) (ap (λ c. length (writes_of c s.writes)) (sym same))
+      ∙ sym (ap (λ ws. range_with_len 0 (length ws)) now ∙ (ap (λ k. range_with_len 0 k) long ∙ one_more count))))
+  go (inr other) =
+      let elsewhere : nat_eq who client ≡ false = grind (arith, nat_tests) in
+      let names : named_in client asked ≡ [] = ap (λ (b : Bool). if b then length (writes_of who s.writes) ∷ [] else []) elsewhere in
+      let stays : writes_of client (slice_set s.writes who more) ≡ writes_of client s.writes = get_or-set_other s.writes who client more [] other in
+      ap (λ ns. named_among client s.lines ++ ns) names ∙ (append-nil (named_among client s.lines) ∙ (is ∙ ap (λ ws. range_with_len 0 (length ws)) (sym stays)))
+
+-- of all clients
+pub numbered_line : (s : Scripted) (line : Line) → IsPlain line → AreNumbered s → AreNumbered (record s { lines = s.lines ++ line ∷ [] })
+numbered_line s line only are = λ client. plain_more s line client only (are client)
+
+pub numbered_write : (s : Scripted) (line who : ℕ) (bytes : List ℕ) → who < length s.writes → AreNumbered s → AreNumbered (with_write line who bytes s)
+numbered_write s line who bytes there are = λ client. write_more s line who bytes client (λ same. there) (are client)
+
+-- of a script without lines
+none_of : (client : ℕ) → (client < 8) ⊎ (8 ≤ client) → writes_of client no_writes ≡ []
+none_of client (inl there) = get_or-replicate 8 client [] [] there
+none_of client (inr past) = get_or_past no_writes client [] past
+
+pub numbered_none : AreNumbered (plain [])
+numbered_none = λ client. ap (λ (ws : List (List ℕ)). range_with_len 0 (length ws)) (sym (none_of client (cases_lt client 8)))
+
+record InOrder (s : Scripted) : Type 0 where
+  eight : length s.writes ≡ 8
+  order : (client : ℕ) → client ≤ 7 → IsNumbered s client
+
+in_order_more : (said : Option Said) (s : Scripted) → IsPlainMeaning (Ok said) → InOrder s → InOrder (with_said said s)
+in_order_more None s only is = is
+in_order_more (Some (Asks line)) s only is = record { eight = is.eight; order = λ client few. plain_more s line client only (is.order client few) }
+in_order_more (Some (Writes line who bytes)) s only is = record {
+  eight = length-set s.writes who (writes_of who s.writes ++ bytes ∷ []) ∙ is.eight;
+  order = λ client few. write_more s line who bytes client (λ same. omega (arith, is.eight, same, few)) (is.order client few);
+}
+
+-- ------ whole scripts
+
+on_line : (missing : ScriptFault) (line : ℕ) (s t : Scripted) (more : List (List ℕ)) (m : Result (Option Said) FaultKind) → IsPlainMeaning m → InOrder s
+    → ((u : Scripted) → InOrder u → lines_from missing (line + 1) u more ≡ Ok t → InOrder t)
+    → ◌≡◌ {A = Parsed} (elim m [ Err kind ↦ Err (record { line = line; kind = kind }) | Ok said ↦ lines_from missing (line + 1) (with_said said s) more ]) (Ok t) → InOrder t
+on_line missing line s t more (Err kind) only is later e = absurd (cc)
+on_line missing line s t more (Ok said) only is later e = later (with_said said s) (in_order_more said s only is) e
+
+by_line : (missing : ScriptFault) (line : ℕ) (s t : Scripted) (more : List (List ℕ)) (m : Result (Option Said) FaultKind) (b : Bool) → IsPlainMeaning m → InOrder s
+    → ((u : Scripted) → InOrder u → lines_from missing (line + 1) u more ≡ Ok t → InOrder t)
+    → ◌≡◌ {A = Parsed} (if b then Ok s else (elim m [ Err kind ↦ Err (record { line = line; kind = kind }) | Ok said ↦ lines_from missing (line + 1) (with_said said s) more ])) (Ok t) → InOrder t
+by_line missing line s t more m true only is later e =
+    let same : s ≡ t = cc in
+    subst InOrder same is
+by_line missing line s t more m false only is later e = on_line missing line s t more m only is later e
+
+in_order_from : (missing : ScriptFault) (line : ℕ) (s t : Scripted) (lines : List (List ℕ)) → InOrder s → lines_from missing line s lines ≡ Ok t → InOrder t
+unfolding lines_from
+in_order_from missing line s t [] is e = absurd (cc)
+in_order_from missing line s t (bytes ∷ more) is e =
+    by_line missing line s t more (meaning line bytes) (is_stream bytes) (meaning_plain line bytes) is (λ u order rest. in_order_from missing (line + 1) u t more order rest) e
+
+pub named_in_order : (bytes : List ℕ) (s : Scripted) (client : ℕ) → client ≤ 7 → grammar bytes ≡ Ok s → named_among client s.lines ≡ range_with_len 0 (length (writes_of client s.writes))
+unfolding grammar
+named_in_order bytes s client few e = (in_order_from _ 1 (plain []) s (whole_lines bytes) start e).order client few where
+  start : InOrder (plain [])
+  start = record { eight = refl; order = λ client few. numbered_none client }

@@ -1,0 +1,10 @@
+use Rattle.std.proofs.Common.{subst}
+use Rattle.client_script.specs.Words.{Reading}
+use Rattle.client_script.specs.Grammar.{IsPlain}
+use Rattle.client_script.specs.declared.line.Line.{Line}
+use Rattle.client_script.proofs.Numbering.{Gives, command_plain}
+use Rattle.client_script.proofs.verbs.read_asked.Goals as goal
+
+pub returns-clause-range : goal.returns-clause-range
+returns-clause-range c =
+    (c.in_ok-asked.ensures.range, subst (λ (r : Reading Line). Gives IsPlain r) c.in_ok-asked.ensures.value (command_plain c.args.line c.args.client _ _))

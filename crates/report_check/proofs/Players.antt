@@ -1,0 +1,126 @@
+-- The packets that clients play, as a report is checked.
+use Rattle.std.proofs.Common.{◌≡◌, ◌<◌, ◌≤◌, ◌+◌, ◌*◌, ◌^◌, ◌⊎◌, inl, inr, refl, sym, ap, ◌∙◌, ℕ, zero, suc, List, [], ◌∷◌, ◌++◌, Option, Some, None, length, map, take, drop, arith, length-append}
+use Rattle.std.specs.Prelude.{Vec, reverse, slice_get, slice_index_or}
+use Rattle.std.specs.List.{All, flat_map, range_with_len}
+use Rattle.std.specs.declared.alloc.Global.{Global}
+use Rattle.std.proofs.lemmas.Bool.{cases_lt}
+use Rattle.std.proofs.lemmas.Grind.{flat_map-append}
+use Rattle.std.proofs.lemmas.List.{append-nil, get_or_past}
+use Rattle.std.proofs.lemmas.List.Elements.{All-nil, All-cons, All-head, All-tail}
+use Rattle.std.proofs.lemmas.List.FromFn.{get_or-map-range_with_len, length-map-range_with_len}
+use Rattle.ts_packet.specs.Fields.{IsPacket}
+use Rattle.ts_packet.specs.Cut.{cut}
+use Rattle.ts_packet.specs.declared.size.PacketSize.TheVariants.{Of188}
+use Rattle.ts_batch.specs.Batch.{Packets}
+use Rattle.dvr_play.specs.Laws.{packets_in}
+use Rattle.dvr_play.specs.Plays.{Playing, batch_of, cut_of, joined, with_write}
+use Rattle.dvr_play.proofs.Joining.{are_joined, are_packets, few_in}
+use Rattle.dmx_calls.specs.declared.params.Input.{Input}
+use Rattle.dmx_calls.specs.declared.params.Input.TheVariants.{Frontend, Dvr as FromDvr}
+use Rattle.dmx_calls.specs.declared.log.Act.{Act}
+use Rattle.dmx_calls.specs.declared.log.Act.TheVariants.{Pass as PassAct}
+use Rattle.dmx_calls.specs.Invocation.{Pass}
+use Rattle.dmx_calls.specs.Log.{LogEntry, Sources, filled, filled_act, filled_entry}
+use Rattle.dmx_calls.specs.History.{Entry}
+use Rattle.client_script.specs.Script.{Scripted, IsScript, AreWritten, writes_of}
+use Rattle.client_script.specs.Writes.{IsWritten}
+use Rattle.client_core.specs.Commands.{played}
+use Rattle.script_run.specs.IsRun.{sources}
+use Rattle.history_check.specs.Playing.{AreFewPackets, brought_from}
+use Rattle.report_check.specs.Inside.Parts.{all_played}
+
+-- ------ how many there are
+
+pub count_at : (played : List (Vec (List ℕ) Global)) (who : ℕ) (packets : Vec (List ℕ) Global) → who < length played → packets ≡ slice_index_or played who packets
+    → slice_index_or (map (λ ps. length ps) (map (λ p. p.items) played)) who 0 ≡ length packets.items
+count_at [] who packets lt is = absurd (omega (arith, lt))
+count_at (p ∷ played) zero packets lt is = ap (λ (v : Vec (List ℕ) Global). length v.items) (sym is)
+count_at (p ∷ played) (suc who) packets lt is = count_at played who packets (omega (arith, lt)) is
+
+pub none_at : (played : List (Vec (List ℕ) Global)) (who : ℕ) → length played ≤ who → slice_index_or (map (λ ps. length ps) (map (λ p. p.items) played)) who 0 ≡ 0
+none_at [] who past = refl
+none_at (p ∷ played) zero past = absurd (omega (arith, past))
+none_at (p ∷ played) (suc who) past = none_at played who (omega (arith, past))
+
+-- ------ the packets of all callers are those of a run
+
+nothing_played : (script : Scripted) (c : ℕ) → length script.writes ≡ 8 → 8 ≤ c → played c script ≡ []
+nothing_played script c eight past =
+    ap (λ ws. (cut_of ws).packets) (get_or_past script.writes c [] (omega (arith, eight, past))) ∙ sym (are_joined [])
+
+pub same_sources : (script : Scripted) → length script.writes ≡ 8 → (packets : List (List ℕ)) (who : ℕ) (input : Input) → brought_from packets (all_played script) who input ≡ sources script packets who input
+same_sources script eight packets who Frontend = refl
+same_sources script eight packets zero FromDvr = refl
+same_sources script eight packets (suc c) FromDvr = go (cases_lt c 8) where
+  all : List (List (List ℕ))
+  all = map (λ client. played client script) (range_with_len 0 8)
+
+  go : (c < 8) ⊎ (8 ≤ c) → slice_index_or (map (λ client. played client script) (range_with_len 0 8)) c [] ≡ played c script
+  go (inl low) = get_or-map-range_with_len (λ client. played client script) 0 8 c c [] low (omega arith)
+  go (inr past) =
+      get_or_past all c [] (omega (arith, past, length-map-range_with_len (λ client. played client script) 0 8)) ∙ sym (nothing_played script c eight past)
+
+-- ------ the same packets fill the same history
+
+same_act : (f g : Input → List (List ℕ)) → ((input : Input) → f input ≡ g input) → (a : Act) → filled_act f a ≡ filled_act g a
+same_act f g same (PassAct input first count now) = ap (λ (ps : List (List ℕ)). Pass input first (take count (drop first ps)) now) (same input)
+same_act f g same _ = refl
+
+same_entries : (f g : Sources) → ((who : ℕ) (input : Input) → f who input ≡ g who input) → (es : List LogEntry) → map (filled_entry f) es ≡ map (filled_entry g) es
+same_entries f g same [] = refl
+same_entries f g same (e ∷ es) =
+    let one : filled_entry f e ≡ filled_entry g e = ap (λ i. record { who = e.who; invocation = i; response = e.response }) (same_act (f e.who) (g e.who) (same e.who) e.act) in
+    ap (λ (x : Entry). x ∷ map (filled_entry f) es) one ∙ ap (λ (l : List Entry). filled_entry g e ∷ l) (same_entries f g same es)
+
+pub same_filled : (f g : Sources) → ((who : ℕ) (input : Input) → f who input ≡ g who input) → (es : List LogEntry) → filled f es ≡ filled g es
+same_filled f g same es = ap (λ (l : List Entry). reverse l) (same_entries f g same es)
+
+-- ------ there are few of each
+
+few_bytes : (writes : List (List ℕ)) → All IsWritten writes → length (joined writes) ≤ 12032 * length writes
+few_bytes [] all = omega arith
+few_bytes (bytes ∷ writes) all =
+    let one = (All-head IsWritten bytes writes all).few in
+    omega (arith, one, length-append bytes (joined writes), few_bytes writes (All-tail IsWritten bytes writes all))
+
+few_of : (script : Scripted) (c : ℕ) → IsScript script → AreFewPackets (played c script)
+few_of script c is = (are_packets (joined (writes_of c script.writes)), go (cases_lt c (length script.writes))) where
+  go : (c < length script.writes) ⊎ (length script.writes ≤ c) → length (played c script) < 2 ^ 63
+  go (inl there) =
+      let w : AreWritten (writes_of c script.writes) = is.writes c [] there in
+      omega (arith, few_in (joined (writes_of c script.writes)), few_bytes (writes_of c script.writes) w.each, w.few)
+  go (inr past) = let none = ap length (nothing_played script c is.clients (omega (arith, past, is.clients))) in omega (arith, none)
+
+few_each : (script : Scripted) (cs : List ℕ) → IsScript script → All AreFewPackets (map (λ client. played client script) cs)
+few_each script [] is = All-nil AreFewPackets
+few_each script (c ∷ cs) is = All-cons AreFewPackets (played c script) (map (λ client. played client script) cs) (few_of script c is) (few_each script cs is)
+
+pub all_few : (script : Scripted) → IsScript script → All AreFewPackets (all_played script)
+all_few script is = All-cons AreFewPackets [] (map (λ client. played client script) (range_with_len 0 8)) (All-nil IsPacket, omega arith) (few_each script (range_with_len 0 8) is)
+
+-- ------ a write more
+
+pub take_next : {A : Type 0} (xs : List A) (place : ℕ) (x : A) → slice_get xs place ≡ Some x → take (place + 1) xs ≡ take place xs ++ x ∷ []
+take_next [] place x at = absurd (cc)
+take_next (y ∷ ys) zero x at = let same : y ≡ x = cc in ap (λ z. z ∷ []) same
+take_next (y ∷ ys) (suc i) x at =
+    let on : suc i + 1 ≡ suc (i + 1) = omega arith in
+    ap (λ n. take n (y ∷ ys)) on ∙ ap (λ zs. y ∷ zs) (take_next ys i x at)
+
+last_of : (before : List (Option Packets)) (last : Option Packets) → slice_index_or (before ++ last ∷ []) (length before) None ≡ last
+last_of [] last = refl
+last_of (b ∷ before) last = last_of before last
+
+pub batches_more : (old new : Playing) (bytes : List ℕ) → new ≡ with_write bytes old → length new.batches ≡ length old.batches + 1
+batches_more old new bytes made =
+    ap (λ (p : Playing). length p.batches) made ∙ length-append old.batches (batch_of old.count (cut Of188 (old.rest ++ bytes)).packets ∷ [])
+
+-- the packets of the writes' batches, with those of the write that was made last
+pub batch_more : (old new : Playing) (bytes : List ℕ) (i : ℕ) → length old.batches ≡ i → new ≡ with_write bytes old
+    → flat_map packets_in new.batches ≡ flat_map packets_in old.batches ++ packets_in (slice_index_or new.batches i None)
+batch_more old new bytes i count made =
+    let last : Option Packets = batch_of old.count (cut Of188 (old.rest ++ bytes)).packets in
+    let more : new.batches ≡ old.batches ++ last ∷ [] = ap (λ (p : Playing). p.batches) made in
+    let there : slice_index_or new.batches i None ≡ last = ap (λ (bs : List (Option Packets)). slice_index_or bs i None) more ∙ ap (λ n. slice_index_or (old.batches ++ last ∷ []) n None) (sym count) ∙ last_of old.batches last in
+    ap (flat_map packets_in) more ∙ flat_map-append packets_in old.batches (last ∷ [])
+    ∙ ap (λ (l : List (List ℕ)). flat_map packets_in old.batches ++ l) (append-nil (packets_in last) ∙ ap packets_in (sym there))
