@@ -1,7 +1,7 @@
 -- From what a seat has made to what it has done for a request.
 use Rattle.std.proofs.Common.{◌≡◌, ◌⊎◌, ℕ, suc, ◌+◌, ◌<◌, Bool, true, false, List, [], ◌∷◌, ◌++◌, length, map, get_or, Option, Some, None, inl, inr, refl, ap, sym, ◌∙◌, subst, arith, length-append}
 use Rattle.std.specs.Prelude.{slice_get}
-use Rattle.std.proofs.lemmas.List.{map-append, append-nil, append_assoc}
+use Rattle.std.proofs.lemmas.List.{map-append, append-nil, append_assoc, append_cancel_left}
 use Rattle.std.proofs.lemmas.Option.{slice_get_within, slice_get_read}
 use Rattle.lemmas.proofs.Lists.{one_value, at_last, at_before, at_end}
 use Rattle.dmx_calls.specs.Calls.{response_of, told_entry}
@@ -22,8 +22,10 @@ use Rattle.serve_frames.specs.Tells.{told_of, data_of}
 use Rattle.seats.specs.declared.made.Made.{Made}
 use Rattle.seats.specs.declared.seat.Seat.{Seat}
 use Rattle.seats.specs.Answered.{act_behind, IsBehind, IsCommand, is_busy, AreBusy, IsClosing, AreClosings, refusal, told_opened, IsOpened, IsFull, IsAnsweredBy, IsAnswered}
-use Rattle.seats.specs.Doing.{HasMade, Does, MakesOne, DoesCommand, HasAnswered, KeepsBy}
-use Rattle.seats.specs.Seated.{log_of, told_made}
+use Rattle.seats.specs.Calls.{MakesCalls}
+use Rattle.seats.specs.Doing.{HasMade, Does, MakesOne, DoesCommand, HasAnswered, HasGone, KeepsBy}
+use Rattle.seats.specs.Holding.{CloseHeld}
+use Rattle.seats.specs.Seated.{log_of, told_made, GoesOn}
 use Rattle.seats.specs.Spelled.{commands_done_by, AreKept}
 use Rattle.seats.specs.Told.{data_read, call_at}
 
@@ -263,14 +265,21 @@ module _ (ask : Ask) (now : ℕ) where
       → Does (λ calls. IsAnswered ask now calls t (data_read (call_at s.made.items o))) s s
   answered_wanting s t o told = record { more = []; has = made_none s; is = inr (refl, (told.0, nothing_read s o told.1)) }
 
+-- want of memory is no success
+pub not_done : (t : Tell) → t ≡ refusal ENOMEM → t.code ≡ 0 → ⊥
+not_done t is done = let both : ENOMEM ≡ 0 = sym (ap (λ (x : Tell). x.code) is) ∙ done in omega (arith, both)
+
 pub has_answered : (ask : Ask) (now : ℕ) (old mid new : Seat) (t : Tell) (bytes : List ℕ) → log_of mid ≡ log_of old → mid.outcomes.items ≡ old.outcomes.items → KeepsBy ask mid new
-    → Does (λ calls. IsAnswered ask now calls t bytes) mid new → HasAnswered ask now old new t bytes
-has_answered ask now old mid new t bytes same told k d = record {
-  calls = map (told_made mid.who) d.more;
-  log = log_more mid new d.more d.has ∙ ap (λ (l : List LogEntry). l ++ map (told_made mid.who) d.more) same;
-  is = d.is;
-  kept =
-      let ds = commands_done_by ask (map (told_made mid.who) d.more) in
-      subst (λ (l : List LogEntry). AreKept (length l) ds old.outcomes.items new.outcomes.items) same
-      (subst (λ (os : List Outcome). AreKept (length (log_of mid)) ds os new.outcomes.items) told (k (map (told_made mid.who) d.more) (log_more mid new d.more d.has)));
-}
+    → GoesOn old new → (ask ≡ Leave → t.code ≡ 0 → HasGone mid new) → Does (λ calls. IsAnswered ask now calls t bytes) mid new → HasAnswered ask now old new t bytes
+has_answered ask now old mid new t bytes same told k goes gone d =
+    let mine = map (told_made mid.who) d.more in
+    let log : log_of new ≡ log_of old ++ mine = log_more mid new d.more d.has ∙ ap (λ (l : List LogEntry). l ++ mine) same in
+    record {
+      calls = mine;
+      log = log;
+      is = d.is;
+      kept = subst (λ (l : List LogEntry). AreKept (length l) (commands_done_by ask mine) old.outcomes.items new.outcomes.items) same
+          (subst (λ (os : List Outcome). AreKept (length (log_of mid)) (commands_done_by ask mine) os new.outcomes.items) told (k mine (log_more mid new d.more d.has)));
+      made = subst (λ (l : List LogEntry). MakesCalls (length (log_of old)) old.client l new.client) (append_cancel_left (log_of old) goes.calls mine (sym goes.log ∙ log)) goes.made;
+      gone = λ leave done. let g = gone leave done in record { held = subst (λ (l : List LogEntry). CloseHeld l mine) same (g.held mine (log_more mid new d.more d.has)); left = g.left };
+    }

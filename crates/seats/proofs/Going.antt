@@ -13,8 +13,9 @@ use Rattle.adapter.specs.Callers.{Caller, AreFreshCallers}
 use Rattle.adapter.specs.Rows.{Fits}
 use Rattle.adapter.proofs.Pairs.{caller_fits}
 use Rattle.seats.specs.Calls.{MakesCalls}
-use Rattle.seats.specs.Holding.{KnowsItsNodes}
+use Rattle.seats.specs.Holding.{AreMarked, KnowsItsNodes}
 use Rattle.seats.proofs.Holding.{knows_none}
+use Rattle.seats.proofs.Marking.{marked_none}
 use Rattle.seats.proofs.Lists.{mapped}
 use Rattle.seats.specs.declared.run.Desk.{Desk}
 use Rattle.seats.specs.declared.made.Made.{Made}
@@ -67,6 +68,7 @@ kept_fit locks a b c w l h f = record {
   who = w ∙ (f.who ∙ ap (λ (k : Caller). k.who) (sym c));
   left = let before = f.left in let same = ap length l in let x = log_long a in let y = log_long b in let k = ap (λ (k : Caller). k.left) c in omega (arith, before, same, x, y, k);
   nodes = subst AreOnNodes (sym l) f.nodes;
+  marked = subst (AreMarked (log_of b)) (sym h) (subst (λ (k : List LogEntry). AreMarked k a.held) (sym l) f.marked);
   knows = subst (KnowsItsNodes b.client) (sym h) (subst (λ (k : Caller). KnowsItsNodes k a.held) (sym c) f.knows);
 }
 
@@ -101,6 +103,7 @@ module _ (locks : List TableId) (n : ℕ) (feeder : Caller) (clients : List Call
       who = is.who ∙ sym f.number;
       left = omega (arith, size, made, calls);
       nodes = subst AreOnNodes (sym (log_none s is.log.0 is.log.1)) (All-nil (λ (e : LogEntry). e.node ≤ DEMUX_NODES));
+      marked = subst (λ (k : List LogEntry). AreMarked k s.held) (sym (log_none s is.log.0 is.log.1)) (marked_none s.held is.held);
       knows = knows_none locks (n + 1) (c + 1) (2 ^ 40) s.client f s.held;
     };
     room = record { made = omega (arith, made, room.0); outcomes = omega (arith, told, room.1); left = omega (arith, calls) };

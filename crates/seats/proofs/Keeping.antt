@@ -64,7 +64,7 @@ kept_none step was now is = is ∙ sym (append-nil was)
 -- ------ a seat
 
 -- the calls by which its log has grown are these
-the_calls : (old new : Seat) (calls others : List LogEntry) → log_of new ≡ log_of old ++ calls → log_of new ≡ log_of old ++ others → calls ≡ others
+pub the_calls : (old new : Seat) (calls others : List LogEntry) → log_of new ≡ log_of old ++ calls → log_of new ≡ log_of old ++ others → calls ≡ others
 the_calls old new calls others a b = append_cancel_left (log_of old) calls others (sym a ∙ b)
 
 -- no call, and no command

@@ -1,9 +1,11 @@
+pub mod Closing
 pub mod DoneCommands
 pub mod Doing
 pub mod Going
 pub mod Holding
 pub mod Keeping
 pub mod Lists
+pub mod Marking
 pub mod Owning
 pub mod Played
 pub mod Progress

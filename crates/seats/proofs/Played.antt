@@ -8,6 +8,7 @@ use Rattle.dmx_calls.specs.declared.outcome.Outcome.{Outcome}
 use Rattle.dmx_calls.specs.Log.{LogEntry}
 use Rattle.client_script.specs.Script.{Scripted}
 use Rattle.client_core.specs.Commands.{commands_of}
+use Rattle.adapter.specs.Callers.{Caller}
 use Rattle.seats.specs.Scripts.{IsPlayed}
 use Rattle.seats.specs.Seated.{AreOnNodes}
 use Rattle.seats.specs.Spelled.{DoneCommand, calls_in, commands_by, outcomes_by}
@@ -28,7 +29,7 @@ module _ {T : Type 0} (source : T → SourceEnd) (sink : T → SinkEnd) (may : �
   last_turns line (t ∷ []) is = All-cons (IsTurn may) t [] is.1.turn (All-nil (IsTurn may))
   last_turns line (t ∷ u ∷ ts) is = absurd is
 
-  module _ (line : T) (book : List LogEntry) (told : List Outcome) (a : HasAnsweredAll source sink may line [] book [] told) (low : AreOnNodes book) where
+  module _ (line : T) (c d : Caller) (book : List LogEntry) (told : List Outcome) (a : HasAnsweredAll source sink may line c d [] book [] told) (low : AreOnNodes book) where
     turns : All (IsTurn may) (a.turns ++ a.last)
     turns = All-append (IsTurn may) a.turns a.last (told_turns line a.turns a.after a.told) (last_turns a.after a.last a.is)
 

@@ -15,13 +15,16 @@ use Rattle.serve_frames.specs.declared.tell.Tell.{Tell}
 use Rattle.seats.specs.declared.seat.Seat.{Seat}
 use Rattle.seats.specs.Answered.{AreClosings, IsAnswered}
 use Rattle.dmx_calls.specs.declared.outcome.Outcome.{Outcome}
-use Rattle.seats.specs.Doing.{Does, HasAnswered, KeepsClosed}
-use Rattle.seats.specs.Seated.{log_of, told_made}
+use Rattle.adapter.specs.Callers.{Caller}
+use Rattle.seats.specs.Calls.{MakesCalls}
+use Rattle.seats.specs.Doing.{Does, HasAnswered, HasGone, KeepsClosed}
+use Rattle.seats.specs.Holding.{CloseHeld}
+use Rattle.seats.specs.Seated.{log_of, told_made, GoesOn}
 use Rattle.seats.specs.Told.{reply_bytes}
 use Rattle.seats.specs.Spelled.{DoneCommand, calls_in, closings, commands_done_by, AreKept}
-use Rattle.seats.specs.Turns.{Turn, IsTurn, calls_of, spelled_by, IsAsked, IsTold, AreTold, IsLast, HasTurned, HasAnsweredAll}
+use Rattle.seats.specs.Turns.{Turn, IsTurn, calls_of, spelled_by, MakesTurns, IsAsked, IsTold, AreTold, IsLast, HasTurned, HasAnsweredAll}
 use Rattle.seats.proofs.Doing.{log_more}
-use Rattle.seats.proofs.Keeping.{kept_none, kept_trans}
+use Rattle.seats.proofs.Keeping.{the_calls, kept_none, kept_trans}
 use Rattle.seats.proofs.Spelling.{answered_calls}
 
 -- where it has succeeded
@@ -37,10 +40,16 @@ appended a b c h d head bytes e f x y =
 pub told_whole : {E : Type 0} (r : Result (Unit {0}) E) (a b c : Option (List ℕ)) (h d head bytes : List ℕ) → h ≡ head → d ≡ bytes → Appends a b h → OnOk r (Appends b c d) → OnOk r (Appends a c (head ++ bytes))
 told_whole r a b c h d head bytes e f x o = on_ok_weaker {P = Appends b c d} {Q = Appends a c (head ++ bytes)} r (λ y. appended a b c h d head bytes e f x y) o
 
+-- the calls of turns, and of those behind them
+makes_both : (before : List LogEntry) (c m d : Caller) (ts us : List Turn) → MakesTurns before c ts m → MakesTurns (before ++ calls_of ts) m us d → MakesTurns before c (ts ++ us) d
+makes_both before c m d [] us a b = subst (λ (k : Caller). MakesTurns before k us d) a (subst (λ (l : List LogEntry). MakesTurns l m us d) (append-nil before) b)
+makes_both before c m d (t ∷ ts) us a b =
+    (a.0, a.1, a.2, makes_both (before ++ t.calls) a.0 m d ts us a.3 (subst (λ (l : List LogEntry). MakesTurns l m us d) (sym (append_assoc before t.calls (calls_of ts))) b))
+
 module _ {T : Type 0} (source : T → SourceEnd) (sink : T → SinkEnd) (may : ℕ → Bool) where
   -- no whole request was read
-  pub turned_none : (before after : T) (log : List LogEntry) (told : List Outcome) → HasTurned source sink may false before after log log told told
-  turned_none before after log told = ([], tt, sym (append-nil log), kept_none (length log) told told refl)
+  pub turned_none : (before after : T) (c : Caller) (log : List LogEntry) (told : List Outcome) → HasTurned source sink may false before after c c log log told told
+  turned_none before after c log told = ([], tt, sym (append-nil log), kept_none (length log) told told refl, refl)
 
   module _ (ask : Ask) (now : ℕ) (old new : Seat) (request : List ℕ) (t : Tell) (bytes : List ℕ) (before asked after : T) (is : ask ≡ ask_of request) (long : length request ≡ REQUEST_LEN)
       (given : IsTrue (may now)) (taken : Consumes (source before).left (source asked).left request) (a : HasAnswered ask now old new t bytes) where
@@ -54,30 +63,36 @@ module _ {T : Type 0} (source : T → SourceEnd) (sink : T → SinkEnd) (may : �
     its_kept : AreKept (length (log_of old)) (commands_done_by (ask_of request) a.calls) old.outcomes.items new.outcomes.items
     its_kept = subst (λ (k : Ask). AreKept (length (log_of old)) (commands_done_by k a.calls) old.outcomes.items new.outcomes.items) is a.kept
 
+    its_made : MakesTurns (log_of old) old.client (turn ∷ []) new.client
+    unfolding turn
+    its_made = (new.client, a.made, λ leaving. a.gone (is ∙ leaving.0) leaving.1, refl)
+
     -- its reply was written whole, or not
     pub turned_one : (on : Bool) → (on ≡ true → Appends (sink asked).written (sink after).written (reply_bytes t bytes))
-        → HasTurned source sink may on before after (log_of old) (log_of new) old.outcomes.items new.outcomes.items
+        → HasTurned source sink may on before after old.client new.client (log_of old) (log_of new) old.outcomes.items new.outcomes.items
     unfolding turn
-    turned_one true whole = (turn, record { asked = asked; is = its_ask; told = whole refl }, a.log, its_kept)
+    turned_one true whole = (turn, record { asked = asked; is = its_ask; told = whole refl }, a.log, its_kept, its_made)
     turned_one false whole = (
       turn ∷ [],
       (asked, its_ask),
       a.log ∙ ap (λ (l : List LogEntry). log_of old ++ l) (sym (append-nil a.calls)),
       subst (λ (ds : List DoneCommand). AreKept (length (log_of old)) ds old.outcomes.items new.outcomes.items) (sym (append-nil (commands_done_by (ask_of request) a.calls))) its_kept,
+      its_made,
     )
 
   -- ------ one after another
 
   -- these were answered, and told whole
-  pub record HaveTold (line at : T) (old new : List LogEntry) (was now : List Outcome) : Type 0 where
+  pub record HaveTold (line at : T) (c d : Caller) (old new : List LogEntry) (was now : List Outcome) : Type 0 where
     pub turns : List Turn
     pub told : AreTold source sink may line turns at
     pub log : new ≡ old ++ calls_of turns
     pub kept : AreKept (length old) (spelled_by turns) was now
     pub calls : calls_in (spelled_by turns) ≡ calls_of turns
+    pub made : MakesTurns old c turns d
 
-  pub told_none : (line : T) (log : List LogEntry) (told : List Outcome) → HaveTold line line log log told told
-  told_none line log told = record { turns = []; told = refl; log = sym (append-nil log); kept = kept_none (length log) told told refl; calls = refl }
+  pub told_none : (line : T) (c : Caller) (log : List LogEntry) (told : List Outcome) → HaveTold line line c c log log told told
+  told_none line c log told = record { turns = []; told = refl; log = sym (append-nil log); kept = kept_none (length log) told told refl; calls = refl; made = refl }
 
   told_last : (line at next : T) (ts : List Turn) (t : Turn) → AreTold source sink may line ts at → IsTold source sink may t at next → AreTold source sink may line (ts ++ t ∷ []) next
   told_last line at next [] t is one = (next, subst (λ (l : T). IsTold source sink may t l next) is one, refl)
@@ -103,8 +118,9 @@ module _ {T : Type 0} (source : T → SourceEnd) (sink : T → SinkEnd) (may : �
   count_calls : (a b : List LogEntry) (ts : List Turn) → b ≡ a ++ calls_of ts → calls_in (spelled_by ts) ≡ calls_of ts → length b ≡ length a + length (calls_in (spelled_by ts))
   count_calls a b ts log calls = let size = length-append a (calls_of ts) in let grown = ap length log in let own = ap length calls in omega (arith, size, grown, own)
 
-  pub told_more : (line at next : T) (a b c : List LogEntry) (was mid now : List Outcome) (on : Bool) → HaveTold line at a b was mid → HasTurned source sink may on at next b c mid now → on ≡ true → HaveTold line next a c was now
-  told_more line at next a b c was mid now true h one is = record {
+  pub told_more : (line at next : T) (x y z : Caller) (a b c : List LogEntry) (was mid now : List Outcome) (on : Bool) → HaveTold line at x y a b was mid → HasTurned source sink may on at next y z b c mid now → on ≡ true
+      → HaveTold line next x z a c was now
+  told_more line at next x y z a b c was mid now true h one is = record {
     turns = h.turns ++ one.0 ∷ [];
     told = told_last line at next h.turns one.0 h.told one.1;
     log = one.2 ∙ (ap (λ (l : List LogEntry). l ++ one.0.calls) h.log ∙ (append_assoc a (calls_of h.turns) one.0.calls
@@ -112,19 +128,21 @@ module _ {T : Type 0} (source : T → SourceEnd) (sink : T → SinkEnd) (may : �
     kept = subst (λ (ds : List DoneCommand). AreKept (length a) ds was now) (ap (λ (ds : List DoneCommand). spelled_by h.turns ++ ds) (sym (append-nil (commands_done_by (ask_of one.0.request) one.0.calls))) ∙ sym (spelled_more h.turns (one.0 ∷ [])))
         (kept_trans (length a) (length b) (spelled_by h.turns) (commands_done_by (ask_of one.0.request) one.0.calls) was mid now h.kept one.3 (count_calls a b h.turns h.log h.calls));
     calls = more_calls h.turns (one.0 ∷ []) h.calls (turn_calls one.0 one.1.is.turn);
+    made = makes_both a x y z h.turns (one.0 ∷ []) h.made (subst (λ (l : List LogEntry). MakesTurns l y (one.0 ∷ []) z) h.log one.4);
   }
-  told_more line at next a b c was mid now false h one is = absurd (cc is)
+  told_more line at next x y z a b c was mid now false h one is = absurd (cc is)
 
   last_calls : (line : T) (ts : List Turn) → IsLast source sink may line ts → calls_in (spelled_by ts) ≡ calls_of ts
   last_calls line [] is = refl
   last_calls line (t ∷ []) is = turn_calls t is.1.turn
   last_calls line (t ∷ u ∷ ts) is = absurd is
 
-  pub answered_all : (line at next : T) (old mid new last : Seat) (on : Bool) → HaveTold line at (log_of old) (log_of mid) old.outcomes.items mid.outcomes.items
-      → HasTurned source sink may on at next (log_of mid) (log_of new) mid.outcomes.items new.outcomes.items → on ≡ false
-      → Does (AreClosings (DEMUX_NODES + 1)) new last → KeepsClosed new last → HasAnsweredAll source sink may line (log_of old) (log_of last) old.outcomes.items last.outcomes.items
-  answered_all line at next old mid new last true h one is d k = absurd (cc is)
-  answered_all line at next old mid new last false h one is d k = record {
+  pub answered_all : (line at next : T) (old mid new last : Seat) (on : Bool) → HaveTold line at old.client mid.client (log_of old) (log_of mid) old.outcomes.items mid.outcomes.items
+      → HasTurned source sink may on at next mid.client new.client (log_of mid) (log_of new) mid.outcomes.items new.outcomes.items → on ≡ false
+      → Does (AreClosings (DEMUX_NODES + 1)) new last → KeepsClosed new last → GoesOn new last → HasGone new last
+      → HasAnsweredAll source sink may line old.client last.client (log_of old) (log_of last) old.outcomes.items last.outcomes.items
+  answered_all line at next old mid new last true h one is d k goes gone = absurd (cc is)
+  answered_all line at next old mid new last false h one is d k goes gone = record {
     turns = h.turns;
     after = at;
     told = h.told;
@@ -132,16 +150,25 @@ module _ {T : Type 0} (source : T → SourceEnd) (sink : T → SinkEnd) (may : �
     is = one.1;
     leaving = leaving;
     closed = d.is;
-    log = log_more new last d.more d.has ∙ (ap (λ (l : List LogEntry). l ++ leaving) one.2 ∙ (ap (λ (l : List LogEntry). (l ++ calls_of one.0) ++ leaving) h.log
+    log = grown ∙ (ap (λ (l : List LogEntry). l ++ leaving) one.2 ∙ (ap (λ (l : List LogEntry). (l ++ calls_of one.0) ++ leaving) h.log
         ∙ (ap (λ (l : List LogEntry). l ++ leaving) (append_assoc (log_of old) (calls_of h.turns) (calls_of one.0))
         ∙ (append_assoc (log_of old) (calls_of h.turns ++ calls_of one.0) leaving ∙ ap (λ (l : List LogEntry). log_of old ++ l) (append_assoc (calls_of h.turns) (calls_of one.0) leaving)))));
     kept = kept_trans (length (log_of old)) (length (log_of new)) (spelled_by (h.turns ++ one.0)) (closings leaving).commands old.outcomes.items new.outcomes.items last.outcomes.items
         (subst (λ (ds : List DoneCommand). AreKept (length (log_of old)) ds old.outcomes.items new.outcomes.items) (sym (spelled_more h.turns one.0))
         (kept_trans (length (log_of old)) (length (log_of mid)) (spelled_by h.turns) (spelled_by one.0) old.outcomes.items mid.outcomes.items new.outcomes.items h.kept one.3 (count_calls (log_of old) (log_of mid) h.turns h.log h.calls)))
-        (k leaving (log_more new last d.more d.has))
-        (count_calls (log_of old) (log_of new) (h.turns ++ one.0)
-        (one.2 ∙ (ap (λ (l : List LogEntry). l ++ calls_of one.0) h.log ∙ (append_assoc (log_of old) (calls_of h.turns) (calls_of one.0) ∙ ap (λ (l : List LogEntry). log_of old ++ l) (sym (calls_more h.turns one.0)))))
-        (more_calls h.turns one.0 h.calls (last_calls at one.0 one.1)));
+        (k leaving grown)
+        (count_calls (log_of old) (log_of new) (h.turns ++ one.0) before (more_calls h.turns one.0 h.calls (last_calls at one.0 one.1)));
+    then = new.client;
+    made = makes_both (log_of old) old.client mid.client new.client h.turns one.0 h.made (subst (λ (l : List LogEntry). MakesTurns l mid.client one.0 new.client) h.log one.4);
+    leaves = subst (λ (l : List LogEntry). MakesCalls (length l) new.client leaving last.client) before
+        (subst (λ (l : List LogEntry). MakesCalls (length (log_of new)) new.client l last.client) (the_calls new last goes.calls leaving goes.log grown) goes.made);
+    back = record { held = subst (λ (l : List LogEntry). CloseHeld l leaving) before (gone.held leaving grown); left = gone.left };
   } where
     leaving : List LogEntry
     leaving = map (told_made new.who) d.more
+
+    grown : log_of last ≡ log_of new ++ leaving
+    grown = log_more new last d.more d.has
+
+    before : log_of new ≡ log_of old ++ calls_of (h.turns ++ one.0)
+    before = one.2 ∙ (ap (λ (l : List LogEntry). l ++ calls_of one.0) h.log ∙ (append_assoc (log_of old) (calls_of h.turns) (calls_of one.0) ∙ ap (λ (l : List LogEntry). log_of old ++ l) (sym (calls_more h.turns one.0))))

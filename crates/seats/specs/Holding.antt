@@ -1,12 +1,14 @@
--- Which nodes are a caller's, by what its passes have seen.
-use Rattle.std.specs.Prelude.{◌≡◌, ◌≢◌, ℕ, Bool, true, false, List, [], ◌∷◌, reverse, slice_get, Some, if◌then◌else◌}
+-- Which nodes are a caller's, by its calls and by what its passes have seen.
+use Rattle.std.specs.Prelude.{◌≡◌, ◌≢◌, ◌≤◌, ℕ, Bool, true, false, List, [], ◌∷◌, ◌++◌, fold, nat_eq, reverse, slice_get, Some, if◌then◌else◌}
 use Rattle.atomic_table.specs.Seated.{TableId}
 use Rattle.node_lock.specs.declared.view.View.{View}
 use Rattle.node_lock.specs.Passes.{KnowsItsCalls}
 use Rattle.dmx_calls.specs.declared.log.Act.{Act}
+use Rattle.dmx_calls.specs.declared.limits.TheConstants.{DEMUX_NODES}
 use Rattle.dmx_calls.specs.declared.log.Act.TheVariants.{Open, Close}
 use Rattle.dmx_calls.specs.Entries.{caller_of}
 use Rattle.dmx_calls.specs.History.{Entry}
+use Rattle.dmx_calls.specs.Log.{LogEntry}
 use Rattle.dmx_calls.specs.Response.{Response, is_accepted}
 use Rattle.dmx_calls.specs.Tenure.{owner}
 use Rattle.adapter.specs.Callers.{Caller}
@@ -21,6 +23,25 @@ abbrev pub has_then : (had : Bool) → Act → Response → Bool
 has_then had Open response = if is_accepted response then true else had
 has_then had Close response = if is_accepted response then false else had
 has_then had _ response = had
+
+-- whether a node is held behind these calls of a caller: it was opened, and not closed since
+abbrev pub holds : List LogEntry → (node : ℕ) → Bool
+holds calls node = fold (λ had e. if nat_eq e.node node then has_then had e.act e.response else had) false calls
+
+-- each Close among these calls, which come behind those, is on a node that is held then
+abbrev pub CloseHeld : (before : List LogEntry) → List LogEntry → Type 0
+CloseHeld before [] = Unit {0}
+CloseHeld before (e ∷ es) = (e.act ≡ Close → holds before e.node ≡ true) × CloseHeld (before ++ e ∷ []) es
+
+-- By these calls, which come behind those, a caller gives back what it has: it closes no node that it doesn't hold, and owns none
+-- behind them.
+pub record GivesBack (before calls : List LogEntry) (c : Caller) : Type 0 where
+  pub held : CloseHeld before calls
+  pub left : (node : ℕ) → node ≤ DEMUX_NODES → HasLeft node c
+
+-- just the nodes that are held behind these calls are marked
+abbrev pub AreMarked : List LogEntry → (held : List Bool) → Type 0
+AreMarked calls held = (node : ℕ) → node ≤ DEMUX_NODES → slice_get held node ≡ Some (holds calls node)
 
 -- a pass that is this caller's alone, and knows all of its calls
 pub record IsOwnPass (who : ℕ) (p : TableId × View Entry) : Type 0 where

@@ -1,5 +1,5 @@
 -- A seat, and how what it keeps is tied to the calls that its client has made.
-use Rattle.std.specs.Prelude.{◌≡◌, ◌≤◌, ◌+◌, ◌^◌, ℕ, List, [], ◌++◌, length, map, slice_get, Some, vec_capacity, All}
+use Rattle.std.specs.Prelude.{◌≡◌, ◌≤◌, ◌+◌, ◌^◌, ℕ, false, List, [], ◌++◌, length, map, replicate, slice_get, Some, vec_capacity, All}
 use Rattle.atomic_table.specs.Seated.{TableId}
 use Rattle.dmx_calls.specs.declared.limits.TheConstants.{DEMUX_NODES}
 use Rattle.dmx_calls.specs.Calls.{response_of, told_entry}
@@ -7,7 +7,7 @@ use Rattle.dmx_calls.specs.Log.{LogEntry}
 use Rattle.adapter.specs.Callers.{Caller}
 use Rattle.adapter.specs.Rows.{Fits}
 use Rattle.seats.specs.Calls.{MakesCalls}
-use Rattle.seats.specs.Holding.{KnowsItsNodes}
+use Rattle.seats.specs.Holding.{AreMarked, KnowsItsNodes}
 use Rattle.seats.specs.declared.made.Made.{Made}
 use Rattle.seats.specs.declared.seat.Seat.{Seat}
 
@@ -36,13 +36,14 @@ pub record HasRoom (calls : ℕ) (s : Seat) : Type 0 where
   pub outcomes : length s.outcomes.items + calls ≤ vec_capacity s.outcomes
   pub left : calls ≤ s.client.left
 
--- It has a pass of each of these locks, and keeps so many calls as it has made, each on a node; and it has left each node that
--- isn't marked as held.
+-- It has a pass of each of these locks, and keeps so many calls as it has made, each on a node; it has marked the nodes that it
+-- holds, and left each other.
 pub record IsFit (locks : List TableId) (s : Seat) : Type 0 where
   pub fits : Fits locks s.client.passes
   pub who : s.who ≡ s.client.who
   pub left : s.client.left + (length s.log.items + length s.made.items) ≡ 2 ^ 40
   pub nodes : AreOnNodes (log_of s)
+  pub marked : AreMarked (log_of s) s.held
   pub knows : KnowsItsNodes s.client s.held
 
 -- It is fit, and has room for the calls that give back what it may hold.
@@ -56,6 +57,7 @@ pub record IsNew (number : ℕ) (s : Seat) : Type 0 where
   pub log : (s.log.items ≡ []) × (s.made.items ≡ [])
   pub outcomes : s.outcomes.items ≡ []
   pub room : (66 ≤ vec_capacity s.made) × (66 ≤ vec_capacity s.outcomes)
+  pub held : s.held ≡ replicate (DEMUX_NODES + 1) false
 
 -- They are ready seats of these clients, which have done nothing yet.
 pub record AreReady (locks : List TableId) (clients : List Caller) (seats : List Seat) : Type 0 where

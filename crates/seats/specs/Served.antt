@@ -16,7 +16,7 @@ module _ {T : Type 0} (source : T → SourceEnd) (sink : T → SinkEnd) (may : �
   pub record HasServed (locks : List TableId) (line : T) (old new : Seat) : Type 0 where
     pub fit : IsFit locks new
     pub goes : GoesOn old new
-    pub answers : HasAnsweredAll source sink may line (log_of old) (log_of new) old.outcomes.items new.outcomes.items
+    pub answers : HasAnsweredAll source sink may line old.client new.client (log_of old) (log_of new) old.outcomes.items new.outcomes.items
     pub left : (node : ℕ) → node ≤ DEMUX_NODES → HasLeft node new.client
 
   -- each of the seats has served its line

@@ -10,7 +10,10 @@ use Rattle.serve_frames.specs.Asks.{ask_of}
 use Rattle.serve_frames.specs.declared.ask.Ask.TheVariants.{Leave}
 use Rattle.serve_frames.specs.declared.numbers.TheConstants.{REQUEST_LEN}
 use Rattle.serve_frames.specs.declared.tell.Tell.{Tell}
+use Rattle.adapter.specs.Callers.{Caller}
 use Rattle.seats.specs.Answered.{IsAnswered, AreClosings}
+use Rattle.seats.specs.Calls.{MakesCalls}
+use Rattle.seats.specs.Holding.{GivesBack}
 use Rattle.seats.specs.Spelled.{DoneCommand, commands_done_by, AreKept}
 use Rattle.seats.specs.Told.{reply_bytes}
 
@@ -28,6 +31,10 @@ pub record IsTurn (may : ℕ → Bool) (t : Turn) : Type 0 where
   pub moment : IsTrue (may t.now)
   pub is : IsAnswered (ask_of t.request) t.now t.calls t.told t.bytes
 
+-- a request to leave, and it was done
+abbrev pub IsLeaving : Turn → Type 0
+IsLeaving t = (ask_of t.request ≡ Leave) × (t.told.code ≡ 0)
+
 -- the calls of these turns, one after another
 abbrev pub calls_of : List Turn → List LogEntry
 calls_of turns = flat_map (λ t. t.calls) turns
@@ -39,6 +46,14 @@ spelled_by turns = flat_map (λ t. commands_done_by (ask_of t.request) t.calls) 
 -- and then those by which all nodes are closed
 abbrev pub spelled : List Turn → (leaving : List LogEntry) → List DoneCommand
 spelled turns leaving = spelled_by turns ++ commands_done_by Leave leaving
+
+-- A caller makes the calls of these turns, one after another and behind those calls, and is d then. By each request to leave that
+-- was done it gives back what it has.
+abbrev pub MakesTurns : (before : List LogEntry) → Caller → List Turn → Caller → Type 0
+MakesTurns before c [] d = d ≡ c
+MakesTurns before c (t ∷ ts) d =
+    (m : Caller) × MakesCalls (length before) c t.calls m × (IsLeaving t → GivesBack before t.calls m)
+    × MakesTurns (before ++ t.calls) m ts d
 
 module _ {T : Type 0} (source : T → SourceEnd) (sink : T → SinkEnd) (may : ℕ → Bool) where
   -- the request is taken from the line
@@ -63,18 +78,20 @@ module _ {T : Type 0} (source : T → SourceEnd) (sink : T → SinkEnd) (may : �
   IsLast line (t ∷ []) = (asked : T) × IsAsked t line asked
   IsLast line (t ∷ u ∷ ts) = ⊥
 
-  -- The next request is answered: by these calls the log has grown, and what is told of commands by those that it spells. Where
-  -- that is the end, no call was made, or the reply wasn't written whole.
-  abbrev pub HasTurned : (on : Bool) → (before after : T) → (old new : List LogEntry) → (was now : List Outcome) → Type 0
-  HasTurned true before after old new was now =
+  -- The next request is answered: by these calls, which the client makes, the log has grown, and what is told of commands by those
+  -- that it spells. Where that is the end, no call was made, or the reply wasn't written whole.
+  abbrev pub HasTurned : (on : Bool) → (before after : T) → (c d : Caller) → (old new : List LogEntry) → (was now : List Outcome)
+      → Type 0
+  HasTurned true before after c d old new was now =
       (t : Turn) × IsTold t before after × (new ≡ old ++ t.calls)
-      × AreKept (length old) (commands_done_by (ask_of t.request) t.calls) was now
-  HasTurned false before after old new was now =
+      × AreKept (length old) (commands_done_by (ask_of t.request) t.calls) was now × MakesTurns old c (t ∷ []) d
+  HasTurned false before after c d old new was now =
       (ts : List Turn) × IsLast before ts × (new ≡ old ++ calls_of ts) × AreKept (length old) (spelled_by ts) was now
+      × MakesTurns old c ts d
 
-  -- The requests of a line were answered, one after another, and then all nodes closed: by the calls for these the log has grown,
-  -- and what is told of commands by those that the requests spell.
-  pub record HasAnsweredAll (line : T) (old new : List LogEntry) (was now : List Outcome) : Type 0 where
+  -- The requests of a line were answered, one after another, and then all nodes closed: by the calls for these, which the client
+  -- makes, the log has grown, and what is told of commands by those that the requests spell. The client was c before, and is d then.
+  pub record HasAnsweredAll (line : T) (c d : Caller) (old new : List LogEntry) (was now : List Outcome) : Type 0 where
     pub turns : List Turn
     pub after : T
     pub told : AreTold line turns after
@@ -84,3 +101,8 @@ module _ {T : Type 0} (source : T → SourceEnd) (sink : T → SinkEnd) (may : �
     pub closed : AreClosings (DEMUX_NODES + 1) leaving
     pub log : new ≡ old ++ (calls_of turns ++ (calls_of last ++ leaving))
     pub kept : AreKept (length old) (spelled (turns ++ last) leaving) was now
+    -- by the calls behind its requests it gives back what it has, as by each request to leave
+    pub then : Caller
+    pub made : MakesTurns old c (turns ++ last) then
+    pub leaves : MakesCalls (length (old ++ calls_of (turns ++ last))) then leaving d
+    pub back : GivesBack (old ++ calls_of (turns ++ last)) leaving d

@@ -6,11 +6,12 @@ ghost use Rattle.dmx_calls.specs.declared.limits.TheConstants.{DEMUX_NODES as no
 ghost use Rattle.dmx_calls.specs.Invocation as asks;
 ghost use Rattle.client_core.specs.Commands.{own_call as own_call_by};
 ghost use Rattle.serve_frames.specs.Asks.{IsAskInRange, IsWantInRange};
+ghost use Rattle.serve_frames.specs.declared.ask.Ask.TheVariants.{Leave};
 ghost use Rattle.serve_frames.specs.Tells.{told_of};
 ghost use Rattle.seats.specs.declared.made.Made.{Made};
 ghost use Rattle.seats.specs.Answered.{is_busy as is_busy_by, refusal, told_opened, AreClosings, IsAnswered, IsClosing, IsFull, IsOpened};
 ghost use Rattle.seats.specs.Calls.{PassesNone};
-ghost use Rattle.seats.specs.Doing.{Does, DoesCommand, HasAnswered, KeepsBy, KeepsClosed, KeepsOne, KeepsOpened};
+ghost use Rattle.seats.specs.Doing.{ClosesHeld, Does, DoesCommand, HasAnswered, HasGone, KeepsBy, KeepsClosed, KeepsOne, KeepsOpened};
 ghost use Rattle.seats.specs.Holding.{HasLeft};
 ghost use Rattle.seats.specs.Seated.{IsFit, HasRoom, GoesOn};
 ghost use Rattle.seats.specs.Told.{data_read, call_at};
@@ -172,6 +173,7 @@ impl Seat {
         ensures room { (vec_capacity self.new.made ≡ vec_capacity self.old.made) × (vec_capacity self.new.outcomes ≡ vec_capacity self.old.outcomes) }
         ensures did { Does (IsClosing node) self.old self.new }
         ensures kept { KeepsClosed self.old self.new }
+        ensures held { ClosesHeld self.old self.new }
         ensures left { HasLeft node self.new.client }
         ensures still { (i : ℕ) → HasLeft i self.old.client → HasLeft i self.new.client }
     {
@@ -192,6 +194,7 @@ impl Seat {
         ensures room { (vec_capacity self.new.made ≡ vec_capacity self.old.made) × (vec_capacity self.new.outcomes ≡ vec_capacity self.old.outcomes) }
         ensures did { Does (AreClosings (nodes + 1)) self.old self.new }
         ensures kept { KeepsClosed self.old self.new }
+        ensures held { ClosesHeld self.old self.new }
         ensures left { (node : ℕ) → node ≤ nodes → HasLeft node self.new.client }
     {
         'nodes: for node in 0..NODES {
@@ -218,6 +221,7 @@ impl Seat {
         ensures at { IfSome result.at (λ i. i < length self.new.made.items) }
         ensures did { Does (λ calls. IsAnswered ask now calls result.tell (data_read (call_at self.new.made.items result.at))) self.old self.new }
         ensures kept { KeepsBy ask self.old self.new }
+        ensures gone { ask ≡ Leave → HasGone self.old self.new }
     {
         match ask {
             Ask::OpenDemux => self.open_demux(rt, adapter, steps),

@@ -17,7 +17,8 @@
 //! so the last calls are kept beside it at first (`Made`), and a request comes to its calls only once there is memory for all that
 //! were made before. Room for the calls by which all nodes are closed is kept at any time, so want of memory keeps no node from being
 //! closed. A seat that has served its line owns no node (`HasServed`), by what its passes have seen; and what others call
-//! makes it no owner.
+//! makes it no owner. So it is behind each request to leave that was done (`GivesBack` in `specs/Holding.antt`, and `MakesTurns`
+//! in `specs/Turns.antt`). By either it closes no node that it hasn't opened before, or has closed since.
 //!
 //! Those calls are just the ones that the requests ask for, in the order in which these stand on the line: each request that was
 //! read whole is answered by the calls of the table, or, for want of memory, by none; and the bytes written for it are the reply of
@@ -27,11 +28,11 @@
 //! script's client has just these, its commands ask for just these calls, by the replies before each, and what the seat keeps of
 //! commands is what became of them (`lines_are_played`). The moment of a call is one of the clock.
 //!
-//! What is only tested, in `serve_tests`: that no Close is made on a node that the program hasn't opened, and that a request to leave
-//! within a line closes all nodes of its program.
+//! A request to close a node is a call on it, whichever node it names: where the seat isn't its owner, the node refuses it (EBADF).
 //!
-//! Limits: a seat makes at most 2^40 calls, of which 66 are kept for leaving. `desks_of` takes memory, and so does each request. Of
-//! a server no clause says that it answers, nor when.
+//! Limits: a seat makes at most 2^40 calls, of which 66 are kept for leaving. `desks_of` takes memory, and so does each request, also
+//! one to leave: where it is told that memory is wanting, the nodes stay the seat's until it leaves again or its line ends. Of a
+//! server no clause says that it answers, nor when.
 #![tactic(auto)]
 
 mod answers;

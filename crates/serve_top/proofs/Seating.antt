@@ -154,20 +154,23 @@ module _ {T : Type 0} (source : T → SourceEnd) (sink : T → SinkEnd) (may : �
   pub record IsAt (k : ℕ) (lines : List T) (d : Desk T) (commands : List Command) : Type 0 where
     pub line : T
     pub there : slice_get (reverse lines) k ≡ Some line
-    pub answers : HasAnsweredAll source sink may line [] (log_of d.seat) [] d.seat.outcomes.items
+    pub first : Caller
+    pub answers : HasAnsweredAll source sink may line first d.seat.client [] (log_of d.seat) [] d.seat.outcomes.items
     pub are : commands ≡ commands_by 0 (spelled (answers.turns ++ answers.last) answers.leaving)
 
   module _ (lines : List T) (are : map (λ (d : Desk T). d.line) old ≡ reverse lines) where
     -- what its line asks for
-    answers_at : (k : ℕ) (d : Desk T) → slice_get new k ≡ Some d → (line : T) × (slice_get (reverse lines) k ≡ Some line) × HasAnsweredAll source sink may line [] (log_of d.seat) [] d.seat.outcomes.items
+    answers_at : (k : ℕ) (d : Desk T) → slice_get new k ≡ Some d → (line : T) × (slice_get (reverse lines) k ≡ Some line)
+        × (first : Caller) × HasAnsweredAll source sink may line first d.seat.client [] (log_of d.seat) [] d.seat.outcomes.items
     answers_at k d at =
         let u = served_at k d at in
         let first = ready.each k u.0.seat (seat_at k u.0 u.1) in
         let there : slice_get (reverse lines) k ≡ Some u.0.line = ap (λ (l : List T). slice_get l k) (sym are) ∙ (slice_get-map (λ (d : Desk T). d.line) old k ∙ ap (option_map (λ (d : Desk T). d.line)) u.1) in (
           u.0.line,
           there,
-          subst (λ (l : List LogEntry). HasAnsweredAll source sink may u.0.line l (log_of d.seat) [] d.seat.outcomes.items) first.1
-              (subst (λ (os : List Outcome). HasAnsweredAll source sink may u.0.line (log_of u.0.seat) (log_of d.seat) os d.seat.outcomes.items) first.2 u.2.answers),
+          u.0.seat.client,
+          subst (λ (l : List LogEntry). HasAnsweredAll source sink may u.0.line u.0.seat.client d.seat.client l (log_of d.seat) [] d.seat.outcomes.items) first.1
+              (subst (λ (os : List Outcome). HasAnsweredAll source sink may u.0.line u.0.seat.client d.seat.client (log_of u.0.seat) (log_of d.seat) os d.seat.outcomes.items) first.2 u.2.answers),
         )
 
     -- the commands of the seat in this place, if there is one
@@ -175,9 +178,10 @@ module _ {T : Type 0} (source : T → SourceEnd) (sink : T → SinkEnd) (may : �
     choose k None at = ([], tt, λ d some. absurd (cc some))
     choose k (Some d) at =
         let a = answers_at k d at in (
-          commands_by 0 (spelled (a.2.turns ++ a.2.last) a.2.leaving),
-          spelled_calls 0 (spelled (a.2.turns ++ a.2.last) a.2.leaving),
-          λ x same. let one : d ≡ x = cc same in subst (λ (z : Desk T). IsAt k lines z (commands_by 0 (spelled (a.2.turns ++ a.2.last) a.2.leaving))) one (record { line = a.0; there = a.1; answers = a.2; are = refl }),
+          commands_by 0 (spelled (a.3.turns ++ a.3.last) a.3.leaving),
+          spelled_calls 0 (spelled (a.3.turns ++ a.3.last) a.3.leaving),
+          λ x same. let one : d ≡ x = cc same in
+              subst (λ (z : Desk T). IsAt k lines z (commands_by 0 (spelled (a.3.turns ++ a.3.last) a.3.leaving))) one (record { line = a.0; there = a.1; first = a.2; answers = a.3; are = refl }),
         )
 
     pub commands_at : (k : ℕ) → List Command
@@ -217,25 +221,28 @@ module _ {T : Type 0} (source : T → SourceEnd) (sink : T → SinkEnd) (may : �
         let d = seat_of k book out at there in
         let s = seat_is k d.0 d.1 in
         subst (λ (b : List LogEntry). IsPlayed may k script b out) d.2 (subst (IsPlayed may k script (log_of d.0.seat)) d.3
-        (answers_played source sink may s.line (log_of d.0.seat) d.0.seat.outcomes.items s.answers (low_nodes k d.0 d.1) k script (same ∙ s.are)))
+        (answers_played source sink may s.line s.first d.0.seat.client (log_of d.0.seat) d.0.seat.outcomes.items s.answers (low_nodes k d.0 d.1) k script (same ∙ s.are)))
 
     pub have_idled : (k : ℕ) (book : List LogEntry) (out : List Outcome) → slice_get the_books k ≡ Some book → slice_get the_outcomes k ≡ Some out → commands_at k ≡ [] → (book ≡ []) × (out ≡ [])
     have_idled k book out at there none =
         let d = seat_of k book out at there in
         let s = seat_is k d.0 d.1 in
-        let i = answers_idle source sink may s.line (log_of d.0.seat) d.0.seat.outcomes.items s.answers (low_nodes k d.0 d.1) (sym s.are ∙ none) in
+        let i = answers_idle source sink may s.line s.first d.0.seat.client (log_of d.0.seat) d.0.seat.outcomes.items s.answers (low_nodes k d.0 d.1) (sym s.are ∙ none) in
         (sym d.2 ∙ i.0, sym d.3 ∙ i.1)
 
     -- what each has called is what the requests of its line ask for
     pub have_answered : (k : ℕ) (book : List LogEntry) → slice_get the_books k ≡ Some book
-        → (line : T) × (slice_get (reverse lines) k ≡ Some line) × (became : List Outcome) × (slice_get the_outcomes k ≡ Some became) × IsServed source sink may the_script k line book became
+        → (line : T) × (slice_get (reverse lines) k ≡ Some line) × (client : Caller) × (slice_get (map (λ (d : Desk T). d.seat.client) new) k ≡ Some client)
+        × (became : List Outcome) × (slice_get the_outcomes k ≡ Some became) × IsServed source sink may the_script k client line book became
     have_answered k book at =
         let v = mapped (λ (x : Desk T). log_of x.seat) new k book at in
         let s = seat_is k v.0 v.1 in (
           s.line,
           s.there,
+          v.0.seat.client,
+          slice_get-map (λ (x : Desk T). x.seat.client) new k ∙ ap (option_map (λ (x : Desk T). x.seat.client)) v.1,
           v.0.seat.outcomes.items,
           slice_get-map (λ (x : Desk T). x.seat.outcomes.items) new k ∙ ap (option_map (λ (x : Desk T). x.seat.outcomes.items)) v.1,
-          subst (λ (b : List LogEntry). IsServed source sink may the_script k s.line b v.0.seat.outcomes.items) v.2
-              (record { answers = s.answers; spells = lines_at commands_at calls_at (plays_of k the_script) (length the_books) k (slice_get_within the_books k book at) ∙ s.are }),
+          subst (λ (b : List LogEntry). IsServed source sink may the_script k v.0.seat.client s.line b v.0.seat.outcomes.items) v.2
+              (record { first = s.first; answers = s.answers; spells = lines_at commands_at calls_at (plays_of k the_script) (length the_books) k (slice_get_within the_books k book at) ∙ s.are }),
         )

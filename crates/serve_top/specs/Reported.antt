@@ -39,12 +39,13 @@ abbrev pub fed_by : (stream : List (List ℕ)) → Sources
 fed_by stream who Frontend = stream
 fed_by stream who Dvr = []
 
--- A seat has served its line: it has made just these calls, and told these of its commands; and the commands of the script's
--- client are those that the requests of the line spell, in their order.
+-- A seat has served its line: it has made just these calls, by which its client came to what it is now, and told these of its
+-- commands; and the commands of the script's client of this number are those that the requests of the line spell, in their order.
 pub record IsServed {T : Type 0} (source : T → SourceEnd) (sink : T → SinkEnd) (may : ℕ → Bool) (script : Scripted)
-    (client : ℕ) (line : T) (book : List LogEntry) (told : List Outcome) : Type 0 where
-  pub answers : HasAnsweredAll source sink may line [] book [] told
-  pub spells : commands_of client script ≡ commands_by 0 (spelled (answers.turns ++ answers.last) answers.leaving)
+    (number : ℕ) (client : Caller) (line : T) (book : List LogEntry) (told : List Outcome) : Type 0 where
+  pub first : Caller
+  pub answers : HasAnsweredAll source sink may line first client [] book [] told
+  pub spells : commands_of number script ≡ commands_by 0 (spelled (answers.turns ++ answers.last) answers.leaving)
 
 -- no call has found memory wanting
 abbrev pub FindMemory : List (List LogEntry) → Type 0
@@ -75,13 +76,13 @@ pub record HasReported {T : Type 0} (source : T → SourceEnd) (sink : T → Sin
   pub books : List (List LogEntry)
   pub called : HaveCalled every (fed_by (cut Of188 taken).packets) feeder feeding clients books
   -- these are the calls that the requests of its line ask for, one after another, each told in its reply, and then those by which
-  -- all nodes were closed; and the script has the commands that these spell, and no client of it writes
+  -- all nodes were closed, as by each request to leave; and the script has the commands that these spell, and no client of it writes
   pub script : Scripted
   pub writes : script.writes ≡ no_writes
   pub told : List (List Outcome)
   pub asked : (c : ℕ) (book : List LogEntry) → slice_get books c ≡ Some book
-      → (line : T) × (slice_get (reverse lines) c ≡ Some line) × (became : List Outcome) × (slice_get told c ≡ Some became)
-      × IsServed source sink may script c line book became
+      → (line : T) × (slice_get (reverse lines) c ≡ Some line) × (client : Caller) × (slice_get clients c ≡ Some client)
+      × (became : List Outcome) × (slice_get told c ≡ Some became) × IsServed source sink may script c client line book became
   -- and behind them it owns no node
   pub left : (c : ℕ) (client : Caller) → slice_get clients c ≡ Some client → (node : ℕ) → node ≤ DEMUX_NODES
       → HasLeft node client

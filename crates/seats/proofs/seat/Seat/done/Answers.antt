@@ -1,5 +1,6 @@
-use Rattle.std.proofs.Common.{ap, sym, subst, refl}
+use Rattle.std.proofs.Common.{◌≡◌, ap, sym, ◌∙◌, subst, refl}
 use Rattle.serve_frames.specs.declared.ask.Ask.{Ask}
+use Rattle.serve_frames.specs.declared.ask.Ask.TheVariants.{OpenDemux, Call, Leave, Refused}
 use Rattle.seats.specs.Doing.{KeepsBy}
 use Rattle.seats.specs.Spelled.{commands_done_by, target_of}
 use Rattle.seats.proofs.Keeping.{keeps_none, keeps_command, none_done}
@@ -44,3 +45,18 @@ returns-in-Leave-clause-kept g c = subst (λ (a : Ask). KeepsBy a c.args.self.no
 
 pub returns-in-Refused-clause-kept : goal.returns-in-Refused-clause-kept
 returns-in-Refused-clause-kept g c = keeps_none (commands_done_by c.args.ask) c.args.self.now c.args.self.now (none_done c.args.ask) refl refl
+
+pub returns-in-OpenDemux-clause-gone : goal.returns-in-OpenDemux-clause-gone
+returns-in-OpenDemux-clause-gone g c leave = absurd (let both : OpenDemux ≡ Leave = sym c.in-OpenDemux.is ∙ leave in cc both)
+
+pub returns-in-Ok-clause-gone : goal.returns-in-Ok-clause-gone
+returns-in-Ok-clause-gone g c leave = absurd (let both : Call c.in-Call.node c.in-Call.want ≡ Leave = sym c.in-Call.is ∙ leave in cc both)
+
+pub returns-in_default-clause-gone : goal.returns-in_default-clause-gone
+returns-in_default-clause-gone g c leave = absurd (let both : Call c.in-Call.node c.in-Call.want ≡ Leave = sym c.in-Call.is ∙ leave in cc both)
+
+pub returns-in-Leave-clause-gone : goal.returns-in-Leave-clause-gone
+returns-in-Leave-clause-gone g c leave = record { held = c.leave.ensures.held; left = c.leave.ensures.left }
+
+pub returns-in-Refused-clause-gone : goal.returns-in-Refused-clause-gone
+returns-in-Refused-clause-gone g c leave = absurd (let both : Refused c.in-Refused.code ≡ Leave = sym c.in-Refused.is ∙ leave in cc both)

@@ -5,6 +5,7 @@ use Rattle.seats.specs.Holding.{HasLeft}
 use Rattle.seats.proofs.Doing.{closings_none, closings_more}
 use Rattle.serve_frames.specs.declared.ask.Ask.TheVariants.{Leave}
 use Rattle.seats.specs.Spelled.{commands_done_by}
+use Rattle.seats.proofs.Closing.{closes_none, closes_more}
 use Rattle.seats.proofs.Keeping.{keeps_none, keeps_more}
 use Rattle.seats.proofs.Going.{goes_self, goes_trans}
 use Rattle.seats.proofs.seat.Seat.leave.Goals as goal
@@ -19,6 +20,7 @@ nodes-init g c = record {
   room = search rules;
   did = closings_none c.args.self.now;
   kept = keeps_none (commands_done_by Leave) c.args.self.now c.args.self.now refl refl refl;
+  held = closes_none c.args.self.now c.args.self.now refl;
   gone = λ i low. absurd (omega arith);
 }
 
@@ -34,6 +36,7 @@ nodes-preserved g c =
       room = search rules;
       did = closings_more c.nodes.node _ c.args.self.now c.nodes.self c.let_go.new.self refl v.did e.did;
       kept = keeps_more c.nodes.node c.args.self.now c.nodes.self c.let_go.new.self v.did e.did v.kept e.kept;
+      held = closes_more c.args.self.now c.nodes.self c.let_go.new.self v.goes e.goes v.held e.held;
       gone = λ i low. dite (ℕ_discrete i c.nodes.node)
           (λ here. subst (λ (n : ℕ). HasLeft n c.let_go.new.self.client) (sym here) e.left)
           (λ more. e.still i (v.gone i (omega arith)));

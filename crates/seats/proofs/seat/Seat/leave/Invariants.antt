@@ -1,6 +1,6 @@
 use Rattle.std.proofs.Common.{◌≡◌, ◌≤◌, ◌<◌, ◌+◌, ◌*◌, ℕ, length, vec_capacity}
 use Rattle.seats.specs.Answered.{AreClosings}
-use Rattle.seats.specs.Doing.{Does, KeepsClosed}
+use Rattle.seats.specs.Doing.{ClosesHeld, Does, KeepsClosed}
 use Rattle.seats.specs.Holding.{HasLeft}
 use Rattle.seats.specs.Seated.{IsFit, GoesOn}
 use Rattle.seats.proofs.seat.Seat.leave.Given as goal
@@ -16,5 +16,6 @@ invariant-nodes g l = record {
   room : (vec_capacity l.self.made ≡ vec_capacity l.fn.self.made) × (vec_capacity l.self.outcomes ≡ vec_capacity l.fn.self.outcomes);
   did : Does (AreClosings l.node) l.fn.self l.self;
   kept : KeepsClosed l.fn.self l.self;
+  held : ClosesHeld l.fn.self l.self;
   gone : (i : ℕ) → i < l.node → HasLeft i l.self.client;
 }

@@ -1,9 +1,12 @@
-use Rattle.std.proofs.Common.{refl}
+use Rattle.std.proofs.Common.{rules, ◌≡◌, get_or, false, true, refl}
 use Rattle.serve_frames.specs.declared.ask.Ask.TheVariants.{Leave}
+use Rattle.seats.specs.Seated.{log_of}
 use Rattle.seats.specs.Spelled.{commands_done_by}
+use Rattle.seats.proofs.Closing.{closes_none, closes_one}
 use Rattle.seats.proofs.Keeping.{keeps_none, keeps_closed}
 use Rattle.seats.proofs.Doing.{closing_none, closing_one}
 use Rattle.seats.proofs.Going.{goes_self}
+use Rattle.seats.proofs.Marking.{marked_is}
 use Rattle.seats.proofs.seat.Seat.let_go.Goals as goal
 
 pub returns-then-not-self-node-clause-goes : goal.returns-then-not-self-node-clause-goes
@@ -20,3 +23,11 @@ returns-then-not-self-node-clause-kept g c = keeps_none (commands_done_by Leave)
 
 pub returns-clause-kept : goal.returns-clause-kept
 returns-clause-kept g c = keeps_closed c.args.node c.command.result c.args.self.now c.command.new.self c.command.ensures.did c.command.ensures.kept
+
+pub returns-then-not-self-node-clause-held : goal.returns-then-not-self-node-clause-held
+returns-then-not-self-node-clause-held g c = closes_none c.args.self.now c.args.self.now refl
+
+pub returns-clause-held : goal.returns-clause-held
+returns-clause-held g c =
+    let s = c.args.self.now in let is : get_or s.held c.args.node false ≡ true = search rules in
+    closes_one c.args.node c.command.result s c.command.new.self c.command.ensures.did (marked_is (log_of s) s.held c.args.node true c.requires.fit.marked c.requires.node is)

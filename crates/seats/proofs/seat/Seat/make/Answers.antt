@@ -1,4 +1,4 @@
-use Rattle.std.proofs.Common.{rules, ◌≡◌, ◌≤◌, ◌++◌, ◌∷◌, [], ◌+◌, length, map, refl, sym, ◌∙◌, subst, arith, false}
+use Rattle.std.proofs.Common.{rules, ◌≡◌, ◌≤◌, ◌++◌, ◌∷◌, [], ◌+◌, List, length, map, refl, sym, ◌∙◌, subst, arith, false}
 use Rattle.std.specs.Prelude.{slice_index_or}
 use Rattle.std.proofs.lemmas.List.Elements.{All-push}
 use Rattle.std.proofs.lemmas.Option.{slice_get-get_or}
@@ -8,9 +8,11 @@ use Rattle.dmx_calls.specs.Log.{LogEntry}
 use Rattle.dmx_calls.specs.declared.limits.TheConstants.{DEMUX_NODES}
 use Rattle.seats.specs.declared.made.Made.{Made}
 use Rattle.seats.specs.Calls.{PassesNone}
+use Rattle.seats.specs.Holding.{AreMarked}
 use Rattle.seats.specs.Seated.{told_made, log_of, AreOnNodes}
 use Rattle.seats.proofs.Going.{log_long, log_one}
 use Rattle.seats.proofs.Holding.{left_call, closed_call, knows_made}
+use Rattle.seats.proofs.Marking.{marked_more}
 use Rattle.seats.proofs.seat.Seat.make.Goals as goal
 
 pub returns-clause-fit : goal.returns-clause-fit
@@ -25,6 +27,7 @@ returns-clause-fit g c =
       who = f.who ∙ sym e.same.0;
       left = omega (arith, left, less, size);
       nodes = subst AreOnNodes (sym log) (All-push (λ (x : LogEntry). x.node ≤ DEMUX_NODES) (log_of s) (told_made s.who m) f.nodes c.requires.node);
+      marked = subst (λ (l : List LogEntry). AreMarked l _) (sym log) (marked_more (log_of s) (told_made s.who m) s.held f.marked c.requires.node _ (search rules));
       knows = knows_made s.client c.call-place.new.self c.args.node c.call-place.result.0 (told s.client.who c.args.call c.call-place.result.1) e.entry e.same.0 refl s.held _ (slice_index_or s.held c.args.node false) f.knows (slice_get-get_or s.held c.args.node false (search rules)) (search rules);
     }
 

@@ -8,7 +8,7 @@ requests-init g c = record {
   fit = c.requires.ready.fit;
   room = c.requires.ready.room;
   goes = goes_self c.args.self.now;
-  told = told_none g.T.Source.end g.T.Sink.end (g.C.Clock.may_give c.args.clock.now) c.args.line.now (log_of c.args.self.now) c.args.self.now.outcomes.items;
+  told = told_none g.T.Source.end g.T.Sink.end (g.C.Clock.may_give c.args.clock.now) c.args.line.now c.args.self.now.client (log_of c.args.self.now) c.args.self.now.outcomes.items;
 }
 
 pub requests-preserved : goal.requests-preserved
@@ -18,7 +18,7 @@ requests-preserved g c =
       fit = e.fit;
       room = e.room;
       goes = goes_trans c.args.self.now c.requests.self c.turn.new.self v.goes e.goes;
-      told = told_more g.T.Source.end g.T.Sink.end (g.C.Clock.may_give c.args.clock.now) c.args.line.now c.requests.line c.turn.new.line _ _ _ _ _ _ c.turn.result v.told e.turned c.if-not-turn.false;
+      told = told_more g.T.Source.end g.T.Sink.end (g.C.Clock.may_give c.args.clock.now) c.args.line.now c.requests.line c.turn.new.line _ _ _ _ _ _ _ _ _ c.turn.result v.told e.turned c.if-not-turn.false;
     }
 
 pub returns-then-not-turn : goal.returns-then-not-turn
@@ -27,6 +27,7 @@ returns-then-not-turn g c =
     record {
       fit = c.leave.ensures.fit;
       goes = goes_trans c.args.self.now c.turn.new.self c.leave.new.self (goes_trans c.args.self.now c.requests.self c.turn.new.self v.goes e.goes) c.leave.ensures.goes;
-      answers = answered_all g.T.Source.end g.T.Sink.end (g.C.Clock.may_give c.args.clock.now) c.args.line.now c.requests.line c.turn.new.line c.args.self.now c.requests.self c.turn.new.self c.leave.new.self c.turn.result v.told e.turned c.if-not-turn.true c.leave.ensures.did c.leave.ensures.kept;
+      answers = answered_all g.T.Source.end g.T.Sink.end (g.C.Clock.may_give c.args.clock.now) c.args.line.now c.requests.line c.turn.new.line c.args.self.now c.requests.self c.turn.new.self c.leave.new.self c.turn.result v.told e.turned c.if-not-turn.true c.leave.ensures.did c.leave.ensures.kept
+          c.leave.ensures.goes (record { held = c.leave.ensures.held; left = c.leave.ensures.left });
       left = c.leave.ensures.left;
     }

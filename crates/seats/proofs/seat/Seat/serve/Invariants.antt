@@ -7,5 +7,5 @@ invariant-requests g l = record {
   fit : IsFit l.adapter l.self;
   room : HasRoom 66 l.self;
   goes : GoesOn l.fn.self l.self;
-  told : HaveTold g.T.Source.end g.T.Sink.end (g.C.Clock.may_give l.clock) l.fn.line l.line (log_of l.fn.self) (log_of l.self) l.fn.self.outcomes.items l.self.outcomes.items;
+  told : HaveTold g.T.Source.end g.T.Sink.end (g.C.Clock.may_give l.clock) l.fn.line l.line l.fn.self.client l.self.client (log_of l.fn.self) (log_of l.self) l.fn.self.outcomes.items l.self.outcomes.items;
 }

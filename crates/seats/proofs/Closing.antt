@@ -1,0 +1,49 @@
+-- A seat closes no node that it doesn't hold.
+use Rattle.std.proofs.Common.{◌≡◌, ℕ, true, List, [], ◌∷◌, ◌++◌, map, refl, ap, sym, ◌∙◌, subst}
+use Rattle.std.proofs.lemmas.List.{append-nil, append_assoc}
+use Rattle.dmx_calls.specs.declared.log.Act.{Act}
+use Rattle.dmx_calls.specs.declared.log.Act.TheVariants.{Close as CloseAct, Attach as AttachAct, Detach as DetachAct}
+use Rattle.dmx_calls.specs.declared.reply.Tap.TheVariants.{Keep as KeepTap, Attach as AttachTap, Detach as DetachTap}
+use Rattle.dmx_calls.specs.Calls.{response_of}
+use Rattle.dmx_calls.specs.Log.{LogEntry}
+use Rattle.dmx_calls.specs.Response.{TapChange}
+use Rattle.seats.specs.declared.seat.Seat.{Seat}
+use Rattle.seats.specs.Answered.{act_by_tap, IsBehind}
+use Rattle.seats.specs.Doing.{DoesCommand, ClosesHeld}
+use Rattle.seats.specs.Holding.{holds, CloseHeld}
+use Rattle.seats.specs.Seated.{log_of, told_made, GoesOn}
+use Rattle.seats.proofs.Doing.{log_more}
+use Rattle.seats.proofs.Going.{goes_trans}
+use Rattle.seats.proofs.Keeping.{the_calls}
+use Rattle.seats.proofs.Spelling.{tap_behind}
+
+-- calls behind others
+held_both : (before xs ys : List LogEntry) → CloseHeld before xs → CloseHeld (before ++ xs) ys → CloseHeld before (xs ++ ys)
+held_both before [] ys a b = subst (λ (l : List LogEntry). CloseHeld l ys) (append-nil before) b
+held_both before (x ∷ xs) ys a b = (a.0, held_both (before ++ x ∷ []) xs ys a.1 (subst (λ (l : List LogEntry). CloseHeld l ys) (sym (append_assoc before (x ∷ []) xs)) b))
+
+-- what the dvr node is asked is no Close
+behind_held : (before : List LogEntry) (node : ℕ) (tap : TapChange) (behind : List LogEntry) → IsBehind (act_by_tap node tap) behind → CloseHeld before behind
+behind_held before node KeepTap behind is = subst (CloseHeld before) (sym is) tt
+behind_held before node (AttachTap pids) behind is = subst (CloseHeld before) (sym is.1) (λ close. absurd (let both : AttachAct node pids ≡ CloseAct = sym is.3 ∙ close in cc both), tt)
+behind_held before node DetachTap behind is = subst (CloseHeld before) (sym is.1) (λ close. absurd (let both : DetachAct node ≡ CloseAct = sym is.3 ∙ close in cc both), tt)
+
+-- ------ a seat
+
+-- no call
+pub closes_none : (old new : Seat) → log_of new ≡ log_of old → ClosesHeld old new
+closes_none old new same calls is = subst (CloseHeld (log_of old)) (sym (the_calls old new calls [] is (same ∙ sym (append-nil (log_of old))))) tt
+
+-- a node that it holds
+pub closes_one : (node at : ℕ) (old new : Seat) → DoesCommand node CloseAct at old new → holds (log_of old) node ≡ true → ClosesHeld old new
+closes_one node at old new d held calls is =
+    let own = told_made old.who d.own in let behind = map (told_made old.who) d.behind in
+    let t = tap_behind node (response_of d.own.reply) behind d.is in
+    subst (CloseHeld (log_of old)) (sym (the_calls old new calls (own ∷ behind) is (log_more old new (d.own ∷ d.behind) d.has)))
+    (λ close. ap (holds (log_of old)) d.node ∙ held, behind_held (log_of old ++ own ∷ []) node t.0 behind t.1)
+
+-- one after another
+pub closes_more : (a b c : Seat) → GoesOn a b → GoesOn b c → ClosesHeld a b → ClosesHeld b c → ClosesHeld a c
+closes_more a b c x y k l calls is =
+    subst (CloseHeld (log_of a)) (sym (the_calls a c calls (x.calls ++ y.calls) is (goes_trans a b c x y).log))
+    (held_both (log_of a) x.calls y.calls (k x.calls x.log) (subst (λ (m : List LogEntry). CloseHeld m y.calls) x.log (l y.calls y.log)))

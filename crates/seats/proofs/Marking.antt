@@ -1,0 +1,46 @@
+-- The nodes that a seat has marked are those that it holds by its calls.
+use Rattle.std.proofs.Common.{◌≡◌, ℕ, ◌+◌, ◌≤◌, nat_eq, Bool, false, true, eq-eqb, ne_eqb, List, [], ◌∷◌, ◌++◌, length, replicate, set, Some, get_or, ap, sym, ◌∙◌, arith}
+use Rattle.std.specs.Prelude.{slice_get, if◌then◌else◌}
+use Rattle.std.proofs.lemmas.List.{length-replicate, get_or-replicate}
+use Rattle.std.proofs.lemmas.List.Sums.{fold-append}
+use Rattle.std.proofs.lemmas.Option.{slice_get_within, slice_get-get_or, get_or_from_slice_get}
+use mathlib.Core.Logic.{dite}
+use native.Mathlib.Decide.{ℕ_discrete}
+use Rattle.adapter.proofs.Lists.{set_there, set_elsewhere}
+use Rattle.dmx_calls.specs.declared.limits.TheConstants.{DEMUX_NODES}
+use Rattle.dmx_calls.specs.Log.{LogEntry}
+use Rattle.seats.specs.Holding.{has_then, holds, AreMarked}
+
+-- before the first call
+pub marked_none : (held : List Bool) → held ≡ replicate (DEMUX_NODES + 1) false → AreMarked [] held
+marked_none held is node low =
+    let long : length held ≡ DEMUX_NODES + 1 = ap length is ∙ length-replicate (DEMUX_NODES + 1) false in
+    slice_get-get_or held node false (omega (arith, long, low))
+    ∙ ap (λ (b : Bool). Some b) (ap (λ (l : List Bool). get_or l node false) is ∙ get_or-replicate (DEMUX_NODES + 1) node false false (omega (arith, low)))
+
+-- a node is marked just where it is held
+pub marked_is : (calls : List LogEntry) (held : List Bool) (node : ℕ) (b : Bool) → AreMarked calls held → node ≤ DEMUX_NODES → get_or held node false ≡ b → holds calls node ≡ b
+marked_is calls held node b m low is = sym (get_or_from_slice_get held node (holds calls node) false (m node low)) ∙ is
+
+-- one call more
+holds_more : (calls : List LogEntry) (e : LogEntry) (node : ℕ) (b : Bool) → nat_eq e.node node ≡ b → holds (calls ++ e ∷ []) node ≡ (if b then has_then (holds calls node) e.act e.response else holds calls node)
+holds_more calls e node b is =
+    fold-append (λ (had : Bool) (x : LogEntry). if nat_eq x.node node then has_then had x.act x.response else had) false calls (e ∷ [])
+    ∙ ap (λ (v : Bool). if v then has_then (holds calls node) e.act e.response else holds calls node) is
+
+module _ (calls : List LogEntry) (e : LogEntry) (held : List Bool) (m : AreMarked calls held) (on : e.node ≤ DEMUX_NODES) where
+  abbrev mark : Bool
+  mark = has_then (get_or held e.node false) e.act e.response
+
+  here : mark ≡ has_then (holds calls e.node) e.act e.response
+  here = ap (λ (b : Bool). has_then b e.act e.response) (get_or_from_slice_get held e.node (holds calls e.node) false (m e.node on))
+
+  pub marked_more : (now : List Bool) → now ≡ set held e.node mark → AreMarked (calls ++ e ∷ []) now
+  marked_more now is node low = ap (λ (l : List Bool). slice_get l node) is ∙ dite (ℕ_discrete e.node node)
+      (λ same.
+      ap (λ n. slice_get (set held e.node mark) n) (sym same)
+      ∙ (set_there held e.node mark (slice_get_within held e.node (holds calls e.node) (m e.node on))
+      ∙ ap (λ (b : Bool). Some b) (here ∙ (ap (λ n. has_then (holds calls n) e.act e.response) same ∙ sym (holds_more calls e node true (eq-eqb e.node node same))))))
+      (λ not.
+      set_elsewhere held e.node node mark (λ same. not (sym same))
+      ∙ (m node low ∙ ap (λ (b : Bool). Some b) (sym (holds_more calls e node false (ne_eqb e.node node not)))))
