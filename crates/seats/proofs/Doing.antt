@@ -1,5 +1,5 @@
 -- From what a seat has made to what it has done for a request.
-use Rattle.std.proofs.Common.{◌≡◌, ◌⊎◌, ℕ, suc, ◌+◌, ◌<◌, Bool, true, false, List, [], ◌∷◌, ◌++◌, length, map, get_or, Option, Some, None, inl, inr, refl, ap, sym, ◌∙◌, subst, arith, length-append}
+use Rattle.std.proofs.Common.{◌≡◌, ◌≢◌, ◌⊎◌, ℕ, suc, ◌+◌, ◌<◌, Bool, true, false, List, [], ◌∷◌, ◌++◌, length, map, get_or, Option, Some, None, inl, inr, refl, ap, sym, ◌∙◌, subst, arith, length-append}
 use Rattle.std.specs.Prelude.{slice_get}
 use Rattle.std.proofs.lemmas.List.{map-append, append-nil, append_assoc, append_cancel_left}
 use Rattle.std.proofs.lemmas.Option.{slice_get_within, slice_get_read}
@@ -261,16 +261,12 @@ module _ (ask : Ask) (now : ℕ) where
   answered_refused code s t o is told = record { more = []; has = made_none s; is = inl (subst (λ (k : Ask). IsAnsweredBy k now [] t (data_read (call_at s.made.items o))) (sym is) (refl, (told.0, nothing_read s o told.1))) }
 
   -- for want of memory
-  pub answered_wanting : (s : Seat) (t : Tell) (o : Option ℕ) → (t ≡ refusal ENOMEM) × (o ≡ None)
+  pub answered_wanting : (s : Seat) (t : Tell) (o : Option ℕ) → ask ≢ Leave → (t ≡ refusal ENOMEM) × (o ≡ None)
       → Does (λ calls. IsAnswered ask now calls t (data_read (call_at s.made.items o))) s s
-  answered_wanting s t o told = record { more = []; has = made_none s; is = inr (refl, (told.0, nothing_read s o told.1)) }
-
--- want of memory is no success
-pub not_done : (t : Tell) → t ≡ refusal ENOMEM → t.code ≡ 0 → ⊥
-not_done t is done = let both : ENOMEM ≡ 0 = sym (ap (λ (x : Tell). x.code) is) ∙ done in omega (arith, both)
+  answered_wanting s t o other told = record { more = []; has = made_none s; is = inr (other, (refl, (told.0, nothing_read s o told.1))) }
 
 pub has_answered : (ask : Ask) (now : ℕ) (old mid new : Seat) (t : Tell) (bytes : List ℕ) → log_of mid ≡ log_of old → mid.outcomes.items ≡ old.outcomes.items → KeepsBy ask mid new
-    → GoesOn old new → (ask ≡ Leave → t.code ≡ 0 → HasGone mid new) → Does (λ calls. IsAnswered ask now calls t bytes) mid new → HasAnswered ask now old new t bytes
+    → GoesOn old new → (ask ≡ Leave → HasGone mid new) → Does (λ calls. IsAnswered ask now calls t bytes) mid new → HasAnswered ask now old new t bytes
 has_answered ask now old mid new t bytes same told k goes gone d =
     let mine = map (told_made mid.who) d.more in
     let log : log_of new ≡ log_of old ++ mine = log_more mid new d.more d.has ∙ ap (λ (l : List LogEntry). l ++ mine) same in
@@ -281,5 +277,5 @@ has_answered ask now old mid new t bytes same told k goes gone d =
       kept = subst (λ (l : List LogEntry). AreKept (length l) (commands_done_by ask mine) old.outcomes.items new.outcomes.items) same
           (subst (λ (os : List Outcome). AreKept (length (log_of mid)) (commands_done_by ask mine) os new.outcomes.items) told (k mine (log_more mid new d.more d.has)));
       made = subst (λ (l : List LogEntry). MakesCalls (length (log_of old)) old.client l new.client) (append_cancel_left (log_of old) goes.calls mine (sym goes.log ∙ log)) goes.made;
-      gone = λ leave done. let g = gone leave done in record { held = subst (λ (l : List LogEntry). CloseHeld l mine) same (g.held mine (log_more mid new d.more d.has)); left = g.left };
+      gone = λ leave. let g = gone leave in record { held = subst (λ (l : List LogEntry). CloseHeld l mine) same (g.held mine (log_more mid new d.more d.has)); left = g.left };
     }

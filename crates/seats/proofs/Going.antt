@@ -106,7 +106,7 @@ module _ (locks : List TableId) (n : ℕ) (feeder : Caller) (clients : List Call
       marked = subst (λ (k : List LogEntry). AreMarked k s.held) (sym (log_none s is.log.0 is.log.1)) (marked_none s.held is.held);
       knows = knows_none locks (n + 1) (c + 1) (2 ^ 40) s.client f s.held;
     };
-    room = record { made = omega (arith, made, room.0); outcomes = omega (arith, told, room.1); left = omega (arith, calls) };
+    room = λ node low held. record { made = omega (arith, made, room.0); outcomes = omega (arith, told, room.1); left = omega (arith, calls) };
   }
 
 -- each of the seats

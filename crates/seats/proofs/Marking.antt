@@ -23,7 +23,7 @@ pub marked_is : (calls : List LogEntry) (held : List Bool) (node : ℕ) (b : Boo
 marked_is calls held node b m low is = sym (get_or_from_slice_get held node (holds calls node) false (m node low)) ∙ is
 
 -- one call more
-holds_more : (calls : List LogEntry) (e : LogEntry) (node : ℕ) (b : Bool) → nat_eq e.node node ≡ b → holds (calls ++ e ∷ []) node ≡ (if b then has_then (holds calls node) e.act e.response else holds calls node)
+pub holds_more : (calls : List LogEntry) (e : LogEntry) (node : ℕ) (b : Bool) → nat_eq e.node node ≡ b → holds (calls ++ e ∷ []) node ≡ (if b then has_then (holds calls node) e.act e.response else holds calls node)
 holds_more calls e node b is =
     fold-append (λ (had : Bool) (x : LogEntry). if nat_eq x.node node then has_then had x.act x.response else had) false calls (e ∷ [])
     ∙ ap (λ (v : Bool). if v then has_then (holds calls node) e.act e.response else holds calls node) is

@@ -122,9 +122,9 @@ pub answered_calls : (ask : Ask) (now : ℕ) (calls : List LogEntry) (t : Tell) 
 answered_calls OpenDemux now calls t bytes is = done_calls (Slot 0) Open (opened_kind calls) calls
 answered_calls (Call node want) now calls t bytes is = done_calls (target_of node) want WasDone calls
 answered_calls Leave now calls t bytes (inl (all, told)) = leaving_calls (DEMUX_NODES + 1) calls all
-answered_calls Leave now calls t bytes (inr (none, told)) = ap (λ (l : List LogEntry). calls_in (closings l).commands) none ∙ sym none
+answered_calls Leave now calls t bytes (inr (other, none, told)) = absurd (other refl)
 answered_calls (RefusedAsk code) now calls t bytes (inl (none, told)) = sym none
-answered_calls (RefusedAsk code) now calls t bytes (inr (none, told)) = sym none
+answered_calls (RefusedAsk code) now calls t bytes (inr (other, none, told)) = sym none
 
 -- ------ what was answered
 
@@ -210,7 +210,7 @@ module _ (may : ℕ → Bool) where
 
   pub answered_commands : (ask : Ask) (now : ℕ) (calls : List LogEntry) (t : Tell) (bytes : List ℕ) → IsTrue (may now) → All IsOnNode calls → IsAnswered ask now calls t bytes → AreDoneBy may (commands_done_by ask calls) calls
   answered_commands ask now calls t bytes given low (inl by) = by_table ask now calls t bytes given low by
-  answered_commands ask now calls t bytes given low (inr (none, told)) = subst (λ (l : List LogEntry). AreDoneBy may (commands_done_by ask l) l) (sym none) (none_commands ask)
+  answered_commands ask now calls t bytes given low (inr (other, none, told)) = subst (λ (l : List LogEntry). AreDoneBy may (commands_done_by ask l) l) (sym none) (none_commands ask)
 
   -- ------ a line
 

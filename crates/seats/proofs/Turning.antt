@@ -65,7 +65,7 @@ module _ {T : Type 0} (source : T → SourceEnd) (sink : T → SinkEnd) (may : �
 
     its_made : MakesTurns (log_of old) old.client (turn ∷ []) new.client
     unfolding turn
-    its_made = (new.client, a.made, λ leaving. a.gone (is ∙ leaving.0) leaving.1, refl)
+    its_made = (new.client, a.made, λ leaving. a.gone (is ∙ leaving), refl)
 
     -- its reply was written whole, or not
     pub turned_one : (on : Bool) → (on ≡ true → Appends (sink asked).written (sink after).written (reply_bytes t bytes))

@@ -1,5 +1,5 @@
 -- What a request is answered by: which calls are made for it, and what is told.
-use Rattle.std.specs.Prelude.{◌≡◌, ◌<◌, ◌+◌, ◌⊎◌, ℕ, suc, zero, Bool, true, false, nat_eq, if◌then◌else◌, List, [], ◌∷◌, ◌++◌, length, slice_get, Option, Some, None}
+use Rattle.std.specs.Prelude.{◌≡◌, ◌≢◌, ◌<◌, ◌+◌, ◌⊎◌, ℕ, suc, zero, Bool, true, false, nat_eq, if◌then◌else◌, List, [], ◌∷◌, ◌++◌, length, slice_get, Option, Some, None}
 use Rattle.dmx_calls.specs.declared.limits.TheConstants.{DEMUX_NODES}
 use Rattle.dmx_calls.specs.declared.log.Act.{Act}
 use Rattle.dmx_calls.specs.declared.log.Act.TheVariants.{Open as OpenAct, Close as CloseAct, Attach as AttachAct, Detach as DetachAct}
@@ -104,6 +104,6 @@ IsAnsweredBy (Call node want) now calls t bytes =
 IsAnsweredBy Leave now calls t bytes = AreClosings (DEMUX_NODES + 1) calls × IsRefusal 0 t bytes
 IsAnsweredBy (Refused code) now calls t bytes = (calls ≡ []) × IsRefusal code t bytes
 
--- It is so; or memory was refused, or too few calls were left, and no call was made.
+-- It is so; or, unless it is to leave, memory was refused, or too few calls were left, and no call was made.
 abbrev pub IsAnswered : Ask → (now : ℕ) → List LogEntry → Tell → (bytes : List ℕ) → Type 0
-IsAnswered ask now calls t bytes = IsAnsweredBy ask now calls t bytes ⊎ ((calls ≡ []) × IsRefusal ENOMEM t bytes)
+IsAnswered ask now calls t bytes = IsAnsweredBy ask now calls t bytes ⊎ ((ask ≢ Leave) × (calls ≡ []) × IsRefusal ENOMEM t bytes)

@@ -1,5 +1,5 @@
 -- What a seat does: the calls by which its last calls have grown.
-use Rattle.std.specs.Prelude.{◌≡◌, ◌≤◌, ◌++◌, ◌∷◌, [], ℕ, List, length, map, slice_get, Some}
+use Rattle.std.specs.Prelude.{◌≡◌, ◌≤◌, ◌++◌, ◌∷◌, [], ℕ, true, List, length, map, slice_get, Some}
 use Rattle.dmx_calls.specs.declared.limits.TheConstants.{DEMUX_NODES}
 use Rattle.dmx_calls.specs.declared.log.Act.{Act}
 use Rattle.dmx_calls.specs.declared.outcome.OutcomeKind.TheVariants.{Done as WasDone}
@@ -14,7 +14,7 @@ use Rattle.seats.specs.declared.made.Made.{Made}
 use Rattle.seats.specs.declared.seat.Seat.{Seat}
 use Rattle.seats.specs.Answered.{act_behind, IsBehind, IsAnswered}
 use Rattle.seats.specs.Calls.{MakesCalls}
-use Rattle.seats.specs.Holding.{HasLeft, CloseHeld, GivesBack}
+use Rattle.seats.specs.Holding.{HasLeft, holds, CloseHeld, GivesBack}
 use Rattle.seats.specs.Seated.{log_of, told_made}
 use Rattle.seats.specs.Spelled.{DoneCommand, done_command, commands_done_by, AreKept}
 
@@ -80,14 +80,18 @@ pub record HasGone (old new : Seat) : Type 0 where
   pub held : ClosesHeld old new
   pub left : (node : ℕ) → node ≤ DEMUX_NODES → HasLeft node new.client
 
+-- It holds no node that it didn't hold before.
+abbrev pub HoldsNoMore : (old new : Seat) → Type 0
+HoldsNoMore old new = (node : ℕ) → holds (log_of new) node ≡ true → holds (log_of old) node ≡ true
+
 -- ------ requests
 
 -- A request is answered by the calls by which its log has grown, which its client has made, and what is told of commands by those
--- that it spells. By a request to leave that was done it gives back what it has.
+-- that it spells. By a request to leave it gives back what it has.
 pub record HasAnswered (ask : Ask) (now : ℕ) (old new : Seat) (t : Tell) (bytes : List ℕ) : Type 0 where
   pub calls : List LogEntry
   pub log : log_of new ≡ log_of old ++ calls
   pub is : IsAnswered ask now calls t bytes
   pub kept : AreKept (length (log_of old)) (commands_done_by ask calls) old.outcomes.items new.outcomes.items
   pub made : MakesCalls (length (log_of old)) old.client calls new.client
-  pub gone : ask ≡ Leave → t.code ≡ 0 → GivesBack (log_of old) calls new.client
+  pub gone : ask ≡ Leave → GivesBack (log_of old) calls new.client

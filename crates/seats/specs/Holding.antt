@@ -21,7 +21,7 @@ HasLeft node c =
 -- whether a caller is to be taken for the owner behind a call of its own, where it was so before or not
 abbrev pub has_then : (had : Bool) → Act → Response → Bool
 has_then had Open response = if is_accepted response then true else had
-has_then had Close response = if is_accepted response then false else had
+has_then had Close response = false
 has_then had _ response = had
 
 -- whether a node is held behind these calls of a caller: it was opened, and not closed since

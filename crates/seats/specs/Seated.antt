@@ -1,5 +1,5 @@
 -- A seat, and how what it keeps is tied to the calls that its client has made.
-use Rattle.std.specs.Prelude.{◌≡◌, ◌≤◌, ◌+◌, ◌^◌, ℕ, false, List, [], ◌++◌, length, map, replicate, slice_get, Some, vec_capacity, All}
+use Rattle.std.specs.Prelude.{◌≡◌, ◌≤◌, ◌+◌, ◌^◌, ℕ, false, true, List, [], ◌++◌, length, map, replicate, slice_get, Some, vec_capacity, All}
 use Rattle.atomic_table.specs.Seated.{TableId}
 use Rattle.dmx_calls.specs.declared.limits.TheConstants.{DEMUX_NODES}
 use Rattle.dmx_calls.specs.Calls.{response_of, told_entry}
@@ -7,7 +7,7 @@ use Rattle.dmx_calls.specs.Log.{LogEntry}
 use Rattle.adapter.specs.Callers.{Caller}
 use Rattle.adapter.specs.Rows.{Fits}
 use Rattle.seats.specs.Calls.{MakesCalls}
-use Rattle.seats.specs.Holding.{AreMarked, KnowsItsNodes}
+use Rattle.seats.specs.Holding.{holds, AreMarked, KnowsItsNodes}
 use Rattle.seats.specs.declared.made.Made.{Made}
 use Rattle.seats.specs.declared.seat.Seat.{Seat}
 
@@ -36,6 +36,10 @@ pub record HasRoom (calls : ℕ) (s : Seat) : Type 0 where
   pub outcomes : length s.outcomes.items + calls ≤ vec_capacity s.outcomes
   pub left : calls ≤ s.client.left
 
+-- Where it holds a node, it has room for the calls that give back all that it may hold.
+abbrev pub MayLeave : Seat → Type 0
+MayLeave s = (node : ℕ) → node ≤ DEMUX_NODES → holds (log_of s) node ≡ true → HasRoom 66 s
+
 -- It has a pass of each of these locks, and keeps so many calls as it has made, each on a node; it has marked the nodes that it
 -- holds, and left each other.
 pub record IsFit (locks : List TableId) (s : Seat) : Type 0 where
@@ -46,10 +50,10 @@ pub record IsFit (locks : List TableId) (s : Seat) : Type 0 where
   pub marked : AreMarked (log_of s) s.held
   pub knows : KnowsItsNodes s.client s.held
 
--- It is fit, and has room for the calls that give back what it may hold.
+-- It is fit, and may leave.
 pub record IsReady (locks : List TableId) (s : Seat) : Type 0 where
   pub fit : IsFit locks s
-  pub room : HasRoom 66 s
+  pub room : MayLeave s
 
 -- It is the seat of this caller, and has done nothing yet.
 pub record IsNew (number : ℕ) (s : Seat) : Type 0 where

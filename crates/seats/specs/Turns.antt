@@ -31,9 +31,9 @@ pub record IsTurn (may : ℕ → Bool) (t : Turn) : Type 0 where
   pub moment : IsTrue (may t.now)
   pub is : IsAnswered (ask_of t.request) t.now t.calls t.told t.bytes
 
--- a request to leave, and it was done
+-- a request to leave
 abbrev pub IsLeaving : Turn → Type 0
-IsLeaving t = (ask_of t.request ≡ Leave) × (t.told.code ≡ 0)
+IsLeaving t = ask_of t.request ≡ Leave
 
 -- the calls of these turns, one after another
 abbrev pub calls_of : List Turn → List LogEntry
@@ -47,8 +47,8 @@ spelled_by turns = flat_map (λ t. commands_done_by (ask_of t.request) t.calls) 
 abbrev pub spelled : List Turn → (leaving : List LogEntry) → List DoneCommand
 spelled turns leaving = spelled_by turns ++ commands_done_by Leave leaving
 
--- A caller makes the calls of these turns, one after another and behind those calls, and is d then. By each request to leave that
--- was done it gives back what it has.
+-- A caller makes the calls of these turns, one after another and behind those calls, and is d then. By each request to leave it
+-- gives back what it has.
 abbrev pub MakesTurns : (before : List LogEntry) → Caller → List Turn → Caller → Type 0
 MakesTurns before c [] d = d ≡ c
 MakesTurns before c (t ∷ ts) d =

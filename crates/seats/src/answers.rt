@@ -1,5 +1,5 @@
 // What a seat does for what it is asked, and what it tells.
-ghost use Rattle.std.specs.Prelude.{◌≡◌, ◌≢◌, ◌<◌, ◌≤◌, ◌+◌, ◌⊎◌, ℕ, None, Some, length, slice_get, vec_capacity, IfOk, IfSome};
+ghost use Rattle.std.specs.Prelude.{◌≡◌, ◌≢◌, ◌<◌, ◌≤◌, ◌+◌, ◌⊎◌, ℕ, true, false, None, Some, length, slice_get, vec_capacity, IfOk, IfSome};
 ghost use Rattle.dmx_calls.specs.Calls.{invocation_of, response_of};
 ghost use Rattle.dmx_calls.specs.Log.{act_of};
 ghost use Rattle.dmx_calls.specs.declared.limits.TheConstants.{DEMUX_NODES as nodes};
@@ -11,9 +11,9 @@ ghost use Rattle.serve_frames.specs.Tells.{told_of};
 ghost use Rattle.seats.specs.declared.made.Made.{Made};
 ghost use Rattle.seats.specs.Answered.{is_busy as is_busy_by, refusal, told_opened, AreClosings, IsAnswered, IsClosing, IsFull, IsOpened};
 ghost use Rattle.seats.specs.Calls.{PassesNone};
-ghost use Rattle.seats.specs.Doing.{ClosesHeld, Does, DoesCommand, HasAnswered, HasGone, KeepsBy, KeepsClosed, KeepsOne, KeepsOpened};
-ghost use Rattle.seats.specs.Holding.{HasLeft};
-ghost use Rattle.seats.specs.Seated.{IsFit, HasRoom, GoesOn};
+ghost use Rattle.seats.specs.Doing.{ClosesHeld, Does, DoesCommand, HasAnswered, HasGone, HoldsNoMore, KeepsBy, KeepsClosed, KeepsOne, KeepsOpened};
+ghost use Rattle.seats.specs.Holding.{HasLeft, holds};
+ghost use Rattle.seats.specs.Seated.{log_of, IsFit, HasRoom, GoesOn, MayLeave};
 ghost use Rattle.seats.specs.Told.{data_read, call_at};
 
 use crate::seat::{MOST_CALLS, Seat};
@@ -155,7 +155,7 @@ impl Seat {
         refused(EMFILE)
     }
 
-    // Closes a node where the program has it. There is room for that.
+    // Closes a node where the program has it, and there is room for that.
     fn let_go<L: Ledger, R: Wait>(
         &mut self,
         rt: &R,
@@ -165,7 +165,7 @@ impl Seat {
     )
         requires node { node ≤ nodes }
         requires fit { IsFit adapter.now self.old }
-        requires room { HasRoom 2 self.old }
+        requires room { holds (log_of self.old) node ≡ true → HasRoom 2 self.old }
         ensures fit { IsFit adapter.now self.new }
         ensures goes { GoesOn self.old self.new }
         ensures few { (length self.new.made.items ≤ length self.old.made.items + 2) × (self.old.client.left ≤ self.new.client.left + 2) }
@@ -174,6 +174,8 @@ impl Seat {
         ensures did { Does (IsClosing node) self.old self.new }
         ensures kept { KeepsClosed self.old self.new }
         ensures held { ClosesHeld self.old self.new }
+        ensures fewer { HoldsNoMore self.old self.new }
+        ensures free { holds (log_of self.new) node ≡ false }
         ensures left { HasLeft node self.new.client }
         ensures still { (i : ℕ) → HasLeft i self.old.client → HasLeft i self.new.client }
     {
@@ -183,10 +185,10 @@ impl Seat {
         self.command(rt, adapter, node, Call::Close, steps);
     }
 
-    /// Closes each node that the program has. There is room for that.
+    /// Closes each node that the program has. Where it has any, there is room for that.
     pub fn leave<L: Ledger, R: Wait>(&mut self, rt: &R, adapter: &Adapter, steps: &mut Steps<L>)
         requires fit { IsFit adapter.now self.old }
-        requires room { HasRoom 66 self.old }
+        requires room { MayLeave self.old }
         ensures fit { IsFit adapter.now self.new }
         ensures goes { GoesOn self.old self.new }
         ensures few { (length self.new.made.items ≤ length self.old.made.items + 66) × (self.old.client.left ≤ self.new.client.left + 66) }
@@ -195,6 +197,7 @@ impl Seat {
         ensures did { Does (AreClosings (nodes + 1)) self.old self.new }
         ensures kept { KeepsClosed self.old self.new }
         ensures held { ClosesHeld self.old self.new }
+        ensures free { (node : ℕ) → node ≤ nodes → holds (log_of self.new) node ≡ false }
         ensures left { (node : ℕ) → node ≤ nodes → HasLeft node self.new.client }
     {
         'nodes: for node in 0..NODES {
@@ -240,9 +243,36 @@ impl Seat {
         }
     }
 
+    // Leaves, where that is asked. For any other request memory was refused, or too few calls are left.
+    fn done_without<L: Ledger, R: Wait>(
+        &mut self,
+        rt: &R,
+        adapter: &Adapter,
+        ask: Ask,
+        steps: &mut Steps<L>,
+    ) -> Answered
+        requires fit { IsFit adapter.now self.old }
+        requires room { MayLeave self.old }
+        ensures fit { IsFit adapter.now self.new }
+        ensures room { MayLeave self.new }
+        ensures goes { GoesOn self.old self.new }
+        ensures at { result.at ≡ None }
+        ensures did { (now : ℕ) → Does (λ calls. IsAnswered ask now calls result.tell []) self.old self.new }
+        ensures kept { KeepsBy ask self.old self.new }
+        ensures gone { ask ≡ Leave → HasGone self.old self.new }
+    {
+        match ask {
+            Ask::Leave => {
+                self.leave(rt, adapter, steps);
+                refused(0)
+            }
+            _ => refused(ENOMEM),
+        }
+    }
+
     /// Does what is asked at this moment, and says what is told.
     ///
-    /// Where memory is refused, or too few calls are left, it makes no call and tells ENOMEM.
+    /// Where memory is refused, or too few calls are left, it makes no call and tells ENOMEM; but to leave is always done.
     pub fn answer<L: Ledger, R: Wait>(
         &mut self,
         rt: &R,
@@ -254,16 +284,16 @@ impl Seat {
     ) -> Answered
         requires range { IsAskInRange ask }
         requires fit { IsFit adapter.now self.old }
-        requires room { HasRoom 66 self.old }
+        requires room { MayLeave self.old }
         ensures fit { IsFit adapter.now self.new }
-        ensures room { HasRoom 66 self.new }
+        ensures room { MayLeave self.new }
         ensures goes { GoesOn self.old self.new }
         ensures at { IfSome result.at (λ i. i < length self.new.made.items) }
         ensures answered { HasAnswered ask now self.old self.new result.tell (data_read (call_at self.new.made.items result.at)) }
     {
         match self.reserve(alloc, 2 * MOST_CALLS) {
             Ok(()) => self.done(rt, alloc, adapter, ask, now, steps),
-            Err(_) => refused(ENOMEM),
+            Err(_) => self.done_without(rt, adapter, ask, steps),
         }
     }
 }

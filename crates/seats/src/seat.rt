@@ -79,7 +79,7 @@ fn has_then(had: bool, act: &Act, reply: &Reply) -> bool
 {
     match act {
         Act::Open => { if is_accepted(reply) { true } else { had } }
-        Act::Close => { if is_accepted(reply) { false } else { had } }
+        Act::Close => false,
         _ => had,
     }
 }

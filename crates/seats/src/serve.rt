@@ -1,7 +1,7 @@
 // A seat at its line: requests come in, and replies go out.
 ghost use Rattle.std.specs.Prelude.{◌≡◌, ◌<◌, ◌≤◌, ◌+◌, ◌-◌, ℕ, true, length, OnOk, IfSome};
 ghost use Rattle.std.specs.Io.KnownBytes.{Appends, Consumes};
-ghost use Rattle.seats.specs.Seated.{log_of, IsFit, IsReady, HasRoom, GoesOn};
+ghost use Rattle.seats.specs.Seated.{log_of, IsFit, IsReady, GoesOn, MayLeave};
 ghost use Rattle.seats.specs.Served.{HasServed};
 ghost use Rattle.seats.specs.Told.{reply_bytes, data_read, call_at};
 ghost use Rattle.seats.specs.Turns.{HasTurned};
@@ -79,9 +79,9 @@ impl Seat {
         steps: &mut Steps<L>,
     ) -> bool
         requires fit { IsFit adapter.now self.old }
-        requires room { HasRoom 66 self.old }
+        requires room { MayLeave self.old }
         ensures fit { IsFit adapter.now self.new }
-        ensures room { HasRoom 66 self.new }
+        ensures room { MayLeave self.new }
         ensures goes { GoesOn self.old self.new }
         ensures turned { HasTurned T.Source.end T.Sink.end (C.may_give clock.now) result line.old line.new self.old.client self.new.client (log_of self.old) (log_of self.new) self.old.outcomes.items self.new.outcomes.items }
     {

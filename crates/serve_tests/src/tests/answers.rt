@@ -2,7 +2,7 @@
 ghost use Rattle.std.specs.Prelude.{◌≡◌, ◌<◌, ◌≤◌, ◌^◌, length, IfSome};
 ghost use Rattle.adapter.specs.Callers.{AreFreshCallers};
 ghost use Rattle.adapter.specs.Rows.{Fits};
-ghost use Rattle.seats.specs.Seated.{IsFit, HasRoom, IsReady};
+ghost use Rattle.seats.specs.Seated.{IsFit, IsReady, MayLeave};
 
 use super::request;
 use adapter::{Adapter, Client, Feeder};
@@ -87,9 +87,9 @@ fn ask<L: Ledger, R: Wait>(
     steps: &mut Steps<L>,
 ) -> Told
     requires fit { IsFit adapter.now seat.old }
-    requires room { HasRoom 66 seat.old }
+    requires room { MayLeave seat.old }
     ensures fit { IsFit adapter.now seat.new }
-    ensures room { HasRoom 66 seat.new }
+    ensures room { MayLeave seat.new }
 {
     let answered = seat.answer(rt, alloc, adapter, Ask::of(bytes), 7, steps);
     told(seat, &answered)
@@ -107,7 +107,7 @@ fn filtered<L: Ledger, R: Wait>(
 ) -> [Told; 8]
     requires ledger { (blank.name ≡ L.name) × (blank.parts ≡ L.parts) × (0 < L.parts) }
     requires fit { IsFit adapter.now seat.old }
-    requires room { HasRoom 66 seat.old }
+    requires room { MayLeave seat.old }
     requires fits { Fits adapter.now feeder.old.passes }
     requires left { feeder.old.left ≡ 2 ^ 44 }
 {

@@ -1,4 +1,4 @@
-use Rattle.std.proofs.Common.{◌≡◌, ap, sym, ◌∙◌, subst, refl}
+use Rattle.std.proofs.Common.{arith, ◌≡◌, ap, sym, ◌∙◌, subst, refl}
 use Rattle.serve_frames.specs.declared.ask.Ask.{Ask}
 use Rattle.serve_frames.specs.declared.ask.Ask.TheVariants.{OpenDemux, Call, Leave, Refused}
 use Rattle.seats.specs.Doing.{KeepsBy}
@@ -21,7 +21,8 @@ returns-in-Ok-clause-did g c =
     (ap act_of c.in-Ok.ensures.value) c.told_at.ensures.at c.told_at.ensures.told
 
 pub returns-in_default-clause-did : goal.returns-in_default-clause-did
-returns-in_default-clause-did g c = answered_wanting c.args.ask c.args.now c.args.self.now _ _ c.refused.ensures
+returns-in_default-clause-did g c =
+    answered_wanting c.args.ask c.args.now c.args.self.now _ _ (λ leave. absurd (let both : Call c.in-Call.node c.in-Call.want ≡ Leave = sym c.in-Call.is ∙ leave in cc both)) c.refused.ensures
 
 pub returns-in-Leave-clause-did : goal.returns-in-Leave-clause-did
 returns-in-Leave-clause-did g c = answered_leave c.args.ask c.args.now c.args.self.now c.leave.new.self _ _ c.in-Leave.is c.leave.ensures.did c.refused-in-Leave.ensures
@@ -60,3 +61,6 @@ returns-in-Leave-clause-gone g c leave = record { held = c.leave.ensures.held; l
 
 pub returns-in-Refused-clause-gone : goal.returns-in-Refused-clause-gone
 returns-in-Refused-clause-gone g c leave = absurd (let both : Refused c.in-Refused.code ≡ Leave = sym c.in-Refused.is ∙ leave in cc both)
+
+pub leave-requires-clause-room : goal.leave-requires-clause-room
+leave-requires-clause-room g c node low held = let r = c.requires.room in let a = r.made in let b = r.outcomes in let l = r.left in record { made = omega (arith, a); outcomes = omega (arith, b); left = omega (arith, l) }

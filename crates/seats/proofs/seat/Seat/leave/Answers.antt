@@ -1,11 +1,12 @@
-use Rattle.std.proofs.Common.{rules, arith, sym, subst, refl, ℕ}
+use Rattle.std.proofs.Common.{rules, arith, ◌≡◌, sym, subst, refl, ℕ, false}
 use mathlib.Core.Logic.{dite}
 use native.Mathlib.Decide.{ℕ_discrete}
-use Rattle.seats.specs.Holding.{HasLeft}
+use Rattle.seats.specs.Holding.{HasLeft, holds}
+use Rattle.seats.specs.Seated.{log_of}
 use Rattle.seats.proofs.Doing.{closings_none, closings_more}
 use Rattle.serve_frames.specs.declared.ask.Ask.TheVariants.{Leave}
 use Rattle.seats.specs.Spelled.{commands_done_by}
-use Rattle.seats.proofs.Closing.{closes_none, closes_more}
+use Rattle.seats.proofs.Closing.{closes_none, closes_more, still_free}
 use Rattle.seats.proofs.Keeping.{keeps_none, keeps_more}
 use Rattle.seats.proofs.Going.{goes_self, goes_trans}
 use Rattle.seats.proofs.seat.Seat.leave.Goals as goal
@@ -21,6 +22,8 @@ nodes-init g c = record {
   did = closings_none c.args.self.now;
   kept = keeps_none (commands_done_by Leave) c.args.self.now c.args.self.now refl refl refl;
   held = closes_none c.args.self.now c.args.self.now refl;
+  fewer = λ i held. held;
+  free = λ i low. absurd (omega arith);
   gone = λ i low. absurd (omega arith);
 }
 
@@ -37,7 +40,17 @@ nodes-preserved g c =
       did = closings_more c.nodes.node _ c.args.self.now c.nodes.self c.let_go.new.self refl v.did e.did;
       kept = keeps_more c.nodes.node c.args.self.now c.nodes.self c.let_go.new.self v.did e.did v.kept e.kept;
       held = closes_more c.args.self.now c.nodes.self c.let_go.new.self v.goes e.goes v.held e.held;
+      fewer = λ i held. v.fewer i (e.fewer i held);
+      free = λ i low. dite (ℕ_discrete i c.nodes.node)
+          (λ here. subst (λ (n : ℕ). holds (log_of c.let_go.new.self) n ≡ false) (sym here) e.free)
+          (λ more. still_free c.nodes.self c.let_go.new.self i e.fewer (v.free i (omega arith)));
       gone = λ i low. dite (ℕ_discrete i c.nodes.node)
           (λ here. subst (λ (n : ℕ). HasLeft n c.let_go.new.self.client) (sym here) e.left)
           (λ more. e.still i (v.gone i (omega arith)));
     }
+
+pub let_go-requires-clause-room : goal.let_go-requires-clause-room
+let_go-requires-clause-room g c held =
+    let v = c.nodes.invariant in let low = c.nodes-test.true in let r = c.requires.room c.nodes.node (omega (arith, low)) (v.fewer c.nodes.node held) in
+    let m = r.made in let o = r.outcomes in let l = r.left in let made = v.made in let told = v.told in let left = v.left in let a = v.room.0 in let b = v.room.1 in
+    record { made = omega (arith, low, m, made, a); outcomes = omega (arith, low, o, told, b); left = omega (arith, low, l, left) }

@@ -2,7 +2,7 @@ use Rattle.std.proofs.Common.{rules, ◌≡◌, get_or, false, true, refl}
 use Rattle.serve_frames.specs.declared.ask.Ask.TheVariants.{Leave}
 use Rattle.seats.specs.Seated.{log_of}
 use Rattle.seats.specs.Spelled.{commands_done_by}
-use Rattle.seats.proofs.Closing.{closes_none, closes_one}
+use Rattle.seats.proofs.Closing.{closes_none, closes_one, closed_free, closed_fewer}
 use Rattle.seats.proofs.Keeping.{keeps_none, keeps_closed}
 use Rattle.seats.proofs.Doing.{closing_none, closing_one}
 use Rattle.seats.proofs.Going.{goes_self}
@@ -27,7 +27,26 @@ returns-clause-kept g c = keeps_closed c.args.node c.command.result c.args.self.
 pub returns-then-not-self-node-clause-held : goal.returns-then-not-self-node-clause-held
 returns-then-not-self-node-clause-held g c = closes_none c.args.self.now c.args.self.now refl
 
+pub command-requires-clause-room : goal.command-requires-clause-room
+command-requires-clause-room g c =
+    let s = c.args.self.now in let is : get_or s.held c.args.node false ≡ true = search rules in
+    c.requires.room (marked_is (log_of s) s.held c.args.node true c.requires.fit.marked c.requires.node is)
+
 pub returns-clause-held : goal.returns-clause-held
 returns-clause-held g c =
     let s = c.args.self.now in let is : get_or s.held c.args.node false ≡ true = search rules in
     closes_one c.args.node c.command.result s c.command.new.self c.command.ensures.did (marked_is (log_of s) s.held c.args.node true c.requires.fit.marked c.requires.node is)
+
+pub returns-then-not-self-node-clause-fewer : goal.returns-then-not-self-node-clause-fewer
+returns-then-not-self-node-clause-fewer g c i held = held
+
+pub returns-clause-fewer : goal.returns-clause-fewer
+returns-clause-fewer g c = closed_fewer c.args.node c.command.result c.args.self.now c.command.new.self c.command.ensures.did
+
+pub returns-then-not-self-node-clause-free : goal.returns-then-not-self-node-clause-free
+returns-then-not-self-node-clause-free g c =
+    let s = c.args.self.now in let is : get_or s.held c.args.node false ≡ false = search rules in
+    marked_is (log_of s) s.held c.args.node false c.requires.fit.marked c.requires.node is
+
+pub returns-clause-free : goal.returns-clause-free
+returns-clause-free g c = closed_free c.args.node c.command.result c.args.self.now c.command.new.self c.command.ensures.did

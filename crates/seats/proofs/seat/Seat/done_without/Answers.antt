@@ -1,0 +1,29 @@
+use Rattle.std.proofs.Common.{◌≡◌, true, false, sym, ◌∙◌, subst, refl}
+use Rattle.serve_frames.specs.declared.ask.Ask.{Ask}
+use Rattle.seats.specs.Doing.{KeepsBy}
+use Rattle.seats.specs.Spelled.{commands_done_by}
+use Rattle.seats.proofs.Doing.{answered_leave, answered_wanting}
+use Rattle.seats.proofs.Going.{goes_self}
+use Rattle.seats.proofs.Keeping.{keeps_none, none_done}
+use Rattle.seats.proofs.seat.Seat.done_without.Goals as goal
+
+pub returns-in-Leave-clause-room : goal.returns-in-Leave-clause-room
+returns-in-Leave-clause-room g c node low held = absurd (let both : false ≡ true = sym (c.leave.ensures.free node low) ∙ held in cc both)
+
+pub returns-in-Leave-clause-did : goal.returns-in-Leave-clause-did
+returns-in-Leave-clause-did g c now = answered_leave c.args.ask now c.args.self.now c.leave.new.self _ _ c.in-Leave.is c.leave.ensures.did c.refused.ensures
+
+pub returns-in-Leave-clause-kept : goal.returns-in-Leave-clause-kept
+returns-in-Leave-clause-kept g c = subst (λ (a : Ask). KeepsBy a c.args.self.now c.leave.new.self) (sym c.in-Leave.is) c.leave.ensures.kept
+
+pub returns-in-Leave-clause-gone : goal.returns-in-Leave-clause-gone
+returns-in-Leave-clause-gone g c leave = record { held = c.leave.ensures.held; left = c.leave.ensures.left }
+
+pub returns-in_default-clause-goes : goal.returns-in_default-clause-goes
+returns-in_default-clause-goes g c = goes_self c.args.self.now
+
+pub returns-in_default-clause-did : goal.returns-in_default-clause-did
+returns-in_default-clause-did g c now = answered_wanting c.args.ask now c.args.self.now _ _ c.in_default.is-not c.refused-in_default.ensures
+
+pub returns-in_default-clause-kept : goal.returns-in_default-clause-kept
+returns-in_default-clause-kept g c = keeps_none (commands_done_by c.args.ask) c.args.self.now c.args.self.now (none_done c.args.ask) refl refl
