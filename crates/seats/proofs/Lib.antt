@@ -2,10 +2,12 @@ pub mod Closing
 pub mod DoneCommands
 pub mod Doing
 pub mod Going
+pub mod Hands
 pub mod Holding
 pub mod Keeping
 pub mod Lists
 pub mod Marking
+pub mod Numbering
 pub mod Owning
 pub mod Played
 pub mod Progress

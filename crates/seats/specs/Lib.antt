@@ -1,7 +1,9 @@
 pub mod Answered
 pub mod Calls
 pub mod Doing
+pub mod Handed
 pub mod Holding
+pub mod Numbered
 pub mod Scripts
 pub mod Seated
 pub mod Served

@@ -40,12 +40,12 @@ pub record HasRoom (calls : ℕ) (s : Seat) : Type 0 where
 abbrev pub MayLeave : Seat → Type 0
 MayLeave s = (node : ℕ) → node ≤ DEMUX_NODES → holds (log_of s) node ≡ true → HasRoom 66 s
 
--- It has a pass of each of these locks, and keeps so many calls as it has made, each on a node; it has marked the nodes that it
--- holds, and left each other.
+-- It has a pass of each of these locks, and each call that it keeps is on a node; so few calls are left that their numbers stay
+-- below 2^40; it has marked the nodes that it holds, and left each other.
 pub record IsFit (locks : List TableId) (s : Seat) : Type 0 where
   pub fits : Fits locks s.client.passes
   pub who : s.who ≡ s.client.who
-  pub left : s.client.left + (length s.log.items + length s.made.items) ≡ 2 ^ 40
+  pub left : s.client.left + (length s.log.items + length s.made.items) ≤ 2 ^ 40
   pub nodes : AreOnNodes (log_of s)
   pub marked : AreMarked (log_of s) s.held
   pub knows : KnowsItsNodes s.client s.held

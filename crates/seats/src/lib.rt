@@ -36,6 +36,8 @@
 #![tactic(auto)]
 
 mod answers;
+mod handing;
+mod journal;
 mod laws;
 mod made;
 mod making;
@@ -44,6 +46,8 @@ mod seat;
 mod serve;
 
 pub use answers::Answered;
+pub use handing::sit_all_to;
+pub use journal::{Forgotten, Journal, JournalLine};
 pub use laws::lines_are_played;
 pub use made::Made;
 pub use making::desks_of;

@@ -208,7 +208,7 @@ impl Seat {
     }
 
     // Keeps its last calls in the log, where there is memory for that.
-    fn settle(&mut self, alloc: Global) -> Result<(), NoMemory>
+    pub(crate) fn settle(&mut self, alloc: Global) -> Result<(), NoMemory>
         ensures settled { OnOk result (self.new.made.items ≡ []) }
         ensures same { log_of self.new ≡ log_of self.old }
         ensures room { vec_capacity self.new.made ≡ vec_capacity self.old.made }

@@ -69,7 +69,7 @@ impl Seat {
     }
 
     // Answers the next request. False where the program has gone.
-    fn turn<T: Source + Sink, C: Clock, L: Ledger, R: Wait>(
+    pub(crate) fn turn<T: Source + Sink, C: Clock, L: Ledger, R: Wait>(
         &mut self,
         rt: &R,
         alloc: Global,

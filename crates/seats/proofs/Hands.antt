@@ -1,0 +1,206 @@
+-- Seats that hand their calls over, request by request.
+use Rattle.std.proofs.Common.{◌≡◌, ◌+◌, ◌≤◌, ◌^◌, ℕ, Bool, true, false, List, [], ◌∷◌, ◌++◌, length, map, refl, ap, sym, ◌∙◌, subst, arith, length-append}
+use Rattle.std.proofs.lemmas.List.{append-nil, append_assoc}
+use Rattle.std.proofs.lemmas.List.Concat.{flat_map-append}
+use Rattle.std.proofs.lemmas.List.Elements.{All-nil, All-append}
+use Rattle.emu_io.specs.Ends.{SourceEnd, SinkEnd}
+use Rattle.dmx_calls.specs.declared.limits.TheConstants.{DEMUX_NODES}
+use Rattle.dmx_calls.specs.declared.outcome.Outcome.{Outcome}
+use Rattle.dmx_calls.specs.Log.{LogEntry}
+use Rattle.adapter.specs.Callers.{Caller}
+use Rattle.serve_frames.specs.Asks.{ask_of}
+use Rattle.seats.specs.declared.seat.Seat.{Seat}
+use Rattle.seats.specs.Answered.{AreClosings}
+use Rattle.seats.specs.Calls.{MakesCalls}
+use Rattle.seats.specs.Doing.{Does}
+use Rattle.seats.specs.Numbered.{numbered}
+use Rattle.seats.specs.Seated.{log_of, told_made, AreOnNodes, GoesOn}
+use Rattle.seats.specs.Spelled.{outcomes_by}
+use Rattle.seats.specs.Turns.{Turn, IsTurn, calls_of, spelled, IsAsked, IsTold, AreTold, IsLast, HasTurned, HasAnsweredAll}
+use Rattle.seats.proofs.Doing.{log_more}
+use Rattle.seats.proofs.Going.{calls_trans}
+use Rattle.seats.proofs.Numbering.{numbered_long, numbered_both, nodes_numbered, makes_numbered, calls_left, closings_numbered, answered_numbered}
+
+-- ------ turns
+
+-- a turn whose calls have the numbers from this one on
+abbrev from_step : (n : ℕ) → Turn → Turn
+from_step n t = record t { calls = numbered n t.calls }
+
+abbrev from_steps : (n : ℕ) → List Turn → List Turn
+from_steps n [] = []
+from_steps n (t ∷ ts) = from_step n t ∷ from_steps (n + length t.calls) ts
+
+module _ {T : Type 0} (source : T → SourceEnd) (sink : T → SinkEnd) (may : ℕ → Bool) where
+  turn_from : (n : ℕ) (t : Turn) → IsTurn may t → IsTurn may (from_step n t)
+  turn_from n t is = record { long = is.long; moment = is.moment; is = answered_numbered n t.calls t.told t.bytes (ask_of t.request) t.now is.is }
+
+  asked_from : (n : ℕ) (t : Turn) (before asked : T) → IsAsked source sink may t before asked → IsAsked source sink may (from_step n t) before asked
+  asked_from n t before asked is = record { turn = turn_from n t is.turn; taken = is.taken }
+
+  told_from : (n : ℕ) (t : Turn) (before after : T) → IsTold source sink may t before after → IsTold source sink may (from_step n t) before after
+  told_from n t before after is = record { asked = is.asked; is = asked_from n t before is.asked is.is; told = is.told }
+
+  last_from : (n : ℕ) (line : T) (ts : List Turn) → IsLast source sink may line ts → IsLast source sink may line (from_steps n ts)
+  last_from n line [] is = tt
+  last_from n line (t ∷ []) is = (is.0, asked_from n t line is.0 is.1)
+  last_from n line (t ∷ u ∷ ts) is = absurd is
+
+  last_calls : (n : ℕ) (line : T) (ts : List Turn) → IsLast source sink may line ts → numbered n (calls_of ts) ≡ calls_of (from_steps n ts)
+  last_calls n line [] is = refl
+  last_calls n line (t ∷ []) is = ap (numbered n) (append-nil t.calls) ∙ sym (append-nil (numbered n t.calls))
+  last_calls n line (t ∷ u ∷ ts) is = absurd is
+
+  told_last : (line at next : T) (ts : List Turn) (t : Turn) → AreTold source sink may line ts at → IsTold source sink may t at next → AreTold source sink may line (ts ++ t ∷ []) next
+  told_last line at next [] t is one = (next, subst (λ (l : T). IsTold source sink may t l next) is one, refl)
+  told_last line at next (u ∷ us) t is one = (is.0, is.1, told_last is.0 at next us t is.2 one)
+
+-- ------ a seat
+
+-- the calls that it has made: those that it has handed over, and those that it keeps
+abbrev pub all_calls : (handed : List LogEntry) → Seat → List LogEntry
+all_calls handed s = handed ++ numbered (length handed) (log_of s)
+
+pub all_long : (handed : List LogEntry) (s : Seat) → length (all_calls handed s) ≡ length handed + length (log_of s)
+all_long handed s = let a = length-append handed (numbered (length handed) (log_of s)) in let b = numbered_long (length handed) (log_of s) in omega (arith, a, b)
+
+-- where its log has grown
+all_more : (handed : List LogEntry) (old new : Seat) (calls : List LogEntry) → log_of new ≡ log_of old ++ calls → all_calls handed new ≡ all_calls handed old ++ numbered (length handed + length (log_of old)) calls
+all_more handed old new calls is =
+    ap (λ (l : List LogEntry). handed ++ numbered (length handed) l) is
+    ∙ (ap (λ (l : List LogEntry). handed ++ l) (numbered_both (length handed) (log_of old) calls)
+    ∙ sym (append_assoc handed (numbered (length handed) (log_of old)) (numbered (length handed + length (log_of old)) calls)))
+
+all_goes : (handed : List LogEntry) (first : Caller) (old new : Seat) → MakesCalls 0 first (all_calls handed old) old.client → GoesOn old new → MakesCalls 0 first (all_calls handed new) new.client
+all_goes handed first old new made goes =
+    let n = length handed + length (log_of old) in let long = all_long handed old in
+    let here : n ≡ 0 + length (all_calls handed old) = omega (arith, long) in
+    subst (λ (l : List LogEntry). MakesCalls 0 first l new.client) (sym (all_more handed old new goes.calls goes.log))
+    (calls_trans 0 n first old.client new.client (all_calls handed old) (numbered n goes.calls) here made
+    (makes_numbered (length (log_of old)) n old.client goes.calls new.client goes.made))
+
+-- nothing is kept
+all_none : (handed : List LogEntry) (s : Seat) → log_of s ≡ [] → all_calls handed s ≡ handed
+all_none handed s none = ap (λ (l : List LogEntry). handed ++ numbered (length handed) l) none ∙ append-nil handed
+
+all_nodes : (handed : List LogEntry) (s : Seat) → AreOnNodes handed → AreOnNodes (log_of s) → AreOnNodes (all_calls handed s)
+all_nodes handed s before kept = All-append (λ (e : LogEntry). e.node ≤ DEMUX_NODES) handed (numbered (length handed) (log_of s)) before (nodes_numbered (length handed) (log_of s) kept)
+
+-- ------ request by request
+
+module _ {T J : Type 0} (source : T → SourceEnd) (sink : T → SinkEnd) (may : ℕ → Bool) (took : List LogEntry → J → J → Type 0) where
+  -- From this line, this journal and this caller on it has answered requests, and handed so many calls over.
+  pub record Hands (line : T) (was : J) (first : Caller) (before : ℕ) (at : T) (now : J) (s : Seat) : Type 0 where
+    pub handed : List LogEntry
+    pub count : before ≡ length handed
+    pub given : took handed was now
+    pub made : MakesCalls 0 first (all_calls handed s) s.client
+    pub nodes : AreOnNodes handed
+    pub turns : List Turn
+    pub told : AreTold source sink may line turns at
+    pub calls : all_calls handed s ≡ calls_of turns
+
+  pub hands_none : (line : T) (was : J) (s : Seat) → took [] was was → log_of s ≡ [] → Hands line was s.client 0 line was s
+  hands_none line was s nothing none = record {
+    handed = [];
+    count = refl;
+    given = nothing;
+    made = subst (λ (l : List LogEntry). MakesCalls 0 s.client l s.client) (sym (all_none [] s none)) refl;
+    nodes = All-nil (λ (e : LogEntry). e.node ≤ DEMUX_NODES);
+    turns = [];
+    told = refl;
+    calls = all_none [] s none;
+  }
+
+  module _ (line : T) (was : J) (first : Caller) (before : ℕ) (at : T) (now : J) (s : Seat) (h : Hands line was first before at now s) where
+    -- so many calls fit
+    pub hands_few : first.left ≤ 2 ^ 40 → before + length (log_of s) ≤ 2 ^ 40
+    hands_few few = let a = calls_left 0 first (all_calls h.handed s) s.client h.made in let b = all_long h.handed s in let c = h.count in omega (arith, few, a, b, c)
+
+    -- one request more
+    pub hands_turned : (next : T) (new : Seat) (was_told now_told : List Outcome) (on : Bool) → HasTurned source sink may on at next (log_of s) (log_of new) was_told now_told → on ≡ true → GoesOn s new
+        → Hands line was first before next now new
+    hands_turned next new was_told now_told false one is goes = absurd (cc is)
+    hands_turned next new was_told now_told true one is goes =
+        let n = length h.handed + length (log_of s) in let t = from_step n one.0 in
+        record {
+          handed = h.handed;
+          count = h.count;
+          given = h.given;
+          made = all_goes h.handed first s new h.made goes;
+          nodes = h.nodes;
+          turns = h.turns ++ t ∷ [];
+          told = told_last source sink may line at next h.turns t h.told (told_from source sink may n one.0 at next one.1);
+          calls = all_more h.handed s new one.0.calls one.2
+              ∙ (ap (λ (l : List LogEntry). l ++ numbered n one.0.calls) h.calls
+              ∙ (ap (λ (l : List LogEntry). calls_of h.turns ++ l) (sym (append-nil (numbered n one.0.calls)))
+              ∙ sym (flat_map-append (λ (t : Turn). t.calls) h.turns (t ∷ []))));
+        }
+
+    -- what it keeps is handed over
+    pub hands_over : (later : J) (new : Seat) (count : ℕ) → ((xs ys : List LogEntry) → took xs was now → took ys now later → took (xs ++ ys) was later)
+        → took (numbered before (log_of s)) now later → count ≡ before + length (log_of s) → log_of new ≡ [] → new.client ≡ s.client → AreOnNodes (log_of s) → Hands line was first count at later new
+    hands_over later new count both more is none same nodes =
+        let all = all_none (all_calls h.handed s) new none in
+        record {
+          handed = all_calls h.handed s;
+          count = let a = h.count in let b = all_long h.handed s in omega (arith, is, a, b);
+          given = both h.handed (numbered (length h.handed) (log_of s)) h.given (subst (λ k. took (numbered k (log_of s)) now later) h.count more);
+          made = subst (λ (l : List LogEntry). MakesCalls 0 first l new.client) (sym all) (subst (λ (c : Caller). MakesCalls 0 first (all_calls h.handed s) c) (sym same) h.made);
+          nodes = all_nodes h.handed s h.nodes nodes;
+          turns = h.turns;
+          told = h.told;
+          calls = all ∙ h.calls;
+        }
+
+    -- nothing is handed over, for want of memory
+    pub hands_kept : (later : J) (new : Seat) → later ≡ now → log_of new ≡ log_of s → new.client ≡ s.client → Hands line was first before at later new
+    hands_kept later new steady log same =
+        let all : all_calls h.handed new ≡ all_calls h.handed s = ap (λ (l : List LogEntry). h.handed ++ numbered (length h.handed) l) log in
+        record {
+          handed = h.handed;
+          count = h.count;
+          given = subst (λ (j : J). took h.handed was j) (sym steady) h.given;
+          made = subst (λ (l : List LogEntry). MakesCalls 0 first l new.client) (sym all) (subst (λ (c : Caller). MakesCalls 0 first (all_calls h.handed s) c) (sym same) h.made);
+          nodes = h.nodes;
+          turns = h.turns;
+          told = h.told;
+          calls = all ∙ h.calls;
+        }
+
+    -- the line has ended, and all nodes were closed: what is told of commands is what its calls say of them
+    pub answered_to : (next : T) (new last : Seat) (was_told now_told : List Outcome) (on : Bool) → HasTurned source sink may on at next (log_of s) (log_of new) was_told now_told → on ≡ false
+        → Does (AreClosings (DEMUX_NODES + 1)) new last → (told : List Outcome) × HasAnsweredAll source sink may line [] (all_calls h.handed last) [] told
+    answered_to next new last was_told now_told true one is d = absurd (cc is)
+    answered_to next new last was_told now_told false one is d =
+        let n = length h.handed + length (log_of s) in let m = length h.handed + length (log_of new) in
+        let gone = map (told_made new.who) d.more in
+        let lasts = from_steps n one.0 in let leaving = numbered m gone in (
+          outcomes_by 0 0 (spelled (h.turns ++ lasts) leaving),
+          record {
+            turns = h.turns;
+            after = at;
+            told = h.told;
+            last = lasts;
+            is = last_from source sink may n at one.0 one.1;
+            leaving = leaving;
+            closed = closings_numbered (DEMUX_NODES + 1) m gone d.is;
+            log = all_more h.handed new last gone (log_more new last d.more d.has)
+                ∙ (ap (λ (l : List LogEntry). l ++ leaving) (all_more h.handed s new (calls_of one.0) one.2
+                ∙ (ap (λ (l : List LogEntry). l ++ numbered n (calls_of one.0)) h.calls
+                ∙ ap (λ (l : List LogEntry). calls_of h.turns ++ l) (last_calls source sink may n at one.0 one.1)))
+                ∙ append_assoc (calls_of h.turns) (calls_of lasts) leaving);
+            kept = refl;
+          },
+        )
+
+    pub made_to : (new last : Seat) → GoesOn s new → GoesOn new last → MakesCalls 0 first (all_calls h.handed last) last.client
+    made_to new last goes leaves = all_goes h.handed first new last (all_goes h.handed first s new h.made goes) leaves
+
+    pub nodes_to : (last : Seat) → AreOnNodes (log_of last) → AreOnNodes (all_calls h.handed last)
+    nodes_to last nodes = all_nodes h.handed last h.nodes nodes
+
+    -- and all was handed over
+    pub given_to : (later : J) (last : Seat) → ((xs ys : List LogEntry) → took xs was now → took ys now later → took (xs ++ ys) was later) → took (numbered before (log_of last)) now later
+        → took (all_calls h.handed last) was later
+    given_to later last both more = both h.handed (numbered (length h.handed) (log_of last)) h.given (subst (λ k. took (numbered k (log_of last)) now later) h.count more)

@@ -1,0 +1,42 @@
+-- Seats that have served their lines and handed their calls over to journals.
+use Rattle.std.specs.Prelude.{◌≡◌, ◌<◌, ◌≤◌, ℕ, Bool, List, [], length, slice_index_or}
+use Rattle.atomic_table.specs.Seated.{TableId}
+use Rattle.emu_io.specs.Ends.{SourceEnd, SinkEnd}
+use Rattle.dmx_calls.specs.declared.limits.TheConstants.{DEMUX_NODES}
+use Rattle.dmx_calls.specs.declared.outcome.Outcome.{Outcome}
+use Rattle.dmx_calls.specs.Log.{LogEntry}
+use Rattle.seats.specs.declared.journal.JournalLine.{JournalLine}
+use Rattle.seats.specs.declared.run.Desk.{Desk}
+use Rattle.seats.specs.declared.seat.Seat.{Seat}
+use Rattle.seats.specs.Calls.{MakesCalls}
+use Rattle.seats.specs.Holding.{HasLeft}
+use Rattle.seats.specs.Seated.{log_of, AreOnNodes, IsFit, IsReady}
+use Rattle.seats.specs.Turns.{HasAnsweredAll}
+
+-- It is ready, and keeps no call.
+pub record IsReadyToHand (locks : List TableId) (s : Seat) : Type 0 where
+  pub ready : IsReady locks s
+  pub none : log_of s ≡ []
+
+-- A line tells what is left of it to be read, and what was written to it; or it tells none of these. A journal says whether it was
+-- given these calls, and no others, between one state and another.
+module _ {T J : Type 0} (source : T → SourceEnd) (sink : T → SinkEnd) (may : ℕ → Bool)
+    (took : List LogEntry → J → J → Type 0) where
+  -- A seat has served its line: its client has made just these calls, which are those that the requests of the line ask for and
+  -- those by which all nodes were closed; its journal was given just them; and behind them it owns no node.
+  pub record HasServedTo (locks : List TableId) (before after : JournalLine T J) (old new : Seat) : Type 0 where
+    pub fit : IsFit locks new
+    pub calls : List LogEntry
+    pub made : MakesCalls 0 old.client calls new.client
+    pub nodes : AreOnNodes calls
+    pub told : List Outcome
+    pub answers : HasAnsweredAll source sink may before.line [] calls [] told
+    pub given : took calls before.journal after.journal
+    pub left : (node : ℕ) → node ≤ DEMUX_NODES → HasLeft node new.client
+
+  -- each of the seats has served its line
+  pub record HaveServedTo (locks : List TableId) (old new : List (Desk (JournalLine T J))) : Type 0 where
+    pub long : length new ≡ length old
+    pub each : (i : ℕ) (d : Desk (JournalLine T J)) → i < length old
+        → HasServedTo locks (slice_index_or old i d).line (slice_index_or new i d).line
+        (slice_index_or old i d).seat (slice_index_or new i d).seat
