@@ -37,8 +37,8 @@ fn read_again(input: &mut File, into: &mut [u8]) -> usize
     0
 }
 
-// Writes at least one byte, and again where a signal interrupts it; None where it fails or nothing was written.
-fn write_again(output: &mut File, piece: &[u8]) -> Option<usize>
+/// Writes at least one byte, and again where a signal interrupts it; None where it fails or nothing was written.
+pub fn write_again(output: &mut File, piece: &[u8]) -> Option<usize>
     ensures { IfSome result (λ n. (1 ≤ n) × (n ≤ length piece.now)) }
 {
     'tries: for _ in 0..TRIES {

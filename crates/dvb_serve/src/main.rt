@@ -5,13 +5,18 @@
 //! (`line`). A program that waits makes no call: it is told by the node's bell, a file of the folder (`bells`), that packets of its
 //! filter have passed. The server ends where the stream and the door have; `dvbemu-serve` starts and ends it.
 //!
-//! What is proved: that it is safe. What it does over any source and any lines is a clause of `serve_top`. Standard input and
-//! the pipes tell no content, so over them nothing is said of bytes.
+//! With a third word it keeps no call in memory, and writes no report: with `none` nothing is kept at all; with a folder KEEP each call
+//! is written into the file `N.calls` of its seat as it is made, each batch that passes into `batches`, and at the end, where all these
+//! are whole, what is known of the stream into `head`. `tools/merge` makes the report of them.
+//!
+//! What is proved: that it is safe. What it does over any source, any lines and any journals is a clause of `serve_top`. Standard input,
+//! the pipes and the files tell no content, so over them nothing is said of bytes.
 //!
 //! What is only tested, by the program's run and by `serve/check`: the words, the pipes and the exit status.
 #![tactic(auto)]
 
 mod bells;
+mod file;
 mod line;
 mod stream;
 
@@ -19,8 +24,10 @@ ghost use Rattle.std.specs.Prelude.{◌<◌, ◌≤◌, ◌^◌, ◌-◌, vec_le
 
 use bells::{Bells, LastBells};
 use emu_io::{Ends, StdClock, StdSink, StdSource};
+use file::FileSink;
 use line::PipeLine;
-use serve_top::{NoReport, serve};
+use seats::{Forgotten, JournalLine};
+use serve_top::{Handed, NoReport, Written, serve, serve_to, write_head};
 use std::io;
 use std::process::ExitCode;
 use std::sync::{Arc, Wait};
@@ -28,7 +35,7 @@ use std::thread::Threads;
 use stream::RungSource;
 
 // What words are accepted.
-const USAGE: &str = "usage: dvb_serve FOLDER SEATS < STREAM > REPORT";
+const USAGE: &str = "usage: dvb_serve FOLDER SEATS [none | KEEP] < STREAM > REPORT";
 
 // The lines of so many seats at the door of this folder.
 fn lines_of(
@@ -43,6 +50,55 @@ fn lines_of(
     let mut lines = Vec::new(rt.alloc());
     'seats: for _ in 0..seats {
         lines.push(PipeLine::new(rt, folder, bells)?)?;
+    }
+    Ok(lines)
+}
+
+// The lines of so many seats at the door of this folder, whose calls nobody keeps.
+fn forgetful_lines_of(
+    rt: &HostRuntime,
+    folder: &str,
+    seats: u32,
+    bells: &Arc<Bells>,
+) -> io::Result<Vec<JournalLine<PipeLine, Forgotten>>>
+    requires { seats ≤ 8 }
+    ensures { IfOk result (λ lines. vec_len lines ≤ 8) }
+{
+    let mut lines = Vec::new(rt.alloc());
+    'seats: for _ in 0..seats {
+        lines.push(JournalLine {
+            line: PipeLine::new(rt, folder, bells)?,
+            journal: Forgotten,
+        })?;
+    }
+    Ok(lines)
+}
+
+// A journal that writes the file of this name in a folder.
+fn written_in(rt: &HostRuntime, keep: &str, name: &str) -> io::Result<Written<FileSink>> {
+    let path = format!(in rt.alloc(); "{keep}/{name}")?;
+    Ok(Written::new(rt.alloc(), FileSink::create(rt, path.as_str())?))
+}
+
+// The lines of so many seats at the door of this folder, whose calls are written into that one.
+fn written_lines_of(
+    rt: &HostRuntime,
+    folder: &str,
+    keep: &str,
+    seats: u32,
+    bells: &Arc<Bells>,
+) -> io::Result<Vec<JournalLine<PipeLine, Written<FileSink>>>>
+    requires { seats ≤ 8 }
+    ensures { IfOk result (λ lines. vec_len lines ≤ 8) }
+{
+    let mut lines = Vec::new(rt.alloc());
+    'seats: for seat in 0..seats {
+        let number = seat + 1;
+        let name = format!(in rt.alloc(); "{number}.calls")?;
+        lines.push(JournalLine {
+            line: PipeLine::new(rt, folder, bells)?,
+            journal: written_in(rt, keep, name.as_str())?,
+        })?;
     }
     Ok(lines)
 }
@@ -81,6 +137,103 @@ fn serve_folder<R: Threads + Wait + Sync>(
     ))
 }
 
+// The same, where nothing is kept.
+fn serve_forgetting<R: Threads + Wait + Sync>(
+    threads: &R,
+    rt: &HostRuntime,
+    folder: &str,
+    seats: u32,
+    input: StdSource,
+    clock: &StdClock,
+) -> io::Result<Result<(), NoReport>>
+    requires seats { seats ≤ 8 }
+    requires faults { input < 2 ^ 64 - 1 }
+{
+    let bells = Arc::new(rt.alloc(), Bells::new(rt, folder)?)?;
+    let lines = forgetful_lines_of(rt, folder, seats, &bells)?;
+    let mut source = RungSource::new(input, bells.clone()?);
+    let gate = LastBells { bells };
+    match serve_to(
+        threads,
+        rt.alloc(),
+        &mut source,
+        lines,
+        &mut Forgotten,
+        clock,
+        &gate,
+    ) {
+        Ok(_) => Ok(Ok(())),
+        Err(why) => Ok(Err(why)),
+    }
+}
+
+// Writes what is known of the stream, where all files of the folder are whole.
+fn end_files(
+    rt: &HostRuntime,
+    keep: &str,
+    handed: &Handed<Written<FileSink>>,
+    batches: &Written<FileSink>,
+) -> io::Result<Result<(), NoReport>> {
+    if !batches.whole || !handed.journals.iter().all(|journal| journal.whole) {
+        return Ok(Err(NoReport::Failed));
+    }
+    let path = format!(in rt.alloc(); "{keep}/head")?;
+    let mut sink = FileSink::create(rt, path.as_str())?;
+    Ok(write_head(rt.alloc(), &mut sink, &handed.head))
+}
+
+// The same, where the calls are written into a folder.
+fn serve_writing<R: Threads + Wait + Sync>(
+    threads: &R,
+    rt: &HostRuntime,
+    folder: &str,
+    keep: &str,
+    seats: u32,
+    input: StdSource,
+    clock: &StdClock,
+) -> io::Result<Result<(), NoReport>>
+    requires seats { seats ≤ 8 }
+    requires faults { input < 2 ^ 64 - 1 }
+{
+    let bells = Arc::new(rt.alloc(), Bells::new(rt, folder)?)?;
+    let lines = written_lines_of(rt, folder, keep, seats, &bells)?;
+    let mut batches = written_in(rt, keep, "batches")?;
+    let mut source = RungSource::new(input, bells.clone()?);
+    let gate = LastBells { bells };
+    match serve_to(
+        threads,
+        rt.alloc(),
+        &mut source,
+        lines,
+        &mut batches,
+        clock,
+        &gate,
+    ) {
+        Ok(handed) => end_files(rt, keep, &handed, &batches),
+        Err(why) => Ok(Err(why)),
+    }
+}
+
+// How serving ends.
+fn status_of(rt: &HostRuntime, served: io::Result<Result<(), NoReport>>) -> ExitCode {
+    match served {
+        Ok(Ok(())) => ExitCode::SUCCESS,
+        Ok(Err(NoReport::Failed)) => failed(rt, "what was called can't be written"),
+        Ok(Err(NoReport::NoMemory)) => failed(rt, "there is no memory"),
+        Ok(Err(NoReport::TooLong)) => failed(rt, "the stream was read too often"),
+        Err(_) => failed(rt, "the folder's files can't be opened"),
+    }
+}
+
+// What the words ask for: a folder, how many seats, and what is kept.
+fn asked(words: &[String]) -> Option<(&str, &str, Option<&str>)> {
+    match words {
+        [folder, seats] => Some((folder.as_str(), seats.as_str(), None)),
+        [folder, seats, keep] => Some((folder.as_str(), seats.as_str(), Some(keep.as_str()))),
+        _ => None,
+    }
+}
+
 fn main(rt: HostRuntime) -> ExitCode {
     let Ok(
         Ends {
@@ -93,23 +246,23 @@ fn main(rt: HostRuntime) -> ExitCode {
     else {
         return failed(&rt, "no words");
     };
-    let (folder, seats) = match words.as_slice() {
-        [folder, seats] => (folder.as_str(), seats.as_str()),
-        [word] if word.as_str() == "--help" => {
-            let _ = println!(rt; "{USAGE}");
-            return ExitCode::SUCCESS;
-        }
-        _ => return failed(&rt, USAGE),
+    if let [word] = words.as_slice()
+        && word.as_str() == "--help"
+    {
+        let _ = println!(rt; "{USAGE}");
+        return ExitCode::SUCCESS;
+    }
+    let Some((folder, seats, keep)) = asked(&words) else {
+        return failed(&rt, USAGE);
     };
     let seats = match seats.parse::<u32>() {
         Ok(seats) if seats >= 1 && seats <= 8 => seats,
         _ => return failed(&rt, "SEATS is 1 to 8"),
     };
-    match serve_folder(&rt, &rt, folder, seats, source, sink, &clock) {
-        Ok(Ok(())) => ExitCode::SUCCESS,
-        Ok(Err(NoReport::Failed)) => failed(&rt, "the report can't be written"),
-        Ok(Err(NoReport::NoMemory)) => failed(&rt, "there is no memory"),
-        Ok(Err(NoReport::TooLong)) => failed(&rt, "the stream was read too often"),
-        Err(_) => failed(&rt, "the folder's files can't be opened"),
-    }
+    let served = match keep {
+        None => serve_folder(&rt, &rt, folder, seats, source, sink, &clock),
+        Some("none") => serve_forgetting(&rt, &rt, folder, seats, source, &clock),
+        Some(keep) => serve_writing(&rt, &rt, folder, keep, seats, source, &clock),
+    };
+    status_of(&rt, served)
 }

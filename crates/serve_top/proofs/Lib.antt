@@ -1,6 +1,8 @@
 mod Books
 mod Filled
+mod Handover
 mod Logged
+mod PassedOn
 mod Playing
 mod Reporting
 mod Scripting

@@ -1,1 +1,4 @@
+pub mod Inside
+pub mod Journaled
+pub mod Lines
 pub mod Reported

@@ -19,8 +19,14 @@
 //! and is none of a run.
 #![tactic(auto)]
 
+mod journals;
 mod left;
+mod passing;
 mod server;
 mod threads;
+mod written;
 
+pub use journals::{Handed, serve_to};
+pub use passing::Batches;
 pub use server::{NoReport, serve};
+pub use written::{Written, write_head};

@@ -37,11 +37,11 @@ impl From<NoMemory> for NoReport {
     }
 }
 
-// The nodes that the stream passes: a program may open any of them.
-const ALL: [bool; NODES as usize] = [true; NODES as usize];
+/// The nodes that the stream passes: a program may open any of them.
+pub(crate) const ALL: [bool; NODES as usize] = [true; NODES as usize];
 
-// Why there is no report where the feeder stopped for this reason.
-fn no_report(stop: Stop) -> NoReport
+/// Why there is no report where the feeder stopped for this reason.
+pub(crate) fn no_report(stop: Stop) -> NoReport
     ensures { result ≢ NoReport.Failed }
 {
     match stop {

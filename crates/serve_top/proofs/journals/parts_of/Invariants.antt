@@ -1,0 +1,10 @@
+use Rattle.std.proofs.Common.{◌≡◌, map}
+use Rattle.seats.specs.declared.journal.JournalLine.{JournalLine}
+use Rattle.seats.specs.declared.run.Desk.{Desk}
+use Rattle.serve_top.proofs.journals.parts_of.Given as goal
+
+abbrev pub invariant-desks : goal.invariant-desks
+invariant-desks g l = record {
+  clients : l.clients.items ≡ map (λ (d : Desk (JournalLine _ _)). d.seat.client) l.yielded;
+  journals : l.journals.items ≡ map (λ (d : Desk (JournalLine _ _)). d.line.journal) l.yielded;
+}

@@ -1,0 +1,46 @@
+use Rattle.std.proofs.Common.{rules, ◌≡◌, arith, refl, subst}
+use Rattle.adapter.specs.Callers.{Caller, IsSameCaller}
+use Rattle.workers.proofs.Leaving.{no_stop}
+use Rattle.serve_top.proofs.Handover.{desks_ready, still_callers, has_served}
+use Rattle.serve_top.proofs.PassedOn.{begun_fit, begun_passed}
+use Rattle.serve_top.proofs.Reporting.{counted}
+use Rattle.serve_top.proofs.journals.serve_to.Goals as goal
+
+pub desks_of-requires-clause-few : goal.desks_of-requires-clause-few
+desks_of-requires-clause-few g c = let long = c.in_ok-adapter.ensures.fresh.long in let few = c.requires.few in let n = c.len.ensures in omega (arith, long, few, n)
+
+pub desks_of-requires-clause-lines : goal.desks_of-requires-clause-lines
+desks_of-requires-clause-lines g c = let long = c.in_ok-adapter.ensures.fresh.long in let few = c.requires.few in let n = c.len.ensures in omega (arith, long, few, n)
+
+pub sit_and_pass-requires-clause-passing : goal.sit_and_pass-requires-clause-passing
+sit_and_pass-requires-clause-passing g c κs within =
+    let a = c.in_ok-adapter in
+    record { faults = λ going. c.requires.faults; fit = begun_fit a.adapter _ a.feeder a.clients.items a.ensures.fresh a.ensures.all c.in_ok-passing.passing c.in_ok-passing.ensures }
+
+pub sit_and_pass-requires-clause-begun : goal.sit_and_pass-requires-clause-begun
+sit_and_pass-requires-clause-begun g c κs within =
+    let a = c.in_ok-adapter in
+    begun_passed a.adapter _ a.feeder a.clients.items a.ensures.fresh a.ensures.all c.in_ok-passing.passing c.in_ok-passing.ensures _ _ g.B.Batches.took _ _ (g.met.B.Batches.took_none _)
+
+pub sit_and_pass-requires-clause-desks : goal.sit_and_pass-requires-clause-desks
+sit_and_pass-requires-clause-desks g c κs within =
+    let a = c.in_ok-adapter in
+    desks_ready a.adapter a.clients.items c.in_ok-desks.desks.items (c.in_ok-desks.ensures.ready a.adapter a.feeder (counted a.adapter _ a.feeder a.clients.items a.ensures.fresh))
+
+pub handed_by-requires-clause-done : goal.handed_by-requires-clause-done
+handed_by-requires-clause-done g c = (c.sit_and_pass.ensures.passing.all (no_stop _ c.in_default.is)).done
+
+pub handed_by-requires-clause-all : goal.handed_by-requires-clause-all
+handed_by-requires-clause-all g c =
+    let a = c.in_ok-adapter in let e = c.sit_and_pass.ensures in
+    still_callers g.T.Source.end g.T.Sink.end (g.C.Clock.may_give c.args.clock.now) g.J.Journal.took a.adapter _ a.feeder a.clients.items a.ensures.fresh a.ensures.all c.in_ok-desks.desks.items c.sit_and_pass.new.desks.items
+    (c.in_ok-desks.ensures.ready a.adapter a.feeder (counted a.adapter _ a.feeder a.clients.items a.ensures.fresh)) e.desks
+    c.sit_and_pass.new.passing.feeder (subst (λ (f : Caller). IsSameCaller f c.sit_and_pass.new.passing.feeder) c.in_ok-passing.ensures.caller e.passing.same)
+
+pub returns : goal.returns
+returns g c =
+    let a = c.in_ok-adapter in let e = c.sit_and_pass.ensures in
+    has_served g.T.Source.end g.T.Sink.end (g.C.Clock.may_give c.args.clock.now) g.J.Journal.took a.adapter _ a.feeder a.clients.items a.ensures.fresh a.ensures.all c.in_ok-desks.desks.items c.sit_and_pass.new.desks.items
+    (c.in_ok-desks.ensures.ready a.adapter a.feeder (counted a.adapter _ a.feeder a.clients.items a.ensures.fresh)) e.desks
+    g.B.Batches.took c.args.lines.items c.in_ok-desks.ensures.lines _ _ c.args.batches.now c.sit_and_pass.new.batches c.in_ok-passing.passing c.sit_and_pass.new.passing c.in_ok-passing.ensures
+    _ refl e.passing (e.passing.all (no_stop _ c.in_default.is)) c.in_ok-handed_by.handed c.in_ok-handed_by.ensures.left c.in_ok-handed_by.ensures.histories

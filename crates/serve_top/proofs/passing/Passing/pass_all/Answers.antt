@@ -1,0 +1,31 @@
+use Rattle.std.proofs.Common.{◌++◌, [], refl}
+use Rattle.adapter.proofs.Everybody.{same_trans}
+use Rattle.feed_pull.proofs.Drawing.{draws_none, draws_then}
+use Rattle.feed_pull.proofs.Stopping.{still_counts}
+use Rattle.workers.proofs.Working.{same_self}
+use Rattle.serve_top.proofs.passing.Passing.pass_all.Goals as goal
+
+pub batches-init : goal.batches-init
+batches-init g c = record { fit = c.requires.may.fit; same = same_self c.args.self.now.feeder; draws = ([], draws_none _ c.args.self.now.puller); passed = λ before first was h. h }
+
+pub turn-requires : goal.turn-requires
+turn-requires g c = record {
+  may = record {
+    faults = still_counts _ _ _ _ c.batches.invariant.draws.1.follows c.requires.may.faults;
+    fit = c.batches.invariant.fit;
+  };
+}
+
+pub returns-in_err-turn-clause-same : goal.returns-in_err-turn-clause-same
+returns-in_err-turn-clause-same g c = same_trans c.args.self.now.feeder c.batches.self.feeder c.turn.new.self.feeder c.batches.invariant.same c.turn.ensures.same
+
+pub batches-preserved : goal.batches-preserved
+batches-preserved g c = let k = c.batches.invariant.draws in let d = c.turn.ensures.draws in record {
+  fit = c.turn.ensures.fit;
+  same = same_trans c.args.self.now.feeder c.batches.self.feeder c.turn.new.self.feeder c.batches.invariant.same c.turn.ensures.same;
+  draws = (k.0 ++ d.0, draws_then _ _ _ _ _ _ k.0 d.0 k.1 d.1);
+  passed = λ before first was h. c.in_ok-turn.ensures.passed before first was (c.batches.invariant.passed before first was h);
+}
+
+pub returns-clause-same : goal.returns-clause-same
+returns-clause-same g c = same_trans c.args.self.now.feeder c.batches.self.feeder c.turn.new.self.feeder c.batches.invariant.same c.turn.ensures.same

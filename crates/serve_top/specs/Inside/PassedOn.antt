@@ -1,0 +1,67 @@
+-- A feeder that keeps nothing of what it has passed.
+use Rattle.std.specs.Prelude.{◌≡◌, ◌≢◌, ◌⊎◌, ◌<◌, ◌≤◌, ◌+◌, ◌-◌, ◌^◌, ℕ, Bool, List, [], ◌∷◌, length, None, Some, All}
+use Rattle.emu_io.specs.Ends.{SourceEnd}
+use Rattle.atomic_table.specs.Seated.{TableId}
+use Rattle.ts_packet.specs.declared.size.PacketSize.TheVariants.{Of188}
+use Rattle.client_core.specs.declared.stop.Stop.TheVariants.{NoMemory}
+use Rattle.feed_pull.specs.declared.fault.Reading.TheVariants.{Going, TooMany}
+use Rattle.feed_pull.specs.Pulling.{Pulling, Pulls, IsDone}
+use Rattle.feed_pull.specs.Streams.{Draws}
+use Rattle.dmx_calls.specs.declared.histories.Fed.{Fed}
+use Rattle.dmx_calls.specs.declared.limits.TheConstants.{DEMUX_NODES}
+use Rattle.adapter.specs.Callers.{Caller, IsSameCaller}
+use Rattle.adapter.specs.Nodes.{ended}
+use Rattle.adapter.specs.Rows.{Fits}
+use Rattle.workers.specs.Feeding.{AreFullBatches, HasFed}
+use Rattle.serve_top.specs.declared.passing.Passing.{Passing}
+
+-- It is one of this feeder, and has drawn and passed nothing yet.
+pub record IsNewPassing (feeder : Caller) (p : Passing) : Type 0 where
+  pub caller : p.feeder ≡ feeder
+  pub given : p.puller.given ≡ 0
+  pub count : p.count ≡ 0
+  pub pulls : Pulls [] [] [] p.puller
+  pub size : p.puller.cutting.size ≡ Of188
+
+-- It has a pass of each of these locks, and made no more calls than packets were given.
+pub record IsFitPassing (locks : List TableId) (p : Passing) : Type 0 where
+  pub fits : Fits locks p.feeder.passes
+  pub left : 2 ^ 44 ≤ p.feeder.left + p.puller.given
+  pub count : p.count ≤ p.puller.given
+  pub given : p.puller.given ≤ 2 ^ 41
+
+-- What holds whenever it may pass a batch: the source, which has failed so often, may be read where reading goes on.
+pub record MayPassOn (failed : ℕ) (locks : List TableId) (p : Passing) : Type 0 where
+  pub faults : p.puller.reading ≡ Going → failed < 2 ^ 64 - 1
+  pub fit : IsFitPassing locks p
+
+-- A journal of batches says whether it was told of these, and of no others, between one state and another.
+module _ {B : Type 0} (among : ℕ → Bool) (may : ℕ → Bool) (took : List Fed → B → B → Type 0) where
+  -- It has passed the packets that were drawn from the source, from this puller on, through the nodes that are among these, in
+  -- batches of 64 packets but for the last; and the journal was told of them.
+  pub record HasPassedOn (before after : SourceEnd) (first : Pulling) (was now : B) (p : Passing) : Type 0 where
+    pub feeding : List Fed
+    pub given : took feeding was now
+    pub packets : List (List ℕ)
+    pub draws : Draws before after first p.puller packets
+    pub drawn : p.puller.given ≡ length packets
+    pub fed : HasFed among 64 may packets [] p.feeder feeding
+    pub full : (ahead taken : List ℕ) (given : List (List ℕ)) → Pulls ahead taken given first
+        → AreFullBatches 64 feeding × (IsDone p.puller ⊎ All (λ fed. fed.count ≡ 64) feeding)
+
+  -- All packets of the source have passed these nodes, from this puller on, and then the end of the stream; and the journal was told
+  -- of the batches.
+  pub record HasPassedToEnd (before after : SourceEnd) (first : Pulling) (was now : B) (p : Passing) : Type 0 where
+    pub feeding : List Fed
+    pub given : took feeding was now
+    pub packets : List (List ℕ)
+    pub draws : Draws before after first p.puller packets
+    pub done : IsDone p.puller
+    pub fed : HasFed among 64 may packets (ended ∷ []) p.feeder feeding
+    pub full : (ahead taken : List ℕ) (given : List (List ℕ)) → Pulls ahead taken given first → AreFullBatches 64 feeding
+
+  -- It has worked to its end: where memory wasn't refused the whole stream has passed.
+  pub record HasWorkedOn (before after : SourceEnd) (was now : B) (old new : Passing) : Type 0 where
+    pub same : IsSameCaller old.feeder new.feeder
+    pub nodes : length new.feeder.passes ≡ DEMUX_NODES + 1
+    pub all : new.stop ≢ Some NoMemory → HasPassedToEnd before after old.puller was now new

@@ -1,0 +1,63 @@
+-- What a server has done that keeps no calls, where its stream has ended.
+use Rattle.std.specs.Prelude.{◌≡◌, ◌≤◌, ◌++◌, ◌∷◌, [], ℕ, Bool, List, map, reverse, slice_get, Some}
+use Rattle.std.specs.Io.KnownBytes.{Consumes}
+use Rattle.emu_io.specs.Ends.{SourceEnd, SinkEnd}
+use Rattle.ts_packet.specs.Cut.{cut}
+use Rattle.ts_packet.specs.declared.size.PacketSize.TheVariants.{Of188}
+use Rattle.ts_watch.specs.Head.{told_head, head_of}
+use Rattle.feed_pull.specs.Pulling.{Pulls, has_failed}
+use Rattle.dmx_calls.specs.declared.histories.Fed.{Fed}
+use Rattle.dmx_calls.specs.declared.limits.TheConstants.{DEMUX_NODES}
+use Rattle.dmx_calls.specs.declared.outcome.Outcome.{Outcome}
+use Rattle.dmx_calls.specs.Log.{LogEntry}
+use Rattle.adapter.specs.Callers.{Caller}
+use Rattle.adapter.specs.Ends.{HaveHistories}
+use Rattle.workers.specs.Feeding.{HasFedAll}
+use Rattle.workers.specs.Telling.{HaveCalled}
+use Rattle.seats.specs.declared.journal.JournalLine.{JournalLine}
+use Rattle.seats.specs.declared.run.Desk.{Desk}
+use Rattle.seats.specs.Holding.{HasLeft}
+use Rattle.seats.specs.Turns.{HasAnsweredAll}
+use Rattle.serve_top.specs.declared.journals.Handed.{Handed}
+use Rattle.serve_top.specs.declared.passing.Passing.{Passing}
+use Rattle.serve_top.specs.Reported.{every, fed_by}
+
+-- A line tells what is left of it to be read, and what was written to it; or it tells none of these. A journal says whether it was
+-- given these calls, or these batches, and no others, between one state and another.
+module _ {T J B : Type 0} (source : T → SourceEnd) (sink : T → SinkEnd) (took : List LogEntry → J → J → Type 0)
+    (told : List Fed → B → B → Type 0) where
+  -- What was read of the stream, what was called by whom and why, and what the journals were given: just this.
+  pub record HasServedLines (lines : List (JournalLine T J)) (may : ℕ → Bool) (before after : SourceEnd) (was now : B)
+      (end : Handed J) : Type 0 where
+    -- the bytes that were read, whether a read has failed, and what is known of them
+    pub taken : List ℕ
+    pub consumes : Consumes before.left after.left taken
+    pub failed : Bool
+    pub head : told_head end.head ≡ head_of Of188 taken failed
+    -- the stream has passed all nodes, in batches of 64 packets, of which their journal was told
+    pub feeder : Caller
+    pub feeding : List Fed
+    pub fed : HasFedAll every 64 may (cut Of188 taken).packets feeder feeding
+    pub batches : told feeding was now
+    -- each client has made just the calls of its log; each node has a legal history of just these and the feeder's
+    pub clients : List Caller
+    pub books : List (List LogEntry)
+    pub called : HaveCalled every (fed_by (cut Of188 taken).packets) feeder feeding clients books
+    pub histories : HaveHistories (clients ++ feeder ∷ [])
+    -- these are the calls that the requests of its line ask for, one after another, each told in its reply, and then those by which
+    -- all nodes were closed; and the line's journal was given just them
+    pub asked : (c : ℕ) (book : List LogEntry) → slice_get books c ≡ Some book
+        → (line : JournalLine T J) × (slice_get (reverse lines) c ≡ Some line)
+        × (became : List Outcome) × HasAnsweredAll source sink may line.line [] book [] became
+        × (journal : J) × (slice_get end.journals.items c ≡ Some journal) × took book line.journal journal
+    -- and behind them it owns no node
+    pub left : (c : ℕ) (client : Caller) → slice_get clients c ≡ Some client → (node : ℕ) → node ≤ DEMUX_NODES
+        → HasLeft node client
+
+-- ------ on the way
+
+-- this is left of a feeder that keeps nothing, and of seats with journals
+pub record IsHandedBy {T J : Type 0} (passing : Passing) (desks : List (Desk (JournalLine T J))) (end : Handed J) : Type 0 where
+  pub head : (taken : List ℕ) (given : List (List ℕ)) → Pulls [] taken given passing.puller
+      → told_head end.head ≡ head_of passing.puller.cutting.size taken (has_failed passing.puller.reading)
+  pub journals : end.journals.items ≡ map (λ d. d.line.journal) desks

@@ -1,0 +1,22 @@
+-- The lines that a server writes of what was called, where it keeps nothing. Each ends with a line feed, and numbers are decimal.
+use Rattle.std.specs.Prelude.{◌≡◌, true, List, ℕ, ◌++◌, codes}
+use Rattle.std.specs.Fmt.{decimal}
+use Rattle.std.specs.Io.KnownBytes.{Appends}
+use Rattle.emu_io.specs.Ends.{SinkEnd}
+use Rattle.dmx_calls.specs.declared.histories.Fed.{Fed}
+use Rattle.dmx_calls.specs.Log.{LogEntry}
+use Rattle.text_forms.specs.Names.{node_text}
+use Rattle.report_text.specs.Entries.{entry_text}
+use Rattle.serve_top.specs.declared.written.Written.{Written}
+
+-- a call: its node, and then the line that a report has of it
+abbrev pub call_line : LogEntry → List ℕ
+call_line e = node_text e.node ++ (codes " " ++ entry_text e)
+
+-- a batch: the number of its first packet, how many packets it has, and the moment in milliseconds
+abbrev pub fed_line : Fed → List ℕ
+fed_line f = decimal f.first ++ (codes " " ++ (decimal f.count ++ (codes " " ++ (decimal f.now ++ codes "\n"))))
+
+-- Where it is whole, it was so before, and this text was written between.
+abbrev pub HasWritten : {K : Type 0} → (K → SinkEnd) → (text : List ℕ) → (old new : Written K) → Type 0
+HasWritten end text old new = new.whole ≡ true → (old.whole ≡ true) × Appends (end old.sink).written (end new.sink).written text

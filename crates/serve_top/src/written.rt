@@ -1,0 +1,138 @@
+// A journal that writes lines.
+ghost use Rattle.std.specs.Prelude.{◌≡◌, ◌++◌, [], true, List, ℕ, map, OnOk};
+ghost use Rattle.std.specs.Io.KnownBytes.{Appends};
+ghost use Rattle.dmx_calls.specs.Calls.{told_entry};
+ghost use Rattle.ts_watch.specs.Head.{told_head};
+ghost use Rattle.report_text.specs.Told.{text_of};
+ghost use Rattle.serve_top.specs.Lines.{call_line, fed_line, HasWritten};
+
+use crate::passing::Batches;
+use crate::server::NoReport;
+use dmx_calls::{Entry, Fed};
+use emu_io::Sink;
+use report_text::{add_entry, told_report, write_all};
+use seats::Journal;
+use std::alloc::{AllocError as NoMemory, Global};
+use text_forms::{write_decimal, write_node};
+use ts_watch::Head;
+
+/// A journal that writes a line for each call, or for each batch, as it is given them. Where a write fails, or memory for a line is
+/// refused, it isn't whole any more, and writes nothing behind that.
+#[derive(Drop)]
+pub struct Written<K: Drop> {
+    /// Where the lines go.
+    pub sink: K,
+    /// The line that was made last.
+    pub line: Vec<u8>,
+    /// All lines were written.
+    pub whole: bool,
+}
+
+// The line of a call.
+fn add_call(out: &mut Vec<u8>, entry: &Entry) -> Result<(), NoMemory>
+    ensures { OnOk result (out.new.items ≡ out.old.items ++ call_line (told_entry entry.now)) }
+{
+    write_node(out, entry.node)?;
+    out.extend_from_slice(b" ")?;
+    add_entry(out, entry)
+}
+
+// The line of a batch.
+fn add_fed(out: &mut Vec<u8>, fed: Fed) -> Result<(), NoMemory>
+    ensures { OnOk result (out.new.items ≡ out.old.items ++ fed_line fed) }
+{
+    write_decimal(out, fed.first)?;
+    out.extend_from_slice(b" ")?;
+    write_decimal(out, fed.count as u64)?;
+    out.extend_from_slice(b" ")?;
+    write_decimal(out, fed.now)?;
+    out.extend_from_slice(b"\n")
+}
+
+impl<K: Sink + Drop> Written<K> {
+    /// A journal that has written nothing to this sink yet.
+    pub fn new(alloc: Global, sink: K) -> Written<K>
+        ensures { (result.sink ≡ sink) × (result.whole ≡ true) }
+    {
+        Written {
+            sink,
+            line: Vec::new(alloc),
+            whole: true,
+        }
+    }
+
+    // Writes the line that was made last, if it was made.
+    fn write(&mut self, made: Result<(), NoMemory>)
+        ensures { self.new.whole ≡ true → OnOk made ((self.old.whole ≡ true) × Appends (K.end self.old.sink).written (K.end self.new.sink).written self.old.line.items) }
+    {
+        if self.whole {
+            self.whole = made.is_ok() && write_all(&mut self.sink, &self.line).is_ok();
+        }
+    }
+
+    // Writes the line of a call.
+    fn put(&mut self, entry: &Entry)
+        ensures { HasWritten K.end (call_line (told_entry entry.now)) self.old self.new }
+    {
+        self.line.clear();
+        let made = add_call(&mut self.line, entry);
+        self.write(made);
+    }
+}
+
+impl<K: Sink + Drop> Journal for Written<K> {
+    ghost use Rattle.std.specs.List.{flat_map};
+    ghost use Rattle.serve_top.specs.Lines.{call_line, HasWritten};
+    ghost use Rattle.serve_top.specs.Inside.Writing.{written_none, written_both};
+
+    ghost took = { λ calls a b. HasWritten K.end (flat_map call_line calls) a b };
+
+    fn take(&mut self, before: u64, calls: Vec<Entry>) {
+        let mut step = before;
+        'calls: for call in calls {
+            self.put(&Entry { step, ..call });
+            step += 1;
+        }
+    }
+
+    fn miss(&mut self) {
+        self.whole = false;
+    }
+
+    ghost took_none = { λ a. written_none K.end a };
+
+    ghost took_both = { λ a b c xs ys p q. written_both K.end call_line a b c xs ys p q };
+}
+
+impl<K: Sink + Drop> Batches for Written<K> {
+    ghost use Rattle.std.specs.List.{flat_map};
+    ghost use Rattle.serve_top.specs.Lines.{fed_line, HasWritten};
+    ghost use Rattle.serve_top.specs.Inside.Writing.{written_none, written_both};
+
+    ghost took = { λ feeding a b. HasWritten K.end (flat_map fed_line feeding) a b };
+
+    fn take(&mut self, fed: Fed) {
+        self.line.clear();
+        let made = add_fed(&mut self.line, fed);
+        self.write(made);
+    }
+
+    ghost took_none = { λ a. written_none K.end a };
+
+    ghost took_both = { λ a b c xs ys p q. written_both K.end fed_line a b c xs ys p q };
+}
+
+/// Writes the report that tells this of the stream, and no call.
+///
+/// # Errors
+///
+/// `NoMemory` where memory was refused, and nothing was written; `Failed` where a write failed.
+pub fn write_head<K: Sink>(alloc: Global, sink: &mut K, head: &Head) -> Result<(), NoReport>
+    ensures { OnOk result (Appends (K.end sink.old).written (K.end sink.new).written (text_of (record { head = told_head head.now; outcomes = []; nodes = [] }))) }
+{
+    let text = told_report(alloc, 0, head, &[], &[])?;
+    match write_all(sink, &text) {
+        Ok(()) => Ok(()),
+        Err(_) => Err(NoReport::Failed),
+    }
+}
