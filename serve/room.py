@@ -40,9 +40,10 @@ class Room:
         """Keeps a case."""
         self.found.append((bool(holds), f"failed: {what}\n{told}".rstrip()))
 
-    def run(self, *command, seats="8", rate=RATE):
-        """What a command wrote, and its status."""
-        words = [SERVE, "--packets", rate, "--seats", seats, "--report", self.report, self.stream, "--", *command]
+    def run(self, *command, seats="8", rate=RATE, keep=None):
+        """What a command wrote, and its status. The calls are kept as is said, or else all, and the report is written."""
+        kept = ["--keep", keep] if keep else ["--report", self.report]
+        words = [SERVE, "--packets", rate, "--seats", seats, *kept, self.stream, "--", *command]
         with subprocess.Popen(words, stdin=subprocess.DEVNULL, stdout=subprocess.PIPE, stderr=subprocess.STDOUT, text=True,
                               errors="replace", cwd=self.folder) as child:  # fmt: skip
             try:

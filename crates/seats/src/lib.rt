@@ -30,6 +30,10 @@
 //!
 //! A request to close a node is a call on it, whichever node it names: where the seat isn't its owner, the node refuses it (EBADF).
 //!
+//! A seat may hand its calls over to a `Journal` behind each request, and keep none (`serve_to`): so it takes no more memory however long
+//! it serves. `HasServedTo` in `specs/Handed.antt` says the same of its calls, its requests and its nodes, and that the journal was given
+//! just these calls.
+//!
 //! Limits: a seat makes at most 2^40 calls, of which 66 are kept for leaving. `desks_of` takes memory, and so does each request, also
 //! one to leave: where it is told that memory is wanting, the nodes stay the seat's until it leaves again or its line ends. Of a
 //! server no clause says that it answers, nor when.

@@ -11,6 +11,12 @@
 //! on the seat's line ask for, in their order, and each reply on the line is that of the call that it names (`HasAnsweredAll` of
 //! `seats`). Nothing is written where there was no memory.
 //!
+//! `serve_to` keeps no calls: each line has a journal (`Journal` of `seats`), to which the calls are given as they come, and the batches
+//! that pass are told to another (`Batches`). `HasServedLines` in `specs/Journaled.antt` says of the stream, of the calls and of the replies
+//! what `HasReported` says, and that the journals were given just these calls and batches; no report is made, and nothing said of merged
+//! histories or of a script. `Written` is a journal that writes lines: where it is whole in the end, the sink was appended just the lines
+//! of what it was given (`specs/Lines.antt`), and `Forgotten` of `seats` one that keeps nothing.
+//!
 //! A served run is a run of the script of its requests: there is a script whose commands are, client by client and in their order,
 //! those that the requests on the client's line spell, with a close behind them for each node that was closed; no client of it
 //! writes to the dvr device. Where no call has found memory wanting, the report's histories, and what it tells of commands, are those
