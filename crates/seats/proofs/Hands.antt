@@ -79,6 +79,10 @@ all_goes handed first old new made goes =
     (calls_trans 0 n first old.client new.client (all_calls handed old) (numbered n goes.calls) here made
     (makes_numbered (length (log_of old)) n old.client goes.calls new.client goes.made))
 
+-- so many calls fit
+pub few_calls : (handed : List LogEntry) (first : Caller) (s : Seat) (before : ℕ) → before ≡ length handed → MakesCalls 0 first (all_calls handed s) s.client → first.left ≤ 2 ^ 40 → before + length (log_of s) ≤ 2 ^ 40
+few_calls handed first s before is made few = let a = calls_left 0 first (all_calls handed s) s.client made in let b = all_long handed s in omega (arith, is, few, a, b)
+
 -- nothing is kept
 all_none : (handed : List LogEntry) (s : Seat) → log_of s ≡ [] → all_calls handed s ≡ handed
 all_none handed s none = ap (λ (l : List LogEntry). handed ++ numbered (length handed) l) none ∙ append-nil handed
@@ -113,10 +117,6 @@ module _ {T J : Type 0} (source : T → SourceEnd) (sink : T → SinkEnd) (may :
   }
 
   module _ (line : T) (was : J) (first : Caller) (before : ℕ) (at : T) (now : J) (s : Seat) (h : Hands line was first before at now s) where
-    -- so many calls fit
-    pub hands_few : first.left ≤ 2 ^ 40 → before + length (log_of s) ≤ 2 ^ 40
-    hands_few few = let a = calls_left 0 first (all_calls h.handed s) s.client h.made in let b = all_long h.handed s in let c = h.count in omega (arith, few, a, b, c)
-
     -- one request more
     pub hands_turned : (next : T) (new : Seat) (was_told now_told : List Outcome) (on : Bool) → HasTurned source sink may on at next (log_of s) (log_of new) was_told now_told → on ≡ true → GoesOn s new
         → Hands line was first before next now new

@@ -3,6 +3,7 @@ ghost use Rattle.std.specs.Prelude.{◌≤◌, length};
 
 mod answers;
 mod frames;
+mod journals;
 mod lines;
 mod reports;
 

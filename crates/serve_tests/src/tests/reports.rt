@@ -9,6 +9,16 @@ use std::alloc::Global;
 use std::sync::Wait;
 use std::thread::Threads;
 
+/// So many packets of PID 1.
+pub fn packets_of_1(alloc: Global, count: usize) -> Option<Vec<u8>> {
+    let mut stream = Vec::new(alloc);
+    for _ in 0..count {
+        stream.extend_from_slice(&[0x47, 0, 1, 0x10]).ok()?;
+        stream.extend_from_slice(&[0xff; 184]).ok()?;
+    }
+    Some(stream)
+}
+
 // A request that opens the dvr node, and one that closes it.
 fn calls(alloc: Global) -> Option<Vec<u8>> {
     joined(alloc, &[request(2, 0, 0, &[]), request(3, 32, 0, &[])])
@@ -22,12 +32,7 @@ fn served<R: Threads + Wait + Sync>(
     packets: usize,
     room: usize,
 ) -> Option<(Result<(), NoReport>, Vec<u8>)> {
-    let mut stream = Vec::new(alloc);
-    for _ in 0..packets {
-        stream.extend_from_slice(&[0x47, 0, 1, 0x10]).ok()?;
-        stream.extend_from_slice(&[0xff; 184]).ok()?;
-    }
-    let mut source = MemSource::new(stream, 1000, Vec::new(alloc));
+    let mut source = MemSource::new(packets_of_1(alloc, packets)?, 1000, Vec::new(alloc));
     let mut sink = MemSink::new(alloc, room, 100, Vec::new(alloc)).ok()?;
     let requests = calls(alloc)?;
     let mut lines = Vec::new(alloc);
@@ -46,8 +51,8 @@ fn served<R: Threads + Wait + Sync>(
     Some((ended, sink.bytes().to_vec(alloc).ok()?))
 }
 
-// Whether these bytes stand in those.
-fn has(bytes: &[u8], part: &[u8]) -> bool
+/// Whether these bytes stand in those.
+pub fn has(bytes: &[u8], part: &[u8]) -> bool
     requires { 0 < length part.now }
 {
     bytes.windows(part.len()).any(|window| window == part)
