@@ -60,4 +60,13 @@ requests-preserved-in-Ok g c =
     }
 
 pub requests-preserved : goal.requests-preserved
-requests-preserved g c = ?
+requests-preserved g c =
+    let e = c.hand_over.ensures in
+    let h = hands_turned g.T.Source.end g.T.Sink.end (g.C.Clock.may_give c.args.clock.now) g.J.Journal.took c.args.at.now.line c.args.at.now.journal c.args.self.now.client c.requests.before c.requests.at.line c.requests.at.journal c.requests.self
+    c.requests.invariant.hands c.turn.new.line c.turn.new.self _ _ c.turn.result c.turn.ensures.turned c.if-not-turn.false c.turn.ensures.goes in
+    record {
+      fit = e.fit c.args.adapter.now c.turn.ensures.fit;
+      room = e.room 66 c.turn.ensures.room;
+      hands = hands_kept g.T.Source.end g.T.Sink.end (g.C.Clock.may_give c.args.clock.now) g.J.Journal.took c.args.at.now.line c.args.at.now.journal c.args.self.now.client c.requests.before c.turn.new.line c.requests.at.journal c.turn.new.self h
+          c.hand_over.new.journal c.hand_over.new.self c.in_default.ensures.kept.0 c.in_default.ensures.kept.1 e.client;
+    }
