@@ -12,11 +12,10 @@ use adapter::Adapter;
 use emu_io::{Clock, Sink, Source};
 use std::alloc::{AllocError as NoMemory, Global};
 use std::marker::Brand;
-use std::mem;
 use std::sync::Wait;
 use std::sync::ledger::{Blank, Ledger};
-use std::thread;
 use std::thread::Threads;
+use std::{mem, thread};
 use steps::Steps;
 
 impl Seat {
@@ -128,13 +127,7 @@ pub fn sit_all_to<
     T: Source + Sink + Send + Drop,
     J: Journal + Send + Drop,
     C: Clock + Sync,
->(
-    rt: &R,
-    alloc: Global,
-    adapter: &Adapter,
-    clock: &C,
-    desks: &mut Vec<Desk<JournalLine<T, J>>>,
-)
+>(rt: &R, alloc: Global, adapter: &Adapter, clock: &C, desks: &mut Vec<Desk<JournalLine<T, J>>>)
     requires ready { All (λ d. IsReadyToHand adapter.now d.seat) desks.old.items }
     ensures { HaveServedTo T.Source.end T.Sink.end (C.may_give clock.now) J.took adapter.now desks.old.items desks.new.items }
 {

@@ -172,16 +172,7 @@ impl Passing {
         ensures { HasWorkedOn (is_in nodes.now) (C.may_give clock.now) B.took (S.end source.old) (S.end source.new) batches.old batches.new self.old self.new }
     {
         let mut steps: Steps<L> = Steps::new(blank);
-        let passed = self.pass_all(
-            rt,
-            adapter,
-            source,
-            batches,
-            nodes,
-            clock,
-            gate,
-            &mut steps,
-        );
+        let passed = self.pass_all(rt, adapter, source, batches, nodes, clock, gate, &mut steps);
         self.feeder.end(rt, adapter, nodes, &mut steps);
         gate.at(FEEDER, self.count.saturating_add(1));
         self.stop = self.stop_of(passed);

@@ -26,7 +26,11 @@ fn journal(alloc: Global, fails: Vec<u64>) -> Option<Written<MemSink>> {
 }
 
 // What stands in these journals, and what is written of the stream.
-fn files_of(alloc: Global, mut handed: Handed<Written<MemSink>>, batches: &Written<MemSink>) -> Option<Files> {
+fn files_of(
+    alloc: Global,
+    mut handed: Handed<Written<MemSink>>,
+    batches: &Written<MemSink>,
+) -> Option<Files> {
     let own = handed.journals.pop()?;
     let mut head = MemSink::new(alloc, 1000, 1000, Vec::new(alloc)).ok()?;
     write_head(alloc, &mut head, &handed.head).ok()?;
@@ -90,10 +94,21 @@ fn each_call_and_each_batch_is_a_line(rt: HostRuntime) {
     };
     assert!(rt; files.whole && lines_in(&files.calls) == 3 && files.calls.starts_with(b"dvr "));
     assert!(rt; has(&files.calls, b" c0 0 open = done drop=0..0 tap=keep\ndvr "));
-    assert!(rt; has(&files.calls, b" c0 1 poll at=7 = ready readable=0 error=none at=0 ended="));
-    assert!(rt; files.calls.ends_with(b" c0 2 close = done drop=0..0 tap=keep\n"));
+    assert!(rt;
+        has(
+            &files.calls,
+            b" c0 1 poll at=7 = ready readable=0 error=none at=0 ended="
+        )
+    );
+    assert!(rt;
+        files
+            .calls
+            .ends_with(b" c0 2 close = done drop=0..0 tap=keep\n")
+    );
     assert!(rt; files.batches.as_slice() == b"0 64 7\n64 36 7\n".as_slice());
-    assert!(rt; files.head.starts_with(b"dvbemu 1\npackets=100 skipped=0 rest=0\npid 1 packets=100 "));
+    assert!(rt;
+        files.head.starts_with(b"dvbemu 1\npackets=100 skipped=0 rest=0\npid 1 packets=100 ")
+    );
     assert!(rt; files.head.ends_with(b"\nend\n") && !has(&files.head, b"client"));
 }
 
@@ -107,7 +122,11 @@ fn behind_a_line_that_was_not_written_there_is_none(rt: HostRuntime) {
         panic!(rt; "no memory");
     };
     assert!(rt; !files.whole && lines_in(&files.calls) == 1);
-    assert!(rt; files.calls.ends_with(b" c0 0 open = done drop=0..0 tap=keep\n"));
+    assert!(rt;
+        files
+            .calls
+            .ends_with(b" c0 0 open = done drop=0..0 tap=keep\n")
+    );
 }
 
 // How a server ends that keeps nothing of so many polls of a node that nobody has.
