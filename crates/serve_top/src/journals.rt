@@ -14,7 +14,7 @@ use crate::server::{ALL, NoReport, no_report};
 use adapter::{Adapter, Client};
 use dmx_calls::limits::NODES;
 use emu_io::{Clock, Gate, Sink, Source};
-use seats::{Desk, Journal, JournalLine, desks_of, sit_all_to};
+use seats::{Desk, Journal, JournalLine, Seat, desks_of, sit_all_to};
 use std::alloc::{AllocError as NoMemory, Global};
 use std::sync::Wait;
 use std::thread::{Threads, join_mut};
@@ -80,8 +80,11 @@ fn parts_of<T: Drop, J: Drop>(
     let mut clients = Vec::new(alloc);
     let mut journals = Vec::new(alloc);
     'desks: for desk in desks {
-        clients.push(desk.seat.client)?;
-        journals.push(desk.line.journal)?;
+        let Desk { seat, line } = desk;
+        let Seat { client, .. } = seat;
+        let JournalLine { journal, .. } = line;
+        clients.push(client)?;
+        journals.push(journal)?;
     }
     Ok((clients, journals))
 }
