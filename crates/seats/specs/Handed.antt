@@ -6,7 +6,6 @@ use Rattle.dmx_calls.specs.declared.limits.TheConstants.{DEMUX_NODES}
 use Rattle.dmx_calls.specs.declared.outcome.Outcome.{Outcome}
 use Rattle.dmx_calls.specs.Log.{LogEntry}
 use Rattle.seats.specs.declared.journal.JournalLine.{JournalLine}
-use Rattle.seats.specs.declared.run.Desk.{Desk}
 use Rattle.seats.specs.declared.seat.Seat.{Seat}
 use Rattle.seats.specs.Calls.{MakesCalls}
 use Rattle.seats.specs.Holding.{HasLeft}
@@ -30,13 +29,11 @@ module _ {T J : Type 0} (source : T → SourceEnd) (sink : T → SinkEnd) (may :
     pub made : MakesCalls 0 old.client calls new.client
     pub nodes : AreOnNodes calls
     pub told : List Outcome
-    pub answers : HasAnsweredAll source sink may before.line [] calls [] told
+    pub answers : HasAnsweredAll source sink may before.line old.client new.client [] calls [] told
     pub given : took calls before.journal after.journal
     pub left : (node : ℕ) → node ≤ DEMUX_NODES → HasLeft node new.client
 
-  -- each of the seats has served its line
-  pub record HaveServedTo (locks : List TableId) (old new : List (Desk (JournalLine T J))) : Type 0 where
-    pub long : length new ≡ length old
-    pub each : (i : ℕ) (d : Desk (JournalLine T J)) → i < length old
-        → HasServedTo locks (slice_index_or old i d).line (slice_index_or new i d).line
-        (slice_index_or old i d).seat (slice_index_or new i d).seat
+-- each of these has served its line, by this relation of what it was and what it is
+pub record HaveSat {D : Type 0} (sat : D → D → Type 0) (old new : List D) : Type 0 where
+  pub long : length new ≡ length old
+  pub each : (i : ℕ) (d : D) → i < length old → sat (slice_index_or old i d) (slice_index_or new i d)
