@@ -6,6 +6,7 @@ use Rattle.dmx_calls.specs.declared.limits.TheConstants.{DEMUX_NODES}
 use Rattle.dmx_calls.specs.declared.outcome.Outcome.{Outcome}
 use Rattle.dmx_calls.specs.Log.{LogEntry}
 use Rattle.seats.specs.declared.journal.JournalLine.{JournalLine}
+use Rattle.seats.specs.declared.run.Desk.{Desk}
 use Rattle.seats.specs.declared.seat.Seat.{Seat}
 use Rattle.seats.specs.Calls.{MakesCalls}
 use Rattle.seats.specs.Holding.{HasLeft}
@@ -16,6 +17,11 @@ use Rattle.seats.specs.Turns.{HasAnsweredAll}
 pub record IsReadyToHand (locks : List TableId) (s : Seat) : Type 0 where
   pub ready : IsReady locks s
   pub none : log_of s ≡ []
+
+-- each of these has served its line, as this relates what it was to what it is
+pub record HaveSat {D : Type 0} (sat : D → D → Type 0) (old new : List D) : Type 0 where
+  pub long : length new ≡ length old
+  pub each : (i : ℕ) (d : D) → i < length old → sat (slice_index_or old i d) (slice_index_or new i d)
 
 -- A line tells what is left of it to be read, and what was written to it; or it tells none of these. A journal says whether it was
 -- given these calls, and no others, between one state and another.
@@ -33,7 +39,6 @@ module _ {T J : Type 0} (source : T → SourceEnd) (sink : T → SinkEnd) (may :
     pub given : took calls before.journal after.journal
     pub left : (node : ℕ) → node ≤ DEMUX_NODES → HasLeft node new.client
 
--- each of these has served its line, by this relation of what it was and what it is
-pub record HaveSat {D : Type 0} (sat : D → D → Type 0) (old new : List D) : Type 0 where
-  pub long : length new ≡ length old
-  pub each : (i : ℕ) (d : D) → i < length old → sat (slice_index_or old i d) (slice_index_or new i d)
+  -- each of the seats has served its line
+  abbrev pub HaveServedTo : List TableId → (old new : List (Desk (JournalLine T J))) → Type 0
+  HaveServedTo locks old new = HaveSat (λ a b. HasServedTo locks a.line b.line a.seat b.seat) old new
