@@ -57,8 +57,9 @@ MakesTurns before c (t ∷ ts) d =
 
 -- A caller makes the calls of this turn behind those of a log, and is d then. By a request to leave it gives back what it has, by the
 -- nodes that it has marked as held.
-abbrev pub MakesTurn : (held : List Bool) → (log : List LogEntry) → Caller → Turn → Caller → Type 0
-MakesTurn held log c t d = MakesCalls (length log) c t.calls d × (IsLeaving t → GivesBackMarked held log t.calls d)
+pub record MakesTurn (held : List Bool) (log : List LogEntry) (c : Caller) (t : Turn) (d : Caller) : Type 0 where
+  pub made : MakesCalls (length log) c t.calls d
+  pub gone : IsLeaving t → GivesBackMarked held log t.calls d
 
 -- the same of the last turn of a line, if there is one
 abbrev pub MakesLast : (held : List Bool) → (log : List LogEntry) → Caller → List Turn → Caller → Type 0

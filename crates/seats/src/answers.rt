@@ -120,7 +120,7 @@ impl Seat {
         ensures left { invocation_of call ≢ asks.Open → (i : ℕ) → HasLeft i self.old.client → HasLeft i self.new.client }
         ensures closed { invocation_of call ≡ asks.Close → HasLeft node self.new.client }
         ensures fewer { invocation_of call ≢ asks.Open → MarksNoMore self.old self.new }
-        ensures free { invocation_of call ≡ asks.Close → slice_get self.new.held node ≡ Some false }
+        ensures free { invocation_of call ≡ asks.Close → slice_get self.new.held node ≢ Some true }
     {
         let from = self.count();
         let at = self.call(rt, adapter, node, call, steps);
@@ -177,7 +177,7 @@ impl Seat {
         ensures kept { KeepsClosed self.old self.new }
         ensures held { ClosesHeld self.old self.new }
         ensures fewer { MarksNoMore self.old self.new }
-        ensures free { slice_get self.new.held node ≡ Some false }
+        ensures free { slice_get self.new.held node ≢ Some true }
         ensures left { HasLeft node self.new.client }
         ensures still { (i : ℕ) → HasLeft i self.old.client → HasLeft i self.new.client }
     {
@@ -199,7 +199,7 @@ impl Seat {
         ensures did { Does (AreClosings (nodes + 1)) self.old self.new }
         ensures kept { KeepsClosed self.old self.new }
         ensures held { ClosesHeld self.old self.new }
-        ensures free { (node : ℕ) → node ≤ nodes → slice_get self.new.held node ≡ Some false }
+        ensures free { (node : ℕ) → node ≤ nodes → slice_get self.new.held node ≢ Some true }
         ensures left { (node : ℕ) → node ≤ nodes → HasLeft node self.new.client }
     {
         'nodes: for node in 0..NODES {

@@ -1,5 +1,5 @@
 // A seat and its calls.
-ghost use Rattle.std.specs.Prelude.{◌≡◌, ◌≢◌, ◌<◌, ◌≤◌, ◌+◌, ◌^◌, ◌++◌, ◌∷◌, [], ℕ, false, List, Some, length, map, option_map, slice_get, vec_capacity, OnOk, IfOk, IfSome};
+ghost use Rattle.std.specs.Prelude.{◌≡◌, ◌≢◌, ◌<◌, ◌≤◌, ◌+◌, ◌^◌, ◌++◌, ◌∷◌, [], ℕ, true, List, Some, length, map, option_map, slice_get, vec_capacity, OnOk, IfOk, IfSome};
 ghost use Rattle.atomic_table.specs.Seated.{TableId};
 ghost use Rattle.dmx_calls.specs.Calls.{invocation_of, response_of, told_entry};
 ghost use Rattle.dmx_calls.specs.Log.{act_of};
@@ -140,7 +140,7 @@ impl Seat {
         ensures left { invocation_of call ≢ asks.Open → (i : ℕ) → HasLeft i self.old.client → HasLeft i self.new.client }
         ensures closed { invocation_of call ≡ asks.Close → HasLeft node self.new.client }
         ensures fewer { invocation_of call ≢ asks.Open → MarksNoMore self.old self.new }
-        ensures free { invocation_of call ≡ asks.Close → slice_get self.new.held node ≡ Some false }
+        ensures free { invocation_of call ≡ asks.Close → slice_get self.new.held node ≢ Some true }
     {
         let act = Act::of(&call);
         let step = self.count();
@@ -180,7 +180,7 @@ impl Seat {
         ensures left { invocation_of call ≢ asks.Open → (i : ℕ) → HasLeft i self.old.client → HasLeft i self.new.client }
         ensures closed { invocation_of call ≡ asks.Close → HasLeft node self.new.client }
         ensures fewer { invocation_of call ≢ asks.Open → MarksNoMore self.old self.new }
-        ensures free { invocation_of call ≡ asks.Close → slice_get self.new.held node ≡ Some false }
+        ensures free { invocation_of call ≡ asks.Close → slice_get self.new.held node ≢ Some true }
     {
         let at = self.made.len();
         self.make(rt, adapter, node, call, steps);
