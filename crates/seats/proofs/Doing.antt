@@ -24,7 +24,7 @@ use Rattle.seats.specs.declared.seat.Seat.{Seat}
 use Rattle.seats.specs.Answered.{act_behind, IsBehind, IsCommand, is_busy, AreBusy, IsClosing, AreClosings, refusal, told_opened, IsOpened, IsFull, IsAnsweredBy, IsAnswered}
 use Rattle.seats.specs.Calls.{MakesCalls}
 use Rattle.seats.specs.Doing.{HasMade, Does, MakesOne, DoesCommand, HasAnswered, HasGone, KeepsBy}
-use Rattle.seats.specs.Holding.{CloseHeld}
+use Rattle.seats.specs.Holding.{AreMarked, CloseHeld}
 use Rattle.seats.specs.Seated.{log_of, told_made, GoesOn}
 use Rattle.seats.specs.Spelled.{commands_done_by, AreKept}
 use Rattle.seats.specs.Told.{data_read, call_at}
@@ -265,9 +265,9 @@ module _ (ask : Ask) (now : ℕ) where
       → Does (λ calls. IsAnswered ask now calls t (data_read (call_at s.made.items o))) s s
   answered_wanting s t o other told = record { more = []; has = made_none s; is = inr (other, (refl, (told.0, nothing_read s o told.1))) }
 
-pub has_answered : (ask : Ask) (now : ℕ) (old mid new : Seat) (t : Tell) (bytes : List ℕ) → log_of mid ≡ log_of old → mid.outcomes.items ≡ old.outcomes.items → KeepsBy ask mid new
+pub has_answered : (ask : Ask) (now : ℕ) (old mid new : Seat) (t : Tell) (bytes : List ℕ) → log_of mid ≡ log_of old → mid.outcomes.items ≡ old.outcomes.items → mid.held ≡ old.held → KeepsBy ask mid new
     → GoesOn old new → (ask ≡ Leave → HasGone mid new) → Does (λ calls. IsAnswered ask now calls t bytes) mid new → HasAnswered ask now old new t bytes
-has_answered ask now old mid new t bytes same told k goes gone d =
+has_answered ask now old mid new t bytes same told held k goes leaves d =
     let mine = map (told_made mid.who) d.more in
     let log : log_of new ≡ log_of old ++ mine = log_more mid new d.more d.has ∙ ap (λ (l : List LogEntry). l ++ mine) same in
     record {
@@ -277,5 +277,7 @@ has_answered ask now old mid new t bytes same told k goes gone d =
       kept = subst (λ (l : List LogEntry). AreKept (length l) (commands_done_by ask mine) old.outcomes.items new.outcomes.items) same
           (subst (λ (os : List Outcome). AreKept (length (log_of mid)) (commands_done_by ask mine) os new.outcomes.items) told (k mine (log_more mid new d.more d.has)));
       made = subst (λ (l : List LogEntry). MakesCalls (length (log_of old)) old.client l new.client) (append_cancel_left (log_of old) goes.calls mine (sym goes.log ∙ log)) goes.made;
-      gone = λ leave. let g = gone leave in record { held = subst (λ (l : List LogEntry). CloseHeld l mine) same (g.held mine (log_more mid new d.more d.has)); left = g.left };
+      gone = λ leave gone m. let g = leaves leave in
+          let marked : AreMarked (gone ++ log_of mid) mid.held = subst (AreMarked (gone ++ log_of mid)) (sym held) (subst (λ (l : List LogEntry). AreMarked (gone ++ l) old.held) (sym same) m) in
+          record { held = subst (λ (l : List LogEntry). CloseHeld (gone ++ l) mine) same (g.held gone mine marked (log_more mid new d.more d.has)); left = g.left };
     }

@@ -31,13 +31,14 @@ calls_trans n m b c d (e ∷ es) fs is x y = let there : m ≡ (n + 1) + length 
 -- ------ a seat
 
 pub goes_self : (s : Seat) → GoesOn s s
-goes_self s = record { calls = []; log = sym (append-nil (log_of s)); made = refl }
+goes_self s = record { calls = []; log = sym (append-nil (log_of s)); made = refl; marks = λ gone m. m }
 
 pub goes_trans : (a b c : Seat) → GoesOn a b → GoesOn b c → GoesOn a c
 goes_trans a b c x y = record {
   calls = x.calls ++ y.calls;
   log = y.log ∙ (ap (λ l. l ++ y.calls) x.log ∙ append_assoc (log_of a) x.calls y.calls);
   made = calls_trans (length (log_of a)) (length (log_of b)) a.client b.client c.client x.calls y.calls (ap length x.log ∙ length-append (log_of a) x.calls) x.made y.made;
+  marks = λ gone m. y.marks gone (x.marks gone m);
 }
 
 -- how many calls it has made
@@ -55,11 +56,12 @@ log_one who log made new m is =
     ∙ sym (append_assoc (map told_entry log) (map (told_made who) made) (told_made who m ∷ [])))
 
 -- where it has made no call
-pub kept_goes : (a b : Seat) → b.client ≡ a.client → log_of b ≡ log_of a → GoesOn a b
-kept_goes a b c l = record {
+pub kept_goes : (a b : Seat) → b.client ≡ a.client → log_of b ≡ log_of a → b.held ≡ a.held → GoesOn a b
+kept_goes a b c l h = record {
   calls = [];
   log = l ∙ sym (append-nil (log_of a));
   made = c;
+  marks = λ gone m. subst (AreMarked (gone ++ log_of b)) (sym h) (subst (λ (k : List LogEntry). AreMarked (gone ++ k) a.held) (sym l) m);
 }
 
 pub kept_fit : (locks : List TableId) (a b : Seat) → b.client ≡ a.client → b.who ≡ a.who → log_of b ≡ log_of a → b.held ≡ a.held → IsFit locks a → IsFit locks b
@@ -68,7 +70,6 @@ kept_fit locks a b c w l h f = record {
   who = w ∙ (f.who ∙ ap (λ (k : Caller). k.who) (sym c));
   left = let before = f.left in let same = ap length l in let x = log_long a in let y = log_long b in let k = ap (λ (k : Caller). k.left) c in omega (arith, before, same, x, y, k);
   nodes = subst AreOnNodes (sym l) f.nodes;
-  marked = subst (AreMarked (log_of b)) (sym h) (subst (λ (k : List LogEntry). AreMarked k a.held) (sym l) f.marked);
   knows = subst (KnowsItsNodes b.client) (sym h) (subst (λ (k : Caller). KnowsItsNodes k a.held) (sym c) f.knows);
 }
 
@@ -103,9 +104,9 @@ module _ (locks : List TableId) (n : ℕ) (feeder : Caller) (clients : List Call
       who = is.who ∙ sym f.number;
       left = omega (arith, size, made, calls);
       nodes = subst AreOnNodes (sym (log_none s is.log.0 is.log.1)) (All-nil (λ (e : LogEntry). e.node ≤ DEMUX_NODES));
-      marked = subst (λ (k : List LogEntry). AreMarked k s.held) (sym (log_none s is.log.0 is.log.1)) (marked_none s.held is.held);
       knows = knows_none locks (n + 1) (c + 1) (2 ^ 40) s.client f s.held;
     };
+    marked = subst (λ (k : List LogEntry). AreMarked k s.held) (sym (log_none s is.log.0 is.log.1)) (marked_none s.held is.held);
     room = λ node low held. record { made = omega (arith, made, room.0); outcomes = omega (arith, told, room.1); left = omega (arith, calls) };
   }
 

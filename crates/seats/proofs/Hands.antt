@@ -1,5 +1,5 @@
 -- Seats that hand their calls over, request by request.
-use Rattle.std.proofs.Common.{◌≡◌, ◌+◌, ◌≤◌, ◌^◌, ℕ, Bool, true, false, List, [], ◌∷◌, ◌++◌, length, map, refl, ap, sym, ◌∙◌, subst, arith, length-append}
+use Rattle.std.proofs.Common.{◌≡◌, ◌+◌, ◌≤◌, ◌^◌, ℕ, Bool, true, false, List, [], ◌∷◌, ◌++◌, length, map, Some, refl, ap, sym, ◌∙◌, subst, arith, length-append}
 use Rattle.std.proofs.lemmas.List.{append-nil, append_assoc}
 use Rattle.std.proofs.lemmas.List.Concat.{flat_map-append}
 use Rattle.std.proofs.lemmas.List.Elements.{All-nil, All-append}
@@ -12,14 +12,17 @@ use Rattle.serve_frames.specs.Asks.{ask_of}
 use Rattle.seats.specs.declared.seat.Seat.{Seat}
 use Rattle.seats.specs.Answered.{AreClosings}
 use Rattle.seats.specs.Calls.{MakesCalls}
-use Rattle.seats.specs.Doing.{Does}
+use Rattle.seats.specs.Doing.{Does, HasGone}
+use Rattle.seats.specs.Holding.{holds, AreMarked, GivesBack}
 use Rattle.seats.specs.Numbered.{numbered}
 use Rattle.seats.specs.Seated.{log_of, told_made, AreOnNodes, GoesOn}
 use Rattle.seats.specs.Spelled.{outcomes_by}
-use Rattle.seats.specs.Turns.{Turn, IsTurn, calls_of, spelled, IsAsked, IsTold, AreTold, IsLast, HasTurned, HasAnsweredAll}
+use Rattle.seats.specs.Turns.{Turn, IsTurn, IsLeaving, calls_of, spelled, MakesTurns, MakesTurn, MakesLast, IsAsked, IsTold, AreTold, IsLast, HasTurned, HasAnsweredAll}
 use Rattle.seats.proofs.Doing.{log_more}
 use Rattle.seats.proofs.Going.{calls_trans}
-use Rattle.seats.proofs.Numbering.{numbered_long, numbered_both, nodes_numbered, makes_numbered, calls_left, closings_numbered, answered_numbered}
+use Rattle.seats.proofs.Keeping.{the_calls}
+use Rattle.seats.proofs.Numbering.{numbered_long, numbered_both, nodes_numbered, makes_numbered, calls_left, holds_numbered, closes_numbered, closings_numbered, answered_numbered}
+use Rattle.seats.proofs.Turning.{makes_both}
 
 -- ------ turns
 
@@ -90,6 +93,43 @@ all_none handed s none = ap (λ (l : List LogEntry). handed ++ numbered (length 
 all_nodes : (handed : List LogEntry) (s : Seat) → AreOnNodes handed → AreOnNodes (log_of s) → AreOnNodes (all_calls handed s)
 all_nodes handed s before kept = All-append (λ (e : LogEntry). e.node ≤ DEMUX_NODES) handed (numbered (length handed) (log_of s)) before (nodes_numbered (length handed) (log_of s) kept)
 
+-- ------ what it holds
+
+-- by all of its calls
+holds_all : (handed : List LogEntry) (s : Seat) (i : ℕ) → holds (all_calls handed s) i ≡ holds (handed ++ log_of s) i
+holds_all handed s i = holds_numbered handed handed (length handed) (log_of s) (λ i. refl) i
+
+marked_plain : (handed : List LogEntry) (s : Seat) → AreMarked (all_calls handed s) s.held → AreMarked (handed ++ log_of s) s.held
+marked_plain handed s m i low = m i low ∙ ap (λ (b : Bool). Some b) (holds_all handed s i)
+
+marked_all : (handed : List LogEntry) (s : Seat) → AreMarked (handed ++ log_of s) s.held → AreMarked (all_calls handed s) s.held
+marked_all handed s m i low = m i low ∙ ap (λ (b : Bool). Some b) (sym (holds_all handed s i))
+
+marked_goes : (handed : List LogEntry) (old new : Seat) → GoesOn old new → AreMarked (all_calls handed old) old.held → AreMarked (all_calls handed new) new.held
+marked_goes handed old new goes m = marked_all handed new (goes.marks handed (marked_plain handed old m))
+
+-- what is given back by calls of its log is so by its calls
+back_all : (handed : List LogEntry) (s : Seat) (n : ℕ) (calls : List LogEntry) (d : Caller) → GivesBack (handed ++ log_of s) calls d → GivesBack (all_calls handed s) (numbered n calls) d
+back_all handed s n calls d g = record { held = closes_numbered (all_calls handed s) (handed ++ log_of s) n calls (holds_all handed s) g.held; left = g.left }
+
+module _ (handed : List LogEntry) (s : Seat) (marked : AreMarked (all_calls handed s) s.held) where
+  abbrev step : ℕ
+  step = length handed + length (log_of s)
+
+  -- one turn more
+  made_turn : (c d : Caller) (t : Turn) → MakesTurn s.held (log_of s) c t d → MakesTurns (all_calls handed s) c (from_step step t ∷ []) d
+  made_turn c d t one = (
+    d,
+    subst (λ k. MakesCalls k c (numbered step t.calls) d) (sym (all_long handed s)) (makes_numbered (length (log_of s)) step c t.calls d one.made),
+    λ leaving. back_all handed s step t.calls d (one.gone leaving handed (marked_plain handed s marked)),
+    refl,
+  )
+
+  made_last : (c d : Caller) (ts : List Turn) → MakesLast s.held (log_of s) c ts d → MakesTurns (all_calls handed s) c (from_steps step ts) d
+  made_last c d [] one = one
+  made_last c d (t ∷ []) one = made_turn c d t one
+  made_last c d (t ∷ u ∷ ts) one = absurd one
+
 -- ------ request by request
 
 module _ {T J : Type 0} (source : T → SourceEnd) (sink : T → SinkEnd) (may : ℕ → Bool) (took : List LogEntry → J → J → Type 0) where
@@ -103,9 +143,11 @@ module _ {T J : Type 0} (source : T → SourceEnd) (sink : T → SinkEnd) (may :
     pub turns : List Turn
     pub told : AreTold source sink may line turns at
     pub calls : all_calls handed s ≡ calls_of turns
+    pub done : MakesTurns [] first turns s.client
+    pub marked : AreMarked (all_calls handed s) s.held
 
-  pub hands_none : (line : T) (was : J) (s : Seat) → took [] was was → log_of s ≡ [] → Hands line was s.client 0 line was s
-  hands_none line was s nothing none = record {
+  pub hands_none : (line : T) (was : J) (s : Seat) → took [] was was → log_of s ≡ [] → AreMarked (log_of s) s.held → Hands line was s.client 0 line was s
+  hands_none line was s nothing none marked = record {
     handed = [];
     count = refl;
     given = nothing;
@@ -114,11 +156,13 @@ module _ {T J : Type 0} (source : T → SourceEnd) (sink : T → SinkEnd) (may :
     turns = [];
     told = refl;
     calls = all_none [] s none;
+    done = refl;
+    marked = marked_all [] s marked;
   }
 
   module _ (line : T) (was : J) (first : Caller) (before : ℕ) (at : T) (now : J) (s : Seat) (h : Hands line was first before at now s) where
     -- one request more
-    pub hands_turned : (next : T) (new : Seat) (was_told now_told : List Outcome) (on : Bool) → HasTurned source sink may on at next (log_of s) (log_of new) was_told now_told → on ≡ true → GoesOn s new
+    pub hands_turned : (next : T) (new : Seat) (was_told now_told : List Outcome) (on : Bool) → HasTurned source sink may on at next s.held s.client new.client (log_of s) (log_of new) was_told now_told → on ≡ true → GoesOn s new
         → Hands line was first before next now new
     hands_turned next new was_told now_told false one is goes = absurd (cc is)
     hands_turned next new was_told now_told true one is goes =
@@ -135,12 +179,14 @@ module _ {T J : Type 0} (source : T → SourceEnd) (sink : T → SinkEnd) (may :
               ∙ (ap (λ (l : List LogEntry). l ++ numbered n one.0.calls) h.calls
               ∙ (ap (λ (l : List LogEntry). calls_of h.turns ++ l) (sym (append-nil (numbered n one.0.calls)))
               ∙ sym (flat_map-append (λ (t : Turn). t.calls) h.turns (t ∷ []))));
+          done = makes_both [] first s.client new.client h.turns (t ∷ []) h.done (subst (λ (l : List LogEntry). MakesTurns l s.client (t ∷ []) new.client) h.calls (made_turn h.handed s h.marked s.client new.client one.0 one.4));
+          marked = marked_goes h.handed s new goes h.marked;
         }
 
     -- what it keeps is handed over
     pub hands_over : (later : J) (new : Seat) (count : ℕ) → ((xs ys : List LogEntry) → took xs was now → took ys now later → took (xs ++ ys) was later)
-        → took (numbered before (log_of s)) now later → count ≡ before + length (log_of s) → log_of new ≡ [] → new.client ≡ s.client → AreOnNodes (log_of s) → Hands line was first count at later new
-    hands_over later new count both more is none same nodes =
+        → took (numbered before (log_of s)) now later → count ≡ before + length (log_of s) → log_of new ≡ [] → new.client ≡ s.client → new.held ≡ s.held → AreOnNodes (log_of s) → Hands line was first count at later new
+    hands_over later new count both more is none same held nodes =
         let all = all_none (all_calls h.handed s) new none in
         record {
           handed = all_calls h.handed s;
@@ -151,11 +197,13 @@ module _ {T J : Type 0} (source : T → SourceEnd) (sink : T → SinkEnd) (may :
           turns = h.turns;
           told = h.told;
           calls = all ∙ h.calls;
+          done = subst (MakesTurns [] first h.turns) (sym same) h.done;
+          marked = subst (λ (l : List LogEntry). AreMarked l new.held) (sym all) (subst (AreMarked (all_calls h.handed s)) (sym held) h.marked);
         }
 
     -- nothing is handed over, for want of memory
-    pub hands_kept : (later : J) (new : Seat) → later ≡ now → log_of new ≡ log_of s → new.client ≡ s.client → Hands line was first before at later new
-    hands_kept later new steady log same =
+    pub hands_kept : (later : J) (new : Seat) → later ≡ now → log_of new ≡ log_of s → new.client ≡ s.client → new.held ≡ s.held → Hands line was first before at later new
+    hands_kept later new steady log same held =
         let all : all_calls h.handed new ≡ all_calls h.handed s = ap (λ (l : List LogEntry). h.handed ++ numbered (length h.handed) l) log in
         record {
           handed = h.handed;
@@ -166,16 +214,26 @@ module _ {T J : Type 0} (source : T → SourceEnd) (sink : T → SinkEnd) (may :
           turns = h.turns;
           told = h.told;
           calls = all ∙ h.calls;
+          done = subst (MakesTurns [] first h.turns) (sym same) h.done;
+          marked = subst (λ (l : List LogEntry). AreMarked l new.held) (sym all) (subst (AreMarked (all_calls h.handed s)) (sym held) h.marked);
         }
 
     -- the line has ended, and all nodes were closed: what is told of commands is what its calls say of them
-    pub answered_to : (next : T) (new last : Seat) (was_told now_told : List Outcome) (on : Bool) → HasTurned source sink may on at next (log_of s) (log_of new) was_told now_told → on ≡ false
-        → Does (AreClosings (DEMUX_NODES + 1)) new last → (told : List Outcome) × HasAnsweredAll source sink may line [] (all_calls h.handed last) [] told
-    answered_to next new last was_told now_told true one is d = absurd (cc is)
-    answered_to next new last was_told now_told false one is d =
+    pub answered_to : (next : T) (new last : Seat) (was_told now_told : List Outcome) (on : Bool) → HasTurned source sink may on at next s.held s.client new.client (log_of s) (log_of new) was_told now_told → on ≡ false
+        → GoesOn s new → Does (AreClosings (DEMUX_NODES + 1)) new last → GoesOn new last → HasGone new last
+        → (told : List Outcome) × HasAnsweredAll source sink may line first last.client [] (all_calls h.handed last) [] told
+    answered_to next new last was_told now_told true one is on d goes left = absurd (cc is)
+    answered_to next new last was_told now_told false one is on d goes left =
         let n = length h.handed + length (log_of s) in let m = length h.handed + length (log_of new) in
         let gone = map (told_made new.who) d.more in
-        let lasts = from_steps n one.0 in let leaving = numbered m gone in (
+        let lasts = from_steps n one.0 in let leaving = numbered m gone in let grown = log_more new last d.more d.has in
+        let whole : all_calls h.handed new ≡ calls_of (h.turns ++ lasts) =
+            all_more h.handed s new (calls_of one.0) one.2
+            ∙ (ap (λ (l : List LogEntry). l ++ numbered n (calls_of one.0)) h.calls
+            ∙ (ap (λ (l : List LogEntry). calls_of h.turns ++ l) (last_calls source sink may n at one.0 one.1)
+            ∙ sym (flat_map-append (λ (t : Turn). t.calls) h.turns lasts))) in
+        let marked = marked_goes h.handed s new on h.marked in
+        let makes : MakesCalls (length (log_of new)) new.client gone last.client = subst (λ (l : List LogEntry). MakesCalls (length (log_of new)) new.client l last.client) (the_calls new last goes.calls gone goes.log grown) goes.made in (
           outcomes_by 0 0 (spelled (h.turns ++ lasts) leaving),
           record {
             turns = h.turns;
@@ -185,12 +243,16 @@ module _ {T J : Type 0} (source : T → SourceEnd) (sink : T → SinkEnd) (may :
             is = last_from source sink may n at one.0 one.1;
             leaving = leaving;
             closed = closings_numbered (DEMUX_NODES + 1) m gone d.is;
-            log = all_more h.handed new last gone (log_more new last d.more d.has)
-                ∙ (ap (λ (l : List LogEntry). l ++ leaving) (all_more h.handed s new (calls_of one.0) one.2
-                ∙ (ap (λ (l : List LogEntry). l ++ numbered n (calls_of one.0)) h.calls
-                ∙ ap (λ (l : List LogEntry). calls_of h.turns ++ l) (last_calls source sink may n at one.0 one.1)))
+            log = all_more h.handed new last gone grown
+                ∙ (ap (λ (l : List LogEntry). l ++ leaving) (whole ∙ flat_map-append (λ (t : Turn). t.calls) h.turns lasts)
                 ∙ append_assoc (calls_of h.turns) (calls_of lasts) leaving);
             kept = refl;
+            then = new.client;
+            made = makes_both [] first s.client new.client h.turns lasts h.done
+                (subst (λ (l : List LogEntry). MakesTurns l s.client lasts new.client) h.calls (made_last h.handed s h.marked s.client new.client one.0 one.4));
+            leaves = subst (λ k. MakesCalls k new.client leaving last.client) (sym (all_long h.handed new) ∙ ap length whole) (makes_numbered (length (log_of new)) m new.client gone last.client makes);
+            back = subst (λ (l : List LogEntry). GivesBack l leaving last.client) whole
+                (back_all h.handed new m gone last.client (record { held = left.held h.handed gone (marked_plain h.handed new marked) grown; left = left.left }));
           },
         )
 

@@ -1,14 +1,16 @@
 -- The nodes that a seat has marked are those that it holds by its calls.
-use Rattle.std.proofs.Common.{◌≡◌, ℕ, ◌+◌, ◌≤◌, nat_eq, Bool, false, true, eq-eqb, ne_eqb, List, [], ◌∷◌, ◌++◌, length, replicate, set, Some, get_or, ap, sym, ◌∙◌, arith}
+use Rattle.std.proofs.Common.{◌≡◌, ◌≢◌, ℕ, ◌+◌, ◌≤◌, nat_eq, Bool, false, true, eq-eqb, ne_eqb, List, [], ◌∷◌, ◌++◌, length, replicate, set, Some, get_or, refl, ap, sym, ◌∙◌, subst, arith}
 use Rattle.std.specs.Prelude.{slice_get, if◌then◌else◌}
-use Rattle.std.proofs.lemmas.List.{length-replicate, get_or-replicate}
+use Rattle.std.proofs.lemmas.List.{append_assoc, length-replicate, get_or-replicate}
 use Rattle.std.proofs.lemmas.List.Sums.{fold-append}
 use Rattle.std.proofs.lemmas.Option.{slice_get_within, slice_get-get_or, get_or_from_slice_get}
 use mathlib.Core.Logic.{dite}
 use native.Mathlib.Decide.{ℕ_discrete}
-use Rattle.adapter.proofs.Lists.{set_there, set_elsewhere}
+use Rattle.adapter.proofs.Lists.{set_there, set_elsewhere, one_value}
 use Rattle.dmx_calls.specs.declared.limits.TheConstants.{DEMUX_NODES}
-use Rattle.dmx_calls.specs.Log.{LogEntry}
+use Rattle.dmx_calls.specs.Invocation.{Invocation, Open, Close, SetFilter, SetPes, AddPid, RemovePid, Start, Stop, SetSize, Read, Poll, Pass, End, Attach, Detach}
+use Rattle.dmx_calls.specs.Log.{LogEntry, act_of}
+use Rattle.dmx_calls.specs.Response.{Response}
 use Rattle.seats.specs.Holding.{has_then, holds, AreMarked}
 
 -- before the first call
@@ -19,8 +21,8 @@ marked_none held is node low =
     ∙ ap (λ (b : Bool). Some b) (ap (λ (l : List Bool). get_or l node false) is ∙ get_or-replicate (DEMUX_NODES + 1) node false false (omega (arith, low)))
 
 -- a node is marked just where it is held
-pub marked_is : (calls : List LogEntry) (held : List Bool) (node : ℕ) (b : Bool) → AreMarked calls held → node ≤ DEMUX_NODES → get_or held node false ≡ b → holds calls node ≡ b
-marked_is calls held node b m low is = sym (get_or_from_slice_get held node (holds calls node) false (m node low)) ∙ is
+pub marked_is : (calls : List LogEntry) (held : List Bool) (node : ℕ) (b : Bool) → AreMarked calls held → node ≤ DEMUX_NODES → slice_get held node ≡ Some b → holds calls node ≡ b
+marked_is calls held node b m low is = one_value held node (holds calls node) b (m node low) is
 
 -- one call more
 pub holds_more : (calls : List LogEntry) (e : LogEntry) (node : ℕ) (b : Bool) → nat_eq e.node node ≡ b → holds (calls ++ e ∷ []) node ≡ (if b then has_then (holds calls node) e.act e.response else holds calls node)
@@ -44,3 +46,48 @@ module _ (calls : List LogEntry) (e : LogEntry) (held : List Bool) (m : AreMarke
       (λ not.
       set_elsewhere held e.node node mark (λ same. not (sym same))
       ∙ (m node low ∙ ap (λ (b : Bool). Some b) (sym (holds_more calls e node false (ne_eqb e.node node not)))))
+
+-- the same behind any calls before those of a log
+pub marked_one : (gone log new : List LogEntry) (e : LogEntry) (held now : List Bool) → AreMarked (gone ++ log) held → e.node ≤ DEMUX_NODES → new ≡ log ++ e ∷ []
+    → now ≡ set held e.node (has_then (get_or held e.node false) e.act e.response) → AreMarked (gone ++ new) now
+marked_one gone log new e held now m on more is =
+    subst (λ (l : List LogEntry). AreMarked l now) (append_assoc gone log (e ∷ []) ∙ ap (λ (l : List LogEntry). gone ++ l) (sym more)) (marked_more (gone ++ log) e held m on now is)
+
+-- ------ a call that is no Open
+
+marks_then : (call : Invocation) (had : Bool) (r : Response) → call ≢ Open → has_then had (act_of call) r ≡ true → had ≡ true
+marks_then Open had r other is = absurd (other refl)
+marks_then Close had r other is = absurd (cc is)
+marks_then (SetFilter p now) had r other is = is
+marks_then (SetPes p now) had r other is = is
+marks_then (AddPid n) had r other is = is
+marks_then (RemovePid n) had r other is = is
+marks_then (Start now) had r other is = is
+marks_then Stop had r other is = is
+marks_then (SetSize n) had r other is = is
+marks_then (Read now n) had r other is = is
+marks_then (Poll now) had r other is = is
+marks_then (Pass i f ps now) had r other is = is
+marks_then End had r other is = is
+marks_then (Attach n ps) had r other is = is
+marks_then (Detach n) had r other is = is
+
+module _ (call : Invocation) (r : Response) (node : ℕ) (held now : List Bool) (had : Bool) (was : slice_get held node ≡ Some had) (is : now ≡ set held node (has_then had (act_of call) r)) where
+  abbrev next : Bool
+  next = has_then had (act_of call) r
+
+  now_there : slice_get now node ≡ Some next
+  now_there = ap (λ (l : List Bool). slice_get l node) is ∙ set_there held node next (slice_get_within held node had was)
+
+  -- it marks no node more
+  pub marks_no_more : call ≢ Open → (i : ℕ) → slice_get now i ≡ Some true → slice_get held i ≡ Some true
+  marks_no_more other i at = dite (ℕ_discrete i node)
+      (λ here. let yea : next ≡ true = one_value now node next true now_there (ap (slice_get now) (sym here) ∙ at) in
+      ap (slice_get held) here ∙ (was ∙ ap (λ (b : Bool). Some b) (marks_then call had r other yea)))
+      (λ more. sym (set_elsewhere held node i next more) ∙ (sym (ap (λ (l : List Bool). slice_get l i) is) ∙ at))
+
+  -- by a Close its node isn't marked
+  pub close_unmarks : call ≡ Close → slice_get now node ≢ Some true
+  close_unmarks close at =
+      let yea : next ≡ true = one_value now node next true now_there at in
+      let both : false ≡ true = ap (λ (k : Invocation). has_then had (act_of k) r) (sym close) ∙ yea in cc both

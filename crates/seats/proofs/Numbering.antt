@@ -1,7 +1,7 @@
 -- Calls with other numbers: what is said of the calls for a request holds whatever their numbers are.
 use Rattle.std.proofs.Common.{◌≡◌, ◌⊎◌, ⊎_elim, inl, inr, ℕ, zero, suc, ◌+◌, ◌<◌, ◌≤◌, Bool, true, List, [], ◌∷◌, ◌++◌, length, Option, Some, None, refl, ap, sym, ◌∙◌, subst, arith}
-use Rattle.std.specs.Prelude.{slice_get, All}
-use Rattle.std.proofs.lemmas.List.{append-nil}
+use Rattle.std.specs.Prelude.{slice_get, All, if◌then◌else◌, nat_eq}
+use Rattle.std.proofs.lemmas.List.{append-nil, append_assoc}
 use Rattle.std.proofs.lemmas.List.Elements.{All-nil, All-cons, All-head, All-tail}
 use Rattle.dmx_calls.specs.declared.log.Act.{Act}
 use Rattle.dmx_calls.specs.declared.log.Act.TheVariants.{Open as OpenAct, Close as CloseAct}
@@ -13,8 +13,10 @@ use Rattle.serve_frames.specs.declared.ask.Ask.TheVariants.{OpenDemux, Call, Lea
 use Rattle.serve_frames.specs.declared.tell.Tell.{Tell}
 use Rattle.seats.specs.Answered.{act_behind, IsBehind, IsCommand, is_busy, AreBusy, IsClosing, AreClosings, told_opened, IsOpened, IsFull, IsAnsweredBy, IsAnswered}
 use Rattle.seats.specs.Calls.{MakesCall, MakesCalls}
+use Rattle.seats.specs.Holding.{has_then, holds, CloseHeld}
 use Rattle.seats.specs.Numbered.{numbered}
 use Rattle.seats.specs.Seated.{AreOnNodes}
+use Rattle.seats.proofs.Marking.{holds_more}
 
 -- ------ lists
 
@@ -57,6 +59,27 @@ makes_numbered m n c (e ∷ es) d is =
 pub calls_left : (n : ℕ) (c : Caller) (es : List LogEntry) (d : Caller) → MakesCalls n c es d → d.left + length es ≡ c.left
 calls_left n c [] d is = let same = ap (λ (k : Caller). k.left) is in omega (arith, same)
 calls_left n c (e ∷ es) d is = let one = is.2.left in let more = calls_left (n + 1) is.0 es d is.3 in omega (arith, one, more)
+
+-- ------ what is held
+
+-- by one call more
+holds_then : (xs ys : List LogEntry) (n : ℕ) (e : LogEntry) → ((i : ℕ) → holds xs i ≡ holds ys i) → (i : ℕ) → holds (xs ++ as_step n e ∷ []) i ≡ holds (ys ++ e ∷ []) i
+holds_then xs ys n e same i =
+    holds_more xs (as_step n e) i (nat_eq e.node i) refl
+    ∙ (ap (λ (b : Bool). if nat_eq e.node i then has_then b e.act e.response else b) (same i) ∙ sym (holds_more ys e i (nat_eq e.node i) refl))
+
+-- The numbers of calls change nothing of what is held behind them.
+pub holds_numbered : (xs ys : List LogEntry) (n : ℕ) (es : List LogEntry) → ((i : ℕ) → holds xs i ≡ holds ys i) → (i : ℕ) → holds (xs ++ numbered n es) i ≡ holds (ys ++ es) i
+holds_numbered xs ys n [] same i = ap (λ (l : List LogEntry). holds l i) (append-nil xs) ∙ (same i ∙ sym (ap (λ (l : List LogEntry). holds l i) (append-nil ys)))
+holds_numbered xs ys n (e ∷ es) same i =
+    sym (ap (λ (l : List LogEntry). holds l i) (append_assoc xs (as_step n e ∷ []) (numbered (n + 1) es)))
+    ∙ (holds_numbered (xs ++ as_step n e ∷ []) (ys ++ e ∷ []) (n + 1) es (holds_then xs ys n e same) i
+    ∙ ap (λ (l : List LogEntry). holds l i) (append_assoc ys (e ∷ []) es))
+
+-- nor of which Close is on a node that is held then
+pub closes_numbered : (xs ys : List LogEntry) (n : ℕ) (es : List LogEntry) → ((i : ℕ) → holds xs i ≡ holds ys i) → CloseHeld ys es → CloseHeld xs (numbered n es)
+closes_numbered xs ys n [] same are = tt
+closes_numbered xs ys n (e ∷ es) same are = (λ close. same e.node ∙ are.0 close, closes_numbered (xs ++ as_step n e ∷ []) (ys ++ e ∷ []) (n + 1) es (holds_then xs ys n e same) are.1)
 
 -- ------ the calls for a request
 
@@ -119,4 +142,4 @@ module _ (n : ℕ) (es : List LogEntry) (t : Tell) (bytes : List ℕ) where
   answered_by (Refused code) now is = (ap (numbered n) is.0, is.1)
 
   pub answered_numbered : (ask : Ask) (now : ℕ) → IsAnswered ask now es t bytes → IsAnswered ask now (numbered n es) t bytes
-  answered_numbered ask now is = ⊎_elim (λ by. inl (answered_by ask now by)) (λ none. inr (ap (numbered n) none.0, none.1)) is
+  answered_numbered ask now is = ⊎_elim (λ by. inl (answered_by ask now by)) (λ none. inr (none.0, (ap (numbered n) none.1, none.2))) is

@@ -18,11 +18,11 @@ use Rattle.dmx_calls.specs.declared.outcome.Outcome.{Outcome}
 use Rattle.adapter.specs.Callers.{Caller}
 use Rattle.seats.specs.Calls.{MakesCalls}
 use Rattle.seats.specs.Doing.{Does, HasAnswered, HasGone, KeepsClosed}
-use Rattle.seats.specs.Holding.{CloseHeld}
+use Rattle.seats.specs.Holding.{AreMarked, CloseHeld}
 use Rattle.seats.specs.Seated.{log_of, told_made, GoesOn}
 use Rattle.seats.specs.Told.{reply_bytes}
 use Rattle.seats.specs.Spelled.{DoneCommand, calls_in, closings, commands_done_by, AreKept}
-use Rattle.seats.specs.Turns.{Turn, IsTurn, calls_of, spelled_by, MakesTurns, IsAsked, IsTold, AreTold, IsLast, HasTurned, HasAnsweredAll}
+use Rattle.seats.specs.Turns.{Turn, IsTurn, calls_of, spelled_by, MakesTurns, MakesTurn, MakesLast, IsAsked, IsTold, AreTold, IsLast, HasTurned, HasAnsweredAll}
 use Rattle.seats.proofs.Doing.{log_more}
 use Rattle.seats.proofs.Keeping.{the_calls, kept_none, kept_trans}
 use Rattle.seats.proofs.Spelling.{answered_calls}
@@ -40,16 +40,25 @@ appended a b c h d head bytes e f x y =
 pub told_whole : {E : Type 0} (r : Result (Unit {0}) E) (a b c : Option (List ℕ)) (h d head bytes : List ℕ) → h ≡ head → d ≡ bytes → Appends a b h → OnOk r (Appends b c d) → OnOk r (Appends a c (head ++ bytes))
 told_whole r a b c h d head bytes e f x o = on_ok_weaker {P = Appends b c d} {Q = Appends a c (head ++ bytes)} r (λ y. appended a b c h d head bytes e f x y) o
 
+-- where what is marked is what is held by the calls of the log alone
+made_turn : (log : List LogEntry) (held : List Bool) (c d : Caller) (t : Turn) → AreMarked log held → MakesTurn held log c t d → MakesTurns log c (t ∷ []) d
+made_turn log held c d t m one = (d, one.made, λ leaving. one.gone leaving [] m, refl)
+
+made_last : (log : List LogEntry) (held : List Bool) (c d : Caller) (ts : List Turn) → AreMarked log held → MakesLast held log c ts d → MakesTurns log c ts d
+made_last log held c d [] m one = one
+made_last log held c d (t ∷ []) m one = made_turn log held c d t m one
+made_last log held c d (t ∷ u ∷ ts) m one = absurd one
+
 -- the calls of turns, and of those behind them
-makes_both : (before : List LogEntry) (c m d : Caller) (ts us : List Turn) → MakesTurns before c ts m → MakesTurns (before ++ calls_of ts) m us d → MakesTurns before c (ts ++ us) d
+pub makes_both : (before : List LogEntry) (c m d : Caller) (ts us : List Turn) → MakesTurns before c ts m → MakesTurns (before ++ calls_of ts) m us d → MakesTurns before c (ts ++ us) d
 makes_both before c m d [] us a b = subst (λ (k : Caller). MakesTurns before k us d) a (subst (λ (l : List LogEntry). MakesTurns l m us d) (append-nil before) b)
 makes_both before c m d (t ∷ ts) us a b =
     (a.0, a.1, a.2, makes_both (before ++ t.calls) a.0 m d ts us a.3 (subst (λ (l : List LogEntry). MakesTurns l m us d) (sym (append_assoc before t.calls (calls_of ts))) b))
 
 module _ {T : Type 0} (source : T → SourceEnd) (sink : T → SinkEnd) (may : ℕ → Bool) where
   -- no whole request was read
-  pub turned_none : (before after : T) (c : Caller) (log : List LogEntry) (told : List Outcome) → HasTurned source sink may false before after c c log log told told
-  turned_none before after c log told = ([], tt, sym (append-nil log), kept_none (length log) told told refl, refl)
+  pub turned_none : (before after : T) (held : List Bool) (c : Caller) (log : List LogEntry) (told : List Outcome) → HasTurned source sink may false before after held c c log log told told
+  turned_none before after held c log told = ([], tt, sym (append-nil log), kept_none (length log) told told refl, refl)
 
   module _ (ask : Ask) (now : ℕ) (old new : Seat) (request : List ℕ) (t : Tell) (bytes : List ℕ) (before asked after : T) (is : ask ≡ ask_of request) (long : length request ≡ REQUEST_LEN)
       (given : IsTrue (may now)) (taken : Consumes (source before).left (source asked).left request) (a : HasAnswered ask now old new t bytes) where
@@ -63,13 +72,13 @@ module _ {T : Type 0} (source : T → SourceEnd) (sink : T → SinkEnd) (may : �
     its_kept : AreKept (length (log_of old)) (commands_done_by (ask_of request) a.calls) old.outcomes.items new.outcomes.items
     its_kept = subst (λ (k : Ask). AreKept (length (log_of old)) (commands_done_by k a.calls) old.outcomes.items new.outcomes.items) is a.kept
 
-    its_made : MakesTurns (log_of old) old.client (turn ∷ []) new.client
+    its_made : MakesTurn old.held (log_of old) old.client turn new.client
     unfolding turn
-    its_made = (new.client, a.made, λ leaving. a.gone (is ∙ leaving), refl)
+    its_made = record { made = a.made; gone = λ leaving. a.gone (is ∙ leaving) }
 
     -- its reply was written whole, or not
     pub turned_one : (on : Bool) → (on ≡ true → Appends (sink asked).written (sink after).written (reply_bytes t bytes))
-        → HasTurned source sink may on before after old.client new.client (log_of old) (log_of new) old.outcomes.items new.outcomes.items
+        → HasTurned source sink may on before after old.held old.client new.client (log_of old) (log_of new) old.outcomes.items new.outcomes.items
     unfolding turn
     turned_one true whole = (turn, record { asked = asked; is = its_ask; told = whole refl }, a.log, its_kept, its_made)
     turned_one false whole = (
@@ -118,9 +127,10 @@ module _ {T : Type 0} (source : T → SourceEnd) (sink : T → SinkEnd) (may : �
   count_calls : (a b : List LogEntry) (ts : List Turn) → b ≡ a ++ calls_of ts → calls_in (spelled_by ts) ≡ calls_of ts → length b ≡ length a + length (calls_in (spelled_by ts))
   count_calls a b ts log calls = let size = length-append a (calls_of ts) in let grown = ap length log in let own = ap length calls in omega (arith, size, grown, own)
 
-  pub told_more : (line at next : T) (x y z : Caller) (a b c : List LogEntry) (was mid now : List Outcome) (on : Bool) → HaveTold line at x y a b was mid → HasTurned source sink may on at next y z b c mid now → on ≡ true
+  pub told_more : (line at next : T) (held : List Bool) (x y z : Caller) (a b c : List LogEntry) (was mid now : List Outcome) (on : Bool) → HaveTold line at x y a b was mid → AreMarked b held
+      → HasTurned source sink may on at next held y z b c mid now → on ≡ true
       → HaveTold line next x z a c was now
-  told_more line at next x y z a b c was mid now true h one is = record {
+  told_more line at next held x y z a b c was mid now true h m one is = record {
     turns = h.turns ++ one.0 ∷ [];
     told = told_last line at next h.turns one.0 h.told one.1;
     log = one.2 ∙ (ap (λ (l : List LogEntry). l ++ one.0.calls) h.log ∙ (append_assoc a (calls_of h.turns) one.0.calls
@@ -128,9 +138,9 @@ module _ {T : Type 0} (source : T → SourceEnd) (sink : T → SinkEnd) (may : �
     kept = subst (λ (ds : List DoneCommand). AreKept (length a) ds was now) (ap (λ (ds : List DoneCommand). spelled_by h.turns ++ ds) (sym (append-nil (commands_done_by (ask_of one.0.request) one.0.calls))) ∙ sym (spelled_more h.turns (one.0 ∷ [])))
         (kept_trans (length a) (length b) (spelled_by h.turns) (commands_done_by (ask_of one.0.request) one.0.calls) was mid now h.kept one.3 (count_calls a b h.turns h.log h.calls));
     calls = more_calls h.turns (one.0 ∷ []) h.calls (turn_calls one.0 one.1.is.turn);
-    made = makes_both a x y z h.turns (one.0 ∷ []) h.made (subst (λ (l : List LogEntry). MakesTurns l y (one.0 ∷ []) z) h.log one.4);
+    made = makes_both a x y z h.turns (one.0 ∷ []) h.made (subst (λ (l : List LogEntry). MakesTurns l y (one.0 ∷ []) z) h.log (made_turn b held y z one.0 m one.4));
   }
-  told_more line at next x y z a b c was mid now false h one is = absurd (cc is)
+  told_more line at next held x y z a b c was mid now false h m one is = absurd (cc is)
 
   last_calls : (line : T) (ts : List Turn) → IsLast source sink may line ts → calls_in (spelled_by ts) ≡ calls_of ts
   last_calls line [] is = refl
@@ -138,11 +148,11 @@ module _ {T : Type 0} (source : T → SourceEnd) (sink : T → SinkEnd) (may : �
   last_calls line (t ∷ u ∷ ts) is = absurd is
 
   pub answered_all : (line at next : T) (old mid new last : Seat) (on : Bool) → HaveTold line at old.client mid.client (log_of old) (log_of mid) old.outcomes.items mid.outcomes.items
-      → HasTurned source sink may on at next mid.client new.client (log_of mid) (log_of new) mid.outcomes.items new.outcomes.items → on ≡ false
-      → Does (AreClosings (DEMUX_NODES + 1)) new last → KeepsClosed new last → GoesOn new last → HasGone new last
+      → AreMarked (log_of mid) mid.held → HasTurned source sink may on at next mid.held mid.client new.client (log_of mid) (log_of new) mid.outcomes.items new.outcomes.items → on ≡ false
+      → Does (AreClosings (DEMUX_NODES + 1)) new last → KeepsClosed new last → GoesOn mid new → GoesOn new last → HasGone new last
       → HasAnsweredAll source sink may line old.client last.client (log_of old) (log_of last) old.outcomes.items last.outcomes.items
-  answered_all line at next old mid new last true h one is d k goes gone = absurd (cc is)
-  answered_all line at next old mid new last false h one is d k goes gone = record {
+  answered_all line at next old mid new last true h m one is d k on goes gone = absurd (cc is)
+  answered_all line at next old mid new last false h m one is d k on goes gone = record {
     turns = h.turns;
     after = at;
     told = h.told;
@@ -159,10 +169,10 @@ module _ {T : Type 0} (source : T → SourceEnd) (sink : T → SinkEnd) (may : �
         (k leaving grown)
         (count_calls (log_of old) (log_of new) (h.turns ++ one.0) before (more_calls h.turns one.0 h.calls (last_calls at one.0 one.1)));
     then = new.client;
-    made = makes_both (log_of old) old.client mid.client new.client h.turns one.0 h.made (subst (λ (l : List LogEntry). MakesTurns l mid.client one.0 new.client) h.log one.4);
+    made = makes_both (log_of old) old.client mid.client new.client h.turns one.0 h.made (subst (λ (l : List LogEntry). MakesTurns l mid.client one.0 new.client) h.log (made_last (log_of mid) mid.held mid.client new.client one.0 m one.4));
     leaves = subst (λ (l : List LogEntry). MakesCalls (length l) new.client leaving last.client) before
         (subst (λ (l : List LogEntry). MakesCalls (length (log_of new)) new.client l last.client) (the_calls new last goes.calls leaving goes.log grown) goes.made);
-    back = record { held = subst (λ (l : List LogEntry). CloseHeld l leaving) before (gone.held leaving grown); left = gone.left };
+    back = record { held = subst (λ (l : List LogEntry). CloseHeld l leaving) before (gone.held [] leaving (on.marks [] m) grown); left = gone.left };
   } where
     leaving : List LogEntry
     leaving = map (told_made new.who) d.more

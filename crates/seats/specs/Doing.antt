@@ -14,7 +14,7 @@ use Rattle.seats.specs.declared.made.Made.{Made}
 use Rattle.seats.specs.declared.seat.Seat.{Seat}
 use Rattle.seats.specs.Answered.{act_behind, IsBehind, IsAnswered}
 use Rattle.seats.specs.Calls.{MakesCalls}
-use Rattle.seats.specs.Holding.{HasLeft, holds, CloseHeld, GivesBack}
+use Rattle.seats.specs.Holding.{HasLeft, AreMarked, CloseHeld, GivesBackMarked}
 use Rattle.seats.specs.Seated.{log_of, told_made}
 use Rattle.seats.specs.Spelled.{DoneCommand, done_command, commands_done_by, AreKept}
 
@@ -71,18 +71,21 @@ KeepsClosed old new = KeepsBy Leave old new
 
 -- ------ nodes
 
--- Each Close by which its log has grown is on a node that it held then.
+-- Each Close by which its log has grown is on a node that it held then, whatever calls come before those of the log: where it had
+-- marked just the nodes that it held by all of them.
 abbrev pub ClosesHeld : (old new : Seat) → Type 0
-ClosesHeld old new = (calls : List LogEntry) → log_of new ≡ log_of old ++ calls → CloseHeld (log_of old) calls
+ClosesHeld old new =
+    (gone calls : List LogEntry) → AreMarked (gone ++ log_of old) old.held → log_of new ≡ log_of old ++ calls
+    → CloseHeld (gone ++ log_of old) calls
 
 -- It has closed no node that it didn't hold, and owns none.
 pub record HasGone (old new : Seat) : Type 0 where
   pub held : ClosesHeld old new
   pub left : (node : ℕ) → node ≤ DEMUX_NODES → HasLeft node new.client
 
--- It holds no node that it didn't hold before.
-abbrev pub HoldsNoMore : (old new : Seat) → Type 0
-HoldsNoMore old new = (node : ℕ) → holds (log_of new) node ≡ true → holds (log_of old) node ≡ true
+-- It has marked no node as held that it hadn't marked before.
+abbrev pub MarksNoMore : (old new : Seat) → Type 0
+MarksNoMore old new = (node : ℕ) → slice_get new.held node ≡ Some true → slice_get old.held node ≡ Some true
 
 -- ------ requests
 
@@ -94,4 +97,4 @@ pub record HasAnswered (ask : Ask) (now : ℕ) (old new : Seat) (t : Tell) (byte
   pub is : IsAnswered ask now calls t bytes
   pub kept : AreKept (length (log_of old)) (commands_done_by ask calls) old.outcomes.items new.outcomes.items
   pub made : MakesCalls (length (log_of old)) old.client calls new.client
-  pub gone : ask ≡ Leave → GivesBack (log_of old) calls new.client
+  pub gone : ask ≡ Leave → GivesBackMarked old.held (log_of old) calls new.client

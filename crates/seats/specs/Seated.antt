@@ -7,7 +7,7 @@ use Rattle.dmx_calls.specs.Log.{LogEntry}
 use Rattle.adapter.specs.Callers.{Caller}
 use Rattle.adapter.specs.Rows.{Fits}
 use Rattle.seats.specs.Calls.{MakesCalls}
-use Rattle.seats.specs.Holding.{holds, AreMarked, KnowsItsNodes}
+use Rattle.seats.specs.Holding.{AreMarked, KnowsItsNodes}
 use Rattle.seats.specs.declared.made.Made.{Made}
 use Rattle.seats.specs.declared.seat.Seat.{Seat}
 
@@ -36,23 +36,23 @@ pub record HasRoom (calls : ℕ) (s : Seat) : Type 0 where
   pub outcomes : length s.outcomes.items + calls ≤ vec_capacity s.outcomes
   pub left : calls ≤ s.client.left
 
--- Where it holds a node, it has room for the calls that give back all that it may hold.
+-- Where it has marked a node as held, it has room for the calls that give back all that it may hold.
 abbrev pub MayLeave : Seat → Type 0
-MayLeave s = (node : ℕ) → node ≤ DEMUX_NODES → holds (log_of s) node ≡ true → HasRoom 66 s
+MayLeave s = (node : ℕ) → node ≤ DEMUX_NODES → slice_get s.held node ≡ Some true → HasRoom 66 s
 
 -- It has a pass of each of these locks, and each call that it keeps is on a node; so few calls are left that their numbers stay
--- below 2^40; it has marked the nodes that it holds, and left each other.
+-- below 2^40; it has left each node that it hasn't marked as held.
 pub record IsFit (locks : List TableId) (s : Seat) : Type 0 where
   pub fits : Fits locks s.client.passes
   pub who : s.who ≡ s.client.who
   pub left : s.client.left + (length s.log.items + length s.made.items) ≤ 2 ^ 40
   pub nodes : AreOnNodes (log_of s)
-  pub marked : AreMarked (log_of s) s.held
   pub knows : KnowsItsNodes s.client s.held
 
--- It is fit, and may leave.
+-- It is fit, has marked just the nodes that it holds, and may leave.
 pub record IsReady (locks : List TableId) (s : Seat) : Type 0 where
   pub fit : IsFit locks s
+  pub marked : AreMarked (log_of s) s.held
   pub room : MayLeave s
 
 -- It is the seat of this caller, and has done nothing yet.
@@ -68,8 +68,10 @@ pub record AreReady (locks : List TableId) (clients : List Caller) (seats : List
   pub are : map (λ s. s.client) seats ≡ clients
   pub each : (c : ℕ) (s : Seat) → slice_get seats c ≡ Some s → IsReady locks s × (log_of s ≡ []) × (s.outcomes.items ≡ [])
 
--- The log has grown by just the calls that the client has made, in their order.
+-- The log has grown by just the calls that the client has made, in their order. Whatever calls come before those of the log: where
+-- just the nodes that are held behind all of them were marked, they are.
 pub record GoesOn (old new : Seat) : Type 0 where
   pub calls : List LogEntry
   pub log : log_of new ≡ log_of old ++ calls
   pub made : MakesCalls (length (log_of old)) old.client calls new.client
+  pub marks : (gone : List LogEntry) → AreMarked (gone ++ log_of old) old.held → AreMarked (gone ++ log_of new) new.held

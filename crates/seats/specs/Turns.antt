@@ -13,7 +13,7 @@ use Rattle.serve_frames.specs.declared.tell.Tell.{Tell}
 use Rattle.adapter.specs.Callers.{Caller}
 use Rattle.seats.specs.Answered.{IsAnswered, AreClosings}
 use Rattle.seats.specs.Calls.{MakesCalls}
-use Rattle.seats.specs.Holding.{GivesBack}
+use Rattle.seats.specs.Holding.{GivesBack, GivesBackMarked}
 use Rattle.seats.specs.Spelled.{DoneCommand, commands_done_by, AreKept}
 use Rattle.seats.specs.Told.{reply_bytes}
 
@@ -55,6 +55,18 @@ MakesTurns before c (t ∷ ts) d =
     (m : Caller) × MakesCalls (length before) c t.calls m × (IsLeaving t → GivesBack before t.calls m)
     × MakesTurns (before ++ t.calls) m ts d
 
+-- A caller makes the calls of this turn behind those of a log, and is d then. By a request to leave it gives back what it has, by the
+-- nodes that it has marked as held.
+pub record MakesTurn (held : List Bool) (log : List LogEntry) (c : Caller) (t : Turn) (d : Caller) : Type 0 where
+  pub made : MakesCalls (length log) c t.calls d
+  pub gone : IsLeaving t → GivesBackMarked held log t.calls d
+
+-- the same of the last turn of a line, if there is one
+abbrev pub MakesLast : (held : List Bool) → (log : List LogEntry) → Caller → List Turn → Caller → Type 0
+MakesLast held log c [] d = d ≡ c
+MakesLast held log c (t ∷ []) d = MakesTurn held log c t d
+MakesLast held log c (t ∷ u ∷ ts) d = ⊥
+
 module _ {T : Type 0} (source : T → SourceEnd) (sink : T → SinkEnd) (may : ℕ → Bool) where
   -- the request is taken from the line
   pub record IsAsked (t : Turn) (before asked : T) : Type 0 where
@@ -80,14 +92,14 @@ module _ {T : Type 0} (source : T → SourceEnd) (sink : T → SinkEnd) (may : �
 
   -- The next request is answered: by these calls, which the client makes, the log has grown, and what is told of commands by those
   -- that it spells. Where that is the end, no call was made, or the reply wasn't written whole.
-  abbrev pub HasTurned : (on : Bool) → (before after : T) → (c d : Caller) → (old new : List LogEntry) → (was now : List Outcome)
-      → Type 0
-  HasTurned true before after c d old new was now =
+  abbrev pub HasTurned : (on : Bool) → (before after : T) → (held : List Bool) → (c d : Caller) → (old new : List LogEntry)
+      → (was now : List Outcome) → Type 0
+  HasTurned true before after held c d old new was now =
       (t : Turn) × IsTold t before after × (new ≡ old ++ t.calls)
-      × AreKept (length old) (commands_done_by (ask_of t.request) t.calls) was now × MakesTurns old c (t ∷ []) d
-  HasTurned false before after c d old new was now =
+      × AreKept (length old) (commands_done_by (ask_of t.request) t.calls) was now × MakesTurn held old c t d
+  HasTurned false before after held c d old new was now =
       (ts : List Turn) × IsLast before ts × (new ≡ old ++ calls_of ts) × AreKept (length old) (spelled_by ts) was now
-      × MakesTurns old c ts d
+      × MakesLast held old c ts d
 
   -- The requests of a line were answered, one after another, and then all nodes closed: by the calls for these, which the client
   -- makes, the log has grown, and what is told of commands by those that the requests spell. The client was c before, and is d then.

@@ -11,9 +11,9 @@ ghost use Rattle.serve_frames.specs.Tells.{told_of};
 ghost use Rattle.seats.specs.declared.made.Made.{Made};
 ghost use Rattle.seats.specs.Answered.{is_busy as is_busy_by, refusal, told_opened, AreClosings, IsAnswered, IsClosing, IsFull, IsOpened};
 ghost use Rattle.seats.specs.Calls.{PassesNone};
-ghost use Rattle.seats.specs.Doing.{ClosesHeld, Does, DoesCommand, HasAnswered, HasGone, HoldsNoMore, KeepsBy, KeepsClosed, KeepsOne, KeepsOpened};
-ghost use Rattle.seats.specs.Holding.{HasLeft, holds};
-ghost use Rattle.seats.specs.Seated.{log_of, IsFit, HasRoom, GoesOn, MayLeave};
+ghost use Rattle.seats.specs.Doing.{ClosesHeld, Does, DoesCommand, HasAnswered, HasGone, KeepsBy, KeepsClosed, KeepsOne, KeepsOpened, MarksNoMore};
+ghost use Rattle.seats.specs.Holding.{HasLeft};
+ghost use Rattle.seats.specs.Seated.{IsFit, HasRoom, GoesOn, MayLeave};
 ghost use Rattle.seats.specs.Told.{data_read, call_at};
 
 use crate::seat::{MOST_CALLS, Seat};
@@ -119,6 +119,8 @@ impl Seat {
         ensures kept { KeepsOne self.old self.new }
         ensures left { invocation_of call ≢ asks.Open → (i : ℕ) → HasLeft i self.old.client → HasLeft i self.new.client }
         ensures closed { invocation_of call ≡ asks.Close → HasLeft node self.new.client }
+        ensures fewer { invocation_of call ≢ asks.Open → MarksNoMore self.old self.new }
+        ensures free { invocation_of call ≡ asks.Close → slice_get self.new.held node ≢ Some true }
     {
         let from = self.count();
         let at = self.call(rt, adapter, node, call, steps);
@@ -165,7 +167,7 @@ impl Seat {
     )
         requires node { node ≤ nodes }
         requires fit { IsFit adapter.now self.old }
-        requires room { holds (log_of self.old) node ≡ true → HasRoom 2 self.old }
+        requires room { slice_get self.old.held node ≡ Some true → HasRoom 2 self.old }
         ensures fit { IsFit adapter.now self.new }
         ensures goes { GoesOn self.old self.new }
         ensures few { (length self.new.made.items ≤ length self.old.made.items + 2) × (self.old.client.left ≤ self.new.client.left + 2) }
@@ -174,8 +176,8 @@ impl Seat {
         ensures did { Does (IsClosing node) self.old self.new }
         ensures kept { KeepsClosed self.old self.new }
         ensures held { ClosesHeld self.old self.new }
-        ensures fewer { HoldsNoMore self.old self.new }
-        ensures free { holds (log_of self.new) node ≡ false }
+        ensures fewer { MarksNoMore self.old self.new }
+        ensures free { slice_get self.new.held node ≢ Some true }
         ensures left { HasLeft node self.new.client }
         ensures still { (i : ℕ) → HasLeft i self.old.client → HasLeft i self.new.client }
     {
@@ -197,7 +199,7 @@ impl Seat {
         ensures did { Does (AreClosings (nodes + 1)) self.old self.new }
         ensures kept { KeepsClosed self.old self.new }
         ensures held { ClosesHeld self.old self.new }
-        ensures free { (node : ℕ) → node ≤ nodes → holds (log_of self.new) node ≡ false }
+        ensures free { (node : ℕ) → node ≤ nodes → slice_get self.new.held node ≢ Some true }
         ensures left { (node : ℕ) → node ≤ nodes → HasLeft node self.new.client }
     {
         'nodes: for node in 0..NODES {

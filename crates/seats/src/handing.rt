@@ -34,6 +34,7 @@ impl Seat {
         ensures kept { OnErr result ((journal.new ≡ journal.old) × (log_of self.new ≡ log_of self.old)) }
         ensures client { self.new.client ≡ self.old.client }
         ensures fit { (locks : List TableId) → IsFit locks self.old → IsFit locks self.new }
+        ensures held { self.new.held ≡ self.old.held }
         ensures room { (calls : ℕ) → HasRoom calls self.old → HasRoom calls self.new }
     {
         self.settle(alloc)?;

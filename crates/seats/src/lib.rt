@@ -14,15 +14,16 @@
 //!
 //! What is proved, whatever comes on the lines and however the threads fall: from `desks_of` to `sit_all` each seat goes on
 //! (`GoesOn`), so its log is just its calls: no call is left out of it, and nothing else stands in it. An entry of a log takes memory,
-//! so the last calls are kept beside it at first (`Made`), and a request comes to its calls only once there is memory for all that
-//! were made before. Room for the calls by which all nodes are closed is kept at any time, so want of memory keeps no node from being
-//! closed. A seat that has served its line owns no node (`HasServed`), by what its passes have seen; and what others call
-//! makes it no owner. So it is behind each request to leave that was done (`GivesBack` in `specs/Holding.antt`, and `MakesTurns`
-//! in `specs/Turns.antt`). By either it closes no node that it hasn't opened before, or has closed since.
+//! so the last calls are kept beside it at first (`Made`), and a request but to leave comes to its calls only once there is memory for
+//! all that were made before. While a seat has a node, room for the calls by which all nodes are closed is kept (`MayLeave`), so want of
+//! memory keeps no node from being closed, and a request to leave is always done. A seat that has served its line owns no node
+//! (`HasServed`), by what its passes have seen; and what others call makes it no owner. So it is behind each request to leave
+//! (`GivesBack` in `specs/Holding.antt`, and `MakesTurns` in `specs/Turns.antt`). By either it closes no node that it hasn't opened
+//! before, or has closed since.
 //!
 //! Those calls are just the ones that the requests ask for, in the order in which these stand on the line: each request that was
-//! read whole is answered by the calls of the table, or, for want of memory, by none; and the bytes written for it are the reply of
-//! the call whose place they name. Only the last reply of a line may be cut off. Behind them each node is closed at most once.
+//! read whole is answered by the calls of the table, or, unless it is to leave, for want of memory by none; and the bytes written for it
+//! are the reply of the call whose place they name. Only the last reply of a line may be cut off. Behind them each node is closed at most once.
 //!
 //! The requests of a line are the commands of a client of a script (`commands_done_by` in `specs/Spelled.antt` says which): where a
 //! script's client has just these, its commands ask for just these calls, by the replies before each, and what the seat keeps of
@@ -31,12 +32,11 @@
 //! A request to close a node is a call on it, whichever node it names: where the seat isn't its owner, the node refuses it (EBADF).
 //!
 //! A seat may hand its calls over to a `Journal` behind each request, and keep none (`serve_to`): so it takes no more memory however long
-//! it serves. `HasServedTo` in `specs/Handed.antt` says the same of its calls, its requests and its nodes, and that the journal was given
-//! just these calls.
+//! it serves. `HasServedTo` in `specs/Handed.antt` says the same of its calls, its requests and its nodes, also of those that it gives
+//! back, and that the journal was given just these calls.
 //!
-//! Limits: a seat makes at most 2^40 calls, of which 66 are kept for leaving. `desks_of` takes memory, and so does each request, also
-//! one to leave: where it is told that memory is wanting, the nodes stay the seat's until it leaves again or its line ends. Of a
-//! server no clause says that it answers, nor when.
+//! Limits: a seat makes at most 2^40 calls, of which 66 are kept for leaving. `desks_of` takes memory, and so does each request but one to
+//! leave. Of a server no clause says that it answers, nor when.
 #![tactic(auto)]
 
 mod answers;

@@ -1,5 +1,5 @@
 // A seat and its calls.
-ghost use Rattle.std.specs.Prelude.{◌≡◌, ◌≢◌, ◌<◌, ◌≤◌, ◌+◌, ◌^◌, ◌++◌, ◌∷◌, [], ℕ, List, length, map, option_map, vec_capacity, OnOk, IfOk, IfSome};
+ghost use Rattle.std.specs.Prelude.{◌≡◌, ◌≢◌, ◌<◌, ◌≤◌, ◌+◌, ◌^◌, ◌++◌, ◌∷◌, [], ℕ, true, List, Some, length, map, option_map, slice_get, vec_capacity, OnOk, IfOk, IfSome};
 ghost use Rattle.atomic_table.specs.Seated.{TableId};
 ghost use Rattle.dmx_calls.specs.Calls.{invocation_of, response_of, told_entry};
 ghost use Rattle.dmx_calls.specs.Log.{act_of};
@@ -8,7 +8,7 @@ ghost use Rattle.dmx_calls.specs.Invocation as asks;
 ghost use Rattle.dmx_calls.specs.Response.{is_accepted as is_accepted_by};
 ghost use Rattle.seats.specs.Answered.{act_behind};
 ghost use Rattle.seats.specs.Calls.{PassesNone};
-ghost use Rattle.seats.specs.Doing.{MakesOne, DoesCommand};
+ghost use Rattle.seats.specs.Doing.{MakesOne, DoesCommand, MarksNoMore};
 ghost use Rattle.seats.specs.Holding.{HasLeft, has_then as has_then_by};
 ghost use Rattle.seats.specs.Spelled.{line_behind as line_behind_by, outcome_at};
 ghost use Rattle.seats.specs.Seated.{log_of, IsFit, IsNew, HasRoom, GoesOn};
@@ -139,6 +139,8 @@ impl Seat {
         ensures did { MakesOne node (act_of (invocation_of call)) self.old self.new }
         ensures left { invocation_of call ≢ asks.Open → (i : ℕ) → HasLeft i self.old.client → HasLeft i self.new.client }
         ensures closed { invocation_of call ≡ asks.Close → HasLeft node self.new.client }
+        ensures fewer { invocation_of call ≢ asks.Open → MarksNoMore self.old self.new }
+        ensures free { invocation_of call ≡ asks.Close → slice_get self.new.held node ≢ Some true }
     {
         let act = Act::of(&call);
         let step = self.count();
@@ -177,6 +179,8 @@ impl Seat {
         ensures did { DoesCommand node (act_of (invocation_of call)) result self.old self.new }
         ensures left { invocation_of call ≢ asks.Open → (i : ℕ) → HasLeft i self.old.client → HasLeft i self.new.client }
         ensures closed { invocation_of call ≡ asks.Close → HasLeft node self.new.client }
+        ensures fewer { invocation_of call ≢ asks.Open → MarksNoMore self.old self.new }
+        ensures free { invocation_of call ≡ asks.Close → slice_get self.new.held node ≢ Some true }
     {
         let at = self.made.len();
         self.make(rt, adapter, node, call, steps);
@@ -238,6 +242,7 @@ impl Seat {
         ensures still { (calls : ℕ) → HasRoom calls self.old → HasRoom calls self.new }
         ensures same { log_of self.new ≡ log_of self.old }
         ensures told { self.new.outcomes.items ≡ self.old.outcomes.items }
+        ensures held { self.new.held ≡ self.old.held }
         ensures goes { GoesOn self.old self.new }
         ensures fit { (locks : List TableId) → IsFit locks self.old → IsFit locks self.new }
     {

@@ -83,7 +83,7 @@ impl Seat {
         ensures fit { IsFit adapter.now self.new }
         ensures room { MayLeave self.new }
         ensures goes { GoesOn self.old self.new }
-        ensures turned { HasTurned T.Source.end T.Sink.end (C.may_give clock.now) result line.old line.new self.old.client self.new.client (log_of self.old) (log_of self.new) self.old.outcomes.items self.new.outcomes.items }
+        ensures turned { HasTurned T.Source.end T.Sink.end (C.may_give clock.now) result line.old line.new self.old.held self.old.client self.new.client (log_of self.old) (log_of self.new) self.old.outcomes.items self.new.outcomes.items }
     {
         let mut bytes = [0u8; REQUEST_LEN];
         if !fill(line, &mut bytes) {

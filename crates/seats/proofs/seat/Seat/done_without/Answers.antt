@@ -1,4 +1,4 @@
-use Rattle.std.proofs.Common.{◌≡◌, true, false, sym, ◌∙◌, subst, refl}
+use Rattle.std.proofs.Common.{sym, subst, refl}
 use Rattle.serve_frames.specs.declared.ask.Ask.{Ask}
 use Rattle.seats.specs.Doing.{KeepsBy}
 use Rattle.seats.specs.Spelled.{commands_done_by}
@@ -8,7 +8,7 @@ use Rattle.seats.proofs.Keeping.{keeps_none, none_done}
 use Rattle.seats.proofs.seat.Seat.done_without.Goals as goal
 
 pub returns-in-Leave-clause-room : goal.returns-in-Leave-clause-room
-returns-in-Leave-clause-room g c node low held = absurd (let both : false ≡ true = sym (c.leave.ensures.free node low) ∙ held in cc both)
+returns-in-Leave-clause-room g c node low held = absurd (c.leave.ensures.free node low held)
 
 pub returns-in-Leave-clause-did : goal.returns-in-Leave-clause-did
 returns-in-Leave-clause-did g c now = answered_leave c.args.ask now c.args.self.now c.leave.new.self _ _ c.in-Leave.is c.leave.ensures.did c.refused.ensures

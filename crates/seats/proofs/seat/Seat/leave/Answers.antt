@@ -1,12 +1,12 @@
-use Rattle.std.proofs.Common.{rules, arith, ◌≡◌, sym, subst, refl, ℕ, false}
+use Rattle.std.proofs.Common.{rules, arith, ◌≢◌, sym, subst, refl, ℕ, true, Some}
+use Rattle.std.specs.Prelude.{slice_get}
 use mathlib.Core.Logic.{dite}
 use native.Mathlib.Decide.{ℕ_discrete}
-use Rattle.seats.specs.Holding.{HasLeft, holds}
-use Rattle.seats.specs.Seated.{log_of}
+use Rattle.seats.specs.Holding.{HasLeft}
 use Rattle.seats.proofs.Doing.{closings_none, closings_more}
 use Rattle.serve_frames.specs.declared.ask.Ask.TheVariants.{Leave}
 use Rattle.seats.specs.Spelled.{commands_done_by}
-use Rattle.seats.proofs.Closing.{closes_none, closes_more, still_free}
+use Rattle.seats.proofs.Closing.{closes_none, closes_more}
 use Rattle.seats.proofs.Keeping.{keeps_none, keeps_more}
 use Rattle.seats.proofs.Going.{goes_self, goes_trans}
 use Rattle.seats.proofs.seat.Seat.leave.Goals as goal
@@ -42,8 +42,8 @@ nodes-preserved g c =
       held = closes_more c.args.self.now c.nodes.self c.let_go.new.self v.goes e.goes v.held e.held;
       fewer = λ i held. v.fewer i (e.fewer i held);
       free = λ i low. dite (ℕ_discrete i c.nodes.node)
-          (λ here. subst (λ (n : ℕ). holds (log_of c.let_go.new.self) n ≡ false) (sym here) e.free)
-          (λ more. still_free c.nodes.self c.let_go.new.self i e.fewer (v.free i (omega arith)));
+          (λ here. subst (λ (n : ℕ). slice_get c.let_go.new.self.held n ≢ Some true) (sym here) e.free)
+          (λ more held. v.free i (omega arith) (e.fewer i held));
       gone = λ i low. dite (ℕ_discrete i c.nodes.node)
           (λ here. subst (λ (n : ℕ). HasLeft n c.let_go.new.self.client) (sym here) e.left)
           (λ more. e.still i (v.gone i (omega arith)));

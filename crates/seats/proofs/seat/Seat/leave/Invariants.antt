@@ -1,8 +1,9 @@
-use Rattle.std.proofs.Common.{◌≡◌, ◌≤◌, ◌<◌, ◌+◌, ◌*◌, ℕ, false, length, vec_capacity}
+use Rattle.std.proofs.Common.{◌≡◌, ◌≢◌, ◌≤◌, ◌<◌, ◌+◌, ◌*◌, ℕ, true, Some, length, vec_capacity}
+use Rattle.std.specs.Prelude.{slice_get}
 use Rattle.seats.specs.Answered.{AreClosings}
-use Rattle.seats.specs.Doing.{ClosesHeld, Does, HoldsNoMore, KeepsClosed}
-use Rattle.seats.specs.Holding.{HasLeft, holds}
-use Rattle.seats.specs.Seated.{log_of, IsFit, GoesOn}
+use Rattle.seats.specs.Doing.{ClosesHeld, Does, KeepsClosed, MarksNoMore}
+use Rattle.seats.specs.Holding.{HasLeft}
+use Rattle.seats.specs.Seated.{IsFit, GoesOn}
 use Rattle.seats.proofs.seat.Seat.leave.Given as goal
 
 -- two calls for each node that was closed, and all of these are left
@@ -17,7 +18,7 @@ invariant-nodes g l = record {
   did : Does (AreClosings l.node) l.fn.self l.self;
   kept : KeepsClosed l.fn.self l.self;
   held : ClosesHeld l.fn.self l.self;
-  fewer : HoldsNoMore l.fn.self l.self;
-  free : (i : ℕ) → i < l.node → holds (log_of l.self) i ≡ false;
+  fewer : MarksNoMore l.fn.self l.self;
+  free : (i : ℕ) → i < l.node → slice_get l.self.held i ≢ Some true;
   gone : (i : ℕ) → i < l.node → HasLeft i l.self.client;
 }

@@ -1,12 +1,12 @@
-use Rattle.std.proofs.Common.{rules, ◌≡◌, get_or, false, true, refl}
+use Rattle.std.proofs.Common.{rules, ◌≡◌, Bool, get_or, false, true, Some, refl, ap, sym, ◌∙◌}
+use Rattle.std.specs.Prelude.{slice_get}
+use Rattle.std.proofs.lemmas.Option.{slice_get-get_or, get_or_from_slice_get}
 use Rattle.serve_frames.specs.declared.ask.Ask.TheVariants.{Leave}
-use Rattle.seats.specs.Seated.{log_of}
 use Rattle.seats.specs.Spelled.{commands_done_by}
-use Rattle.seats.proofs.Closing.{closes_none, closes_one, closed_free, closed_fewer}
+use Rattle.seats.proofs.Closing.{closes_none, closes_one}
 use Rattle.seats.proofs.Keeping.{keeps_none, keeps_closed}
 use Rattle.seats.proofs.Doing.{closing_none, closing_one}
 use Rattle.seats.proofs.Going.{goes_self}
-use Rattle.seats.proofs.Marking.{marked_is}
 use Rattle.seats.proofs.seat.Seat.let_go.Goals as goal
 
 pub returns-then-not-self-node-clause-goes : goal.returns-then-not-self-node-clause-goes
@@ -30,23 +30,17 @@ returns-then-not-self-node-clause-held g c = closes_none c.args.self.now c.args.
 pub command-requires-clause-room : goal.command-requires-clause-room
 command-requires-clause-room g c =
     let s = c.args.self.now in let is : get_or s.held c.args.node false ≡ true = search rules in
-    c.requires.room (marked_is (log_of s) s.held c.args.node true c.requires.fit.marked c.requires.node is)
+    c.requires.room (slice_get-get_or s.held c.args.node false (search rules) ∙ ap (λ (b : Bool). Some b) is)
 
 pub returns-clause-held : goal.returns-clause-held
 returns-clause-held g c =
     let s = c.args.self.now in let is : get_or s.held c.args.node false ≡ true = search rules in
-    closes_one c.args.node c.command.result s c.command.new.self c.command.ensures.did (marked_is (log_of s) s.held c.args.node true c.requires.fit.marked c.requires.node is)
+    closes_one c.args.node c.command.result s c.command.new.self c.command.ensures.did c.requires.node (slice_get-get_or s.held c.args.node false (search rules) ∙ ap (λ (b : Bool). Some b) is)
 
 pub returns-then-not-self-node-clause-fewer : goal.returns-then-not-self-node-clause-fewer
 returns-then-not-self-node-clause-fewer g c i held = held
 
-pub returns-clause-fewer : goal.returns-clause-fewer
-returns-clause-fewer g c = closed_fewer c.args.node c.command.result c.args.self.now c.command.new.self c.command.ensures.did
-
 pub returns-then-not-self-node-clause-free : goal.returns-then-not-self-node-clause-free
-returns-then-not-self-node-clause-free g c =
+returns-then-not-self-node-clause-free g c held =
     let s = c.args.self.now in let is : get_or s.held c.args.node false ≡ false = search rules in
-    marked_is (log_of s) s.held c.args.node false c.requires.fit.marked c.requires.node is
-
-pub returns-clause-free : goal.returns-clause-free
-returns-clause-free g c = closed_free c.args.node c.command.result c.args.self.now c.command.new.self c.command.ensures.did
+    let both : true ≡ false = sym (get_or_from_slice_get s.held c.args.node true false held) ∙ is in cc both

@@ -2,17 +2,16 @@ use Rattle.std.proofs.Common.{rules, ◌≡◌, ◌≤◌, ◌++◌, ◌∷◌, 
 use Rattle.std.specs.Prelude.{slice_index_or}
 use Rattle.std.proofs.lemmas.List.Elements.{All-push}
 use Rattle.std.proofs.lemmas.Option.{slice_get-get_or}
-use Rattle.dmx_calls.specs.Calls.{told_entry}
+use Rattle.dmx_calls.specs.Calls.{invocation_of, response_of, told_entry}
 use Rattle.dmx_calls.specs.Entries.{told}
 use Rattle.dmx_calls.specs.Log.{LogEntry}
 use Rattle.dmx_calls.specs.declared.limits.TheConstants.{DEMUX_NODES}
 use Rattle.seats.specs.declared.made.Made.{Made}
 use Rattle.seats.specs.Calls.{PassesNone}
-use Rattle.seats.specs.Holding.{AreMarked}
 use Rattle.seats.specs.Seated.{told_made, log_of, AreOnNodes}
 use Rattle.seats.proofs.Going.{log_long, log_one}
 use Rattle.seats.proofs.Holding.{left_call, closed_call, knows_made}
-use Rattle.seats.proofs.Marking.{marked_more}
+use Rattle.seats.proofs.Marking.{marked_one, marks_no_more, close_unmarks}
 use Rattle.seats.proofs.seat.Seat.make.Goals as goal
 
 pub returns-clause-fit : goal.returns-clause-fit
@@ -27,7 +26,6 @@ returns-clause-fit g c =
       who = f.who ∙ sym e.same.0;
       left = omega (arith, left, less, size);
       nodes = subst AreOnNodes (sym log) (All-push (λ (x : LogEntry). x.node ≤ DEMUX_NODES) (log_of s) (told_made s.who m) f.nodes c.requires.node);
-      marked = subst (λ (l : List LogEntry). AreMarked l _) (sym log) (marked_more (log_of s) (told_made s.who m) s.held f.marked c.requires.node _ (search rules));
       knows = knows_made s.client c.call-place.new.self c.args.node c.call-place.result.0 (told s.client.who c.args.call c.call-place.result.1) e.entry e.same.0 refl s.held _ (slice_index_or s.held c.args.node false) f.knows (slice_get-get_or s.held c.args.node false (search rules)) (search rules);
     }
 
@@ -55,6 +53,7 @@ returns-clause-goes g c =
         },
         refl,
       );
+      marks = λ gone marked. marked_one gone (log_of s) _ (told_made s.who m) s.held _ marked c.requires.node (log_one s.who s.log.items s.made.items c.push_reserved.new.self.items m items) (search rules);
     }
 
 pub returns-clause-left : goal.returns-clause-left
@@ -69,3 +68,13 @@ returns-clause-did g c =
     let m : Made = record { node = c.args.node; place = c.call-place.result.0; step = c.count-step.result; act = c.of-act.result; reply = c.call-place.result.1.reply } in
     let items : c.push_reserved.new.self.items ≡ s.made.items ++ m ∷ [] = search rules in
     record { own = m; has = record { made = items; log = refl; who = refl }; node = refl; act = c.of-act.ensures }
+
+pub returns-clause-fewer : goal.returns-clause-fewer
+returns-clause-fewer g c other =
+    let s = c.args.self.now in
+    marks_no_more (invocation_of c.args.call) (response_of c.call-place.result.1.reply) c.args.node s.held _ (slice_index_or s.held c.args.node false) (slice_get-get_or s.held c.args.node false (search rules)) (search rules) other
+
+pub returns-clause-free : goal.returns-clause-free
+returns-clause-free g c closing =
+    let s = c.args.self.now in
+    close_unmarks (invocation_of c.args.call) (response_of c.call-place.result.1.reply) c.args.node s.held _ (slice_index_or s.held c.args.node false) (slice_get-get_or s.held c.args.node false (search rules)) (search rules) closing

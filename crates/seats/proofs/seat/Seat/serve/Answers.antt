@@ -1,3 +1,4 @@
+use Rattle.std.proofs.Common.{[]}
 use Rattle.seats.specs.Seated.{log_of}
 use Rattle.seats.proofs.Going.{goes_self, goes_trans}
 use Rattle.seats.proofs.Turning.{told_none, told_more, answered_all}
@@ -18,7 +19,7 @@ requests-preserved g c =
       fit = e.fit;
       room = e.room;
       goes = goes_trans c.args.self.now c.requests.self c.turn.new.self v.goes e.goes;
-      told = told_more g.T.Source.end g.T.Sink.end (g.C.Clock.may_give c.args.clock.now) c.args.line.now c.requests.line c.turn.new.line _ _ _ _ _ _ _ _ _ c.turn.result v.told e.turned c.if-not-turn.false;
+      told = told_more g.T.Source.end g.T.Sink.end (g.C.Clock.may_give c.args.clock.now) c.args.line.now c.requests.line c.turn.new.line c.requests.self.held _ _ _ _ _ _ _ _ _ c.turn.result v.told (v.goes.marks [] c.requires.ready.marked) e.turned c.if-not-turn.false;
     }
 
 pub returns-then-not-turn : goal.returns-then-not-turn
@@ -27,7 +28,7 @@ returns-then-not-turn g c =
     record {
       fit = c.leave.ensures.fit;
       goes = goes_trans c.args.self.now c.turn.new.self c.leave.new.self (goes_trans c.args.self.now c.requests.self c.turn.new.self v.goes e.goes) c.leave.ensures.goes;
-      answers = answered_all g.T.Source.end g.T.Sink.end (g.C.Clock.may_give c.args.clock.now) c.args.line.now c.requests.line c.turn.new.line c.args.self.now c.requests.self c.turn.new.self c.leave.new.self c.turn.result v.told e.turned c.if-not-turn.true c.leave.ensures.did c.leave.ensures.kept
-          c.leave.ensures.goes (record { held = c.leave.ensures.held; left = c.leave.ensures.left });
+      answers = answered_all g.T.Source.end g.T.Sink.end (g.C.Clock.may_give c.args.clock.now) c.args.line.now c.requests.line c.turn.new.line c.args.self.now c.requests.self c.turn.new.self c.leave.new.self c.turn.result v.told (v.goes.marks [] c.requires.ready.marked) e.turned c.if-not-turn.true c.leave.ensures.did c.leave.ensures.kept
+          e.goes c.leave.ensures.goes (record { held = c.leave.ensures.held; left = c.leave.ensures.left });
       left = c.leave.ensures.left;
     }

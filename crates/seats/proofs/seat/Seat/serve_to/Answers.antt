@@ -1,7 +1,9 @@
-use Rattle.std.proofs.Common.{arith, sym, subst}
+use Rattle.std.proofs.Common.{arith, ◌≡◌, Bool, true, List, [], Some, sym, subst}
+use Rattle.std.specs.Prelude.{slice_get}
 use Rattle.adapter.specs.Callers.{Caller}
 use Rattle.seats.specs.Calls.{MakesCalls}
 use Rattle.seats.specs.Holding.{HasLeft}
+use Rattle.seats.specs.Turns.{HasAnsweredAll}
 use Rattle.seats.proofs.Hands.{all_calls, few_calls, hands_none, hands_turned, hands_over, hands_kept, answered_to, made_to, nodes_to, given_to}
 use Rattle.seats.proofs.seat.Seat.serve_to.Goals as goal
 
@@ -9,7 +11,7 @@ pub requests-init : goal.requests-init
 requests-init g c = record {
   fit = c.requires.ready.ready.fit;
   room = c.requires.ready.ready.room;
-  hands = hands_none g.T.Source.end g.T.Sink.end (g.C.Clock.may_give c.args.clock.now) g.J.Journal.took c.args.at.now.line c.args.at.now.journal c.args.self.now (g.met.J.Journal.took_none c.args.at.now.journal) c.requires.ready.none;
+  hands = hands_none g.T.Source.end g.T.Sink.end (g.C.Clock.may_give c.args.clock.now) g.J.Journal.took c.args.at.now.line c.args.at.now.journal c.args.self.now (g.met.J.Journal.took_none c.args.at.now.journal) c.requires.ready.none c.requires.ready.ready.marked;
 }
 
 pub hand_over_last-requires : goal.hand_over_last-requires
@@ -23,7 +25,8 @@ pub returns-then-not-turn : goal.returns-then-not-turn
 returns-then-not-turn g c =
     let h = c.requests.invariant.hands in let e = c.hand_over_last.ensures in
     let a = answered_to g.T.Source.end g.T.Sink.end (g.C.Clock.may_give c.args.clock.now) g.J.Journal.took c.args.at.now.line c.args.at.now.journal c.args.self.now.client c.requests.before c.requests.at.line c.requests.at.journal c.requests.self h
-    c.turn.new.line c.turn.new.self c.leave.new.self _ _ c.turn.result c.turn.ensures.turned c.if-not-turn.true c.leave.ensures.did in
+    c.turn.new.line c.turn.new.self c.leave.new.self _ _ c.turn.result c.turn.ensures.turned c.if-not-turn.true
+    c.turn.ensures.goes c.leave.ensures.did c.leave.ensures.goes (record { held = c.leave.ensures.held; left = c.leave.ensures.left }) in
     let made = made_to g.T.Source.end g.T.Sink.end (g.C.Clock.may_give c.args.clock.now) g.J.Journal.took c.args.at.now.line c.args.at.now.journal c.args.self.now.client c.requests.before c.requests.at.line c.requests.at.journal c.requests.self h
     c.turn.new.self c.leave.new.self c.turn.ensures.goes c.leave.ensures.goes in
     record {
@@ -33,7 +36,7 @@ returns-then-not-turn g c =
       nodes = nodes_to g.T.Source.end g.T.Sink.end (g.C.Clock.may_give c.args.clock.now) g.J.Journal.took c.args.at.now.line c.args.at.now.journal c.args.self.now.client c.requests.before c.requests.at.line c.requests.at.journal c.requests.self h
           c.leave.new.self c.leave.ensures.fit.nodes;
       told = a.0;
-      answers = a.1;
+      answers = subst (λ (k : Caller). HasAnsweredAll g.T.Source.end g.T.Sink.end (g.C.Clock.may_give c.args.clock.now) c.args.at.now.line c.args.self.now.client k [] (all_calls h.handed c.leave.new.self) [] a.0) (sym e.client) a.1;
       given = given_to g.T.Source.end g.T.Sink.end (g.C.Clock.may_give c.args.clock.now) g.J.Journal.took c.args.at.now.line c.args.at.now.journal c.args.self.now.client c.requests.before c.requests.at.line c.requests.at.journal c.requests.self h
           c.hand_over_last.new.journal c.leave.new.self (λ xs ys. g.met.J.Journal.took_both c.args.at.now.journal c.requests.at.journal c.hand_over_last.new.journal xs ys) e.took;
       left = λ node low. subst (HasLeft node) (sym e.client) (c.leave.ensures.left node low);
@@ -53,10 +56,10 @@ requests-preserved-in-Ok g c =
     c.requests.invariant.hands c.turn.new.line c.turn.new.self _ _ c.turn.result c.turn.ensures.turned c.if-not-turn.false c.turn.ensures.goes in
     record {
       fit = e.fit c.args.adapter.now c.turn.ensures.fit;
-      room = e.room 66 c.turn.ensures.room;
+      room = λ node low held. e.room 66 (c.turn.ensures.room node low (subst (λ (l : List Bool). slice_get l node ≡ Some true) e.held held));
       hands = hands_over g.T.Source.end g.T.Sink.end (g.C.Clock.may_give c.args.clock.now) g.J.Journal.took c.args.at.now.line c.args.at.now.journal c.args.self.now.client c.requests.before c.turn.new.line c.requests.at.journal c.turn.new.self h
           c.hand_over.new.journal c.hand_over.new.self c.in-Ok.now (λ xs ys. g.met.J.Journal.took_both c.args.at.now.journal c.requests.at.journal c.hand_over.new.journal xs ys)
-          c.in-Ok.ensures.took c.in-Ok.ensures.count c.in-Ok.ensures.none e.client c.turn.ensures.fit.nodes;
+          c.in-Ok.ensures.took c.in-Ok.ensures.count c.in-Ok.ensures.none e.client e.held c.turn.ensures.fit.nodes;
     }
 
 pub requests-preserved : goal.requests-preserved
@@ -66,7 +69,7 @@ requests-preserved g c =
     c.requests.invariant.hands c.turn.new.line c.turn.new.self _ _ c.turn.result c.turn.ensures.turned c.if-not-turn.false c.turn.ensures.goes in
     record {
       fit = e.fit c.args.adapter.now c.turn.ensures.fit;
-      room = e.room 66 c.turn.ensures.room;
+      room = λ node low held. e.room 66 (c.turn.ensures.room node low (subst (λ (l : List Bool). slice_get l node ≡ Some true) e.held held));
       hands = hands_kept g.T.Source.end g.T.Sink.end (g.C.Clock.may_give c.args.clock.now) g.J.Journal.took c.args.at.now.line c.args.at.now.journal c.args.self.now.client c.requests.before c.turn.new.line c.requests.at.journal c.turn.new.self h
-          c.hand_over.new.journal c.hand_over.new.self c.in_default.ensures.kept.0 c.in_default.ensures.kept.1 e.client;
+          c.hand_over.new.journal c.hand_over.new.self c.in_default.ensures.kept.0 c.in_default.ensures.kept.1 e.client e.held;
     }

@@ -10,7 +10,7 @@ pub returns-then-not-fill-clause-goes : goal.returns-then-not-fill-clause-goes
 returns-then-not-fill-clause-goes g c = goes_self c.args.self.now
 
 pub returns-then-not-fill-clause-turned : goal.returns-then-not-fill-clause-turned
-returns-then-not-fill-clause-turned g c = turned_none g.T.Source.end g.T.Sink.end (g.C.Clock.may_give c.args.clock.now) c.args.line.now c.fill.new.source c.args.self.now.client (log_of c.args.self.now) c.args.self.now.outcomes.items
+returns-then-not-fill-clause-turned g c = turned_none g.T.Source.end g.T.Sink.end (g.C.Clock.may_give c.args.clock.now) c.args.line.now c.fill.new.source c.args.self.now.held c.args.self.now.client (log_of c.args.self.now) c.args.self.now.outcomes.items
 
 pub returns-clause-turned : goal.returns-clause-turned
 returns-clause-turned g c =
