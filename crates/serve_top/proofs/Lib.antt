@@ -4,6 +4,7 @@ mod Handover
 mod Logged
 mod PassedOn
 mod Playing
+mod Putting
 mod Reporting
 mod Scripting
 mod Seating

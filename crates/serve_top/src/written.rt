@@ -1,5 +1,5 @@
 // A journal that writes lines.
-ghost use Rattle.std.specs.Prelude.{◌≡◌, ◌++◌, [], true, List, ℕ, map, OnOk};
+ghost use Rattle.std.specs.Prelude.{◌≡◌, ◌++◌, [], true, IsOk, OnOk};
 ghost use Rattle.std.specs.Io.KnownBytes.{Appends};
 ghost use Rattle.dmx_calls.specs.Calls.{told_entry};
 ghost use Rattle.ts_watch.specs.Head.{told_head};
@@ -63,7 +63,7 @@ impl<K: Sink + Drop> Written<K> {
 
     // Writes the line that was made last, if it was made.
     fn write(&mut self, made: Result<(), NoMemory>)
-        ensures { self.new.whole ≡ true → OnOk made ((self.old.whole ≡ true) × Appends (K.end self.old.sink).written (K.end self.new.sink).written self.old.line.items) }
+        ensures { self.new.whole ≡ true → IsOk made × (self.old.whole ≡ true) × Appends (K.end self.old.sink).written (K.end self.new.sink).written self.old.line.items }
     {
         if self.whole {
             self.whole = made.is_ok() && write_all(&mut self.sink, &self.line).is_ok();

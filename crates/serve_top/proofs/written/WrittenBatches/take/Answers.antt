@@ -1,0 +1,11 @@
+use Rattle.std.proofs.Common.{◌≡◌, List, ℕ, subst}
+use Rattle.std.specs.Io.KnownBytes.{Appends}
+use Rattle.workers.proofs.FeederWork.{on_ok}
+use Rattle.serve_top.proofs.written.WrittenBatches.take.Goals as goal
+
+-- the line was made, and then it was written
+pub returns : goal.returns
+returns g c whole =
+    let w = c.write.ensures whole in
+    let made = on_ok c.add_fed-made.result _ w.0 c.add_fed-made.ensures in
+    (w.1.0, subst (λ (l : List ℕ). Appends (g.K.Sink.end c.args.self.now.sink).written (g.K.Sink.end c.write.new.self.sink).written l) made w.1.1)
