@@ -7,14 +7,16 @@ use Rattle.atomic_table.specs.Seated.{TableId}
 use Rattle.adapter.specs.Callers.{Caller, AreFreshCallers}
 use Rattle.adapter.proofs.Pairs.{caller_fits}
 use Rattle.seats.specs.declared.run.Desk.{Desk}
-use Rattle.seats.specs.Seated.{IsReady, AreReady}
+use Rattle.seats.specs.Handed.{IsReadyToHand}
+use Rattle.seats.specs.Seated.{AreReady}
 use Rattle.serve_tests.proofs.tests.answers.one_seat.Goals as goal
 
--- each of the desks has a ready seat
-all_ready : {T : Type 0} (locks : List TableId) (clients : List Caller) (desks : List (Desk T)) → AreReady locks clients (map (λ (d : Desk T). d.seat) desks) → All (λ (d : Desk T). IsReady locks d.seat) desks
+-- each of the desks has a ready seat that has called nothing
+all_ready : {T : Type 0} (locks : List TableId) (clients : List Caller) (desks : List (Desk T)) → AreReady locks clients (map (λ (d : Desk T). d.seat) desks) → All (λ (d : Desk T). IsReadyToHand locks d.seat) desks
 all_ready locks clients desks ready k d low =
     let x = slice_index_or desks k d in
-    (ready.each k x.seat (slice_get-map (λ (z : Desk _). z.seat) desks k ∙ ap (option_map (λ (z : Desk _). z.seat)) (slice_get-get_or desks k d low))).0
+    let r = ready.each k x.seat (slice_get-map (λ (z : Desk _). z.seat) desks k ∙ ap (option_map (λ (z : Desk _). z.seat)) (slice_get-get_or desks k d low)) in
+    record { ready = r.0; none = r.1 }
 
 counted : (locks : List TableId) (n : ℕ) (feeder : Caller) (clients : List Caller) → AreFreshCallers locks n feeder clients → AreFreshCallers locks (length clients) feeder clients
 counted locks n feeder clients fresh = subst (λ (k : ℕ). AreFreshCallers locks k feeder clients) (sym fresh.long) fresh
@@ -29,7 +31,15 @@ returns-clause-ready c =
     let ready = if_some (λ (v : Vec (Desk ℕ) Global). (ls : List TableId) (f : Caller) → AreFreshCallers ls (length clients) f clients → AreReady ls clients (map (λ (d : Desk ℕ). d.seat) v.items))
     c.desks_of.result desks c.in_ok-desks.ensures.value c.desks_of.ensures.ready in
     let all = all_ready locks clients desks.items (ready locks c.args.feeder.now (counted locks 1 c.args.feeder.now clients c.requires)) in
-    (All-pop (λ (d : Desk ℕ). IsReady locks d.seat) desks.items c.pop.new.self.items (Some c.in_ok-seat.field-0) c.in_ok-seat.ensures.items all).1
+    (All-pop (λ (d : Desk ℕ). IsReadyToHand locks d.seat) desks.items c.pop.new.self.items (Some c.in_ok-seat.field-0) c.in_ok-seat.ensures.items all).1.ready
+
+pub returns-clause-none : goal.returns-clause-none
+returns-clause-none c =
+    let locks = c.args.adapter.now in let clients = c.args.clients.items in let desks = c.in_ok-desks.desks in
+    let ready = if_some (λ (v : Vec (Desk ℕ) Global). (ls : List TableId) (f : Caller) → AreFreshCallers ls (length clients) f clients → AreReady ls clients (map (λ (d : Desk ℕ). d.seat) v.items))
+    c.desks_of.result desks c.in_ok-desks.ensures.value c.desks_of.ensures.ready in
+    let all = all_ready locks clients desks.items (ready locks c.args.feeder.now (counted locks 1 c.args.feeder.now clients c.requires)) in
+    (All-pop (λ (d : Desk ℕ). IsReadyToHand locks d.seat) desks.items c.pop.new.self.items (Some c.in_ok-seat.field-0) c.in_ok-seat.ensures.items all).1.none
 
 pub returns-clause-feeder : goal.returns-clause-feeder
 returns-clause-feeder c = let f = c.requires.first in (caller_fits 2 c.args.adapter.now 0 (2 ^ 44) c.args.feeder.now f, f.calls)
