@@ -1,4 +1,5 @@
 mod Books
+mod Feeding
 mod Filled
 mod Handover
 mod Logged

@@ -219,7 +219,7 @@ fn forgotten<R: Threads + Wait + Sync>(
 }
 
 // What a seat has handed over of so many polls.
-fn counted<R: Wait>(rt: &R, alloc: Global, polls: usize) -> Option<(Counted, usize)> {
+fn counts_of<R: Wait>(rt: &R, alloc: Global, polls: usize) -> Option<(Counted, usize)> {
     let (adapter, feeder, clients) = Adapter::new(alloc, 1).ok()?;
     let mut seat = one_seat(&adapter, &feeder, alloc, clients)?;
     let mut at = JournalLine {
@@ -243,7 +243,7 @@ fn a_server_that_keeps_nothing_ends_as_ever(rt: HostRuntime) {
 
 #[test]
 fn behind_each_request_a_seat_has_handed_over_its_calls(rt: HostRuntime) {
-    let Some((journal, left)) = counted(&rt, rt.alloc(), 1000) else {
+    let Some((journal, left)) = counts_of(&rt, rt.alloc(), 1000) else {
         panic!(rt; "no memory");
     };
     assert!(rt; journal.calls == 1000 && journal.most == 1 && journal.is_right && left == 0);

@@ -8,4 +8,4 @@ pub returns : goal.returns
 returns g c whole =
     let w = c.write.ensures whole in
     let made = on_ok c.add_call-made.result _ w.0 c.add_call-made.ensures in
-    (w.1.0, subst (λ (l : List ℕ). Appends (g.K.Sink.end c.args.self.now.sink).written (g.K.Sink.end c.write.new.self.sink).written l) made w.1.1)
+    (w.1, subst (λ (l : List ℕ). Appends (g.K.Sink.end c.args.self.now.sink).written (g.K.Sink.end c.write.new.self.sink).written l) made w.2)

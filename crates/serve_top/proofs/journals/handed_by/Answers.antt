@@ -1,0 +1,13 @@
+use Rattle.std.proofs.Common.{[], ◌∷◌, ◌++◌, List, subst}
+use Rattle.adapter.specs.Callers.{Caller}
+use Rattle.adapter.specs.Ends.{HaveHistories}
+use Rattle.serve_top.proofs.journals.handed_by.Goals as goal
+
+pub returns-clause-left : goal.returns-clause-left
+returns-clause-left g c = record {
+  head = λ taken given p. c.in_ok-head.ensures.head [] taken given p;
+  journals = c.in_ok-clients.ensures.journals;
+}
+
+pub returns-clause-histories : goal.returns-clause-histories
+returns-clause-histories g c = subst (λ (l : List Caller). HaveHistories (l ++ c.args.passing.feeder ∷ [])) c.in_ok-clients.ensures.clients c.gather.ensures.histories
