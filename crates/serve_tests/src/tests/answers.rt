@@ -1,8 +1,9 @@
 // What a seat answers, call by call.
-ghost use Rattle.std.specs.Prelude.{◌≡◌, ◌<◌, ◌≤◌, ◌^◌, [], length, IfSome};
+ghost use Rattle.std.specs.Prelude.{◌≡◌, ◌<◌, ◌≤◌, ◌^◌, length, IfSome};
 ghost use Rattle.adapter.specs.Callers.{AreFreshCallers};
 ghost use Rattle.adapter.specs.Rows.{Fits};
-ghost use Rattle.seats.specs.Seated.{log_of, IsFit, IsReady, MayLeave};
+ghost use Rattle.seats.specs.Handed.{IsReadyToHand};
+ghost use Rattle.seats.specs.Seated.{IsFit, IsReady, MayLeave};
 
 use super::request;
 use adapter::{Adapter, Client, Feeder};
@@ -36,7 +37,7 @@ pub fn one_seat(
 ) -> Option<Seat>
     requires { AreFreshCallers adapter.now 1 feeder.now clients.items }
     ensures ready { IfSome result (IsReady adapter.now) }
-    ensures none { IfSome result (λ seat. log_of seat ≡ []) }
+    ensures hand { IfSome result (IsReadyToHand adapter.now) }
     ensures feeder { Fits adapter.now feeder.now.passes × (feeder.now.left ≡ 2 ^ 44) }
 {
     let mut lines = Vec::new(alloc);

@@ -33,13 +33,13 @@ returns-clause-ready c =
     let all = all_ready locks clients desks.items (ready locks c.args.feeder.now (counted locks 1 c.args.feeder.now clients c.requires)) in
     (All-pop (λ (d : Desk ℕ). IsReadyToHand locks d.seat) desks.items c.pop.new.self.items (Some c.in_ok-seat.field-0) c.in_ok-seat.ensures.items all).1.ready
 
-pub returns-clause-none : goal.returns-clause-none
-returns-clause-none c =
+pub returns-clause-hand : goal.returns-clause-hand
+returns-clause-hand c =
     let locks = c.args.adapter.now in let clients = c.args.clients.items in let desks = c.in_ok-desks.desks in
     let ready = if_some (λ (v : Vec (Desk ℕ) Global). (ls : List TableId) (f : Caller) → AreFreshCallers ls (length clients) f clients → AreReady ls clients (map (λ (d : Desk ℕ). d.seat) v.items))
     c.desks_of.result desks c.in_ok-desks.ensures.value c.desks_of.ensures.ready in
     let all = all_ready locks clients desks.items (ready locks c.args.feeder.now (counted locks 1 c.args.feeder.now clients c.requires)) in
-    (All-pop (λ (d : Desk ℕ). IsReadyToHand locks d.seat) desks.items c.pop.new.self.items (Some c.in_ok-seat.field-0) c.in_ok-seat.ensures.items all).1.none
+    (All-pop (λ (d : Desk ℕ). IsReadyToHand locks d.seat) desks.items c.pop.new.self.items (Some c.in_ok-seat.field-0) c.in_ok-seat.ensures.items all).1
 
 pub returns-clause-feeder : goal.returns-clause-feeder
 returns-clause-feeder c = let f = c.requires.first in (caller_fits 2 c.args.adapter.now 0 (2 ^ 44) c.args.feeder.now f, f.calls)
