@@ -1,5 +1,5 @@
 // What a seat does for what it is asked, and what it tells.
-ghost use Rattle.std.specs.Prelude.{◌≡◌, ◌≢◌, ◌<◌, ◌≤◌, ◌+◌, ◌⊎◌, ℕ, true, false, None, Some, length, slice_get, vec_capacity, IfOk, IfSome};
+ghost use Rattle.std.specs.Prelude.{◌≡◌, ◌≢◌, ◌<◌, ◌≤◌, ◌+◌, ◌⊎◌, [], ℕ, true, None, Some, length, slice_get, vec_capacity, IfOk, IfSome};
 ghost use Rattle.dmx_calls.specs.Calls.{invocation_of, response_of};
 ghost use Rattle.dmx_calls.specs.Log.{act_of};
 ghost use Rattle.dmx_calls.specs.declared.limits.TheConstants.{DEMUX_NODES as nodes};
