@@ -142,4 +142,4 @@ module _ (n : ℕ) (es : List LogEntry) (t : Tell) (bytes : List ℕ) where
   answered_by (Refused code) now is = (ap (numbered n) is.0, is.1)
 
   pub answered_numbered : (ask : Ask) (now : ℕ) → IsAnswered ask now es t bytes → IsAnswered ask now (numbered n es) t bytes
-  answered_numbered ask now is = ⊎_elim (λ by. inl (answered_by ask now by)) (λ none. inr (none.0, (ap (numbered n) none.1, none.2))) is
+  answered_numbered ask now is = ⊎_elim (λ by. inl (answered_by ask now by)) (λ none. inr (none.0, ap (numbered n) none.1, none.2)) is
