@@ -18,6 +18,11 @@ pub record IsReadyToHand (locks : List TableId) (s : Seat) : Type 0 where
   pub ready : IsReady locks s
   pub none : log_of s ≡ []
 
+-- each of these has served its line, as this relates what it was to what it is
+pub record HaveSat {D : Type 0} (sat : D → D → Type 0) (old new : List D) : Type 0 where
+  pub long : length new ≡ length old
+  pub each : (i : ℕ) (d : D) → i < length old → sat (slice_index_or old i d) (slice_index_or new i d)
+
 -- A line tells what is left of it to be read, and what was written to it; or it tells none of these. A journal says whether it was
 -- given these calls, and no others, between one state and another.
 module _ {T J : Type 0} (source : T → SourceEnd) (sink : T → SinkEnd) (may : ℕ → Bool)
@@ -35,8 +40,5 @@ module _ {T J : Type 0} (source : T → SourceEnd) (sink : T → SinkEnd) (may :
     pub left : (node : ℕ) → node ≤ DEMUX_NODES → HasLeft node new.client
 
   -- each of the seats has served its line
-  pub record HaveServedTo (locks : List TableId) (old new : List (Desk (JournalLine T J))) : Type 0 where
-    pub long : length new ≡ length old
-    pub each : (i : ℕ) (d : Desk (JournalLine T J)) → i < length old
-        → HasServedTo locks (slice_index_or old i d).line (slice_index_or new i d).line
-        (slice_index_or old i d).seat (slice_index_or new i d).seat
+  abbrev pub HaveServedTo : List TableId → (old new : List (Desk (JournalLine T J))) → Type 0
+  HaveServedTo locks old new = HaveSat (λ a b. HasServedTo locks a.line b.line a.seat b.seat) old new

@@ -1,7 +1,7 @@
 // A seat that hands its calls over to a journal, and keeps none.
-ghost use Rattle.std.specs.Prelude.{◌≡◌, ◌<◌, ◌≤◌, ◌+◌, ◌^◌, [], ℕ, List, All, length, IfOk, OnOk, OnErr};
+ghost use Rattle.std.specs.Prelude.{◌≡◌, ◌<◌, ◌≤◌, ◌+◌, ◌^◌, [], ℕ, Bool, List, All, length, IfOk, OnOk, OnErr};
 ghost use Rattle.atomic_table.specs.Seated.{TableId};
-ghost use Rattle.seats.specs.Handed.{IsReadyToHand, HasServedTo, HaveServedTo};
+ghost use Rattle.seats.specs.Handed.{IsReadyToHand, HasServedTo, HaveSat};
 ghost use Rattle.seats.specs.Numbered.{numbered};
 ghost use Rattle.seats.specs.Seated.{log_of, IsFit, HasRoom};
 
@@ -121,21 +121,49 @@ impl Seat {
     }
 }
 
+/// A desk whose seat serves its line, and keeps no calls. A closure that threads run may hold a value of one type parameter alone, which
+/// this is.
+pub trait Sitting {
+    /// Its seat is ready.
+    ghost ready: { List TableId → Self → Type 0 };
+
+    /// Its seat has served its line, at moments that the clock may give.
+    ghost sat: { (may : ℕ → Bool) → List TableId → Self → Self → Type 0 };
+
+    /// Its seat answers the requests of its line until that has ended or failed, and then closes what its program has.
+    fn sit<R: Wait, C: Clock>(&mut self, rt: &R, alloc: Global, adapter: &Adapter, clock: &C)
+        requires { ready adapter.now self.old }
+        ensures { sat (C.may_give clock.now) adapter.now self.old self.new };
+}
+
+impl<T: Source + Sink + Drop, J: Journal + Drop> Sitting for Desk<JournalLine<T, J>> {
+    ghost use Rattle.seats.specs.Handed.{IsReadyToHand, HasServedTo};
+
+    ghost ready = { λ locks d. IsReadyToHand locks d.seat };
+
+    ghost sat = { λ may locks a b. HasServedTo T.Source.end T.Sink.end may J.took locks a.line b.line a.seat b.seat };
+
+    fn sit<R: Wait, C: Clock>(&mut self, rt: &R, alloc: Global, adapter: &Adapter, clock: &C) {
+        self.seat.sit_to(rt, alloc, adapter, &mut self.line, clock)
+    }
+}
+
 /// Each seat, in a thread of its own, answers the requests of its line until that has ended or failed, and closes then what its
-/// program has. It hands its calls over to the line's journal, and keeps none.
-pub fn sit_all_to<
-    R: Threads + Wait + Sync,
-    T: Source + Sink + Send + Drop,
-    J: Journal + Send + Drop,
-    C: Clock + Sync,
->(rt: &R, alloc: Global, adapter: &Adapter, clock: &C, desks: &mut Vec<Desk<JournalLine<T, J>>>)
-    requires ready { All (λ d. IsReadyToHand adapter.now d.seat) desks.old.items }
-    ensures { HaveServedTo T.Source.end T.Sink.end (C.may_give clock.now) J.took adapter.now desks.old.items desks.new.items }
+/// program has. None keeps its calls.
+pub fn sit_all_to<R: Threads + Wait + Sync, D: Sitting + Send, C: Clock + Sync>(
+    rt: &R,
+    alloc: Global,
+    adapter: &Adapter,
+    clock: &C,
+    desks: &mut Vec<D>,
+)
+    requires ready { All (λ d. D.ready adapter.now d) desks.old.items }
+    ensures { HaveSat (D.sat (C.may_give clock.now) adapter.now) desks.old.items desks.new.items }
 {
-    let call = |_: usize, desk: &mut Desk<JournalLine<T, J>>|
-        requires { IsReadyToHand adapter.now desk.old.seat }
-        ensures { HasServedTo T.Source.end T.Sink.end (C.may_give clock.entry.now) J.took adapter.entry.now desk.old.line desk.new.line desk.old.seat desk.new.seat }
-    { desk.seat.sit_to(rt, alloc, adapter, &mut desk.line, clock) };
+    let call = |_: usize, desk: &mut D|
+        requires { D.ready adapter.now desk.old }
+        ensures { D.sat (C.may_give clock.entry.now) adapter.entry.now desk.old desk.new }
+    { desk.sit(rt, alloc, adapter, clock) };
     let threads = desks.len().max(1);
     thread::for_each_mut(rt, desks, threads, &call);
 }

@@ -50,7 +50,7 @@ mod seat;
 mod serve;
 
 pub use answers::Answered;
-pub use handing::sit_all_to;
+pub use handing::{Sitting, sit_all_to};
 pub use journal::{Forgotten, Journal, JournalLine};
 pub use laws::lines_are_played;
 pub use made::Made;

@@ -98,7 +98,7 @@ module _ {T J : Type 0} (source : T → SourceEnd) (sink : T → SinkEnd) (may :
     there : slice_get old k ≡ Some before
     made : MakesCalls 0 before.seat.client book d.seat.client
     became : List Outcome
-    answers : HasAnsweredAll source sink may before.line.line [] book [] became
+    answers : HasAnsweredAll source sink may before.line.line before.seat.client d.seat.client [] book [] became
     given : took book before.line.journal d.line.journal
     left : (node : ℕ) → node ≤ DEMUX_NODES → HasLeft node d.seat.client
 
@@ -232,11 +232,11 @@ module _ {T J : Type 0} (source : T → SourceEnd) (sink : T → SinkEnd) (may :
           let s = seat_of c book at in let a = s.2 in (
             a.before.line,
             ap (λ (l : List (JournalLine T J)). slice_get l c) (sym are) ∙ (slice_get-map (λ (d : Desk (JournalLine T J)). d.line) old c ∙ ap (option_map (λ (d : Desk (JournalLine T J)). d.line)) a.there),
-            a.became,
-            a.answers,
+            s.0.seat.client,
+            slice_get-map (λ (d : Desk (JournalLine T J)). d.seat.client) new c ∙ ap (option_map (λ (d : Desk (JournalLine T J)). d.seat.client)) s.1,
             s.0.line.journal,
             ap (λ (l : List J). slice_get l c) left.journals ∙ (slice_get-map (λ (d : Desk (JournalLine T J)). d.line.journal) new c ∙ ap (option_map (λ (d : Desk (JournalLine T J)). d.line.journal)) s.1),
-            a.given,
+            record { first = a.before.seat.client; became = a.became; answers = a.answers; given = a.given },
           );
       left = λ c client at node low.
           let v = mapped (λ (d : Desk (JournalLine T J)). d.seat.client) new c client at in

@@ -26,6 +26,15 @@ use Rattle.serve_top.specs.Reported.{every, fed_by}
 -- given these calls, or these batches, and no others, between one state and another.
 module _ {T J B : Type 0} (source : T → SourceEnd) (sink : T → SinkEnd) (took : List LogEntry → J → J → Type 0)
     (told : List Fed → B → B → Type 0) where
+  -- A seat has served its line: its client has made just these calls, by which it came to what it is now; they are those that the
+  -- requests of the line ask for, one after another, each told in its reply, and then those by which all nodes were closed, as by each
+  -- request to leave; and the line's journal was given just them.
+  pub record IsHandedOver (may : ℕ → Bool) (line : JournalLine T J) (client : Caller) (book : List LogEntry) (journal : J) : Type 0 where
+    pub first : Caller
+    pub became : List Outcome
+    pub answers : HasAnsweredAll source sink may line.line first client [] book [] became
+    pub given : took book line.journal journal
+
   -- What was read of the stream, what was called by whom and why, and what the journals were given: just this.
   pub record HasServedLines (lines : List (JournalLine T J)) (may : ℕ → Bool) (before after : SourceEnd) (was now : B)
       (end : Handed J) : Type 0 where
@@ -44,12 +53,11 @@ module _ {T J B : Type 0} (source : T → SourceEnd) (sink : T → SinkEnd) (too
     pub books : List (List LogEntry)
     pub called : HaveCalled every (fed_by (cut Of188 taken).packets) feeder feeding clients books
     pub histories : HaveHistories (clients ++ feeder ∷ [])
-    -- these are the calls that the requests of its line ask for, one after another, each told in its reply, and then those by which
-    -- all nodes were closed; and the line's journal was given just them
+    -- these are the calls that the requests of its line ask for, and the line's journal was given just them
     pub asked : (c : ℕ) (book : List LogEntry) → slice_get books c ≡ Some book
         → (line : JournalLine T J) × (slice_get (reverse lines) c ≡ Some line)
-        × (became : List Outcome) × HasAnsweredAll source sink may line.line [] book [] became
-        × (journal : J) × (slice_get end.journals.items c ≡ Some journal) × took book line.journal journal
+        × (client : Caller) × (slice_get clients c ≡ Some client)
+        × (journal : J) × (slice_get end.journals.items c ≡ Some journal) × IsHandedOver may line client book journal
     -- and behind them it owns no node
     pub left : (c : ℕ) (client : Caller) → slice_get clients c ≡ Some client → (node : ℕ) → node ≤ DEMUX_NODES
         → HasLeft node client

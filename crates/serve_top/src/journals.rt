@@ -1,11 +1,11 @@
 // A server that keeps no calls: its seats hand them over to journals.
-ghost use Rattle.std.specs.Prelude.{◌≡◌, ◌<◌, ◌≤◌, ◌^◌, ◌-◌, ◌++◌, ◌∷◌, [], ℕ, Bool, List, map, vec_len, IfOk};
-ghost use denote.Param.Send.{IsSync};
-ghost use Rattle.atomic_table.specs.Seated.{TableId};
+ghost use Rattle.std.specs.Prelude.{◌≡◌, ◌<◌, ◌≤◌, ◌^◌, ◌-◌, ◌++◌, ◌∷◌, [], map, vec_len, All, IfOk};
+ghost use denote.Param.Send.{IsSync, IsSend};
 ghost use Rattle.adapter.specs.Callers.{AreAllCallers};
 ghost use Rattle.adapter.specs.Ends.{HaveHistories};
 ghost use Rattle.adapter.specs.Nodes.{is_in};
 ghost use Rattle.feed_pull.specs.Pulling.{IsDone};
+ghost use Rattle.seats.specs.Handed.{HaveSat};
 ghost use Rattle.serve_top.specs.Journaled.{HasServedLines, IsHandedBy};
 ghost use Rattle.serve_top.specs.Inside.PassedOn.{MayPassOn, HasPassedOn, HasWorkedOn};
 
@@ -14,7 +14,7 @@ use crate::server::{ALL, NoReport, no_report};
 use adapter::{Adapter, Client};
 use dmx_calls::limits::NODES;
 use emu_io::{Clock, Gate, Sink, Source};
-use seats::{Desk, Journal, JournalLine, Seat, desks_of, sit_all_to};
+use seats::{Desk, Journal, JournalLine, Seat, Sitting, desks_of, sit_all_to};
 use std::alloc::{AllocError as NoMemory, Global};
 use std::sync::Wait;
 use std::thread::{Threads, join_mut};
@@ -27,50 +27,6 @@ pub struct Handed<J: Drop> {
     pub head: Head,
     /// The journals of the lines, that of the last line first.
     pub journals: Vec<J>,
-}
-
-// Desks whose seats serve their lines. A closure that a thread runs may hold a value of one type parameter alone, which this is.
-trait Sitting {
-    // Their seats are ready.
-    ghost ready: { List TableId → Self → Type 0 };
-    // Each of their seats has served its line.
-    ghost sat: { (may : ℕ → Bool) → List TableId → Self → Self → Type 0 };
-
-    // Each seat serves its line, in a thread of its own.
-    fn sit_all<R: Threads + Wait + Sync, C: Clock + Sync>(
-        &mut self,
-        rt: &R,
-        alloc: Global,
-        adapter: &Adapter,
-        clock: &C,
-    )
-        requires { ready adapter.now self.old }
-        ensures { sat (C.may_give clock.now) adapter.now self.old self.new };
-}
-
-// Desks whose lines have journals.
-#[derive(Drop)]
-struct JournalDesks<T: Drop, J: Drop> {
-    all: Vec<Desk<JournalLine<T, J>>>,
-}
-
-impl<T: Source + Sink + Send + Drop, J: Journal + Send + Drop> Sitting for JournalDesks<T, J> {
-    ghost use Rattle.std.specs.Prelude.{All};
-    ghost use Rattle.seats.specs.Handed.{IsReadyToHand, HaveServedTo};
-
-    ghost ready = { λ locks s. All (λ d. IsReadyToHand locks d.seat) s.all.items };
-
-    ghost sat = { λ may locks a b. HaveServedTo T.Source.end T.Sink.end may J.took locks a.all.items b.all.items };
-
-    fn sit_all<R: Threads + Wait + Sync, C: Clock + Sync>(
-        &mut self,
-        rt: &R,
-        alloc: Global,
-        adapter: &Adapter,
-        clock: &C,
-    ) {
-        sit_all_to(rt, alloc, adapter, clock, &mut self.all)
-    }
 }
 
 // The stream passes these nodes in this thread, while each seat serves its line in another. Where no thread can be made for them, the
@@ -87,7 +43,7 @@ fn sit_and_pass<
     alloc: Global,
     adapter: &Adapter,
     passing: &mut Passing,
-    desks: &mut D,
+    desks: &mut Vec<D>,
     source: &mut S,
     batches: &mut B,
     nodes: &[bool; NODES as usize],
@@ -96,9 +52,9 @@ fn sit_and_pass<
 )
     requires passing { MayPassOn (S.end source.old).faults adapter.now passing.old }
     requires begun { HasPassedOn (is_in nodes.now) (C.may_give clock.now) B.took (S.end source.old) (S.end source.old) passing.old.puller batches.old batches.old passing.old }
-    requires desks { D.ready adapter.now desks.old }
+    requires desks { All (λ d. D.ready adapter.now d) desks.old.items }
     ensures passing { HasWorkedOn (is_in nodes.now) (C.may_give clock.now) B.took (S.end source.old) (S.end source.new) batches.old batches.new passing.old passing.new }
-    ensures desks { D.sat (C.may_give clock.now) adapter.now desks.old desks.new }
+    ensures desks { HaveSat (D.sat (C.may_give clock.now) adapter.now) desks.old.items desks.new.items }
 {
     let mut first = ||
         requires may { MayPassOn (S.end source.now).faults adapter.now passing.now }
@@ -106,9 +62,9 @@ fn sit_and_pass<
         ensures { HasWorkedOn (is_in nodes.entry.now) (C.may_give clock.entry.now) B.took (S.end source.entry.now) (S.end source.exit.now) batches.entry.now batches.exit.now passing.entry.now passing.exit.now }
     { passing.work(rt, adapter, source, batches, nodes, clock, gate) };
     let mut others = ||
-        requires { IsSync R.row × IsSync C.row × D.ready adapter.now desks.now }
-        ensures { D.sat (C.may_give clock.entry.now) adapter.entry.now desks.entry.now desks.exit.now }
-    { desks.sit_all(rt, alloc, adapter, clock) };
+        requires { IsSync R.row × IsSync C.row × IsSend D.row × All (λ d. D.ready adapter.now d) desks.now.items }
+        ensures { HaveSat (D.sat (C.may_give clock.entry.now) adapter.entry.now) desks.entry.now.items desks.exit.now.items }
+    { sit_all_to(rt, alloc, adapter, clock, desks) };
     join_mut(rt, &mut others, &mut first);
 }
 
@@ -182,8 +138,7 @@ pub fn serve_to<
     ensures { IfOk result (HasServedLines T.Source.end T.Sink.end J.took B.took lines.items (C.may_give clock.now) (S.end source.old) (S.end source.new) batches.old batches.new) }
 {
     let (adapter, feeder, clients) = Adapter::new(alloc, lines.len() as u32)?;
-    let all = desks_of(alloc, clients, lines)?;
-    let mut desks = JournalDesks { all };
+    let mut desks = desks_of(alloc, clients, lines)?;
     let mut passing = Passing::new(alloc, feeder)?;
     sit_and_pass(
         rt,
@@ -200,5 +155,5 @@ pub fn serve_to<
     if let Some(stop) = passing.stop {
         return Err(no_report(stop));
     }
-    Ok(handed_by(alloc, &adapter, passing, desks.all)?)
+    Ok(handed_by(alloc, &adapter, passing, desks)?)
 }

@@ -25,7 +25,7 @@ sit_and_pass-requires-clause-begun g c κs within =
 pub sit_and_pass-requires-clause-desks : goal.sit_and_pass-requires-clause-desks
 sit_and_pass-requires-clause-desks g c κs within =
     let a = c.in_ok-adapter in
-    desks_ready a.adapter a.clients.items c.in_ok-all.all.items (c.in_ok-all.ensures.ready a.adapter a.feeder (counted a.adapter _ a.feeder a.clients.items a.ensures.fresh))
+    desks_ready a.adapter a.clients.items c.in_ok-desks.desks.items (c.in_ok-desks.ensures.ready a.adapter a.feeder (counted a.adapter _ a.feeder a.clients.items a.ensures.fresh))
 
 pub handed_by-requires-clause-done : goal.handed_by-requires-clause-done
 handed_by-requires-clause-done g c = (c.sit_and_pass.ensures.passing.all (no_stop _ c.in_default.is)).done
@@ -33,14 +33,14 @@ handed_by-requires-clause-done g c = (c.sit_and_pass.ensures.passing.all (no_sto
 pub handed_by-requires-clause-all : goal.handed_by-requires-clause-all
 handed_by-requires-clause-all g c =
     let a = c.in_ok-adapter in let e = c.sit_and_pass.ensures in
-    still_callers g.T.Source.end g.T.Sink.end (g.C.Clock.may_give c.args.clock.now) g.J.Journal.took a.adapter _ a.feeder a.clients.items a.ensures.fresh a.ensures.all c.in_ok-all.all.items c.sit_and_pass.new.desks.all.items
-    (c.in_ok-all.ensures.ready a.adapter a.feeder (counted a.adapter _ a.feeder a.clients.items a.ensures.fresh)) e.desks
+    still_callers g.T.Source.end g.T.Sink.end (g.C.Clock.may_give c.args.clock.now) g.J.Journal.took a.adapter _ a.feeder a.clients.items a.ensures.fresh a.ensures.all c.in_ok-desks.desks.items c.sit_and_pass.new.desks.items
+    (c.in_ok-desks.ensures.ready a.adapter a.feeder (counted a.adapter _ a.feeder a.clients.items a.ensures.fresh)) e.desks
     c.sit_and_pass.new.passing.feeder (subst (λ (f : Caller). IsSameCaller f c.sit_and_pass.new.passing.feeder) c.in_ok-passing.ensures.caller e.passing.same)
 
 pub returns : goal.returns
 returns g c =
     let a = c.in_ok-adapter in let e = c.sit_and_pass.ensures in
-    has_served g.T.Source.end g.T.Sink.end (g.C.Clock.may_give c.args.clock.now) g.J.Journal.took a.adapter _ a.feeder a.clients.items a.ensures.fresh a.ensures.all c.in_ok-all.all.items c.sit_and_pass.new.desks.all.items
-    (c.in_ok-all.ensures.ready a.adapter a.feeder (counted a.adapter _ a.feeder a.clients.items a.ensures.fresh)) e.desks
-    g.B.Batches.took c.args.lines.items c.in_ok-all.ensures.lines _ _ c.args.batches.now c.sit_and_pass.new.batches c.in_ok-passing.passing c.sit_and_pass.new.passing c.in_ok-passing.ensures
+    has_served g.T.Source.end g.T.Sink.end (g.C.Clock.may_give c.args.clock.now) g.J.Journal.took a.adapter _ a.feeder a.clients.items a.ensures.fresh a.ensures.all c.in_ok-desks.desks.items c.sit_and_pass.new.desks.items
+    (c.in_ok-desks.ensures.ready a.adapter a.feeder (counted a.adapter _ a.feeder a.clients.items a.ensures.fresh)) e.desks
+    g.B.Batches.took c.args.lines.items c.in_ok-desks.ensures.lines _ _ c.args.batches.now c.sit_and_pass.new.batches c.in_ok-passing.passing c.sit_and_pass.new.passing c.in_ok-passing.ensures
     _ refl e.passing (e.passing.all (no_stop _ c.in_default.is)) c.in_ok-handed_by.handed c.in_ok-handed_by.ensures.left c.in_ok-handed_by.ensures.histories
