@@ -14,7 +14,6 @@ use Rattle.seats.specs.Doing.{DoesCommand, ClosesHeld}
 use Rattle.seats.specs.Holding.{holds, CloseHeld}
 use Rattle.seats.specs.Seated.{log_of, told_made, GoesOn}
 use Rattle.seats.proofs.Doing.{log_more}
-use Rattle.seats.proofs.Going.{goes_trans}
 use Rattle.seats.proofs.Keeping.{the_calls}
 use Rattle.seats.proofs.Marking.{marked_is}
 use Rattle.seats.proofs.Spelling.{tap_behind}
@@ -48,5 +47,5 @@ closes_one node at old new d low held gone calls m is =
 pub closes_more : (a b c : Seat) → GoesOn a b → GoesOn b c → ClosesHeld a b → ClosesHeld b c → ClosesHeld a c
 closes_more a b c x y k l gone calls m is =
     let before : gone ++ log_of b ≡ (gone ++ log_of a) ++ x.calls = ap (λ (z : List LogEntry). gone ++ z) x.log ∙ sym (append_assoc gone (log_of a) x.calls) in
-    subst (CloseHeld (gone ++ log_of a)) (sym (the_calls a c calls (x.calls ++ y.calls) is (goes_trans a b c x y).log))
+    subst (CloseHeld (gone ++ log_of a)) (sym (the_calls a c calls (x.calls ++ y.calls) is (y.log ∙ (ap (λ (z : List LogEntry). z ++ y.calls) x.log ∙ append_assoc (log_of a) x.calls y.calls))))
     (held_both (gone ++ log_of a) x.calls y.calls (k gone x.calls m x.log) (subst (λ (z : List LogEntry). CloseHeld z y.calls) before (l gone y.calls (x.marks gone m) y.log)))

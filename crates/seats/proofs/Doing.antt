@@ -263,7 +263,11 @@ module _ (ask : Ask) (now : ℕ) where
   -- for want of memory
   pub answered_wanting : (s : Seat) (t : Tell) (o : Option ℕ) → ask ≢ Leave → (t ≡ refusal ENOMEM) × (o ≡ None)
       → Does (λ calls. IsAnswered ask now calls t (data_read (call_at s.made.items o))) s s
-  answered_wanting s t o other told = record { more = []; has = made_none s; is = inr (other, (refl, (told.0, nothing_read s o told.1))) }
+  answered_wanting s t o other told = record { more = []; has = made_none s; is = inr (other, refl, (told.0, nothing_read s o told.1)) }
+
+  -- where no call is told
+  pub answered_untold : (old new : Seat) (t : Tell) (o : Option ℕ) → o ≡ None → Does (λ calls. IsAnswered ask now calls t (data_read (call_at new.made.items o))) old new → Does (λ calls. IsAnswered ask now calls t []) old new
+  answered_untold old new t o none d = subst (λ (bytes : List ℕ). Does (λ calls. IsAnswered ask now calls t bytes) old new) (nothing_read new o none) d
 
 pub has_answered : (ask : Ask) (now : ℕ) (old mid new : Seat) (t : Tell) (bytes : List ℕ) → log_of mid ≡ log_of old → mid.outcomes.items ≡ old.outcomes.items → mid.held ≡ old.held → KeepsBy ask mid new
     → GoesOn old new → (ask ≡ Leave → HasGone mid new) → Does (λ calls. IsAnswered ask now calls t bytes) mid new → HasAnswered ask now old new t bytes

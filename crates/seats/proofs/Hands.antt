@@ -17,7 +17,7 @@ use Rattle.seats.specs.Holding.{holds, AreMarked, GivesBack}
 use Rattle.seats.specs.Numbered.{numbered}
 use Rattle.seats.specs.Seated.{log_of, told_made, AreOnNodes, GoesOn}
 use Rattle.seats.specs.Spelled.{outcomes_by}
-use Rattle.seats.specs.Turns.{Turn, IsTurn, IsLeaving, calls_of, spelled, MakesTurns, MakesTurn, MakesLast, IsAsked, IsTold, AreTold, IsLast, HasTurned, HasAnsweredAll}
+use Rattle.seats.specs.Turns.{Turn, IsTurn, calls_of, spelled, MakesTurns, MakesTurn, MakesLast, IsAsked, IsTold, AreTold, IsLast, HasTurned, HasAnsweredAll}
 use Rattle.seats.proofs.Doing.{log_more}
 use Rattle.seats.proofs.Going.{calls_trans}
 use Rattle.seats.proofs.Keeping.{the_calls}
@@ -228,10 +228,10 @@ module _ {T J : Type 0} (source : T → SourceEnd) (sink : T → SinkEnd) (may :
         let gone = map (told_made new.who) d.more in
         let lasts = from_steps n one.0 in let leaving = numbered m gone in let grown = log_more new last d.more d.has in
         let whole : all_calls h.handed new ≡ calls_of (h.turns ++ lasts) =
-            all_more h.handed s new (calls_of one.0) one.2
-            ∙ (ap (λ (l : List LogEntry). l ++ numbered n (calls_of one.0)) h.calls
-            ∙ (ap (λ (l : List LogEntry). calls_of h.turns ++ l) (last_calls source sink may n at one.0 one.1)
-            ∙ sym (flat_map-append (λ (t : Turn). t.calls) h.turns lasts))) in
+        all_more h.handed s new (calls_of one.0) one.2
+        ∙ (ap (λ (l : List LogEntry). l ++ numbered n (calls_of one.0)) h.calls
+        ∙ (ap (λ (l : List LogEntry). calls_of h.turns ++ l) (last_calls source sink may n at one.0 one.1)
+        ∙ sym (flat_map-append (λ (t : Turn). t.calls) h.turns lasts))) in
         let marked = marked_goes h.handed s new on h.marked in
         let makes : MakesCalls (length (log_of new)) new.client gone last.client = subst (λ (l : List LogEntry). MakesCalls (length (log_of new)) new.client l last.client) (the_calls new last goes.calls gone goes.log grown) goes.made in (
           outcomes_by 0 0 (spelled (h.turns ++ lasts) leaving),

@@ -1,6 +1,6 @@
 -- Calls with other numbers: what is said of the calls for a request holds whatever their numbers are.
 use Rattle.std.proofs.Common.{◌≡◌, ◌⊎◌, ⊎_elim, inl, inr, ℕ, zero, suc, ◌+◌, ◌<◌, ◌≤◌, Bool, true, List, [], ◌∷◌, ◌++◌, length, Option, Some, None, refl, ap, sym, ◌∙◌, subst, arith}
-use Rattle.std.specs.Prelude.{slice_get, All, if◌then◌else◌, nat_eq}
+use Rattle.std.specs.Prelude.{slice_get, if◌then◌else◌, nat_eq}
 use Rattle.std.proofs.lemmas.List.{append-nil, append_assoc}
 use Rattle.std.proofs.lemmas.List.Elements.{All-nil, All-cons, All-head, All-tail}
 use Rattle.dmx_calls.specs.declared.log.Act.{Act}
@@ -142,4 +142,4 @@ module _ (n : ℕ) (es : List LogEntry) (t : Tell) (bytes : List ℕ) where
   answered_by (Refused code) now is = (ap (numbered n) is.0, is.1)
 
   pub answered_numbered : (ask : Ask) (now : ℕ) → IsAnswered ask now es t bytes → IsAnswered ask now (numbered n es) t bytes
-  answered_numbered ask now is = ⊎_elim (λ by. inl (answered_by ask now by)) (λ none. inr (none.0, (ap (numbered n) none.1, none.2))) is
+  answered_numbered ask now is = ⊎_elim (λ by. inl (answered_by ask now by)) (λ none. inr (none.0, ap (numbered n) none.1, none.2)) is

@@ -2,7 +2,7 @@ use Rattle.std.proofs.Common.{sym, subst, refl}
 use Rattle.serve_frames.specs.declared.ask.Ask.{Ask}
 use Rattle.seats.specs.Doing.{KeepsBy}
 use Rattle.seats.specs.Spelled.{commands_done_by}
-use Rattle.seats.proofs.Doing.{answered_leave, answered_wanting}
+use Rattle.seats.proofs.Doing.{answered_leave, answered_untold, answered_wanting}
 use Rattle.seats.proofs.Going.{goes_self}
 use Rattle.seats.proofs.Keeping.{keeps_none, none_done}
 use Rattle.seats.proofs.seat.Seat.done_without.Goals as goal
@@ -11,7 +11,9 @@ pub returns-in-Leave-clause-room : goal.returns-in-Leave-clause-room
 returns-in-Leave-clause-room g c node low held = absurd (c.leave.ensures.free node low held)
 
 pub returns-in-Leave-clause-did : goal.returns-in-Leave-clause-did
-returns-in-Leave-clause-did g c now = answered_leave c.args.ask now c.args.self.now c.leave.new.self _ _ c.in-Leave.is c.leave.ensures.did c.refused.ensures
+returns-in-Leave-clause-did g c now =
+    answered_untold c.args.ask now c.args.self.now c.leave.new.self c.refused.result.tell c.refused.result.at c.refused.ensures.1
+    (answered_leave c.args.ask now c.args.self.now c.leave.new.self c.refused.result.tell c.refused.result.at c.in-Leave.is c.leave.ensures.did c.refused.ensures)
 
 pub returns-in-Leave-clause-kept : goal.returns-in-Leave-clause-kept
 returns-in-Leave-clause-kept g c = subst (λ (a : Ask). KeepsBy a c.args.self.now c.leave.new.self) (sym c.in-Leave.is) c.leave.ensures.kept
@@ -23,7 +25,10 @@ pub returns-in_default-clause-goes : goal.returns-in_default-clause-goes
 returns-in_default-clause-goes g c = goes_self c.args.self.now
 
 pub returns-in_default-clause-did : goal.returns-in_default-clause-did
-returns-in_default-clause-did g c now = answered_wanting c.args.ask now c.args.self.now _ _ c.in_default.is-not c.refused-in_default.ensures
+returns-in_default-clause-did g c now =
+    let r = c.refused-in_default in
+    answered_untold c.args.ask now c.args.self.now c.args.self.now r.result.tell r.result.at r.ensures.1
+    (answered_wanting c.args.ask now c.args.self.now r.result.tell r.result.at c.in_default.not-Leave r.ensures)
 
 pub returns-in_default-clause-kept : goal.returns-in_default-clause-kept
 returns-in_default-clause-kept g c = keeps_none (commands_done_by c.args.ask) c.args.self.now c.args.self.now (none_done c.args.ask) refl refl

@@ -1,5 +1,4 @@
 use Rattle.std.proofs.Common.{rules, ◌≡◌, Bool, get_or, false, true, Some, refl, ap, sym, ◌∙◌}
-use Rattle.std.specs.Prelude.{slice_get}
 use Rattle.std.proofs.lemmas.Option.{slice_get-get_or, get_or_from_slice_get}
 use Rattle.serve_frames.specs.declared.ask.Ask.TheVariants.{Leave}
 use Rattle.seats.specs.Spelled.{commands_done_by}
