@@ -20,7 +20,7 @@ sit_and_pass-requires-clause-passing g c κs within =
 pub sit_and_pass-requires-clause-begun : goal.sit_and_pass-requires-clause-begun
 sit_and_pass-requires-clause-begun g c κs within =
     let a = c.in_ok-adapter in
-    begun_passed a.adapter _ a.feeder a.clients.items a.ensures.fresh a.ensures.all c.in_ok-passing.passing c.in_ok-passing.ensures _ _ g.B.Batches.took _ _ (g.met.B.Batches.took_none _)
+    begun_passed a.adapter _ a.feeder a.clients.items a.ensures.fresh a.ensures.all c.in_ok-passing.passing c.in_ok-passing.ensures _ _ g.B.Batches.took _ _ ((g.met.B.Batches g.world.𝓛 g.world.𝓜 g.world.𝓡 ((λ s x. x), (λ x. x), (λ x. x), λ x. x)).took_none _)
 
 pub sit_and_pass-requires-clause-desks : goal.sit_and_pass-requires-clause-desks
 sit_and_pass-requires-clause-desks g c κs within =
@@ -43,4 +43,4 @@ returns g c =
     has_served g.T.Source.end g.T.Sink.end (g.C.Clock.may_give c.args.clock.now) g.J.Journal.took a.adapter _ a.feeder a.clients.items a.ensures.fresh a.ensures.all c.in_ok-desks.desks.items c.sit_and_pass.new.desks.items
     (c.in_ok-desks.ensures.ready a.adapter a.feeder (counted a.adapter _ a.feeder a.clients.items a.ensures.fresh)) e.desks
     g.B.Batches.took c.args.lines.items c.in_ok-desks.ensures.lines _ _ c.args.batches.now c.sit_and_pass.new.batches c.in_ok-passing.passing c.sit_and_pass.new.passing c.in_ok-passing.ensures
-    _ refl e.passing (e.passing.all (no_stop _ c.in_default.is)) c.in_ok-handed_by.handed c.in_ok-handed_by.ensures.left c.in_ok-handed_by.ensures.histories
+    _ refl e.passing (e.passing.all (no_stop _ c.in_default.is)) c.in_ok-handed_by.field-0 c.in_ok-handed_by.ensures.left c.in_ok-handed_by.ensures.histories

@@ -1,11 +1,14 @@
-use Rattle.std.proofs.Common.{◌≡◌, List, ℕ, subst}
+use Rattle.std.proofs.Common.{rules, ◌≡◌, ◌∙◌, ◌++◌, [], List, ℕ, ap, subst}
 use Rattle.std.specs.Io.KnownBytes.{Appends}
+use Rattle.dmx_calls.specs.Calls.{told_entry}
 use Rattle.workers.proofs.FeederWork.{on_ok}
+use Rattle.serve_top.specs.Lines.{call_line}
 use Rattle.serve_top.proofs.written.Written.put.Goals as goal
 
 -- the line was made, and then it was written
 pub returns : goal.returns
 returns g c whole =
     let w = c.write.ensures whole in
-    let made = on_ok c.add_call-made.result _ w.0 c.add_call-made.ensures in
+    let none : c.clear.new.self.items ≡ [] = search rules in
+    let made = on_ok c.add_call-made.result _ w.0 c.add_call-made.ensures ∙ ap (λ (l : List ℕ). l ++ call_line (told_entry c.args.entry.now)) none in
     (w.1, subst (λ (l : List ℕ). Appends (g.K.Sink.end c.args.self.now.sink).written (g.K.Sink.end c.write.new.self.sink).written l) made w.2)

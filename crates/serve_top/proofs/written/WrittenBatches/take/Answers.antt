@@ -1,11 +1,13 @@
-use Rattle.std.proofs.Common.{◌≡◌, List, ℕ, subst}
+use Rattle.std.proofs.Common.{rules, ◌≡◌, ◌∙◌, ◌++◌, [], List, ℕ, ap, sym, subst, append-nil}
 use Rattle.std.specs.Io.KnownBytes.{Appends}
 use Rattle.workers.proofs.FeederWork.{on_ok}
+use Rattle.serve_top.specs.Lines.{fed_line}
 use Rattle.serve_top.proofs.written.WrittenBatches.take.Goals as goal
 
 -- the line was made, and then it was written
 pub returns : goal.returns
 returns g c whole =
     let w = c.write.ensures whole in
-    let made = on_ok c.add_fed-made.result _ w.0 c.add_fed-made.ensures in
+    let none : c.clear.new.self.items ≡ [] = search rules in
+    let made = on_ok c.add_fed-made.result _ w.0 c.add_fed-made.ensures ∙ (ap (λ (l : List ℕ). l ++ fed_line c.args.fed) none ∙ sym (append-nil (fed_line c.args.fed))) in
     (w.1, subst (λ (l : List ℕ). Appends (g.K.Sink.end c.args.self.now.sink).written (g.K.Sink.end c.write.new.self.sink).written l) made w.2)
