@@ -1,9 +1,14 @@
-use Rattle.std.proofs.Common.{rules, ◌≡◌, ◌<◌, ◌≤◌, [], length, refl}
+use Rattle.std.proofs.Common.{rules, ◌≡◌, ◌<◌, ◌≤◌, ℕ, [], ◌∷◌, length, refl, subst}
+use Rattle.dmx_calls.specs.declared.histories.Fed.{Fed}
 use Rattle.feed_pull.specs.Pulling.{IsDone, given_by}
 use Rattle.feed_pull.proofs.Drawing.{draws_none}
 use Rattle.adapter.specs.Nodes.{is_in}
 use Rattle.serve_top.proofs.PassedOn.{passed_none, passed_batch}
 use Rattle.serve_top.proofs.passing.Passing.turn.Goals as goal
+
+-- what holds of a batch holds of the same one
+same_fed : {first begun count long : ℕ} (now : ℕ) → first ≡ begun → count ≡ long → (P : Fed → Type 0) → P (record { first = first; count = count; now = now }) → P (record { first = begun; count = long; now = now })
+same_fed {first} {begun} {count} {long} now one two P p = subst (λ (n : ℕ). P (record { first = begun; count = n; now = now })) two (subst (λ (n : ℕ). P (record { first = n; count = count; now = now })) one p)
 
 pub returns-in_default-clause-passed : goal.returns-in_default-clause-passed
 returns-in_default-clause-passed g c before first was h =
@@ -24,6 +29,9 @@ returns-clause-passed g c before first was h =
     let some : 1 ≤ length batch.packets = search rules in
     let few : length batch.packets ≤ 64 = search rules in
     let done : length batch.packets < 64 → IsDone c.pull.new.self = search rules in
+    let one : c.first.result ≡ batch.first = search rules in
+    let two : c.count.result ≡ length batch.packets = search rules in
+    let told = same_fed c.now-now.result one two (λ (f : Fed). g.B.Batches.took (f ∷ []) c.args.batches.now c.take.new.self) c.take.ensures in
     passed_batch (is_in c.args.nodes.now) (g.C.Clock.may_give c.args.clock.now) g.B.Batches.took before _ _ first was c.args.batches.now c.args.self.now _ qs
     (record { carries = e.stream; follows = e.follows; start = e.start }) e.given h c.take.new.self batch c.now-now.result c.feed.result
-    g.met.B.Batches.took_both c.take.ensures is c.feed.ensures.same.0 c.feed.ensures.entries number some few c.now-now.ensures done e.stopped
+    g.met.B.Batches.took_both told is c.feed.ensures.same.0 c.feed.ensures.entries number some few c.now-now.ensures done e.stopped
