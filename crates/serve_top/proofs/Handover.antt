@@ -1,5 +1,5 @@
 -- Seats that have handed their calls over, and a feeder that has kept none: what they have called.
-use Rattle.std.proofs.Common.{◌≡◌, ◌≢◌, ⊎_elim, ℕ, zero, suc, Bool, true, ◌+◌, ◌<◌, ◌≤◌, ◌^◌, List, [], ◌∷◌, ◌++◌, length, map, replicate, reverse, Option, Some, None, refl, ap, sym, ◌∙◌, subst, arith, length-append}
+use Rattle.std.proofs.Common.{◌≡◌, ⊎_elim, ℕ, zero, suc, Bool, true, ◌+◌, ◌<◌, ◌≤◌, ◌^◌, List, [], ◌∷◌, ◌++◌, length, map, replicate, reverse, Option, Some, None, refl, ap, sym, ◌∙◌, subst, arith, length-append}
 use Rattle.std.specs.Prelude.{slice_get, slice_index_or, option_map, All, if◌then◌else◌}
 use Rattle.std.proofs.lemmas.List.{length-map}
 use Rattle.std.proofs.lemmas.Option.{slice_get-map, slice_get-get_or, get_or_from_slice_get, slice_get_within}
@@ -8,8 +8,8 @@ use Rattle.emu_io.specs.Ends.{SourceEnd, SinkEnd}
 use Rattle.ts_packet.specs.Cut.{cut}
 use Rattle.ts_packet.specs.declared.size.PacketSize.{PacketSize}
 use Rattle.ts_packet.specs.declared.size.PacketSize.TheVariants.{Of188}
-use Rattle.ts_watch.specs.Head.{told_head, head_of}
-use Rattle.feed_pull.specs.Pulling.{Pulling, Pulls, has_failed}
+use Rattle.ts_watch.specs.Head.{head_of}
+use Rattle.feed_pull.specs.Pulling.{Pulls, has_failed}
 use Rattle.feed_pull.proofs.PullLemmas.{Pulls-done}
 use Rattle.dmx_calls.specs.declared.histories.Fed.{Fed}
 use Rattle.dmx_calls.specs.declared.limits.TheConstants.{DEMUX_NODES}

@@ -1,10 +1,10 @@
 -- A feeder that keeps nothing of what it has passed.
-use Rattle.std.specs.Prelude.{◌≡◌, ◌≢◌, ◌⊎◌, ◌<◌, ◌≤◌, ◌+◌, ◌-◌, ◌^◌, ℕ, Bool, List, [], ◌∷◌, length, None, Some, All}
+use Rattle.std.specs.Prelude.{◌≡◌, ◌≢◌, ◌⊎◌, ◌<◌, ◌≤◌, ◌+◌, ◌-◌, ◌^◌, ℕ, Bool, List, [], ◌∷◌, length, Some, All}
 use Rattle.emu_io.specs.Ends.{SourceEnd}
 use Rattle.atomic_table.specs.Seated.{TableId}
 use Rattle.ts_packet.specs.declared.size.PacketSize.TheVariants.{Of188}
 use Rattle.client_core.specs.declared.stop.Stop.TheVariants.{NoMemory}
-use Rattle.feed_pull.specs.declared.fault.Reading.TheVariants.{Going, TooMany}
+use Rattle.feed_pull.specs.declared.fault.Reading.TheVariants.{Going}
 use Rattle.feed_pull.specs.Pulling.{Pulling, Pulls, IsDone}
 use Rattle.feed_pull.specs.Streams.{Draws}
 use Rattle.dmx_calls.specs.declared.histories.Fed.{Fed}

@@ -1,7 +1,6 @@
 -- Lines that are written one behind another.
-use Rattle.std.proofs.Common.{◌≡◌, true, List, [], ◌++◌, ℕ, sym, subst}
+use Rattle.std.proofs.Common.{List, [], ◌++◌, ℕ, sym, subst}
 use Rattle.std.specs.List.{flat_map}
-use Rattle.std.specs.Io.KnownBytes.{Appends}
 use Rattle.std.proofs.KnownBytes.{Appends-nil, Appends-trans}
 use Rattle.std.proofs.lemmas.List.Concat.{flat_map-append}
 use Rattle.emu_io.specs.Ends.{SinkEnd}

@@ -1,4 +1,4 @@
-use Rattle.std.proofs.Common.{rules, ◌≡◌, arith, refl, subst}
+use Rattle.std.proofs.Common.{arith, refl, subst}
 use Rattle.adapter.specs.Callers.{Caller, IsSameCaller}
 use Rattle.workers.proofs.Leaving.{no_stop}
 use Rattle.serve_top.proofs.Handover.{desks_ready, still_callers, has_served}

@@ -1,4 +1,4 @@
-use Rattle.std.proofs.Common.{◌++◌, [], refl}
+use Rattle.std.proofs.Common.{◌++◌, []}
 use Rattle.adapter.proofs.Everybody.{same_trans}
 use Rattle.feed_pull.proofs.Drawing.{draws_none, draws_then}
 use Rattle.feed_pull.proofs.Stopping.{still_counts}
