@@ -23,7 +23,8 @@
 //!
 //! Those calls are just the ones that the requests ask for, in the order in which these stand on the line: each request that was
 //! read whole is answered by the calls of the table, or, unless it is to leave, for want of memory by none; and the bytes written for it
-//! are the reply of the call whose place they name. Only the last reply of a line may be cut off. Behind them each node is closed at most once.
+//! are the reply of the call whose place they name. Only the last reply of a line may be cut off. Behind them each node is closed at
+//! most once.
 //!
 //! The requests of a line are the commands of a client of a script (`commands_done_by` in `specs/Spelled.antt` says which): where a
 //! script's client has just these, its commands ask for just these calls, by the replies before each, and what the seat keeps of
