@@ -52,7 +52,7 @@ int main(int count, char **words)
     ioctl(other, DMX_SET_BUFFER_SIZE, 65536), ioctl(other, DMX_ADD_PID, &pid), ioctl(other, DMX_REMOVE_PID, &pid);
     ioctl(fd, DMX_START), ioctl(fd, DMX_GET_STC, &stc), ioctl(fd, DMX_GET_PES_PIDS, pids);
     read(fd, bytes, 188), read(other, bytes, 4096), read(dvr, bytes, sizeof bytes), read(0, bytes, 0);
-    player = open(words[2], O_WRONLY), write(player, bytes, 12033), write(fd, bytes, 1), close(player);
+    player = open(words[2], O_WRONLY), write(player, bytes, 12033), write(player, NULL, 5), write(fd, bytes, 1), close(player);
     waits(fd);
     again = dup(fd), close(fd);
     pthread_create(&thread, NULL, stops, &again), pthread_join(thread, NULL);

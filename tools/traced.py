@@ -127,7 +127,7 @@ def bytes_at(thread, place, count):
         with open(f"/proc/{thread}/mem", "rb", buffering=0) as memory:
             memory.seek(place)
             return memory.read(count)
-    except OSError:
+    except (OSError, OverflowError):
         return b""
 
 

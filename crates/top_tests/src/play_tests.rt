@@ -69,7 +69,8 @@ static SESSIONS: [Session; 4] = [
         ..BATCHES
     },
     // Two clients, of which the owner of the dvr node plays. A section filter takes the stream alone, and its timeout is over with
-    // the second packet that is played. Behind the end of the stream there is still something to read.
+    // the second packet that is played, at 60, before the stream passes at 70. What each client writes is cut by itself. Behind the
+    // end of the stream there is still something to read.
     Session {
         rows: "c0 open dvr = done drop=0..0 tap=keep\n\
             c1 open n0 = done drop=0..0 tap=keep\n\
@@ -82,11 +83,12 @@ static SESSIONS: [Session; 4] = [
             ; passed ; passed ; passed ; passed ; passed ; passed ; passed ; passed\n\
             c1 write dvr 47010010|1*192 = EBADF\n\
             tick 60\n\
-            c1 write dvr |1*176 = EBADF\n\
             c0 write dvr 47010110|c*368 = ready readable=0 error=none at=0 ended=0 \
             ; passed ; passed ; passed ; passed ; passed ; passed ; passed ; passed ; passed ; passed ; passed ; passed \
             ; passed ; passed ; passed ; passed ; passed ; passed ; passed ; passed ; passed ; passed ; passed ; passed \
             ; passed ; passed ; passed ; passed ; passed ; passed ; passed ; passed\n\
+            c1 write dvr |1*176 = EBADF\n\
+            tick 10\n\
             c0 close dvr = done drop=0..0 tap=keep\n\
             c1 open dvr = done drop=0..0 tap=keep\n\
             feed 2\n\

@@ -1,6 +1,6 @@
 //! Whole reports, checked. The right one was worked out by hand from the rules.
 
-ghost use Rattle.std.specs.Prelude.{All};
+ghost use Rattle.std.specs.Prelude.{◌<◌, All};
 ghost use Rattle.ts_packet.specs.Fields.{IsPacket};
 
 use client_script::{MOST_BYTES, Script};

@@ -1,6 +1,6 @@
 //! Told histories, played again. What is told was worked out by hand from the rules.
 
-ghost use Rattle.std.specs.Prelude.{◌≡◌, ◌<◌, map, true, IfOk, All};
+ghost use Rattle.std.specs.Prelude.{◌≡◌, ◌<◌, [], map, true, IfOk, All};
 ghost use Rattle.dmx_calls.specs.Calls.{told_entry};
 ghost use Rattle.history_check.specs.Playing.{AreFewPackets, IsCallable, IsToldBy, brought_from};
 

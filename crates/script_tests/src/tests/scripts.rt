@@ -304,25 +304,31 @@ fn a_line_is_printed_behind_what_is_there(rt: HostRuntime) -> Result<(), Fail> {
     Ok(())
 }
 
-// Whether a line `write` with so many bytes of this kind is read, and printed as it was spelled.
-fn is_written(alloc: Global, count: usize, line: &[u8]) -> Result<bool, Fail> {
-    let digits = repeated(alloc, b'7', 2 * count)?;
-    let line = joined(alloc, &[line, &digits])?;
+// A line by which a client writes so many digits.
+fn writing(alloc: Global, count: usize) -> Result<Vec<u8>, Fail> {
+    let digits = repeated(alloc, b'7', count)?;
+    joined(alloc, &[b"c3 write dvr ", &digits])
+}
+
+// Whether such a line is read, and printed as it was spelled.
+fn is_written(alloc: Global, count: usize) -> Result<bool, Fail> {
+    let line = writing(alloc, count)?;
     is_its_spelling(alloc, &line)
 }
 
+// Whether such a line has a fault of its bytes.
+fn is_no_write(alloc: Global, count: usize) -> Result<bool, Fail> {
+    let line = writing(alloc, count)?;
+    line_has_fault(alloc, &[&line], FaultKind::Bytes)
+}
+
+// Two digits a byte.
 #[test]
 fn a_write_has_1_to_12032_bytes(rt: HostRuntime) -> Result<(), Fail> {
-    for (count, is) in [(0, false), (1, true), (12_032, true), (12_033, false)] {
-        assert_eq!(rt;
-            is_written(rt.alloc(), count, b"c3 write dvr ")?,
-            is,
-            "{count}"
-        );
+    for (count, is) in [(0, false), (2, true), (24_064, true), (24_066, false)] {
+        assert_eq!(rt; is_written(rt.alloc(), count)?, is, "{count}");
+        assert_eq!(rt; is_no_write(rt.alloc(), count)?, !is, "{count}");
     }
-    let command: &[u8] = b"c3 write dvr ";
-    let digits = repeated(rt.alloc(), b'7', 24_066)?;
-    assert!(rt; line_has_fault(rt.alloc(), &[command, &digits], FaultKind::Bytes)?);
     Ok(())
 }
 
