@@ -9,11 +9,11 @@
 //! `specs/Layout.antt` is the table: a row a request, which says where in the argument each field stands.
 //!
 //! What is proved: `decode` answers a request exactly where the number and the argument spell it, `Unknown` exactly where no
-//! request has the number, and `Length` exactly where one has it and its argument has another length, which `argument_len` tells.
-//! What stands in the bytes that no field has makes no difference. `encode` writes the argument into the first bytes and 0 behind it, and answers the
-//! number and the length. `one_request_is_spelled` and `what_is_written_spells_the_request` have these two laws as their
-//! contracts, and `written_and_read` that what `encode` writes is read as the request that it was. The numbers are made as
-//! the header makes them, of way, length, letter and place (`examples::numbers`).
+//! request has the number, and `Length` exactly where one has it and its argument has another length, which `argument_len`
+//! tells. What stands in the bytes that no field has makes no difference. `encode` writes the argument into the first bytes and
+//! 0 behind it, and answers the number and the length. `one_request_is_spelled` and `what_is_written_spells_the_request` have
+//! these two laws as their contracts, and `written_and_read` that what `encode` writes is read as the request that it was. The
+//! numbers are made as the header makes them, of way, length, letter and place (`examples::numbers`).
 //!
 //! What is only tested, in `request_tests`: that numbers, lengths and places are those of the header, by bytes that a program in
 //! C wrote; `tools/check-requests` compares the table itself with the header where there is one.

@@ -111,8 +111,9 @@ impl Wanted {
     }
 }
 
-/// A bell for each node: the file `bell.N` of the server's folder, of which a byte is written where packets that the node was asked for
-/// have passed since its program looked last. A program that waits is told by the system of that write (inotify), and then looks again.
+/// A bell for each node: the file `bell.N` of the server's folder, of which a byte is written where packets that the node was
+/// asked for have passed since its program looked last. A program that waits is told by the system of that write (inotify), and
+/// then looks again.
 ///
 /// A bell is a hint: it says neither that something is there nor that nothing is.
 #[derive(Drop)]
@@ -174,7 +175,8 @@ impl Bells {
         }
     }
 
-    /// A program's request was done, and not refused; it isn't told so yet. So what passes before its next look is found by that look.
+    /// A program's request was done, and not refused; it isn't told so yet. So what passes before its next look is found by
+    /// that look.
     pub fn note_done(&self, request: &[u8; REQUEST_LEN]) {
         if number_at(request, 0) != IOCTL {
             return;
@@ -247,8 +249,8 @@ impl Bells {
     }
 }
 
-/// The gate of the server: where the stream has been read to its end, all bells ring before each step of the feeder, and once more
-/// behind its last.
+/// The gate of the server: where the stream has been read to its end, all bells ring before each step of the feeder, and once
+/// more behind its last.
 #[derive(Drop)]
 pub struct LastBells {
     /// The bells.

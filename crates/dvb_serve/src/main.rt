@@ -2,15 +2,15 @@
 //! report of all their calls to standard output.
 //!
 //! `dvb_serve FOLDER SEATS` serves so many programs at once, 1 to 8, which come in by the named pipe `door` of the folder
-//! (`line`). A program that waits makes no call: it is told by the node's bell, a file of the folder (`bells`), that packets of its
-//! filter have passed. The server ends where the stream and the door have; `dvbemu-serve` starts and ends it.
+//! (`line`). A program that waits makes no call: it is told by the node's bell, a file of the folder (`bells`), that packets of
+//! its filter have passed. The server ends where the stream and the door have; `dvbemu-serve` starts and ends it.
 //!
-//! With a third word it keeps no call in memory, and writes no report: with `none` nothing is kept at all; with a folder KEEP each call
-//! is written into the file `N.calls` of its seat as it is made, each batch that passes into `batches`, and at the end, where all these
-//! are whole, what is known of the stream into `head`. `tools/merge` makes the report of them.
+//! With a third word it keeps no call in memory, and writes no report: with `none` nothing is kept at all; with a folder KEEP
+//! each call is written into the file `N.calls` of its seat as it is made, each batch that passes into `batches`, and at the
+//! end, where all these are whole, what is known of the stream into `head`. `tools/merge` makes the report of them.
 //!
-//! What is proved: that it is safe. What it does over any source, any lines and any journals is a clause of `serve_top`. Standard input,
-//! the pipes and the files tell no content, so over them nothing is said of bytes.
+//! What is proved: that it is safe. What it does over any source, any lines and any journals is a clause of `serve_top`.
+//! Standard input, the pipes and the files tell no content, so over them nothing is said of bytes.
 //!
 //! What is only tested, by the program's run and by `serve/check`: the words, the pipes and the exit status.
 #![tactic(auto)]

@@ -7,10 +7,10 @@
 //! which the batch keeps, so that each is copied once. More can wait than a pull asks for only after one that was refused
 //! memory; those that are given are then copied once more.
 //!
-//! What a contract sees: how many bytes a packet takes up, where the cutting stands, the packets that wait and how many there is room for, the unread bytes of
-//! the last read, how many packets were given, how many bytes and reads were taken, and how reading goes. `Pulls` says what
-//! that stands for: the bytes ahead, the bytes that the pulls took, and the packets that they gave; its watch was shown these
-//! and those that wait. `new` begins it with no bytes and no packets.
+//! What a contract sees: how many bytes a packet takes up, where the cutting stands, the packets that wait and how many there
+//! is room for, the unread bytes of the last read, how many packets were given, how many bytes and reads were taken, and how
+//! reading goes. `Pulls` says what that stands for: the bytes ahead, the bytes that the pulls took, and the packets that they
+//! gave; its watch was shown these and those that wait. `new` begins it with no bytes and no packets.
 //!
 //! What is proved: each pull keeps `Pulls`, where the bytes taken grow by just those that the source gave, and the packets
 //! given by those of the batch. So the batches joined are the front of the packets of the stream's cutting, each batch's

@@ -19,8 +19,8 @@ use std::{mem, thread};
 use steps::Steps;
 
 impl Seat {
-    // Hands over the calls that it keeps, before which it has made so many, and lets go of its commands too. It answers how many calls
-    // it has made in all.
+    // Hands over the calls that it keeps, before which it has made so many, and lets go of its commands too. It answers how
+    // many calls it has made in all.
     fn hand_over<J: Journal>(
         &mut self,
         alloc: Global,
@@ -57,9 +57,9 @@ impl Seat {
         }
     }
 
-    /// Answers the requests of its line until that has ended or failed, and then closes what its program has. Behind each request it
-    /// hands the calls that were made for it over to the journal, and keeps none of them; where memory is refused for that, with the
-    /// next.
+    /// Answers the requests of its line until that has ended or failed, and then closes what its program has. Behind each
+    /// request it hands the calls that were made for it over to the journal, and keeps none of them; where memory is refused
+    /// for that, with the next.
     pub fn serve_to<T: Source + Sink + Drop, J: Journal + Drop, C: Clock, L: Ledger, R: Wait>(
         &mut self,
         rt: &R,
@@ -121,8 +121,8 @@ impl Seat {
     }
 }
 
-/// A desk whose seat serves its line, and keeps no calls. A closure that threads run may hold a value of one type parameter alone, which
-/// this is.
+/// A desk whose seat serves its line, and keeps no calls. A closure that threads run may hold a value of one type parameter
+/// alone, which this is.
 pub trait Sitting {
     /// Its seat is ready.
     ghost ready: { List TableId → Self → Type 0 };

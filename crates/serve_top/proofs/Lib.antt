@@ -1,5 +1,4 @@
 mod Books
-mod Feeding
 mod Filled
 mod Handover
 mod Logged

@@ -18,8 +18,8 @@ use Rattle.adapter.specs.Rows.{Fits}
 use Rattle.adapter.proofs.Lists.{at_last}
 use Rattle.workers.specs.Feeding.{AreFullBatches, HasFed}
 use Rattle.workers.proofs.Beginning.{fed_none}
+use Rattle.workers.proofs.Feeding.{fed_more, fed_end, full_push}
 use Rattle.serve_top.specs.declared.passing.Passing.{Passing}
-use Rattle.serve_top.proofs.Feeding.{fed_more, fed_end, full_push}
 use Rattle.serve_top.specs.Inside.PassedOn.{IsNewPassing, IsFitPassing, HasPassedOn, HasPassedToEnd}
 
 module _ {B : Type 0} (among : ℕ → Bool) (may : ℕ → Bool) (took : List Fed → B → B → Type 0) where

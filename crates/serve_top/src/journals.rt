@@ -29,8 +29,8 @@ pub struct Handed<J: Drop> {
     pub journals: Vec<J>,
 }
 
-// The stream passes these nodes in this thread, while each seat serves its line in another. Where no thread can be made for them, the
-// seats come behind the stream.
+// The stream passes these nodes in this thread, while each seat serves its line in another. Where no thread can be made for
+// them, the seats come behind the stream.
 fn sit_and_pass<
     R: Threads + Wait + Sync,
     S: Source + Send,
@@ -108,9 +108,9 @@ fn handed_by<T: Drop, J: Drop>(
 }
 
 /// Passes the stream of a source through the 33 nodes, in batches of 64 packets and then its end, while for each line a seat
-/// answers its requests until it ends. What is called isn't kept: each line's journal is given its calls, and `batches` the batches, as
-/// they come; so the memory that it takes doesn't grow with time. Before each batch, and once more behind the end, it calls the gate as
-/// caller 0.
+/// answers its requests until it ends. What is called isn't kept: each line's journal is given its calls, and `batches` the
+/// batches, as they come; so the memory that it takes doesn't grow with time. Before each batch, and once more behind the end,
+/// it calls the gate as caller 0.
 ///
 /// # Errors
 ///

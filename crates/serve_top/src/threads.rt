@@ -34,8 +34,8 @@ pub fn feeder_of(alloc: Global, feeder: Feeder) -> Result<FeederWorker, NoMemory
     })
 }
 
-/// The stream passes these nodes in this thread, while each seat serves its line in another. Where no thread can be made for them, the seats
-/// come behind the stream.
+/// The stream passes these nodes in this thread, while each seat serves its line in another. Where no thread can be made for
+/// them, the seats come behind the stream.
 pub fn sit_and_feed<
     R: Threads + Wait + Sync,
     S: Source + Send,

@@ -12,7 +12,7 @@ pub mod Merged
 pub mod SoFar
 pub mod Ended
 pub mod Beginning
-mod Feeding
+pub mod Feeding
 pub mod FeederWork
 pub mod Leaving
 pub mod Lists

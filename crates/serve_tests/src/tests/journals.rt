@@ -74,8 +74,8 @@ fn files_of(
     })
 }
 
-// The lines of a program that opens the dvr node, polls it and closes it, and of one that closes a node that nobody has. Where those of
-// the first are written the writes with these numbers fail.
+// The lines of a program that opens the dvr node, polls it and closes it, and of one that closes a node that nobody has. Where
+// those of the first are written the writes with these numbers fail.
 fn lines_of(alloc: Global, fails: Vec<u64>) -> Option<Vec<JournalLine<MemLine, Written<MemSink>>>>
     ensures { IfSome result (λ lines. vec_len lines ≤ 8) }
 {

@@ -24,8 +24,8 @@ fn calls(alloc: Global) -> Option<Vec<u8>> {
     joined(alloc, &[request(2, 0, 0, &[]), request(3, 32, 0, &[])])
 }
 
-// How a server ends, and what it has written: two lines ask for the dvr node at the same time, the stream has so many packets of PID 1,
-// and so many bytes of the report find room.
+// How a server ends, and what it has written: two lines ask for the dvr node at the same time, the stream has so many packets
+// of PID 1, and so many bytes of the report find room.
 fn served<R: Threads + Wait + Sync>(
     rt: &R,
     alloc: Global,
