@@ -18,7 +18,8 @@
 #include <time.h>
 #include <unistd.h>
 
-enum { ASKED = 76, TOLD = 24, ALL = 0x2000, NULLS = 0x1fff, BUFFER = 16 << 20, PIECE = 65536 };
+/* the bytes of a request and of a reply, two PIDs, the buffers of the dvr node and of a section filter, and the bytes of a read */
+enum { ASKED = 76, TOLD = 24, ALL = 0x2000, NULLS = 0x1fff, BUFFER = 16 << 20, SECTIONS = 256 << 10, PIECE = 65536 };
 
 static const char demux[] = "/dev/dvb/adapter0/demux0", dvr[] = "/dev/dvb/adapter0/dvr0";
 static char bytes[PIECE];
@@ -40,7 +41,7 @@ static int open_filter(int pid, int flags)
 {
 	struct dmx_sct_filter_params params = { .pid = (__u16)pid, .flags = DMX_IMMEDIATE_START };
 	int fd = open(demux, O_RDWR | flags);
-	if (fd < 0 || ioctl(fd, DMX_SET_BUFFER_SIZE, BUFFER) || ioctl(fd, DMX_SET_FILTER, &params))
+	if (fd < 0 || ioctl(fd, DMX_SET_BUFFER_SIZE, SECTIONS) || ioctl(fd, DMX_SET_FILTER, &params))
 		fail("a section filter");
 	return fd;
 }
