@@ -1,19 +1,17 @@
 //! What a program of this project tells of how it ended: a line on standard error, and the exit status.
 //!
-//! Each of the programs hands its real words, source, sink and clock to the top call of `emu_top`, and gives the status
+//! The program hands its real words, source, sink and clock to the top call of `emu_top`, and gives the status
 //! here: `tell` writes its line on standard error and answers its number, and so does `refused` where there are no words.
 //! Behind the line of a script's fault a second one says what stands there and what was expected (`fault_hints`), by the
 //! script's bytes, which the program's source keeps as they are read; where memory for them is refused it is left out, and
 //! nothing else changes. On `check` a fault in front of the session has a second line too, and the answer `no` has a line
-//! that says what is wrong with the report. The programs are `dvbemu`, and `dvbemu_faults` and `dvbemu_words`, which end with
-//! a status other than 0: the gate runs each with one list of words and one input.
+//! that says what is wrong with the report. The gate runs `dvbemu` with one list of words and one input.
 //!
 //! What a contract sees: nothing. Standard error and the exit status are the operating system's.
 //!
 //! What is proved: that it is safe.
 //!
-//! What is only tested, by the runs of those programs: the exit status. The gate doesn't compare standard error in those runs;
-//! `faults/check` does. It also has reads and writes that move fewer bytes than they are offered, ends that fail, and a timeout
+//! What is only tested, by the program's run: the exit status 0. `faults/check` has the others, and standard error. It also has reads and writes that move fewer bytes than they are offered, ends that fail, and a timeout
 //! by the machine's clock.
 //!
 //! What is tried by nothing: the exit status 4 and the line `too long`. They would take 4,294,967,296 reads of a byte each. That
