@@ -12,9 +12,9 @@ use crate::calls::call_told;
 use crate::same::is_same_reply;
 use dmx_calls::{Answer, Call, Entry, Reply, SharedReply, Told};
 use machine::Machine;
+use machine::steps::Steps;
 use std::alloc::{AllocError as NoMemory, Global};
 use std::sync::ledger::Ledger;
-use steps::Steps;
 use ts_packet::Packet;
 
 /// Makes a call and compares its reply with the told one: true exactly where that one is allowed, and isn't want of memory.

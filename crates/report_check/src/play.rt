@@ -10,11 +10,11 @@ use dmx_calls::Entry;
 use dmx_calls::limits::DEMUX_NODES;
 use dvr_core::DvrCore;
 use history_check::is_played;
+use machine::steps::Steps;
 use node_core::NodeCore;
 use std::alloc::{AllocError as NoMemory, Global};
 use std::marker::Brand;
 use std::sync::ledger::{Blank, Ledger};
-use steps::Steps;
 use ts_packet::Packet;
 
 // The place of the first reply of a demux node that isn't the one that the entries before it give.

@@ -8,11 +8,11 @@ ghost use Rattle.report_check.specs.Inside.Parts.{all_played as played_by_all};
 
 use client_script::Script;
 use dvr_play::Plays;
+use machine::steps::Steps;
 use std::alloc::{AllocError as NoMemory, Global};
 use std::marker::Brand;
 use std::sync::Arc;
 use std::sync::ledger::{Blank, Ledger};
-use steps::Steps;
 use ts_batch::Batch;
 use ts_packet::Packet;
 

@@ -22,12 +22,12 @@ use client_core::call_of_want;
 use client_script::Want;
 use dmx_calls::limits::{DEMUX_NODES, NODES};
 use dmx_calls::{Call, OutcomeKind, Reply};
+use machine::steps::Steps;
 use serve_frames::numbers::{EMFILE, ENOMEM};
 use serve_frames::{Ask, Tell};
 use std::alloc::{AllocError as NoMemory, Global};
 use std::sync::Wait;
 use std::sync::ledger::Ledger;
-use steps::Steps;
 
 /// What is told, and which call has the bytes that follow.
 #[derive(Clone, Copy, Drop)]

@@ -9,11 +9,11 @@ use dmx_calls::{Act, Answer, Call, Entry, Errno, Input, PollError, SharedReply, 
 use dvr_core::DvrCore;
 use history_check::is_played;
 use machine::Machine;
+use machine::steps::Steps;
 use node_core::NodeCore;
 use std::alloc::{AllocError as NoMemory, Global};
 use std::marker::Brand;
 use std::sync::ledger::{Blank, Ledger};
-use steps::Steps;
 use ts_packet::{Packet, PacketBuf, PacketRoom};
 
 // The packets of the stream: the PID is 256 or 257, and the counter.

@@ -1,14 +1,4 @@
-//! The counter of steps: how many packets were looked at.
-//!
-//! One step is one look at a packet of a batch. A call that looks at packets takes `steps: &mut Steps<L>`, and its
-//! contract bounds how far the counter rises.
-//!
-//! What a contract sees: the number of steps. What is proved: `new` stands at 0, and `tick` raises it by one. Nothing
-//! else changes it, since its fields are private. It is a ghost of the toolchain's ledger: it takes no bytes, and `tick`
-//! costs nothing when the program runs. `L` names the ledger; any will do. What is only tested, in `run_tests`: that a counter
-//! takes no bytes.
-#![tactic(auto)]
-
+// The counter of steps: how many packets were looked at.
 ghost use Rattle.std.specs.Prelude.{◌≡◌, ◌+◌, ◌<◌};
 
 use std::marker::Model;
