@@ -1,7 +1,7 @@
 -- How a ring's fields are seen, and what holds of them.
 use Rattle.std.specs.Prelude.{◌≡◌, ◌≤◌, ◌+◌}
-use Rattle.node_ring.specs.declared.Ring.TheInside.{Inside}
-use Rattle.node_ring.specs.Ring.{Contents}
+use Rattle.node_buffer.specs.declared.node_ring.Ring.TheInside.{Inside}
+use Rattle.node_buffer.specs.Ring.{Contents}
 
 -- the bytes of the block
 abbrev pub contents_of : Inside → Contents
