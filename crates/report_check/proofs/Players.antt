@@ -12,9 +12,9 @@ use Rattle.ts_packet.specs.Fields.{IsPacket}
 use Rattle.ts_packet.specs.Cut.{cut}
 use Rattle.ts_packet.specs.declared.size.PacketSize.TheVariants.{Of188}
 use Rattle.ts_batch.specs.Batch.{Packets}
-use Rattle.dvr_play.specs.Laws.{packets_in}
-use Rattle.dvr_play.specs.Plays.{Playing, batch_of, cut_of, joined, with_write}
-use Rattle.dvr_play.proofs.Joining.{are_joined, are_packets, few_in}
+use Rattle.client_core.specs.PlayLaws.{packets_in}
+use Rattle.client_core.specs.Plays.{Playing, batch_of, cut_of, joined, with_write}
+use Rattle.client_core.proofs.Joining.{are_joined, are_packets, few_in}
 use Rattle.dmx_calls.specs.declared.params.Input.{Input}
 use Rattle.dmx_calls.specs.declared.params.Input.TheVariants.{Frontend, Dvr as FromDvr}
 use Rattle.dmx_calls.specs.declared.log.Act.{Act}

@@ -2,7 +2,7 @@
 ghost use Rattle.std.specs.Prelude.{◌≡◌, ◌+◌, ◌<◌, ◌≤◌, length};
 
 use super::{NoMemory, Part, bytes_of};
-use dvr_play::{MOST_BYTES, Plays};
+use client_core::dvr_play::{MOST_BYTES, Plays};
 use machine::steps::Steps;
 use std::alloc::Global;
 use std::marker::Brand;
