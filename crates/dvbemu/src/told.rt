@@ -1,23 +1,4 @@
-//! What a program of this project tells of how it ended: a line on standard error, and the exit status.
-//!
-//! The program hands its real words, source, sink and clock to the top call of `emu_top`, and gives the status
-//! here: `tell` writes its line on standard error and answers its number, and so does `refused` where there are no words.
-//! Behind the line of a script's fault a second one says what stands there and what was expected (`fault_hints`), by the
-//! script's bytes, which the program's source keeps as they are read; where memory for them is refused it is left out, and
-//! nothing else changes. On `check` a fault in front of the session has a second line too, and the answer `no` has a line
-//! that says what is wrong with the report. The gate runs `dvbemu` with one list of words and one input.
-//!
-//! What a contract sees: nothing. Standard error and the exit status are the operating system's.
-//!
-//! What is proved: that it is safe.
-//!
-//! What is only tested, by the program's run: the exit status 0. `faults/check` has the others, and standard error. It also has reads and writes that move fewer bytes than they are offered, ends that fail, and a timeout
-//! by the machine's clock.
-//!
-//! What is tried by nothing: the exit status 4 and the line `too long`. They would take 4,294,967,296 reads of a byte each. That
-//! `Status` has this number and this name is a clause of `emu_top`, and tested; that they are passed on is neither.
-#![tactic(auto)]
-
+// What the program tells of how it ended: a line on standard error, and the exit status.
 use client_script::{FaultKind, MOST_BYTES, ScriptFault};
 use emu_io::NoWords;
 use emu_top::Status;
