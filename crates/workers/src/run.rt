@@ -8,7 +8,7 @@ ghost use Rattle.feed_pull.specs.Pulling.{Pulling, IsDone};
 ghost use Rattle.feed_pull.specs.Streams.{Draws, OfStream};
 ghost use Rattle.adapter.specs.Callers.{AreAllCallers, AreFreshCallers};
 ghost use Rattle.adapter.specs.Ends.{HaveHistories};
-ghost use Rattle.trace_merge.specs.Merging.{AreOnNodes};
+ghost use Rattle.adapter.specs.Merging.{AreOnNodes};
 ghost use Rattle.workers.specs.Inside.Leaving.{GoesFirst, StopsBy, IsLeftByWorkers};
 ghost use Rattle.workers.specs.Left.{IsLeftBy};
 

@@ -1,28 +1,11 @@
-//! The histories of all nodes by place, made of what each caller told.
-//!
-//! Each client keeps a log of its own calls, on whatever node, and each entry names its node and its place in that node's
-//! history. `histories` brings them together: one list for each of the 33 nodes, in order of place, beside the feeder's
-//! batches, which are kept once for all nodes.
-//!
-//! What is proved: each node has just the entries that the logs have on it, each as often as there, and their places never
-//! fall (`AreByPlace`). A contract sees the histories whole, with the feeder's calls at all other places. The law of `laws`:
-//! where the logs name no place twice, and none beyond the end of its history, each entry stands at the place that it names,
-//! and each history has as many entries as calls were made on its node.
-//!
-//! What is only tested, in `run_tests`: that memory isn't refused where there is enough.
-//!
-//! The cost: each log is gone through once, and a node's entries are then a row of runs, one for each client, which the
-//! stable sort finds and merges: linear in the entries for the few clients that there are. Memory is asked for the lists
-//! and for the sort's buffer.
-#![tactic(auto)]
-
+// The histories of all nodes by place, made of what each caller told.
 pub mod laws;
 
 ghost use Rattle.std.specs.Prelude.{◌≡◌, ◌+◌, ◌<◌, ◌++◌, ℕ, [], length, map, get_or, IfOk, OnOk};
 ghost use Rattle.std.specs.List.{All};
 ghost use Rattle.dmx_calls.specs.declared.limits.TheConstants.{DEMUX_NODES};
 ghost use Rattle.dmx_calls.specs.Histories.{histories_of};
-ghost use Rattle.trace_merge.specs.Merging.{AreOnNodes, AreByPlace, IsDealt, AreDealt, AreSorted};
+ghost use Rattle.adapter.specs.Merging.{AreOnNodes, AreByPlace, IsDealt, AreDealt, AreSorted};
 
 use dmx_calls::limits::NODES;
 use dmx_calls::{Entry, Fed, Histories};

@@ -1,7 +1,7 @@
 use Rattle.std.proofs.Common.{◌≡◌, ◌++◌, [], length, map, filter, reverse, get_or}
-use Rattle.trace_merge.specs.Merging.{is_on, AreOnNodes}
-use Rattle.trace_merge.proofs.Dealing.{IsDealing}
-use Rattle.trace_merge.proofs.deal.Given as goal
+use Rattle.adapter.specs.Merging.{is_on, AreOnNodes}
+use Rattle.adapter.proofs.Dealing.{IsDealing}
+use Rattle.adapter.proofs.trace_merge.deal.Given as goal
 
 abbrev pub invariant-entries : goal.invariant-entries
 invariant-entries l =

@@ -8,10 +8,10 @@ use Rattle.dmx_calls.specs.Calls.{told_entry}
 use Rattle.dmx_calls.specs.Histories.{pass_act, feeder_acts, woven, AreInPlace}
 use Rattle.dmx_calls.specs.declared.log.Act.TheVariants.{End as EndAct}
 use Rattle.dmx_calls.proofs.Weaving.{woven-length, woven_nodes-at}
-use Rattle.trace_merge.specs.Inside.Placing.{entries_on, length_on, StandAtTheirPlaces}
-use Rattle.trace_merge.proofs.Standing.{ascends, in-place}
+use Rattle.adapter.specs.Inside.Placing.{entries_on, length_on, StandAtTheirPlaces}
+use Rattle.adapter.proofs.Standing.{ascends, in-place}
 use Rattle.lemmas.proofs.Tests.{nat_eq_turned}
-use Rattle.trace_merge.proofs.laws.entries_stand_at_their_places.Goals as goal
+use Rattle.adapter.proofs.trace_merge.laws.entries_stand_at_their_places.Goals as goal
 
 stand : StandAtTheirPlaces
 stand feeding logs nodes merged node low names h at =

@@ -6,7 +6,7 @@ use Rattle.std.proofs.lemmas.List.{reverse-append, get_or-set_same, get_or-set_o
 use Rattle.std.proofs.lemmas.List.Elements.{filter-append}
 use Rattle.std.proofs.Math.Seq.{get_or-append_seam}
 use Rattle.dmx_calls.specs.declared.log.Entry.{Entry as ToldEntry}
-use Rattle.trace_merge.specs.Merging.{is_on, all_of}
+use Rattle.adapter.specs.Merging.{is_on, all_of}
 
 pub all-last : {X : Type 0} (P : X → Type 0) (xs : List X) (x : X) → All P (xs ++ x ∷ []) → P x
 all-last P xs x a = subst P (get_or-append_seam xs x [] x) (a (length xs) x (let l = length-append xs (x ∷ []) in omega (arith, l)))

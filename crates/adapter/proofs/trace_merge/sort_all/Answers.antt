@@ -3,8 +3,8 @@ use Rattle.std.specs.List.Sorted.{IsPermutation, IsNonDecreasingBy}
 use Rattle.std.proofs.lemmas.List.{length-map, get_or-map, map-set}
 use Rattle.std.proofs.lemmas.List.Sorted.{IsPermutation-trans, IsNonDecreasingBy-from_sort_by_key}
 use Rattle.dmx_calls.specs.declared.log.Entry.{Entry as ToldEntry}
-use Rattle.trace_merge.proofs.Dealing.{set-each}
-use Rattle.trace_merge.proofs.sort_all.Goals as goal
+use Rattle.adapter.proofs.Dealing.{set-each}
+use Rattle.adapter.proofs.trace_merge.sort_all.Goals as goal
 
 pub nodes-preserved : goal.nodes-preserved
 nodes-preserved c =

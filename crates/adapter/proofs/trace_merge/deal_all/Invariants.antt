@@ -1,6 +1,6 @@
 use Rattle.std.proofs.Common.{◌≡◌, ◌<◌, ◌++◌, ℕ, [], length, map, filter, reverse, get_or, All}
-use Rattle.trace_merge.specs.Merging.{is_on, all_of, AreOnNodes}
-use Rattle.trace_merge.proofs.deal_all.Given as goal
+use Rattle.adapter.specs.Merging.{is_on, all_of, AreOnNodes}
+use Rattle.adapter.proofs.trace_merge.deal_all.Given as goal
 
 abbrev pub invariant-logs : goal.invariant-logs
 invariant-logs l =

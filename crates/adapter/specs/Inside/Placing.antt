@@ -6,7 +6,7 @@ use Rattle.dmx_calls.specs.declared.limits.TheConstants.{DEMUX_NODES}
 use Rattle.dmx_calls.specs.declared.log.Entry.{Entry as ToldEntry}
 use Rattle.dmx_calls.specs.Histories.{histories_of, AreInPlace}
 use Rattle.dmx_calls.specs.Log.{LogEntry}
-use Rattle.trace_merge.specs.Merging.{is_on, all_of, AreByPlace}
+use Rattle.adapter.specs.Merging.{is_on, all_of, AreByPlace}
 
 -- the entries that the logs have on a node
 abbrev pub entries_on : (node : ℕ) → List (List ToldEntry) → List ToldEntry
