@@ -28,7 +28,7 @@ use Rattle.workers.specs.declared.feeder_worker.FeederWorker.{FeederWorker}
 use Rattle.workers.specs.declared.left.Left.{Left}
 use Rattle.workers.specs.Inside.Working.{log_of, IsWorking, HasCome}
 use Rattle.workers.specs.Inside.Begun.{AreFreshWorkers, HaveCome, AreOutcomesOf}
-use Rattle.script_nodes.specs.Named.{is_named}
+use Rattle.workers.specs.Named.{is_named}
 use Rattle.workers.specs.Feeding.{HasFed, HasFedAll}
 use Rattle.workers.specs.Inside.FeederWork.{HasPassedAll}
 use Rattle.workers.specs.Inside.Leaving.{GoesFirst, StopsBy, IsLeftByWorkers}

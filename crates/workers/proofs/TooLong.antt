@@ -28,7 +28,7 @@ use Rattle.workers.specs.declared.client_worker.ClientWorker.{ClientWorker}
 use Rattle.workers.specs.declared.feeder_worker.FeederWorker.{FeederWorker}
 use Rattle.workers.specs.Inside.Working.{log_of}
 use Rattle.workers.specs.Inside.Begun.{AreFreshWorkers, HaveCome}
-use Rattle.script_nodes.specs.Named.{is_named}
+use Rattle.workers.specs.Named.{is_named}
 use Rattle.workers.specs.Budget.{IsRunning, ManyCallsAreTooLong}
 use Rattle.workers.specs.Logged.{HasCalled}
 use Rattle.workers.specs.Inside.FeederWork.{HasPassedAll}

@@ -2,7 +2,7 @@
 ghost use Rattle.std.specs.Prelude.{◌≡◌, ◌≤◌, ◌||◌, ℕ, false, slice_index_or};
 ghost use Rattle.dmx_calls.specs.declared.limits.TheConstants.{DEMUX_NODES as last};
 ghost use Rattle.client_script.specs.Grammar.{IsTargetInRange};
-ghost use Rattle.script_nodes.specs.Named.{is_for, is_named, passes_all};
+ghost use Rattle.workers.specs.Named.{is_for, is_named, passes_all};
 
 use client_script::{Line, Script, Target, Verb};
 use dmx_calls::limits::{DEMUX_NODES, NODES};

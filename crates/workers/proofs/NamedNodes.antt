@@ -26,7 +26,7 @@ use Rattle.client_core.specs.declared.task.Ending.TheVariants.{Made}
 use Rattle.client_core.specs.Commands.{commands_in, commands_among, commands_of, Doing, stands, through, once, told, called, read_until, ends_wait, ends_drain, passed, written, done_on, Slots, done, plays_of}
 use Rattle.client_core.specs.Events.{Standing, slots_after, progress_from, progress, no_slots, next_event}
 use Rattle.client_core.proofs.GoesOn.{progress_of}
-use Rattle.script_nodes.specs.Named.{is_for, passes_all, names, is_named}
+use Rattle.workers.specs.Named.{is_for, passes_all, names, is_named}
 
 -- ------ what a command does
 

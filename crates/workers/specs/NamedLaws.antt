@@ -4,7 +4,7 @@ use Rattle.dmx_calls.specs.Response.{Response}
 use Rattle.client_script.specs.Script.{Scripted}
 use Rattle.client_core.specs.declared.event.Event.{Event}
 use Rattle.client_core.specs.Events.{next_event}
-use Rattle.script_nodes.specs.Named.{is_named}
+use Rattle.workers.specs.Named.{is_named}
 
 -- whatever replies a client of the script has got, its next call is on a node that the script can name
 abbrev pub CallsAreOnNamedNodes : Type 0

@@ -9,7 +9,7 @@ use Rattle.client_script.specs.declared.line.Target.{Target}
 use Rattle.client_script.specs.declared.line.Target.TheVariants.{Slot}
 use Rattle.client_script.specs.declared.line.Verb.{Verb}
 use Rattle.client_script.specs.declared.line.Verb.TheVariants.{Write}
-use Rattle.script_nodes.specs.Named.{is_for, is_named, passes_all}
+use Rattle.workers.specs.Named.{is_for, is_named, passes_all}
 
 -- whether a node is among these
 abbrev is_in : List Bool → (node : ℕ) → Bool
