@@ -8,11 +8,11 @@ ghost use Rattle.seats.specs.Turns.{HasTurned};
 
 use crate::answers::Answered;
 use crate::seat::Seat;
+use crate::serve_frames::numbers::REQUEST_LEN;
+use crate::serve_frames::{Ask, data_of};
 use adapter::Adapter;
 use emu_io::{Clock, Failed, Sink, Source};
 use machine::steps::Steps;
-use serve_frames::numbers::REQUEST_LEN;
-use serve_frames::{Ask, data_of};
 use std::alloc::Global;
 use std::sync::Wait;
 use std::sync::ledger::Ledger;

@@ -2,9 +2,9 @@
 use Rattle.std.proofs.Common.{◌≡◌, ◌<◌, ◌^◌, ℕ, List, [], ap, ◌∙◌}
 use Rattle.byteorder.specs.Numbers.{little_number-reads_back}
 use Rattle.dmx_abi.specs.Layout.{field}
-use Rattle.serve_frames.specs.declared.tell.Tell.{Tell}
-use Rattle.serve_frames.specs.Tells.{tell, head_of}
-use Rattle.serve_frames.proofs.laws.written_and_read.Goals as goal
+use Rattle.seats.specs.declared.serve_frames.tell.Tell.{Tell}
+use Rattle.seats.specs.Tells.{tell, head_of}
+use Rattle.seats.proofs.serve_frames.laws.written_and_read.Goals as goal
 
 module _ (t : Tell) (len : ℕ) (f : (t.code < 2 ^ 32) × (t.value < 2 ^ 32) × (t.place < 2 ^ 64) × (len < 2 ^ 32)) where
   told : tell (field 0 4 (head_of t len)) (field 8 4 (head_of t len)) (field 16 8 (head_of t len)) ≡ t

@@ -2,9 +2,9 @@
 ghost use Rattle.std.specs.Prelude.{◌≡◌, ◌≤◌, ◌+◌, length, take, drop, Some};
 ghost use Rattle.dmx_abi.specs.Layout.{field};
 ghost use Rattle.dmx_abi.specs.Decoded.{decoded};
-ghost use Rattle.serve_frames.specs.Asks.{ioctl_of as ioctl_by, call_of as call_by, asked as asked_by, ask_of as ask_by, IsAskInRange};
+ghost use Rattle.seats.specs.Asks.{ioctl_of as ioctl_by, call_of as call_by, asked as asked_by, ask_of as ask_by, IsAskInRange};
 
-use crate::numbers::{
+use crate::serve_frames::numbers::{
     ARGUMENT_AT, ARGUMENT_LEN, CLOSE, EBADF, EINVAL, ENOTTY, IOCTL, LEAVE, OPEN_DEMUX, OPEN_DVR,
     POLL, READ, REQUEST_LEN,
 };

@@ -3,9 +3,9 @@ ghost use Rattle.std.specs.Prelude.{◌≡◌, ◌≤◌, ◌<◌, ◌+◌, ◌^
 ghost use Rattle.byteorder.specs.Endian.{little_bytes};
 ghost use Rattle.dmx_abi.specs.Layout.{field};
 ghost use Rattle.dmx_calls.specs.Calls.{response_of};
-ghost use Rattle.serve_frames.specs.Tells.{errno_number as errno_by, ready_bits as bits_by, told_of as told_by, data_of as data_by, head_of};
+ghost use Rattle.seats.specs.Tells.{errno_number as errno_by, ready_bits as bits_by, told_of as told_by, data_of as data_by, head_of};
 
-use crate::numbers::{
+use crate::serve_frames::numbers::{
     EAGAIN, EBADF, EBUSY, EINVAL, ENOMEM, ENOSPC, EOVERFLOW, ETIMEDOUT, NO_PLACE, REPLY_LEN,
 };
 use arrayvec::ArrayVec;

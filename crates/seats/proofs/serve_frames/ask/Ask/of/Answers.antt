@@ -2,9 +2,9 @@
 use Rattle.std.proofs.Common.{rules, ◌≡◌, ◌≤◌, ℕ, List, ap, ◌∙◌, drop, take, length, arith}
 use Rattle.std.proofs.lemmas.List.{take_all, length-drop}
 use Rattle.dmx_abi.specs.Layout.{field}
-use Rattle.serve_frames.specs.Asks.{asked}
-use Rattle.serve_frames.specs.declared.ask.Ask.{Ask}
-use Rattle.serve_frames.proofs.ask.Ask.of.Goals as goal
+use Rattle.seats.specs.Asks.{asked}
+use Rattle.seats.specs.declared.serve_frames.ask.Ask.{Ask}
+use Rattle.seats.proofs.serve_frames.ask.Ask.of.Goals as goal
 
 behind : (b : List ℕ) → length b ≡ 76 → take 60 (drop 16 b) ≡ drop 16 b
 behind b long = let rest = length-drop 16 b in take_all 60 (drop 16 b) (omega (arith, rest, long))

@@ -1,7 +1,7 @@
 // A law of the definitions.
 ghost use Rattle.std.specs.Prelude.{◌≡◌, ◌<◌, ◌^◌};
 
-use crate::tell::Tell;
+use crate::serve_frames::tell::Tell;
 
 // The numbers of what is told have the ranges of their types. It has nothing to do.
 fn fits(told: Tell, len: u32)

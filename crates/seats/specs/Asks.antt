@@ -9,9 +9,9 @@ use Rattle.dmx_calls.specs.declared.limits.TheConstants.{DEMUX_NODES, LARGEST_RE
 use Rattle.client_script.specs.Requests.{want_of}
 use Rattle.client_script.specs.declared.line.Want.{Want}
 use Rattle.client_script.specs.declared.line.Want.TheVariants as want
-use Rattle.serve_frames.specs.declared.ask.Ask.{Ask}
-use Rattle.serve_frames.specs.declared.ask.Ask.TheVariants.{OpenDemux, Call, Leave, Refused}
-use Rattle.serve_frames.specs.declared.numbers.TheConstants.{OPEN_DEMUX, OPEN_DVR, CLOSE, IOCTL, READ, POLL, LEAVE, ARGUMENT_LEN, ARGUMENT_AT, EBADF, EINVAL, ENOTTY}
+use Rattle.seats.specs.declared.serve_frames.ask.Ask.{Ask}
+use Rattle.seats.specs.declared.serve_frames.ask.Ask.TheVariants.{OpenDemux, Call, Leave, Refused}
+use Rattle.seats.specs.declared.serve_frames.numbers.TheConstants.{OPEN_DEMUX, OPEN_DVR, CLOSE, IOCTL, READ, POLL, LEAVE, ARGUMENT_LEN, ARGUMENT_AT, EBADF, EINVAL, ENOTTY}
 
 -- ------ ioctls
 

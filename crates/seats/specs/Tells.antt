@@ -6,8 +6,8 @@ use Rattle.dmx_calls.specs.declared.reply.Errno.TheVariants.{Ebadf, Ebusy, Einva
 use Rattle.dmx_calls.specs.declared.reply.PollError.{PollError}
 use Rattle.dmx_calls.specs.declared.reply.PollError.TheVariants.{Quiet, Overflow as OverflowPending, TimedOut as TimeoutPending}
 use Rattle.dmx_calls.specs.Response.{Response, Done, Busy, Refused, NoMemory, Data, Again, Overflow, TimedOut, Ready, Passed}
-use Rattle.serve_frames.specs.declared.tell.Tell.{Tell}
-use Rattle.serve_frames.specs.declared.numbers.TheConstants.{EBADF, EAGAIN, ENOMEM, EBUSY, EINVAL, ENOSPC, EOVERFLOW, ETIMEDOUT}
+use Rattle.seats.specs.declared.serve_frames.tell.Tell.{Tell}
+use Rattle.seats.specs.declared.serve_frames.numbers.TheConstants.{EBADF, EAGAIN, ENOMEM, EBUSY, EINVAL, ENOSPC, EOVERFLOW, ETIMEDOUT}
 
 -- the number of an error
 abbrev pub errno_number : Errno → ℕ
