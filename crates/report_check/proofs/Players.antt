@@ -26,7 +26,7 @@ use Rattle.client_script.specs.Script.{Scripted, IsScript, AreWritten, writes_of
 use Rattle.client_script.specs.Writes.{IsWritten}
 use Rattle.client_core.specs.Commands.{played}
 use Rattle.script_run.specs.IsRun.{sources}
-use Rattle.history_check.specs.Playing.{AreFewPackets, brought_from}
+use Rattle.report_check.specs.Playing.{AreFewPackets, brought_from}
 use Rattle.report_check.specs.Inside.Parts.{all_played}
 
 -- ------ how many there are

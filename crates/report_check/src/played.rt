@@ -3,7 +3,7 @@ ghost use Rattle.std.specs.Prelude.{◌≡◌, ◌<◌, ◌∷◌, ◌++◌, [],
 ghost use Rattle.std.specs.Option.{option_map};
 ghost use Rattle.client_core.specs.PlayLaws.{packets_in};
 ghost use Rattle.client_core.specs.Commands.{played};
-ghost use Rattle.history_check.specs.Playing.{AreFewPackets};
+ghost use Rattle.report_check.specs.Playing.{AreFewPackets};
 ghost use Rattle.report_check.specs.Inside.Parts.{all_played as played_by_all};
 
 use client_core::dvr_play::Plays;
