@@ -2,12 +2,12 @@
 ghost use Rattle.std.specs.Prelude.{◌≡◌};
 
 use super::{NoMemory, Part, bytes_of, packet_of};
+use machine::steps::Steps;
 use pid_set::Pids;
 use std::alloc::Global;
 use std::marker::Brand;
 use std::sync::Arc;
 use std::sync::ledger::{Blank, Ledger};
-use steps::Steps;
 use ts_batch::{Batch, PlaceSet};
 use ts_packet::{Cutter, PacketBuf, PacketRoom, PacketSize};
 

@@ -1,7 +1,7 @@
 // Program clock references of packets written by hand, and the clock of a stream. Each value is base * 300 + extension.
 
 use super::{NoMemory, Part, add_parts, bytes_of};
-use stc_clock::{StcClock, pcr};
+use client_core::stc_clock::{StcClock, pcr};
 use std::alloc::Global;
 use ts_packet::{PACKET_LEN, Packet};
 
@@ -293,5 +293,5 @@ fn forgets_rows(first: &Row, second: &Row) -> bool {
 #[test]
 fn a_cleared_clock_begins_anew(rt: HostRuntime) {
     assert!(rt; forgets_rows(&ROWS[0], &ROWS[10]));
-    stc_clock::examples::clocks();
+    client_core::stc_clock::examples::clocks();
 }

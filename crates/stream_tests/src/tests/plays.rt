@@ -2,12 +2,12 @@
 ghost use Rattle.std.specs.Prelude.{◌≡◌, ◌+◌, ◌<◌, ◌≤◌, length};
 
 use super::{NoMemory, Part, bytes_of};
-use dvr_play::{MOST_BYTES, Plays};
+use client_core::dvr_play::{MOST_BYTES, Plays};
+use machine::steps::Steps;
 use std::alloc::Global;
 use std::marker::Brand;
 use std::sync::Arc;
 use std::sync::ledger::{Blank, Ledger};
-use steps::Steps;
 use ts_batch::Batch;
 
 // A write's batch: the number of its first packet, how many packets it has, and the last byte of the first. None where the
