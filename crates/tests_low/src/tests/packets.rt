@@ -137,23 +137,20 @@ fn packet_of(header: [u8; 6]) -> Option<Packet> {
     Packet::of(bytes)
 }
 
-// Whether a packet's payload begins at this place and ends with byte 187, or there is none.
-fn has_payload_at(packet: &Packet, place: Option<usize>) -> bool {
-    match packet.payload() {
-        None => place == None,
-        Some(payload) => place == Some(PACKET_LEN - payload.len()) && payload.ends_with(&[187]),
-    }
-}
-
-// Whether a packet has the fields of a row.
+// Whether a packet has the fields of a row, and its payload, if there is one, begins in its place and ends with byte 187.
 fn has_fields(packet: &Packet, row: &Row) -> bool {
+    let payload_at = match packet.payload() {
+        None => None,
+        Some(payload) if payload.ends_with(&[187]) => Some(PACKET_LEN - payload.len()),
+        Some(_) => Some(0),
+    };
     packet.bytes().starts_with(&row.header)
         && packet.pid() == row.pid
         && packet.error() == row.error
         && packet.unit_start() == row.unit_start
         && packet.counter() == row.counter
         && packet.discontinuity() == row.discontinuity
-        && has_payload_at(packet, row.payload_at)
+        && payload_at == row.payload_at
 }
 
 // The name of the first row whose header begins no packet, or one that hasn't the fields of the row.
