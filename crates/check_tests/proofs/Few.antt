@@ -3,7 +3,7 @@ use Rattle.std.proofs.Common.{◌≤◌, ◌+◌, ◌∷◌, [], ℕ, List, Bor,
 use Rattle.std.proofs.lemmas.List.{length-map}
 use Rattle.dmx_calls.specs.declared.log.Entry.{Entry as ToldEntry}
 use Rattle.dmx_calls.specs.Calls.{told_entry}
-use Rattle.walk_check.specs.Inside.Steps.{left_on}
+use Rattle.report_check.specs.Inside.Steps.{left_on}
 
 -- on no node there is none
 pub none_left : (most : ℕ) → left_on [] ≤ most

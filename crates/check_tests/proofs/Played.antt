@@ -5,7 +5,7 @@ use Rattle.std.proofs.lemmas.List.Elements.{All-push}
 use Rattle.std.specs.Prelude.{Vec}
 use Rattle.std.specs.List.{All}
 use Rattle.std.specs.declared.alloc.Global.{Global}
-use Rattle.history_check.specs.Playing.{AreFewPackets}
+use Rattle.report_check.specs.Playing.{AreFewPackets}
 
 -- with the packets of one caller more
 pub few_more : (all : List (Vec (List ℕ) Global)) (own : Vec (List ℕ) Global) → All AreFewPackets (map (λ p. p.items) all) → AreFewPackets own.items

@@ -33,13 +33,13 @@ ghost use Rattle.ts_batch.specs.Batch.{IsBatch};
 ghost use Rattle.ts_batch.specs.Places.{places_of};
 
 use index::Index;
+use machine::steps::Steps;
 pub use place_set::PlaceSet;
 pub use room::BatchRoom;
 use std::alloc::{AllocError as NoMemory, Global};
 use std::marker::Model;
 use std::sync::Arc;
 use std::sync::ledger::Ledger;
-use steps::Steps;
 use ts_packet::{Packet, PacketBuf};
 
 /// 1 to 64 packets that pass the nodes together.

@@ -2,18 +2,18 @@
 
 ghost use Rattle.std.specs.Prelude.{◌≡◌, ◌<◌, [], map, true, IfOk, All};
 ghost use Rattle.dmx_calls.specs.Calls.{told_entry};
-ghost use Rattle.history_check.specs.Playing.{AreFewPackets, IsCallable, IsToldBy, brought_from};
+ghost use Rattle.report_check.specs.Playing.{AreFewPackets, IsCallable, IsToldBy, brought_from};
 
 use crate::tests::told::{DONE, Made, Row, Said, data, entry_of};
 use dmx_calls::{Act, Answer, Call, Entry, Errno, Input, PollError, SharedReply, Told};
 use dvr_core::DvrCore;
-use history_check::is_played;
 use machine::Machine;
+use machine::steps::Steps;
 use node_core::NodeCore;
+use report_check::history_check::is_played;
 use std::alloc::{AllocError as NoMemory, Global};
 use std::marker::Brand;
 use std::sync::ledger::{Blank, Ledger};
-use steps::Steps;
 use ts_packet::{Packet, PacketBuf, PacketRoom};
 
 // The packets of the stream: the PID is 256 or 257, and the counter.
@@ -68,7 +68,7 @@ fn played(alloc: Global) -> Result<Vec<Vec<Packet>>, NoMemory>
 }
 
 // The packets of which a caller's passes bring some.
-#[tactic(auto, using(history_check::proofs::Sources::at_caller, history_check::proofs::Sources::at_none))]
+#[tactic(auto, using(report_check::proofs::Sources::at_caller, report_check::proofs::Sources::at_none))]
 fn source<'a>(
     stream: &'a [Packet],
     played: &'a [Vec<Packet>],

@@ -2,14 +2,14 @@
 
 ghost use Rattle.std.specs.Prelude.{◌≡◌, ◌≤◌, map, true};
 ghost use Rattle.dmx_calls.specs.Calls.{told_entry};
-ghost use Rattle.walk_check.specs.Inside.Steps.{left_on};
+ghost use Rattle.report_check.specs.Inside.Steps.{left_on};
 
 use crate::tests::told::{DONE, Made, Row, Said, entry_of};
 use client_core::ClientCore;
 use client_script::{MOST_BYTES, Script};
 use dmx_calls::Entry;
+use report_check::walk_check::is_walked;
 use std::alloc::{AllocError as NoMemory, Global};
-use walk_check::is_walked;
 
 // A node, the number of the call among its caller's, and the call.
 type Told = (u32, u64, Row);

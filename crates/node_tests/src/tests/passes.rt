@@ -5,11 +5,11 @@ ghost use Rattle.std.specs.Prelude.{◌≡◌, ◌<◌};
 use super::{OTHER, P0, P1, Step, Want, batch_of, call_of, is_answered, pids_of};
 use dmx_calls::{Call, Input};
 use dvr_core::DvrCore;
+use machine::steps::Steps;
 use node_core::NodeCore;
 use std::alloc::{AllocError as NoMemory, Global};
 use std::marker::Brand;
 use std::sync::ledger::{Blank, Ledger};
-use steps::Steps;
 
 const READ: Step = Step::Read(65_536);
 

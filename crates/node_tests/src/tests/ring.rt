@@ -1,6 +1,6 @@
 //! Rings of small and of real sizes, against lists worked by hand.
 
-use node_ring::Ring;
+use node_buffer::node_ring::Ring;
 use std::alloc::{AllocError as NoMemory, Global};
 
 /// One call of a ring and its answer.

@@ -8,10 +8,10 @@ use super::step::{Step, call_of};
 use super::want::{Want, is_answered};
 use dmx_calls::{Answer, Call, Input};
 use machine::Machine;
+use machine::steps::Steps;
 use std::alloc::{AllocError as NoMemory, Global};
 use std::marker::Brand;
 use std::sync::ledger::{Blank, Ledger};
-use steps::Steps;
 
 // How many calls are made on a node at most.
 const MOST_CALLS: u64 = 1_000_000;

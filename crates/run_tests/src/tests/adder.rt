@@ -1,10 +1,10 @@
 //! The machine that adds, by its own calls and by the trait's.
 ghost use Rattle.std.specs.Prelude.{◌≡◌, ◌+◌, ◌<◌, ◌^◌};
 
+use machine::steps::Steps;
 use machine::{Adder, Machine};
 use std::marker::Brand;
 use std::sync::ledger::{Blank, Ledger};
-use steps::Steps;
 
 // Makes two calls of a machine, and gives their answers.
 fn call_twice<M: Machine, L: Ledger>(

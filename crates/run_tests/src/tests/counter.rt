@@ -1,10 +1,10 @@
 //! The counter of steps at a ledger of its own.
 ghost use Rattle.std.specs.Prelude.{◌≡◌, ◌<◌};
 
+use machine::steps::Steps;
 use std::marker::Brand;
 use std::mem::size_of_val;
 use std::sync::ledger::{Blank, Ledger};
-use steps::Steps;
 
 // Counts two steps, and answers the bytes of the counter.
 fn count_two<L: Ledger>(blank: Blank) -> usize

@@ -1,11 +1,11 @@
 //! The logs of two clients, and the histories that they tell once merged.
 
 ghost use Rattle.std.specs.Prelude.{◌≡◌, ◌≤◌, IfOk};
-ghost use Rattle.trace_merge.specs.Merging.{AreOnNodes};
+ghost use Rattle.adapter.specs.Merging.{AreOnNodes};
 
+use adapter::trace_merge::histories;
 use dmx_calls::{Act, Entry, Fed, Histories, KeptAct, Reply, SharedReply};
 use std::alloc::{AllocError as NoMemory, Global};
-use trace_merge::histories;
 
 // An entry that names itself by the size that it asks for.
 fn told(

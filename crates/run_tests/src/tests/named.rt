@@ -1,7 +1,7 @@
 //! The nodes that a script can name.
 
 use crate::tests::script_of;
-use script_nodes::named;
+use workers::script_nodes::named;
 
 // Scripts, and the nodes that each can name.
 static SCRIPTS: [(&str, &[usize]); 4] = [

@@ -7,13 +7,13 @@ ghost use Rattle.seats.specs.Seated.{IsFit, IsReady, MayLeave};
 
 use super::request;
 use adapter::{Adapter, Client, Feeder};
+use machine::steps::Steps;
+use seats::serve_frames::{Ask, data_of};
 use seats::{Answered, Desk, Seat, desks_of};
-use serve_frames::{Ask, data_of};
 use std::alloc::Global;
 use std::marker::Brand;
 use std::sync::ledger::{Blank, Ledger};
 use std::sync::{Arc, Wait};
-use steps::Steps;
 use ts_batch::Batch;
 use ts_packet::{Cutter, PacketBuf, PacketSize};
 

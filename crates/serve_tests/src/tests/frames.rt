@@ -5,7 +5,7 @@ use super::request;
 use client_script::Want;
 use dmx_calls::{Errno, Input, Output, PesParams, PollError, Reply, SectionParams, Span, Tap};
 use filter_match::SectionFilter;
-use serve_frames::{Ask, Tell, written_and_read};
+use seats::serve_frames::{Ask, Tell, written_and_read};
 
 // The numbers of linux/dvb/dmx.h.
 const DMX_START: u32 = 0x6f29;

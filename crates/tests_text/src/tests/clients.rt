@@ -1,10 +1,9 @@
 // Clients of a script in the memory that they need: calls, replies, what became of the commands, and batches of writes.
 
 use super::NoMemory;
-use client_core::{ClientCore, Request, Stop, call_of, fitted};
+use client_core::{ClientCore, Plays, Request, Stop, call_of, fitted};
 use client_script::{Script, Want};
 use dmx_calls::{ByteBuf, Call, Outcome, OutcomeKind, Reply};
-use dvr_play::Plays;
 use std::alloc::Global;
 
 // Whether the longest read comes with an empty buffer for its bytes, and what became of a client's command is copied as it is.

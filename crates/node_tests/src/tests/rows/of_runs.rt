@@ -3,10 +3,10 @@
 use crate::tests::{Cell, DONE, OPEN, OTHER, P0, P1, P2, P3, Row, Step, Want, odd_row};
 use dmx_calls::{Answer, Call, Input, Reply, Span, Tap};
 use machine::Machine;
+use machine::steps::Steps;
 use std::alloc::AllocError as NoMemory;
 use std::sync::Arc;
 use std::sync::ledger::Ledger;
-use steps::Steps;
 use ts_batch::Batch;
 
 // A node that tells what it is called: to Open, Busy has the caller; to Start, TimedOut has the moment; to a Pass, Overflow has its

@@ -9,13 +9,13 @@ use super::replay::{Fed, Story, packets_of};
 use super::{batch_of, lengths_of, pair};
 use crate::tests::TURNS;
 use adapter::{Adapter, Client, Feeder};
+use machine::steps::Steps;
 use std::alloc::Global;
 use std::marker::Brand;
 use std::sync::Wait;
 use std::sync::atomic::AtomicU64;
 use std::sync::ledger::{Blank, Ledger};
 use std::thread::{Threads, join};
-use steps::Steps;
 
 // How many batches pass.
 const BATCHES: u8 = 64;

@@ -6,13 +6,13 @@ use super::replay::{Asked, Told, call_of, node_of};
 use crate::tests::comes_to;
 use adapter::{Adapter, Client};
 use dmx_calls::Reply;
+use machine::steps::Steps;
 use std::alloc::Global;
 use std::sync::Wait;
 use std::sync::atomic::AtomicU64;
 use std::sync::atomic::Ordering::SeqCst;
 use std::sync::ledger::Ledger;
 use std::thread;
-use steps::Steps;
 
 // How many calls a client makes at most: the first six, and 200 times a Poll and a Read. Each Data has a packet, and behind
 // each Again another caller's entry is awaited.

@@ -5,11 +5,11 @@ ghost use Rattle.adapter.specs.Callers.{AreFreshCallers};
 use super::{batch_of, lengths_of, packet, pair};
 use adapter::{Adapter, Client, Feeder};
 use dmx_calls::{Call, Reply};
+use machine::steps::Steps;
 use std::alloc::Global;
 use std::marker::Brand;
 use std::sync::ledger::{Blank, Ledger};
 use std::sync::{Arc, Wait};
-use steps::Steps;
 use ts_batch::Batch;
 
 // The node that both clients call.

@@ -1,7 +1,7 @@
 use Rattle.std.proofs.Common.{List, ℕ, map, sym, subst, All}
 use Rattle.std.specs.Prelude.{Vec}
 use Rattle.std.specs.declared.alloc.Global.{Global}
-use Rattle.history_check.specs.Playing.{AreFewPackets}
+use Rattle.report_check.specs.Playing.{AreFewPackets}
 use Rattle.check_tests.proofs.Played.{few_more}
 use Rattle.check_tests.proofs.tests.played.played.Goals as goal
 

@@ -1,5 +1,5 @@
 use Rattle.std.proofs.Common.{map, All}
-use Rattle.history_check.specs.Playing.{AreFewPackets}
+use Rattle.report_check.specs.Playing.{AreFewPackets}
 use Rattle.check_tests.proofs.tests.played.played.Given as goal
 
 abbrev pub invariant-callers : goal.invariant-callers

@@ -2,7 +2,7 @@ use Rattle.std.proofs.Common.{rules, ◌≡◌, ◌≤◌, map, true, ℕ, lengt
 use Rattle.std.proofs.lemmas.List.{nil_from_length}
 use Rattle.dmx_calls.specs.declared.log.Entry.{Entry as ToldEntry}
 use Rattle.dmx_calls.specs.Calls.{told_entry}
-use Rattle.walk_check.specs.Inside.Steps.{left_on}
+use Rattle.report_check.specs.Inside.Steps.{left_on}
 use Rattle.check_tests.proofs.Few.{none_left}
 use Rattle.check_tests.proofs.tests.walked.+are_few.Goals as goal
 
