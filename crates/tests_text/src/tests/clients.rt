@@ -1,7 +1,8 @@
 // Clients of a script in the memory that they need: calls, replies, what became of the commands, and batches of writes.
 
 use super::NoMemory;
-use client_core::{ClientCore, Plays, Request, Stop, call_of, fitted};
+use client_core::dvr_play::Plays;
+use client_core::{ClientCore, Request, Stop, call_of, fitted};
 use client_script::{Script, Want};
 use dmx_calls::{ByteBuf, Call, Outcome, OutcomeKind, Reply};
 use std::alloc::Global;

@@ -1,6 +1,6 @@
 // Program clock references of packets written by hand. Each value is base * 300 + extension.
 
-use client_core::pcr;
+use client_core::stc_clock::pcr;
 use ts_packet::{PACKET_LEN, Packet};
 
 // The first bytes of a packet, and its program clock reference by ISO/IEC 13818-1, 2.4.3.5.

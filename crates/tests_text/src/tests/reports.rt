@@ -12,8 +12,18 @@ use emu_io::MemSink;
 use report_read::read_report;
 use report_text::{ReportError, write_report};
 use std::alloc::Global;
-use ts_packet::{PacketSize, Tally};
+use ts_packet::Tally;
 use ts_watch::Head;
+
+// The run of a number's session, in batches of so many packets.
+macro_rules! self_test {
+    ($number:expr, $batch:expr) => {
+        Some(Command::SelfTest {
+            number: $number,
+            batch: $batch,
+        })
+    };
+}
 
 // What these words mean.
 fn command_of(alloc: Global, words: &[&str]) -> Result<Option<Command>, NoMemory> {
@@ -24,18 +34,48 @@ fn command_of(alloc: Global, words: &[&str]) -> Result<Option<Command>, NoMemory
     read_words(alloc, &list)
 }
 
+// Words that no line of a file can have, since they are empty or have a space, and the numbers of sessions that are made, each with
+// the command that they name, or None where they are refused.
+static WORDS: [(&[&str], Option<Command>); 18] = [
+    (&[""], None),
+    (&["steps", ""], None),
+    (&["steps", "--batch", "1 "], None),
+    (&["steps", "--batch", ""], None),
+    (&["steps", "--packet", ""], None),
+    (&["steps", "--packet", "204 "], None),
+    (&["check", ""], None),
+    (&["make", ""], None),
+    (&["make", "7 "], None),
+    (&["make", "0"], Some(Command::Make { number: 0 })),
+    (
+        &["make", "18446744073709551615"],
+        Some(Command::Make { number: u64::MAX }),
+    ),
+    (
+        &["selftest", "18446744073709551615"],
+        self_test!(u64::MAX, 64),
+    ),
+    (&["selftest", "7", "--batch", "2"], self_test!(7, 2)),
+    (&["selftest", "--batch", "2", "7"], self_test!(7, 2)),
+    (&["selftest", "7", "--batch=2"], self_test!(7, 2)),
+    (&["selftest", "--batch=2", "7"], self_test!(7, 2)),
+    (&["selftest", "1", "--batch", "1"], self_test!(1, 1)),
+    (&["selftest", "7"], self_test!(7, 64)),
+];
+
+// The number of the first of these whose words don't mean what they should.
+fn odd_words(alloc: Global) -> Result<Option<usize>, NoMemory> {
+    for (number, (words, want)) in WORDS.iter().enumerate() {
+        if command_of(alloc, words)? != *want {
+            return Ok(Some(number));
+        }
+    }
+    Ok(None)
+}
+
 #[test]
 fn words_mean_a_command(rt: HostRuntime) {
-    let steps = Command::Steps {
-        batch: 7,
-        packet: PacketSize::Of204,
-    };
-    let words = ["steps", "--packet=204", "--batch", "7"];
-    assert_eq!(rt; command_of(rt.alloc(), &words), Ok(Some(steps)));
-    assert_eq!(rt;
-        command_of(rt.alloc(), &["steps", "--packet", "204 "]),
-        Ok(None)
-    );
+    assert_eq!(rt; odd_words(rt.alloc()), Ok(None));
 }
 
 // Client 0 reads the most bytes that a read can ask for, all of them 0.
