@@ -4,7 +4,8 @@ import glob
 import os
 from typing import NamedTuple
 
-ROOT = os.path.dirname(os.path.dirname(os.path.realpath(__file__)))
+ROOT = os.path.dirname(os.path.dirname(os.path.dirname(os.path.realpath(__file__))))
+TOOLS = os.path.join(ROOT, "tools")
 PROGRAM = os.path.join(ROOT, "dvbemu")
 EXAMPLES = os.path.join(ROOT, "examples")
 
