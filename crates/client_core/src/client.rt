@@ -19,10 +19,10 @@ ghost use Rattle.client_core.specs.Inside.Core.{coming, one_if_some, IsCommandIn
 
 use crate::clocks::Clocks;
 use crate::command::{Command, Commands};
+use crate::current::{Current, add, begin, bind, kind_of};
 use crate::deed::{Deed, deed_of};
 use crate::dvr_play::Plays;
 use crate::event::Event;
-use crate::machine::{Current, add, begin, bind, kind_of};
 use crate::task::{Next, Task, after, event_of, reading_of};
 use client_script::{Line, Script};
 use dmx_calls::{LogReply, Outcome, Reply};

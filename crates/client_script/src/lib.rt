@@ -24,8 +24,8 @@
 //! `Script::clients` is 1 plus the highest client that a line names, or 0. `print` appends the spelling of a line, a write with
 //! its bytes, and where memory is refused the bytes are as they were. A `ScriptPart` is the bytes that were added to it, and its
 //! `end` tells where the first whole line `stream` ends. `want_of` and `verb_of` are what a request asks, and `request_number`,
-//! `argument_named` and `written_named` what words spell. A want's, a verb's and a fault's `name` is its text in
-//! `specs/Spelling.antt` and `specs/FaultNames.antt`. What the grammar gives for lines and scripts worked out by hand are the
+//! `argument_named` and `written_named` what words spell. A want's and a verb's `name` is its text in
+//! `specs/Spelling.antt`. What the grammar gives for lines and scripts worked out by hand are the
 //! clauses of `examples`, computed by the check.
 //!
 //! Laws about the definitions alone: the lines of a client name its writes in their order, each once

@@ -69,7 +69,7 @@ fn explain(rt: &HostRuntime, script: Option<&[u8]>, fault: ScriptFault) {
 
 // Tells what is wrong with a report.
 fn tell_wrong(rt: &HostRuntime, name: &str, fault: Fault) {
-    let kind = fault.kind.name();
+    let kind = fault.kind;
     if fault.line == 0 {
         let _ = eprintln!(rt; "dvbemu: {name}: {kind}");
     } else {
@@ -84,8 +84,7 @@ fn lines(rt: &HostRuntime, status: Status, script: Option<&[u8]>) {
     match status {
         Status::Ok => {}
         Status::Script { line, kind } => {
-            let kind_name = kind.name();
-            let _ = eprintln!(rt; "dvbemu: {name} line {line}: {kind_name}");
+            let _ = eprintln!(rt; "dvbemu: {name} line {line}: {kind}");
             explain(rt, script, ScriptFault { line, kind });
         }
         Status::Wrong(fault) => tell_wrong(rt, name, fault),

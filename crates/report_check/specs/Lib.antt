@@ -1,4 +1,3 @@
-pub mod FaultNames
 pub mod Playing
 pub mod WalkLaws
 pub mod Walk

@@ -10,7 +10,7 @@ use Rattle.client_core.specs.Inside.Tasks.{AreSlots}
 use Rattle.client_core.specs.Inside.Clocks.{NodeClock, counter_in}
 use Rattle.client_core.specs.Deeds.{Batches}
 use Rattle.client_core.specs.Inside.Core.{behind, IsLate, IsCommandInRange, IsCommandOf, CanBegin}
-use Rattle.client_core.proofs.machine.begin.Given as goal
+use Rattle.client_core.proofs.current.begin.Given as goal
 
 -- the commands that were begun are through, and the client goes on as at first
 pub record Beginning (clocks : List NodeClock) (step : ℕ) (slots_before slots : Slots) (left_before left : List Command) (outcomes_before outcomes : List Outcome) (room : ℕ) : Type 0 where
