@@ -21,7 +21,8 @@
 //! one reply more repeats at most one read more (`one_reply_repeats_once`); its passes on a node are, in order and each once, those of its
 //! writes whose poll was Ready and which complete a packet (`writes_pass_their_batches`). Worked examples are computed by the check.
 //!
-//! What is only tested: that memory isn't refused where there is enough, and by packets of ffmpeg's muxer that the fields are those meant.
+//! What is only tested, in `tests_text`: that memory isn't refused where there is enough, and, by packets written by hand and one of
+//! ffmpeg's muxer, that the fields are those meant.
 //! Limits: `ClientCore::new` takes the memory of a client, `call_of` that of a Read's buffer or of a share in a batch, copies theirs; a
 //! write has at most 12,032 bytes. The runs of the crates above stop a client after `MOST_CALLS` calls.
 #![tactic(auto)]

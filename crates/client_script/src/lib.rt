@@ -35,7 +35,7 @@
 //! (`the_script_part_ends_with_its_line_stream`), and where no more bytes are searched
 //! (`without_a_line_stream_all_bytes_are_the_script_part`).
 //!
-//! What is only tested, in `script_tests`: that memory isn't refused where there is enough.
+//! What is only tested, in `tests_text`: that memory isn't refused where there is enough.
 //!
 //! Limits: at most 1,048,576 bytes are read, each a few times; `ScriptPart` looks at each byte once. Memory is taken for the
 //! lines, and for the bytes of writes and of a script part; words are read where they stand. `print` takes memory for its text.

@@ -20,7 +20,7 @@
 //!
 //! There is no other way to the bytes of a packet than `packet`, so the counter of steps bounds how many were looked at.
 //!
-//! The number of packets in a batch and the counting of steps are this project's rules. The tests stand in `stream_tests`.
+//! The number of packets in a batch and the counting of steps are this project's rules. The tests stand in `tests_low`.
 #![tactic(auto)]
 
 mod index;
