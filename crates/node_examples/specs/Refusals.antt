@@ -3,20 +3,18 @@ use Rattle.std.specs.Prelude.{ℕ, ◌≡◌, List, [], ◌∷◌, ◌++◌, map
 use Rattle.std.specs.List.{range_with_len}
 use Rattle.dmx_calls.specs.declared.node.State.{State}
 use Rattle.dmx_calls.specs.declared.node.State.TheVariants.{Free, Allocated, Set, Go, Done as IsDone, TimedOut as IsTimedOut}
-use Rattle.dmx_calls.specs.declared.params.Input.TheVariants.{Frontend, Dvr}
-use Rattle.dmx_calls.specs.declared.params.Output.{Output}
-use Rattle.dmx_calls.specs.declared.params.Output.TheVariants.{Decoder, Tap, TsTap, TsdemuxTap}
+use Rattle.dmx_calls.specs.declared.params.Input.TheVariants.{Frontend}
+use Rattle.dmx_calls.specs.declared.params.Output.TheVariants.{Decoder, Tap, TsdemuxTap}
 use Rattle.dmx_calls.specs.declared.reply.Errno.TheVariants.{Ebadf, Ebusy, Einval, Enospc}
 use Rattle.dmx_calls.specs.declared.reply.PollError.TheVariants.{Quiet, TimedOut as TimeoutPending}
-use Rattle.dmx_calls.specs.Invocation.{Invocation, Open, Close, SetFilter, SetPes, AddPid, RemovePid, Start, Stop, SetSize, Read, Poll, Pass, End, Attach, Detach}
+use Rattle.dmx_calls.specs.Invocation.{Invocation, Open, Close, AddPid, RemovePid, Start, Stop, SetSize, Read, Poll, Pass, End, Attach, Detach}
 use Rattle.dmx_calls.specs.declared.reply.Tap.TheVariants.{Keep as KeepTap}
 use Rattle.dmx_calls.specs.Response.{Response, Done, Busy, Refused, Data, Again, TimedOut, Ready, Passed}
 use Rattle.dmx_calls.specs.History.{History, entry_of}
 use Rattle.dmx_calls.specs.Rules.{demux, dvr}
 use Rattle.dmx_calls.specs.Facts.{facts, state_of}
 use Rattle.dmx_calls.specs.Answer.{answer}
-use Rattle.node_examples.specs.Words.{opened, client_0, client_1, fed, fed_at, done, pes, pes_with, section, packet, unit_packet, section_a}
-use Rattle.node_laws.specs.Plays.{Plays}
+use Rattle.node_examples.specs.Words.{opened, client_0, fed_at, done, pes, pes_with, section, packet, unit_packet, section_a}
 
 -- ------ one line a call, one column a state
 
@@ -153,61 +151,7 @@ abbrev pub OwnerTestComesFirst : Type 0
 OwnerTestComesFirst =
     (answer demux running 2 (SetSize 1) ≡ Refused Ebadf) × (answer demux [] 1 (pes 0x2001 Decoder) ≡ Refused Ebadf)
 
--- ------ arguments
-
-abbrev pub section_of : (pid flags : ℕ) → Invocation
-section_of pid flags =
-    SetFilter (record {
-      pid = pid;
-      filter = record {
-        filter = replicate 16 0;
-        mask = replicate 16 0;
-        mode = replicate 16 0;
-      };
-      timeout = 0;
-      flags = flags;
-    }) 0
-
-abbrev pub pes_of_type : (pes_type : ℕ) → Invocation
-pes_of_type pes_type = SetPes (record { pid = 256; input = Frontend; output = Tap; pes_type = pes_type; flags = 0 }) 0
-
-abbrev pub pes_from_the_dvr : Output → Invocation
-pes_from_the_dvr output = SetPes (record { pid = 256; input = Dvr; output = output; pes_type = 20; flags = 0 }) 0
-
-abbrev pub ArgumentsThatAreTaken : Type 0
-ArgumentsThatAreTaken =
-    map (answer demux is_set 1) (section_of 0x1fff 3 ∷ pes 0x2000 Tap ∷ pes_with 256 TsTap 3 ∷ section_of 0x1fff 259
-    ∷ pes_with 256 TsdemuxTap 256 ∷ pes_of_type 0 ∷ pes_of_type 20
-    ∷ pes_from_the_dvr Tap ∷ pes_from_the_dvr TsdemuxTap ∷ SetSize 2 ∷ SetSize 16777216 ∷ [])
-    ≡ replicate 11 done
-
-abbrev pub ArgumentsThatAreRefused : Type 0
-ArgumentsThatAreRefused =
-    map (answer demux running 1) (
-    section_of 256 8 ∷ section_of 0x2000 0 ∷ pes 0x2001 Tap ∷ pes_with 256 Tap 8 ∷ section_of 256 264
-    ∷ pes_with 256 Tap 128 ∷ pes_with 256 Tap 512 ∷ pes_with 256 Tap 768 ∷ pes_of_type 21 ∷ pes 256 Decoder
-    ∷ pes_from_the_dvr TsTap
-    ∷ AddPid 0x2001 ∷ RemovePid 0x2001 ∷ SetSize 0 ∷ SetSize 1 ∷ SetSize 16777217 ∷ []
-    )
-    ≡ replicate 16 (Refused Einval)
-
 -- ------ PIDs
-
--- TAP and TS_TAP take one PID, TSDEMUX_TAP takes several; no PID can be added or removed without a PES filter
-abbrev pub PidsOfAPayloadTap : Type 0
-PidsOfAPayloadTap = Plays demux (
-    opened
-    ∷ client_0 (Start 0) (Refused Einval)
-    ∷ client_0 (AddPid 257) (Refused Einval)
-    ∷ client_0 (pes 256 Tap) done
-    ∷ client_0 (AddPid 257) (Refused Einval)
-    ∷ client_0 (AddPid 256) done
-    ∷ client_0 (RemovePid 300) done
-    ∷ client_0 (RemovePid 256) done
-    ∷ client_0 (AddPid 257) done
-    ∷ client_0 (AddPid 256) (Refused Einval)
-    ∷ []
-    )
 
 -- a filter of whole packets with the PIDs 0 to 127, the newest entry first
 abbrev pub full : History
@@ -219,24 +163,6 @@ abbrev pub FullSet : Type 0
 FullSet =
     map (answer demux full 1) (AddPid 128 ∷ AddPid 0x2001 ∷ AddPid 127 ∷ RemovePid 128 ∷ RemovePid 0 ∷ [])
     ≡ Refused Enospc ∷ Refused Einval ∷ done ∷ done ∷ done ∷ []
-
--- ------ what a refused call leaves
-
--- a refused set call leaves the filter running
-abbrev pub RefusedSetCall : Type 0
-RefusedSetCall = Plays demux (
-    opened
-    ∷ client_0 (pes 256 TsdemuxTap) done
-    ∷ client_0 (Start 0) done
-    ∷ client_0 (pes 256 Decoder) (Refused Einval)
-    ∷ client_1 Stop (Refused Ebadf)
-    ∷ client_1 Open (Busy 1)
-    ∷ fed (packet 256 0 0)
-    ∷ client_0 (Read 0 188) (Data (packet 256 0 0))
-    ∷ client_0 Close (Done 188 188 KeepTap)
-    ∷ client_0 Close (Refused Ebadf)
-    ∷ []
-    )
 
 -- ------ the dvr node
 
@@ -255,7 +181,3 @@ DvrByItsOwner =
     map (answer dvr dvr_open 1) all_calls
     ≡ Busy 1 ∷ done ∷ replicate 6 (Refused Einval)
     ++ (done ∷ Again false ∷ unready ∷ Passed ∷ Passed ∷ done ∷ done ∷ [])
-
-abbrev pub DvrSizes : Type 0
-DvrSizes = map (answer dvr dvr_open 1) (SetSize 1 ∷ SetSize 2 ∷ SetSize 16777216 ∷ SetSize 16777217 ∷ [])
-    ≡ Refused Einval ∷ done ∷ done ∷ Refused Einval ∷ []

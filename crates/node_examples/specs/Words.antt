@@ -1,5 +1,5 @@
 -- The words of the worked examples.
-use Rattle.std.specs.Prelude.{ℕ, ◌+◌, ◌-◌, ◌/◌, ◌%◌, List, [], ◌∷◌, ◌++◌, length, take, drop, replicate, set}
+use Rattle.std.specs.Prelude.{ℕ, ◌+◌, ◌-◌, ◌/◌, ◌%◌, List, [], ◌∷◌, ◌++◌, length, replicate, set}
 use Rattle.dmx_calls.specs.declared.params.Input.TheVariants.{Frontend}
 use Rattle.dmx_calls.specs.declared.params.Output.{Output}
 use Rattle.dmx_calls.specs.Invocation.{Invocation, Open, SetFilter, SetPes, Pass}
@@ -64,10 +64,6 @@ section timeout flags = section_with timeout flags 0 0 0 0
 abbrev pub packet : (pid counter byte : ℕ) → List ℕ
 packet pid counter byte = 0x47 ∷ (pid / 256) ∷ (pid % 256) ∷ (0x10 + counter) ∷ replicate 184 byte
 
--- a packet of PID 256 whose payload is n equal bytes, 1 to 182, behind an adaptation field
-abbrev pub payload_of_length : (n byte : ℕ) → List ℕ
-payload_of_length n byte = 0x47 ∷ 0x01 ∷ 0x00 ∷ 0x31 ∷ (183 - n) ∷ 0x00 ∷ replicate (182 - n) 0xff ++ replicate n byte
-
 -- these bytes and then 0xFF, n bytes in all
 abbrev pub stuffed : ℕ → List ℕ → List ℕ
 stuffed n bytes = bytes ++ replicate (n - length bytes) 0xff
@@ -78,17 +74,3 @@ unit_packet pid counter bytes = 0x47 ∷ (0x40 + pid / 256) ∷ (pid % 256) ∷ 
 
 abbrev pub section_a : List ℕ
 section_a = 0x42 ∷ 0x00 ∷ 0x05 ∷ 1 ∷ 2 ∷ 3 ∷ 4 ∷ 5 ∷ []
-
-abbrev pub section_b : List ℕ
-section_b = 0x43 ∷ 0x00 ∷ 0x02 ∷ 0x0a ∷ 0x0b ∷ []
-
--- 203 bytes, more than a packet carries
-abbrev pub section_x : List ℕ
-section_x = 0x40 ∷ 0x00 ∷ 0xc8 ∷ replicate 200 0x11
-
--- two packets with section X and then section A: 183 bytes of X, and its last 20 behind a pointer of 20
-abbrev pub first_of_x : List ℕ
-first_of_x = 0x47 ∷ 0x41 ∷ 0x00 ∷ 0x10 ∷ 0x00 ∷ take 183 section_x
-
-abbrev pub rest_of_x : (counter : ℕ) → List ℕ
-rest_of_x counter = 0x47 ∷ 0x41 ∷ 0x00 ∷ (0x10 + counter) ∷ 0x14 ∷ stuffed 183 (drop 183 section_x ++ section_a)
