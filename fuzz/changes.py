@@ -10,7 +10,7 @@ import random
 import re
 import sys
 
-sys.path.insert(1, os.path.join(os.path.dirname(os.path.realpath(__file__)), "..", "tools"))
+sys.path.insert(1, os.path.join(os.path.dirname(os.path.realpath(__file__)), "..", "tools", "lib"))
 
 import reports  # noqa: E402
 from judge import MOST_PACKETS, node_text, outcome_text  # noqa: E402

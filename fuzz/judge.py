@@ -11,7 +11,7 @@ import re
 import sys
 from collections import deque
 
-sys.path.insert(1, os.path.join(os.path.dirname(os.path.realpath(__file__)), "..", "tools"))
+sys.path.insert(1, os.path.join(os.path.dirname(os.path.realpath(__file__)), "..", "tools", "lib"))
 
 import reports  # noqa: E402
 import second  # noqa: E402

@@ -15,7 +15,7 @@ import re
 import sys
 
 HERE = os.path.dirname(os.path.realpath(__file__))
-sys.path.insert(1, os.path.join(HERE, "..", "tools"))
+sys.path.insert(1, os.path.join(HERE, "..", "tools", "lib"))
 sys.dont_write_bytecode = True
 
 from checks import ROOT, Tally  # noqa: E402

@@ -7,7 +7,7 @@ import time
 
 HERE = os.path.dirname(os.path.realpath(__file__))
 TOP = os.path.dirname(HERE)
-sys.path[1:1] = [os.path.join(TOP, "tools"), os.path.join(TOP, "fuzz")]
+sys.path[1:1] = [os.path.join(TOP, "tools", "lib"), os.path.join(TOP, "fuzz")]
 sys.dont_write_bytecode = True
 
 import judge  # noqa: E402

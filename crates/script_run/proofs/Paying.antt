@@ -24,7 +24,7 @@ use Rattle.client_core.specs.declared.event.Request.{Request}
 use Rattle.client_core.specs.declared.event.Request.TheVariants.{Own, Pass}
 use Rattle.client_script.specs.declared.line.Want.TheVariants.{Open}
 use Rattle.ts_batch.specs.Batch.{Packets}
-use Rattle.dvr_play.specs.Laws.{packets_in}
+use Rattle.client_core.specs.PlayLaws.{packets_in}
 use Rattle.client_core.specs.Deeds.{Batches, batch_at, deed_of}
 use Rattle.client_core.specs.Commands.{call_of, commands_among, commands_of, ends_drain, pass_of, played, plays_of}
 use Rattle.client_core.specs.Events.{next_event, no_slots}

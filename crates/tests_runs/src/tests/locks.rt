@@ -6,13 +6,13 @@ mod held;
 mod many;
 
 use super::two_of;
+use machine::steps::Steps;
 use machine::{Adder, Machine};
 use node_lock::{Held, NodeLock, Pass};
 use std::alloc::{AllocError as NoMemory, Global};
 use std::marker::Brand;
 use std::sync::Wait;
 use std::sync::ledger::{Blank, Ledger};
-use steps::Steps;
 
 // The two passes of a lock of two callers.
 fn pair<M: Machine>(lock: &NodeLock<M>, mut passes: Vec<Pass<M>>) -> (Pass<M>, Pass<M>)

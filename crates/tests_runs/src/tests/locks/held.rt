@@ -5,6 +5,7 @@ ghost use Rattle.node_lock.specs.Passes.{IsFresh};
 use super::{call, lock_of_two, try_call};
 use crate::tests::comes_to;
 use machine::Machine;
+use machine::steps::Steps;
 use node_lock::{Held, NodeLock, Pass};
 use std::alloc::Global;
 use std::sync::atomic::AtomicU64;
@@ -12,7 +13,6 @@ use std::sync::atomic::Ordering::SeqCst;
 use std::sync::ledger::Ledger;
 use std::sync::{Arc, Wait};
 use std::thread::{Threads, join};
-use steps::Steps;
 
 #[derive(Drop)]
 enum Call {

@@ -1,0 +1,140 @@
+"""Hints for a receiver's writer, for tools/explain: each with what the report shows and the rule that it comes from.
+
+RULES has for each kind of stumble the heading or paragraph of docs/BEHAVIOUR.md and words that stand there; tools/checks/hints looks
+for them.
+"""
+from fields import pid_text
+from reports import DVR
+from sentences import NAMES, lines_text, many, node_name, node_text, pids_text
+
+RULES = {
+    "no capture": ("Read", "without a capture: Data of no bytes"),
+    "never started": ("Calls", "without it the filter waits for a Start"),
+    "timed out": ("Timeouts", "A section that doesn't match is no item and stops no timeout"),
+    "timed out in a pass": ("Timeouts", "a pass that expires a filter offers it nothing, and a section in that very pass is lost"),
+    "larger": ("The ledger", "A buffer of n bytes holds n - 1."),
+    "first size": ("Calls", "makes the caller the owner, with a buffer size of 8192 and no filter"),
+    "first size of dvr": ("The dvr node", "Done; the buffer size is 1,925,120"),
+    "break of sections": ("Segments", "The end of a run ends the open segment, and a run begins with none."),
+    "break of packets": ("Items of a PES filter", "Packets are taken as they are"),
+    "duplicate of sections": ("Clean packets", "those that have a payload and error bit 0, without duplicates"),
+    "duplicate of packets": (
+        "Items of a PES filter",
+        "error bit, scrambling bits and duplicates make no difference, and no PES header is looked at",
+    ),
+    "dropped": ("What is dropped", "A set call, Start, Close and SetSize to another size drop what is unread."),
+    "busy": ("Refusals", "the node is Free, or the caller isn't its owner."),
+    "free tap": ("The dvr node", "A capture begins with each accepted Open and with each SetSize to another size"),
+    "read of ts_tap": ("Items of a PES filter", "none: the packet goes to the dvr node, below"),
+    "part": ("Read", "So a read of a section filter gives one section or a part of one"),
+    "no packet": ("Captures", "Its items are what the filter selects from these packets"),
+    "late": ("Captures", "The packets offered to a capture are those that pass while the node is in Go."),
+    "late in run": ("The threads of `run`", "In which order the calls of two callers come is open."),
+    "late on dvr": ("The dvr node", "Its items are the packets of the frontend that pass while it goes on"),
+    "skipped": ("Cutting", "At any other byte, this one byte is skipped."),
+    "other size": ("Cutting", "The word `--packet` names P, and without it P is 188."),
+    "unbound": ("What a client's commands do", "A command other than `open` on a slot that is bound to no node makes no call"),
+}
+
+
+def size_words(stumble):
+    """The words of the two stumbles over a buffer's size."""
+    facts = stumble.facts
+    if stumble.kind == "larger":
+        item = f"item {facts['item']} has {many(facts['need'], 'byte')}, and the buffer size is {facts['size']}"
+        return f"an Overflow that no reading in time avoids, only a greater size: {item}"
+    given = "which is the one that Open gives; SetSize takes others up to 16,777,216"
+    return f"an Overflow at the buffer size {facts['size']}, {given}"
+
+
+def pid_words(stumble):
+    """The words of the stumbles over a filtered PID."""
+    facts = stumble.facts
+    if stumble.kind == "no packet":
+        return f"the filter asks for {pids_text(facts['pids'])}, of which the stream has no packet"
+    of = f"{many(facts['count'], stumble.kind.partition(' ')[0])} of {pids_text([facts['pid']])} in the stream"
+    rules = {
+        "break of sections": "a section filter loses a section that goes on across a break",
+        "break of packets": "a PES filter gives the packets before and behind a break, and no reply tells the break",
+        "duplicate of sections": "a section filter leaves duplicates out",
+        "duplicate of packets": "a PES filter gives duplicates too, so the reader has to leave them out",
+    }
+    return f"{of}; {rules[stumble.kind]}"
+
+
+def late_words(stumble):
+    """The words of the stumbles over a stream that had ended."""
+    facts = stumble.facts
+    what = "the dvr node is opened or resized" if stumble.node == DVR else "the filter is started"
+    shown = f"{what} when the stream had ended (End is entry {facts['end']} of its history, this call entry {facts['begin']})"
+    none = f"{shown}, so no packet comes to it"
+    if stumble.kind == "late":
+        return f"{none}; a `feed`, `readw` or `drain` before it has taken the stream to its end"
+    clock = f"the moments begin at {facts['moment']}, as those of `run` do, whose feeder waits for no client"
+    return f"{none}; {clock}: let tools/pace write the stream at its own pace, or try the filter with `steps`"
+
+
+def words(stumble):
+    """What the report shows of a stumble."""
+    facts = stumble.facts
+    if stumble.kind == "no capture":
+        return f"a read gives no bytes: {facts['why']}"
+    if stumble.kind == "never started":
+        return "the filter that is set there is never started"
+    if stumble.kind == "timed out":
+        shown = f"though the stream has {many(facts['packets'], 'packet')} of its PID, {pid_text(facts['pid'])}"
+        why = "they came before the capture or too late, or brought no section that is selected"
+        return f"the section filter timed out, {shown}; {why}"
+    if stumble.kind in ("larger", "first size"):
+        return size_words(stumble)
+    if stumble.kind == "dropped":
+        return f"{NAMES[facts['act']]} drops {many(facts['bytes'], 'byte')} that the client hadn't read"
+    if stumble.kind == "busy":
+        return f"EBADF, since the Open in line {facts['opened']} was answered Busy and the client calls the node all the same"
+    if stumble.kind == "free tap":
+        passed = many(facts["packets"], "packet")
+        tap = f"the tap of {node_name(facts['tapped'])} is attached while the dvr node is Free"
+        return f"{tap}, and {passed} of the stream passed it then, which nobody can read there"
+    if stumble.kind == "part":
+        of = f"of the {many(facts['of'], 'byte')} of a section" if facts["of"] else "of a section"
+        return f"a read of {many(facts['count'], 'byte')} gives a part {of}; the next read goes on behind it"
+    if stumble.kind == "read of ts_tap":
+        return "a read finds nothing on a node whose filter has the output TS_TAP"
+    if stumble.kind in ("late", "late in run"):
+        return late_words(stumble)
+    if stumble.kind == "skipped":
+        of = f"{facts['skipped']:,} of the {many(facts['whole'], 'byte')} were skipped"
+        what = "isn't a stream of packets that begin with 0x47 and take up 188 bytes each, or 204 with `--packet 204`"
+        return f"{of}: what stands behind the line `stream` {what}"
+    if stumble.kind == "other size":
+        of = f"{many(facts['skipped'], 'byte')} were skipped at {many(facts['packets'], 'packet')}"
+        return f"{of}, as where packets take up {facts['size']} bytes of the stream: try `--packet {facts['size']}`"
+    if stumble.kind == "unbound":
+        return "the command names a slot that no open has bound, so it makes no call"
+    return pid_words(stumble)
+
+
+def hint_text(stumble):
+    """A hint in words, without its rule."""
+    if stumble.client is None:
+        return f"The stream: {words(stumble)}."
+    where = f"Client {stumble.client}, {lines_text(stumble.lines)}"
+    if stumble.node is not None:
+        where += f", {node_text(stumble.node)}"
+    more = len(stumble.lines) - 1
+    first = ", at first" if more and stumble.kind in ("dropped", "larger", "first size", "part", "late", "late in run") else ""
+    return f"{where}{first}: {words(stumble)}."
+
+
+def rule_texts(stumble):
+    """The rules of a hint, as they are quoted."""
+    kinds = [stumble.kind]
+    if stumble.kind == "first size" and stumble.node == DVR:
+        kinds = ["first size of dvr"]
+    if stumble.kind == "late in run":
+        kinds.append("late on dvr" if stumble.node == DVR else "late")
+    if stumble.kind == "late" and stumble.node == DVR:
+        kinds = ["late on dvr"]
+    if stumble.kind == "timed out":
+        kinds.append("timed out in a pass")
+    return [f"Rule: '{heading}': \"{quoted}\"" for heading, quoted in (RULES[kind] for kind in kinds)]
