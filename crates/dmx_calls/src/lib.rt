@@ -22,7 +22,7 @@
 //! and an End are answered Passed; a report loses nothing of a call. The worked examples of `examples`, worked out by
 //! hand from the rules, are what the definitions give: every call in every state, reads, overflows, sections, timeouts,
 //! taps and recordings. Both have empty bodies; the check computes or proves their contracts.
-//! The tests stand in `node_tests`.
+//! What calls are answered is tested in `examples/rows`, and what an entry takes in `tests_runs`.
 //!
 //! Sources: the Linux media API, chapter Digital TV demux, for calls, filters, states and errors; ISO/IEC 13818-1 for
 //! packets and sections; what these leave open is this project's rule, as are the numbers of `limits` but the flags other than
