@@ -1,4 +1,5 @@
-"""Whether a wrong expectation of rows/NAME.rows is noticed: a hundred of them, drawn by a number, are changed one at a time."""
+"""Whether a wrong expectation of rows/NAME.rows is noticed: a hundred of them, drawn by a number, are changed one at a time; and whether
+one that is left out is seen by its count."""
 import random
 
 import rows
@@ -27,6 +28,17 @@ def changed(line, draw):
         return f"{front}{sign or ' '}{text}x"
     place = draw.choice(places)
     return front + sign + text[:place] + ("1" if text[place] != "1" else "2") + text[place + 1 :]
+
+
+def left_out(text, number):
+    """The text of a file without one of its expectations, and without one of its sessions."""
+    draw = random.Random(number)
+    lines = text.split("\n")
+    place = draw.choice([place for place, line in enumerate(lines) if rows.expects(line)])
+    yield "\n".join(lines[:place] + lines[place + 1 :])
+    parts = text.split("\nsession ")
+    part = draw.randrange(len(parts))
+    yield "\nsession ".join(parts[:part] + parts[part + 1 :])
 
 
 def falsified(sessions, number):

@@ -15,10 +15,11 @@
 //! `histories` each node has just the entries that the logs have on it, each as often as there, in the order of their places
 //! (`AreByPlace`); where the logs name no place twice and none beyond the end, each entry stands at its place.
 //!
-//! What is only tested: the feeder and two clients on threads of their own, each of whose replies is replayed by plain code in the
-//! order of the places. What is neither: that a wait ends, fairness, time, in which order calls of two callers come, and that threads
-//! do run beside each other. Limits: 8 clients; 2^44 calls of the feeder and 2^40 of each client. `new` takes memory, the nodes for an
-//! Open or a SetSize, and the lists of `histories` with the buffer of their sort, which is linear in the entries.
+//! What is only tested: that reports of the feeder and of clients on threads of their own are right, as the command check finds
+//! (`tests_runs`) and as a second program that plays each node again (`fuzz/judge.py`). What is neither: that a wait ends, fairness,
+//! time, in which order calls of two callers come, and that threads do run beside each other. Limits: 8 clients; 2^44 calls of the
+//! feeder and 2^40 of each client. `new` takes memory, the nodes for an Open or a SetSize, and the lists of `histories` with the buffer
+//! of their sort, which is linear in the entries.
 #![tactic(auto)]
 
 mod adapter;

@@ -1,10 +1,10 @@
 //! The sizes of what a history keeps, and of a counter of steps.
 
 use dmx_calls::{ByteBuf, Entry};
+use machine::steps::Steps;
 use std::alloc::{AllocError as NoMemory, Global};
 use std::marker::Brand;
 use std::mem::size_of;
-use machine::steps::Steps;
 
 // Puts these bytes into a buffer, where there is room for them.
 fn append(buf: &mut ByteBuf, bytes: &[u8]) {

@@ -128,7 +128,7 @@ const NO_PACKETS: Whole = Whole {
 };
 
 // The report of a session without packets has 40 bytes, so there are four writes.
-static WRITE_FAULTS: [Whole; 8] = [
+static WRITE_FAULTS: [Whole; 9] = [
     Whole {
         ends: &Ends {
             writes: &[0],
@@ -191,6 +191,19 @@ static WRITE_FAULTS: [Whole; 8] = [
             capacity: 0,
             ..NARROW
         },
+        ..NO_PACKETS
+    },
+    // Words that read nothing: the first read would fail.
+    Whole {
+        words: "make 7\nmake 8",
+        ends: &Ends {
+            piece: 1,
+            reads: &[0],
+            capacity: 12,
+            width: 65536,
+            writes: &[],
+        },
+        output: "c0 open n0\nc",
         ..NO_PACKETS
     },
 ];

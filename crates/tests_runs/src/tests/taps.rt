@@ -6,12 +6,12 @@ ghost use Rattle.dvr_core.specs.Examples.{ThreeOf64, EachOnce, All64, NoLook};
 use dmx_calls::{Answer, ByteBuf, Call, Input, Reply, Tap};
 use dvr_core::DvrCore;
 use machine::Machine;
+use machine::steps::Steps;
 use pid_set::Pids;
 use std::alloc::{AllocError as NoMemory, Global};
 use std::marker::Brand;
 use std::sync::Arc;
 use std::sync::ledger::{Blank, Ledger};
-use machine::steps::Steps;
 use ts_batch::Batch;
 use ts_packet::{Cutter, PacketBuf, PacketSize};
 

@@ -310,7 +310,7 @@ fn runs_made<R: AllocGlobal + Threads + Wait + Sync>(
 // orders that the gate makes others.
 #[test]
 fn a_made_session_runs(rt: HostRuntime) {
-    let odd = (0..1u64).find(|number| {
+    let odd = (0..4u64).find(|number| {
         let gate = ShufflingGate { number: *number };
         runs_made(&rt, &gate) != Ok(true)
     });
