@@ -1,0 +1,9 @@
+pub mod Words
+pub mod Reads
+pub mod Overflows
+pub mod Sections
+pub mod Timeouts
+pub mod Taps
+pub mod Dvr
+pub mod Refusals
+pub mod Histories
