@@ -172,8 +172,7 @@ fn looks_at_64_packets()
 fn each_tap_names_its_packets(rt: HostRuntime) {
     looks_at_64_packets();
     let node = DvrCore::new(rt.alloc());
-    assert_eq!(rt;
-        find_odd::<DvrCore, Brand>(rt.alloc(), node, Blank::new(1)),
-        Ok(None)
-    );
+    assert_eq!(rt; node.entries(), 0);
+    let odd = find_odd::<DvrCore, Brand>(rt.alloc(), node, Blank::new(1));
+    assert_eq!(rt; odd, Ok(None));
 }
