@@ -12,7 +12,7 @@ pub mod Checking
 pub mod Playing
 pub mod Players
 pub mod Dealt
-pub mod Played
+pub mod ToldPlayed
 pub mod Sources
 pub mod Asked
 pub mod Doing

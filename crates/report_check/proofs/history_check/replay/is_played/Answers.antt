@@ -8,7 +8,7 @@ use Rattle.dmx_calls.specs.Legal.{May}
 use Rattle.dmx_calls.specs.Log.{LogEntry, filled}
 use Rattle.dmx_calls.specs.Response.{NoMemory}
 use Rattle.report_check.specs.Playing.{IsCallable, brought_from, played}
-use Rattle.report_check.proofs.Played.{IsAt, at_told, taken_next, may_there, played_more}
+use Rattle.report_check.proofs.ToldPlayed.{IsAt, at_told, taken_next, may_there, played_more}
 use Rattle.report_check.proofs.history_check.replay.is_played.Goals as goal
 
 pub call_told-requires-clause-callable : goal.call_told-requires-clause-callable
