@@ -1,4 +1,5 @@
 // Why a script isn't read.
+ghost use Rattle.std.specs.Prelude.{◌≡◌};
 ghost use Rattle.client_script.specs.declared.fault.ScriptError.TheVariants.{NoMemory as WantOfMemory};
 
 use std::alloc::{AllocError, AllocFailed};

@@ -80,20 +80,21 @@ fn words_mean_a_command(rt: HostRuntime) {
 
 // Client 0 reads the most bytes that a read can ask for, all of them 0.
 fn read_of(alloc: Global, place: u64) -> Result<Entry, NoMemory> {
+    let bytes = vec![in alloc; 0u8; 65_536]?;
     let mut buf = ByteBuf::new(alloc, 65_536)?;
-    buf.append(&[0; 65_536]);
+    if bytes.len() <= 65_536 {
+        buf.append(&bytes);
+    }
+    let act = Act::Read {
+        now: 0,
+        count: 65_536,
+    };
     Ok(Entry {
         place,
         step: place,
         node: 0,
         who: 1,
-        act: KeptAct::of(
-            alloc,
-            Act::Read {
-                now: 0,
-                count: 65_536,
-            },
-        )?,
+        act: KeptAct::of(alloc, act)?,
         reply: SharedReply::of(alloc, None, Reply::Data(buf))?,
     })
 }
