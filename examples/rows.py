@@ -80,7 +80,7 @@ def bytes_of_words(words):
 
 def packet(begins, words):
     """A packet, by its PID, its counter and its payload."""
-    pid, counter, payload = words.split(" ", 2) if words.count(" ") > 1 else (*words.split(" "), "")
+    pid, counter, payload = [*words.split(" ", 2), ""][:3]
     head = bytes([0x47, begins << 6 | int(pid) >> 8, int(pid) & 0xFF, 0x10 | int(counter)])
     made = head + (b"\0" if begins else b"") + bytes_of_words(payload)
     return made.ljust(188, b"\xff" if begins else made[-1:])
@@ -166,15 +166,15 @@ def ask(program, words, report, given):
 
 
 def second_status(words, given, ran):
-    """The status that the second program comes to, where the words are `steps` or `run` and the program told this; that it comes to
-    another report is told too."""
+    """The status that the second program comes to, where the words are `steps` or `run`; or that it comes to another report than the
+    program, or that its judge finds something wrong in it."""
     batch, size = options(words)
     try:
-        if words.startswith("run"):
-            second.read_script(given)
-            wrong = judge.judge(given, batch, ran.output, size) if ran.status == "ok" else None
-            return f"the judge: {wrong}" if wrong else "ok"
-        return "ok" if second.report(given, batch, size).encode() == ran.output else "another report"
+        if words.startswith("steps"):
+            return "ok" if second.report(given, batch, size).encode() == ran.output else "another report"
+        second.read_script(given)
+        wrong = judge.judge(given, batch, ran.output, size) if ran.status == "ok" else None
+        return f"the judge: {wrong}" if wrong else "ok"
     except second.Fault as fault:
         return f"script line {fault.line}: {fault.kind}"
 

@@ -195,7 +195,7 @@ static WRITE_FAULTS: [Whole; 9] = [
     },
     // Words that read nothing: the first read would fail.
     Whole {
-        words: "make 7\nmake 8",
+        words: "make 7",
         ends: &Ends {
             piece: 1,
             reads: &[0],
