@@ -218,13 +218,18 @@ fn odd_writes(alloc: Global) -> Result<Option<usize>, NoMemory> {
 // Whether the report is read as three reads and the end on node 0, and what became of one command.
 fn is_read(alloc: Global) -> Result<bool, NoMemory> {
     let text = report(alloc)?;
-    match read_report(alloc, &text)? {
-        Some(told) => Ok(
-            matches!(told.nodes.as_slice(), [(0, entries)] if entries.len() == 4)
-                && matches!(told.outcomes.as_slice(), [commands] if commands.len() == 1),
-        ),
-        None => Ok(false),
-    }
+    let Some(told) = read_report(alloc, &text)? else {
+        return Ok(false);
+    };
+    let is_of_node_0 = match told.nodes.as_slice() {
+        [(number, entries)] => *number == 0 && entries.len() == 4,
+        _ => false,
+    };
+    let is_of_one_command = match told.outcomes.as_slice() {
+        [commands] => commands.len() == 1,
+        _ => false,
+    };
+    Ok(is_of_node_0 && is_of_one_command)
 }
 
 #[test]
