@@ -156,7 +156,7 @@ def try_clocks(room):
     for name, joined, seconds in ("two", other + data, 4 * SECONDS), ("halves", data[half:] + data[:half], SECONDS), ("again", data * 3, 3 * SECONDS):
         with open(room.path(name), "wb") as file:
             file.write(joined)
-        ran = subprocess.run([*words, room.path(name), HERE, os.path.join(TOP, "tools")], stdout=subprocess.PIPE, text=True, check=False)
+        ran = subprocess.run([*words, room.path(name), HERE, os.path.join(TOP, "tools", "lib")], stdout=subprocess.PIPE, text=True, check=False)
         length = float(ran.stdout or 0)
         room.want(abs(length - seconds) < 0.1, f"the length of {name}", f"{length} of {seconds} s at {RATE} packets a second")
 

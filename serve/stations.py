@@ -5,7 +5,7 @@ import sys
 import os
 
 HERE = os.path.dirname(os.path.realpath(__file__))
-sys.path.insert(1, os.path.join(HERE, "..", "tools"))
+sys.path.insert(1, os.path.join(HERE, "..", "tools", "lib"))
 sys.dont_write_bytecode = True
 
 import clock  # noqa: E402
