@@ -1,24 +1,37 @@
 """The clients of a report, what they called, and what they got, for tools/explain."""
 from bisect import bisect_right
+from typing import NamedTuple
 
 from fields import NAMES
 
 
 class Call:
     """A call of a client: its node, its entry, the names of its act and its reply, a reason that the entry hasn't, the head of the
-    section that it begins to give, the stream_ids of the PES packets that begin in its bytes, and whether KEEP has kept what was
-    unread before the Overflow that it is answered."""
+    section that it begins to give, the stream_ids of the PES packets that begin in its bytes, and what is known of what was lost where it
+    is answered an Overflow."""
 
-    __slots__ = ("node", "entry", "act", "reply", "reason", "head", "streams", "kept")
+    __slots__ = ("node", "entry", "act", "reply", "reason", "head", "streams", "lost")
 
     def __init__(self, node, entry):
-        self.node, self.entry, self.reason, self.head, self.streams, self.kept = node, entry, "", None, (), False
+        self.node, self.entry, self.reason, self.head, self.streams, self.lost = node, entry, "", None, (), None
         self.act = entry.act.partition(" ")[0]
         self.reply = entry.reply.partition(" ")[0]
 
     def length(self):
         """How many bytes a read gave."""
         return 0 if self.reply != "data" or self.entry.reply == "data -" else (len(self.entry.reply) - 5) // 2
+
+
+class Lost(NamedTuple):
+    """What is known of the span of an Overflow: whether KEEP has kept what was unread before, how many packets it has, where these are
+    given whole, how many sections it has at least, where these are given, and the numbers of the stream's packets from which and before
+    which its bytes came."""
+
+    kept: bool
+    packets: int | None
+    sections: int | None
+    first: int
+    after: int
 
 
 class Got:

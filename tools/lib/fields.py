@@ -25,8 +25,25 @@ HEAD = 8
 
 
 def pid_text(pid):
-    """A PID, with its name where a standard fixes it: `0 (PAT)`."""
+    """A PID, from 10 on in hexadecimal too, with its name where a standard fixes it: `0 (PAT)`, `17 (0x11, SDT/BAT)`, `256 (0x100)`."""
+    told = ([f"0x{pid:X}"] if pid > 9 else []) + ([PIDS[pid]] if pid in PIDS else [])
+    return f"{pid} ({', '.join(told)})" if told else str(pid)
+
+
+def pid_name(pid):
+    """A PID with its name where a standard fixes it: `17 (SDT/BAT)`, `256`."""
     return f"{pid} ({PIDS[pid]})" if pid in PIDS else str(pid)
+
+
+def as_hex(pid):
+    """The PID that the decimal digits of another one are in hexadecimal."""
+    return int(str(pid), 16)
+
+
+def is_pes_head(data):
+    """Whether what a section filter gives is a PES packet, whose first byte it has taken for a pointer_field: packet_start_code_prefix
+    is 00 00 01, and a stream_id stands behind it."""
+    return len(data) > 2 and data[:2] == b"\x00\x01" and data[2] >= 0xBC
 
 
 def table_text(table):

@@ -1,6 +1,6 @@
 """Calls and replies of a report in plain words, for tools/explain."""
 from fields import NAMES as FIELD_NAMES
-from fields import filter_texts, head_text, pid_text, stream_text, table_text
+from fields import filter_texts, head_text, pid_name, pid_text, stream_text, table_text
 from refusals import ALL_PACKETS
 from reports import DVR, act_of, moment, node_name, reply_of
 from story import PACKET
@@ -50,7 +50,8 @@ def pids_text(pids):
     pids = sorted(pids)
     if not pids:
         return "no PID"
-    names = [f"{pid} (every packet)" if pid == ALL_PACKETS else pid_text(pid) for pid in pids]
+    told = pid_text if len(pids) <= TABLES else pid_name
+    names = [f"{pid} (every packet)" if pid == ALL_PACKETS else told(pid) for pid in pids]
     return ("PID " if len(pids) == 1 else "PIDs ") + joined(names)
 
 
@@ -86,6 +87,11 @@ def packets_text(act):
     return f"{many(act['count'], 'packet')} that it has written, from number {act['first']} on,"
 
 
+def at_most_text(act):
+    """How much a read asks for."""
+    return f"at most {act['count']} byte{'s' * (act['count'] != 1)}"
+
+
 def act_text(call):
     """What a call asks, in words."""
     act, on = act_of(call.entry), node_text(call.node)
@@ -94,7 +100,7 @@ def act_text(call):
     if call.act == "pes":
         return pes_text(act, on)
     if call.act == "read":
-        return f"reads at most {act['count']} bytes from {on}"
+        return f"reads {at_most_text(act)} from {on}"
     if call.act == "size":
         return f"sets the buffer size of {on} to {act['size']}"
     if call.act in ("add", "remove"):
@@ -211,7 +217,7 @@ def group_text(calls):
         counted[kind] = counted.get(kind, 0) + 1
         given += call.length()
     on = node_text(first.node)
-    asked = f"of at most {act_of(first.entry)['count']} bytes from {on}" if first.act == "read" else f"of {on}"
+    asked = f"of {at_most_text(act_of(first.entry))} from {on}" if first.act == "read" else f"of {on}"
     sums = {GIVEN: f" ({many(given, 'byte')} in all)"}
     counts = [f"{count:,} {kind}{sums.get(kind, '')}" for kind, count in counted.items()]
     return f"{many(len(calls), first.act)} {asked}: {joined(counts)}"
@@ -349,9 +355,20 @@ def lost_text(line, call, span):
         return head + f"unread when {NAMES.get(call.act, call.act)} dropped them"
     room = f"item {reply['item']} needs {reply['need']:,} and found room for {reply['room']:,}"
     buffer = f"in a buffer of size {call.reason}, which holds {int(call.reason) - 1}"
-    if call.kept:
-        return head + f"all items from {reply['item']} on until an Overflow told it, behind those that KEEP has kept: {room}, {buffer}"
-    return head + f"all that was unread at an Overflow: {room}, {buffer}"
+    if call.lost.kept:
+        why = f"all items from {reply['item']} on until an Overflow told it, behind those that KEEP has kept"
+    else:
+        why = "all that was unread at an Overflow"
+    return head + f"{lost_items(call.lost)}{why}: {room}, {buffer}"
+
+
+def lost_items(lost):
+    """How many packets or sections were lost, and which of the stream's packets brought them."""
+    of = f"{many(lost.packets, 'packet')}, " if lost.packets else f"at least {many(lost.sections, 'section')}, " if lost.sections else ""
+    if lost.after <= lost.first:
+        return of
+    span = f"packet {lost.first}" if lost.after == lost.first + 1 else f"packets {lost.first} to {lost.after - 1}"
+    return f"{of}from the stream's {span}, "
 
 
 def waits_text(number, waits):
