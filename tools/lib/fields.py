@@ -142,6 +142,13 @@ def filter_texts(places):
     return texts + ([" or ".join(differing)] if differing else [])
 
 
+def places_text(place):
+    """The byte of a section that a filter byte stands against, with the fields that lie in it: `section byte 0 (table_id)`."""
+    at = place + 2 if place else 0
+    names = [field.name for field in (TABLE_ID, *LONG) if at in field.places and "byte" not in field.name]
+    return f"section byte {at}" + (f" ({', '.join(names)})" if names else "")
+
+
 # ------ sections
 
 
@@ -169,6 +176,6 @@ def head_of(data):
 
 
 def head_text(head):
-    """A section's head in words."""
-    told = [table_text(head.table), *head[1:]]
+    """A section's head in words; its table_id is no table's by itself."""
+    told = [f"0x{head.table:02X}", *head[1:]]
     return ", ".join(f"{name} {value}" for name, value in zip(NAMES, told) if value is not None)

@@ -108,6 +108,8 @@ def nothing_words(stumble):
     asked = [place for place, (_, mask, _) in act["bytes"].items() if mask]
     why = [f"its filter byte{'s' * (len(asked) > 1)} {joined(asked)}"] if asked else []
     why += ["flag 1, by which sections with a wrong CRC_32 are left out"] if act["flags"] & CRC else []
+    if facts["carried"]:
+        return f"{shown}: by the PMT that was read the PID carries {facts['carried']}, which `pes` takes"
     if not why:
         return f"{shown}, though it takes every one: the packets bring none that is whole, or carry no sections"
     other = f"that may be for {' or '.join(why)}; try it without, `{again_without(stumble)}`"
@@ -162,7 +164,7 @@ def words(stumble):
     if stumble.kind == "packets as sections":
         start = " ".join(f"{byte:02x}" for byte in b"\0" + facts["data"])
         shown = f"what the section filter gives begins with {start}, as PES packets do and no section"
-        return f"{shown}: {pids_text([facts['pid']])} carries a stream, which `pes` takes"
+        return f"{shown}: {pids_text([facts['pid']])} carries {facts['carried'] or 'a stream'}, which `pes` takes"
     if stumble.kind == "skipped":
         of = f"{facts['skipped']:,} of the {many(facts['whole'], 'byte')} were skipped, and {many(facts['packets'], 'packet')} found"
         what = "isn't a stream of packets that begin with 0x47 and take up 188 bytes each, or 204 with `--packet 204`"

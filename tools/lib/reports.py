@@ -2,6 +2,7 @@
 
 The form is that of docs/BEHAVIOUR.md, 'The report'. Only the form is looked at: whether the replies are right is not.
 """
+import io
 import sys
 from functools import lru_cache
 from typing import NamedTuple
@@ -488,6 +489,11 @@ def what_follows(rows, clients, nodes):
     if clients:
         return "`line ..`, `client ..`, `node ..`, `end` or `fault read`"
     return "`pid ..`, `client ..`, `node ..`, `end` or `fault read`"
+
+
+def text_of(file):
+    """The text of a file of bytes: each byte is a character, and only 0x0A ends a line."""
+    return io.TextIOWrapper(file, encoding="latin-1", newline="\n")
 
 
 def open_text(name):

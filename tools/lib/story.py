@@ -5,9 +5,10 @@ accepted so far are kept beside them.
 """
 from captures import Capture, Filter
 from clients import Call, Client, Got, Lost, Waits
-from fields import as_hex, head_of, is_pes_head
+from fields import as_hex, is_pes_head
 from refusals import ALL_PACKETS, refusal
 from reports import DVR, act_of, first_moment, moment, reply_of
+from tables import carried_by
 from walk import Walk
 
 PACKET, MOST_READ_AS = 188, 4
@@ -117,10 +118,23 @@ class Story:
         for client in self.clients.values():
             client.calls.sort(key=lambda call: call.entry.step)
             self.look_at_slots(client)
+        self.tell_carried()
+
+    def tell_carried(self):
+        """Tells the hints on section filters what a PMT that was read says of their PIDs."""
+        sections = {data for client in self.clients.values() for got in client.got.values() for data in got.sections}
+        carried = {pid: text for data in sections for pid, text in carried_by(data).items()}
+        for stumble in self.stumbles.values():
+            if stumble.kind in ("selects nothing", "packets as sections"):
+                stumble.facts["carried"] = carried.get(stumble.facts["pid"])
 
     def line_of(self, entry):
         """The line of the command that made this entry's call."""
         return self.clients[int(entry.who[1])].line_of(entry.step)
+
+    def client_at(self, line):
+        """The client whose command stands at this line."""
+        return next((number for number, client in self.clients.items() if line in client.lines), None)
 
     def look_at_skipped(self):
         """Notes that so many bytes were skipped for each packet as where packets take up another number of bytes, or else that the bytes
@@ -421,16 +435,15 @@ class Story:
         """A section or a part of one."""
         begun = node.capture.have > 0
         of, data, whole = node.capture.take_section(call.entry.reply[5:])
-        head = head_of(data)
         if not begun and is_pes_head(data):
             self.stumble("packets as sections", client.number, node, line, node.filter.pid, pid=node.filter.pid, data=data[:3])
         if whole:
             got.items += 1
-            got.take_head(head)
+            got.take_section(data)
         else:
             self.stumble("part", client.number, node, line, count=act_of(call.entry)["count"], of=of)
         call.reason = ("the end of a section" if begun else "a section") if whole else "a part of a section"
-        call.head = None if begun else head
+        call.section, call.whole = data if whole or not begun else b"", whole
 
     def take_payload(self, capture, call, got):
         """Payloads, in which PES packets begin."""
