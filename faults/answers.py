@@ -2,7 +2,7 @@
 import subprocess
 
 from checks import PROGRAM, asked_of, changed_reports, example
-from ends import ends_fail, expect, little_at_a_time, over_terminal, ran, run_each, run_told, small_memory, tally
+from ends import BUILT, ends_fail, expect, little_at_a_time, over_terminal, ran, run_each, run_told, small_memory, tally
 
 # Input without a report in front, and the kind of its fault in line 0.
 NO_REPORT = [
@@ -51,7 +51,7 @@ def inputs():
 def words_of_check():
     """Words that aren't accepted, whether the program has the command or not."""
     for words in WORDS:
-        expect(f"{words}", ran(words, input=b"report 0\nstream\n"), 2, "dvbemu: usage", b"")
+        expect(f"{words}", ran(words, BUILT, input=b"report 0\nstream\n"), 2, "dvbemu: usage", b"")
 
 
 def asks_nothing():

@@ -3,7 +3,6 @@
 The form is that of docs/BEHAVIOUR.md, 'The report'. Only the form is looked at: whether the replies are right is not.
 """
 import io
-import sys
 from functools import lru_cache
 from typing import NamedTuple
 
@@ -74,7 +73,7 @@ class Report(NamedTuple):
 # ------ words
 
 
-class Wrong(Exception):
+class Wrong(ValueError):
     """A word or a group of words that isn't of its form; the text is what was expected."""
 
     misplaced = False
@@ -494,11 +493,3 @@ def what_follows(rows, clients, nodes):
 def text_of(file):
     """The text of a file of bytes: each byte is a character, and only 0x0A ends a line."""
     return io.TextIOWrapper(file, encoding="latin-1", newline="\n")
-
-
-def open_text(name):
-    """The named file, or standard input for None, opened so that each byte is a character and only 0x0A ends a line."""
-    if name is None:
-        sys.stdin.reconfigure(encoding="latin-1", newline="\n")
-        return sys.stdin
-    return open(name, encoding="latin-1", newline="\n")

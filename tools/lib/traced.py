@@ -44,7 +44,7 @@ class Traced:
                 ptrace(TRACEME, 0)
                 os.execvp(words[0], words)
             except OSError as error:
-                os.write(2, f"{words[0]}: {error.strerror}\n".encode())
+                os.write(2, f"dvbemu calls: {words[0]}: {error.strerror}\n".encode())
             os._exit(127)
         self.threads, self.early, self.fresh = {self.first}, set(), set()
         _, self.status = os.waitpid(self.first, 0)

@@ -1,0 +1,87 @@
+"""The files that a command takes in the place of standard input: a script or a session, and the streams that come behind it."""
+import os
+import stat
+import sys
+
+PIECE, SCRIPT = 1 << 20, 1 << 20
+LINE = b"stream\n"
+
+
+class Broken(Exception):
+    """A file that can't be read to its end: its name, and why."""
+
+    def __init__(self, name, why):
+        super().__init__(f"{name}: {why}")
+
+
+class Input:
+    """A file that is open, or standard input for `-`."""
+
+    def __init__(self, name):
+        self.name = "standard input" if name == "-" else name
+        try:
+            self.file = sys.stdin.fileno() if name == "-" else os.open(name, os.O_RDONLY)
+            status = os.fstat(self.file)
+        except (OSError, AttributeError) as fault:
+            raise Broken(self.name, getattr(fault, "strerror", None) or "it is closed") from None
+        if stat.S_ISDIR(status.st_mode):
+            raise Broken(self.name, "Is a directory")
+        self.is_terminal = name == "-" and os.isatty(self.file)
+        # (how many bytes a file has; a pipe, a device and what the system makes up have no size)
+        self.size = status.st_size - os.lseek(self.file, 0, os.SEEK_CUR) if stat.S_ISREG(status.st_mode) and status.st_size else None
+        self.taken = 0
+
+    def read(self, most=PIECE):
+        """The next bytes, as they come; none at the end. A file that has become shorter is broken."""
+        try:
+            piece = os.read(self.file, most)
+        except OSError as fault:
+            raise Broken(self.name, f"reading failed behind {self.taken:,} bytes: {fault.strerror}") from None
+        self.taken += len(piece)
+        if not piece and self.size is not None and self.taken < self.size:
+            raise Broken(self.name, f"it ended behind {self.taken:,} of its {self.size:,} bytes")
+        return piece
+
+    def pieces(self):
+        """All that is left, as it comes."""
+        while piece := self.read():
+            yield piece
+
+    def whole(self):
+        """All that is left."""
+        return b"".join(self.pieces())
+
+
+def opened(names):
+    """These files, each of them open; none is named twice as standard input."""
+    if names.count("-") > 1:
+        raise Broken("-", "standard input can be named once")
+    return [Input(name) for name in names]
+
+
+def ends_script(text):
+    """Whether a line of a text is `stream`."""
+    return text.startswith(LINE) or b"\n" + LINE in text
+
+
+def head_of(script):
+    """The beginning of a script or session, with the line `stream`, if one comes in time."""
+    head = b""
+    while len(head) < SCRIPT and not ends_script(head) and (piece := script.read()):
+        head += piece
+    return head
+
+
+def session_pieces(files):
+    """The pieces of the session of a script and of the streams behind it. A script without the line `stream` gets it where a stream
+    follows."""
+    script, *streams = files
+    head = head_of(script)
+    if streams and not ends_script(head) and len(head) < SCRIPT:
+        if head == LINE[:-1] or head.endswith(b"\n" + LINE[:-1]):
+            head += b"\n"
+        else:
+            head += b"\n" * (head[-1:] not in (b"", b"\n")) + LINE
+    yield head
+    for file in files:
+        yield from file.pieces()
