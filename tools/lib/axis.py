@@ -5,9 +5,9 @@ A call stands behind the batches that had passed its node. So in a report of `ru
 two calls on two nodes can stand on two sides of a batch though they came the other way round; those on one node never do.
 """
 import reports
-from svg import LEFT, WIDTH
+from svg import LEFT, STRIP, WIDTH
 
-COLUMN, CELL, MOST_DENSE = 32, 18, 4
+COLUMN, CELL, MOST_DENSE = 42, 24, 4
 
 
 class Gap:
@@ -63,6 +63,7 @@ class Axis:
         self.gathers = self.count * CELL > WIDTH
         self.edges = self.gathered_edges() if self.gathers else self.plain_edges()
         self.right = self.edges[-1]
+        self.cuts = self.strips()
 
     def gaps_of(self, report):
         """The calls between the batches, and the commands that make none."""
@@ -132,6 +133,25 @@ class Axis:
             inside = (0 if number in dense else gap.width) + (number < len(self.batches))
             edges += parts(edges[-1], unit if number < len(self.batches) else 0, inside)
         return edges
+
+    def strips(self):
+        """Where the strips end, each at an edge of a cell; the last one with the columns."""
+        cells = [LEFT + CELL * cell for cell in range(1, int((self.right - LEFT) // CELL) + 1)] if self.gathers else self.edges[1:]
+        found, begin = [], LEFT
+        for edge, behind in zip(cells, [*cells[1:], self.right]):
+            if behind - begin > STRIP and self.right - begin > STRIP:
+                found.append(edge)
+                begin = edge
+        return [*found, self.right]
+
+    def end_of_strip(self, x):
+        """Where the strip ends in which a place is."""
+        return next((cut for cut in self.cuts if cut > x), self.right)
+
+    def seen(self, x, to):
+        """What each strip shows of what is drawn between two places."""
+        edges = [x, *(cut for cut in self.cuts if x < cut < to), to]
+        return list(zip(edges, edges[1:]))
 
     def dense_gaps(self):
         """The first and the last gap, and at most four others that have far more calls than most."""

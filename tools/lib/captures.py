@@ -1,5 +1,5 @@
 """What is known of the filters and captures of a report, for tools/explain."""
-from fields import HEAD, head_of, streams_in
+from fields import streams_in
 from walk import KEEP, ONESHOT
 
 
@@ -29,30 +29,31 @@ class Offered:
 
 
 class Filter:
-    """A filter of a demux node: what its set call asked, with KEEP or without, whether it takes what clients write, the PIDs that it has
-    and ever had, whether it was ever started, and what of the stream it was offered, by PID."""
+    """A filter of a demux node: whose it is, what its set call asked, with KEEP or without, whether it takes what clients write, the PIDs
+    that it has and ever had, whether it was ever started, what of the stream it was offered, by PID, and how many packets clients wrote
+    while it ran. `gave` says that anything came through it, and `empty` what it had been offered, as stretches of its PID, when the report
+    last showed that nothing had."""
 
-    def __init__(self, act, line):
-        self.kind, self.pid, self.line = act["name"], act["pid"], line
+    def __init__(self, act, line, client):
+        self.kind, self.pid, self.line, self.client = act["name"], act["pid"], line, client
         self.output, self.timeout = act.get("output", ""), act.get("timeout", 0)
         self.is_played = act.get("input") == "dvr"
         self.once = self.kind == "section" and bool(act["flags"] & ONESHOT)
         self.keeps = bool(act["flags"] & KEEP)
-        self.pids, self.ever, self.started = {self.pid}, {self.pid}, False
-        self.offered = {}
+        self.act = act
+        self.ever, self.started = {self.pid}, False
+        self.offered, self.written = {}, 0
+        self.gave, self.empty = False, None
 
-    def change_pids(self, name, pid):
-        """Takes an AddPid or RemovePid."""
-        if name == "add":
-            self.pids.add(pid)
-            self.ever.add(pid)
-        else:
-            self.pids.discard(pid)
-
-    def take(self, act):
-        """Takes a batch that is surely offered to the capture."""
-        for pid in self.pids:
+    def take(self, act, pids):
+        """Takes a batch that is surely offered to the capture, by these PIDs."""
+        for pid in pids:
             self.offered.setdefault(pid, Offered()).take(act["first"], act["first"] + act["count"])
+
+    def tell_empty(self):
+        """Nothing has come through up to here."""
+        offered = self.offered.get(self.pid)
+        self.empty = [tuple(stretch) for stretch in offered.stretches] if offered else []
 
     def leave(self):
         """A capture ends."""
@@ -61,25 +62,34 @@ class Filter:
 
 
 class Capture:
-    """What is known of a capture: the moment from which its timeout may be over, whether the stream had ended when it began, how
-    many bytes were answered, and where in a section the reader stands."""
+    """What is known of a capture: whose it is, the line that began it, how much of the stream had passed then, the moment from which its timeout may
+    be over, whether the stream had ended when it began, how many bytes and items were answered, and where in a section the reader stands.
+    `clear` is how much of the stream had passed when all that had come was read, and `early` has the lines of the reads that found nothing
+    before the first packet passed; it is None once something else is found, or a later read is made."""
 
-    def __init__(self, due=None, is_late=False):
-        self.due, self.is_late = due, is_late
-        self.answered, self.polled = 0, None
-        self.have, self.head, self.tail = 0, "", ""
+    def __init__(self, client, line, passed, due=None, is_late=False):
+        self.client, self.line, self.begin, self.due, self.is_late = client, line, passed, due, is_late
+        self.answered, self.items, self.polled = 0, 0, None
+        self.have, self.digits, self.tail = 0, "", ""
+        self.clear, self.early = passed, []
+
+    def look(self, line, passed, found, is_read):
+        """Takes a read or a poll, which found something or nothing, when so much of the stream had passed."""
+        if found or passed > self.begin:
+            self.early = None
+        elif is_read and self.early is not None and line not in self.early[-1:]:
+            self.early.append(line)
 
     def take_section(self, digits):
-        """Takes a read of a section filter; gives the section's length where it is known, its head, and whether it is whole."""
-        if self.have < HEAD:
-            self.head += digits[: 2 * (HEAD - self.have)]
-        self.have += len(digits) // 2
-        data = bytes.fromhex(self.head)
+        """Takes a read of a section filter; gives the section's length where it is known, the bytes of it that are there, and whether it
+        is whole."""
+        self.digits += digits
+        data = bytes.fromhex(self.digits)
         length = ((data[1] << 8 | data[2]) & 0x0FFF) + 3 if len(data) > 2 else None
-        whole = length is not None and self.have >= length
-        if whole:
-            self.have, self.head = 0, ""
-        return length, head_of(data), whole
+        whole = length is not None and len(data) >= length
+        self.have, self.digits = (0, "") if whole else (len(data), self.digits)
+        self.items += whole
+        return length, data, whole
 
     def take_payload(self, digits):
         """Takes a read of payloads; gives the stream_ids of the PES packets that begin in it, also over the read before."""
@@ -89,4 +99,4 @@ class Capture:
 
     def skip_to(self, answered):
         """Takes an Overflow, behind which an item begins."""
-        self.answered, self.have, self.head, self.tail = answered, 0, "", ""
+        self.answered, self.have, self.digits, self.tail = answered, 0, "", ""

@@ -1,18 +1,21 @@
 """The clients of a report, what they called, and what they got, for tools/explain."""
 from bisect import bisect_right
+from typing import NamedTuple
 
-from fields import NAMES
+from fields import NAMES, head_of
+from tables import read
 
 
 class Call:
-    """A call of a client: its node, its entry, the names of its act and its reply, a reason that the entry hasn't, the head of the
-    section that it begins to give, the stream_ids of the PES packets that begin in its bytes, and whether KEEP has kept what was
-    unread before the Overflow that it is answered."""
+    """A call of a client: its node, its entry, the names of its act and its reply, a reason that the entry hasn't, what is there of the
+    section that it begins or ends to give, whether that is all of it, the stream_ids of the PES packets that begin in its bytes, and what
+    is known of what was lost where it is answered an Overflow."""
 
-    __slots__ = ("node", "entry", "act", "reply", "reason", "head", "streams", "kept")
+    __slots__ = ("node", "entry", "act", "reply", "reason", "section", "whole", "streams", "lost")
 
     def __init__(self, node, entry):
-        self.node, self.entry, self.reason, self.head, self.streams, self.kept = node, entry, "", None, (), False
+        self.node, self.entry, self.reason, self.streams, self.lost = node, entry, "", (), None
+        self.section, self.whole = b"", False
         self.act = entry.act.partition(" ")[0]
         self.reply = entry.reply.partition(" ")[0]
 
@@ -21,20 +24,40 @@ class Call:
         return 0 if self.reply != "data" or self.entry.reply == "data -" else (len(self.entry.reply) - 5) // 2
 
 
+class Lost(NamedTuple):
+    """What is known of the span of an Overflow: whether KEEP has kept what was unread before, how many packets it has, where these are
+    given whole, how many sections it has at least, where these are given, and the numbers of the stream's packets from which and before
+    which its bytes came."""
+
+    kept: bool
+    packets: int | None
+    sections: int | None
+    first: int
+    after: int
+
+
 class Got:
-    """What the reads of a node through one kind of filter gave: of sections the values of each field by table_id and
-    table_id_extension, of payloads how often each stream_id stands in them."""
+    """What the reads of a node through one kind of filter gave: how often each section, and of payloads how often each stream_id stands in
+    them."""
 
     def __init__(self):
         self.reads, self.with_data, self.bytes, self.items, self.pids = 0, 0, 0, 0, set()
-        self.tables, self.streams = {}, {}
+        self.sections, self.streams = {}, {}
 
-    def take_head(self, head):
-        """Takes the head of a section that was read to its end."""
-        values = self.tables.setdefault(head[:2], [set() for _ in NAMES])
-        for known, value in zip(values, head):
-            if value is not None:
-                known.add(value)
+    def take_section(self, data):
+        """Takes a section that was read to its end."""
+        self.sections[data] = self.sections.get(data, 0) + 1
+
+    def tables(self):
+        """The values of each field of the sections' heads, by table_id and table_id_extension, and whether it is the table of this number."""
+        found = {}
+        for data in self.sections:
+            head = head_of(data)
+            values = found.setdefault((*head[:2], read(data) is not None), [set() for _ in NAMES])
+            for known, value in zip(values, head):
+                if value is not None:
+                    known.add(value)
+        return found
 
 
 class Waits:

@@ -25,8 +25,25 @@ HEAD = 8
 
 
 def pid_text(pid):
-    """A PID, with its name where a standard fixes it: `0 (PAT)`."""
+    """A PID, from 10 on in hexadecimal too, with its name where a standard fixes it: `0 (PAT)`, `17 (0x11, SDT/BAT)`, `256 (0x100)`."""
+    told = ([f"0x{pid:X}"] if pid > 9 else []) + ([PIDS[pid]] if pid in PIDS else [])
+    return f"{pid} ({', '.join(told)})" if told else str(pid)
+
+
+def pid_name(pid):
+    """A PID with its name where a standard fixes it: `17 (SDT/BAT)`, `256`."""
     return f"{pid} ({PIDS[pid]})" if pid in PIDS else str(pid)
+
+
+def as_hex(pid):
+    """The PID that the decimal digits of another one are in hexadecimal."""
+    return int(str(pid), 16)
+
+
+def is_pes_head(data):
+    """Whether what a section filter gives is a PES packet, whose first byte it has taken for a pointer_field: packet_start_code_prefix
+    is 00 00 01, and a stream_id stands behind it."""
+    return len(data) > 2 and data[:2] == b"\x00\x01" and data[2] >= 0xBC
 
 
 def table_text(table):
@@ -125,6 +142,13 @@ def filter_texts(places):
     return texts + ([" or ".join(differing)] if differing else [])
 
 
+def places_text(place):
+    """The byte of a section that a filter byte stands against, with the fields that lie in it: `section byte 0 (table_id)`."""
+    at = place + 2 if place else 0
+    names = [field.name for field in (TABLE_ID, *LONG) if at in field.places and "byte" not in field.name]
+    return f"section byte {at}" + (f" ({', '.join(names)})" if names else "")
+
+
 # ------ sections
 
 
@@ -152,6 +176,6 @@ def head_of(data):
 
 
 def head_text(head):
-    """A section's head in words."""
-    told = [table_text(head.table), *head[1:]]
+    """A section's head in words; its table_id is no table's by itself."""
+    told = [f"0x{head.table:02X}", *head[1:]]
     return ", ".join(f"{name} {value}" for name, value in zip(NAMES, told) if value is not None)

@@ -3,9 +3,10 @@
 RULES has for each kind of stumble the heading or paragraph of docs/BEHAVIOUR.md and words that stand there; tools/checks/hints looks
 for them.
 """
-from fields import pid_text
+from fields import as_hex, pid_text
 from reports import DVR
-from sentences import NAMES, lines_text, many, node_name, node_text, pids_text
+from sentences import NAMES, joined, lines_text, many, node_name, node_text, pids_text
+from walk import CRC
 
 RULES = {
     "no capture": ("Read", "without a capture: Data of no bytes"),
@@ -28,6 +29,10 @@ RULES = {
     "read of ts_tap": ("Items of a PES filter", "none: the packet goes to the dvr node, below"),
     "part": ("Read", "So a read of a section filter gives one section or a part of one"),
     "no packet": ("Captures", "Its items are what the filter selects from these packets"),
+    "selects nothing": ("Captures", "Its items are what the filter selects from these packets"),
+    "packets as sections": ("Sections", "A packet with unit start has a pointer, the first byte of its payload."),
+    "no feed": ("The script", "`feed N` N packets pass, with N from 1 to 4294967295"),
+    "nothing written": ("What a client writes", "A PES filter with the input `dvr` takes what clients write"),
     "late": ("Captures", "The packets offered to a capture are those that pass while the node is in Go."),
     "late in run": ("The threads of `run`", "In which order the calls of two callers come is open."),
     "late on dvr": ("The dvr node", "Its items are the packets of the frontend that pass while it goes on"),
@@ -47,11 +52,28 @@ def size_words(stumble):
     return f"an Overflow at the buffer size {facts['size']}, {given}"
 
 
+def size_of_packets_words(facts):
+    """The words of the stumble over packets that take up another number of bytes."""
+    of = f"{many(facts['skipped'], 'byte')} were skipped at {many(facts['packets'], 'packet')}"
+    if facts["size"] == 192:
+        shown = f"{of}, as where packets take up 192 bytes of the stream, with a time stamp of 4 in front of each"
+        return f"{shown}: they are skipped, but where one has the byte 0x47; make packets of 188 of it before"
+    if facts["size"] == 204:
+        return f"{of}, as where packets take up 204 bytes of the stream: try `--packet 204`"
+    return f"{of}, as where packets take up 188 bytes of the stream and are read as 204: try it without `--packet 204`"
+
+
 def pid_words(stumble):
     """The words of the stumbles over a filtered PID."""
     facts = stumble.facts
     if stumble.kind == "no packet":
-        return f"the filter asks for {pids_text(facts['pids'])}, of which the stream has no packet"
+        shown = f"the filter asks for {pids_text(facts['pids'])}, of which the stream has no packet"
+        read = [f"{pid} read as hexadecimal is {pid_text(as_hex(pid))}, of which it has {many(count, 'packet')}"
+                for pid, count in facts["read_as"].items()]  # fmt: skip
+        played = f"{many(facts['written'], 'packet')} that clients wrote to the dvr device passed, which only a PES filter with the input DVR takes"
+        return "; ".join([shown, *read, *([played] if facts["written"] else [])])
+    if stumble.kind == "nothing written":
+        return written_words(facts)
     of = f"{many(facts['count'], stumble.kind.partition(' ')[0])} of {pids_text([facts['pid']])} in the stream"
     rules = {
         "break of sections": "a section filter loses a section that goes on across a break",
@@ -60,6 +82,38 @@ def pid_words(stumble):
         "duplicate of packets": "a PES filter gives duplicates too, so the reader has to leave them out",
     }
     return f"{of}; {rules[stumble.kind]}"
+
+
+def written_words(facts):
+    """The words of the stumble over a filter that takes what clients write."""
+    pid = pids_text([facts["pid"]])
+    if not facts["written"]:
+        return f"the filter takes {pid} of what clients write to the dvr device, and nobody wrote a packet while it ran"
+    wrote = f"{many(facts['written'], 'packet')} that clients wrote to the dvr device passed it"
+    return f"the filter takes {pid} of what clients write: {wrote}, and nothing of them came through"
+
+
+def again_without(stumble):
+    """The set call of a section filter without what may keep sections away, as a line of a script."""
+    act = stumble.facts["act"]
+    name = node_name(stumble.node)
+    return f"c{stumble.client} section {name} {act['pid']} {act['timeout']} {act['flags'] & ~CRC | 4}"
+
+
+def nothing_words(stumble):
+    """The words of the stumble over a section filter that selects nothing."""
+    facts, act = stumble.facts, stumble.facts["act"]
+    count = many(facts["most"], "packet") if facts["least"] == facts["most"] else f"at least {many(facts['least'], 'packet')}"
+    shown = f"{count} of {pids_text([facts['pid']])} passed while this filter ran, and it selected no section"
+    asked = [place for place, (_, mask, _) in act["bytes"].items() if mask]
+    why = [f"its filter byte{'s' * (len(asked) > 1)} {joined(asked)}"] if asked else []
+    why += ["flag 1, by which sections with a wrong CRC_32 are left out"] if act["flags"] & CRC else []
+    if facts["carried"]:
+        return f"{shown}: by the PMT that was read the PID carries {facts['carried']}, which `pes` takes"
+    if not why:
+        return f"{shown}, though it takes every one: the packets bring none that is whole, or carry no sections"
+    other = f"that may be for {' or '.join(why)}; try it without, `{again_without(stumble)}`"
+    return f"{shown}: {other}, or let `dvbemu hint REPORT SESSION` find what rules each section out"
 
 
 def late_words(stumble):
@@ -92,9 +146,9 @@ def words(stumble):
     if stumble.kind == "busy":
         return f"EBADF, since the Open in line {facts['opened']} was answered Busy and the client calls the node all the same"
     if stumble.kind == "free tap":
-        passed = many(facts["packets"], "packet")
+        passed = ("" if facts["least"] == facts["most"] else "up to ") + many(facts["most"], "packet")
         tap = f"the tap of {node_name(facts['tapped'])} is attached while the dvr node is Free"
-        return f"{tap}, and {passed} of the stream passed it then, which nobody can read there"
+        return f"{tap}, and {passed} of {pids_text(facts['pids'])} passed it then, which nobody can read there"
     if stumble.kind == "part":
         of = f"of the {many(facts['of'], 'byte')} of a section" if facts["of"] else "of a section"
         return f"a read of {many(facts['count'], 'byte')} gives a part {of}; the next read goes on behind it"
@@ -102,13 +156,21 @@ def words(stumble):
         return "a read finds nothing on a node whose filter has the output TS_TAP"
     if stumble.kind in ("late", "late in run"):
         return late_words(stumble)
+    if stumble.kind == "selects nothing":
+        return nothing_words(stumble)
+    if stumble.kind == "no feed":
+        looked = f"all reads behind line {facts['begin']} came before a packet passed, with {many(facts['packets'], 'packet')} to come"
+        return f"{looked}: write `feed N` between, or `readw` or `drain` in place of `read`"
+    if stumble.kind == "packets as sections":
+        start = " ".join(f"{byte:02x}" for byte in b"\0" + facts["data"])
+        shown = f"what the section filter gives begins with {start}, as PES packets do and no section"
+        return f"{shown}: {pids_text([facts['pid']])} carries {facts['carried'] or 'a stream'}, which `pes` takes"
     if stumble.kind == "skipped":
-        of = f"{facts['skipped']:,} of the {many(facts['whole'], 'byte')} were skipped"
+        of = f"{facts['skipped']:,} of the {many(facts['whole'], 'byte')} were skipped, and {many(facts['packets'], 'packet')} found"
         what = "isn't a stream of packets that begin with 0x47 and take up 188 bytes each, or 204 with `--packet 204`"
         return f"{of}: what stands behind the line `stream` {what}"
     if stumble.kind == "other size":
-        of = f"{many(facts['skipped'], 'byte')} were skipped at {many(facts['packets'], 'packet')}"
-        return f"{of}, as where packets take up {facts['size']} bytes of the stream: try `--packet {facts['size']}`"
+        return size_of_packets_words(facts)
     if stumble.kind == "unbound":
         return "the command names a slot that no open has bound, so it makes no call"
     return pid_words(stumble)

@@ -3,7 +3,7 @@ import reports
 import unread
 from marks import ROW, rows_of, words_of
 from svg import (
-    BLACK, GREEN, GREY, LEAST_WIDTH, LEFT, PALE, PURPLE, RED, RIGHT, SKY, WIDTH, Labels, counted, heading, line, path, rect,
+    BLACK, GREEN, GREY, LEAST_WIDTH, LEFT, PALE, PURPLE, RED, RIGHT, SKY, SMALL, WIDTH, Labels, counted, heading, line, path, rect,
     short_number, side, text, width_of,
 )  # fmt: skip
 
@@ -57,7 +57,7 @@ class Lane:
         for row in self.rows:
             found += row.draw(self.axis, y)
             y += row.height
-        self.used |= {row.key for row in self.rows}
+        self.used |= {row.key for row in self.rows} | {"sign" for row in self.rows if row.left_out}
         return found + self.bands()
 
     def head(self):
@@ -152,7 +152,8 @@ class Lane:
 
     def labels(self, y, look=""):
         """Labels within the lane."""
-        return Labels(y, LEFT - 4, max(self.axis.right + RIGHT, LEAST_WIDTH) - 6, look)
+        right = self.axis.right if len(self.axis.cuts) > 1 else max(self.axis.right + RIGHT, LEAST_WIDTH) - 6
+        return Labels(y, LEFT - 4, right, look, self.axis.cuts[:-1])
 
     def size_line(self):
         """The line of the buffer's size; dotted at the upper edge where it is above the scale."""
@@ -167,8 +168,9 @@ class Lane:
             height = self.height(size)
             found.append(line(x, height, to, height, f'stroke="{BLACK}" stroke-width="1.2" {dashes}'))
             names = [f"size {size}" + (" (above the scale)" if is_above else ""), f"size {size}", str(size)]
-            fitting = [name for name in names if width_of(name, 8) <= to - x - 4]
-            found += [text(x + 4, height + 9 if is_above else height - 3, name, 8, HALO) for name in fitting[:1]]
+            for begin, end in self.axis.seen(x, to):
+                fitting = [name for name in names if width_of(name, SMALL) <= end - begin - 4]
+                found += [text(begin + 4, height + 9 if is_above else height - 3, name, SMALL, HALO) for name in fitting[:1]]
         return found
 
     def expiries(self):
@@ -218,9 +220,12 @@ class Lane:
         return found
 
     def named(self, names, x, to):
-        """The first of the names that fits in between."""
-        fitting = [name for name in names if width_of(name, 8) <= to - x - 3]
-        return [text(x + 3, self.band_y + 11.5, name, 8) for name in fitting[:1]]
+        """The first of the names that fits in between, in each strip."""
+        found = []
+        for begin, end in self.axis.seen(x, to):
+            fitting = [name for name in names if width_of(name, SMALL) <= end - begin - 3]
+            found += [text(begin + 3, self.band_y + 12, name, SMALL) for name in fitting[:1]]
+        return found
 
     def end_of(self, capture):
         """Where a capture's band ends."""

@@ -3,11 +3,11 @@ import textwrap
 
 import reports
 from svg import (
-    BLACK, BLUE, GREEN, GREY, LEAST_WIDTH, MIDDLE, ORANGE, PALE, PURPLE, RED, SKY, WHITE, YELLOW, circle, counted, grouped,
-    heading, path, rect, short_number, side, text, upright, width_of,
+    BLACK, BLUE, GREEN, GREY, LEAST_WIDTH, MIDDLE, ORANGE, PALE, PURPLE, RED, SIGN, SKY, SMALL, WHITE, YELLOW, circle, counted,
+    grouped, heading, path, rect, short_number, side, text, upright, width_of,
 )
 
-ROW, NAME_SIZE = 17, 7.5
+ROW = 18
 WORDS_AT_ONCE = 8
 
 
@@ -86,7 +86,7 @@ def played_mark(x, y):
 def pill(x, y, words, fill, stroke, ink):
     """A rounded box with a few characters."""
     look = f'rx="4" fill="{fill}" stroke="{stroke}"'
-    return [rect(x - 8.5, y - 6.5, 17, 13, look), text(x, y + 2.8, words, 7, f'{MIDDLE} fill="{ink}"')]
+    return [rect(x - 11, y - 7, 22, 14, look), text(x, y + 3.3, words, SMALL, f'{MIDDLE} fill="{ink}"')]
 
 
 def call_mark(x, y):
@@ -105,7 +105,7 @@ class Row:
 
     def __init__(self, name, entries, mark, colours, beside=lambda entry: ""):
         self.name, self.entries, self.mark, self.colours, self.beside = name, entries, mark, colours, beside
-        self.key = "call" if name in CALLS else name
+        self.key, self.left_out = "call" if name in CALLS else name, False
 
     def draw(self, axis, y):
         """The marks, in the middle of a row that begins at y; marks in the same cell are counted."""
@@ -116,8 +116,9 @@ class Row:
             x, entries = axis.cell_middle(cell), [entry for _, entry in things]
             shapes = self.mark(x, middle) if len(entries) == 1 else pill(x, middle, short_number(len(entries)), *self.colours)
             words = self.beside(entries[0]) if len(entries) == 1 else ""
-            if words and x + 6 + width_of(words, 7) <= next_x - 8:
-                shapes.append(text(x + 6, middle + 2.5, words, 7))
+            fits = x + 6 + width_of(words, SMALL) <= min(next_x - 8, axis.end_of_strip(x) + 4)
+            self.left_out = self.left_out or bool(words) and not fits
+            shapes += [text(x + 6, middle + 3, words if fits else SIGN, SMALL)] if words else []
             found += grouped(shapes, words_of(entries, entry_words))
         return found
 
@@ -135,15 +136,17 @@ class WordRow(Row):
         for cell, things in axis.gather(self.entries, lambda thing: thing[0]):
             x, entries = axis.cell_middle(cell), [entry for _, entry in things]
             more = f" x{len(entries)}" if len(entries) > 1 else ""
-            found.append(rect(x - wide / 2, y + 2, wide, 13, f'rx="3" {self.look}', words_of(entries, entry_words)))
-            found.append(text(x, y + 11.5, self.word(entries[0]) + more, NAME_SIZE if not more else 6.5, MIDDLE))
+            found.append(rect(x - wide / 2, y + 2, wide, 14, f'rx="3" {self.look}', words_of(entries, entry_words)))
+            said = self.word(entries[0]) + more
+            said = said if width_of(said, SMALL) <= wide else f"{len(entries)}{SIGN}"
+            found.append(text(x, y + 12, said, SMALL, MIDDLE))
         return found
 
 
 class UprightRow(Row):
     """A row of boxes with the names of calls, upright, one or two a cell."""
 
-    height = 38
+    height = 46
 
     def __init__(self, entries):
         super().__init__("calls", entries, None, None)
@@ -161,10 +164,11 @@ class UprightRow(Row):
         for cell, things in axis.gather(self.entries, lambda thing: thing[0]):
             x, entries = axis.cell_middle(cell), [entry for _, entry in things]
             names = counts_of(map(name_of, entries))
-            found.append(rect(x - wide / 2, y + 1, wide, 35, f'rx="3" {CALL_LOOK}', words_of(entries, entry_words)))
-            places = [x] if len(names) == 1 else [x - 4, x + 4]
+            found.append(rect(x - wide / 2, y + 1, wide, 43, f'rx="3" {CALL_LOOK}', words_of(entries, entry_words)))
+            places = [x] if len(names) == 1 else [x - 5.5, x + 5.5]
             for at, (name, count) in zip(places, names.items()):
-                found.append(upright(at, y + 18.5, name if count == 1 else f"{name} x{count}", 6.5 if count > 1 else NAME_SIZE))
+                said = name if count == 1 else f"{name} x{count}"
+                found.append(upright(at, y + 22.5, said if width_of(said, SMALL) <= 43 else f"{name[:3]} x{count}", SMALL))
         return found
 
 
@@ -231,7 +235,7 @@ def rows_of(placed, axis):
         if entry.who != "feed":
             for kind in kinds_of(entry):
                 found[kind].append((column, entry))
-    calls, has_room = found.pop("call"), axis.cell_width() >= 31
+    calls, has_room = found.pop("call"), axis.cell_width() >= 41
     rows = [Row(kind, things, *MARKS[kind][:2], BESIDE.get(kind, lambda entry: "")) for kind, things in found.items() if things]
     if not has_room and calls and UprightRow.holds(axis, calls):
         return [*rows, UprightRow(calls)]
@@ -258,6 +262,7 @@ BOXES = {
     "calls in words": (CALL_LOOK, "call that is done"),
     "call": (CALL_LOOK, "call that is done, named at the left"),
     "done": (CALL_LOOK, "command"),
+    "refused command": (REFUSED_LOOK, "command whose last call is refused or busy"),
     "EMFILE": (f'fill="{RED}" fill-opacity="0.5" stroke="{RED}"', "command with EMFILE"),
     "unbound": (f'fill="{YELLOW}" stroke="{GREY}"', "command on an unbound slot"),
     "nostc": (f'fill="{YELLOW}" fill-opacity="0.5" stroke="{GREY}"', "system time counter that there is none of"),
@@ -266,6 +271,7 @@ NOTES = {
     "size line": "Black line: the buffer's size; where it is dotted, the size is above the scale.",
     "perhaps": "A report doesn't tell how many bytes a batch brings, only, later, how many had come: where several batches may "
     "have brought them, they are drawn in full from the last of these on and pale from the first.",
+    "sign": f"{SIGN} stands for a number that has no room; the mark's title has it.",
     "count": "A number in a mark: so many here. Where several entries share a point of the area, it is full up to their least and "
     "pale up to their most.",
 }
@@ -275,7 +281,11 @@ def legend(used, y):
     """What the marks mean that are used, from the height y on, and the height of its end."""
     found, x, row = [heading(8, y + 14, "legend")], 20, y + 34
     shown = [(mark, words) for kind, (mark, _, words) in MARKS.items() if kind in used]
-    shown += [(box_mark(look), words) for kind, (look, words) in BOXES.items() if kind in used]
+    looks = {}
+    for kind, (look, words) in BOXES.items():
+        if kind in used:
+            looks.setdefault(look, []).append(words)
+    shown += [(box_mark(look), "; ".join(words)) for look, words in looks.items()]
     for mark, words in shown:
         if x + 14 + width_of(words, 10) > LEAST_WIDTH:
             x, row = 20, row + 18

@@ -31,11 +31,11 @@ def wrong_pids(node, act):
         return "EINVAL", f"{'AddPid' if act['name'] == 'add' else 'RemovePid'} without a filter"
     if node.filter.kind == "section":
         return "EINVAL", f"{'AddPid' if act['name'] == 'add' else 'RemovePid'} on a section filter"
-    if act["name"] == "remove" or act["pid"] in node.filter.pids:
+    if act["name"] == "remove" or act["pid"] in node.pids:
         return None
-    if node.filter.output != "tsdemux_tap" and node.filter.pids:
+    if node.filter.output != "tsdemux_tap" and node.pids:
         return "EINVAL", "only TSDEMUX_TAP takes more than one PID"
-    return ("ENOSPC", "128 PIDs are in the set") if len(node.filter.pids) >= MOST_PIDS else None
+    return ("ENOSPC", "128 PIDs are in the set") if len(node.pids) >= MOST_PIDS else None
 
 
 def refusal(node, client, act):

@@ -1,14 +1,15 @@
 """Calls and replies of a report in plain words, for tools/explain."""
 from fields import NAMES as FIELD_NAMES
-from fields import filter_texts, head_text, pid_text, stream_text, table_text
+from fields import filter_texts, head_of, head_text, pid_name, pid_text, stream_text, table_text
 from refusals import ALL_PACKETS
 from reports import DVR, act_of, moment, node_name, reply_of
 from story import PACKET
+from tables import short_text, text_of
 from walk import FLAGS
 
 WIDTH = 100
 GATHERED = 9
-TABLES, VALUES = 4, 6
+TABLES, VALUES, SAID = 4, 6, 8
 NAMES = {"section": "SetFilter", "pes": "SetPes", "start": "Start", "size": "SetSize", "close": "Close"}
 LOOKS = ("read", "poll")
 GIVEN = "gave data"
@@ -50,7 +51,8 @@ def pids_text(pids):
     pids = sorted(pids)
     if not pids:
         return "no PID"
-    names = [f"{pid} (every packet)" if pid == ALL_PACKETS else pid_text(pid) for pid in pids]
+    told = pid_text if len(pids) <= TABLES else pid_name
+    names = [f"{pid} (every packet)" if pid == ALL_PACKETS else told(pid) for pid in pids]
     return ("PID " if len(pids) == 1 else "PIDs ") + joined(names)
 
 
@@ -86,6 +88,11 @@ def packets_text(act):
     return f"{many(act['count'], 'packet')} that it has written, from number {act['first']} on,"
 
 
+def at_most_text(act):
+    """How much a read asks for."""
+    return f"at most {act['count']} byte{'s' * (act['count'] != 1)}"
+
+
 def act_text(call):
     """What a call asks, in words."""
     act, on = act_of(call.entry), node_text(call.node)
@@ -94,7 +101,7 @@ def act_text(call):
     if call.act == "pes":
         return pes_text(act, on)
     if call.act == "read":
-        return f"reads at most {act['count']} bytes from {on}"
+        return f"reads {at_most_text(act)} from {on}"
     if call.act == "size":
         return f"sets the buffer size of {on} to {act['size']}"
     if call.act in ("add", "remove"):
@@ -138,12 +145,19 @@ def ready_text(reply):
     return text + ("; the stream has ended" if reply["ended"] else "")
 
 
+def section_words(call):
+    """Which table the section is that a read gives, or what its head says where it begins and is none."""
+    if call.whole and (table := short_text(call.section)):
+        return f": {table}"
+    return f": {head_text(head_of(call.section))}" if "end" not in call.reason else ""
+
+
 def data_text(call):
     """Data in words: how much, and what stands in it."""
     length = call.length()
     text = f"Data of {many(length, 'byte') if length else 'no bytes'}" + (f", {call.reason}" if call.reason else "")
-    if call.head:
-        text += f": {head_text(call.head)}"
+    if call.section:
+        text += section_words(call)
     if call.streams:
         packets = many(len(call.streams), "PES packet")
         text += f", in which the stream_id of {packets} stands: {joined(map(stream_text, sorted(set(call.streams))))}"
@@ -211,7 +225,7 @@ def group_text(calls):
         counted[kind] = counted.get(kind, 0) + 1
         given += call.length()
     on = node_text(first.node)
-    asked = f"of at most {act_of(first.entry)['count']} bytes from {on}" if first.act == "read" else f"of {on}"
+    asked = f"of {at_most_text(act_of(first.entry))} from {on}" if first.act == "read" else f"of {on}"
     sums = {GIVEN: f" ({many(given, 'byte')} in all)"}
     counts = [f"{count:,} {kind}{sums.get(kind, '')}" for kind, count in counted.items()]
     return f"{many(len(calls), first.act)} {asked}: {joined(counts)}"
@@ -301,7 +315,7 @@ def got_text(key, got):
         return head + f"no bytes by {many(got.reads, 'read')}"
     text = head + f"{many(got.bytes, 'byte')} by {got.with_data:,} of {many(got.reads, 'read')}"
     if kind == "section":
-        return text + f", {many(got.items, 'section')} read to the end" + tables_text(got.tables)
+        return text + f", {many(got.items, 'section')} read to the end" + tables_text(got.tables()) + said_by(got)
     if number == DVR or output == "tsdemux_tap":
         return text + f", {many(got.items, 'whole packet')} of {PACKET} bytes"
     return text + ", payloads" + streams_text(got.streams)
@@ -318,10 +332,10 @@ def values_text(values):
 def tables_text(tables):
     """What stands in the heads of the sections that were read, by table_id and table_id_extension; of many by table_id alone."""
     texts, tables = [], tables if len(tables) <= TABLES else merged(tables)
-    for (table, *_), values in list(tables.items())[:TABLES]:
-        named = zip(FIELD_NAMES[1:], values[1:])
-        fields = [f"table_id {table_text(table)}", *(f"{name} {values_text(known)}" for name, known in named if known)]
-        texts.append(", ".join(fields))
+    for (table, _, is_named), values in list(tables.items())[:TABLES]:
+        told = zip(FIELD_NAMES[1:], values[1:])
+        name = table_text(table) if is_named else f"0x{table:02X}"
+        texts.append(", ".join([f"table_id {name}", *(f"{name} {values_text(known)}" for name, known in told if known)]))
     more = len(tables) - len(texts)
     return (": " if texts else "") + "; ".join(texts) + (f"; and {more:,} more table_ids" if more > 0 else "")
 
@@ -329,10 +343,17 @@ def tables_text(tables):
 def merged(tables):
     """What stands in the heads of sections, by table_id."""
     found = {}
-    for (table, _), values in tables.items():
-        for known, more in zip(found.setdefault((table,), [set() for _ in FIELD_NAMES]), values):
+    for (table, _, is_named), values in tables.items():
+        for known, more in zip(found.setdefault((table, None, is_named), [set() for _ in FIELD_NAMES]), values):
             known |= more
     return found
+
+
+def said_by(got):
+    """What the sections say that are tables, each in a line of its own, of many the first ones."""
+    known = [text for text in map(text_of, got.sections) if text]
+    more = [f"And {len(known) - SAID:,} more tables' sections"] if len(known) > SAID else []
+    return "".join(f".\n{text}" for text in known[:SAID] + more)
 
 
 def streams_text(streams):
@@ -349,9 +370,20 @@ def lost_text(line, call, span):
         return head + f"unread when {NAMES.get(call.act, call.act)} dropped them"
     room = f"item {reply['item']} needs {reply['need']:,} and found room for {reply['room']:,}"
     buffer = f"in a buffer of size {call.reason}, which holds {int(call.reason) - 1}"
-    if call.kept:
-        return head + f"all items from {reply['item']} on until an Overflow told it, behind those that KEEP has kept: {room}, {buffer}"
-    return head + f"all that was unread at an Overflow: {room}, {buffer}"
+    if call.lost.kept:
+        why = f"all items from {reply['item']} on until an Overflow told it, behind those that KEEP has kept"
+    else:
+        why = "all that was unread at an Overflow"
+    return head + f"{lost_items(call.lost)}{why}: {room}, {buffer}"
+
+
+def lost_items(lost):
+    """How many packets or sections were lost, and which of the stream's packets brought them."""
+    of = f"{many(lost.packets, 'packet')}, " if lost.packets else f"at least {many(lost.sections, 'section')}, " if lost.sections else ""
+    if lost.after <= lost.first:
+        return of
+    span = f"packet {lost.first}" if lost.after == lost.first + 1 else f"packets {lost.first} to {lost.after - 1}"
+    return f"{of}from the stream's {span}, "
 
 
 def waits_text(number, waits):

@@ -4,12 +4,14 @@ Nothing here works out a reply anew: what a node does is taken from its replies,
 accepted so far are kept beside them.
 """
 from captures import Capture, Filter
-from clients import Call, Client, Got, Waits
+from clients import Call, Client, Got, Lost, Waits
+from fields import as_hex, is_pes_head
 from refusals import ALL_PACKETS, refusal
 from reports import DVR, act_of, first_moment, moment, reply_of
+from tables import carried_by
 from walk import Walk
 
-PACKET = 188
+PACKET, MOST_READ_AS = 188, 4
 
 
 class Node(Walk):
@@ -17,8 +19,8 @@ class Node(Walk):
 
     def __init__(self, number, story):
         super().__init__(number)
-        self.story, self.runs, self.ended_by = story, False, ""
-        self.passes, self.calls, self.end = 0, 0, None
+        self.story, self.ended_by = story, ""
+        self.passed, self.passes, self.calls, self.end = 0, 0, 0, None
         self.waiting, self.busy = {}, {}
         self.taps, self.free_packets = {}, 0
 
@@ -26,9 +28,9 @@ class Node(Walk):
         """A capture begins; on a demux node the filter runs from here on."""
         is_late, due = self.end is not None and not (self.filter and self.filter.is_played), None
         if self.filter:
-            self.runs, self.filter.started = True, True
+            self.filter.started = True
             due = moment(entry) + self.filter.timeout if self.filter.timeout else None
-        self.capture = Capture(due, is_late)
+        self.capture = Capture(int(entry.who[1]), self.story.line_of(entry), self.passed, due, is_late)
         if is_late:
             self.story.note_late(self, entry)
 
@@ -36,26 +38,33 @@ class Node(Walk):
         """The capture ends, where there is one."""
         if self.capture and entry.act.startswith("size "):
             self.ended_by = "SetSize to another size has ended the capture"
+        self.tell(reply["drop"][1] > reply["drop"][0])
         self.story.leave_capture(self)
         if self.filter:
             self.filter.leave()
 
     def set_filter(self, entry, act):
         """Another filter, which doesn't run yet."""
-        self.filter, self.runs, self.ended_by = Filter(act, self.story.line_of(entry)), False, ""
+        self.filter, self.ended_by = Filter(act, self.story.line_of(entry), int(entry.who[1])), ""
 
     def change_pids(self, entry, act):
         """An accepted AddPid or RemovePid."""
-        self.filter.change_pids(act["name"], act["pid"])
+        self.filter.ever |= self.pids
 
     def end_filter(self):
         """The filter's time is over."""
         self.story.leave_filter(self)
-        self.runs = False
 
-    def stop(self, entry):
-        """The filter runs no longer."""
-        self.runs = False
+    def gives_all(self):
+        """Whether a read gives all that is unread, where it asks for as much: not where it ends at a section or before a kept overflow."""
+        return not self.filter or self.filter.kind != "section" and not self.filter.keeps
+
+    def tell(self, has_come):
+        """A reply tells whether anything is there that the filter let through."""
+        if self.filter and has_come:
+            self.filter.gave = True
+        elif self.filter and self.capture and not self.capture.answered:
+            self.filter.tell_empty()
 
 
 class Stumble:
@@ -69,13 +78,23 @@ class Stumble:
 
 
 def other_size(packets, skipped):
-    """What the packets of a stream seem to take up, where it was read by the other number; None where they don't. Of packets of 204 bytes
-    16 are skipped each, where none of these is a sync byte; of packets of 188 bytes that are read as 204, 172 behind each that is found."""
+    """What the packets of a stream seem to take up, where it was read by another number; None where they don't. Of packets of 204 bytes 16
+    are skipped each, and 4 of those of 192, but where one of these is a sync byte; of packets of 188 bytes that are read as 204, what
+    stands behind each that is found up to the next sync byte, which is one of the picture half of the time."""
     if packets < 4:
         return None
-    if 14 * packets <= skipped <= 20 * packets:
-        return 204
-    return 188 if 160 * packets <= skipped <= 184 * packets else None
+    for size, least, most in (204, 14, 20), (192, 3, 6), (188, 60, 184):
+        if least * packets <= skipped <= most * packets:
+            return size
+    return None
+
+
+def is_no_stream(report, whole):
+    """Whether what was read as a stream seems to be none: no packet at all, more skipped than taken, or, as where 0x47 stands here and
+    there, much skipped and hardly two packets of a PID."""
+    if whole and not report.packets or 2 * report.skipped > whole:
+        return True
+    return report.packets >= 8 and 4 * report.skipped > whole and 2 * len(report.pids) > report.packets
 
 
 class Story:
@@ -87,7 +106,7 @@ class Story:
         self.packets = {row.pid: row for row in report.pids}
         self.stumbles = {}
         self.first_moment = first_moment(report)
-        self.look_at_skipped()
+        self.is_misread = self.look_at_skipped()
         for number, entries in sorted(report.nodes.items()):
             node = Node(number, self)
             for entry in entries:
@@ -99,21 +118,36 @@ class Story:
         for client in self.clients.values():
             client.calls.sort(key=lambda call: call.entry.step)
             self.look_at_slots(client)
+        self.tell_carried()
+
+    def tell_carried(self):
+        """Tells the hints on section filters what a PMT that was read says of their PIDs."""
+        sections = {data for client in self.clients.values() for got in client.got.values() for data in got.sections}
+        carried = {pid: text for data in sections for pid, text in carried_by(data).items()}
+        for stumble in self.stumbles.values():
+            if stumble.kind in ("selects nothing", "packets as sections"):
+                stumble.facts["carried"] = carried.get(stumble.facts["pid"])
 
     def line_of(self, entry):
         """The line of the command that made this entry's call."""
         return self.clients[int(entry.who[1])].line_of(entry.step)
 
+    def client_at(self, line):
+        """The client whose command stands at this line."""
+        return next((number for number, client in self.clients.items() if line in client.lines), None)
+
     def look_at_skipped(self):
-        """Notes that so many bytes were skipped for each packet as where packets take up another number of bytes, or else that most of the
-        stream's bytes were skipped."""
+        """Notes that so many bytes were skipped for each packet as where packets take up another number of bytes, or else that the bytes
+        seem to be no packets; tells whether one of these is so."""
         report = self.report
         whole = PACKET * report.packets + report.skipped + report.rest
+        if is_no_stream(report, whole):
+            self.stumble("skipped", None, None, None, skipped=report.skipped, whole=whole, packets=report.packets)
+            return True
         size = other_size(report.packets, report.skipped)
         if size:
             self.stumble("other size", None, None, None, skipped=report.skipped, packets=report.packets, size=size)
-        elif 2 * report.skipped > whole:
-            self.stumble("skipped", None, None, None, skipped=report.skipped, whole=whole)
+        return size is not None
 
     def look_at_slots(self, client):
         """Notes the commands on a slot that is bound to no node."""
@@ -146,13 +180,14 @@ class Story:
         elif call.act == "read":
             self.take_read(node, client, call, line)
         elif call.act == "poll":
-            if "error=timedout" in entry.reply and node.capture:
-                node.capture.polled = line
+            self.take_poll(node, call, line)
         elif call.act == "open":
             self.take_open(node, client, call, line)
         elif call.act in ("attach", "detach"):
             self.take_tap(node, client, call, line)
-        elif call.act != "pass":
+        elif call.act == "pass":
+            self.take_played(node, call)
+        else:
             self.take_change(node, client, call, line)
 
     def take_feed(self, node, entry):
@@ -162,11 +197,17 @@ class Story:
             return
         act = act_of(entry)
         node.passes += 1
+        node.passed = act["first"] + act["count"]
         if node.taps and node.owner is None:
             node.free_packets += act["count"]
-        if node.runs and node.capture and not node.filter.once and not node.filter.is_played:
+        if node.runs and node.capture and not node.filter.is_played:
             if node.capture.due is None or act["at"] < node.capture.due:
-                node.filter.take(act)
+                node.filter.take(act, node.pids)
+
+    def take_played(self, node, call):
+        """Packets that a client has written pass a node."""
+        if node.runs and node.capture:
+            node.filter.written += act_of(call.entry)["count"]
 
     def end_wait(self, node, client, call, line):
         """Where the call before was a wait of the same command, notes what came in between."""
@@ -203,7 +244,7 @@ class Story:
             client.refused.append((line, call))
             return
         node.busy.pop(client.number, None)
-        node.runs, node.ended_by, node.capture = False, "", None
+        node.ended_by, node.capture = "", None
         node.accept(call.entry, act_of(call.entry), reply_of(call.entry))
         for tapped in list(node.taps):
             self.leave_tap(node, tapped)
@@ -215,13 +256,19 @@ class Story:
         if tapped in node.taps and mine == (call.act == "detach"):
             self.leave_tap(node, tapped)
         if call.act == "attach" and node.owner is None and not mine:
-            node.taps[tapped] = (client.number, line, node.free_packets)
+            node.taps[tapped] = (client.number, line, node.free_packets, tuple(act_of(call.entry)["pids"]))
 
     def leave_tap(self, node, tapped):
         """A tap that was attached while the dvr node was free is removed, or the dvr node is opened."""
-        client, line, before = node.taps.pop(tapped)
-        if node.free_packets > before:
-            self.stumble("free tap", client, node, line, tapped, tapped=tapped, packets=node.free_packets - before)
+        client, line, before, pids = node.taps.pop(tapped)
+        least, most = self.within(node.free_packets - before, pids)
+        if most:
+            self.stumble("free tap", client, node, line, tapped, tapped=tapped, least=least, most=most, pids=pids)
+
+    def within(self, passed, pids):
+        """The least and the most packets of some PIDs that may be among so many of the stream."""
+        whole = self.report.packets if ALL_PACKETS in pids else sum(row.packets for pid in set(pids) for row in self.rows_of(pid))
+        return max(0, whole - (self.report.packets - passed)), min(whole, passed)
 
     def take_change(self, node, client, call, line):
         """An accepted call that changes a node's filter, capture or size."""
@@ -241,17 +288,38 @@ class Story:
     def leave_filter(self, node):
         """A filter's time is over: by another set call, by Close, or at the end of the report."""
         used, node.filter = node.filter, None
-        if used is None or node.owner is None:
+        if used is None:
             return
         if not used.started:
-            self.stumble("never started", node.owner, node, used.line)
-        if not used.started or used.is_played:
-            return
+            self.stumble("never started", used.client, node, used.line)
+        elif used.is_played:
+            self.look_at_played(node, used)
+        else:
+            self.look_at_used(node, used)
+
+    def look_at_played(self, node, used):
+        """Notes that nothing of what clients write came through a filter that takes it."""
+        if not used.gave and (not used.written or used.empty is not None):
+            self.stumble("nothing written", used.client, node, used.line, pid=used.pid, written=used.written)
+
+    def look_at_used(self, node, used):
+        """Looks at what a filter that ran was offered, and what of it it let through."""
         absent = tuple(pid for pid in sorted(used.ever) if not self.rows_of(pid))
         if absent:
-            self.stumble("no packet", node.owner, node, used.line, absent, pids=absent)
-        for pid in sorted(used.ever):
+            few = absent if len(absent) <= MOST_READ_AS else ()
+            read_as = {pid: self.packets[as_hex(pid)].packets for pid in few if as_hex(pid) in self.packets}
+            self.stumble("no packet", used.client, node, used.line, absent, pids=absent, read_as=read_as, written=used.written)
+        elif used.kind == "section" and used.empty and not used.gave:
+            self.look_at_nothing(node, used)
+        for pid in sorted(used.ever) if not self.is_misread and not used.once else ():
             self.look_at_pid(node, used, pid)
+
+    def look_at_nothing(self, node, used):
+        """Notes that packets of its PID passed a section filter that ran, and that it has selected nothing."""
+        least, most = self.within(sum(after - first for first, after in used.empty), [used.pid])
+        if least:
+            facts = {"least": least, "most": most, "whole": self.packets[used.pid].packets, "act": used.act}
+            self.stumble("selects nothing", used.client, node, used.line, pid=used.pid, **facts)
 
     def rows_of(self, pid):
         """The rows of the stream's PIDs that a filter's PID names."""
@@ -273,8 +341,19 @@ class Story:
     def leave_capture(self, node):
         """A capture's time is over; a timeout that a poll told and no read is noted now."""
         capture, node.capture = node.capture, None
-        if capture and capture.polled is not None and node.owner is not None:
-            self.note_timeout(node, node.owner, capture.polled)
+        if capture and capture.polled is not None:
+            self.note_timeout(node, capture.client, capture.polled, capture)
+        if capture and capture.early and not capture.is_late:
+            self.note_early(node, capture)
+
+    def note_early(self, node, capture):
+        """Notes that all reads and polls of a capture came before the first packet. Of `run` this says nothing of a script: there the
+        stream passes at its own pace."""
+        if self.first_moment or capture.begin >= self.report.packets:
+            return
+        for line in capture.early:
+            left = self.report.packets - capture.begin
+            self.stumble("no feed", capture.client, node, line, capture.line, begin=capture.line, packets=left)
 
     def note_late(self, node, entry):
         """Notes that a capture begins behind End."""
@@ -283,9 +362,9 @@ class Story:
         facts = {"end": node.end, "begin": entry.place, "moment": self.first_moment}
         self.stumble(kind, client, node, self.line_of(entry), **facts)
 
-    def note_timeout(self, node, client, line):
+    def note_timeout(self, node, client, line, capture):
         """Notes a timeout of a section filter whose PID has packets in the stream, which hadn't ended before."""
-        if node.filter and node.filter.pid in self.packets and not (node.capture and node.capture.is_late):
+        if node.filter and node.filter.pid in self.packets and not (capture and capture.is_late):
             pid = node.filter.pid
             self.stumble("timed out", client, node, line, pid, pid=pid, packets=self.packets[pid].packets)
 
@@ -300,6 +379,8 @@ class Story:
         got.reads += 1
         if node.filter and len(node.filter.ever) > len(got.pids):
             got.pids |= node.filter.ever
+        is_clear = call.reply in ("again", "timedout") or call.length() and node.gives_all() and call.length() < act_of(call.entry)["count"]
+        self.look(node, call, line, call.length() or call.reply == "overflow", is_clear)
         if call.reply == "again":
             if node.filter and node.filter.output == "ts_tap":
                 self.stumble("read of ts_tap", client.number, node, line)
@@ -311,9 +392,25 @@ class Story:
             client.timed.append((line, call, node.filter.pid if node.filter else None))
             if node.capture:
                 node.capture.polled = None
-            self.note_timeout(node, client.number, line)
+            self.note_timeout(node, client.number, line, node.capture)
         else:
             self.take_data(node, client, call, line, got)
+
+    def take_poll(self, node, call, line):
+        """A poll that wasn't refused."""
+        reply = reply_of(call.entry)
+        if reply["error"] == "timedout" and node.capture:
+            node.capture.polled = line
+        found = reply["error"] == "overflow" or reply["readable"] and reply["error"] == "none"
+        self.look(node, call, line, found, not reply["readable"])
+
+    @staticmethod
+    def look(node, call, line, found, is_clear):
+        """A read or a poll has found something or nothing, and all that had come may be read by then."""
+        node.tell(found)
+        if node.capture:
+            node.capture.look(line, node.passed, found or "timedout" in call.entry.reply, call.act == "read")
+            node.capture.clear = node.passed if is_clear else node.capture.clear
 
     def take_data(self, node, client, call, line, got):
         """Data, with bytes or none."""
@@ -337,14 +434,16 @@ class Story:
     def take_section(self, node, client, call, line, got):
         """A section or a part of one."""
         begun = node.capture.have > 0
-        of, head, whole = node.capture.take_section(call.entry.reply[5:])
+        of, data, whole = node.capture.take_section(call.entry.reply[5:])
+        if not begun and is_pes_head(data):
+            self.stumble("packets as sections", client.number, node, line, node.filter.pid, pid=node.filter.pid, data=data[:3])
         if whole:
             got.items += 1
-            got.take_head(head)
+            got.take_section(data)
         else:
             self.stumble("part", client.number, node, line, count=act_of(call.entry)["count"], of=of)
         call.reason = ("the end of a section" if begun else "a section") if whole else "a part of a section"
-        call.head = None if begun else head
+        call.section, call.whole = data if whole or not begun else b"", whole
 
     def take_payload(self, capture, call, got):
         """Payloads, in which PES packets begin."""
@@ -366,11 +465,24 @@ class Story:
         """An Overflow that a read answered."""
         reply = reply_of(call.entry)
         client.lost.append((line, call, reply["span"]))
-        call.reason, call.kept = str(node.size), bool(node.filter and node.filter.keeps)
+        call.reason = str(node.size)
+        call.lost = self.lost_by(node, reply)
         if node.capture:
             node.capture.skip_to(reply["span"][1])
+            node.capture.clear = node.passed
         facts = {"item": reply["item"], "need": reply["need"], "size": node.size}
         if node.size and reply["need"] > node.size - 1:
             self.stumble("larger", client.number, node, line, **facts)
-        if node.size == node.first_size():
+        if node.size == node.first_size:
             self.stumble("first size", client.number, node, line, **facts)
+
+    def lost_by(self, node, reply):
+        """What is known of the span of an Overflow."""
+        is_whole = node.number == DVR or bool(node.filter) and node.filter.output == "tsdemux_tap"
+        is_section = bool(node.filter) and node.filter.kind == "section"
+        kept, (begin, after) = bool(node.filter and node.filter.keeps), reply["span"]
+        packets = -(-after // PACKET) - begin // PACKET if is_whole else None
+        read = reply["item"] if kept else node.capture.items if node.capture else 0
+        sections = max(1, reply["item"] + 1 - read) if is_section else None
+        passed = (node.capture.clear, node.passed) if node.capture else (0, 0)
+        return Lost(kept, packets, sections, *passed)

@@ -1,7 +1,11 @@
 """Writes shapes and words as the text of an SVG, for tools/picture."""
 from xml.sax.saxutils import escape
 
-LEFT, RIGHT, WIDTH, LEAST_WIDTH = 92, 24, 1314, 720
+# Where the columns begin, what stands behind them, how wide those of one strip may be and those of all together, and the least picture. No
+# text is smaller than SMALL, and no picture wider than a page of 830.
+LEFT, RIGHT, STRIP, WIDTH, LEAST_WIDTH, SMALL = 92, 24, 696, 3 * 696, 720, 9
+# Where a number isn't written for want of room.
+SIGN = "·"
 
 # Colours of Okabe and Ito, which colour-blind readers tell apart.
 BLACK, GREY, PALE, WHITE = "#000000", "#666666", "#e4e4e4", "#ffffff"
@@ -91,16 +95,31 @@ def short_number(value):
 
 
 class Labels:
-    """Words side by side on one line between two edges, each only where it doesn't touch the one before."""
+    """Words side by side on one line between two edges, each only where it doesn't touch the one before and isn't cut where a strip ends.
+    `left_out` says whether one was left out."""
 
-    def __init__(self, y, left, right, look=""):
-        self.y, self.left, self.right, self.look = y, left, right, look
+    def __init__(self, y, left, right, look="", cuts=()):
+        self.y, self.left, self.right, self.look, self.cuts, self.left_out = y, left, right, look, cuts, False
 
     def at(self, x, words):
-        """The words centred about x or near it, or nothing where they don't fit."""
+        """The words centred about x or near it; nothing where they don't fit."""
         half = len(words) * (3.3 if "bold" in self.look else 3)
         middle = max(min(x, self.right - half), self.left + half)
-        if abs(middle - x) > half or middle + half > self.right:
+        for cut in self.cuts:
+            if middle - half < cut < middle + half:
+                middle = cut + half + 1 if x >= cut else cut - half - 1
+        if abs(middle - x) > half + 1 or middle + half > self.right or middle - half < self.left:
             return []
         self.left = middle + half + 8
         return [text(middle, self.y, words, 9, f"{MIDDLE} {self.look}")]
+
+    def number_at(self, x, words):
+        """The same, and where they don't fit the sign that a number isn't there, if that has room."""
+        found = self.at(x, words)
+        if found:
+            return found
+        self.left_out = True
+        if x - 2 < self.left - 6:
+            return []
+        self.left = max(self.left, x + 6)
+        return [text(x, self.y, SIGN, 9, f"{MIDDLE} {self.look}")]

@@ -9,7 +9,7 @@ lost item found.
 from typing import NamedTuple
 
 import reports
-from fields import pid_text
+from fields import pid_name
 from walk import KEEP, Walk
 
 PACKET, ALL_PACKETS, MOST_NAMED = 188, 0x2000, 4
@@ -114,7 +114,7 @@ class History(Walk):
 
     def __init__(self, node, entries):
         super().__init__(node)
-        self.entries, self.pids = entries, set()
+        self.entries = entries
         self.sizes, self.captures, self.drops = [], [], []
         for entry in entries:
             self.take(entry, reports.act_of(entry), reports.reply_of(entry))
@@ -212,13 +212,8 @@ class History(Walk):
         self.capture.keeps = kind != "dvr" and bool(self.filter["flags"] & KEEP)
         self.captures.append(self.capture)
 
-    def set_filter(self, entry, act):
-        """A filter, with the PID that it names."""
-        self.filter, self.pids = act, {act["pid"]}
-
     def change_pids(self, entry, act):
         """Another PID, or one less; a capture takes them from here on."""
-        self.pids = self.pids | {act["pid"]} if act["name"] == "add" else self.pids - {act["pid"]}
         if self.capture:
             self.capture.labels.append((entry.place, pids_labels(self.pids)))
 
@@ -233,7 +228,7 @@ class History(Walk):
         if end > begin:
             self.drops.append(Drop(entry.place, begin, end))
         if self.capture:
-            if end - begin >= (self.size or 1) and self.capture.pending is None:
+            if end - begin >= (self.sizes[-1] or 1) and self.capture.pending is None:
                 self.capture.pending = entry.place
             self.capture.know(entry.place, end)
             self.capture.told_packets = self.capture.packets
@@ -280,7 +275,7 @@ class History(Walk):
 
 def pids_labels(pids):
     """PIDs in a few words, and shorter for where there is less room."""
-    names = ["all packets" if pid == ALL_PACKETS else pid_text(pid) for pid in sorted(pids)]
+    names = ["all packets" if pid == ALL_PACKETS else pid_name(pid) for pid in sorted(pids)]
     if not pids:
         return "no PID", "none"
     if len(pids) == 1:

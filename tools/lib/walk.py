@@ -1,10 +1,18 @@
 """A node's entries gone through: owner, size, filter and capture as they follow from the calls accepted so far.
 
-The rules are those of docs/BEHAVIOUR.md, 'Captures' and 'The dvr node'. Nothing here works out a reply anew.
+They are those of the nodes of the plain second program, fuzz/second.py, which are asked just these calls: nothing is worked out a second
+time here. No packet is offered to them, so they are never asked what a read or a poll gives: that stands in the report.
 """
-from reports import DVR
+import os
+import sys
 
-DEMUX_SIZE, DVR_SIZE = 8192, 1925120
+from reports import DVR, moment
+
+sys.path.append(os.path.join(os.path.dirname(os.path.realpath(__file__)), "..", "..", "fuzz"))
+
+import second  # noqa: E402
+from judge import act_of as call_of  # noqa: E402
+
 CRC, ONESHOT, IMMEDIATE, KEEP = 1, 2, 4, 256
 # The flags that a set call takes, by their bits.
 FLAGS = {CRC: "DMX_CHECK_CRC", ONESHOT: "DMX_ONESHOT", IMMEDIATE: "DMX_IMMEDIATE_START", KEEP: "KEEP"}
@@ -15,44 +23,47 @@ class Walk:
     classes below this one; filter and capture are None where there is none."""
 
     def __init__(self, number):
-        self.number, self.owner, self.size = number, None, None
-        self.filter, self.capture = None, None
+        self.number, self.node = number, second.Dvr() if number == DVR else second.Demux()
+        self.filter, self.capture, self.first_size = None, None, None
 
-    def first_size(self):
-        """The size that Open gives."""
-        return DVR_SIZE if self.number == DVR else DEMUX_SIZE
+    @property
+    def owner(self):
+        """The client that the node belongs to, or None."""
+        return self.node.owner
+
+    @property
+    def size(self):
+        """The buffer's size; None of a node that is free."""
+        return None if self.node.owner is None else self.node.size
+
+    @property
+    def pids(self):
+        """The PIDs of the filter."""
+        return self.node.pids
+
+    @property
+    def runs(self):
+        """Whether the filter is started and not stopped."""
+        return self.number != DVR and self.node.capture is not None and not self.node.capture.stopped
 
     def accept(self, entry, act, reply):
         """Takes a call of a client that was answered Done."""
-        name = act["name"]
+        name, before, was_set = act["name"], self.node.capture, self.filter is not None
+        if not self.node.call(int(entry.who[1]), call_of(entry), moment(entry) or 0).startswith("done"):
+            return  # no report of a program
         if name == "open":
-            self.owner, self.size, self.filter = int(entry.who[1]), self.first_size(), None
-            self.begin_on_dvr(entry)
-        elif name == "close":
+            self.first_size = self.node.size
+        if before is not None and self.node.capture is not before:
             self.end_capture(entry, reply)
+        if name in ("open", "close", "section", "pes") and was_set:
             self.end_filter()
-            self.owner, self.size = None, None
-        elif name in ("section", "pes"):
-            self.end_capture(entry, reply)
-            self.end_filter()
+        if name in ("section", "pes"):
             self.set_filter(entry, act)
-            if act["flags"] & IMMEDIATE:
-                self.begin_capture(entry)
-        elif name in ("add", "remove") and self.filter:
+        if name in ("add", "remove"):
             self.change_pids(entry, act)
-        elif name == "start" and self.filter:
-            self.end_capture(entry, reply)
-            self.begin_capture(entry)
-        elif name == "stop":
+        if name == "stop":
             self.stop(entry)
-        elif name == "size" and act["size"] != self.size:
-            self.end_capture(entry, reply)
-            self.size = act["size"]
-            self.begin_on_dvr(entry)
-
-    def begin_on_dvr(self, entry):
-        """On the dvr node a capture begins without a filter."""
-        if self.number == DVR:
+        if self.node.capture is not before and self.node.capture is not None:
             self.begin_capture(entry)
 
     def begin_capture(self, entry):
