@@ -17,7 +17,7 @@ use Rattle.seats.specs.Holding.{holds, AreMarked, GivesBack}
 use Rattle.seats.specs.Numbered.{numbered}
 use Rattle.seats.specs.Seated.{log_of, told_made, AreOnNodes, GoesOn}
 use Rattle.seats.specs.Spelled.{outcomes_by}
-use Rattle.seats.specs.Turns.{Turn, IsTurn, calls_of, spelled, MakesTurns, MakesTurn, MakesLast, IsAsked, IsTold, AreTold, IsLast, HasTurned, HasAnsweredAll}
+use Rattle.seats.specs.Turns.{Turn, IsTurn, calls_of, spelled, MakesTurns, MakesTurn, MakesLast, IsAsked, IsTold, IsCutOff, AreTold, IsLast, HasTurned, HasAnsweredAll}
 use Rattle.seats.proofs.Doing.{log_more}
 use Rattle.seats.proofs.Going.{calls_trans}
 use Rattle.seats.proofs.Keeping.{the_calls}
@@ -44,15 +44,18 @@ module _ {T : Type 0} (source : T → SourceEnd) (sink : T → SinkEnd) (may : �
   told_from : (n : ℕ) (t : Turn) (before after : T) → IsTold source sink may t before after → IsTold source sink may (from_step n t) before after
   told_from n t before after is = record { asked = is.asked; is = asked_from n t before is.asked is.is; told = is.told }
 
-  last_from : (n : ℕ) (line : T) (ts : List Turn) → IsLast source sink may line ts → IsLast source sink may line (from_steps n ts)
-  last_from n line [] is = tt
-  last_from n line (t ∷ []) is = (is.0, asked_from n t line is.0 is.1)
-  last_from n line (t ∷ u ∷ ts) is = absurd is
+  cut_from : (n : ℕ) (t : Turn) (before after : T) → IsCutOff source sink may t before after → IsCutOff source sink may (from_step n t) before after
+  cut_from n t before after is = record { asked = is.asked; is = asked_from n t before is.asked is.is; told = is.told }
 
-  last_calls : (n : ℕ) (line : T) (ts : List Turn) → IsLast source sink may line ts → numbered n (calls_of ts) ≡ calls_of (from_steps n ts)
-  last_calls n line [] is = refl
-  last_calls n line (t ∷ []) is = ap (numbered n) (append-nil t.calls) ∙ sym (append-nil (numbered n t.calls))
-  last_calls n line (t ∷ u ∷ ts) is = absurd is
+  last_from : (n : ℕ) (line end : T) (ts : List Turn) → IsLast source sink may line ts end → IsLast source sink may line (from_steps n ts) end
+  last_from n line end [] is = is
+  last_from n line end (t ∷ []) is = cut_from n t line end is
+  last_from n line end (t ∷ u ∷ ts) is = absurd is
+
+  last_calls : (n : ℕ) (line end : T) (ts : List Turn) → IsLast source sink may line ts end → numbered n (calls_of ts) ≡ calls_of (from_steps n ts)
+  last_calls n line end [] is = refl
+  last_calls n line end (t ∷ []) is = ap (numbered n) (append-nil t.calls) ∙ sym (append-nil (numbered n t.calls))
+  last_calls n line end (t ∷ u ∷ ts) is = absurd is
 
   told_last : (line at next : T) (ts : List Turn) (t : Turn) → AreTold source sink may line ts at → IsTold source sink may t at next → AreTold source sink may line (ts ++ t ∷ []) next
   told_last line at next [] t is one = (next, subst (λ (l : T). IsTold source sink may t l next) is one, refl)
@@ -221,7 +224,7 @@ module _ {T J : Type 0} (source : T → SourceEnd) (sink : T → SinkEnd) (may :
     -- the line has ended, and all nodes were closed: what is told of commands is what its calls say of them
     pub answered_to : (next : T) (new last : Seat) (was_told now_told : List Outcome) (on : Bool) → HasTurned source sink may on at next s.held s.client new.client (log_of s) (log_of new) was_told now_told → on ≡ false
         → GoesOn s new → Does (AreClosings (DEMUX_NODES + 1)) new last → GoesOn new last → HasGone new last
-        → (told : List Outcome) × HasAnsweredAll source sink may line first last.client [] (all_calls h.handed last) [] told
+        → (told : List Outcome) × HasAnsweredAll source sink may line next first last.client [] (all_calls h.handed last) [] told
     answered_to next new last was_told now_told true one is on d goes left = absurd (cc is)
     answered_to next new last was_told now_told false one is on d goes left =
         let n = length h.handed + length (log_of s) in let m = length h.handed + length (log_of new) in
@@ -230,7 +233,7 @@ module _ {T J : Type 0} (source : T → SourceEnd) (sink : T → SinkEnd) (may :
         let whole : all_calls h.handed new ≡ calls_of (h.turns ++ lasts) =
         all_more h.handed s new (calls_of one.0) one.2
         ∙ (ap (λ (l : List LogEntry). l ++ numbered n (calls_of one.0)) h.calls
-        ∙ (ap (λ (l : List LogEntry). calls_of h.turns ++ l) (last_calls source sink may n at one.0 one.1)
+        ∙ (ap (λ (l : List LogEntry). calls_of h.turns ++ l) (last_calls source sink may n at next one.0 one.1)
         ∙ sym (flat_map-append (λ (t : Turn). t.calls) h.turns lasts))) in
         let marked = marked_goes h.handed s new on h.marked in
         let makes : MakesCalls (length (log_of new)) new.client gone last.client = subst (λ (l : List LogEntry). MakesCalls (length (log_of new)) new.client l last.client) (the_calls new last goes.calls gone goes.log grown) goes.made in (
@@ -240,7 +243,7 @@ module _ {T J : Type 0} (source : T → SourceEnd) (sink : T → SinkEnd) (may :
             after = at;
             told = h.told;
             last = lasts;
-            is = last_from source sink may n at one.0 one.1;
+            is = last_from source sink may n at next one.0 one.1;
             leaving = leaving;
             closed = closings_numbered (DEMUX_NODES + 1) m gone d.is;
             log = all_more h.handed new last gone grown

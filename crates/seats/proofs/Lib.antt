@@ -14,3 +14,4 @@ pub mod Progress
 pub mod Ranges
 pub mod Spelling
 pub mod Turning
+pub mod Wiring

@@ -24,14 +24,14 @@ module _ {T : Type 0} (source : T → SourceEnd) (sink : T → SinkEnd) (may : �
   told_turns line [] after are = All-nil (IsTurn may)
   told_turns line (t ∷ ts) after are = All-cons (IsTurn may) t ts are.1.is.turn (told_turns are.0 ts after are.2)
 
-  last_turns : (line : T) (ts : List Turn) → IsLast source sink may line ts → All (IsTurn may) ts
-  last_turns line [] is = All-nil (IsTurn may)
-  last_turns line (t ∷ []) is = All-cons (IsTurn may) t [] is.1.turn (All-nil (IsTurn may))
-  last_turns line (t ∷ u ∷ ts) is = absurd is
+  last_turns : (line end : T) (ts : List Turn) → IsLast source sink may line ts end → All (IsTurn may) ts
+  last_turns line end [] is = All-nil (IsTurn may)
+  last_turns line end (t ∷ []) is = All-cons (IsTurn may) t [] is.is.turn (All-nil (IsTurn may))
+  last_turns line end (t ∷ u ∷ ts) is = absurd is
 
-  module _ (line : T) (c d : Caller) (book : List LogEntry) (told : List Outcome) (a : HasAnsweredAll source sink may line c d [] book [] told) (low : AreOnNodes book) where
+  module _ (line end : T) (c d : Caller) (book : List LogEntry) (told : List Outcome) (a : HasAnsweredAll source sink may line end c d [] book [] told) (low : AreOnNodes book) where
     turns : All (IsTurn may) (a.turns ++ a.last)
-    turns = All-append (IsTurn may) a.turns a.last (told_turns line a.turns a.after a.told) (last_turns a.after a.last a.is)
+    turns = All-append (IsTurn may) a.turns a.last (told_turns line a.turns a.after a.told) (last_turns a.after end a.last a.is)
 
     calls : book ≡ calls_of (a.turns ++ a.last) ++ a.leaving
     calls = a.log ∙ (sym (append_assoc (calls_of a.turns) (calls_of a.last) a.leaving)

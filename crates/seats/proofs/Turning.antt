@@ -1,10 +1,7 @@
 -- The turns of a line.
-use Rattle.std.proofs.Common.{◌≡◌, ◌+◌, ℕ, Bool, true, false, List, [], ◌∷◌, ◌++◌, length, map, Option, Result, Ok, Err, is_ok, OnOk, IsTrue, refl, ap, sym, ◌∙◌, subst, arith, length-append}
+use Rattle.std.proofs.Common.{◌≡◌, ◌+◌, ℕ, Bool, true, false, List, [], ◌∷◌, ◌++◌, length, map, IsTrue, refl, ap, sym, ◌∙◌, subst, arith, length-append}
 use Rattle.std.proofs.lemmas.List.{append-nil, append_assoc}
 use Rattle.std.proofs.lemmas.List.Concat.{flat_map-append}
-use Rattle.std.proofs.KnownBytes.{Appends-trans}
-use Rattle.std.proofs.lemmas.Result.{on_ok_weaker}
-use Rattle.std.specs.Io.KnownBytes.{Appends, Consumes}
 use Rattle.emu_io.specs.Ends.{SourceEnd, SinkEnd}
 use Rattle.dmx_calls.specs.declared.limits.TheConstants.{DEMUX_NODES}
 use Rattle.dmx_calls.specs.Log.{LogEntry}
@@ -19,26 +16,14 @@ use Rattle.adapter.specs.Callers.{Caller}
 use Rattle.seats.specs.Calls.{MakesCalls}
 use Rattle.seats.specs.Doing.{Does, HasAnswered, HasGone, KeepsClosed}
 use Rattle.seats.specs.Holding.{AreMarked, CloseHeld}
+use Rattle.seats.specs.Line.{Takes, RunsOut, Writes, BreaksOff}
 use Rattle.seats.specs.Seated.{log_of, told_made, GoesOn}
 use Rattle.seats.specs.Told.{reply_bytes}
 use Rattle.seats.specs.Spelled.{DoneCommand, calls_in, closings, commands_done_by, AreKept}
-use Rattle.seats.specs.Turns.{Turn, IsTurn, calls_of, spelled_by, MakesTurns, MakesTurn, MakesLast, IsAsked, IsTold, AreTold, IsLast, HasTurned, HasAnsweredAll}
+use Rattle.seats.specs.Turns.{Turn, IsTurn, calls_of, spelled_by, MakesTurns, MakesTurn, MakesLast, IsAsked, IsTold, IsCutOff, AreTold, IsLast, HasTurned, HasAnsweredAll}
 use Rattle.seats.proofs.Doing.{log_more}
 use Rattle.seats.proofs.Keeping.{the_calls, kept_none, kept_trans}
 use Rattle.seats.proofs.Spelling.{answered_calls}
-
--- where it has succeeded
-pub by_ok : {A E : Type 0} (r : Result A E) (P : Type 0) (b : Bool) → b ≡ is_ok r → OnOk r P → b ≡ true → P
-by_ok (Ok x) P b is ok yea = ok
-by_ok (Err e) P b is ok yea = absurd (let both : false ≡ true = sym is ∙ yea in cc)
-
-appended : (a b c : Option (List ℕ)) (h d head bytes : List ℕ) → h ≡ head → d ≡ bytes → Appends a b h → Appends b c d → Appends a c (head ++ bytes)
-appended a b c h d head bytes e f x y =
-    subst (λ (l : List ℕ). Appends a c (l ++ bytes)) e (subst (λ (l : List ℕ). Appends a c (h ++ l)) f (Appends-trans a b c h d x y))
-
--- a head and the bytes behind it
-pub told_whole : {E : Type 0} (r : Result (Unit {0}) E) (a b c : Option (List ℕ)) (h d head bytes : List ℕ) → h ≡ head → d ≡ bytes → Appends a b h → OnOk r (Appends b c d) → OnOk r (Appends a c (head ++ bytes))
-told_whole r a b c h d head bytes e f x o = on_ok_weaker {P = Appends b c d} {Q = Appends a c (head ++ bytes)} r (λ y. appended a b c h d head bytes e f x y) o
 
 -- where what is marked is what is held by the calls of the log alone
 made_turn : (log : List LogEntry) (held : List Bool) (c d : Caller) (t : Turn) → AreMarked log held → MakesTurn held log c t d → MakesTurns log c (t ∷ []) d
@@ -57,11 +42,12 @@ makes_both before c m d (t ∷ ts) us a b =
 
 module _ {T : Type 0} (source : T → SourceEnd) (sink : T → SinkEnd) (may : ℕ → Bool) where
   -- no whole request was read
-  pub turned_none : (before after : T) (held : List Bool) (c : Caller) (log : List LogEntry) (told : List Outcome) → HasTurned source sink may false before after held c c log log told told
-  turned_none before after held c log told = ([], tt, sym (append-nil log), kept_none (length log) told told refl, refl)
+  pub turned_none : (before after : T) (held : List Bool) (c : Caller) (log : List LogEntry) (told : List Outcome) → RunsOut REQUEST_LEN (source before) (source after)
+      → HasTurned source sink may false before after held c c log log told told
+  turned_none before after held c log told out = ([], out, sym (append-nil log), kept_none (length log) told told refl, refl)
 
   module _ (ask : Ask) (now : ℕ) (old new : Seat) (request : List ℕ) (t : Tell) (bytes : List ℕ) (before asked after : T) (is : ask ≡ ask_of request) (long : length request ≡ REQUEST_LEN)
-      (given : IsTrue (may now)) (taken : Consumes (source before).left (source asked).left request) (a : HasAnswered ask now old new t bytes) where
+      (given : IsTrue (may now)) (taken : Takes (source before) (source asked) request) (a : HasAnswered ask now old new t bytes) where
     turn : Turn
     turn = record { request = request; now = now; calls = a.calls; told = t; bytes = bytes }
 
@@ -77,13 +63,13 @@ module _ {T : Type 0} (source : T → SourceEnd) (sink : T → SinkEnd) (may : �
     its_made = record { made = a.made; gone = λ leaving. a.gone (is ∙ leaving) }
 
     -- its reply was written whole, or not
-    pub turned_one : (on : Bool) → (on ≡ true → Appends (sink asked).written (sink after).written (reply_bytes t bytes))
+    pub turned_one : (on : Bool) → (on ≡ true → Writes (sink asked) (sink after) (reply_bytes t bytes)) → (on ≡ false → BreaksOff (sink asked) (sink after) (reply_bytes t bytes))
         → HasTurned source sink may on before after old.held old.client new.client (log_of old) (log_of new) old.outcomes.items new.outcomes.items
     unfolding turn
-    turned_one true whole = (turn, record { asked = asked; is = its_ask; told = whole refl }, a.log, its_kept, its_made)
-    turned_one false whole = (
+    turned_one true whole cut = (turn, record { asked = asked; is = its_ask; told = whole refl }, a.log, its_kept, its_made)
+    turned_one false whole cut = (
       turn ∷ [],
-      (asked, its_ask),
+      record { asked = asked; is = its_ask; told = cut refl },
       a.log ∙ ap (λ (l : List LogEntry). log_of old ++ l) (sym (append-nil a.calls)),
       subst (λ (ds : List DoneCommand). AreKept (length (log_of old)) ds old.outcomes.items new.outcomes.items) (sym (append-nil (commands_done_by (ask_of request) a.calls))) its_kept,
       its_made,
@@ -142,15 +128,15 @@ module _ {T : Type 0} (source : T → SourceEnd) (sink : T → SinkEnd) (may : �
   }
   told_more line at next held x y z a b c was mid now false h m one is = absurd (cc is)
 
-  last_calls : (line : T) (ts : List Turn) → IsLast source sink may line ts → calls_in (spelled_by ts) ≡ calls_of ts
-  last_calls line [] is = refl
-  last_calls line (t ∷ []) is = turn_calls t is.1.turn
-  last_calls line (t ∷ u ∷ ts) is = absurd is
+  last_calls : (line end : T) (ts : List Turn) → IsLast source sink may line ts end → calls_in (spelled_by ts) ≡ calls_of ts
+  last_calls line end [] is = refl
+  last_calls line end (t ∷ []) is = turn_calls t is.is.turn
+  last_calls line end (t ∷ u ∷ ts) is = absurd is
 
   pub answered_all : (line at next : T) (old mid new last : Seat) (on : Bool) → HaveTold line at old.client mid.client (log_of old) (log_of mid) old.outcomes.items mid.outcomes.items
       → AreMarked (log_of mid) mid.held → HasTurned source sink may on at next mid.held mid.client new.client (log_of mid) (log_of new) mid.outcomes.items new.outcomes.items → on ≡ false
       → Does (AreClosings (DEMUX_NODES + 1)) new last → KeepsClosed new last → GoesOn mid new → GoesOn new last → HasGone new last
-      → HasAnsweredAll source sink may line old.client last.client (log_of old) (log_of last) old.outcomes.items last.outcomes.items
+      → HasAnsweredAll source sink may line next old.client last.client (log_of old) (log_of last) old.outcomes.items last.outcomes.items
   answered_all line at next old mid new last true h m one is d k on goes gone = absurd (cc is)
   answered_all line at next old mid new last false h m one is d k on goes gone = record {
     turns = h.turns;
@@ -167,7 +153,7 @@ module _ {T : Type 0} (source : T → SourceEnd) (sink : T → SinkEnd) (may : �
         (subst (λ (ds : List DoneCommand). AreKept (length (log_of old)) ds old.outcomes.items new.outcomes.items) (sym (spelled_more h.turns one.0))
         (kept_trans (length (log_of old)) (length (log_of mid)) (spelled_by h.turns) (spelled_by one.0) old.outcomes.items mid.outcomes.items new.outcomes.items h.kept one.3 (count_calls (log_of old) (log_of mid) h.turns h.log h.calls)))
         (k leaving grown)
-        (count_calls (log_of old) (log_of new) (h.turns ++ one.0) before (more_calls h.turns one.0 h.calls (last_calls at one.0 one.1)));
+        (count_calls (log_of old) (log_of new) (h.turns ++ one.0) before (more_calls h.turns one.0 h.calls (last_calls at next one.0 one.1)));
     then = new.client;
     made = makes_both (log_of old) old.client mid.client new.client h.turns one.0 h.made (subst (λ (l : List LogEntry). MakesTurns l mid.client one.0 new.client) h.log (made_last (log_of mid) mid.held mid.client new.client one.0 m one.4));
     leaves = subst (λ (l : List LogEntry). MakesCalls (length l) new.client leaving last.client) before

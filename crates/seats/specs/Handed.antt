@@ -35,7 +35,7 @@ module _ {T J : Type 0} (source : T → SourceEnd) (sink : T → SinkEnd) (may :
     pub made : MakesCalls 0 old.client calls new.client
     pub nodes : AreOnNodes calls
     pub told : List Outcome
-    pub answers : HasAnsweredAll source sink may before.line old.client new.client [] calls [] told
+    pub answers : HasAnsweredAll source sink may before.line after.line old.client new.client [] calls [] told
     pub given : took calls before.journal after.journal
     pub left : (node : ℕ) → node ≤ DEMUX_NODES → HasLeft node new.client
 

@@ -3,6 +3,7 @@ pub mod Calls
 pub mod Doing
 pub mod Handed
 pub mod Holding
+pub mod Line
 pub mod Numbered
 pub mod Scripts
 pub mod Seated

@@ -1,7 +1,6 @@
 -- The requests of a line, one after another, and how each is answered.
 use Rattle.std.specs.Prelude.{◌≡◌, ◌++◌, ◌∷◌, [], ◌+◌, ℕ, Bool, true, false, IsTrue, List, length}
 use Rattle.std.specs.List.{flat_map}
-use Rattle.std.specs.Io.KnownBytes.{Appends, Consumes}
 use Rattle.emu_io.specs.Ends.{SourceEnd, SinkEnd}
 use Rattle.dmx_calls.specs.declared.limits.TheConstants.{DEMUX_NODES}
 use Rattle.dmx_calls.specs.declared.outcome.Outcome.{Outcome}
@@ -14,6 +13,7 @@ use Rattle.adapter.specs.Callers.{Caller}
 use Rattle.seats.specs.Answered.{IsAnswered, AreClosings}
 use Rattle.seats.specs.Calls.{MakesCalls}
 use Rattle.seats.specs.Holding.{GivesBack, GivesBackMarked}
+use Rattle.seats.specs.Line.{Takes, RunsOut, Writes, BreaksOff}
 use Rattle.seats.specs.Spelled.{DoneCommand, commands_done_by, AreKept}
 use Rattle.seats.specs.Told.{reply_bytes}
 
@@ -71,44 +71,51 @@ module _ {T : Type 0} (source : T → SourceEnd) (sink : T → SinkEnd) (may : �
   -- the request is taken from the line
   pub record IsAsked (t : Turn) (before asked : T) : Type 0 where
     pub turn : IsTurn may t
-    pub taken : Consumes (source before).left (source asked).left t.request
+    pub taken : Takes (source before) (source asked) t.request
 
   -- and its reply is written to it, whole
   pub record IsTold (t : Turn) (before after : T) : Type 0 where
     pub asked : T
     pub is : IsAsked t before asked
-    pub told : Appends (sink asked).written (sink after).written (reply_bytes t.told t.bytes)
+    pub told : Writes (sink asked) (sink after) (reply_bytes t.told t.bytes)
+
+  -- or a write fails before it is written whole
+  pub record IsCutOff (t : Turn) (before after : T) : Type 0 where
+    pub asked : T
+    pub is : IsAsked t before asked
+    pub told : BreaksOff (sink asked) (sink after) (reply_bytes t.told t.bytes)
 
   -- each of these, one after another
   abbrev pub AreTold : T → List Turn → T → Type 0
   AreTold line [] after = after ≡ line
   AreTold line (t ∷ ts) after = (next : T) × IsTold t line next × AreTold next ts after
 
-  -- none; or one, whose reply couldn't be written whole
-  abbrev pub IsLast : T → List Turn → Type 0
-  IsLast line [] = Unit {0}
-  IsLast line (t ∷ []) = (asked : T) × IsAsked t line asked
-  IsLast line (t ∷ u ∷ ts) = ⊥
+  -- None, since less than a request is left of the line, or a read fails; or one, whose reply couldn't be written whole.
+  abbrev pub IsLast : T → List Turn → T → Type 0
+  IsLast line [] end = RunsOut REQUEST_LEN (source line) (source end)
+  IsLast line (t ∷ []) end = IsCutOff t line end
+  IsLast line (t ∷ u ∷ ts) end = ⊥
 
   -- The next request is answered: by these calls, which the client makes, the log has grown, and what is told of commands by those
-  -- that it spells. Where that is the end, no call was made, or the reply wasn't written whole.
+  -- that it spells. Where that is the end, no request was read, or the reply wasn't written whole.
   abbrev pub HasTurned : (on : Bool) → (before after : T) → (held : List Bool) → (c d : Caller) → (old new : List LogEntry)
       → (was now : List Outcome) → Type 0
   HasTurned true before after held c d old new was now =
       (t : Turn) × IsTold t before after × (new ≡ old ++ t.calls)
       × AreKept (length old) (commands_done_by (ask_of t.request) t.calls) was now × MakesTurn held old c t d
   HasTurned false before after held c d old new was now =
-      (ts : List Turn) × IsLast before ts × (new ≡ old ++ calls_of ts) × AreKept (length old) (spelled_by ts) was now
+      (ts : List Turn) × IsLast before ts after × (new ≡ old ++ calls_of ts) × AreKept (length old) (spelled_by ts) was now
       × MakesLast held old c ts d
 
-  -- The requests of a line were answered, one after another, and then all nodes closed: by the calls for these, which the client
-  -- makes, the log has grown, and what is told of commands by those that the requests spell. The client was c before, and is d then.
-  pub record HasAnsweredAll (line : T) (c d : Caller) (old new : List LogEntry) (was now : List Outcome) : Type 0 where
+  -- The requests of a line were answered, one after another, up to the line's end or the first read or write that fails, and then all
+  -- nodes closed: by the calls for these, which the client makes, the log has grown, and what is told of commands by those that the
+  -- requests spell. The line became this, and the client, which was c before, is d then.
+  pub record HasAnsweredAll (line end : T) (c d : Caller) (old new : List LogEntry) (was now : List Outcome) : Type 0 where
     pub turns : List Turn
     pub after : T
     pub told : AreTold line turns after
     pub last : List Turn
-    pub is : IsLast after last
+    pub is : IsLast after last end
     pub leaving : List LogEntry
     pub closed : AreClosings (DEMUX_NODES + 1) leaving
     pub log : new ≡ old ++ (calls_of turns ++ (calls_of last ++ leaving))

@@ -36,7 +36,7 @@ impl Seat {
     )
         requires ledger { (blank.name ≡ L.name) × (blank.parts ≡ L.parts) × (0 < L.parts) }
         requires ready { IsReady adapter.now self.old }
-        ensures { HasServed T.Source.end T.Sink.end (C.may_give clock.now) adapter.now line.old self.old self.new }
+        ensures { HasServed T.Source.end T.Sink.end (C.may_give clock.now) adapter.now line.old line.new self.old self.new }
     {
         let mut steps: Steps<L> = Steps::new(blank);
         self.serve(rt, alloc, adapter, line, clock, &mut steps);
@@ -52,7 +52,7 @@ impl Seat {
         clock: &C,
     )
         requires ready { IsReady adapter.now self.old }
-        ensures { HasServed T.Source.end T.Sink.end (C.may_give clock.now) adapter.now line.old self.old self.new }
+        ensures { HasServed T.Source.end T.Sink.end (C.may_give clock.now) adapter.now line.old line.new self.old self.new }
     {
         self.sit_counted::<T, C, Brand, R>(rt, alloc, adapter, line, clock, Blank::new(1))
     }
@@ -72,7 +72,7 @@ pub fn sit_all<R: Threads + Wait + Sync, T: Source + Sink + Send + Drop, C: Cloc
 {
     let call = |_: usize, desk: &mut Desk<T>|
         requires { IsReady adapter.now desk.old.seat }
-        ensures { HasServed T.Source.end T.Sink.end (C.may_give clock.entry.now) adapter.entry.now desk.old.line desk.old.seat desk.new.seat }
+        ensures { HasServed T.Source.end T.Sink.end (C.may_give clock.entry.now) adapter.entry.now desk.old.line desk.new.line desk.old.seat desk.new.seat }
     { desk.seat.sit(rt, alloc, adapter, &mut desk.line, clock) };
     let threads = desks.len().max(1);
     thread::for_each_mut(rt, desks, threads, &call);

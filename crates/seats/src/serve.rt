@@ -1,6 +1,6 @@
 // A seat at its line: requests come in, and replies go out.
-ghost use Rattle.std.specs.Prelude.{◌≡◌, ◌<◌, ◌≤◌, ◌+◌, ◌-◌, ℕ, true, length, OnOk, IfSome};
-ghost use Rattle.std.specs.Io.KnownBytes.{Appends, Consumes};
+ghost use Rattle.std.specs.Prelude.{◌≡◌, ◌<◌, ◌≤◌, ◌+◌, ◌-◌, ℕ, true, false, length, OnOk, OnErr, IfSome};
+ghost use Rattle.seats.specs.Line.{Takes, RunsOut, Writes, BreaksOff};
 ghost use Rattle.seats.specs.Seated.{log_of, IsFit, IsReady, GoesOn, MayLeave};
 ghost use Rattle.seats.specs.Served.{HasServed};
 ghost use Rattle.seats.specs.Told.{reply_bytes, data_read, call_at};
@@ -17,24 +17,27 @@ use std::alloc::Global;
 use std::sync::Wait;
 use std::sync::ledger::Ledger;
 
-// Fills the buffer. False where the source has ended or failed before.
+// Fills the buffer. False where the source ends before, or a read fails.
 fn fill<S: Source>(source: &mut S, into: &mut [u8]) -> bool
     ensures same { length into.new ≡ length into.old }
-    ensures whole { result ≡ true → Consumes (S.end source.old).left (S.end source.new).left into.new }
+    ensures whole { result ≡ true → Takes (S.end source.old) (S.end source.new) into.new }
+    ensures short { result ≡ false → RunsOut (length into.old) (S.end source.old) (S.end source.new) }
 {
     let mut done = 0;
     'reading: while done < into.len() {
         match source.read(&mut into[done..]) {
-            Ok(count) if count > 0 => done += count,
-            _ => return false,
+            Ok(0) => return false,
+            Ok(count) => done += count,
+            Err(_) => return false,
         }
     }
     true
 }
 
-// Writes all the bytes.
+// Writes all the bytes, unless a write fails.
 fn write_whole<K: Sink>(sink: &mut K, bytes: &[u8]) -> Result<(), Failed>
-    ensures whole { OnOk result (Appends (K.end sink.old).written (K.end sink.new).written bytes.now) }
+    ensures whole { OnOk result (Writes (K.end sink.old) (K.end sink.new) bytes.now) }
+    ensures cut { OnErr result (BreaksOff (K.end sink.old) (K.end sink.new) bytes.now) }
 {
     let mut done = 0;
     'writing: while done < bytes.len() {
@@ -60,7 +63,8 @@ impl Seat {
     // Writes a reply.
     fn tell<K: Sink>(&self, sink: &mut K, answered: &Answered) -> Result<(), Failed>
         requires at { IfSome answered.now.at (λ i. i < length self.now.made.items) }
-        ensures whole { OnOk result (Appends (K.end sink.old).written (K.end sink.new).written (reply_bytes answered.now.tell (data_read (call_at self.now.made.items answered.now.at)))) }
+        ensures whole { OnOk result (Writes (K.end sink.old) (K.end sink.new) (reply_bytes answered.now.tell (data_read (call_at self.now.made.items answered.now.at)))) }
+        ensures cut { OnErr result (BreaksOff (K.end sink.old) (K.end sink.new) (reply_bytes answered.now.tell (data_read (call_at self.now.made.items answered.now.at)))) }
     {
         let data = self.data_at(answered.at);
         let head = answered.tell.head(data.len() as u32);
@@ -68,7 +72,7 @@ impl Seat {
         write_whole(sink, data)
     }
 
-    // Answers the next request. False where the program has gone.
+    // Answers the next request. False where less than one is left of the line, or a read or a write of it fails.
     pub(crate) fn turn<T: Source + Sink, C: Clock, L: Ledger, R: Wait>(
         &mut self,
         rt: &R,
@@ -107,7 +111,7 @@ impl Seat {
         steps: &mut Steps<L>,
     )
         requires ready { IsReady adapter.now self.old }
-        ensures { HasServed T.Source.end T.Sink.end (C.may_give clock.now) adapter.now line.old self.old self.new }
+        ensures { HasServed T.Source.end T.Sink.end (C.may_give clock.now) adapter.now line.old line.new self.old self.new }
     {
         'requests: for _ in rt.forever() {
             if !self.turn(rt, alloc, adapter, line, clock, steps) {

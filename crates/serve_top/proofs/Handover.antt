@@ -1,7 +1,7 @@
 -- Seats that have handed their calls over, and a feeder that has kept none: what they have called.
 use Rattle.std.proofs.Common.{◌≡◌, ⊎_elim, ℕ, zero, suc, Bool, true, ◌+◌, ◌<◌, ◌≤◌, ◌^◌, List, [], ◌∷◌, ◌++◌, length, map, replicate, reverse, Option, Some, None, refl, ap, sym, ◌∙◌, subst, arith, length-append}
 use Rattle.std.specs.Prelude.{slice_get, slice_index_or, option_map, All, if◌then◌else◌}
-use Rattle.std.proofs.lemmas.List.{length-map}
+use Rattle.std.proofs.lemmas.List.{length-map, length-reverse}
 use Rattle.std.proofs.lemmas.Option.{slice_get-map, slice_get-get_or, get_or_from_slice_get, slice_get_within}
 use Rattle.atomic_table.specs.Seated.{TableId}
 use Rattle.emu_io.specs.Ends.{SourceEnd, SinkEnd}
@@ -40,6 +40,7 @@ use Rattle.serve_top.specs.Inside.PassedOn.{IsNewPassing, HasPassedToEnd, HasWor
 use Rattle.serve_top.specs.Reported.{every, fed_by}
 use Rattle.serve_top.proofs.Logged.{same_calls, logged_calls, brings_calls}
 use Rattle.serve_top.proofs.Reporting.{all_in}
+use Rattle.serve_top.proofs.Streaming.{read_to}
 
 -- ------ lists
 
@@ -98,7 +99,7 @@ module _ {T J : Type 0} (source : T → SourceEnd) (sink : T → SinkEnd) (may :
     there : slice_get old k ≡ Some before
     made : MakesCalls 0 before.seat.client book d.seat.client
     became : List Outcome
-    answers : HasAnsweredAll source sink may before.line.line before.seat.client d.seat.client [] book [] became
+    answers : HasAnsweredAll source sink may before.line.line d.line.line before.seat.client d.seat.client [] book [] became
     given : took book before.line.journal d.line.journal
     left : (node : ℕ) → node ≤ DEMUX_NODES → HasLeft node d.seat.client
 
@@ -184,7 +185,7 @@ module _ {T J : Type 0} (source : T → SourceEnd) (sink : T → SinkEnd) (may :
   -- ------ the whole
 
   module _ {B : Type 0} (told : List Fed → B → B → Type 0) (lines : List (JournalLine T J)) (are : map (λ (d : Desk (JournalLine T J)). d.line) old ≡ reverse lines) (x y : SourceEnd) (was now : B) (p q : Passing) (is : IsNewPassing feeder p)
-      (row : List Bool) (whole : row ≡ replicate (DEMUX_NODES + 1) true) (w : HasWorkedOn (is_in row) may told x y was now p q) (passed : HasPassedToEnd (is_in row) may told x y p.puller was now q) (end : Handed J) (left : IsHandedBy q new end) where
+      (row : List Bool) (whole : row ≡ replicate (DEMUX_NODES + 1) true) (w : HasWorkedOn (is_in row) may told x y was now p q) (stop : q.stop ≡ None) (passed : HasPassedToEnd (is_in row) may told x y p.puller was now q) (end : Handed J) (left : IsHandedBy q new end) where
     taken : List ℕ
     taken = passed.draws.carries.more
 
@@ -219,12 +220,14 @@ module _ {T J : Type 0} (source : T → SourceEnd) (sink : T → SinkEnd) (may :
       taken = taken;
       consumes = passed.draws.carries.consumes;
       failed = has_failed q.puller.reading;
+      reads = read_to p.puller.reading q.puller.reading x y passed.draws.follows is.going passed.done.stopped (w.few stop);
       head = left.head taken passed.packets pulls ∙ ap (λ (s : PacketSize). head_of s taken (has_failed q.puller.reading)) size;
       feeder = q.feeder;
       feeding = passed.feeding;
       fed = fed;
       batches = passed.given;
       clients = its_clients;
+      each = length-map new (λ (d : Desk (JournalLine T J)). d.seat.client) ∙ (h.long ∙ (sym (length-map old (λ (d : Desk (JournalLine T J)). d.line)) ∙ (ap length are ∙ length-reverse lines)));
       books = its_books;
       called = have_called (cut Of188 taken).packets q.feeder passed.feeding fed;
       histories = histories;
@@ -236,7 +239,7 @@ module _ {T J : Type 0} (source : T → SourceEnd) (sink : T → SinkEnd) (may :
             slice_get-map (λ (d : Desk (JournalLine T J)). d.seat.client) new c ∙ ap (option_map (λ (d : Desk (JournalLine T J)). d.seat.client)) s.1,
             s.0.line.journal,
             ap (λ (l : List J). slice_get l c) left.journals ∙ (slice_get-map (λ (d : Desk (JournalLine T J)). d.line.journal) new c ∙ ap (option_map (λ (d : Desk (JournalLine T J)). d.line.journal)) s.1),
-            record { first = a.before.seat.client; became = a.became; answers = a.answers; given = a.given },
+            record { end = s.0.line.line; first = a.before.seat.client; became = a.became; answers = a.answers; given = a.given },
           );
       left = λ c client at node low.
           let v = mapped (λ (d : Desk (JournalLine T J)). d.seat.client) new c client at in

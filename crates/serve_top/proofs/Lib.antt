@@ -8,3 +8,4 @@ mod Putting
 mod Reporting
 mod Scripting
 mod Seating
+mod Streaming

@@ -1,5 +1,5 @@
 -- From what the threads have left to what the report tells.
-use Rattle.std.proofs.Common.{Vec, Global, ◌≡◌, ◌≤◌, ◌<◌, ◌-◌, ◌^◌, ◌+◌, ℕ, length, None, refl, sym, Bool, true, false, List, [], ◌∷◌, ◌++◌, map, replicate, reverse, Option, ap, ◌∙◌, subst, arith}
+use Rattle.std.proofs.Common.{Vec, Global, ◌≡◌, ◌≢◌, ◌≤◌, ◌<◌, ◌-◌, ◌^◌, ◌+◌, ℕ, length, None, refl, sym, Bool, true, false, List, [], ◌∷◌, ◌++◌, map, replicate, reverse, Option, ap, ◌∙◌, subst, arith}
 use Rattle.std.specs.Prelude.{slice_index_or, option_map, All}
 use Rattle.std.proofs.lemmas.List.{get_or-replicate, length-map}
 use Rattle.std.proofs.lemmas.Option.{slice_get-map, slice_get-get_or}
@@ -12,6 +12,7 @@ use Rattle.ts_packet.specs.Cut.{cut}
 use Rattle.ts_packet.specs.declared.size.PacketSize.{PacketSize}
 use Rattle.ts_packet.specs.declared.size.PacketSize.TheVariants.{Of188}
 use Rattle.ts_watch.specs.Head.{told_head, head_of}
+use Rattle.feed_pull.specs.declared.fault.Reading.TheVariants.{Going, TooMany}
 use Rattle.feed_pull.specs.Pulling.{Pulling, Pulls, IsDone, has_failed}
 use Rattle.dmx_calls.specs.declared.outcome.Outcome.{Outcome}
 use Rattle.report_text.specs.Report.{report_of}
@@ -30,7 +31,8 @@ use Rattle.seats.specs.Served.{HaveServed}
 use Rattle.serve_top.specs.declared.left.Left.{Left}
 use Rattle.serve_top.specs.Reported.{every, fed_by, HasReported, IsNewFeeder, IsLeftBy}
 use Rattle.serve_top.proofs.Playing.{is_run}
-use Rattle.serve_top.proofs.Seating.{bring_none, have_called, have_left, have_answered, have_played, have_idled, commands_at, calls_at, the_script, still_callers, all_nodes}
+use Rattle.serve_top.proofs.Streaming.{read_to}
+use Rattle.serve_top.proofs.Seating.{each_line, bring_none, have_called, have_left, have_answered, have_played, have_idled, commands_at, calls_at, the_script, still_callers, all_nodes}
 
 -- a row that has all nodes
 pub all_in : (node : ℕ) → node ≤ DEMUX_NODES → is_in (replicate (DEMUX_NODES + 1) true) node ≡ every node
@@ -44,8 +46,8 @@ desks_ready locks clients desks ready k d low =
 
 module _ {T : Type 0} (source : T → SourceEnd) (sink : T → SinkEnd) (may : ℕ → Bool) (lines : List T) (locks : List TableId) (n : ℕ) (feeder : Caller) (clients : List Caller) (fresh : AreFreshCallers locks n feeder clients) (all : AreAllCallers locks (clients ++ feeder ∷ []))
     (old new : List (Desk T)) (ready : AreReady locks clients (map (λ (d : Desk T). d.seat) old)) (served : HaveServed source sink may locks old new) (are : map (λ (d : Desk T). d.line) old ≡ reverse lines)
-    (x y : SourceEnd) (first : Pulling) (size : first.cutting.size ≡ Of188) (pulls : Pulls [] [] [] first)
-    (f : FeederWorker) (passed : HasPassedAll every 64 may x y first f) (what : Left) (is : IsLeftBy f new what) where
+    (x y : SourceEnd) (first : Pulling) (size : first.cutting.size ≡ Of188) (pulls : Pulls [] [] [] first) (going : first.reading ≡ Going)
+    (f : FeederWorker) (passed : HasPassedAll every 64 may x y first f) (few : f.puller.reading ≢ TooMany) (what : Left) (is : IsLeftBy f new what) where
   taken : List ℕ
   taken = passed.draws.carries.more
 
@@ -72,10 +74,12 @@ module _ {T : Type 0} (source : T → SourceEnd) (sink : T → SinkEnd) (may : �
     taken = taken;
     consumes = passed.draws.carries.consumes;
     failed = has_failed f.puller.reading;
+    reads = read_to first.reading f.puller.reading x y passed.draws.follows going passed.done.stopped few;
     feeder = f.feeder;
     feeding = f.feeding.items;
     fed = fed;
     clients = map (λ (d : Desk T). d.seat.client) new;
+    each = each_line source sink may locks n feeder clients fresh all old new ready served lines are;
     books = map (λ (d : Desk T). log_of d.seat) new;
     called = called;
     script = the_script source sink may locks n feeder clients fresh all old new ready served lines are;
@@ -127,5 +131,5 @@ module _ {T : Type 0} (source : T → SourceEnd) (sink : T → SinkEnd) (may : �
 
   pub is_reported : (what : Left) → IsLeftBy g new what → (was now : Option (List ℕ)) (those : List (Vec Outcome Global)) → those ≡ what.outcomes.items
       → Appends was now (report_of (told_head what.head) (map (λ (v : Vec Outcome Global). v.items) those) what.histories) → HasReported source sink lines may x y was now
-  is_reported what left was now those same written = has_reported source sink may lines locks n feeder clients fresh all old new ready served are x y f.puller is.size is.pulls g passed what left
+  is_reported what left was now those same written = has_reported source sink may lines locks n feeder clients fresh all old new ready served are x y f.puller is.size is.pulls is.going g passed (fed.few stop) what left
       was now (subst (λ (l : List (Vec Outcome Global)). Appends was now (report_of (told_head what.head) (map (λ (v : Vec Outcome Global). v.items) l) what.histories)) same written)

@@ -2,7 +2,7 @@
 use Rattle.std.proofs.Common.{◌≡◌, ⊎_elim, ℕ, Bool, true, ◌+◌, ◌≤◌, ◌^◌, List, [], ◌∷◌, ◌++◌, length, map, Some, refl, ap, sym, ◌∙◌, subst, arith, length-append, None}
 use Rattle.std.specs.Prelude.{slice_get, slice_index_or, option_map, reverse, All, Option}
 use Rattle.std.proofs.lemmas.Option.{slice_get-map, get_or_from_slice_get, slice_get_within}
-use Rattle.std.proofs.lemmas.List.{length-map}
+use Rattle.std.proofs.lemmas.List.{length-map, length-reverse}
 use Rattle.atomic_table.specs.Seated.{TableId}
 use Rattle.emu_io.specs.Ends.{SourceEnd, SinkEnd}
 use Rattle.dmx_calls.specs.declared.histories.Fed.{Fed}
@@ -38,11 +38,11 @@ use Rattle.serve_top.proofs.Logged.{same_calls, logged_calls, brings_calls}
 module _ {T : Type 0} (source : T → SourceEnd) (sink : T → SinkEnd) (may : ℕ → Bool) (locks : List TableId) (n : ℕ) (feeder : Caller) (clients : List Caller) (fresh : AreFreshCallers locks n feeder clients) (all : AreAllCallers locks (clients ++ feeder ∷ []))
     (old new : List (Desk T)) (ready : AreReady locks clients (map (λ (d : Desk T). d.seat) old)) (h : HaveServed source sink may locks old new) where
   -- its seat before
-  pub served_at : (k : ℕ) (d : Desk T) → slice_get new k ≡ Some d → (b : Desk T) × (slice_get old k ≡ Some b) × HasServed source sink may locks b.line b.seat d.seat
+  pub served_at : (k : ℕ) (d : Desk T) → slice_get new k ≡ Some d → (b : Desk T) × (slice_get old k ≡ Some b) × HasServed source sink may locks b.line d.line b.seat d.seat
   served_at k d at =
       let low = slice_get_within new k d at in let long = h.long in let b = at_place old k (omega arith) in
       let s = h.each k d (omega arith) in
-      (b.0, b.1, subst (λ (z : Desk T). HasServed source sink may locks z.line z.seat d.seat) (get_or_from_slice_get old k b.0 d b.1) (subst (λ (z : Desk T). HasServed source sink may locks (slice_index_or old k d).line (slice_index_or old k d).seat z.seat) (get_or_from_slice_get new k d d at) s))
+      (b.0, b.1, subst (λ (z : Desk T). HasServed source sink may locks z.line d.line z.seat d.seat) (get_or_from_slice_get old k b.0 d b.1) (subst (λ (z : Desk T). HasServed source sink may locks (slice_index_or old k d).line z.line (slice_index_or old k d).seat z.seat) (get_or_from_slice_get new k d d at) s))
 
   seat_at : (k : ℕ) (b : Desk T) → slice_get old k ≡ Some b → slice_get (map (λ (d : Desk T). d.seat) old) k ≡ Some b.seat
   seat_at k b at = slice_get-map (λ (d : Desk T). d.seat) old k ∙ ap (option_map (λ (d : Desk T). d.seat)) at
@@ -53,6 +53,10 @@ module _ {T : Type 0} (source : T → SourceEnd) (sink : T → SinkEnd) (may : �
 
   count : length new ≡ length clients
   count = h.long ∙ (sym (length-map old (λ (d : Desk T). d.seat)) ∙ (sym (length-map (map (λ (d : Desk T). d.seat) old) (λ (s : Seat). s.client)) ∙ ap length ready.are))
+
+  -- there are as many as lines
+  pub each_line : (lines : List T) → map (λ (d : Desk T). d.line) old ≡ reverse lines → length (map (λ (d : Desk T). d.seat.client) new) ≡ length lines
+  each_line lines are = length-map new (λ (d : Desk T). d.seat.client) ∙ (h.long ∙ (sym (length-map old (λ (d : Desk T). d.line)) ∙ (ap length are ∙ length-reverse lines)))
 
   -- the calls that it has made, which are its log
   module _ (k : ℕ) (d : Desk T) (at : slice_get new k ≡ Some d) where
@@ -154,14 +158,15 @@ module _ {T : Type 0} (source : T → SourceEnd) (sink : T → SinkEnd) (may : �
   pub record IsAt (k : ℕ) (lines : List T) (d : Desk T) (commands : List Command) : Type 0 where
     pub line : T
     pub there : slice_get (reverse lines) k ≡ Some line
+    pub end : T
     pub first : Caller
-    pub answers : HasAnsweredAll source sink may line first d.seat.client [] (log_of d.seat) [] d.seat.outcomes.items
+    pub answers : HasAnsweredAll source sink may line end first d.seat.client [] (log_of d.seat) [] d.seat.outcomes.items
     pub are : commands ≡ commands_by 0 (spelled (answers.turns ++ answers.last) answers.leaving)
 
   module _ (lines : List T) (are : map (λ (d : Desk T). d.line) old ≡ reverse lines) where
     -- what its line asks for
     answers_at : (k : ℕ) (d : Desk T) → slice_get new k ≡ Some d → (line : T) × (slice_get (reverse lines) k ≡ Some line)
-        × (first : Caller) × HasAnsweredAll source sink may line first d.seat.client [] (log_of d.seat) [] d.seat.outcomes.items
+        × (first : Caller) × HasAnsweredAll source sink may line d.line first d.seat.client [] (log_of d.seat) [] d.seat.outcomes.items
     answers_at k d at =
         let u = served_at k d at in
         let first = ready.each k u.0.seat (seat_at k u.0 u.1) in
@@ -169,8 +174,8 @@ module _ {T : Type 0} (source : T → SourceEnd) (sink : T → SinkEnd) (may : �
           u.0.line,
           there,
           u.0.seat.client,
-          subst (λ (l : List LogEntry). HasAnsweredAll source sink may u.0.line u.0.seat.client d.seat.client l (log_of d.seat) [] d.seat.outcomes.items) first.1
-              (subst (λ (os : List Outcome). HasAnsweredAll source sink may u.0.line u.0.seat.client d.seat.client (log_of u.0.seat) (log_of d.seat) os d.seat.outcomes.items) first.2 u.2.answers),
+          subst (λ (l : List LogEntry). HasAnsweredAll source sink may u.0.line d.line u.0.seat.client d.seat.client l (log_of d.seat) [] d.seat.outcomes.items) first.1
+              (subst (λ (os : List Outcome). HasAnsweredAll source sink may u.0.line d.line u.0.seat.client d.seat.client (log_of u.0.seat) (log_of d.seat) os d.seat.outcomes.items) first.2 u.2.answers),
         )
 
     -- the commands of the seat in this place, if there is one
@@ -181,7 +186,7 @@ module _ {T : Type 0} (source : T → SourceEnd) (sink : T → SinkEnd) (may : �
           commands_by 0 (spelled (a.3.turns ++ a.3.last) a.3.leaving),
           spelled_calls 0 (spelled (a.3.turns ++ a.3.last) a.3.leaving),
           λ x same. let one : d ≡ x = cc same in
-              subst (λ (z : Desk T). IsAt k lines z (commands_by 0 (spelled (a.3.turns ++ a.3.last) a.3.leaving))) one (record { line = a.0; there = a.1; first = a.2; answers = a.3; are = refl }),
+              subst (λ (z : Desk T). IsAt k lines z (commands_by 0 (spelled (a.3.turns ++ a.3.last) a.3.leaving))) one (record { line = a.0; there = a.1; end = d.line; first = a.2; answers = a.3; are = refl }),
         )
 
     pub commands_at : (k : ℕ) → List Command
@@ -221,13 +226,13 @@ module _ {T : Type 0} (source : T → SourceEnd) (sink : T → SinkEnd) (may : �
         let d = seat_of k book out at there in
         let s = seat_is k d.0 d.1 in
         subst (λ (b : List LogEntry). IsPlayed may k script b out) d.2 (subst (IsPlayed may k script (log_of d.0.seat)) d.3
-        (answers_played source sink may s.line s.first d.0.seat.client (log_of d.0.seat) d.0.seat.outcomes.items s.answers (low_nodes k d.0 d.1) k script (same ∙ s.are)))
+        (answers_played source sink may s.line s.end s.first d.0.seat.client (log_of d.0.seat) d.0.seat.outcomes.items s.answers (low_nodes k d.0 d.1) k script (same ∙ s.are)))
 
     pub have_idled : (k : ℕ) (book : List LogEntry) (out : List Outcome) → slice_get the_books k ≡ Some book → slice_get the_outcomes k ≡ Some out → commands_at k ≡ [] → (book ≡ []) × (out ≡ [])
     have_idled k book out at there none =
         let d = seat_of k book out at there in
         let s = seat_is k d.0 d.1 in
-        let i = answers_idle source sink may s.line s.first d.0.seat.client (log_of d.0.seat) d.0.seat.outcomes.items s.answers (low_nodes k d.0 d.1) (sym s.are ∙ none) in
+        let i = answers_idle source sink may s.line s.end s.first d.0.seat.client (log_of d.0.seat) d.0.seat.outcomes.items s.answers (low_nodes k d.0 d.1) (sym s.are ∙ none) in
         (sym d.2 ∙ i.0, sym d.3 ∙ i.1)
 
     -- what each has called is what the requests of its line ask for
@@ -244,5 +249,5 @@ module _ {T : Type 0} (source : T → SourceEnd) (sink : T → SinkEnd) (may : �
           v.0.seat.outcomes.items,
           slice_get-map (λ (x : Desk T). x.seat.outcomes.items) new k ∙ ap (option_map (λ (x : Desk T). x.seat.outcomes.items)) v.1,
           subst (λ (b : List LogEntry). IsServed source sink may the_script k v.0.seat.client s.line b v.0.seat.outcomes.items) v.2
-              (record { first = s.first; answers = s.answers; spells = lines_at commands_at calls_at (plays_of k the_script) (length the_books) k (slice_get_within the_books k book at) ∙ s.are }),
+              (record { end = s.end; first = s.first; answers = s.answers; spells = lines_at commands_at calls_at (plays_of k the_script) (length the_books) k (slice_get_within the_books k book at) ∙ s.are }),
         )

@@ -1,5 +1,5 @@
 -- What a server has done that keeps no calls, where its stream has ended.
-use Rattle.std.specs.Prelude.{◌≡◌, ◌≤◌, ◌++◌, ◌∷◌, [], ℕ, Bool, List, map, reverse, slice_get, Some}
+use Rattle.std.specs.Prelude.{◌≡◌, ◌≤◌, ◌++◌, ◌∷◌, [], ℕ, Bool, List, length, map, reverse, slice_get, Some}
 use Rattle.std.specs.Io.KnownBytes.{Consumes}
 use Rattle.emu_io.specs.Ends.{SourceEnd, SinkEnd}
 use Rattle.ts_packet.specs.Cut.{cut}
@@ -20,6 +20,7 @@ use Rattle.seats.specs.Holding.{HasLeft}
 use Rattle.seats.specs.Turns.{HasAnsweredAll}
 use Rattle.serve_top.specs.declared.journals.Handed.{Handed}
 use Rattle.serve_top.specs.declared.passing.Passing.{Passing}
+use Rattle.serve_top.specs.Read.{HasReadTo}
 use Rattle.serve_top.specs.Reported.{every, fed_by}
 
 -- A line tells what is left of it to be read, and what was written to it; or it tells none of these. A journal says whether it was
@@ -30,26 +31,30 @@ module _ {T J B : Type 0} (source : T → SourceEnd) (sink : T → SinkEnd) (too
   -- requests of the line ask for, one after another, each told in its reply, and then those by which all nodes were closed, as by each
   -- request to leave; and the line's journal was given just them.
   pub record IsHandedOver (may : ℕ → Bool) (line : JournalLine T J) (client : Caller) (book : List LogEntry) (journal : J) : Type 0 where
+    pub end : T
     pub first : Caller
     pub became : List Outcome
-    pub answers : HasAnsweredAll source sink may line.line first client [] book [] became
+    pub answers : HasAnsweredAll source sink may line.line end first client [] book [] became
     pub given : took book line.journal journal
 
   -- What was read of the stream, what was called by whom and why, and what the journals were given: just this.
   pub record HasServedLines (lines : List (JournalLine T J)) (may : ℕ → Bool) (before after : SourceEnd) (was now : B)
       (end : Handed J) : Type 0 where
-    -- the bytes that were read, whether a read has failed, and what is known of them
+    -- the bytes that were read, up to the end of the stream or the read that failed, and what is known of them
     pub taken : List ℕ
     pub consumes : Consumes before.left after.left taken
     pub failed : Bool
+    pub reads : HasReadTo failed before after
     pub head : told_head end.head ≡ head_of Of188 taken failed
     -- the stream has passed all nodes, in batches of 64 packets, of which their journal was told
     pub feeder : Caller
     pub feeding : List Fed
     pub fed : HasFedAll every 64 may (cut Of188 taken).packets feeder feeding
     pub batches : told feeding was now
-    -- each client has made just the calls of its log; each node has a legal history of just these and the feeder's
+    -- there is a client for each line, and it has made just the calls of its log; each node has a legal history of just these and
+    -- the feeder's
     pub clients : List Caller
+    pub each : length clients ≡ length lines
     pub books : List (List LogEntry)
     pub called : HaveCalled every (fed_by (cut Of188 taken).packets) feeder feeding clients books
     pub histories : HaveHistories (clients ++ feeder ∷ [])

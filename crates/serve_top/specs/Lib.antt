@@ -1,4 +1,5 @@
 pub mod Inside
 pub mod Journaled
 pub mod Lines
+pub mod Read
 pub mod Reported

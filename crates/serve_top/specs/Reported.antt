@@ -1,10 +1,11 @@
 -- What a server has done where it has written its report.
-use Rattle.std.specs.Prelude.{◌≡◌, ◌≢◌, ◌≤◌, ◌++◌, ℕ, Bool, true, List, [], map, replicate, reverse, slice_get, Some, Option}
+use Rattle.std.specs.Prelude.{◌≡◌, ◌≢◌, ◌≤◌, ◌++◌, ℕ, Bool, true, List, [], length, map, replicate, reverse, slice_get, Some, Option}
 use Rattle.std.specs.Io.KnownBytes.{Appends, Consumes}
 use Rattle.emu_io.specs.Ends.{SourceEnd, SinkEnd}
 use Rattle.ts_packet.specs.Cut.{cut}
 use Rattle.ts_packet.specs.declared.size.PacketSize.TheVariants.{Of188}
 use Rattle.ts_watch.specs.Head.{told_head, head_of}
+use Rattle.feed_pull.specs.declared.fault.Reading.TheVariants.{Going}
 use Rattle.feed_pull.specs.Pulling.{Pulls, has_failed}
 use Rattle.dmx_calls.specs.declared.histories.Fed.{Fed}
 use Rattle.dmx_calls.specs.declared.limits.TheConstants.{DEMUX_NODES}
@@ -29,6 +30,7 @@ use Rattle.seats.specs.Spelled.{commands_by}
 use Rattle.seats.specs.Turns.{HasAnsweredAll, spelled}
 use Rattle.serve_top.specs.declared.left.Books.{Books}
 use Rattle.serve_top.specs.declared.left.Left.{Left}
+use Rattle.serve_top.specs.Read.{HasReadTo}
 
 -- all nodes
 abbrev pub every : (node : ℕ) → Bool
@@ -43,8 +45,9 @@ fed_by stream who Dvr = []
 -- commands; and the commands of the script's client of this number are those that the requests of the line spell, in their order.
 pub record IsServed {T : Type 0} (source : T → SourceEnd) (sink : T → SinkEnd) (may : ℕ → Bool) (script : Scripted)
     (number : ℕ) (client : Caller) (line : T) (book : List LogEntry) (told : List Outcome) : Type 0 where
+  pub end : T
   pub first : Caller
-  pub answers : HasAnsweredAll source sink may line first client [] book [] told
+  pub answers : HasAnsweredAll source sink may line end first client [] book [] told
   pub spells : commands_of number script ≡ commands_by 0 (spelled (answers.turns ++ answers.last) answers.leaving)
 
 -- no call has found memory wanting
@@ -63,16 +66,18 @@ pub record IsRunOf (script : Scripted) (may : ℕ → Bool) (stream : List (List
 -- What was read of the stream, what was called by whom and why, and the report that tells just this.
 pub record HasReported {T : Type 0} (source : T → SourceEnd) (sink : T → SinkEnd) (lines : List T) (may : ℕ → Bool)
     (before after : SourceEnd) (was now : Option (List ℕ)) : Type 0 where
-  -- the bytes that were read, and whether a read has failed
+  -- the bytes that were read, up to the end of the stream or the read that failed
   pub taken : List ℕ
   pub consumes : Consumes before.left after.left taken
   pub failed : Bool
+  pub reads : HasReadTo failed before after
   -- the stream has passed all nodes, in batches of 64 packets
   pub feeder : Caller
   pub feeding : List Fed
   pub fed : HasFedAll every 64 may (cut Of188 taken).packets feeder feeding
-  -- each client has made just the calls of its log
+  -- there is a client for each line, and it has made just the calls of its log
   pub clients : List Caller
+  pub each : length clients ≡ length lines
   pub books : List (List LogEntry)
   pub called : HaveCalled every (fed_by (cut Of188 taken).packets) feeder feeding clients books
   -- these are the calls that the requests of its line ask for, one after another, each told in its reply, and then those by which
@@ -102,6 +107,8 @@ pub record IsNewFeeder (feeder : Caller) (f : FeederWorker) : Type 0 where
   pub given : f.puller.given ≡ 0
   pub pulls : Pulls [] [] [] f.puller
   pub size : f.puller.cutting.size ≡ Of188
+  pub start : f.puller.start ≡ 0
+  pub going : f.puller.reading ≡ Going
 
 module _ {T : Type 0} where
   -- these are the clients of the seats, their logs and what became of their commands

@@ -1,5 +1,5 @@
 // A server that keeps no calls: its seats hand them over to journals.
-ghost use Rattle.std.specs.Prelude.{◌≡◌, ◌<◌, ◌≤◌, ◌^◌, ◌-◌, ◌++◌, ◌∷◌, [], map, vec_len, All, IfOk};
+ghost use Rattle.std.specs.Prelude.{◌≡◌, ◌≢◌, ◌<◌, ◌≤◌, ◌^◌, ◌-◌, ◌++◌, ◌∷◌, [], map, vec_len, All, Err, IfOk, IsErrOf};
 ghost use denote.Param.Send.{IsSync, IsSend};
 ghost use Rattle.adapter.specs.Callers.{AreAllCallers};
 ghost use Rattle.adapter.specs.Ends.{HaveHistories};
@@ -7,6 +7,7 @@ ghost use Rattle.adapter.specs.Nodes.{is_in};
 ghost use Rattle.feed_pull.specs.Pulling.{IsDone};
 ghost use Rattle.seats.specs.Handed.{HaveSat};
 ghost use Rattle.serve_top.specs.Journaled.{HasServedLines, IsHandedBy};
+ghost use Rattle.serve_top.specs.Read.{HasReadTooOften};
 ghost use Rattle.serve_top.specs.Inside.PassedOn.{MayPassOn, HasPassedOn, HasWorkedOn};
 
 use crate::passing::{Batches, Passing};
@@ -114,7 +115,8 @@ fn handed_by<T: Drop, J: Drop>(
 ///
 /// # Errors
 ///
-/// Why the stream hasn't passed: want of memory, or too many reads.
+/// Why the stream hasn't passed: `TooLong` where as many bytes were taken from the source as the most reads, or `NoMemory`, for which
+/// no clause has a cause. It is never `Failed`: a journal says itself whether it is whole.
 pub fn serve_to<
     R: Threads + Wait + Sync,
     S: Source + Send,
@@ -135,7 +137,9 @@ pub fn serve_to<
     requires few { vec_len lines ≤ 8 }
     requires faults { (S.end source.old).faults < 2 ^ 64 - 1 }
     // What was called is what the requests on the lines ask for, and the journals were given just that.
-    ensures { IfOk result (HasServedLines T.Source.end T.Sink.end J.took B.took lines.items (C.may_give clock.now) (S.end source.old) (S.end source.new) batches.old batches.new) }
+    ensures served { IfOk result (HasServedLines T.Source.end T.Sink.end J.took B.took lines.items (C.may_give clock.now) (S.end source.old) (S.end source.new) batches.old batches.new) }
+    ensures reads { IsErrOf result NoReport.TooLong → HasReadTooOften (S.end source.old) (S.end source.new) }
+    ensures failed { result ≢ Err NoReport.Failed }
 {
     let (adapter, feeder, clients) = Adapter::new(alloc, lines.len() as u32)?;
     let mut desks = desks_of(alloc, clients, lines)?;

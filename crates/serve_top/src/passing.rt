@@ -1,10 +1,11 @@
 // A feeder that keeps nothing of what it has passed.
-ghost use Rattle.std.specs.Prelude.{◌≡◌, ◌≢◌, ◌<◌, ◌≤◌, ◌+◌, ◌++◌, [], ◌∷◌, false, true, ℕ, List, None, Some, IsOk, IfOk, OnOk};
+ghost use Rattle.std.specs.Prelude.{◌≡◌, ◌≢◌, ◌<◌, ◌≤◌, ◌+◌, ◌^◌, ◌++◌, [], ◌∷◌, false, true, ℕ, List, None, Some, IsOk, IfOk, OnOk};
 ghost use Rattle.emu_io.specs.Ends.{SourceEnd};
 ghost use Rattle.client_core.specs.declared.stop.Stop.TheVariants.{NoMemory as WantOfMemory};
 ghost use Rattle.dmx_calls.specs.declared.histories.Fed.{Fed as ToldFed};
 ghost use Rattle.adapter.specs.Callers.{IsSameCaller};
 ghost use Rattle.adapter.specs.Nodes.{is_in};
+ghost use Rattle.feed_pull.specs.declared.fault.Reading.TheVariants.{TooMany};
 ghost use Rattle.feed_pull.specs.Pulling.{Pulling, IsDone};
 ghost use Rattle.feed_pull.specs.Streams.{Draws};
 ghost use Rattle.serve_top.specs.Inside.PassedOn.{IsNewPassing, IsFitPassing, MayPassOn, HasPassedOn, HasWorkedOn};
@@ -132,6 +133,7 @@ impl Passing {
         requires may { MayPassOn (S.end source.old).faults adapter.now self.old }
         ensures fit { IsFitPassing adapter.now self.new }
         ensures same { IsSameCaller self.old.feeder self.new.feeder }
+        ensures draws { (packets : List (List ℕ)) × Draws (S.end source.old) (S.end source.new) self.old.puller self.new.puller packets }
         ensures passed { OnOk result ((before : SourceEnd) (first : Pulling) (was : B) → HasPassedOn (is_in nodes.now) (C.may_give clock.now) B.took before (S.end source.old) first was batches.old self.old
             → HasPassedOn (is_in nodes.now) (C.may_give clock.now) B.took before (S.end source.new) first was batches.new self.new) }
         ensures done { OnOk result (IsDone self.new.puller) }
@@ -143,6 +145,8 @@ impl Passing {
     // Why it stops, which has passed the stream or not: want of memory goes before too many reads.
     fn stop_of(&self, passed: Result<(), NoMemory>) -> Option<Stop>
         ensures memory { result ≢ Some WantOfMemory → IsOk passed }
+        ensures none { result ≡ None → self.now.puller.reading ≢ TooMany }
+        ensures too_long { (turns : ℕ) → result ≡ Some (Stop.TooLong turns) → 2 ^ 32 ≤ self.now.puller.start + self.now.puller.taken }
     {
         if passed.is_err() {
             return Some(Stop::NoMemory);

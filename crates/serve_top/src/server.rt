@@ -1,6 +1,7 @@
 // What a server does from its first call to its report.
-ghost use Rattle.std.specs.Prelude.{◌≡◌, ◌≢◌, ◌<◌, ◌≤◌, ◌+◌, ◌^◌, ◌-◌, vec_len, All, OnOk, IsErrOf};
+ghost use Rattle.std.specs.Prelude.{◌≡◌, ◌≢◌, ◌<◌, ◌≤◌, ◌+◌, ◌^◌, ◌-◌, ℕ, vec_len, All, OnOk, IsErrOf};
 ghost use Rattle.emu_io.specs.Causes.{raised};
+ghost use Rattle.serve_top.specs.Read.{HasReadTooOften};
 ghost use Rattle.serve_top.specs.Reported.{HasReported};
 
 use crate::left::left_by;
@@ -19,10 +20,10 @@ use thiserror::Error;
 /// Why a server has written no whole report.
 #[derive(Clone, Copy, Debug, PartialEq, Eq, Drop, Error)]
 pub enum NoReport {
-    /// Memory was refused. Nothing was written.
+    /// Memory was refused, which no clause ties to a cause. Nothing was written.
     #[error("out of memory")]
     NoMemory,
-    /// The source was read 4,294,967,296 times. Nothing was written.
+    /// The source was read 4,294,967,296 times, each time of a byte at least, and not to its end. Nothing was written.
     #[error("too long")]
     TooLong,
     /// A write failed. A part of the report was written, from its front on.
@@ -46,7 +47,8 @@ pub(crate) const ALL: [bool; NODES as usize] = [true; NODES as usize];
 
 /// Why there is no report where the feeder stopped for this reason.
 pub(crate) fn no_report(stop: Stop) -> NoReport
-    ensures { result ≢ NoReport.Failed }
+    ensures failed { result ≢ NoReport.Failed }
+    ensures too_long { result ≡ NoReport.TooLong → (turns : ℕ) × (stop ≡ Stop.TooLong turns) }
 {
     match stop {
         Stop::NoMemory => NoReport::NoMemory,
@@ -60,7 +62,8 @@ pub(crate) fn no_report(stop: Stop) -> NoReport
 ///
 /// # Errors
 ///
-/// Why there is no whole report.
+/// Why there is no whole report: `TooLong` where as many bytes were taken from the source as the most reads, `Failed` where the sink's
+/// count of faults rose, and `NoMemory`, for which no clause has a cause.
 pub fn serve<
     R: Threads + Wait + Sync,
     S: Source + Send,
@@ -83,6 +86,7 @@ pub fn serve<
     ensures reported { OnOk result (HasReported T.Source.end T.Sink.end lines.items (C.may_give clock.now) (S.end source.old) (S.end source.new) (K.end sink.old).written (K.end sink.new).written) }
     ensures memory { IsErrOf result NoReport.NoMemory → sink.new ≡ sink.old }
     ensures too_long { IsErrOf result NoReport.TooLong → sink.new ≡ sink.old }
+    ensures reads { IsErrOf result NoReport.TooLong → HasReadTooOften (S.end source.old) (S.end source.new) }
     ensures failed { IsErrOf result NoReport.Failed → (K.end sink.new).faults ≡ raised (K.end sink.old).faults }
 {
     let (adapter, feeder, clients) = Adapter::new(alloc, lines.len() as u32)?;

@@ -8,6 +8,7 @@ mod gates;
 mod journals;
 mod lines;
 mod locks;
+mod moments;
 mod report_lines;
 mod serial;
 mod taps;

@@ -1,10 +1,10 @@
 -- A feeder that keeps nothing of what it has passed.
-use Rattle.std.specs.Prelude.{◌≡◌, ◌≢◌, ◌⊎◌, ◌<◌, ◌≤◌, ◌+◌, ◌-◌, ◌^◌, ℕ, Bool, List, [], ◌∷◌, length, Some, All}
+use Rattle.std.specs.Prelude.{◌≡◌, ◌≢◌, ◌⊎◌, ◌<◌, ◌≤◌, ◌+◌, ◌-◌, ◌^◌, ℕ, Bool, List, [], ◌∷◌, length, None, Some, All}
 use Rattle.emu_io.specs.Ends.{SourceEnd}
 use Rattle.atomic_table.specs.Seated.{TableId}
 use Rattle.ts_packet.specs.declared.size.PacketSize.TheVariants.{Of188}
-use Rattle.client_core.specs.declared.stop.Stop.TheVariants.{NoMemory}
-use Rattle.feed_pull.specs.declared.fault.Reading.TheVariants.{Going}
+use Rattle.client_core.specs.declared.stop.Stop.TheVariants.{NoMemory, TooLong}
+use Rattle.feed_pull.specs.declared.fault.Reading.TheVariants.{Going, TooMany}
 use Rattle.feed_pull.specs.Pulling.{Pulling, Pulls, IsDone}
 use Rattle.feed_pull.specs.Streams.{Draws}
 use Rattle.dmx_calls.specs.declared.histories.Fed.{Fed}
@@ -22,6 +22,8 @@ pub record IsNewPassing (feeder : Caller) (p : Passing) : Type 0 where
   pub count : p.count ≡ 0
   pub pulls : Pulls [] [] [] p.puller
   pub size : p.puller.cutting.size ≡ Of188
+  pub start : p.puller.start ≡ 0
+  pub going : p.puller.reading ≡ Going
 
 -- It has a pass of each of these locks, and made no more calls than packets were given.
 pub record IsFitPassing (locks : List TableId) (p : Passing) : Type 0 where
@@ -60,8 +62,12 @@ module _ {B : Type 0} (among : ℕ → Bool) (may : ℕ → Bool) (took : List F
     pub fed : HasFed among 64 may packets (ended ∷ []) p.feeder feeding
     pub full : (ahead taken : List ℕ) (given : List (List ℕ)) → Pulls ahead taken given first → AreFullBatches 64 feeding
 
-  -- It has worked to its end: where memory wasn't refused the whole stream has passed.
+  -- It has worked to its end: where memory wasn't refused the whole stream has passed, and it answers TooLong only where so many reads
+  -- were made.
   pub record HasWorkedOn (before after : SourceEnd) (was now : B) (old new : Passing) : Type 0 where
     pub same : IsSameCaller old.feeder new.feeder
+    pub draws : (packets : List (List ℕ)) × Draws before after old.puller new.puller packets
     pub nodes : length new.feeder.passes ≡ DEMUX_NODES + 1
     pub all : new.stop ≢ Some NoMemory → HasPassedToEnd before after old.puller was now new
+    pub few : new.stop ≡ None → new.puller.reading ≢ TooMany
+    pub too_long : (turns : ℕ) → new.stop ≡ Some (TooLong turns) → 2 ^ 32 ≤ new.puller.start + new.puller.taken

@@ -1,8 +1,10 @@
-use Rattle.std.proofs.Common.{◌≡◌, ◌≤◌, ◌+◌, ◌-◌, ◌++◌, ◌∙◌, length, take, rules, arith}
+use Rattle.std.proofs.Common.{◌≡◌, ◌≤◌, ◌+◌, ◌-◌, ◌++◌, ◌∙◌, ℕ, length, take, rules, subst, arith}
 use Rattle.std.proofs.lemmas.List.{places}
+use Rattle.std.specs.Io.KnownBytes.{Consumes}
 use Rattle.std.proofs.KnownBytes.{Consumes-trans}
 use borrow.Rule.Slice.PartMut.{put_mid}
 use Rattle.seats.proofs.Lists.{take_put}
+use Rattle.seats.proofs.Wiring.{ends_short, fails_short, keeps_all}
 use Rattle.seats.proofs.serve.fill.Goals as goal
 
 pub reading-preserved : goal.reading-preserved
@@ -17,4 +19,20 @@ reading-preserved g c =
       within = omega (arith, long, size, few, within);
       long = long ∙ c.reading.invariant.long;
       bytes = rw front (Consumes-trans _ _ _ _ _ c.reading.invariant.bytes c.in-Ok.ensures.bytes.0);
+      steady = c.in-Ok.ensures.cause.ok ∙ c.reading.invariant.steady;
     }
+
+pub returns-in-Ok-eq0-clause-short : goal.returns-in-Ok-eq0-clause-short
+returns-in-Ok-eq0-clause-short g c stopped =
+    let into = c.reading.into in let piece = c.read.new.into in let d = c.reading.done in
+    let v = c.reading.invariant in let long = v.long in let test = c.reading-test.true in
+    let size : length piece ≡ length into - d = search (rules, places) in
+    let none : c.in-Ok-eq0.field-0 ≡ 0 = c.in-Ok-eq0.field-0-test in let bytes = c.in-Ok-eq0.ensures.bytes in
+    ends_short (length c.args.into.now) d (g.S.Source.end c.args.source.now) (g.S.Source.end c.reading.source) (g.S.Source.end c.read.new.self) into v.within (omega (arith, test, long)) v.bytes v.steady
+    (keeps_all _ _ (subst (λ (n : ℕ). Consumes (g.S.Source.end c.reading.source).left (g.S.Source.end c.read.new.self).left (take n piece)) none bytes.0)) (bytes.1 none (omega (arith, size, test))) c.in-Ok-eq0.ensures.cause.ok
+
+pub returns-in-Err-clause-short : goal.returns-in-Err-clause-short
+returns-in-Err-clause-short g c stopped =
+    let v = c.reading.invariant in let long = v.long in let test = c.reading-test.true in
+    fails_short (length c.args.into.now) c.reading.done (g.S.Source.end c.args.source.now) (g.S.Source.end c.reading.source) (g.S.Source.end c.read.new.self) c.reading.into v.within (omega (arith, test, long)) v.bytes v.steady
+    c.in-Err.ensures.bytes c.in-Err.ensures.cause.failed

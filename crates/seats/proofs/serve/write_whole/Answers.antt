@@ -1,4 +1,4 @@
-use Rattle.std.proofs.Common.{◌≡◌, ℕ, List, length, take, drop, ◌-◌, arith, ap, subst}
+use Rattle.std.proofs.Common.{◌≡◌, ℕ, List, length, take, drop, ◌-◌, ◌∙◌, arith, ap, subst}
 use Rattle.std.proofs.lemmas.List.{length-drop, take_all}
 use Rattle.std.proofs.Math.Seq.{take-add}
 use Rattle.std.specs.Io.KnownBytes.{Appends}
@@ -14,4 +14,5 @@ writing-preserved g c =
     record {
       within = omega (arith, size, bound, same);
       bytes = rw (take-add d n bytes) (Appends-trans _ _ _ _ _ c.writing.invariant.bytes (subst (λ (l : List ℕ). Appends (g.K.Sink.end c.writing.sink).written (g.K.Sink.end c.write.new.self).written (take n l)) rest c.in_ok-count.ensures.bytes));
+      steady = c.in_ok-count.ensures.cause.ok ∙ c.writing.invariant.steady;
     }

@@ -1,4 +1,4 @@
-use Rattle.std.proofs.Common.{length, ◌-◌, ◌≤◌, take}
+use Rattle.std.proofs.Common.{length, ◌-◌, ◌≡◌, ◌≤◌, take}
 use Rattle.std.specs.Io.KnownBytes.{Appends}
 use Rattle.seats.proofs.serve.write_whole.Given as goal
 
@@ -6,6 +6,7 @@ abbrev pub invariant-writing : goal.invariant-writing
 invariant-writing g l = record {
   within : l.done ≤ length l.bytes;
   bytes : Appends (g.K.Sink.end l.initial.sink).written (g.K.Sink.end l.sink).written (take l.done l.bytes);
+  steady : (g.K.Sink.end l.sink).faults ≡ (g.K.Sink.end l.initial.sink).faults;
 }
 
 abbrev pub decreases-writing : goal.decreases-writing

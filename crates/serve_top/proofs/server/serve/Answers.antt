@@ -1,6 +1,7 @@
-use Rattle.std.proofs.Common.{rules, ◌≡◌, arith, refl}
-use Rattle.serve_top.specs.declared.server.NoReport.TheVariants.{Failed}
+use Rattle.std.proofs.Common.{rules, ◌≡◌, ◌∙◌, Some, ap, arith, refl}
+use Rattle.serve_top.specs.declared.server.NoReport.TheVariants.{Failed, TooLong}
 use Rattle.serve_top.proofs.Reporting.{desks_ready, may_pass, has_passed, counted, is_done, are_all, are_on_nodes, is_reported}
+use Rattle.serve_top.proofs.Streaming.{too_often}
 use Rattle.serve_top.proofs.server.serve.Goals as goal
 
 pub desks_of-requires-clause-few : goal.desks_of-requires-clause-few
@@ -25,7 +26,15 @@ sit_and_feed-requires-clause-desks g c κs within =
     desks_ready a.adapter a.clients.items c.in_ok-desks.desks.items (c.in_ok-desks.ensures.ready a.adapter a.feeder (counted a.adapter _ a.feeder a.clients.items a.ensures.fresh))
 
 pub returns-in-Some-clause-failed : goal.returns-in-Some-clause-failed
-returns-in-Some-clause-failed g c h = let same : c.no_report.result ≡ Failed = cc in absurd (c.no_report.ensures same)
+returns-in-Some-clause-failed g c h = let same : c.no_report.result ≡ Failed = cc in absurd (c.no_report.ensures.failed same)
+
+pub returns-in-Some-clause-reads : goal.returns-in-Some-clause-reads
+returns-in-Some-clause-reads g c h =
+    let e = c.sit_and_feed.ensures.feeder in let f = c.in_ok-feeder.ensures in
+    let same : c.no_report.result ≡ TooLong = cc in
+    let long = c.no_report.ensures.too_long same in
+    let many = e.too_long long.0 (c.in-Some.is ∙ ap Some long.1) in
+    too_often _ _ c.in_ok-feeder.feeder.puller c.sit_and_feed.new.feeder.puller e.draws.0 e.draws.1 f.pulls f.start many.1
 
 pub left_by-requires-clause-done : goal.left_by-requires-clause-done
 left_by-requires-clause-done g c =

@@ -36,7 +36,7 @@ returns-then-not-turn g c =
       nodes = nodes_to g.T.Source.end g.T.Sink.end (g.C.Clock.may_give c.args.clock.now) g.J.Journal.took c.args.at.now.line c.args.at.now.journal c.args.self.now.client c.requests.before c.requests.at.line c.requests.at.journal c.requests.self h
           c.leave.new.self c.leave.ensures.fit.nodes;
       told = a.0;
-      answers = subst (λ (k : Caller). HasAnsweredAll g.T.Source.end g.T.Sink.end (g.C.Clock.may_give c.args.clock.now) c.args.at.now.line c.args.self.now.client k [] (all_calls h.handed c.leave.new.self) [] a.0) (sym e.client) a.1;
+      answers = subst (λ (k : Caller). HasAnsweredAll g.T.Source.end g.T.Sink.end (g.C.Clock.may_give c.args.clock.now) c.args.at.now.line c.turn.new.line c.args.self.now.client k [] (all_calls h.handed c.leave.new.self) [] a.0) (sym e.client) a.1;
       given = given_to g.T.Source.end g.T.Sink.end (g.C.Clock.may_give c.args.clock.now) g.J.Journal.took c.args.at.now.line c.args.at.now.journal c.args.self.now.client c.requests.before c.requests.at.line c.requests.at.journal c.requests.self h
           c.hand_over_last.new.journal c.leave.new.self (λ xs ys. g.met.J.Journal.took_both c.args.at.now.journal c.requests.at.journal c.hand_over_last.new.journal xs ys) e.took;
       left = λ node low. subst (HasLeft node) (sym e.client) (c.leave.ensures.left node low);

@@ -3,7 +3,8 @@ use Rattle.seats.specs.declared.serve_frames.numbers.TheConstants.{REQUEST_LEN}
 use Rattle.seats.specs.Seated.{log_of}
 use Rattle.seats.specs.Told.{data_read, call_at}
 use Rattle.seats.proofs.Going.{goes_self}
-use Rattle.seats.proofs.Turning.{turned_none, turned_one, by_ok}
+use Rattle.seats.proofs.Turning.{turned_none, turned_one}
+use Rattle.seats.proofs.Wiring.{by_ok, by_err, runs_out}
 use Rattle.seats.proofs.seat.Seat.turn.Goals as goal
 
 pub returns-then-not-fill-clause-goes : goal.returns-then-not-fill-clause-goes
@@ -11,6 +12,7 @@ returns-then-not-fill-clause-goes g c = goes_self c.args.self.now
 
 pub returns-then-not-fill-clause-turned : goal.returns-then-not-fill-clause-turned
 returns-then-not-fill-clause-turned g c = turned_none g.T.Source.end g.T.Sink.end (g.C.Clock.may_give c.args.clock.now) c.args.line.now c.fill.new.source c.args.self.now.held c.args.self.now.client (log_of c.args.self.now) c.args.self.now.outcomes.items
+    (runs_out _ REQUEST_LEN _ _ (c.fill.ensures.short c.if-not-fill.true) (search rules))
 
 pub returns-clause-turned : goal.returns-clause-turned
 returns-clause-turned g c =
@@ -19,3 +21,4 @@ returns-clause-turned g c =
     (data_read (call_at c.answer-answered.new.self.made.items c.answer-answered.result.at)) c.args.line.now c.fill.new.source c.tell.new.sink
     c.of-ask.ensures.value long c.now.ensures (c.fill.ensures.whole c.if-not-fill.false) c.answer-answered.ensures.answered c.is_ok.result
     (by_ok c.tell.result _ c.is_ok.result c.is_ok.ensures.value c.tell.ensures.whole)
+    (by_err c.tell.result _ c.is_ok.result c.is_ok.ensures.value c.tell.ensures.cut)

@@ -19,6 +19,9 @@ turn-requires g c = record {
 pub returns-in_err-turn-clause-same : goal.returns-in_err-turn-clause-same
 returns-in_err-turn-clause-same g c = same_trans c.args.self.now.feeder c.batches.self.feeder c.turn.new.self.feeder c.batches.invariant.same c.turn.ensures.same
 
+pub returns-in_err-turn-clause-draws : goal.returns-in_err-turn-clause-draws
+returns-in_err-turn-clause-draws g c = let k = c.batches.invariant.draws in let d = c.turn.ensures.draws in (k.0 ++ d.0, draws_then _ _ _ _ _ _ k.0 d.0 k.1 d.1)
+
 pub batches-preserved : goal.batches-preserved
 batches-preserved g c = let k = c.batches.invariant.draws in let d = c.turn.ensures.draws in record {
   fit = c.turn.ensures.fit;
@@ -29,3 +32,6 @@ batches-preserved g c = let k = c.batches.invariant.draws in let d = c.turn.ensu
 
 pub returns-clause-same : goal.returns-clause-same
 returns-clause-same g c = same_trans c.args.self.now.feeder c.batches.self.feeder c.turn.new.self.feeder c.batches.invariant.same c.turn.ensures.same
+
+pub returns-clause-draws : goal.returns-clause-draws
+returns-clause-draws g c = let k = c.batches.invariant.draws in let d = c.turn.ensures.draws in (k.0 ++ d.0, draws_then _ _ _ _ _ _ k.0 d.0 k.1 d.1)
