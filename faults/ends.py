@@ -85,7 +85,7 @@ def over_terminal(words, given):
     tty.setraw(line)
     os.write(line, given)
     os.close(line)
-    child = ran(words, stdin=terminal)
+    child = ran(words, BUILT, stdin=terminal)
     os.close(terminal)
     return child
 
