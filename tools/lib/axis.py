@@ -51,7 +51,8 @@ class Gap:
 class Axis:
     """The columns from left to right. Where there are too many they are gathered in cells, and narrower."""
 
-    def __init__(self, report):
+    def __init__(self, report, width=WIDTH):
+        self.width = width
         self.gaps = self.gaps_of(report)
         self.calls, self.starts, column = {}, [], 0
         for gap in self.gaps:
@@ -60,7 +61,7 @@ class Axis:
             column += gap.width + 1
         self.count = column - 1
         self.batches = [start + gap.width for start, gap in zip(self.starts[:-1], self.gaps)]
-        self.gathers = self.count * CELL > WIDTH
+        self.gathers = self.count * CELL > width
         self.edges = self.gathered_edges() if self.gathers else self.plain_edges()
         self.right = self.edges[-1]
         self.cuts = self.strips()
@@ -114,7 +115,7 @@ class Axis:
 
     def plain_edges(self):
         """The edges of columns that all have the same width."""
-        wide = min(COLUMN, WIDTH / max(self.count, 1))
+        wide = min(COLUMN, self.width / max(self.count, 1))
         return [LEFT + wide * column for column in range(self.count + 1)]
 
     def gathered_edges(self):
@@ -123,8 +124,8 @@ class Axis:
         others."""
         dense = self.dense_gaps()
         columns = sum(gap.width * (number not in dense) + 1 for number, gap in enumerate(self.gaps)) - 1
-        pool = max(min(columns * CELL, WIDTH / 2), WIDTH - sum(self.gaps[number].width * CELL for number in dense))
-        zones = shares({number: self.gaps[number].width * CELL for number in dense}, WIDTH - min(pool, columns * CELL))
+        pool = max(min(columns * CELL, self.width / 2), self.width - sum(self.gaps[number].width * CELL for number in dense))
+        zones = shares({number: self.gaps[number].width * CELL for number in dense}, self.width - min(pool, columns * CELL))
         unit = min(pool, columns * CELL) / max(len(self.batches), 1)
         edges = [LEFT]
         for number, gap in enumerate(self.gaps):

@@ -33,6 +33,7 @@ TOOLS = {
     "serve": ("../dvbemu-serve", "runs DVB programs, as they are, on a recording, and writes a report of their calls"),
     "explain": ("explain", "tells a report in sentences, with hints"),
     "picture": ("picture", "draws a report"),
+    "page": ("page", "writes a report as a page for a browser"),
     "hint": ("hint", "why filters got nothing and what overflows lost, by a report and its stream"),
     "json": ("json", "writes a report as JSON Lines, and back"),
     "why": ("why", "what is wrong with a report: the line, what stands there, what the rules give"),

@@ -10,7 +10,7 @@ from axis import Axis
 from lanes import lanes_of
 from marks import legend
 from strip import Strip, least_width
-from svg import GREY, LEFT, RIGHT, WHITE, fixed, rect
+from svg import GREY, LEFT, RIGHT, WHITE, WIDTH, fixed, rect
 
 PATTERN = (
     '<pattern id="untold" width="6" height="6" patternUnits="userSpaceOnUse" patternTransform="rotate(45)">'
@@ -21,16 +21,27 @@ FONT = 'font-family="DejaVu Sans, Verdana, sans-serif"'
 BETWEEN = 14
 
 
+class Part(NamedTuple):
+    """The axis with the batches, a client or a node: its name, the heights at which it begins and ends, and its shapes."""
+
+    name: str
+    top: float
+    bottom: float
+    shapes: list
+
+
 class Drawing(NamedTuple):
-    """What is drawn: the axis, the shapes above all strips, those of the strips, the legend, the heights at which the strips' part begins and
-    ends and the legend ends, and the width."""
+    """What is drawn: the axis, the shapes above all strips, those behind the parts and the parts, the legend, the heights at which the
+    strips' part begins and ends and the legend begins and ends, and the width."""
 
     axis: Axis
     head: list
-    shapes: list
+    guides: list
+    parts: list
     legend: list
     top: float
     bottom: float
+    below: float
     end: float
     width: float
 
@@ -41,19 +52,20 @@ def is_name(shape):
     return found is not None and float(found[1]) < LEFT
 
 
-def drawing_of(report, title):
-    """The shapes of a report's picture."""
-    axis = Axis(report)
+def drawing_of(report, title, width=WIDTH):
+    """The shapes of a report's picture, whose columns are gathered where they'd be wider than this."""
+    axis = Axis(report, width)
     strip = Strip(title, report, axis, 4)
     lanes = lanes_of(report, axis, strip.bottom)
     bottom = lanes[-1].bottom if lanes else strip.bottom
-    shapes = [*strip.guides(bottom), *strip.draw(), *(shape for lane in lanes for shape in lane.draw())]
+    parts = [Part(*part) for part in strip.parts()]
+    parts += [Part(lane.name, lane.y, lane.bottom, lane.draw()) for lane in lanes]
     used = strip.used.union(*(lane.used for lane in lanes), ["count"] if axis.gathers else [])
     count, top = len(axis.cuts), strip.passes_y
     below = top + count * (bottom - top) + (count - 1) * BETWEEN
     told, end = legend(used, below)
     width = max(widest(axis) + RIGHT, least_width(strip))
-    return Drawing(axis, strip.head(), shapes, told, top, bottom, end, width)
+    return Drawing(axis, strip.head(), strip.guides(bottom), parts, told, top, bottom, below, end, width)
 
 
 def edges_of(axis):
@@ -73,10 +85,15 @@ def window(x, y, begin, width, drawing, name):
     return f'<svg x="{fixed(x)}" y="{fixed(y)}" width="{fixed(width)}" height="{fixed(high)}" {box}><use href="#{name}"/></svg>'
 
 
+def shapes_of(drawing):
+    """All shapes of the strips."""
+    return drawing.guides + [shape for part in drawing.parts for shape in part.shapes]
+
+
 def strips(drawing):
     """The strips below each other, where there are several."""
-    names = [shape for shape in drawing.shapes if is_name(shape)]
-    rows = [shape for shape in drawing.shapes if not is_name(shape)]
+    shapes = shapes_of(drawing)
+    names, rows = [shape for shape in shapes if is_name(shape)], [shape for shape in shapes if not is_name(shape)]
     found, y = ["<defs>", '<g id="names">', *names, "</g>", '<g id="rows">', *rows, "</g>", "</defs>"], drawing.top
     for x, to in edges_of(drawing.axis):
         found += [window(0, y, 0, LEFT, drawing, "names"), window(LEFT, y, x, to - x + 0.5, drawing, "rows")]
@@ -91,5 +108,5 @@ def picture(report, title):
     size = f'width="{width}" height="{end}" viewBox="0 0 {width} {end}"'
     beginning = f'<svg xmlns="http://www.w3.org/2000/svg" {size} {FONT} role="img" aria-label={quoteattr(title)}>'
     ground = rect(0, 0, float(width), drawing.end, f'fill="{WHITE}"')
-    inner = strips(drawing) if len(drawing.axis.cuts) > 1 else drawing.shapes
+    inner = strips(drawing) if len(drawing.axis.cuts) > 1 else shapes_of(drawing)
     return "\n".join([beginning, f"<defs>{PATTERN}</defs>", ground, *drawing.head, *inner, *drawing.legend, "</svg>"]) + "\n"

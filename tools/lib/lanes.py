@@ -16,6 +16,7 @@ class Lane:
     """The picture of one node, from the height y on. What it uses of the legend is in `used`."""
 
     def __init__(self, node, entries, axis, y):
+        self.name = reports.node_name(node)
         self.node, self.entries, self.axis, self.y, self.used = node, entries, axis, y, set()
         self.columns = axis.columns_of(entries)
         self.history = unread.History(node, entries)
@@ -236,7 +237,7 @@ class Quiet:
     """The nodes on which nothing was done but opens, closes, sizes and refusals, in one lane."""
 
     def __init__(self, lanes, axis, y):
-        self.lanes, self.axis, self.y = lanes, axis, y
+        self.lanes, self.axis, self.y, self.name = lanes, axis, y, ranges([lane.node for lane in lanes])
         placed = [pair for lane in lanes for pair in zip(lane.columns, lane.entries)]
         self.calls = [(column, entry) for column, entry in placed if entry.who != "feed"]
         self.rows = rows_of(self.calls, axis)
@@ -250,10 +251,9 @@ class Quiet:
             name = entry.act.partition(" ")[0] if entry.reply.startswith("done ") else entry.reply.partition(" ")[0]
             counts[name] = counts.get(name, 0) + 1
         told = ", ".join(f"{count} {name}" for name, count in counts.items())
-        names = ranges([lane.node for lane in self.lanes])
-        title = counted(len(self.lanes), "node") if len(self.lanes) > 1 else f"node {names}"
+        title = counted(len(self.lanes), "node") if len(self.lanes) > 1 else f"node {self.name}"
         rule = line(8, self.y + 2, self.axis.right, self.y + 2, f'stroke="{PALE}"')
-        words = f"{names}: nothing but opens, closes, sizes and refusals ({told})"
+        words = f"{self.name}: nothing but opens, closes, sizes and refusals ({told})"
         found = [rule, heading(8, self.y + 18, title), text(LEFT, self.y + 18, words, 10, f'fill="{GREY}"')]
         y = self.y + 26
         for row in self.rows:

@@ -35,12 +35,13 @@ class Strip:
             found.append(text(8, self.y + 49 + 13 * number, words, 10, f'fill="{GREY}"'))
         return found
 
-    def draw(self):
-        """The axis and the clients."""
-        found, y = self.draw_passes() + self.draw_moments() if self.passes else [], self.clients_y
+    def parts(self):
+        """The axis and the clients, each with its name, where it begins and ends, and its shapes."""
+        y = self.clients_y
+        found = [("axis", self.passes_y, y, self.draw_passes() + self.draw_moments())] if self.passes else []
         for client, outcomes in enumerate(self.report.clients):
             if outcomes:
-                found += self.draw_client(client, outcomes, y)
+                found.append((f"c{client}", y, y + BOX + 22, self.draw_client(client, outcomes, y)))
                 y += BOX + 22
         return found
 
