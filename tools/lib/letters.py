@@ -4,7 +4,8 @@ import unicodedata
 # The upper half of the default table, ISO/IEC 6937 with the sign of the euro (figure A.1); the accents stand before their letter.
 ACCENTS = dict(zip(range(0xC1, 0xD0), (0x300, 0x301, 0x302, 0x303, 0x304, 0x306, 0x307, 0x308, 0, 0x30A, 0x327, 0, 0x30B, 0x328, 0x30C)))
 UPPER = {
-    0xA0: "\u00a0¡¢£€¥\ufffd§¤‘“«←↑→↓", 0xB0: "°±²³×µ¶·÷’”»¼½¾¿", 0xD0: "\u2014¹®©™♪¬¦\ufffd\ufffd\ufffd\ufffd⅛⅜⅝⅞",
+    0xA0: "\u00a0¡¢£€¥\ufffd§¤‘“«←↑→↓", 0xB0: "°±²³×µ¶·÷’”»¼½¾¿",
+    0xD0: "\u2014¹®©™♪¬¦\ufffd\ufffd\ufffd\ufffd⅛⅜⅝⅞",
     0xE0: "\u2126ÆĐªĦ\ufffdĲĿŁØŒºÞŦŊŉ", 0xF0: "ĸæđðħıĳŀłøœßþŧŋ\u00ad",
 }  # fmt: skip
 DEFAULT = {first + number: letter for first, letters in UPPER.items() for number, letter in enumerate(letters)}

@@ -41,7 +41,8 @@ def sentence(row):
     """A row of what explain tells, as HTML."""
     if isinstance(row, told.Told):
         kind = ' class="rule"' if row.text.startswith("Rule: ") else ""
-        return "".join(f'<p data-indent="{row.indent + 2 * (place > 0)}"{kind}>{escape(part)}</p>' for place, part in enumerate(row.text.split("\n")))
+        parts = enumerate(row.text.split("\n"))
+        return "".join(f'<p data-indent="{row.indent + 2 * (place > 0)}"{kind}>{escape(part)}</p>' for place, part in parts)
     return f"<h2>{escape(row)}</h2>" if row else ""
 
 
@@ -102,8 +103,8 @@ def edges_of(axis):
 
 def legend_of(drawing):
     """The legend by itself."""
-    return f'<svg width="730" height="{fixed(drawing.end - drawing.below)}" viewBox="0 {fixed(drawing.below)} 730 {fixed(drawing.end - drawing.below)}">' \
-        + "\n".join(drawing.legend) + "</svg>"
+    high = fixed(drawing.end - drawing.below)
+    return "\n".join([f'<svg width="730" height="{high}" viewBox="0 {fixed(drawing.below)} 730 {high}">', *drawing.legend, "</svg>"])
 
 
 def notes_of(drawing, listed):

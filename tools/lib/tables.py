@@ -247,7 +247,10 @@ OF = {
     "transport_stream_id": "transport stream", "program_number": "program", "network_id": "network", "bouquet_id": "bouquet",
     "service_id": "service",
 }  # fmt: skip
-SAY = {0x00: program_text, 0x02: stream_text, 0x40: transport_text, 0x41: transport_text, 0x4A: transport_text, 0x42: service_text, 0x46: service_text}
+SAY = {
+    0x00: program_text, 0x02: stream_text, 0x40: transport_text, 0x41: transport_text, 0x4A: transport_text, 0x42: service_text,
+    0x46: service_text,
+}  # fmt: skip
 
 
 def head_text(data, table):
