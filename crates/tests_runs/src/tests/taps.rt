@@ -78,17 +78,25 @@ fn passing(alloc: Global) -> Result<Option<Arc<Batch>>, NoMemory> {
     Ok(Some(Batch::of(alloc, 0, &packets)?))
 }
 
-// The call of a row.
-fn call_of(row: &Row) -> Call {
-    let (_, node, named, _) = *row;
-    let Some(named) = named else {
-        return Call::Detach { node };
-    };
+// A set of these PIDs.
+fn pids_of(named: &[u16]) -> Pids {
     let mut pids = Pids::new();
     for pid in named {
         let _ = pids.add(*pid);
     }
-    Call::Attach { node, pids }
+    pids
+}
+
+// The call of a row.
+fn call_of(row: &Row) -> Call {
+    let (_, node, named, _) = *row;
+    match named {
+        None => Call::Detach { node },
+        Some(named) => Call::Attach {
+            node,
+            pids: pids_of(named),
+        },
+    }
 }
 
 // A node, and how many calls were made on it.
