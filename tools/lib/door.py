@@ -129,9 +129,9 @@ class Run:
         for number in signal.SIGINT, signal.SIGTERM, signal.SIGHUP:
             signal.signal(number, self.end)
         self.output, self.told = b"", b""
-        self.readers = [threading.Thread(target=self.take, args=("told", self.child.stderr))]
+        self.readers = [threading.Thread(target=self.take, args=("told", self.child.stderr), daemon=True)]
         if takes_output:
-            self.readers.append(threading.Thread(target=self.take, args=("output", self.child.stdout)))
+            self.readers.append(threading.Thread(target=self.take, args=("output", self.child.stdout), daemon=True))
         for thread in self.readers:
             thread.start()
 
@@ -221,8 +221,8 @@ def check_files(words, given):
         report, *session = inputs.opened(given.files)
         if report.is_terminal or any(file.is_terminal for file in session):
             words.tell_waiting()
-        run = started(plain("check", given), True)
         text, behind = report.whole(), b"".join(inputs.session_pieces(session))
+        run = started(plain("check", given), True)
         status = run.feed([b"report %d\n" % len(text), text, behind])
     except inputs.Broken as fault:
         return words.fail(fault)
