@@ -123,8 +123,9 @@ static int begin(struct line *line, int kind, int flags, int rings)
 		error = ask(line, kind == DEMUX ? OPEN_DEMUX : OPEN_DVR, 0, 0, NULL, 0, &reply, NULL);
 	if (!error) {
 		uint32_t node = kind == DVR ? 32 : reply.value;
-		line->table->devices[place] = (struct device){ .kind = kind, .access = flags & O_ACCMODE, .node = node, .ino = made.st_ino,
-							       .turn = line->table->devices[place].turn + 1 };
+		uint32_t turn = line->table->devices[place].turn + 1;
+		line->table->devices[place] =
+			(struct device){ .kind = kind, .access = flags & O_ACCMODE, .node = node, .ino = made.st_ino, .turn = turn };
 		device_begin(line, place, rings);
 		if (kind == DVR)
 			look((struct at){ line, place }, -1);
