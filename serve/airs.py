@@ -136,8 +136,9 @@ def try_faults(room):
     with open(room.path("timeless"), "wb") as file:
         file.write(bytes([0x47, 0x1F, 0xFF, 0x10] + [0] * 184) * 1000)
     for words, told in (
-        (["noise"], "is no transport stream"), (["timeless"], "has no program clock"), (["nowhere"], "No such file"), (["."], "is a folder"),
-        (["--report", path, path], "is the recording"), (["--report", "/nowhere/r", path], "No such file"), (["--tune", "474=x:y"], "No such file"),
+        (["noise"], "is no transport stream"), (["timeless"], "has no program clock"), (["nowhere"], "No such file"),
+        (["."], "is a folder"), (["--report", path, path], "is the recording"), (["--report", "/nowhere/r", path], "No such file"),
+        (["--tune", "474=x:y"], "No such file"),
         (["--tune", f"474000000:DVBX={path}"], "DVBX is none of"), (["--tune", path], "is wanted"), (["--channels", path], "lines HZ"),
         (["--adapter", path, "--adapter", path], "--report FILE"), (["--packets", "0", path], "is wanted"), ([], "a stream is wanted"),
         (["--tune", f"474000000:DVBT:H={path}"], "has no polarisation"),
@@ -149,11 +150,13 @@ def try_faults(room):
 
 def try_clocks(room):
     """A clock is followed PCR by PCR: also where recordings are joined, their halves exchanged, or it goes round."""
-    words = ["python3", "-c", "import sys; sys.path[1:1] = sys.argv[2:4]\nfrom recording import Recording\nprint(Recording(sys.argv[1]).length())"]
+    script = "import sys; sys.path[1:1] = sys.argv[2:4]\nfrom recording import Recording\nprint(Recording(sys.argv[1]).length())"
+    words = ["python3", "-c", script]
     data = bytes_of(stations(room)[0])
     other = Station(2, NAMES[1], HERTZ).stream(3 * SECONDS)
     half = len(data) // 376 * 188
-    for name, joined, seconds in ("two", other + data, 4 * SECONDS), ("halves", data[half:] + data[:half], SECONDS), ("again", data * 3, 3 * SECONDS):
+    joins = ("two", other + data, 4), ("halves", data[half:] + data[:half], 1), ("again", data * 3, 3)
+    for name, joined, seconds in ((name, joined, count * SECONDS) for name, joined, count in joins):
         with open(room.path(name), "wb") as file:
             file.write(joined)
         ran = subprocess.run([*words, room.path(name), HERE, os.path.join(TOP, "tools", "lib")], stdout=subprocess.PIPE, text=True, check=False)

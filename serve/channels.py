@@ -8,7 +8,7 @@ from recording import Recording, Unplayable
 
 # The delivery systems, by the numbers of linux/dvb/frontend.h.
 SYSTEMS = {"DVBC": 1, "DVBCB": 2, "DVBT": 3, "DVBS": 5, "DVBS2": 6, "ISDBT": 8, "ATSC": 11, "DVBT2": 16}
-SATELLITE, TERRESTRIAL = (5, 6), (3, 16)
+SATELLITE, TERRESTRIAL = (5, 6), (3,)
 LINE = re.compile(r"(\d+)(?::([A-Za-z0-9/-]+?))?(?::([HVLR]))?=(.+)")
 # How far a tuner may be off, in Hz, and for a satellite in kHz; and the converters' oscillators in kHz: for the lower band, the upper
 # band, which a tone chooses, and that of C band, above its signals.

@@ -19,7 +19,7 @@
 
 #include "preload.h"
 
-enum { ARGUMENT = 60, MOST_READ = 65536, PAUSE_NS = 10000000, MOST_TOKENS = 4096 };
+enum { ARGUMENT = 60, MOST_READ = 65536, PAUSE_NS = 10000000, LONG_S = 3600, MOST_TOKENS = 4096 };
 
 struct device *device_at(struct at at) { return &at.line->table->devices[at.place]; }
 
@@ -123,8 +123,10 @@ static int begin(struct line *line, int kind, int flags, int rings)
 		error = ask(line, kind == DEMUX ? OPEN_DEMUX : OPEN_DVR, 0, 0, NULL, 0, &reply, NULL);
 	if (!error) {
 		uint32_t node = kind == DVR ? 32 : reply.value;
-		line->table->devices[place] = (struct device){ .kind = kind, .access = flags & O_ACCMODE, .node = node, .ino = made.st_ino,
-							       .turn = line->table->devices[place].turn + 1 };
+		/* (a thread that has waited here for a device which another closed still counts itself out) */
+		struct device *device = &line->table->devices[place];
+		*device = (struct device){ .kind = kind, .access = flags & O_ACCMODE, .node = node, .ino = made.st_ino,
+					   .turn = device->turn + 1, .readers = device->readers };
 		device_begin(line, place, rings);
 		if (kind == DVR)
 			look((struct at){ line, place }, -1);
@@ -220,14 +222,17 @@ void sweep(void)
 
 static void is_read(void *device) { __atomic_sub_fetch(&((struct device *)device)->readers, 1, __ATOMIC_SEQ_CST); }
 
-/* Waits until the device may have something. A signal ends that as it ends any call that the system can begin again: by its handler. */
-static int doze(struct device *device, uint32_t turn)
+/*
+ * Waits until the device may have something. A signal ends that as it ends any call that the system can begin again: by its handler; and
+ * where some bytes were read by any handler, as a wait with a time is.
+ */
+static int doze(struct device *device, uint32_t turn, int has_some)
 {
-	struct timespec most = { 0, PAUSE_NS };
+	struct timespec short_time = { 0, PAUSE_NS }, long_time = { LONG_S, 0 }, *most = has_some ? &long_time : NULL;
 	int type, n;
 	pthread_cleanup_push(is_read, device);
 	pthread_setcanceltype(PTHREAD_CANCEL_ASYNCHRONOUS, &type);
-	n = (int)syscall(SYS_futex, &device->turn, FUTEX_WAIT, turn, watch_runs() ? NULL : &most, NULL, 0);
+	n = (int)syscall(SYS_futex, &device->turn, FUTEX_WAIT, turn, watch_runs() ? most : &short_time, NULL, 0);
 	n = n < 0 && errno == EINTR ? -EINTR : 0;
 	pthread_setcanceltype(type, NULL);
 	pthread_cleanup_pop(1);
@@ -274,7 +279,7 @@ ssize_t device_read(int fd, struct at at, void *into, size_t count)
 		struct reading reading = { 0 };
 		uint32_t most = count - done < MOST_READ ? (uint32_t)(count - done) : MOST_READ;
 		int error = read_once(fd, at, ino, (char *)into + done, most, &reading);
-		if (reading.waits && !(error = doze(device, reading.turn)))
+		if (reading.waits && !(error = doze(device, reading.turn, done > 0)))
 			continue;
 		if (error && !done)
 			return error;
@@ -346,7 +351,7 @@ static int tuner_ioctl(int fd, struct at at, uint32_t number, void *argument)
 		if (waits)
 			turn = (__atomic_add_fetch(&device->readers, 1, __ATOMIC_SEQ_CST), device->turn);
 		give(at.line, &pause);
-		if (!waits || (error = doze(device, turn)))
+		if (!waits || (error = doze(device, turn, 0)))
 			return error;
 	}
 }

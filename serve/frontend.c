@@ -20,7 +20,7 @@
 
 enum { SYSTEMS = 8, COMMANDS = DTV_MAX_COMMAND + 1, MOST_PROPERTIES = 64, GOOD = 0xc000, PACKET_BITS = 188 * 8 };
 
-/* What serve/front.py has too. All frequencies are in Hz, or in kHz behind a satellite's converter. */
+/* What serve/channels.py has too. All frequencies are in Hz, or in kHz behind a satellite's converter. */
 struct front {
 	uint32_t wanted, granted, status, taken; /* tunings: how many were asked for, done, with what status, and told as an event */
 	uint32_t frequency, system, voltage, tone;
@@ -96,7 +96,10 @@ int frontend_event(int adapter)
 
 static uint32_t status_of(const struct front *front) { return is_granted(front) ? front->status : 0; }
 
-static uint16_t strength_of(const struct front *front) { return status_of(front) & FE_HAS_LOCK ? GOOD : status_of(front) ? GOOD / 2 : 0; }
+static uint16_t strength_of(const struct front *front)
+{
+	return status_of(front) & FE_HAS_LOCK ? GOOD : status_of(front) ? GOOD / 2 : 0;
+}
 
 static uint16_t ratio_of(const struct front *front) { return status_of(front) & FE_HAS_LOCK ? GOOD : 0; }
 

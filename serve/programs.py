@@ -1,4 +1,4 @@
-"""The part of serve/check that runs programs of others, where they are there."""
+"""The part of serve/check that runs programs of others, where they are there, over a recording at each frequency."""
 import os
 import re
 import shutil

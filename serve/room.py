@@ -40,10 +40,12 @@ class Room:
         """Keeps a case."""
         self.found.append((bool(holds), f"failed: {what}\n{told}".rstrip()))
 
-    def run(self, *command, seats="8", rate=RATE, keep=None):
-        """What a command wrote, and its status. The calls are kept as is said, or else all, and the report is written."""
+    def run(self, *command, seats="8", rate=RATE, keep=None, air=None, before=()):
+        """What a command wrote, and its status. The calls are kept as is said, or else all, and the report is written. On the air is the
+        stream, or what is said, of which then is kept what was played. `before` are words in front of the wrapper's own."""
         kept = ["--keep", keep] if keep else ["--report", self.report]
-        words = [SERVE, "--packets", rate, "--seats", seats, *kept, self.stream, "--", *command]
+        feed = ["--packets", rate, self.stream] if air is None else ["--played", self.path("played"), *air]
+        words = [*before, SERVE, "--seats", seats, *kept, *feed, "--", *command]
         with subprocess.Popen(words, stdin=subprocess.DEVNULL, stdout=subprocess.PIPE, stderr=subprocess.STDOUT, text=True,
                               errors="replace", cwd=self.folder) as child:  # fmt: skip
             try:

@@ -144,7 +144,9 @@ int kind_of(const char *place, int *adapter)
 	static const struct {
 		const char *form;
 		int kind;
-	} all[] = { { "/dev/dvb/adapter%d/frontend0%n", FRONTEND }, { "/dev/dvb/adapter%d/demux0%n", DEMUX }, { "/dev/dvb/adapter%d/dvr0%n", DVR } };
+	} all[] = { { "/dev/dvb/adapter%d/frontend0%n", FRONTEND },
+		    { "/dev/dvb/adapter%d/demux0%n", DEMUX },
+		    { "/dev/dvb/adapter%d/dvr0%n", DVR } };
 	place += strlen(folders[0]);
 	for (size_t i = 0; i < sizeof all / sizeof *all; i++) {
 		int end = 0;
@@ -213,7 +215,10 @@ EXPORT int lstat(const char *path, struct stat *told)
 EXPORT int stat64(const char *path, struct stat64 *told) { return stat(path, (struct stat *)told); }
 EXPORT int lstat64(const char *path, struct stat64 *told) { return lstat(path, (struct stat *)told); }
 EXPORT int fstat64(int fd, struct stat64 *told) { return fstat(fd, (struct stat *)told); }
-EXPORT int fstatat64(int there, const char *path, struct stat64 *told, int flags) { return fstatat(there, path, (struct stat *)told, flags); }
+EXPORT int fstatat64(int there, const char *path, struct stat64 *told, int flags)
+{
+	return fstatat(there, path, (struct stat *)told, flags);
+}
 
 EXPORT int statx(int there, const char *restrict path, int flags, unsigned int mask, struct statx *restrict told)
 {
@@ -221,7 +226,8 @@ EXPORT int statx(int there, const char *restrict path, int flags, unsigned int m
 	int adapter = 0, kind = NONE;
 	struct at at;
 	init();
-	int is_led = (flags & AT_SYMLINK_NOFOLLOW ? led : leads)(there, path, into), result = NEXT(statx)(is_led ? AT_FDCWD : there, is_led ? into : path, flags, mask, told);
+	int is_led = (flags & AT_SYMLINK_NOFOLLOW ? led : leads)(there, path, into);
+	int result = NEXT(statx)(is_led ? AT_FDCWD : there, is_led ? into : path, flags, mask, told);
 	if (is_led)
 		kind = kind_of(into, &adapter);
 	else if (!*path && flags & AT_EMPTY_PATH && find(there, &at))

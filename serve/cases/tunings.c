@@ -86,12 +86,11 @@ static void what_was_set_is_told(void)
 {
 	int fd = tuner(O_RDWR);
 	struct dtv_property systems = told(fd, DTV_ENUM_DELSYS);
-	want(systems.u.buffer.len == 2 && systems.u.buffer.data[0] == SYS_DVBT && systems.u.buffer.data[1] == SYS_DVBT2, "DTV_ENUM_DELSYS");
+	want(systems.u.buffer.len == 1 && systems.u.buffer.data[0] == SYS_DVBT, "DTV_ENUM_DELSYS");
 	want(set(fd, DTV_DELIVERY_SYSTEM, SYS_DVBS) < 0 && errno == EINVAL, "a system that it hasn't is EINVAL");
-	want(!set(fd, DTV_DELIVERY_SYSTEM, SYS_DVBT2) && !set(fd, DTV_BANDWIDTH_HZ, 7000000) && !set(fd, DTV_FREQUENCY, FREQUENCY), "set");
-	want(told(fd, DTV_DELIVERY_SYSTEM).u.data == SYS_DVBT2 && told(fd, DTV_BANDWIDTH_HZ).u.data == 7000000, "told");
+	want(!set(fd, DTV_DELIVERY_SYSTEM, SYS_DVBT) && !set(fd, DTV_BANDWIDTH_HZ, 7000000) && !set(fd, DTV_FREQUENCY, FREQUENCY), "set");
+	want(told(fd, DTV_DELIVERY_SYSTEM).u.data == SYS_DVBT && told(fd, DTV_BANDWIDTH_HZ).u.data == 7000000, "told");
 	want(!set(fd, DTV_CLEAR, 0) && !told(fd, DTV_FREQUENCY).u.data && told(fd, DTV_MODULATION).u.data == QAM_AUTO, "cleared");
-	set(fd, DTV_DELIVERY_SYSTEM, SYS_DVBT);
 }
 
 static void lists_of_properties(void)

@@ -267,6 +267,15 @@ static void a_signal_begins_a_read_again(void)
 	want(read(fd, bytes, 10) < 0 && errno == EINTR && seconds() - begun > 0.8 && rang > 3, "a read goes on behind handlers with SA_RESTART");
 }
 
+static void a_signal_ends_a_read_in_part(void)
+{
+	int fd = demux(0), all = recorder(O_RDONLY);
+	record_all(fd);
+	rings_every(900, SA_RESTART);
+	ssize_t n = read(all, bytes, sizeof bytes);
+	want(n > 0 && n < (ssize_t)sizeof bytes, "a read that has some bytes ends by any handler");
+}
+
 static void many_signals(void)
 {
 	int fd = pat(0);
@@ -293,5 +302,6 @@ static void the_mask_of_a_wait(void)
 const struct one waits[] = { CASE(poll_of_two), CASE(poll_by_priority), CASE(poll_of_many), CASE(select_in_each_set), CASE(ends_by_its_time),
 			     CASE(nothing_is_left), CASE(by_level), CASE(by_edge), CASE(by_edge_and_part), CASE(once_at_a_time),
 			     CASE(a_set_in_a_set), CASE(by_each_wait), CASE(as_a_reactor_does), CASE(set_while_one_waits), CASE(by_io_uring),
-			     CASE(a_signal_ends_a_wait), CASE(a_signal_begins_a_read_again), CASE(many_signals), CASE(the_mask_of_a_wait),
+			     CASE(a_signal_ends_a_wait), CASE(a_signal_begins_a_read_again),
+			     CASE(a_signal_ends_a_read_in_part), CASE(many_signals), CASE(the_mask_of_a_wait),
 			     { 0 } };
