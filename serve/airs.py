@@ -74,7 +74,7 @@ def try_systems(room):
 def try_shared(room):
     """A program beside one that has tuned sees its lock, and records what it has tuned to."""
     paths = stations(room)
-    script = "\"$0\" 482000000 hold > held & until grep -q held held; do sleep 0.1; done; \"$0\" look packets 300"
+    script = "\"$0\" 482000000 hold > held & until grep -sq held held; do sleep 0.1; done; \"$0\" look packets 300"
     out, status = call(room, ["--keep", "none", *tunes(room, paths)], ["sh", "-c", script, TUNER])
     room.want(status == 0 and re.fullmatch(r"look 1f\n300 .* 480 481 8191\n", out), "a program beside one that tunes", out)
 

@@ -93,7 +93,7 @@ def try_beside(room):
     """Beside tzap femon has its lock, dvbdate the stream's time, and others record what it has tuned to."""
     put(room, "zap.conf", ZAP.format("Alpha", HERTZ[0], 101))
     if is_there("tzap", "femon", "dvbdate"):
-        script = ("tzap -c zap.conf -r Alpha > tzap & P=$!; until grep -q FE_HAS_LOCK tzap; do sleep 0.1; done; femon -H -c 2; dvbdate; "
+        script = ("tzap -c zap.conf -r Alpha > tzap & P=$!; until grep -sq FE_HAS_LOCK tzap; do sleep 0.1; done; femon -H -c 2; dvbdate; "
                   "head -c 37600 /dev/dvb/adapter0/dvr0 > cat.ts; dd if=/dev/dvb/adapter0/dvr0 of=dd.ts bs=188 count=200 iflag=fullblock; "
                   "kill $P; wait; true")  # fmt: skip
         out = run(room, "programs beside tzap", ["sh", "-c", script])
