@@ -17,7 +17,10 @@ HERE = os.path.dirname(os.path.realpath(__file__))
 ROOT = os.path.dirname(HERE)
 LIBRARY, DOC, MAN = os.path.join("lib", "dvbemu"), os.path.join("share", "doc", "dvbemu"), os.path.join("share", "man")
 # What isn't packed: what builds, proves and checks, and what is made.
-LEFT_OUT = {"tools": ("build", "checks", "install", "package", "lib/haste.py", "lib/checks.py"), "serve": ("check", "cases", "calls.c", "out")}
+LEFT_OUT = {
+    "tools": ("build", "checks", "install", "package", "lib/haste.py", "lib/checks.py", "lib/crates.py"),
+    "serve": ("check", "cases", "calls.c", "out", "airs.py", "bad.py", "programs.py", "room.py", "stations.py"),
+}
 MADE = "__pycache__", "out"
 # How many of the gate's checks end with `N passed, M failed`: `rt ci` and those that .ci/run names.
 CHECKS = 8
@@ -150,8 +153,9 @@ def write(path, text):
 def build_preload(library):
     """Compiles what `serve` loads into programs: the server's first run does it."""
     stream = os.path.join(ROOT, "examples", "programs", "scan.ts")
-    words = [os.path.join(library, "dvbemu-serve"), "--packets", "3000", "--report", os.devnull, stream, "--", "true"]
-    ran = subprocess.run(words, capture_output=True, text=True, check=False)
+    with tempfile.TemporaryDirectory() as folder:
+        words = [os.path.join(library, "dvbemu-serve"), "--packets", "3000", "--report", os.path.join(folder, "report"), stream, "--", "true"]
+        ran = subprocess.run(words, capture_output=True, text=True, check=False)
     if ran.returncode or not os.path.exists(os.path.join(library, "serve", "out", "preload.so")):
         raise Refused(f"what `serve` loads can't be built, or the server doesn't run: {ran.stderr.strip()}")
 

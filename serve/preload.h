@@ -1,11 +1,140 @@
-/* What the parts of the preload share. */
+/* What the parts of the preload share: descriptors.c and the other files say what each part does. */
 #ifndef DVBEMU_PRELOAD_H
 #define DVBEMU_PRELOAD_H
 
+#include <dlfcn.h>
+#include <poll.h>
+#include <pthread.h>
+#include <signal.h>
 #include <stdint.h>
+#include <sys/types.h>
 
-/* frontend.c: whether an event waits to be told, and an ioctl, which gives 0 or a negative error */
-int frontend_event(void);
-int frontend_ioctl(uint32_t number, void *argument);
+/* a call of the C library that stands in the place of the library's own, and that one */
+#define EXPORT __attribute__((visibility("default")))
+#define NEXT(name)                                                                                                      \
+	({                                                                                                              \
+		static __typeof__(&name) found_;                                                                        \
+		if (!found_)                                                                                            \
+			found_ = (__typeof__(&name))dlsym(RTLD_NEXT, #name);                                            \
+		found_;                                                                                                 \
+	})
+
+enum { NONE, FRONTEND, DEMUX, DVR };
+enum { MOST_ADAPTERS = 8, MOST_LINES = 16, MOST_DEVICES = 48, FOLDER = 4096, PATH = FOLDER + 256 };
+
+/* the verbs of requests, and the bits of a poll's answer */
+enum { OPEN_DEMUX = 1, OPEN_DVR, CLOSE, IOCTL, READ, POLL };
+enum { READABLE = 1, OVERFLOW = 2, TIMED_OUT = 4, SOMETHING = READABLE | OVERFLOW | TIMED_OUT };
+
+struct reply {
+	uint32_t code, length, value, zero;
+	uint64_t place;
+};
+
+/* what is known of a device: nothing is there, something is, or neither */
+enum { QUIET, READY, UNKNOWN };
+
+/* A device that is open. A pipe stands behind its descriptors, which can be read where the device can. */
+struct device {
+	int kind, access, section, timeout, state, readers, in_set, is_tap;
+	uint32_t node, found, tokens;
+	uint32_t turn; /* rises where the device may have something: who reads waits for that */
+	long due;      /* when the filter's timeout is over; 0: it has none */
+	ino_t ino;     /* of its pipe */
+};
+
+/* What the processes of a line share: those that were forked, and what they have become by exec. */
+struct table {
+	pthread_mutex_t one; /* goes round a request and its reply, and what is done about it */
+	int adapter, is_gone, is_asking;
+	ino_t ask_ino, tell_ino;
+	struct device devices[MOST_DEVICES];
+};
+
+/* The line to an adapter's server, and what this process has of its devices. */
+struct line {
+	struct table *table;
+	int memory, ask, tell; /* the table, and the pair of pipes: -1 where there is none yet */
+	struct mine {
+		ino_t ino;            /* of the pipe that these belong to */
+		int rings, lock, bell; /* the pipe's other end, a frontend's lock, and the watch of the bell */
+		int known;             /* a descriptor by which it was added to a set of epoll */
+	} mine[MOST_DEVICES];
+};
+
+/* line.c */
+extern struct line lines[MOST_LINES];
+extern char folders[MOST_ADAPTERS][FOLDER];
+extern int adapters;
+extern pid_t self;
+struct pause {
+	sigset_t before;
+	int state;
+};
+void init(void);
+void enter(struct pause *pause);
+void leave(struct pause *pause);
+void take(struct line *line, struct pause *pause);
+void give(struct line *line, struct pause *pause);
+struct line *line_to(int adapter);
+void line_lost(struct line *line);
+int ask(struct line *line, uint32_t verb, uint32_t node, uint32_t number, const void *argument, uint32_t length,
+	struct reply *reply, void *into);
+long milliseconds(void);
+int wait_raw(struct pollfd *all, nfds_t count, long time);
+
+/* kept.c: the descriptors of the preload itself, and those that may be a device */
+int high(int fd);
+void let_go(int fd);
+int is_own(int fd);
+int give_way(int fd);
+int moved(int fd, int wanted);
+int is_object(int fd, ino_t ino);
+void mark(int fd);
+void unmark(int fd);
+int is_marked(int fd);
+int marks_end(void);
+int is_readable(const void *from, void *into, size_t count);
+int is_writable(void *to, const void *from, size_t count);
+
+/* device.c */
+struct at {
+	struct line *line;
+	int place;
+};
+struct device *device_at(struct at at);
+int found(int fd, struct at *at);
+int find(int fd, struct at *at);
+int device_open(int adapter, int kind, int flags);
+ssize_t device_read(int fd, struct at at, void *into, size_t count);
+int device_ioctl(int fd, struct at at, uint32_t number, void *argument);
+void device_begin(struct line *line, int place, int rings);
+void look(struct at at, int fd);
+void ring(struct at at);
+void sweep(void);
+void sweep_all(void);
+
+/* watch.c */
+void watch(void);
+void watch_changed(void);
+void watch_stopped(void);
+void watch_ends(int for_ever);
+void watch_moved(int wanted);
+int bell_of(struct at at);
+void bell_done(struct at at);
+int watch_runs(void);
+
+/* exec.c */
+void inherit(void);
+
+/* tree.c: whether a path lies in /dev/dvb, also by links, and where it stands in the tree for that; and what such a place is */
+int led(int there, const char *path, char *into);
+int leads(int there, const char *path, char *into);
+int kind_of(const char *place, int *adapter);
+
+/* frontend.c: whether an event waits to be told; an ioctl, which gives 0 or a negative error; a lock of who may tune */
+int frontend_lock(int adapter);
+int frontend_event(int adapter);
+int frontend_ioctl(int adapter, int access, uint32_t number, void *argument);
 
 #endif

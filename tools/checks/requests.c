@@ -1,6 +1,6 @@
 /* Prints what linux/dvb/dmx.h says of the requests of a demux device: their numbers, the lengths of their structures and the
    places of the fields, and a few structures as bytes. tools/checks/requests compares it with the table of crates/dmx_abi and with
-   the tests of crates/request_tests. */
+   the tests of crates/tests_low. */
 #include <stddef.h>
 #include <stdio.h>
 #include <string.h>

@@ -2,12 +2,21 @@
 command `check` is asked."""
 import glob
 import os
+import subprocess
+import sys
 from typing import NamedTuple
 
 ROOT = os.path.dirname(os.path.dirname(os.path.dirname(os.path.realpath(__file__))))
 TOOLS = os.path.join(ROOT, "tools")
 PROGRAM = os.path.join(ROOT, "dvbemu")
 EXAMPLES = os.path.join(ROOT, "examples")
+
+
+def see_built():
+    """Sees that the program is built, and has it built where it isn't, so that no case waits for that. Where it can't be built the check
+    ends here."""
+    if subprocess.run([PROGRAM, "steps"], input=b"stream\n", stdout=subprocess.DEVNULL, check=False).returncode:
+        sys.exit("dvbemu can't be built\n0 passed, 1 failed")
 
 
 def asked_of(report, session):

@@ -106,6 +106,13 @@ def program_for(word):
     return DVBEMU
 
 
+def built_program():
+    """The program, where it is built, proved or in haste; else None."""
+    ran = subprocess.run([DVBEMU, "steps"], env={**os.environ, "DVBEMU_TELL": "built"}, stdin=subprocess.DEVNULL, capture_output=True,
+                         check=False)  # fmt: skip
+    return ran.stdout.decode().strip() or None
+
+
 class Run:
     """The program over what is written to it: what it tells on standard error, on standard output where that is wanted, and its status.
     A signal that ends this ends the program first: it never takes what came till then for the whole."""

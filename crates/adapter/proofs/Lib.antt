@@ -13,3 +13,5 @@ pub mod Tries
 pub mod Growing
 pub mod Everybody
 pub mod Pairs
+pub mod Dealing
+pub mod Standing

@@ -2,3 +2,4 @@
 -- it, so nothing here must be believed.
 pub mod Held
 pub mod Making
+pub mod Placing

@@ -2,9 +2,9 @@
 ghost use Rattle.std.specs.Prelude.{◌≡◌, IfOk};
 
 use machine::Machine;
+use machine::steps::Steps;
 use std::alloc::{AllocError as NoMemory, Global};
 use std::sync::ledger::Ledger;
-use steps::Steps;
 
 // A machine that stands on the heap. A lock takes its machine out of a slot and puts it back at each call: of this one it
 // moves a pointer. It is the machine itself in all else.

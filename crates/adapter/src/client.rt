@@ -10,11 +10,11 @@ ghost use Rattle.adapter.specs.Callers.{IsSameCaller};
 use crate::adapter::Adapter;
 use crate::passes::NodePasses;
 use dmx_calls::{Answer, Call};
+use machine::steps::Steps;
 use node_lock::Held;
 use std::marker::Model;
 use std::sync::Wait;
 use std::sync::ledger::Ledger;
-use steps::Steps;
 
 /// A client, with a pass of each node. One call at a time is made with it.
 ///

@@ -8,10 +8,10 @@ ghost use Rattle.adapter.specs.Callers.{IsSameCaller};
 use crate::adapter::Adapter;
 use crate::passes::NodePasses;
 use dmx_calls::limits::NODES;
+use machine::steps::Steps;
 use std::marker::Model;
 use std::sync::ledger::Ledger;
 use std::sync::{Arc, Wait};
-use steps::Steps;
 use ts_batch::Batch;
 
 /// The feeder, with a pass of each node. Contracts see the record `Caller`, whose number is 0.

@@ -16,12 +16,12 @@ use crate::rows::{call_in, join_row, len_in, try_in};
 use dmx_calls::limits::{DEMUX_NODES, NODES};
 use dmx_calls::{Answer, Call, Input};
 use dvr_core::DvrCore;
+use machine::steps::Steps;
 use node_core::NodeCore;
 use node_lock::{Held, Pass};
 use std::marker::Model;
 use std::sync::ledger::Ledger;
 use std::sync::{Arc, Wait};
-use steps::Steps;
 use ts_batch::Batch;
 
 // A pass of each node. Contracts see a list of passes, that of the dvr node last.

@@ -3,10 +3,10 @@ ghost use Rattle.std.specs.Prelude.{◌≡◌, ℕ, ◌+◌, ◌<◌, ◌≤◌,
 ghost use Rattle.adapter.specs.Rows.{Fits, MayCallAt, OneCalls, OneMisses, OneLooks, AllJoin};
 
 use machine::Machine;
+use machine::steps::Steps;
 use node_lock::{Held, NodeLock, Pass};
 use std::sync::Wait;
 use std::sync::ledger::Ledger;
-use steps::Steps;
 
 // Makes a call on the lock in one place of the row, with the pass in that place. It may wait.
 pub(crate) fn call_in<M: Machine, L: Ledger, R: Wait>(

@@ -11,7 +11,7 @@ use Rattle.std.proofs.Math.Seq.{take-length}
 use Rattle.dmx_calls.specs.Response.{Response}
 use Rattle.ts_packet.specs.Cut.{cut, cut_after}
 use Rattle.ts_packet.specs.Cutting.{bytes_counted}
-use Rattle.stc_clock.specs.Clock.{unset, last_pcr, HasFollowed}
+use Rattle.client_core.specs.Clock.{unset, last_pcr, HasFollowed}
 use Rattle.client_script.specs.Script.{Scripted}
 use Rattle.client_core.specs.declared.deed.Deed.{Deed}
 use Rattle.client_core.specs.declared.deed.Deed.TheVariants.{GetStc}

@@ -18,7 +18,7 @@ use Rattle.client_core.specs.Inside.Tasks.{resumed, reading_in, IsTaskInRange}
 use Rattle.client_script.specs.Script.{Scripted}
 use Rattle.std.specs.Option.{IfSome, IfNone}
 use Rattle.client_core.specs.declared.event.Event.{Event}
-use Rattle.client_core.specs.declared.machine.Current.{Current}
+use Rattle.client_core.specs.declared.current.Current.{Current}
 use Rattle.client_core.specs.declared.task.Task.TheVariants.{Call, ReadWait, Drain, OpenFrom, Attach, Detach, Write, Play}
 use Rattle.client_core.specs.Inside.Core.{ahead, behind, coming_from, coming, Core, IsLate, IsAfter, HasTaken, next_of, waits_with}
 use Rattle.client_core.proofs.Following.{exchanges_more, early_same, told_now}

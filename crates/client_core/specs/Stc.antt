@@ -11,7 +11,7 @@ use Rattle.client_core.specs.declared.event.Event.{Event}
 use Rattle.client_core.specs.declared.event.Request.{Request}
 use Rattle.client_core.specs.declared.event.Request.TheVariants.{Own}
 use Rattle.client_core.specs.Events.{next_event}
-use Rattle.stc_clock.specs.Clock.{clock_of}
+use Rattle.client_core.specs.Clock.{clock_of}
 
 -- ------ the calls of a client with their replies, the newest first
 

@@ -5,7 +5,7 @@ ghost use Rattle.dmx_calls.specs.Calls.{response_of};
 ghost use Rattle.dmx_calls.specs.Response.{Response};
 ghost use Rattle.client_script.specs.Grammar.{IsInRange};
 ghost use Rattle.client_script.specs.Script.{Scripted, writes_of};
-ghost use Rattle.dvr_play.specs.Plays.{HasPlayed};
+ghost use Rattle.client_core.specs.Plays.{HasPlayed};
 ghost use Rattle.std.specs.Option.{option_map};
 ghost use Rattle.client_core.specs.Deeds.{batch_at};
 ghost use Rattle.client_core.specs.declared.event.Event.{Event as EventValue};
@@ -19,13 +19,13 @@ ghost use Rattle.client_core.specs.Inside.Core.{coming, one_if_some, IsCommandIn
 
 use crate::clocks::Clocks;
 use crate::command::{Command, Commands};
+use crate::current::{Current, add, begin, bind, kind_of};
 use crate::deed::{Deed, deed_of};
+use crate::dvr_play::Plays;
 use crate::event::Event;
-use crate::machine::{Current, add, begin, bind, kind_of};
 use crate::task::{Next, Task, after, event_of, reading_of};
 use client_script::{Line, Script};
 use dmx_calls::{LogReply, Outcome, Reply};
-use dvr_play::Plays;
 use std::alloc::{AllocError as NoMemory, Global};
 use std::marker::Model;
 use std::sync::Arc;

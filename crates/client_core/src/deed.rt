@@ -4,8 +4,8 @@ ghost use Rattle.client_script.specs.Script.{HasVerb};
 ghost use Rattle.client_script.specs.Grammar.{IsVerbInRange};
 ghost use Rattle.client_core.specs.Deeds.{deed_of as deed_by, IsDeedInRange, IsDeedOf};
 
+use crate::dvr_play::Plays;
 use client_script::{Verb, Want};
-use dvr_play::Plays;
 
 /// What a command does: its verb, and of a write whether it completes a packet of its client.
 #[derive(Clone, Copy, Drop)]

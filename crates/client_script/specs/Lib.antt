@@ -4,7 +4,6 @@ pub mod Places
 pub mod Requests
 pub mod Script
 pub mod Spelling
-pub mod FaultNames
 pub mod Words
 pub mod Writes
 pub mod Inside

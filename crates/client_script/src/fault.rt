@@ -1,53 +1,43 @@
 // Why a script isn't read.
 ghost use Rattle.std.specs.Prelude.{◌≡◌};
-ghost use Rattle.client_script.specs.FaultNames.{fault_text};
 ghost use Rattle.client_script.specs.declared.fault.ScriptError.TheVariants.{NoMemory as WantOfMemory};
 
 use std::alloc::{AllocError, AllocFailed};
+use thiserror::Error;
 
-/// What a script's first fault is.
-#[derive(Clone, Copy, Debug, PartialEq, Eq, Drop)]
+/// What a script's first fault is. Its text is its name, as the program tells it on standard error.
+#[derive(Clone, Copy, Debug, PartialEq, Eq, Drop, Error)]
 pub enum FaultKind {
     /// The first word is none of `feed`, `tick` and `c0` to `c7`.
+    #[error("client")]
     Client,
     /// The second word is no command.
+    #[error("command")]
     Command,
     /// A word in the place of a target is none, or is another than `dvr` where a client writes.
+    #[error("target")]
     Target,
     /// A word in the place of a number is none, or one out of range.
+    #[error("number")]
     Number,
     /// A word in the place of an input or an output is no name of one.
+    #[error("name")]
     Name,
     /// A word in the place of bytes spells none, or not as many as are asked for; or in the place of a filter's byte it names
     /// a place that isn't above the one before.
+    #[error("bytes")]
     Bytes,
     /// A word is missing, or there is one too many.
+    #[error("count")]
     Count,
     /// No line is `stream`.
+    #[error("nostream")]
     NoStream,
 }
 
-impl FaultKind {
-    /// Its name, as the program tells it on standard error.
-    #[tactic(auto, unfolding(crate::specs::FaultNames::fault_text))]
-    pub fn name(self) -> &'static str
-        ensures { result.now ≡ fault_text self }
-    {
-        match self {
-            FaultKind::Client => "client",
-            FaultKind::Command => "command",
-            FaultKind::Target => "target",
-            FaultKind::Number => "number",
-            FaultKind::Name => "name",
-            FaultKind::Bytes => "bytes",
-            FaultKind::Count => "count",
-            FaultKind::NoStream => "nostream",
-        }
-    }
-}
-
 /// A script's first fault, and the number of its line.
-#[derive(Clone, Copy, Debug, PartialEq, Eq, Drop)]
+#[derive(Clone, Copy, Debug, PartialEq, Eq, Drop, Error)]
+#[error("script line {line}: {kind}")]
 pub struct ScriptFault {
     /// The line, from 1 on; for `NoStream` the line behind the last whole one.
     pub line: u32,
@@ -56,11 +46,13 @@ pub struct ScriptFault {
 }
 
 /// Why a script isn't read.
-#[derive(Clone, Copy, Debug, PartialEq, Eq, Drop)]
+#[derive(Clone, Copy, Debug, PartialEq, Eq, Drop, Error)]
 pub enum ScriptError {
     /// The script has a fault.
+    #[error(transparent)]
     Fault(ScriptFault),
     /// Memory was refused.
+    #[error("out of memory")]
     NoMemory,
 }
 

@@ -24,8 +24,8 @@
 //! `Script::clients` is 1 plus the highest client that a line names, or 0. `print` appends the spelling of a line, a write with
 //! its bytes, and where memory is refused the bytes are as they were. A `ScriptPart` is the bytes that were added to it, and its
 //! `end` tells where the first whole line `stream` ends. `want_of` and `verb_of` are what a request asks, and `request_number`,
-//! `argument_named` and `written_named` what words spell. A want's, a verb's and a fault's `name` is its text in
-//! `specs/Spelling.antt` and `specs/FaultNames.antt`. What the grammar gives for lines and scripts worked out by hand are the
+//! `argument_named` and `written_named` what words spell. A want's and a verb's `name` is its text in
+//! `specs/Spelling.antt`. What the grammar gives for lines and scripts worked out by hand are the
 //! clauses of `examples`, computed by the check.
 //!
 //! Laws about the definitions alone: the lines of a client name its writes in their order, each once
@@ -35,7 +35,7 @@
 //! (`the_script_part_ends_with_its_line_stream`), and where no more bytes are searched
 //! (`without_a_line_stream_all_bytes_are_the_script_part`).
 //!
-//! What is only tested, in `script_tests`: that memory isn't refused where there is enough.
+//! What is only tested, in `tests_text`: that memory isn't refused where there is enough.
 //!
 //! Limits: at most 1,048,576 bytes are read, each a few times; `ScriptPart` looks at each byte once. Memory is taken for the
 //! lines, and for the bytes of writes and of a script part; words are read where they stand. `print` takes memory for its text.

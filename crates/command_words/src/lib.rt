@@ -15,7 +15,7 @@
 //! the proof walks over them by clap's own definitions of what it finds (`matches_of`) and of what it refuses (`fault_of`).
 //! Before clap sees them, the code refuses the word `--`, behind which clap takes no word for an option.
 //!
-//! What is only tested, in `text_tests`: that memory isn't refused where there is enough.
+//! What is only tested, in `tests_text`: that memory isn't refused where there is enough.
 //!
 //! The rules are this project's own.
 #![tactic(auto)]

@@ -15,7 +15,7 @@
 //! these two laws as their contracts, and `written_and_read` that what `encode` writes is read as the request that it was. The
 //! numbers are made as the header makes them, of way, length, letter and place (`examples::numbers`).
 //!
-//! What is only tested, in `request_tests`: that numbers, lengths and places are those of the header, by bytes that a program in
+//! What is only tested, in `tests_low`: that numbers, lengths and places are those of the header, by bytes that a program in
 //! C wrote; `tools/checks/requests` compares the table itself with the header where there is one.
 //!
 //! Limits: no memory is taken. Requests of other devices, those for buffers that are mapped (DMX_REQBUFS and the four behind

@@ -1,4 +1,5 @@
 // The requests, and why a number and bytes are none.
+use thiserror::Error;
 
 /// What a program asks of a demux device. Each variant is a request of linux/dvb/dmx.h, and its fields are those of the request's
 /// structure, as they are: nothing is said of which values the device accepts.
@@ -50,14 +51,16 @@ pub enum Request {
 }
 
 /// Why a number and an argument ask for nothing.
-#[derive(Clone, Copy, Debug, PartialEq, Eq, Drop)]
+#[derive(Clone, Copy, Debug, PartialEq, Eq, Drop, Error)]
 pub enum AbiFault {
     /// No request has the number.
+    #[error("no request has the number {number:#x}")]
     Unknown {
         /// The number.
         number: u32,
     },
     /// A request has the number, and its argument has another length.
+    #[error("the request's argument has {want} bytes, and {found} were found")]
     Length {
         /// How many bytes the request's argument has.
         want: u32,

@@ -6,14 +6,8 @@ pub mod Unaccepted
 pub mod Nodes
 pub mod Edges
 pub mod Reading
-pub mod Fitting
-pub mod Accounting
-pub mod LawsHold
 pub mod Pieces
 pub mod Weaving
-pub mod Bytes
-pub mod Owning
-pub mod Pending
 pub mod Numbered
 pub mod Telling
 pub mod Lasts

@@ -21,6 +21,3 @@ pub mod Histories
 pub mod Back
 pub mod Entries
 pub mod Laws
-pub mod Examples
-pub mod Bytes
-pub mod Owning

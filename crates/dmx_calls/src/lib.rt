@@ -5,7 +5,7 @@
 //! from a start on (`Capture`), what the filter selects (`Items`, `Taps`), the bytes and what didn't fit (`Ledger`), the
 //! refusals, the answer to a call, and the legal and the accounted histories. Ledger, answer, legal and accounted are
 //! written once, over the `Rules` in which a demux node and the dvr node differ. None of them has a ring, an assembler or
-//! a state that is kept.
+//! a state that is kept. Laws of them stand in `node_laws`, worked examples in `node_examples`.
 //!
 //! What a contract sees: `invocation_of` a `Call` and `response_of` a `Reply`; `params_of` and `pids_of` the `Params`; a
 //! `ByteBuf` as its count and its bytes; `Histories` as 33 lists of entries, each whole: on each node the clients' entries
@@ -14,28 +14,17 @@
 //!
 //! What is proved: each call of `ByteBuf` and of `Histories`, and that each `name` is its text in `specs/Names.antt`. What an
 //! entry keeps is its call (`KeptAct`) and the same response (`SharedReply`), whatever that is shared with.
-//! `refusal`, whose body is the table of calls and states, is the refusal that the answer of a history names. The laws of
-//! `laws`: every legal history is accounted, so each byte is given,
-//! named as lost or named as dropped, in its place; an entry that isn't accepted changes nothing; the items of a capture
-//! only grow; an overflow's item needs more than the room that it found; a node answers no more bytes than its passes bring,
-//! and an Overflow at least one; nobody but its owner reads a node, and it stays the owner's whatever others call; a Pass
-//! and an End are answered Passed; a report loses nothing of a call. The worked examples of `examples`, worked out by
-//! hand from the rules, are what the definitions give: every call in every state, reads, overflows, sections, timeouts,
-//! taps and recordings. Both have empty bodies; the check computes or proves their contracts.
-//! The tests stand in `node_tests`.
+//! `refusal`, whose body is the table of calls and states, is the refusal that the answer of a history names.
 //!
 //! Sources: the Linux media API, chapter Digital TV demux, for calls, filters, states and errors; ISO/IEC 13818-1 for
 //! packets and sections; what these leave open is this project's rule, as are the numbers of `limits` but the flags other than
-//! KEEP, the PIDs and the PES types. `ByteBuf::new`, `ByteBuf::fitted`, `KeptAct::of`
-//! and `SharedReply::of` alone take memory.
+//! KEEP, the PIDs and the PES types. `ByteBuf::new`, `ByteBuf::fitted`, `KeptAct::of` and `SharedReply::of` alone take memory.
 #![tactic(auto)]
 
 mod byte_buf;
 mod call;
-pub mod examples;
 mod histories;
 mod kept;
-pub mod laws;
 pub mod limits;
 mod log;
 mod node;

@@ -2,7 +2,7 @@
 ghost use Rattle.std.specs.Prelude.{◌≡◌, ◌<◌, ◌≤◌, length, vec_len};
 
 use emu_io::Gate;
-use serve_frames::numbers::{ARGUMENT_AT, IOCTL, POLL, READ, REQUEST_LEN};
+use seats::serve_frames::numbers::{ARGUMENT_AT, IOCTL, POLL, READ, REQUEST_LEN};
 use std::fs::{File, OpenOptions};
 use std::io;
 use std::os::unix::fs::FileExt;

@@ -6,7 +6,7 @@ ghost use Rattle.emu_io.specs.Causes.{HasCause};
 
 use crate::bells::{Bells, number_at};
 use emu_io::{Failed, Sink, Source};
-use serve_frames::numbers::{CLOSE, LEAVE, OPEN_DEMUX, OPEN_DVR, REQUEST_LEN};
+use seats::serve_frames::numbers::{CLOSE, LEAVE, OPEN_DEMUX, OPEN_DVR, REQUEST_LEN};
 use std::fs::{File, OpenOptions};
 use std::io;
 use std::io::{ErrorKind, Read, Write};

@@ -1,12 +1,15 @@
 -- How many packets of a batch the dvr node looks at, worked out by hand: 64 packets, three of which have PID 256.
-use Rattle.std.specs.Prelude.{ℕ, ◌≡◌, List, [], ◌∷◌, ◌++◌, Option, None, replicate}
+use Rattle.std.specs.Prelude.{ℕ, ◌+◌, ◌/◌, ◌%◌, ◌≡◌, List, [], ◌∷◌, ◌++◌, Option, None, replicate}
 use Rattle.dmx_calls.specs.declared.params.Input.TheVariants.{Frontend}
 use Rattle.dmx_calls.specs.declared.limits.TheConstants.{DEMUX_NODES}
 use Rattle.dmx_calls.specs.Invocation.{Pass, Read}
 use Rattle.dmx_calls.specs.Taps.{Tap}
-use Rattle.dmx_calls.specs.Examples.Words.{packet}
 use Rattle.dvr_core.specs.Tapped.{attached}
 use Rattle.dvr_core.specs.Looks.{named_packets}
+
+-- a packet with 184 equal payload bytes
+abbrev pub packet : (pid counter byte : ℕ) → List ℕ
+packet pid counter byte = 0x47 ∷ (pid / 256) ∷ (pid % 256) ∷ (0x10 + counter) ∷ replicate 184 byte
 
 -- PID 256 in the places 0, 31 and 63, and PID 17 in all others
 abbrev pub three_of_64 : List (List ℕ)

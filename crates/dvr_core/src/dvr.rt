@@ -21,11 +21,11 @@ use crate::kept::Kept;
 use crate::taps::Taps;
 use dmx_calls::{Answer, Call, Input, Reply, Told};
 use machine::Machine;
+use machine::steps::Steps;
 use node_buffer::plain;
 use std::alloc::Global;
 use std::marker::Model;
 use std::sync::ledger::Ledger;
-use steps::Steps;
 use ts_batch::Batch;
 
 /// The dvr node. Fewer than 2^50 calls may be made on it.

@@ -22,11 +22,11 @@ use crate::record::record_all;
 use crate::taps::Taps;
 use crate::tenure::Tenure;
 use dmx_calls::{Answer, Call, Errno, Input, Reply, Tap};
+use machine::steps::Steps;
 use node_buffer::{NOTHING, done, opened, refused};
 use pid_set::Pids;
 use std::alloc::Global;
 use std::sync::ledger::Ledger;
-use steps::Steps;
 use ts_batch::Batch;
 
 /// What the node keeps from call to call.

@@ -15,7 +15,7 @@
 //! Passed. A Pass takes at most a step for each packet that a tap names (`named_packets`), and none while the node is free; no
 //! other call takes one.
 //!
-//! What is only tested, in `node_tests`: that the rules are those meant, on replies worked by hand. What isn't proved: time.
+//! What is only tested, by the sessions of `examples/`: that the rules are those meant, on replies worked by hand. What isn't proved: time.
 //! A Pass asks the batch for the places of each PID of each of the 32 taps.
 //!
 //! Limits: fewer than 2^50 calls come before a call. Only Open and SetSize to another size take memory.

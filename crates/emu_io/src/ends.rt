@@ -4,13 +4,16 @@ ghost use Rattle.std.specs.Prelude.{◌≡◌, IfOk};
 use crate::{StdClock, StdSink, StdSource};
 use std::env;
 use std::io::ErrorKind;
+use thiserror::Error;
 
 /// Why the words of a command line can't be had.
-#[derive(Clone, Copy, Debug, PartialEq, Eq)]
+#[derive(Clone, Copy, Debug, PartialEq, Eq, Drop, Error)]
 pub enum NoWords {
     /// Memory was refused.
+    #[error("out of memory")]
     NoMemory,
     /// A word is no text.
+    #[error("a word is no text")]
     NoText,
 }
 

@@ -14,8 +14,8 @@ use Rattle.client_script.specs.Script.{split, grammar, Scripted}
 use Rattle.feed_pull.specs.Pulling.{Pulling}
 use Rattle.feed_pull.specs.Streams.{OfStream}
 use Rattle.feed_pull.proofs.CutPackets.{are_packets}
-use Rattle.report_runs.specs.Right.{IsRightReport}
-use Rattle.report_runs.proofs.Right.{right_are_of_runs}
+use Rattle.report_check.specs.Right.{IsRightReport}
+use Rattle.report_check.proofs.Right.{right_are_of_runs}
 use Rattle.report_check.specs.declared.fault.Fault.{Fault}
 use Rattle.emu_top.specs.Session.{IsSession, Holds, Takes, Refuses, ReadsTo}
 use Rattle.emu_top.specs.Checking.{Asks, IsAnswer, Judges, Declines, SettlesAnswer, asked, answer_text, script_asked}

@@ -10,7 +10,7 @@ use Rattle.script_run.specs.IsRun.{IsRun}
 use Rattle.serial_core.specs.SerialRun.{Run, replies_of}
 use Rattle.serial_core.specs.Runs.{IsAccountedRun}
 use Rattle.serial_core.specs.Left.{histories_in, outcomes_in}
-use Rattle.report_runs.specs.Right.{IsRunOf}
+use Rattle.report_check.specs.Right.{IsRunOf}
 use Rattle.emu_top.specs.Laws.{SerialOutputsAreOfRuns, ThreadOutputsAreOfRuns}
 
 -- a run in smaller batches

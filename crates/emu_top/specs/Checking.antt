@@ -12,7 +12,7 @@ use Rattle.client_script.specs.declared.fault.FaultKind.{FaultKind}
 use Rattle.client_script.specs.declared.fault.FaultKind.TheVariants.{Number, NoStream}
 use Rattle.client_script.specs.declared.fault.ScriptFault.{ScriptFault}
 use Rattle.client_script.specs.Script.{split, grammar, whole_lines, Parsed, Scripted}
-use Rattle.report_runs.specs.Right.{IsReportOfRun}
+use Rattle.report_check.specs.Right.{IsReportOfRun}
 use Rattle.emu_top.specs.Session.{IsSession, ReadsTo}
 use Rattle.emu_top.specs.declared.status.Status.{Status}
 use Rattle.emu_top.specs.declared.status.Status.TheVariants.{Script, TooLong, ReadFault, NoMemory, Ok as Done, Wrong}

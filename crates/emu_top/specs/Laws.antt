@@ -6,8 +6,8 @@ use Rattle.ts_watch.specs.Head.{head_of}
 use Rattle.client_script.specs.Script.{Scripted}
 use Rattle.serial_core.specs.Left.{histories_in, outcomes_in}
 use Rattle.report_read.specs.Ranges.{IsInRange}
-use Rattle.report_runs.specs.Completed.{told_by}
-use Rattle.report_runs.specs.Right.{IsReportOfRun}
+use Rattle.report_check.specs.Completed.{told_by}
+use Rattle.report_check.specs.Right.{IsReportOfRun}
 use Rattle.emu_top.specs.Session.{IsSerialOutput, IsThreadOutput}
 
 -- What is written for a session on one thread, all of which was read, is the report of a run of it, where the numbers that it

@@ -7,16 +7,19 @@ ghost use Rattle.emu_top.specs.Inside.Part.{HasReadCause, IsUnended};
 use client_script::{MOST_BYTES, ScriptPart};
 use emu_io::Source;
 use std::alloc::Global;
+use thiserror::Error;
 
 // The most bytes of one read.
 const READ: usize = 65536;
 
 /// Why a script part isn't read.
-#[derive(Debug, Drop)]
+#[derive(Debug, Drop, Error)]
 pub enum PartError {
-    // A read failed.
+    /// A read failed.
+    #[error("read failed")]
     Failed,
-    // Memory was refused.
+    /// Memory was refused.
+    #[error("out of memory")]
     NoMemory,
 }
 

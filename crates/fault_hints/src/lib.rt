@@ -11,8 +11,8 @@
 //! What is proved: a `Keeping` reads what the source inside reads, and fails where that one fails. All else is proved to be safe
 //! and to end, and no more: the second line is for a reader, and no other line hangs on it.
 //!
-//! What is only tested, in `script_tests`: the text for each kind of fault, that for each line with a fault the word that is
-//! found is one of the fault's kind, and that a `Keeping` keeps what was read.
+//! What is only tested: the text for each kind of fault, by sessions of `examples/`; in `tests_text`, that for each line with a fault
+//! the word that is found is one of the fault's kind, and that a `Keeping` keeps what was read.
 //!
 //! Limits: 1,048,576 bytes are kept at most, and none that are read behind the line `stream`. Where memory for them is
 //! refused, nothing is kept from then on, and the source reads as before. A line is looked at up to its 23rd word, and of a

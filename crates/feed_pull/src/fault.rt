@@ -1,11 +1,14 @@
 // How reading goes, and the faults that stop it.
+use thiserror::Error;
 
 /// Why a puller stopped reading before the end of its source.
-#[derive(Clone, Copy, Debug, PartialEq, Eq)]
+#[derive(Clone, Copy, Debug, PartialEq, Eq, Drop, Error)]
 pub enum PullFault {
     /// A read failed.
+    #[error("read failed")]
     ReadFault,
     /// So many reads were made, and no more are made.
+    #[error("too long: {turns} reads were made")]
     TooLong { turns: u64 },
 }
 

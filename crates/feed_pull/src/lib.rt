@@ -24,7 +24,7 @@
 //! for stand at most 65,535 of the bytes taken. This holds but for one case: a pull that was refused memory had asked for
 //! more packets, and so had read further.
 //!
-//! What is only tested, in `stream_tests`: that memory isn't refused where there is enough of it.
+//! What is only tested, in `tests_low`: that memory isn't refused where there is enough of it.
 //!
 //! Limits: a batch has 1 to 64 packets, 65,536 bytes may stand ahead, and 4,294,967,296 reads are made in all, those before
 //! the puller among them.

@@ -15,7 +15,7 @@
 //! are any, one has to differ (`specs/Meaning.antt`).
 //!
 //! What is only tested: that this is what a user of the API expects, by filters worked out by hand. The tests stand in
-//! `section_tests`.
+//! `tests_low`.
 //!
 //! Limits: no memory is taken. A section of at least 18 bytes is held against a filter in one step, sixteen bytes at a
 //! time; a shorter one in sixteen steps.

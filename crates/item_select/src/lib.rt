@@ -13,7 +13,7 @@
 //! - Laws: packets in a row, each item taken before the next packet, give all their items; a one-shot filter that has given
 //!   its section has no further item, whatever packets follow.
 //!
-//! What is only tested: that ample memory is enough. The tests stand in `section_tests`.
+//! What is only tested: that ample memory is enough. The tests stand in `tests_low`.
 //!
 //! Limits: only `new` takes memory. A filter of packets takes packets as they are, with errors, scrambled or sent twice,
 //! and each that it is offered: who uses it offers those that its PIDs name. That a packet gives one item at most is this

@@ -2,9 +2,9 @@
 ghost use Rattle.std.specs.Prelude.{◌≡◌, ℕ, ◌+◌, ◌*◌, ◌<◌, ◌≤◌, ◌^◌};
 
 use crate::Machine;
+use crate::steps::Steps;
 use std::marker::Model;
 use std::sync::ledger::Ledger;
-use steps::Steps;
 
 /// The entry of an addition.
 pub struct Added {

@@ -5,3 +5,4 @@ pub mod BufferValue
 pub mod Capturing
 pub mod Coherent
 pub mod Gives
+pub mod RingHolds

@@ -11,9 +11,9 @@ ghost use Rattle.node_buffer.specs.Inside.Coherent.{CoherentIn, total_of};
 ghost use Rattle.node_buffer.specs.Inside.BufferView.{misfit_of, ledger_of, pending_by, told_by};
 
 use crate::filter::{Terms, terms_of};
+use crate::node_ring::Ring;
 use byteorder::{BigEndian, ByteOrder};
 use dmx_calls::{ByteBuf, Params, PollError, Reply, Span, State};
-use node_ring::Ring;
 use std::alloc::{AllocError as NoMemory, Global};
 use std::marker::Model;
 

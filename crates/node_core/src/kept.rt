@@ -22,10 +22,10 @@ use crate::filter::takes_from;
 use crate::offer::offer_all;
 use crate::tenure::Tenure;
 use dmx_calls::{Answer, Call, Errno, Input, Reply, State};
+use machine::steps::Steps;
 use node_buffer::{opened, refused};
 use std::alloc::Global;
 use std::sync::ledger::Ledger;
-use steps::Steps;
 use ts_batch::Batch;
 
 /// What a node keeps from call to call.

@@ -12,7 +12,7 @@
 //! as the call Pass of the caller 0, with the answer Passed. A Pass takes at most a step for each packet that the filter's PIDs
 //! name, and none where the filter doesn't run; no other call takes one. `number` and `entries` are the node's.
 //!
-//! What is only tested, in `node_tests`: that the rules are those meant, on replies worked by hand. What isn't proved: time.
+//! What is only tested, by the sessions of `examples/`: that the rules are those meant, on replies worked by hand. What isn't proved: time.
 //! An item is copied once into the ring and once out of it, and a section once more where it is selected.
 //!
 //! Limits: fewer than 2^50 calls come before a call. The room that Pass and Read need was taken by the last Open or SetSize.

@@ -22,11 +22,11 @@ ghost use Rattle.node_core.specs.Stands.{StandsFor};
 use crate::kept::Kept;
 use dmx_calls::{Answer, Call, Input, Reply, State, Told};
 use machine::Machine;
+use machine::steps::Steps;
 use node_buffer::plain;
 use std::alloc::Global;
 use std::marker::Model;
 use std::sync::ledger::Ledger;
-use steps::Steps;
 use ts_batch::Batch;
 
 /// A demux node. Fewer than 2^50 calls may be made on it.

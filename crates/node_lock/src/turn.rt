@@ -11,12 +11,12 @@ use crate::lock::{MACHINE, NodeLock, SERVED, TICKETS};
 use crate::view::View;
 use atomic_table::Seat;
 use machine::Machine;
+use machine::steps::Steps;
 use std::marker::Brand;
 use std::snapshot::Snapshot;
 use std::sync::Wait;
 use std::sync::ledger::Ledger;
 use std::thread;
-use steps::Steps;
 
 impl<M: Machine> NodeLock<M> {
     // Draws a ticket.

@@ -14,7 +14,7 @@
 //! `adding_and_removing` has as its contract the law that these are sets: adding a PID to an ascending list leaves it
 //! ascending, with that PID as its one new member, and removing one leaves all others (`specs/Sets.antt`).
 //!
-//! What is only tested, in `stream_tests`: the text of `PidsFull`, and runs of many calls against lists worked out by hand.
+//! What is only tested, in `tests_low`: the text of `PidsFull`, and that ample memory is enough.
 //!
 //! Limits: only `KeptPids::of` takes memory; the members of a set stand in an `ArrayVec`, so it isn't `Copy`. A PID is found by
 //! halving, and adding or removing moves the members above it.

@@ -8,8 +8,8 @@ use Rattle.std.specs.List.{All, range_with_len}
 use Rattle.std.proofs.lemmas.List.{length-drop}
 use Rattle.std.proofs.lemmas.List.FromFn.{get_or-map-range_with_len}
 use Rattle.ts_batch.specs.Batch.{Packets}
-use Rattle.dvr_play.specs.Laws.{IsPlayed as IsPlayedBatch, StandsAmong}
-use Rattle.dvr_play.proofs.Joining.{are_few, are_placed}
+use Rattle.client_core.specs.PlayLaws.{IsPlayed as IsPlayedBatch, StandsAmong}
+use Rattle.client_core.proofs.Joining.{are_few, are_placed}
 use Rattle.dmx_calls.specs.declared.limits.TheConstants.{LARGEST_READ}
 use Rattle.dmx_calls.specs.Log.{LogEntry, act_of}
 use Rattle.client_script.specs.declared.line.Want.{Want}

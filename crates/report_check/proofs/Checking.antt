@@ -16,9 +16,9 @@ use Rattle.report_text.specs.Told.{ToldNode, Told, text_of}
 use Rattle.report_read.specs.Ranges.{IsInRange, IsNodeInRange}
 use Rattle.report_read.specs.Report.{IsNoReport, IsReport}
 use Rattle.report_read.proofs.WholeAgain.{one_thing}
-use Rattle.report_runs.specs.Completed.{completed}
-use Rattle.report_runs.specs.Right.{IsRunOf, IsRightReport}
-use Rattle.history_check.specs.Playing.{IsCallable, brought_from}
+use Rattle.report_check.specs.Completed.{completed}
+use Rattle.report_check.specs.Right.{IsRunOf, IsRightReport}
+use Rattle.report_check.specs.Playing.{IsCallable, brought_from}
 use Rattle.report_check.specs.Inside.Parts.{count_for, is_callable, is_sound, are_sound, IsSoundNode, AreSoundNodes, HasPassed}
 use Rattle.report_check.proofs.Lists.{both}
 use Rattle.report_check.proofs.Few.{few_entries}

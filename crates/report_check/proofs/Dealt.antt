@@ -12,9 +12,9 @@ use Rattle.client_script.specs.Script.{Scripted}
 use Rattle.client_core.specs.Outcomes.{outcomes}
 use Rattle.client_core.specs.Inside.Core.{Core}
 use Rattle.script_run.specs.IsRun.{replies}
-use Rattle.report_runs.specs.Completed.{complete}
-use Rattle.walk_check.specs.Walk.{CanRest, HasWalked, queues_in}
-use Rattle.walk_check.proofs.OneWalk.{one_walk}
+use Rattle.report_check.specs.Completed.{complete}
+use Rattle.report_check.specs.Walk.{CanRest, HasWalked, queues_in}
+use Rattle.report_check.proofs.OneWalk.{one_walk}
 use Rattle.report_check.specs.Inside.Parts.{told_nodes, IsDoneAs}
 
 -- a node as the code has it

@@ -18,13 +18,13 @@ use Rattle.script_run.specs.IsRun.{feeding, steps_of, HasDone, replies, sources}
 use Rattle.report_text.specs.Told.{ToldNode, Told}
 use Rattle.report_read.specs.Ranges.{IsNodeInRange, IsEntryOf}
 use Rattle.report_read.specs.Report.{are_nodes}
-use Rattle.report_runs.specs.Completed.{renumbered, tiled, feeder_of, completed}
-use Rattle.report_runs.specs.Right.{IsRunOf}
-use Rattle.report_runs.proofs.Empty.{legal_on, told_there, steps_there}
-use Rattle.report_runs.proofs.Right.{zero_fed}
-use Rattle.walk_check.specs.Laws.{AreInPlace}
-use Rattle.walk_check.specs.Walk.{IsRest, queues_in}
-use Rattle.walk_check.proofs.Doing.{walked_is_done}
+use Rattle.report_check.specs.Completed.{renumbered, tiled, feeder_of, completed}
+use Rattle.report_check.specs.Right.{IsRunOf}
+use Rattle.report_check.proofs.Empty.{legal_on, told_there, steps_there}
+use Rattle.report_check.proofs.Right.{zero_fed}
+use Rattle.report_check.specs.WalkLaws.{AreInPlace}
+use Rattle.report_check.specs.Walk.{IsRest, queues_in}
+use Rattle.report_check.proofs.Doing.{walked_is_done}
 use Rattle.report_check.specs.Inside.Feeding.{step_of}
 use Rattle.report_check.specs.Inside.Parts.{all_played, is_callable, is_sound, are_sound, IsSoundNode, AreSoundNodes, IsPlayed, dealt, IsDoneAs, HasPassed}
 use Rattle.report_check.proofs.Lists.{both, all_at}
@@ -33,7 +33,7 @@ use Rattle.report_check.proofs.Nodes.{TellsOrNot, complete_at, complete_long, ea
 use Rattle.report_check.proofs.Fed.{IsFeeder, node_feeder, tiled_feeder}
 use Rattle.report_check.proofs.Passed.{done_at}
 use Rattle.report_check.proofs.Players.{same_filled, same_sources}
-use Rattle.history_check.specs.Playing.{brought_from}
+use Rattle.report_check.specs.Playing.{brought_from}
 
 -- ------ entries
 

@@ -4,10 +4,10 @@ use Rattle.dmx_calls.specs.Legal.{IsLegalFor}
 use Rattle.dmx_calls.specs.Log.{LogEntry, Sources, filled}
 use Rattle.dmx_calls.specs.Rules.{rules_at}
 use Rattle.script_run.specs.IsRun.{steps_of}
-use Rattle.report_runs.specs.Completed.{of_feeder, tiled}
-use Rattle.report_runs.proofs.Completing.{ArePassed}
-use Rattle.report_runs.proofs.Idle.{AllFeed, feeding_feeds, passed_from, passed_at}
-use Rattle.report_runs.proofs.Empty.{ArePlain, plain, tiles, tiled_feeds, sizes, sums}
+use Rattle.report_check.specs.Completed.{of_feeder, tiled}
+use Rattle.report_check.proofs.Completing.{ArePassed}
+use Rattle.report_check.proofs.Idle.{AllFeed, feeding_feeds, passed_from, passed_at}
+use Rattle.report_check.proofs.Empty.{ArePlain, plain, tiles, tiled_feeds, sizes, sums}
 use Rattle.report_check.specs.Inside.Feeding.{step_of}
 use Rattle.report_check.proofs.Feeding.{IsFeedingFrom, size_of}
 

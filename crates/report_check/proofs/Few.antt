@@ -11,8 +11,8 @@ use Rattle.report_text.specs.Replies.{response_text}
 use Rattle.report_text.specs.Entries.{entry_text, caller_text}
 use Rattle.report_text.specs.Report.{tally_text, row_text, clients_text, end_text}
 use Rattle.report_text.specs.Told.{ToldNode, Told, told_node_text, text_of}
-use Rattle.report_runs.specs.Completed.{complete}
-use Rattle.walk_check.specs.Inside.Steps.{left_on}
+use Rattle.report_check.specs.Completed.{complete}
+use Rattle.report_check.specs.Inside.Steps.{left_on}
 use Rattle.report_check.specs.Inside.Parts.{dealt}
 
 entry_long : (e : LogEntry) → 1 ≤ length (entry_text e)

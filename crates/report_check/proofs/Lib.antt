@@ -12,3 +12,15 @@ pub mod Checking
 pub mod Playing
 pub mod Players
 pub mod Dealt
+pub mod ToldPlayed
+pub mod Sources
+pub mod Asked
+pub mod Doing
+pub mod OneWalk
+pub mod Queues
+pub mod Walking
+pub mod Completing
+pub mod Empty
+pub mod Idle
+pub mod Right
+pub mod Shown

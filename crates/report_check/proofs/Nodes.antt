@@ -6,10 +6,10 @@ use Rattle.std.specs.Prelude.{Some, slice_get, nat_le, ◌&&◌}
 use Rattle.dmx_calls.specs.Log.{LogEntry}
 use Rattle.report_text.specs.Told.{ToldNode}
 use Rattle.report_read.specs.Report.{are_placed, are_nodes, is_whole_node}
-use Rattle.report_runs.specs.Completed.{renumbered, complete}
-use Rattle.report_runs.proofs.Idle.{AllZero}
-use Rattle.report_runs.proofs.Right.{AreBelow}
-use Rattle.walk_check.specs.Walk.{of_client, queues_in}
+use Rattle.report_check.specs.Completed.{renumbered, complete}
+use Rattle.report_check.proofs.Idle.{AllZero}
+use Rattle.report_check.proofs.Right.{AreBelow}
+use Rattle.report_check.specs.Walk.{of_client, queues_in}
 use Rattle.report_check.proofs.Lists.{both}
 
 -- ------ nodes in their order

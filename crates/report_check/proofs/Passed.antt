@@ -16,17 +16,17 @@ use Rattle.script_run.specs.IsRun.{Step, feeding, steps_of, replies, sources}
 use Rattle.report_text.specs.Told.{ToldNode, Told}
 use Rattle.report_read.specs.Ranges.{IsNodeInRange}
 use Rattle.report_read.specs.Report.{are_nodes}
-use Rattle.report_runs.specs.Completed.{feeder_of, completed}
-use Rattle.report_runs.specs.Right.{IsRunOf}
-use Rattle.report_runs.proofs.Right.{all_below, zero_fed}
-use Rattle.walk_check.specs.Walk.{IsRest, queues_in}
-use Rattle.walk_check.proofs.Doing.{done_is_walked}
+use Rattle.report_check.specs.Completed.{feeder_of, completed}
+use Rattle.report_check.specs.Right.{IsRunOf}
+use Rattle.report_check.proofs.Right.{all_below, zero_fed}
+use Rattle.report_check.specs.Walk.{IsRest, queues_in}
+use Rattle.report_check.proofs.Doing.{done_is_walked}
 use Rattle.report_check.specs.Inside.Feeding.{feeds}
 use Rattle.report_check.specs.Inside.Parts.{all_played, IsSoundNode, AreSoundNodes, IsPlayed, dealt, IsDoneAs, AreDoneAs, HasPassed}
 use Rattle.report_check.proofs.Lists.{at_all}
 use Rattle.report_check.proofs.Feeding.{is_feeds}
 use Rattle.report_check.proofs.Nodes.{told_at, same_queues}
-use Rattle.history_check.specs.Playing.{brought_from}
+use Rattle.report_check.specs.Playing.{brought_from}
 use Rattle.report_check.proofs.Callable.{sound}
 use Rattle.report_check.proofs.Players.{same_filled, same_sources}
 

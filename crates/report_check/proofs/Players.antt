@@ -12,9 +12,9 @@ use Rattle.ts_packet.specs.Fields.{IsPacket}
 use Rattle.ts_packet.specs.Cut.{cut}
 use Rattle.ts_packet.specs.declared.size.PacketSize.TheVariants.{Of188}
 use Rattle.ts_batch.specs.Batch.{Packets}
-use Rattle.dvr_play.specs.Laws.{packets_in}
-use Rattle.dvr_play.specs.Plays.{Playing, batch_of, cut_of, joined, with_write}
-use Rattle.dvr_play.proofs.Joining.{are_joined, are_packets, few_in}
+use Rattle.client_core.specs.PlayLaws.{packets_in}
+use Rattle.client_core.specs.Plays.{Playing, batch_of, cut_of, joined, with_write}
+use Rattle.client_core.proofs.Joining.{are_joined, are_packets, few_in}
 use Rattle.dmx_calls.specs.declared.params.Input.{Input}
 use Rattle.dmx_calls.specs.declared.params.Input.TheVariants.{Frontend, Dvr as FromDvr}
 use Rattle.dmx_calls.specs.declared.log.Act.{Act}
@@ -26,7 +26,7 @@ use Rattle.client_script.specs.Script.{Scripted, IsScript, AreWritten, writes_of
 use Rattle.client_script.specs.Writes.{IsWritten}
 use Rattle.client_core.specs.Commands.{played}
 use Rattle.script_run.specs.IsRun.{sources}
-use Rattle.history_check.specs.Playing.{AreFewPackets, brought_from}
+use Rattle.report_check.specs.Playing.{AreFewPackets, brought_from}
 use Rattle.report_check.specs.Inside.Parts.{all_played}
 
 -- ------ how many there are

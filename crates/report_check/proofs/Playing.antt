@@ -4,7 +4,7 @@ use Rattle.dmx_calls.specs.declared.limits.TheConstants.{DEMUX_NODES}
 use Rattle.dmx_calls.specs.Legal.{IsLegalFor}
 use Rattle.dmx_calls.specs.Rules.{Rules, rules_at}
 use Rattle.dmx_calls.proofs.Numbered.{demux_rules, dvr_rules}
-use Rattle.history_check.specs.Playing.{PlaysBy}
+use Rattle.report_check.specs.Playing.{PlaysBy}
 use Rattle.node_core.specs.Stands.{CoreValue as DemuxValue, StandsFor as DemuxStands}
 use Rattle.dvr_core.specs.Stands.{CoreValue as DvrValue, StandsFor as DvrStands}
 

@@ -2,3 +2,4 @@
 -- believed.
 pub mod Feeding
 pub mod Parts
+pub mod Steps

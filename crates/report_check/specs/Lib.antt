@@ -1,2 +1,7 @@
-pub mod FaultNames
+pub mod Playing
+pub mod WalkLaws
+pub mod Walk
+pub mod Completed
+pub mod RunLaws
+pub mod Right
 pub mod Inside

@@ -2,18 +2,18 @@
 ghost use Rattle.std.specs.Prelude.{◌≡◌, ◌+◌, ◌≢◌, ◌<◌, ◌^◌, ◌∷◌, [], ℕ, length, map, true, false, IfOk, MatchOption};
 ghost use Rattle.dmx_calls.specs.declared.limits.TheConstants.{DEMUX_NODES as nodes_of_demux};
 ghost use Rattle.dmx_calls.specs.Calls.{told_entry};
-ghost use Rattle.report_runs.specs.Completed.{complete};
-ghost use Rattle.walk_check.specs.Inside.Steps.{left_on};
+ghost use Rattle.report_check.specs.Completed.{complete};
+ghost use Rattle.report_check.specs.Inside.Steps.{left_on};
 ghost use Rattle.report_check.specs.Inside.Parts.{told_nodes, dealt as dealt_to, IsDoneAs, AreDoneAs};
 
 use crate::fault::{FaultKind, Odd};
 use crate::stop::odd_call;
+use crate::walk_check::is_walked;
 use client_core::ClientCore;
 use client_script::Script;
 use dmx_calls::limits::DEMUX_NODES;
 use dmx_calls::{Entry, Outcome};
 use std::alloc::{AllocError as NoMemory, Global};
-use walk_check::is_walked;
 
 // The entries of this node, and the nodes behind it; no entries where the first node isn't this one.
 fn entries_of(nodes: &[(u32, Vec<Entry>)], node: u32) -> (&[Entry], &[(u32, Vec<Entry>)])

@@ -1,64 +1,55 @@
 // What is wrong with a report.
-ghost use Rattle.std.specs.Prelude.{◌≡◌};
-ghost use Rattle.report_check.specs.FaultNames.{fault_text};
+use thiserror::Error;
 
-/// What is wrong in a line of a report.
-#[derive(Clone, Copy, Debug, PartialEq, Eq, Drop)]
+/// What is wrong in a line of a report. Its text is its name, as the program tells it on standard error.
+#[derive(Clone, Copy, Debug, PartialEq, Eq, Drop, Error)]
 pub enum FaultKind {
     /// The bytes are no report.
+    #[error("text")]
     Text,
     /// The head is another than the stream's.
+    #[error("head")]
     Head,
     /// An entry can't stand there: its caller is no client of the script, or its call can't be made.
+    #[error("place")]
     Place,
     /// The feeder doesn't pass the stream's packets, or not as on the first node.
+    #[error("feeder")]
     Feeder,
     /// A reply isn't the one that the entries before it give.
+    #[error("reply")]
     Reply,
     /// A call isn't the one that its client's commands ask for.
+    #[error("call")]
     Call,
     /// An entry is left that nobody asked for.
+    #[error("left")]
     Left,
     /// What became of the commands is another, or the clients are more or fewer.
+    #[error("outcome")]
     Outcome,
 }
 
-impl FaultKind {
-    /// Its name, as the program tells it on standard error.
-    #[tactic(auto, unfolding(crate::specs::FaultNames::fault_text))]
-    pub fn name(self) -> &'static str
-        ensures { result.now ≡ fault_text self }
-    {
-        match self {
-            FaultKind::Text => "text",
-            FaultKind::Head => "head",
-            FaultKind::Place => "place",
-            FaultKind::Feeder => "feeder",
-            FaultKind::Reply => "reply",
-            FaultKind::Call => "call",
-            FaultKind::Left => "left",
-            FaultKind::Outcome => "outcome",
-        }
-    }
-}
-
 /// What is wrong with a report. The line is counted from 1, and is 0 where no line is known.
-#[derive(Clone, Copy, Debug, PartialEq, Eq, Drop)]
+#[derive(Clone, Copy, Debug, PartialEq, Eq, Drop, Error)]
+#[error("report line {line}: {kind}")]
 pub struct Fault {
     pub line: u64,
     pub kind: FaultKind,
 }
 
 /// Where a node or a client isn't as it should be.
-#[derive(Clone, Copy, Debug, PartialEq, Eq, Drop)]
+#[derive(Clone, Copy, Debug, PartialEq, Eq, Drop, Error)]
 pub enum Odd {
     /// At this place of a node of this number.
+    #[error("node {node}, place {place}: {kind}")]
     Entry {
         node: u32,
         place: u64,
         kind: FaultKind,
     },
     /// In what is told of a client of this number.
+    #[error("client {client}: {kind}")]
     Client {
         client: u32,
         kind: FaultKind,

@@ -2,19 +2,19 @@
 ghost use Rattle.std.specs.Prelude.{◌≡◌, ◌<◌, ◌≤◌, ◌^◌, ℕ, length, map, true, IfOk, MatchOption, All};
 ghost use Rattle.dmx_calls.specs.declared.limits.TheConstants.{DEMUX_NODES as nodes_of_demux};
 ghost use Rattle.dmx_calls.specs.Calls.{told_entry};
-ghost use Rattle.history_check.specs.Playing.{AreFewPackets, brought_from};
+ghost use Rattle.report_check.specs.Playing.{AreFewPackets, brought_from};
 ghost use Rattle.report_check.specs.Inside.Parts.{told_nodes, are_sound, IsPlayed};
 
 use crate::fault::{FaultKind, Odd};
+use crate::history_check::is_played;
 use dmx_calls::Entry;
 use dmx_calls::limits::DEMUX_NODES;
 use dvr_core::DvrCore;
-use history_check::is_played;
+use machine::steps::Steps;
 use node_core::NodeCore;
 use std::alloc::{AllocError as NoMemory, Global};
 use std::marker::Brand;
 use std::sync::ledger::{Blank, Ledger};
-use steps::Steps;
 use ts_packet::Packet;
 
 // The place of the first reply of a demux node that isn't the one that the entries before it give.

@@ -1,18 +1,18 @@
 // The packets that the clients of a script play.
 ghost use Rattle.std.specs.Prelude.{◌≡◌, ◌<◌, ◌∷◌, ◌++◌, [], map, IfOk, OnOk, All};
 ghost use Rattle.std.specs.Option.{option_map};
-ghost use Rattle.dvr_play.specs.Laws.{packets_in};
+ghost use Rattle.client_core.specs.PlayLaws.{packets_in};
 ghost use Rattle.client_core.specs.Commands.{played};
-ghost use Rattle.history_check.specs.Playing.{AreFewPackets};
+ghost use Rattle.report_check.specs.Playing.{AreFewPackets};
 ghost use Rattle.report_check.specs.Inside.Parts.{all_played as played_by_all};
 
+use client_core::dvr_play::Plays;
 use client_script::Script;
-use dvr_play::Plays;
+use machine::steps::Steps;
 use std::alloc::{AllocError as NoMemory, Global};
 use std::marker::Brand;
 use std::sync::Arc;
 use std::sync::ledger::{Blank, Ledger};
-use steps::Steps;
 use ts_batch::Batch;
 use ts_packet::Packet;
 

@@ -5,8 +5,8 @@ ghost use Rattle.ts_watch.specs.Head.{told_head};
 ghost use Rattle.report_text.specs.Told.{text_of};
 ghost use Rattle.report_read.specs.Ranges.{IsInRange};
 ghost use Rattle.report_read.specs.Report.{IsInOrder, told_of};
-ghost use Rattle.report_runs.specs.Completed.{completed};
-ghost use Rattle.report_runs.specs.Right.{IsRunOf, IsRightReport};
+ghost use Rattle.report_check.specs.Completed.{completed};
+ghost use Rattle.report_check.specs.Right.{IsRunOf, IsRightReport};
 ghost use Rattle.report_check.specs.Inside.Parts.{HasPassed};
 
 use crate::client::odd_client;

@@ -15,12 +15,9 @@ fn read_section(bytes: &mut Bytes<'_>) -> Option<Act>
     ensures range { IfSome result IsActInRange }
 {
     let pid = bytes.number16()?;
-    bytes.past(b" timeout=")?;
-    let timeout = bytes.number32()?;
-    bytes.past(b" flags=")?;
-    let flags = bytes.number32()?;
-    bytes.past(b" at=")?;
-    let now = bytes.number64()?;
+    let timeout = bytes.named32(b" timeout=")?;
+    let flags = bytes.named32(b" flags=")?;
+    let now = bytes.named64(b" at=")?;
     let filter = read_filter(bytes)?;
     Some(Act::SetFilter {
         params: SectionParams {
@@ -43,12 +40,9 @@ fn read_pes(bytes: &mut Bytes<'_>) -> Option<Act>
     let input = read_input(bytes)?;
     bytes.past(b" output=")?;
     let output = read_output(bytes)?;
-    bytes.past(b" type=")?;
-    let pes_type = bytes.number32()?;
-    bytes.past(b" flags=")?;
-    let flags = bytes.number32()?;
-    bytes.past(b" at=")?;
-    let now = bytes.number64()?;
+    let pes_type = bytes.named32(b" type=")?;
+    let flags = bytes.named32(b" flags=")?;
+    let now = bytes.named64(b" at=")?;
     Some(Act::SetPes {
         params: PesParams {
             pid,
@@ -67,12 +61,9 @@ fn read_pass(bytes: &mut Bytes<'_>) -> Option<Act>
     ensures range { IfSome result IsActInRange }
 {
     let input = read_input(bytes)?;
-    bytes.past(b" first=")?;
-    let first = bytes.number64()?;
-    bytes.past(b" count=")?;
-    let count = bytes.number32()?;
-    bytes.past(b" at=")?;
-    let now = bytes.number64()?;
+    let first = bytes.named64(b" first=")?;
+    let count = bytes.named32(b" count=")?;
+    let now = bytes.named64(b" at=")?;
     Some(Act::Pass {
         input,
         first,
@@ -87,8 +78,7 @@ fn read_read(bytes: &mut Bytes<'_>) -> Option<Act>
     ensures range { IfSome result IsActInRange }
 {
     let count = bytes.number32()?;
-    bytes.past(b" at=")?;
-    let now = bytes.number64()?;
+    let now = bytes.named64(b" at=")?;
     Some(Act::Read { now, count })
 }
 
@@ -128,8 +118,7 @@ fn read_other_act(bytes: &mut Bytes<'_>) -> Option<Act>
     if bytes.passes(b"attach node=") {
         return read_attach(bytes);
     }
-    bytes.past(b"detach node=")?;
-    let node = bytes.number32()?;
+    let node = bytes.named32(b"detach node=")?;
     Some(Act::Detach { node })
 }
 

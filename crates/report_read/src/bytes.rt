@@ -1,7 +1,7 @@
 // Bytes that are read from their front on.
 ghost use Rattle.std.specs.Prelude.{◌≡◌, ◌≤◌, ◌<◌, ◌+◌, [], length, true, false, Some, None, IfSome, MatchOption};
 ghost use Rattle.std.specs.Char.{is_ascii_digit};
-ghost use Rattle.report_read.specs.Inside.Reading.{Reads, behind, digits, number_in, number16, number32, number64, byte_in, bytes_in, with_first, begins_number, begins_with};
+ghost use Rattle.report_read.specs.Inside.Reading.{Reads, behind, past, digits, number_in, number16, number32, number64, byte_in, bytes_in, with_first, begins_number, begins_with};
 ghost use Rattle.report_read.specs.Inside.Parts.{begins_place};
 
 use std::marker::Model;
@@ -129,6 +129,22 @@ impl<'a> Bytes<'a> {
         ensures { Reads result self.new (number64 self.old) }
     {
         self.number(0, u64::MAX)
+    }
+
+    /// The number of 32 bits behind this text.
+    pub fn named32(&mut self, name: &[u8]) -> Option<u32>
+        ensures { Reads result self.new (past name.now self.old number32) }
+    {
+        self.past(name)?;
+        self.number32()
+    }
+
+    /// The number of 64 bits behind this text.
+    pub fn named64(&mut self, name: &[u8]) -> Option<u64>
+        ensures { Reads result self.new (past name.now self.old number64) }
+    {
+        self.past(name)?;
+        self.number64()
     }
 
     /// The byte of the two digits at the front.

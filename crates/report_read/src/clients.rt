@@ -16,10 +16,8 @@ fn read_stc(bytes: &mut Bytes<'_>) -> Option<OutcomeKind>
     ensures value { Reads result bytes.new (stc_in bytes.old) }
     ensures range { IfSome result IsKindInRange }
 {
-    bytes.past(b"stc base=")?;
-    let base = bytes.number32()?;
-    bytes.past(b" value=")?;
-    let value = bytes.number64()?;
+    let base = bytes.named32(b"stc base=")?;
+    let value = bytes.named64(b" value=")?;
     Some(OutcomeKind::Stc { base, value })
 }
 
@@ -50,12 +48,9 @@ fn read_outcome(bytes: &mut Bytes<'_>) -> Option<Outcome>
     ensures value { Reads result bytes.new (outcome_in bytes.old) }
     ensures range { IfSome result IsOutcomeInRange }
 {
-    bytes.past(b"line ")?;
-    let line = bytes.number32()?;
-    bytes.past(b" steps ")?;
-    let from = bytes.number64()?;
-    bytes.past(b"..")?;
-    let to = bytes.number64()?;
+    let line = bytes.named32(b"line ")?;
+    let from = bytes.named64(b" steps ")?;
+    let to = bytes.named64(b"..")?;
     bytes.past(b" ")?;
     let kind = read_kind(bytes)?;
     bytes.past(b"\n")?;

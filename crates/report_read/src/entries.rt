@@ -35,8 +35,7 @@ fn read_front(bytes: &mut Bytes<'_>) -> Option<Front>
     let place = bytes.number64()?;
     bytes.past(b" ")?;
     let who = read_who(bytes)?;
-    bytes.past(b" ")?;
-    let step = bytes.number64()?;
+    let step = bytes.named64(b" ")?;
     bytes.past(b" ")?;
     let act = read_act(bytes)?;
     bytes.past(b" = ")?;

@@ -14,8 +14,8 @@
 //! text of nothing that a report tells; `read_line` the same of a line of a node. Nothing is said where memory was refused. Two
 //! laws over the definitions: a report tells one thing at most, and so does a line.
 //!
-//! What is only tested, in `text_tests`: that memory isn't refused where there is enough, the values that a report tells, and
-//! texts at the edges of what is one. What is neither: whether a report is right for its session, which `report_check` asks.
+//! What is only tested: that memory isn't refused where there is enough (`tests_text`), and texts at the edges of what is a report, to
+//! which the command check answers (`examples/`). What is neither: whether a report is right for its session, which `report_check` asks.
 //!
 //! The cost is linear in the bytes: they are read once, and as many are written and compared; nothing is sorted or looked up.
 //! Memory is asked for what the report tells and for one text of its length.

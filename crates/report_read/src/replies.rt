@@ -36,8 +36,7 @@ fn read_done(bytes: &mut Bytes<'_>) -> Option<Reply>
     ensures range { IfSome result (λ r. IsResponseInRange (response_of r)) }
 {
     let from = bytes.number64()?;
-    bytes.past(b"..")?;
-    let to = bytes.number64()?;
+    let to = bytes.named64(b"..")?;
     bytes.past(b" tap=")?;
     let tap = read_tap(bytes)?;
     Some(Reply::Done {
@@ -52,14 +51,10 @@ fn read_overflow(bytes: &mut Bytes<'_>) -> Option<Reply>
     ensures range { IfSome result (λ r. IsResponseInRange (response_of r)) }
 {
     let from = bytes.number64()?;
-    bytes.past(b"..")?;
-    let to = bytes.number64()?;
-    bytes.past(b" item=")?;
-    let item = bytes.number64()?;
-    bytes.past(b" need=")?;
-    let need = bytes.number64()?;
-    bytes.past(b" room=")?;
-    let room = bytes.number64()?;
+    let to = bytes.named64(b"..")?;
+    let item = bytes.named64(b" item=")?;
+    let need = bytes.named64(b" need=")?;
+    let room = bytes.named64(b" room=")?;
     Some(Reply::Overflow {
         from,
         to,
@@ -75,10 +70,8 @@ fn read_timed_out(bytes: &mut Bytes<'_>) -> Option<Reply>
     ensures range { IfSome result (λ r. IsResponseInRange (response_of r)) }
 {
     let started = bytes.number64()?;
-    bytes.past(b" now=")?;
-    let now = bytes.number64()?;
-    bytes.past(b" timeout=")?;
-    let timeout = bytes.number32()?;
+    let now = bytes.named64(b" now=")?;
+    let timeout = bytes.named32(b" timeout=")?;
     Some(Reply::TimedOut {
         started,
         now,
@@ -94,8 +87,7 @@ fn read_ready(bytes: &mut Bytes<'_>) -> Option<Reply>
     let readable = read_flag(bytes)?;
     bytes.past(b" error=")?;
     let error = read_pending(bytes)?;
-    bytes.past(b" at=")?;
-    let at = bytes.number64()?;
+    let at = bytes.named64(b" at=")?;
     bytes.past(b" ended=")?;
     let ended = read_flag(bytes)?;
     Some(Reply::Ready {

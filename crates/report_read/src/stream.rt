@@ -17,12 +17,9 @@ pub fn read_tally(bytes: &mut Bytes<'_>) -> Option<Tally>
     ensures value { Reads result bytes.new (tally_in bytes.old) }
     ensures range { IfSome result IsTallyInRange }
 {
-    bytes.past(b"packets=")?;
-    let packets = bytes.number64()?;
-    bytes.past(b" skipped=")?;
-    let skipped = bytes.number64()?;
-    bytes.past(b" rest=")?;
-    let rest = bytes.number32()?;
+    let packets = bytes.named64(b"packets=")?;
+    let skipped = bytes.named64(b" skipped=")?;
+    let rest = bytes.named32(b" rest=")?;
     bytes.past(b"\n")?;
     Some(Tally {
         packets,
@@ -37,14 +34,10 @@ fn read_counts(bytes: &mut Bytes<'_>) -> Option<PidRow>
     ensures value { Reads result bytes.new (counts_in bytes.old) }
     ensures range { IfSome result AreCountsInRange }
 {
-    bytes.past(b" packets=")?;
-    let packets = bytes.number64()?;
-    bytes.past(b" breaks=")?;
-    let breaks = bytes.number64()?;
-    bytes.past(b" duplicates=")?;
-    let duplicates = bytes.number64()?;
-    bytes.past(b" errors=")?;
-    let errors = bytes.number64()?;
+    let packets = bytes.named64(b" packets=")?;
+    let breaks = bytes.named64(b" breaks=")?;
+    let duplicates = bytes.named64(b" duplicates=")?;
+    let errors = bytes.named64(b" errors=")?;
     bytes.past(b"\n")?;
     Some(PidRow {
         packets,

@@ -15,14 +15,17 @@ use crate::whole::{add_client_line, add_end, add_first, add_outcome, add_row};
 use dmx_calls::{Histories, Outcome};
 use emu_io::{Failed, Sink};
 use std::alloc::Global;
+use thiserror::Error;
 use ts_watch::{Head, PidRow};
 
 /// Why a report isn't written whole.
-#[derive(Clone, Copy, Debug, PartialEq, Eq)]
+#[derive(Clone, Copy, Debug, PartialEq, Eq, Drop, Error)]
 pub enum ReportError {
     /// Memory was refused. Nothing was written.
+    #[error("out of memory")]
     NoMemory,
     /// A write failed. A part of the report was written, from the front on.
+    #[error("write failed")]
     Failed,
 }
 

@@ -7,7 +7,7 @@ use Rattle.dmx_calls.specs.History.{History}
 use Rattle.dmx_calls.specs.Legal.{IsLegalFor}
 use Rattle.dmx_calls.specs.Log.{filled}
 use Rattle.dmx_calls.specs.Rules.{demux, dvr, rules_at}
-use Rattle.dmx_calls.proofs.LawsHold.{demux_accounted, dvr_accounted}
+use Rattle.node_laws.proofs.LawsHold.{demux_accounted, dvr_accounted}
 use Rattle.script_run.specs.IsRun.{sources}
 use Rattle.script_run.specs.SoFar.{RunsEnd, RunsAreAccounted}
 

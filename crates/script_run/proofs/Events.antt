@@ -5,9 +5,9 @@ use Rattle.std.specs.Option.{IfSome}
 use Rattle.std.proofs.lemmas.List.Elements.{All-head, All-tail, All-nil}
 use Rattle.ts_packet.specs.Fields.{IsPacket}
 use Rattle.ts_batch.specs.Batch.{Packets}
-use Rattle.dvr_play.specs.Laws.{StandsAmong}
-use Rattle.dvr_play.specs.Plays.{joined}
-use Rattle.dvr_play.proofs.Joining.{are_packets, are_placed}
+use Rattle.client_core.specs.PlayLaws.{StandsAmong}
+use Rattle.client_core.specs.Plays.{joined}
+use Rattle.client_core.proofs.Joining.{are_packets, are_placed}
 use Rattle.dmx_calls.specs.declared.params.Input.{Input}
 use Rattle.dmx_calls.specs.declared.params.Input.TheVariants.{Frontend, Dvr}
 use Rattle.dmx_calls.specs.declared.log.Act.{Act}

@@ -15,8 +15,8 @@ use Rattle.dmx_calls.specs.Log.{LogEntry, Sources, filled, filled_act, filled_en
 use Rattle.dmx_calls.specs.declared.params.Input.{Input}
 use Rattle.dmx_calls.specs.Rules.{demux, dvr, rules_at}
 use Rattle.dmx_calls.specs.Legal.{IsLegalFor}
-use Rattle.dmx_calls.specs.Bytes.{bytes_answered}
-use Rattle.dmx_calls.proofs.Bytes.{demux_answers_fit, dvr_answers_fit}
+use Rattle.node_laws.specs.Bytes.{bytes_answered}
+use Rattle.node_laws.proofs.Bytes.{demux_answers_fit, dvr_answers_fit}
 use Rattle.script_run.specs.Budget.{bytes_in}
 use Rattle.script_run.specs.IsRun.{Batch, Step, feeding, steps_of}
 use Rattle.script_run.proofs.Events.{brings_few, count_of}

@@ -11,7 +11,7 @@ use Rattle.lemmas.proofs.Lists.{at_place, one_value, has_at}
 use Rattle.ts_packet.specs.Fields.{IsPacket}
 use Rattle.dmx_calls.specs.declared.reply.Errno.TheVariants.{Ebadf}
 use Rattle.dmx_calls.specs.Log.{LogEntry, Sources, act_of, filled_act, filled_entry}
-use Rattle.dmx_calls.specs.Owning.{HasRead}
+use Rattle.node_laws.specs.Owning.{HasRead}
 use Rattle.dmx_calls.specs.Response.{Response, Refused}
 use Rattle.client_script.specs.declared.line.Line.{Line}
 use Rattle.client_script.specs.declared.line.Line.TheVariants.{Feed, Tick, Command}
@@ -24,7 +24,7 @@ use Rattle.client_core.specs.declared.event.Request.{Request}
 use Rattle.client_core.specs.declared.event.Request.TheVariants.{Own, Pass}
 use Rattle.client_script.specs.declared.line.Want.TheVariants.{Open}
 use Rattle.ts_batch.specs.Batch.{Packets}
-use Rattle.dvr_play.specs.Laws.{packets_in}
+use Rattle.client_core.specs.PlayLaws.{packets_in}
 use Rattle.client_core.specs.Deeds.{Batches, batch_at, deed_of}
 use Rattle.client_core.specs.Commands.{call_of, commands_among, commands_of, ends_drain, pass_of, played, plays_of}
 use Rattle.client_core.specs.Events.{next_event, no_slots}

@@ -5,9 +5,9 @@ use Rattle.std.specs.List.{flat_map, range_with_len}
 use Rattle.std.proofs.Math.Seq.{get_or-append_seam}
 use Rattle.std.proofs.lemmas.List.{append_assoc}
 use Rattle.std.proofs.lemmas.List.Sums.{sum_by-cons}
-use Rattle.dvr_play.specs.Plays.{plays, joined, cut_of}
-use Rattle.dvr_play.specs.Laws.{packets_in}
-use Rattle.dvr_play.proofs.Joining.{few_in, are_joined, are_counted}
+use Rattle.client_core.specs.Plays.{plays, joined, cut_of}
+use Rattle.client_core.specs.PlayLaws.{packets_in}
+use Rattle.client_core.proofs.Joining.{few_in, are_joined, are_counted}
 use Rattle.client_script.specs.declared.line.Line.{Line}
 use Rattle.client_script.specs.declared.line.Line.TheVariants.{Feed, Tick, Command as CommandLine}
 use Rattle.client_script.specs.declared.line.Verb.{Verb}

@@ -15,15 +15,15 @@ use Rattle.dmx_calls.specs.Ledger.{answered_in}
 use Rattle.dmx_calls.specs.Facts.{facts, ledger_of, ledger_at}
 use Rattle.dmx_calls.specs.Answer.{ReadTerms, read_terms, answer, with_call, response_unless, refusal_to, response_of_read, expired_of}
 use Rattle.dmx_calls.specs.Legal.{May, IsLegalFor}
-use Rattle.dmx_calls.specs.Bytes.{OverflowNamesAByte}
+use Rattle.node_laws.specs.Bytes.{OverflowNamesAByte}
 use Rattle.dmx_calls.proofs.Reading.{read_each}
 use Rattle.client_core.specs.Commands.{ends_drain}
 use Rattle.script_run.specs.Budget.{bytes_in}
 use Rattle.dmx_calls.specs.Log.{LogEntry, Sources, filled, filled_act, filled_entry}
-use Rattle.dmx_calls.specs.Owning.{HasRead}
+use Rattle.node_laws.specs.Owning.{HasRead}
 use Rattle.dmx_calls.proofs.Nodes.{demux_keeps, dvr_keeps}
-use Rattle.dmx_calls.proofs.Pending.{names_a_byte}
-use Rattle.dmx_calls.proofs.Owning.{readers_call_between}
+use Rattle.node_laws.proofs.Pending.{names_a_byte}
+use Rattle.node_laws.proofs.Owning.{readers_call_between}
 use Rattle.lemmas.proofs.Lists.{at_map}
 
 -- a reply to a read, where the stream has ended or not

@@ -14,11 +14,11 @@ use Rattle.dmx_calls.specs.declared.limits.TheConstants.{DEMUX_NODES}
 use Rattle.dmx_calls.specs.declared.outcome.Outcome.{Outcome}
 use Rattle.client_core.specs.Commands.{own_call}
 use Rattle.client_script.specs.declared.line.Want.{Want}
-use Rattle.serve_frames.specs.declared.ask.Ask.{Ask}
-use Rattle.serve_frames.specs.declared.ask.Ask.TheVariants.{OpenDemux, Call, Leave, Refused as RefusedAsk}
-use Rattle.serve_frames.specs.declared.numbers.TheConstants.{EMFILE, ENOMEM}
-use Rattle.serve_frames.specs.declared.tell.Tell.{Tell}
-use Rattle.serve_frames.specs.Tells.{told_of, data_of}
+use Rattle.seats.specs.declared.serve_frames.ask.Ask.{Ask}
+use Rattle.seats.specs.declared.serve_frames.ask.Ask.TheVariants.{OpenDemux, Call, Leave, Refused as RefusedAsk}
+use Rattle.seats.specs.declared.serve_frames.numbers.TheConstants.{EMFILE, ENOMEM}
+use Rattle.seats.specs.declared.serve_frames.tell.Tell.{Tell}
+use Rattle.seats.specs.Tells.{told_of, data_of}
 use Rattle.seats.specs.declared.made.Made.{Made}
 use Rattle.seats.specs.declared.seat.Seat.{Seat}
 use Rattle.seats.specs.Answered.{act_behind, IsBehind, IsCommand, is_busy, AreBusy, IsClosing, AreClosings, refusal, told_opened, IsOpened, IsFull, IsAnsweredBy, IsAnswered}

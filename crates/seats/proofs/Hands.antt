@@ -8,7 +8,7 @@ use Rattle.dmx_calls.specs.declared.limits.TheConstants.{DEMUX_NODES}
 use Rattle.dmx_calls.specs.declared.outcome.Outcome.{Outcome}
 use Rattle.dmx_calls.specs.Log.{LogEntry}
 use Rattle.adapter.specs.Callers.{Caller}
-use Rattle.serve_frames.specs.Asks.{ask_of}
+use Rattle.seats.specs.Asks.{ask_of}
 use Rattle.seats.specs.declared.seat.Seat.{Seat}
 use Rattle.seats.specs.Answered.{AreClosings}
 use Rattle.seats.specs.Calls.{MakesCalls}

@@ -8,9 +8,9 @@ use Rattle.dmx_calls.specs.declared.log.Act.TheVariants.{Open as OpenAct, Close 
 use Rattle.dmx_calls.specs.declared.limits.TheConstants.{DEMUX_NODES}
 use Rattle.dmx_calls.specs.Log.{LogEntry}
 use Rattle.adapter.specs.Callers.{Caller}
-use Rattle.serve_frames.specs.declared.ask.Ask.{Ask}
-use Rattle.serve_frames.specs.declared.ask.Ask.TheVariants.{OpenDemux, Call, Leave, Refused}
-use Rattle.serve_frames.specs.declared.tell.Tell.{Tell}
+use Rattle.seats.specs.declared.serve_frames.ask.Ask.{Ask}
+use Rattle.seats.specs.declared.serve_frames.ask.Ask.TheVariants.{OpenDemux, Call, Leave, Refused}
+use Rattle.seats.specs.declared.serve_frames.tell.Tell.{Tell}
 use Rattle.seats.specs.Answered.{act_behind, IsBehind, IsCommand, is_busy, AreBusy, IsClosing, AreClosings, told_opened, IsOpened, IsFull, IsAnsweredBy, IsAnswered}
 use Rattle.seats.specs.Calls.{MakesCall, MakesCalls}
 use Rattle.seats.specs.Holding.{has_then, holds, CloseHeld}

@@ -5,7 +5,7 @@ use Rattle.client_script.specs.declared.line.Want.{Want}
 use Rattle.client_script.specs.declared.line.Want.TheVariants as want
 use Rattle.client_core.specs.Commands.{IsRequestInRange, own_call}
 use Rattle.client_core.specs.declared.event.Request.TheVariants.{Own}
-use Rattle.serve_frames.specs.Asks.{IsWantInRange}
+use Rattle.seats.specs.Asks.{IsWantInRange}
 use Rattle.seats.specs.Calls.{PassesNone}
 
 pub in_range : (w : Want) → IsWantInRange w → IsRequestInRange (Own w)

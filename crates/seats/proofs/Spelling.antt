@@ -28,10 +28,10 @@ use Rattle.client_core.specs.Outcomes.{outcome_by, counters_after}
 use Rattle.client_core.proofs.GoesOn.{last_counts}
 use Rattle.script_run.specs.IsRun.{IsEvent, replies}
 use Rattle.script_run.specs.WholeRun.{IsGiven}
-use Rattle.serve_frames.specs.Asks.{ask_of}
-use Rattle.serve_frames.specs.declared.ask.Ask.{Ask}
-use Rattle.serve_frames.specs.declared.ask.Ask.TheVariants.{OpenDemux, Call, Leave, Refused as RefusedAsk}
-use Rattle.serve_frames.specs.declared.tell.Tell.{Tell}
+use Rattle.seats.specs.Asks.{ask_of}
+use Rattle.seats.specs.declared.serve_frames.ask.Ask.{Ask}
+use Rattle.seats.specs.declared.serve_frames.ask.Ask.TheVariants.{OpenDemux, Call, Leave, Refused as RefusedAsk}
+use Rattle.seats.specs.declared.serve_frames.tell.Tell.{Tell}
 use Rattle.seats.specs.Answered.{act_by_tap, act_behind, IsBehind, IsCommand, AreBusy, IsClosing, AreClosings, IsOpened, IsAnsweredBy, IsAnswered}
 use Rattle.seats.specs.Seated.{AreOnNodes}
 use Rattle.seats.specs.Scripts.{IsPlayed, LinesArePlayed}

@@ -8,10 +8,10 @@ use Rattle.std.specs.Io.KnownBytes.{Appends, Consumes}
 use Rattle.emu_io.specs.Ends.{SourceEnd, SinkEnd}
 use Rattle.dmx_calls.specs.declared.limits.TheConstants.{DEMUX_NODES}
 use Rattle.dmx_calls.specs.Log.{LogEntry}
-use Rattle.serve_frames.specs.Asks.{ask_of}
-use Rattle.serve_frames.specs.declared.ask.Ask.{Ask}
-use Rattle.serve_frames.specs.declared.numbers.TheConstants.{REQUEST_LEN}
-use Rattle.serve_frames.specs.declared.tell.Tell.{Tell}
+use Rattle.seats.specs.Asks.{ask_of}
+use Rattle.seats.specs.declared.serve_frames.ask.Ask.{Ask}
+use Rattle.seats.specs.declared.serve_frames.numbers.TheConstants.{REQUEST_LEN}
+use Rattle.seats.specs.declared.serve_frames.tell.Tell.{Tell}
 use Rattle.seats.specs.declared.seat.Seat.{Seat}
 use Rattle.seats.specs.Answered.{AreClosings, IsAnswered}
 use Rattle.dmx_calls.specs.declared.outcome.Outcome.{Outcome}

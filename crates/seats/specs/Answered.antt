@@ -7,11 +7,11 @@ use Rattle.dmx_calls.specs.declared.reply.Tap.TheVariants.{Keep as KeepTap, Atta
 use Rattle.dmx_calls.specs.Log.{LogEntry, act_of}
 use Rattle.dmx_calls.specs.Response.{Response, TapChange, Done, Busy}
 use Rattle.client_core.specs.Commands.{own_call}
-use Rattle.serve_frames.specs.declared.ask.Ask.{Ask}
-use Rattle.serve_frames.specs.declared.ask.Ask.TheVariants.{OpenDemux, Call, Leave, Refused}
-use Rattle.serve_frames.specs.declared.numbers.TheConstants.{NO_PLACE, EMFILE, ENOMEM}
-use Rattle.serve_frames.specs.declared.tell.Tell.{Tell}
-use Rattle.serve_frames.specs.Tells.{tell, told_of, data_of}
+use Rattle.seats.specs.declared.serve_frames.ask.Ask.{Ask}
+use Rattle.seats.specs.declared.serve_frames.ask.Ask.TheVariants.{OpenDemux, Call, Leave, Refused}
+use Rattle.seats.specs.declared.serve_frames.numbers.TheConstants.{NO_PLACE, EMFILE, ENOMEM}
+use Rattle.seats.specs.declared.serve_frames.tell.Tell.{Tell}
+use Rattle.seats.specs.Tells.{tell, told_of, data_of}
 
 -- ------ calls
 

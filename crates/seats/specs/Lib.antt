@@ -10,3 +10,5 @@ pub mod Served
 pub mod Spelled
 pub mod Told
 pub mod Turns
+pub mod Asks
+pub mod Tells

@@ -14,8 +14,8 @@ use Rattle.client_script.specs.declared.line.Want.{Want}
 use Rattle.client_script.specs.declared.line.Want.TheVariants.{Open, Close}
 use Rattle.client_core.specs.declared.command.Command.{Command}
 use Rattle.client_core.specs.declared.deed.Deed.TheVariants.{Once}
-use Rattle.serve_frames.specs.declared.ask.Ask.{Ask}
-use Rattle.serve_frames.specs.declared.ask.Ask.TheVariants.{OpenDemux, Call, Leave, Refused}
+use Rattle.seats.specs.declared.serve_frames.ask.Ask.{Ask}
+use Rattle.seats.specs.declared.serve_frames.ask.Ask.TheVariants.{OpenDemux, Call, Leave, Refused}
 use Rattle.seats.specs.Answered.{is_busy}
 
 -- a command that was done: on what, what was asked, the calls that were made for it, and how it ended

@@ -1,8 +1,8 @@
 -- What a seat tells, as bytes.
 use Rattle.std.specs.Prelude.{ℕ, List, [], ◌++◌, length, slice_get, Option, Some, None}
 use Rattle.dmx_calls.specs.Calls.{response_of}
-use Rattle.serve_frames.specs.Tells.{head_of, data_of}
-use Rattle.serve_frames.specs.declared.tell.Tell.{Tell}
+use Rattle.seats.specs.Tells.{head_of, data_of}
+use Rattle.seats.specs.declared.serve_frames.tell.Tell.{Tell}
 use Rattle.seats.specs.declared.made.Made.{Made}
 
 -- the bytes of a reply: its head, and behind that those that were read

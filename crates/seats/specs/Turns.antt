@@ -6,10 +6,10 @@ use Rattle.emu_io.specs.Ends.{SourceEnd, SinkEnd}
 use Rattle.dmx_calls.specs.declared.limits.TheConstants.{DEMUX_NODES}
 use Rattle.dmx_calls.specs.declared.outcome.Outcome.{Outcome}
 use Rattle.dmx_calls.specs.Log.{LogEntry}
-use Rattle.serve_frames.specs.Asks.{ask_of}
-use Rattle.serve_frames.specs.declared.ask.Ask.TheVariants.{Leave}
-use Rattle.serve_frames.specs.declared.numbers.TheConstants.{REQUEST_LEN}
-use Rattle.serve_frames.specs.declared.tell.Tell.{Tell}
+use Rattle.seats.specs.Asks.{ask_of}
+use Rattle.seats.specs.declared.serve_frames.ask.Ask.TheVariants.{Leave}
+use Rattle.seats.specs.declared.serve_frames.numbers.TheConstants.{REQUEST_LEN}
+use Rattle.seats.specs.declared.serve_frames.tell.Tell.{Tell}
 use Rattle.adapter.specs.Callers.{Caller}
 use Rattle.seats.specs.Answered.{IsAnswered, AreClosings}
 use Rattle.seats.specs.Calls.{MakesCalls}

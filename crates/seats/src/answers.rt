@@ -5,9 +5,9 @@ ghost use Rattle.dmx_calls.specs.Log.{act_of};
 ghost use Rattle.dmx_calls.specs.declared.limits.TheConstants.{DEMUX_NODES as nodes};
 ghost use Rattle.dmx_calls.specs.Invocation as asks;
 ghost use Rattle.client_core.specs.Commands.{own_call as own_call_by};
-ghost use Rattle.serve_frames.specs.Asks.{IsAskInRange, IsWantInRange};
-ghost use Rattle.serve_frames.specs.declared.ask.Ask.TheVariants.{Leave};
-ghost use Rattle.serve_frames.specs.Tells.{told_of};
+ghost use Rattle.seats.specs.Asks.{IsAskInRange, IsWantInRange};
+ghost use Rattle.seats.specs.declared.serve_frames.ask.Ask.TheVariants.{Leave};
+ghost use Rattle.seats.specs.Tells.{told_of};
 ghost use Rattle.seats.specs.declared.made.Made.{Made};
 ghost use Rattle.seats.specs.Answered.{is_busy as is_busy_by, refusal, told_opened, AreClosings, IsAnswered, IsClosing, IsFull, IsOpened};
 ghost use Rattle.seats.specs.Calls.{PassesNone};
@@ -17,17 +17,17 @@ ghost use Rattle.seats.specs.Seated.{IsFit, HasRoom, GoesOn, MayLeave};
 ghost use Rattle.seats.specs.Told.{data_read, call_at};
 
 use crate::seat::{MOST_CALLS, Seat};
+use crate::serve_frames::numbers::{EMFILE, ENOMEM};
+use crate::serve_frames::{Ask, Tell};
 use adapter::Adapter;
 use client_core::call_of_want;
 use client_script::Want;
 use dmx_calls::limits::{DEMUX_NODES, NODES};
 use dmx_calls::{Call, OutcomeKind, Reply};
-use serve_frames::numbers::{EMFILE, ENOMEM};
-use serve_frames::{Ask, Tell};
+use machine::steps::Steps;
 use std::alloc::{AllocError as NoMemory, Global};
 use std::sync::Wait;
 use std::sync::ledger::Ledger;
-use steps::Steps;
 
 /// What is told, and which call has the bytes that follow.
 #[derive(Clone, Copy, Drop)]

@@ -10,13 +10,13 @@ use crate::run::Desk;
 use crate::seat::Seat;
 use adapter::Adapter;
 use emu_io::{Clock, Sink, Source};
+use machine::steps::Steps;
 use std::alloc::{AllocError as NoMemory, Global};
 use std::marker::Brand;
 use std::sync::Wait;
 use std::sync::ledger::{Blank, Ledger};
 use std::thread::Threads;
 use std::{mem, thread};
-use steps::Steps;
 
 impl Seat {
     // Hands over the calls that it keeps, before which it has made so many, and lets go of its commands too. It answers how

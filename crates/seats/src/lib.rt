@@ -1,44 +1,27 @@
 //! Seats: each answers the requests of programs that come one after another, on the nodes of the adapter.
 //!
-//! A seat is a client of the adapter with its calls so far. It has a line, from which requests of 76 bytes come and to which
-//! the replies go (`serve_frames`). A request is answered by no call, by one, or, where a free demux node is looked for, by one
-//! for each node that is tried; where a demux node's reply changes its tap, the next call tells the dvr node of it. Where the
-//! line ends, maybe within a request, or a read or a write of it fails, the seat closes all nodes that its program has.
-//! `sit_all` gives each seat a thread.
+//! A seat is a client of the adapter with its calls so far. It has a line, from which requests of 76 bytes come and to which the replies
+//! go, heads of 24 bytes and what was read (`serve_frames`; an ioctl's structure is read by `dmx_abi`). A request is answered by no call,
+//! by one, or, where a free demux node is looked for, by one for each node that is tried; where a demux node's reply changes its tap, the
+//! next call tells the dvr node of it. Where the line ends, or a read or a write of it fails, the seat closes all nodes that its program
+//! has. `sit_all` gives each seat a thread; with `serve_to` a seat hands its calls to a `Journal` behind each request and keeps none.
 //!
-//! What a contract sees: a seat as its client, its log and what it keeps beside these. `MakesCalls` in `specs/Calls.antt` says
-//! that a caller has made just the calls of a list, one after another, each at the place and with the response that the list
-//! has; `GoesOn` in `specs/Seated.antt` that a seat's log has grown by just the calls that its client has made. `IsAnsweredBy`
-//! in `specs/Answered.antt` is the table of the requests: which calls are made for each, and what is told. `HasAnsweredAll` in
-//! `specs/Turns.antt` says it of a line.
+//! What a contract sees: a request as the list of its bytes, which `ask_of` says to be an `Ask`; a `Tell` as its fields (`told_of`,
+//! `head_of`); a seat as its client, its log and what it keeps beside these. `MakesCalls` (`specs/Calls.antt`) says which calls a caller
+//! has made, `GoesOn` (`specs/Seated.antt`) that a seat's log has grown by just those. `IsAnsweredBy` (`specs/Answered.antt`) is the table
+//! of the requests, and `HasAnsweredAll` (`specs/Turns.antt`) says it of a line.
 //!
-//! What is proved, whatever comes on the lines and however the threads fall: from `desks_of` to `sit_all` each seat goes on
-//! (`GoesOn`), so its log is just its calls: no call is left out of it, and nothing else stands in it. An entry of a log takes
-//! memory, so the last calls are kept beside it at first (`Made`), and a request but to leave comes to its calls only once
-//! there is memory for all that were made before. While a seat has a node, room for the calls by which all nodes are closed is
-//! kept (`MayLeave`), so want of memory keeps no node from being closed, and a request to leave is always done. A seat that has
-//! served its line owns no node (`HasServed`), by what its passes have seen; and what others call makes it no owner. So it is
-//! behind each request to leave (`GivesBack` in `specs/Holding.antt`, and `MakesTurns` in `specs/Turns.antt`). By either it
-//! closes no node that it hasn't opened before, or has closed since.
+//! What is proved, whatever comes on the lines and however the threads fall: `Ask::of` is what the definition says of any 76 bytes, and
+//! what is told is read again as what it was (`written_and_read`). A seat's log is just its calls. Each request that was read whole is
+//! answered by the calls of the table in the order of the line, or, unless it is to leave, for want of memory by none, and the bytes
+//! written for it are the reply of the call whose place they name; only the last reply of a line may be cut off. Room for the calls by
+//! which all nodes are closed is kept while a seat has one (`MayLeave`), so a request to leave is always done, and a seat that has served
+//! its line owns no node (`HasServed`, `GivesBack`, `MakesTurns`). The requests of a line are the commands of a client of a script
+//! (`commands_done_by`), which asks for just these calls (`lines_are_played`). `HasServedTo` (`specs/Handed.antt`) says all of it of a
+//! seat that keeps none, and that its journal was given just these calls.
 //!
-//! Those calls are just the ones that the requests ask for, in the order in which these stand on the line: each request that
-//! was read whole is answered by the calls of the table, or, unless it is to leave, for want of memory by none; and the bytes
-//! written for it are the reply of the call whose place they name. Only the last reply of a line may be cut off. Behind them
-//! each node is closed at most once.
-//!
-//! The requests of a line are the commands of a client of a script (`commands_done_by` in `specs/Spelled.antt` says which):
-//! where a script's client has just these, its commands ask for just these calls, by the replies before each, and what the seat
-//! keeps of commands is what became of them (`lines_are_played`). The moment of a call is one of the clock.
-//!
-//! A request to close a node is a call on it, whichever node it names: where the seat isn't its owner, the node refuses it
-//! (EBADF).
-//!
-//! A seat may hand its calls over to a `Journal` behind each request, and keep none (`serve_to`): so it takes no more memory
-//! however long it serves. `HasServedTo` in `specs/Handed.antt` says the same of its calls, its requests and its nodes, also of
-//! those that it gives back, and that the journal was given just these calls.
-//!
-//! Limits: a seat makes at most 2^40 calls, of which 66 are kept for leaving. `desks_of` takes memory, and so does each request
-//! but one to leave. Of a server no clause says that it answers, nor when.
+//! What is only tested: that the numbers of errors are those of Linux. Limits: a seat makes at most 2^40 calls, of which 66 are kept for
+//! leaving. `desks_of` takes memory, and so does each request but one to leave. Of a server no clause says that it answers, nor when.
 #![tactic(auto)]
 
 mod answers;
@@ -50,6 +33,7 @@ mod making;
 mod run;
 mod seat;
 mod serve;
+pub mod serve_frames;
 
 pub use answers::Answered;
 pub use handing::{Sitting, sit_all_to};

@@ -6,13 +6,13 @@ ghost use Rattle.seats.specs.Served.{HasServed, HaveServed};
 use crate::seat::Seat;
 use adapter::Adapter;
 use emu_io::{Clock, Sink, Source};
+use machine::steps::Steps;
 use std::alloc::Global;
 use std::marker::Brand;
 use std::sync::Wait;
 use std::sync::ledger::{Blank, Ledger};
 use std::thread;
 use std::thread::Threads;
-use steps::Steps;
 
 /// A seat with its line, where its requests come from and its replies go to.
 #[derive(Drop)]

@@ -17,10 +17,10 @@ use crate::made::{Made, keep_all};
 use adapter::{Adapter, Client};
 use dmx_calls::limits::{DEMUX_NODES, NODES};
 use dmx_calls::{Act, Call, Entry, Outcome, OutcomeKind, Reply, Tap};
+use machine::steps::Steps;
 use std::alloc::{AllocError as NoMemory, Global};
 use std::sync::Wait;
 use std::sync::ledger::Ledger;
-use steps::Steps;
 
 /// The most calls of a request: an Open or a Close of each of the 33 nodes, and what each reply asks of the dvr node.
 pub const MOST_CALLS: usize = 66;

@@ -8,14 +8,14 @@ ghost use Rattle.seats.specs.Turns.{HasTurned};
 
 use crate::answers::Answered;
 use crate::seat::Seat;
+use crate::serve_frames::numbers::REQUEST_LEN;
+use crate::serve_frames::{Ask, data_of};
 use adapter::Adapter;
 use emu_io::{Clock, Failed, Sink, Source};
-use serve_frames::numbers::REQUEST_LEN;
-use serve_frames::{Ask, data_of};
+use machine::steps::Steps;
 use std::alloc::Global;
 use std::sync::Wait;
 use std::sync::ledger::Ledger;
-use steps::Steps;
 
 // Fills the buffer. False where the source has ended or failed before.
 fn fill<S: Source>(source: &mut S, into: &mut [u8]) -> bool

@@ -17,7 +17,7 @@
 //! The checker works out each of their 2,048 entries from the rule.
 //!
 //! What is only tested: that the rule is the one that other programs have, by the check value of CRC-32/MPEG-2 and by
-//! sections of ffmpeg; and that a flipped bit is seen. The tests stand in `section_tests`.
+//! sections of ffmpeg; and that a flipped bit is seen. The tests stand in `tests_low`.
 //!
 //! Limits: no memory is taken, and the time is linear in the bytes. `Tables<8>` has 8,192 bytes.
 #![tactic(auto)]

@@ -10,9 +10,9 @@ ghost use Rattle.serial_core.specs.SerialRun.{after_waiting, called, replies_of,
 use crate::runner::Runner;
 use client_core::{ClientCore, Event, MOST_CALLS, Stop};
 use emu_io::Source;
+use machine::steps::Steps;
 use std::alloc::AllocError as NoMemory;
 use std::sync::ledger::Ledger;
-use steps::Steps;
 
 impl Runner {
     // Where the client waits, the feeder has a turn.

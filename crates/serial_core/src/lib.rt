@@ -20,7 +20,7 @@
 //! and each of its moments is a run so far: so no client makes more calls than its commands and the bytes, those of writes
 //! too, allow. Worked runs are computed by the check.
 //!
-//! What is only tested, in `run_tests`: that memory isn't refused where there is enough of it.
+//! What is only tested, by the sessions of `examples/`: that memory isn't refused where there is enough of it.
 //!
 //! Only the clients' entries are kept node by node. The feeder's passes, which are the same on each, are kept once a batch.
 //!

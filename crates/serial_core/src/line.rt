@@ -9,8 +9,8 @@ use crate::runner::Runner;
 use client_core::{ClientCore, Stop};
 use client_script::Line;
 use emu_io::Source;
+use machine::steps::Steps;
 use std::sync::ledger::Ledger;
-use steps::Steps;
 
 impl Runner {
     // A line is done, or up to the call that its client may not make.

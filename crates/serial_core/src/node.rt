@@ -12,9 +12,9 @@ ghost use Rattle.serial_core.specs.Inside.Standing.{StandsAt, entries_in};
 
 use dmx_calls::{Answer, Call, Input};
 use dvr_core::DvrCore;
+use machine::steps::Steps;
 use node_core::NodeCore;
 use std::sync::ledger::Ledger;
-use steps::Steps;
 use ts_batch::Batch;
 
 /// A demux node, or the dvr node.

@@ -21,11 +21,11 @@ use client_core::{ClientCore, Event, call_of};
 use dmx_calls::limits::DEMUX_NODES;
 use dmx_calls::{Entry, Fed, Histories};
 use dvr_core::DvrCore;
+use machine::steps::Steps;
 use node_core::NodeCore;
 use std::alloc::{AllocError as NoMemory, Global};
 use std::sync::Arc;
 use std::sync::ledger::Ledger;
-use steps::Steps;
 use ts_batch::Batch;
 
 /// The demux nodes 0 to 31 and the dvr node, the batches that passed them, whether End has passed, and how many calls were

@@ -24,10 +24,10 @@ use client_script::Script;
 use dmx_calls::{Histories, Outcome};
 use emu_io::Source;
 use feed_pull::{PullFault, Puller};
+use machine::steps::Steps;
 use std::alloc::{AllocError as NoMemory, Global};
 use std::marker::Brand;
 use std::sync::ledger::{Blank, Ledger};
-use steps::Steps;
 use ts_watch::Head;
 
 /// What a run of one thread leaves.

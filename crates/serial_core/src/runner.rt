@@ -6,9 +6,9 @@ ghost use Rattle.serial_core.specs.Inside.Moving.{HasDrawn, MadeAtMost, IsAt, Is
 use crate::nodes::Nodes;
 use emu_io::Source;
 use feed_pull::Puller;
+use machine::steps::Steps;
 use std::alloc::AllocError as NoMemory;
 use std::sync::ledger::Ledger;
-use steps::Steps;
 
 /// The nodes, the packets that haven't passed them yet, and the moment in milliseconds.
 #[derive(Drop)]

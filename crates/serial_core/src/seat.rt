@@ -15,9 +15,9 @@ ghost use Rattle.serial_core.specs.Inside.Standing.{IsSeat, StandsAt, entries_in
 use crate::node::AnyCore;
 use client_core::{ClientCore, fitted, unless_no_memory};
 use dmx_calls::{Act, Call, Entry, KeptAct, Reply, SharedReply};
+use machine::steps::Steps;
 use std::alloc::{AllocError as NoMemory, Global};
 use std::sync::ledger::Ledger;
-use steps::Steps;
 use ts_batch::Batch;
 
 /// A node, its number, which is 32 for the dvr node, and the entries of its clients, the oldest first.

@@ -6,7 +6,7 @@ use Rattle.dmx_calls.specs.Calls.{told_entry}
 use Rattle.dmx_calls.specs.Log.{LogEntry}
 use Rattle.dmx_calls.specs.declared.limits.TheConstants.{DEMUX_NODES}
 use Rattle.dmx_calls.specs.declared.log.Entry.{Entry as ToldEntry}
-use Rattle.trace_merge.specs.Merging.{AreOnNodes as AreEntriesOnNodes}
+use Rattle.adapter.specs.Merging.{AreOnNodes as AreEntriesOnNodes}
 use Rattle.seats.specs.declared.run.Desk.{Desk}
 use Rattle.seats.specs.Seated.{log_of, AreOnNodes}
 

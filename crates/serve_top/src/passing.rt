@@ -16,12 +16,12 @@ use dmx_calls::Fed;
 use dmx_calls::limits::NODES;
 use emu_io::{Clock, Gate, Source};
 use feed_pull::{PullFault, Puller};
+use machine::steps::Steps;
 use seats::Forgotten;
 use std::alloc::{AllocError as NoMemory, Global};
 use std::marker::Brand;
 use std::sync::Wait;
 use std::sync::ledger::{Blank, Ledger};
-use steps::Steps;
 use ts_packet::PacketSize;
 
 // The caller number of the feeder.

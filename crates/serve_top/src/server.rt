@@ -14,15 +14,19 @@ use seats::desks_of;
 use std::alloc::{AllocError as NoMemory, Global};
 use std::sync::Wait;
 use std::thread::Threads;
+use thiserror::Error;
 
 /// Why a server has written no whole report.
-#[derive(Clone, Copy, Debug, PartialEq, Eq, Drop)]
+#[derive(Clone, Copy, Debug, PartialEq, Eq, Drop, Error)]
 pub enum NoReport {
     /// Memory was refused. Nothing was written.
+    #[error("out of memory")]
     NoMemory,
     /// The source was read 4,294,967,296 times. Nothing was written.
+    #[error("too long")]
     TooLong,
     /// A write failed. A part of the report was written, from its front on.
+    #[error("write failed")]
     Failed,
 }
 

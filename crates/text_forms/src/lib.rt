@@ -17,7 +17,7 @@
 //! `words_are_read_again`, `script_names_are_read_again`, `report_names_are_read_again`, `places_are_read_again` and
 //! `filters_are_read_again`.
 //!
-//! What is only tested, in `text_tests`: that memory isn't refused where there is enough.
+//! What is only tested, by the reports of `examples/`: that memory isn't refused where there is enough.
 //!
 //! Cost: a writing side asks for room once, and for none but in the bytes that it appends to. Numbers are written by
 //! `itoa`, bytes by two digits each.

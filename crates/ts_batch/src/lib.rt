@@ -20,7 +20,7 @@
 //!
 //! There is no other way to the bytes of a packet than `packet`, so the counter of steps bounds how many were looked at.
 //!
-//! The number of packets in a batch and the counting of steps are this project's rules. The tests stand in `stream_tests`.
+//! The number of packets in a batch and the counting of steps are this project's rules. The tests stand in `tests_low`.
 #![tactic(auto)]
 
 mod index;
@@ -33,13 +33,13 @@ ghost use Rattle.ts_batch.specs.Batch.{IsBatch};
 ghost use Rattle.ts_batch.specs.Places.{places_of};
 
 use index::Index;
+use machine::steps::Steps;
 pub use place_set::PlaceSet;
 pub use room::BatchRoom;
 use std::alloc::{AllocError as NoMemory, Global};
 use std::marker::Model;
 use std::sync::Arc;
 use std::sync::ledger::Ledger;
-use steps::Steps;
 use ts_packet::{Packet, PacketBuf};
 
 /// 1 to 64 packets that pass the nodes together.

@@ -8,7 +8,7 @@
 //! and each packet's bytes by its place, its word and how many packets of its PID stand before it. The generator's words are
 //! those of `rand_pcg`'s definition, and the sections' CRC is `section_crc`'s.
 //!
-//! What is only tested, in `stream_tests`: that the generator's words are those that others have, by the first words of the
+//! What is only tested, in `tests_low`: that the generator's words are those that others have, by the first words of the
 //! reference generator's example and by packets that a small program apart worked out.
 //!
 //! Limits: the session has 12,320,768 bytes of packets behind its script. Its room is taken once; time is linear.

@@ -14,7 +14,7 @@
 //! behind it, `row` answers the counts of that list as `ts_packet` defines them over its clean packets, and `rows` those of each
 //! PID that has a packet, ascending. Of a `Head` its maker says more: `feed_pull` proves that its own is that of the stream.
 //!
-//! What is only tested, in `stream_tests`: that ample memory is enough.
+//! What is only tested, in `tests_low`: that ample memory is enough.
 //!
 //! Limits: `new` takes memory, room for one packet of each of the 8,192 PIDs; of that room only what stands for a PID that was
 //! seen is written to. Else only `rows` does, for its list. A packet and a row cost a few steps whatever was seen before.

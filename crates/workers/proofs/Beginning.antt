@@ -20,7 +20,7 @@ use Rattle.script_run.specs.WholeRun.{IsGiven}
 use Rattle.adapter.specs.Callers.{Caller, IsFreshCaller, AreFreshCallers, AreAllCallers}
 use Rattle.adapter.specs.Rows.{Fits}
 use Rattle.adapter.proofs.Lists.{at_place, at_before, at_last}
-use Rattle.trace_merge.specs.Merging.{AreOnNodes}
+use Rattle.adapter.specs.Merging.{AreOnNodes}
 use Rattle.workers.specs.declared.client_worker.ClientWorker.{ClientWorker}
 use Rattle.workers.specs.declared.feeder_worker.FeederWorker.{FeederWorker}
 use Rattle.workers.specs.Logged.{IsLogged, HasCalled}

@@ -15,10 +15,10 @@ use Rattle.node_lock.specs.Inside.Lists.{Once}
 use Rattle.node_lock.proofs.Views.{once_append}
 use Rattle.dmx_calls.specs.declared.log.Entry.{Entry as ToldEntry}
 use Rattle.dmx_calls.specs.Calls.{told_entry}
-use Rattle.trace_merge.specs.Merging.{is_on, all_of}
-use Rattle.trace_merge.specs.Inside.Placing.{entries_on}
+use Rattle.adapter.specs.Merging.{is_on, all_of}
+use Rattle.adapter.specs.Inside.Placing.{entries_on}
 use Rattle.lemmas.proofs.Tests.{nat_eq_turned}
-use Rattle.trace_merge.proofs.Standing.{Ascends, ascends}
+use Rattle.adapter.proofs.Standing.{Ascends, ascends}
 use Rattle.workers.proofs.Weaves.{Rises}
 use Rattle.workers.proofs.Members.{at_has}
 

@@ -22,13 +22,13 @@ use Rattle.adapter.specs.Callers.{Caller, IsSameCaller, AreFreshCallers, AreAllC
 use Rattle.adapter.specs.Nodes.{ended}
 use Rattle.adapter.proofs.Everybody.{still_all}
 use Rattle.adapter.proofs.Lists.{at_place, at_end, at_last, at_before, one_value}
-use Rattle.trace_merge.specs.Merging.{AreOnNodes}
+use Rattle.adapter.specs.Merging.{AreOnNodes}
 use Rattle.workers.specs.declared.client_worker.ClientWorker.{ClientWorker}
 use Rattle.workers.specs.declared.feeder_worker.FeederWorker.{FeederWorker}
 use Rattle.workers.specs.declared.left.Left.{Left}
 use Rattle.workers.specs.Inside.Working.{log_of, IsWorking, HasCome}
 use Rattle.workers.specs.Inside.Begun.{AreFreshWorkers, HaveCome, AreOutcomesOf}
-use Rattle.script_nodes.specs.Named.{is_named}
+use Rattle.workers.specs.Named.{is_named}
 use Rattle.workers.specs.Feeding.{HasFed, HasFedAll}
 use Rattle.workers.specs.Inside.FeederWork.{HasPassedAll}
 use Rattle.workers.specs.Inside.Leaving.{GoesFirst, StopsBy, IsLeftByWorkers}

@@ -21,3 +21,5 @@ mod Coming
 mod TooLong
 pub mod Working
 pub mod Budgeting
+pub mod NamedNodes
+mod Targets

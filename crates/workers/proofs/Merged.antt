@@ -18,7 +18,7 @@ use Rattle.dmx_calls.specs.Log.{LogEntry, Sources, filled_entry}
 use Rattle.dmx_calls.specs.Histories.{feeder_acts, feeder_entry, histories_of, woven, AreInPlace}
 use Rattle.dmx_calls.proofs.Weaving.{in_place-at, woven_nodes-at, woven_nodes-length}
 use Rattle.script_run.specs.IsRun.{StandsIn, steps_of}
-use Rattle.trace_merge.specs.Merging.{AreOnNodes, AreByPlace}
+use Rattle.adapter.specs.Merging.{AreOnNodes, AreByPlace}
 use Rattle.adapter.specs.Callers.{Caller, AreAllCallers}
 use Rattle.adapter.specs.Ends.{IsHistory, HaveHistories}
 use Rattle.adapter.specs.Nodes.{IsLegalAt}

@@ -8,8 +8,8 @@ use Rattle.client_core.specs.Deeds.{Batches}
 use Rattle.client_core.specs.Commands.{plays_of}
 use Rattle.client_core.specs.Events.{next_event}
 use Rattle.script_run.specs.IsRun.{IsEvent}
-use Rattle.script_nodes.specs.Named.{is_named}
-use Rattle.script_nodes.proofs.Naming.{named_next}
+use Rattle.workers.specs.Named.{is_named}
+use Rattle.workers.proofs.NamedNodes.{named_next}
 
 pub named_call : (script : Scripted) (client : ℕ) (rs : List Response) (e : LogEntry) → IsEvent (plays_of client script) (next_event client script rs) e → is_named script.lines e.node ≡ true
 named_call script client rs e is = of_event (plays_of client script) (next_event client script rs) (named_next script client rs) is where

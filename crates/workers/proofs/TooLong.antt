@@ -23,12 +23,12 @@ use Rattle.adapter.specs.Callers.{Caller, AreFreshCallers, AreAllCallers}
 use Rattle.adapter.specs.Ends.{HaveHistories}
 use Rattle.adapter.specs.Nodes.{ended}
 use Rattle.adapter.proofs.Lists.{one_value}
-use Rattle.trace_merge.specs.Merging.{AreOnNodes}
+use Rattle.adapter.specs.Merging.{AreOnNodes}
 use Rattle.workers.specs.declared.client_worker.ClientWorker.{ClientWorker}
 use Rattle.workers.specs.declared.feeder_worker.FeederWorker.{FeederWorker}
 use Rattle.workers.specs.Inside.Working.{log_of}
 use Rattle.workers.specs.Inside.Begun.{AreFreshWorkers, HaveCome}
-use Rattle.script_nodes.specs.Named.{is_named}
+use Rattle.workers.specs.Named.{is_named}
 use Rattle.workers.specs.Budget.{IsRunning, ManyCallsAreTooLong}
 use Rattle.workers.specs.Logged.{HasCalled}
 use Rattle.workers.specs.Inside.FeederWork.{HasPassedAll}

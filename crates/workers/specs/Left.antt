@@ -13,7 +13,7 @@ use Rattle.client_core.specs.Outcomes.{outcomes}
 use Rattle.script_run.specs.IsRun.{replies}
 use Rattle.adapter.specs.Callers.{Caller}
 use Rattle.workers.specs.declared.left.Left.{Left}
-use Rattle.script_nodes.specs.Named.{is_named}
+use Rattle.workers.specs.Named.{is_named}
 use Rattle.workers.specs.Logged.{HasCalled}
 use Rattle.workers.specs.Feeding.{HasFedAll}
 

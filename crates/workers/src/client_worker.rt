@@ -20,12 +20,12 @@ use adapter::{Adapter, Client};
 use client_core::{ClientCore, Event, MOST_CALLS, Stop, call_of, fitted, unless_no_memory};
 use dmx_calls::{Act, Entry, KeptAct, SharedReply};
 use emu_io::{Clock, Gate};
+use machine::steps::Steps;
 use std::alloc::{AllocError as NoMemory, Global};
 use std::marker::Brand;
 use std::sync::Wait;
 use std::sync::ledger::{Blank, Ledger};
 use std::thread;
-use steps::Steps;
 
 // How often a client that waits lets others go first, before it rests until the node is called: an entry mostly comes soon, and
 // sleeping and waking take longer than that.

@@ -44,6 +44,15 @@ pub fn workers_of(
     Ok(workers)
 }
 
+// The client of a worker, and its log.
+fn parted(worker: ClientWorker) -> (Client, Vec<Entry>)
+    ensures client { result.0 ≡ worker.client }
+    ensures log { result.1 ≡ worker.log }
+{
+    let ClientWorker { client, log, .. } = worker;
+    (client, log)
+}
+
 /// The clients, their logs and the outcomes of their commands.
 pub fn left_by_clients(alloc: Global, workers: Vec<ClientWorker>) -> Result<ClientsLeft, NoMemory>
     ensures { IfOk result (IsLeftByClients workers.items) }
@@ -52,13 +61,8 @@ pub fn left_by_clients(alloc: Global, workers: Vec<ClientWorker>) -> Result<Clie
     let mut logs = Vec::new(alloc);
     let mut outcomes = Vec::new(alloc);
     'workers: for worker in workers {
-        let ClientWorker {
-            client,
-            core,
-            log,
-            ..
-        } = worker;
-        outcomes.push(core.copied_outcomes(alloc)?)?;
+        outcomes.push(worker.core.copied_outcomes(alloc)?)?;
+        let (client, log) = parted(worker);
         clients.push(client)?;
         logs.push(log)?;
     }

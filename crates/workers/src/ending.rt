@@ -6,14 +6,14 @@ ghost use Rattle.dmx_calls.specs.declared.outcome.Outcome.{Outcome};
 ghost use Rattle.client_script.specs.Script.{Scripted};
 ghost use Rattle.script_run.specs.WholeRun.{IsWholeRun};
 ghost use Rattle.adapter.specs.Callers.{AreAllCallers};
-ghost use Rattle.trace_merge.specs.Merging.{AreOnNodes};
+ghost use Rattle.adapter.specs.Merging.{AreOnNodes};
 ghost use Rattle.workers.specs.Telling.{HaveCalled, TellWhatWasCalled};
 ghost use Rattle.workers.specs.Left.{AreWorked};
 
+use adapter::trace_merge::histories;
 use adapter::{Adapter, Client, Feeder};
 use dmx_calls::{Entry, Fed, Histories};
 use std::alloc::{AllocError as NoMemory, Global};
-use trace_merge::histories;
 
 /// Ends the adapter, and brings the calls of its feeder and of its clients together, in the order of their places.
 ///

@@ -15,11 +15,11 @@ use dmx_calls::Fed;
 use dmx_calls::limits::NODES;
 use emu_io::{Clock, Gate, Source};
 use feed_pull::{PullFault, Puller};
+use machine::steps::Steps;
 use std::alloc::AllocError as NoMemory;
 use std::marker::Brand;
 use std::sync::ledger::{Blank, Ledger};
 use std::sync::{Arc, Wait};
-use steps::Steps;
 use ts_batch::Batch;
 
 // The caller number of the feeder.

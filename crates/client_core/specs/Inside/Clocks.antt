@@ -2,7 +2,7 @@
 use Rattle.std.specs.Prelude.{ℕ, ◌≡◌, ◌<◌, ◌≤◌, List, length, Option, None, slice_get, slice_index_or, if◌then◌else◌, All}
 use Rattle.std.specs.Option.{option_and_then}
 use Rattle.ts_packet.specs.Cutting.{bytes_counted}
-use Rattle.stc_clock.specs.Clock.{Clock, unset, HasFollowed}
+use Rattle.client_core.specs.Clock.{Clock, unset, HasFollowed}
 use Rattle.client_core.specs.Stc.{Exchange, bytes_read, filter_type, is_counter}
 use Rattle.client_core.specs.Outcomes.{Counters}
 

@@ -9,7 +9,7 @@ use Rattle.client_script.specs.declared.line.Line.TheVariants.{Command as Comman
 use Rattle.client_core.specs.declared.command.Command.{Command}
 use Rattle.dmx_calls.specs.declared.outcome.Outcome.{Outcome}
 use Rattle.client_core.specs.declared.event.Event.{Event}
-use Rattle.client_core.specs.declared.machine.Current.{Current}
+use Rattle.client_core.specs.declared.current.Current.{Current}
 use Rattle.client_core.specs.Commands.{Doing, stands, through, Slots, plays_of}
 use Rattle.client_core.specs.Events.{Ended, Progress, with_ended, slots_after, progress_from, waits_after, waits_on, progress}
 use Rattle.client_core.specs.Stc.{Exchange, with_reply, exchanges}

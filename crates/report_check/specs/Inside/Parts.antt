@@ -17,11 +17,11 @@ use Rattle.dmx_calls.specs.Rules.{rules_at}
 use Rattle.client_script.specs.Script.{clients_in, Scripted}
 use Rattle.client_core.specs.Commands.{played as played_of}
 use Rattle.client_core.specs.Outcomes.{outcomes}
-use Rattle.history_check.specs.Playing.{brought_from}
+use Rattle.report_check.specs.Playing.{brought_from}
 use Rattle.script_run.specs.IsRun.{replies, steps_of}
 use Rattle.report_text.specs.Told.{ToldNode, Told}
-use Rattle.report_runs.specs.Completed.{complete}
-use Rattle.walk_check.specs.Walk.{IsRest, queues_in}
+use Rattle.report_check.specs.Completed.{complete}
+use Rattle.report_check.specs.Walk.{IsRest, queues_in}
 use Rattle.report_check.specs.Inside.Feeding.{feeds, IsFedAlike}
 
 -- ------ entries

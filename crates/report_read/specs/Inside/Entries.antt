@@ -10,10 +10,10 @@ unfoldable pub front_in : List ℕ → Reading Front
 front_in bytes =
     and_then (number64 bytes) (λ place bytes.
     past (codes " ") bytes (λ bytes. and_then (who_in bytes) (λ who bytes.
-    past (codes " ") bytes (λ bytes. and_then (number64 bytes) (λ step bytes.
+    and_then (past (codes " ") bytes number64) (λ step bytes.
     past (codes " ") bytes (λ bytes. and_then (act_in bytes) (λ act bytes.
     past (codes " = ") bytes (λ bytes.
-    Some (record { place = place; step = step; who = who; act = act }, bytes)))))))))
+    Some (record { place = place; step = step; who = who; act = act }, bytes))))))))
 
 -- a line of this node
 unfoldable pub entry_in : (node : ℕ) → List ℕ → Reading LogEntry

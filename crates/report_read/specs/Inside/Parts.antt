@@ -109,37 +109,37 @@ filter_in bytes =
 unfoldable pub section_in : List ℕ → Reading Act
 section_in bytes =
     and_then (number16 bytes) (λ pid bytes.
-    past (codes " timeout=") bytes (λ bytes. and_then (number32 bytes) (λ timeout bytes.
-    past (codes " flags=") bytes (λ bytes. and_then (number32 bytes) (λ flags bytes.
-    past (codes " at=") bytes (λ bytes. and_then (number64 bytes) (λ now bytes.
+    and_then (past (codes " timeout=") bytes number32) (λ timeout bytes.
+    and_then (past (codes " flags=") bytes number32) (λ flags bytes.
+    and_then (past (codes " at=") bytes number64) (λ now bytes.
     and_then (filter_in bytes) (λ filter bytes.
-    Some (SetFilterAct (record { pid = pid; filter = filter; timeout = timeout; flags = flags }) now, bytes)))))))))
+    Some (SetFilterAct (record { pid = pid; filter = filter; timeout = timeout; flags = flags }) now, bytes))))))
 
 unfoldable pub pes_in : List ℕ → Reading Act
 pes_in bytes =
     and_then (number16 bytes) (λ pid bytes.
     past (codes " input=") bytes (λ bytes. and_then (input_in bytes) (λ from bytes.
     past (codes " output=") bytes (λ bytes. and_then (output_in bytes) (λ to bytes.
-    past (codes " type=") bytes (λ bytes. and_then (number32 bytes) (λ pes_type bytes.
-    past (codes " flags=") bytes (λ bytes. and_then (number32 bytes) (λ flags bytes.
-    past (codes " at=") bytes (λ bytes. and_then (number64 bytes) (λ now bytes.
+    and_then (past (codes " type=") bytes number32) (λ pes_type bytes.
+    and_then (past (codes " flags=") bytes number32) (λ flags bytes.
+    and_then (past (codes " at=") bytes number64) (λ now bytes.
     Some (
       SetPesAct (record { pid = pid; input = from; output = to; pes_type = pes_type; flags = flags }) now,
       bytes,
-    ))))))))))))
+    )))))))))
 
 unfoldable pub pass_in : List ℕ → Reading Act
 pass_in bytes =
     and_then (input_in bytes) (λ from bytes.
-    past (codes " first=") bytes (λ bytes. and_then (number64 bytes) (λ first bytes.
-    past (codes " count=") bytes (λ bytes. and_then (number32 bytes) (λ count bytes.
-    past (codes " at=") bytes (λ bytes. and_then (number64 bytes) (λ now bytes.
-    Some (PassAct from first count now, bytes))))))))
+    and_then (past (codes " first=") bytes number64) (λ first bytes.
+    and_then (past (codes " count=") bytes number32) (λ count bytes.
+    and_then (past (codes " at=") bytes number64) (λ now bytes.
+    Some (PassAct from first count now, bytes)))))
 
 unfoldable pub read_in : List ℕ → Reading Act
 read_in bytes =
     and_then (number32 bytes) (λ count bytes.
-    past (codes " at=") bytes (λ bytes. and_then (number64 bytes) (λ now bytes. Some (ReadAct now count, bytes))))
+    and_then (past (codes " at=") bytes number64) (λ now bytes. Some (ReadAct now count, bytes)))
 
 unfoldable pub attach_in : List ℕ → Reading Act
 attach_in bytes =
@@ -155,7 +155,7 @@ other_act_in bytes =
     (choose (codes "pass input=") bytes pass_in
     (choose (codes "end") bytes (λ bytes. Some (EndAct, bytes))
     (choose (codes "attach node=") bytes attach_in
-    (past (codes "detach node=") bytes (λ bytes. made DetachAct (number32 bytes))))))))
+    (made DetachAct (past (codes "detach node=") bytes number32)))))))
 
 unfoldable pub plain_act_in : List ℕ → Reading Act
 plain_act_in bytes =
@@ -184,8 +184,8 @@ tap_in bytes =
 unfoldable pub done_in : List ℕ → Reading Response
 done_in bytes =
     and_then (number64 bytes) (λ from bytes.
-    past (codes "..") bytes (λ bytes. and_then (number64 bytes) (λ to bytes.
-    past (codes " tap=") bytes (λ bytes. and_then (tap_in bytes) (λ tap bytes. Some (Done from to tap, bytes))))))
+    and_then (past (codes "..") bytes number64) (λ to bytes.
+    past (codes " tap=") bytes (λ bytes. and_then (tap_in bytes) (λ tap bytes. Some (Done from to tap, bytes)))))
 
 -- the bytes of a read
 unfoldable pub data_in : List ℕ → Reading Response
@@ -196,26 +196,26 @@ data_in bytes =
 unfoldable pub overflow_in : List ℕ → Reading Response
 overflow_in bytes =
     and_then (number64 bytes) (λ from bytes.
-    past (codes "..") bytes (λ bytes. and_then (number64 bytes) (λ to bytes.
-    past (codes " item=") bytes (λ bytes. and_then (number64 bytes) (λ item bytes.
-    past (codes " need=") bytes (λ bytes. and_then (number64 bytes) (λ need bytes.
-    past (codes " room=") bytes (λ bytes. and_then (number64 bytes) (λ room bytes.
-    Some (Overflow from to item need room, bytes))))))))))
+    and_then (past (codes "..") bytes number64) (λ to bytes.
+    and_then (past (codes " item=") bytes number64) (λ item bytes.
+    and_then (past (codes " need=") bytes number64) (λ need bytes.
+    and_then (past (codes " room=") bytes number64) (λ room bytes.
+    Some (Overflow from to item need room, bytes))))))
 
 unfoldable pub timed_out_in : List ℕ → Reading Response
 timed_out_in bytes =
     and_then (number64 bytes) (λ started bytes.
-    past (codes " now=") bytes (λ bytes. and_then (number64 bytes) (λ now bytes.
-    past (codes " timeout=") bytes (λ bytes. and_then (number32 bytes) (λ timeout bytes.
-    Some (TimedOut started now timeout, bytes))))))
+    and_then (past (codes " now=") bytes number64) (λ now bytes.
+    and_then (past (codes " timeout=") bytes number32) (λ timeout bytes.
+    Some (TimedOut started now timeout, bytes))))
 
 unfoldable pub ready_in : List ℕ → Reading Response
 ready_in bytes =
     and_then (flag_in bytes) (λ readable bytes.
     past (codes " error=") bytes (λ bytes. and_then (pending_in bytes) (λ error bytes.
-    past (codes " at=") bytes (λ bytes. and_then (number64 bytes) (λ at bytes.
+    and_then (past (codes " at=") bytes number64) (λ at bytes.
     past (codes " ended=") bytes (λ bytes. and_then (flag_in bytes) (λ ended bytes.
-    Some (Ready readable error at ended, bytes))))))))
+    Some (Ready readable error at ended, bytes)))))))
 
 -- a reply that isn't one of the first
 unfoldable pub other_response_in : List ℕ → Reading Response

@@ -13,21 +13,21 @@ use Rattle.report_read.specs.Inside.Entries.{entry_in}
 
 unfoldable pub tally_in : List ℕ → Reading Tally
 tally_in bytes =
-    past (codes "packets=") bytes (λ bytes. and_then (number64 bytes) (λ packets bytes.
-    past (codes " skipped=") bytes (λ bytes. and_then (number64 bytes) (λ skipped bytes.
-    past (codes " rest=") bytes (λ bytes. and_then (number32 bytes) (λ rest bytes.
+    and_then (past (codes "packets=") bytes number64) (λ packets bytes.
+    and_then (past (codes " skipped=") bytes number64) (λ skipped bytes.
+    and_then (past (codes " rest=") bytes number32) (λ rest bytes.
     past (codes "\n") bytes (λ bytes.
-    Some (record { packets = packets; skipped = skipped; rest = rest }, bytes))))))))
+    Some (record { packets = packets; skipped = skipped; rest = rest }, bytes)))))
 
 -- the numbers of a PID
 unfoldable pub counts_in : List ℕ → Reading PidRow
 counts_in bytes =
-    past (codes " packets=") bytes (λ bytes. and_then (number64 bytes) (λ packets bytes.
-    past (codes " breaks=") bytes (λ bytes. and_then (number64 bytes) (λ breaks bytes.
-    past (codes " duplicates=") bytes (λ bytes. and_then (number64 bytes) (λ duplicates bytes.
-    past (codes " errors=") bytes (λ bytes. and_then (number64 bytes) (λ errors bytes.
+    and_then (past (codes " packets=") bytes number64) (λ packets bytes.
+    and_then (past (codes " breaks=") bytes number64) (λ breaks bytes.
+    and_then (past (codes " duplicates=") bytes number64) (λ duplicates bytes.
+    and_then (past (codes " errors=") bytes number64) (λ errors bytes.
     past (codes "\n") bytes (λ bytes.
-    Some (record { packets = packets; breaks = breaks; duplicates = duplicates; errors = errors }, bytes))))))))))
+    Some (record { packets = packets; breaks = breaks; duplicates = duplicates; errors = errors }, bytes))))))
 
 unfoldable pub row_in : List ℕ → Reading (ℕ × PidRow)
 row_in bytes =
@@ -42,9 +42,9 @@ rows_in bytes = all_in (begins_with (codes "pid ")) row_in bytes
 -- a system time counter
 unfoldable pub stc_in : List ℕ → Reading OutcomeKind
 stc_in bytes =
-    past (codes "stc base=") bytes (λ bytes. and_then (number32 bytes) (λ base bytes.
-    past (codes " value=") bytes (λ bytes. and_then (number64 bytes) (λ value bytes.
-    Some (outcome.Stc base value, bytes)))))
+    and_then (past (codes "stc base=") bytes number32) (λ base bytes.
+    and_then (past (codes " value=") bytes number64) (λ value bytes.
+    Some (outcome.Stc base value, bytes)))
 
 unfoldable pub kind_in : List ℕ → Reading OutcomeKind
 kind_in bytes =
@@ -55,12 +55,12 @@ kind_in bytes =
 
 unfoldable pub outcome_in : List ℕ → Reading Outcome
 outcome_in bytes =
-    past (codes "line ") bytes (λ bytes. and_then (number32 bytes) (λ line bytes.
-    past (codes " steps ") bytes (λ bytes. and_then (number64 bytes) (λ from bytes.
-    past (codes "..") bytes (λ bytes. and_then (number64 bytes) (λ to bytes.
+    and_then (past (codes "line ") bytes number32) (λ line bytes.
+    and_then (past (codes " steps ") bytes number64) (λ from bytes.
+    and_then (past (codes "..") bytes number64) (λ to bytes.
     past (codes " ") bytes (λ bytes. and_then (kind_in bytes) (λ kind bytes.
     past (codes "\n") bytes (λ bytes.
-    Some (record { line = line; from = from; to = to; kind = kind }, bytes))))))))))
+    Some (record { line = line; from = from; to = to; kind = kind }, bytes)))))))
 
 abbrev pub outcomes_in : List ℕ → Reading (List Outcome)
 outcomes_in bytes = all_in (begins_with (codes "line ")) outcome_in bytes

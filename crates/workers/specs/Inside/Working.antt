@@ -13,7 +13,7 @@ use Rattle.client_core.specs.Events.{waits_on}
 use Rattle.script_run.specs.IsRun.{replies}
 use Rattle.adapter.specs.Callers.{IsSameCaller}
 use Rattle.adapter.specs.Rows.{Fits}
-use Rattle.trace_merge.specs.Merging.{AreOnNodes}
+use Rattle.adapter.specs.Merging.{AreOnNodes}
 use Rattle.workers.specs.declared.client_worker.ClientWorker.{ClientWorker}
 use Rattle.workers.specs.Logged.{HasCalled}
 

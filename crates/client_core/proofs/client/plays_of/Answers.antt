@@ -1,7 +1,7 @@
 use Rattle.std.proofs.Common.{◌≡◌, ◌∙◌, ap, length, take, arith}
 use Rattle.std.proofs.lemmas.List.{length-take-le}
 use Rattle.client_script.specs.Script.{writes_of}
-use Rattle.dvr_play.proofs.Joining.{are_counted}
+use Rattle.client_core.proofs.Joining.{are_counted}
 use Rattle.client_core.proofs.client.plays_of.Goals as goal
 
 pub push-requires-clause-room : goal.push-requires-clause-room

@@ -1,7 +1,7 @@
 use Rattle.std.proofs.Common.{◌≡◌, ◌+◌, ◌-◌, ◌++◌, [], length, map}
 use Rattle.dmx_calls.specs.declared.limits.TheConstants.{DEMUX_NODES}
 use Rattle.dmx_calls.specs.Calls.{told_entry}
-use Rattle.report_runs.specs.Completed.{complete}
+use Rattle.report_check.specs.Completed.{complete}
 use Rattle.report_check.specs.Inside.Parts.{told_nodes, dealt}
 use Rattle.report_check.proofs.client.dealt.Given as goal
 

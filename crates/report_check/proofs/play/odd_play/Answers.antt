@@ -4,7 +4,7 @@ use Rattle.dmx_calls.specs.declared.limits.TheConstants.{DEMUX_NODES}
 use Rattle.dmx_calls.specs.declared.log.Entry.{Entry as ToldEntry}
 use Rattle.dmx_calls.specs.Calls.{told_entry}
 use Rattle.report_text.specs.Told.{ToldNode}
-use Rattle.history_check.specs.Playing.{brought_from}
+use Rattle.report_check.specs.Playing.{brought_from}
 use Rattle.report_check.specs.Inside.Parts.{told_node, are_sound, IsPlayed}
 use Rattle.report_check.proofs.Lists.{at_front, at_behind, at_both, at_none}
 use Rattle.report_check.proofs.play.odd_play.Goals as goal

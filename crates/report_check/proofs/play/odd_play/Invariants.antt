@@ -1,6 +1,6 @@
 use Rattle.std.proofs.Common.{◌≡◌, ◌<◌, ◌≤◌, ◌^◌, ℕ, true, length, map, All}
 use Rattle.dmx_calls.specs.declared.limits.TheConstants.{DEMUX_NODES}
-use Rattle.history_check.specs.Playing.{brought_from}
+use Rattle.report_check.specs.Playing.{brought_from}
 use Rattle.report_check.specs.Inside.Parts.{told_nodes, are_sound, IsPlayed}
 use Rattle.report_check.proofs.play.odd_play.Given as goal
 

@@ -5,7 +5,7 @@ use Rattle.std.specs.Prelude.{Vec}
 use Rattle.std.specs.List.{All, range_with_len}
 use Rattle.std.specs.declared.alloc.Global.{Global}
 use Rattle.client_core.specs.Commands.{played}
-use Rattle.history_check.specs.Playing.{AreFewPackets}
+use Rattle.report_check.specs.Playing.{AreFewPackets}
 use Rattle.report_check.proofs.Players.{all_few}
 use Rattle.report_check.proofs.played.all_played.Goals as goal
 

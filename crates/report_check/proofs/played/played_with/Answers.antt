@@ -3,9 +3,9 @@ use Rattle.std.proofs.lemmas.List.{length-take-le, take_all, take_more}
 use Rattle.std.specs.List.{flat_map}
 use Rattle.std.specs.Prelude.{None, slice_index_or}
 use Rattle.client_script.specs.Script.{writes_of}
-use Rattle.dvr_play.specs.Laws.{packets_in}
-use Rattle.dvr_play.specs.Plays.{HasPlayed, cut_of}
-use Rattle.dvr_play.proofs.Joining.{are_counted, are_joined}
+use Rattle.client_core.specs.PlayLaws.{packets_in}
+use Rattle.client_core.specs.Plays.{HasPlayed, cut_of}
+use Rattle.client_core.proofs.Joining.{are_counted, are_joined}
 use Rattle.report_check.proofs.Players.{batch_more, batches_more}
 use Rattle.report_check.proofs.played.played_with.Goals as goal
 

@@ -7,9 +7,9 @@ use Rattle.std.specs.List.{All}
 use Rattle.client_script.specs.Script.{clients_in}
 use Rattle.report_text.specs.Told.{ToldNode}
 use Rattle.report_read.specs.Report.{told_of}
-use Rattle.history_check.specs.Playing.{AreFewPackets, brought_from}
+use Rattle.report_check.specs.Playing.{AreFewPackets, brought_from}
 use Rattle.report_check.specs.Inside.Parts.{all_played, told_nodes, AreSoundNodes, IsPlayed, dealt, AreDoneAs, HasPassed}
-use Rattle.walk_check.specs.Inside.Steps.{left_on}
+use Rattle.report_check.specs.Inside.Steps.{left_on}
 use Rattle.report_check.proofs.Dealt.{Node}
 use Rattle.report_check.proofs.Few.{few_left}
 use Rattle.report_check.proofs.Checking.{bounds, sound_all}

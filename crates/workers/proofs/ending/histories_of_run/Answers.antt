@@ -7,7 +7,7 @@ use Rattle.dmx_calls.specs.Calls.{told_entry}
 use Rattle.dmx_calls.specs.Histories.{histories_of}
 use Rattle.script_run.specs.IsRun.{sources}
 use Rattle.script_run.specs.WholeRun.{IsWholeRun}
-use Rattle.trace_merge.specs.Merging.{AreOnNodes}
+use Rattle.adapter.specs.Merging.{AreOnNodes}
 use Rattle.workers.specs.Left.{AreWorked}
 use Rattle.workers.specs.Telling.{HaveCalled, TellWhatWasCalled}
 use Rattle.workers.proofs.Ended.{have_called, whole_run}

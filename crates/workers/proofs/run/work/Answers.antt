@@ -10,7 +10,7 @@ use Rattle.workers.proofs.Beginning.{begun_fit, begun_few, begun_feeder, begun_p
 use Rattle.feed_pull.proofs.Stopping.{on_err, many_reads, of_stream}
 use Rattle.workers.proofs.Leaving.{all_worked, all_same, all_on_nodes, worked_feeder, no_stop, one_of_both, still_callers}
 use Rattle.adapter.specs.Nodes.{is_in}
-use Rattle.script_nodes.specs.Named.{is_named}
+use Rattle.workers.specs.Named.{is_named}
 use Rattle.workers.proofs.FeederWork.{as_named}
 use Rattle.workers.proofs.TooLong.{calls_by}
 use Rattle.workers.proofs.Budgeting.{many_calls}

@@ -2,7 +2,7 @@ use Rattle.std.proofs.Common.{rules, ◌≡◌, ℕ, List, subst, sym, ◌∙◌
 use Rattle.std.proofs.lemmas.List.{get_or_default}
 use Rattle.std.specs.Prelude.{slice_index_or}
 use Rattle.dmx_calls.specs.Calls.{response_of}
-use Rattle.stc_clock.specs.Clock.{HasFollowed}
+use Rattle.client_core.specs.Clock.{HasFollowed}
 use Rattle.client_core.specs.Stc.{bytes_after, type_after}
 use Rattle.client_core.specs.Inside.Clocks.{NodeClock, uncalled, HaveFollowed}
 use Rattle.client_core.proofs.Following.{followed_more}

@@ -1,5 +1,5 @@
 use Rattle.std.proofs.Common.{sym, subst, refl}
-use Rattle.serve_frames.specs.declared.ask.Ask.{Ask}
+use Rattle.seats.specs.declared.serve_frames.ask.Ask.{Ask}
 use Rattle.seats.specs.Doing.{KeepsBy}
 use Rattle.seats.specs.Spelled.{commands_done_by}
 use Rattle.seats.proofs.Doing.{answered_leave, answered_untold, answered_wanting}

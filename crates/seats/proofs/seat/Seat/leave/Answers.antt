@@ -4,7 +4,7 @@ use mathlib.Core.Logic.{dite}
 use native.Mathlib.Decide.{ℕ_discrete}
 use Rattle.seats.specs.Holding.{HasLeft}
 use Rattle.seats.proofs.Doing.{closings_none, closings_more}
-use Rattle.serve_frames.specs.declared.ask.Ask.TheVariants.{Leave}
+use Rattle.seats.specs.declared.serve_frames.ask.Ask.TheVariants.{Leave}
 use Rattle.seats.specs.Spelled.{commands_done_by}
 use Rattle.seats.proofs.Closing.{closes_none, closes_more}
 use Rattle.seats.proofs.Keeping.{keeps_none, keeps_more}

@@ -1,6 +1,6 @@
 use Rattle.std.proofs.Common.{rules, ◌≡◌, Bool, get_or, false, true, Some, refl, ap, sym, ◌∙◌}
 use Rattle.std.proofs.lemmas.Option.{slice_get-get_or, get_or_from_slice_get}
-use Rattle.serve_frames.specs.declared.ask.Ask.TheVariants.{Leave}
+use Rattle.seats.specs.declared.serve_frames.ask.Ask.TheVariants.{Leave}
 use Rattle.seats.specs.Spelled.{commands_done_by}
 use Rattle.seats.proofs.Closing.{closes_none, closes_one}
 use Rattle.seats.proofs.Keeping.{keeps_none, keeps_closed}

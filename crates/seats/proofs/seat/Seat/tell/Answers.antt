@@ -1,5 +1,5 @@
 use Rattle.std.proofs.Common.{rules, ◌≡◌, length}
-use Rattle.serve_frames.specs.Tells.{head_of}
+use Rattle.seats.specs.Tells.{head_of}
 use Rattle.seats.specs.Told.{data_read, call_at}
 use Rattle.seats.proofs.Turning.{told_whole}
 use Rattle.seats.proofs.seat.Seat.tell.Goals as goal

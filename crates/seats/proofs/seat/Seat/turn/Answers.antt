@@ -1,5 +1,5 @@
 use Rattle.std.proofs.Common.{rules, ◌≡◌, length}
-use Rattle.serve_frames.specs.declared.numbers.TheConstants.{REQUEST_LEN}
+use Rattle.seats.specs.declared.serve_frames.numbers.TheConstants.{REQUEST_LEN}
 use Rattle.seats.specs.Seated.{log_of}
 use Rattle.seats.specs.Told.{data_read, call_at}
 use Rattle.seats.proofs.Going.{goes_self}

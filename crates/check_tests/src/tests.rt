@@ -1,6 +1,0 @@
-// What the rows share, and the rows.
-
-mod checked;
-mod played;
-mod told;
-mod walked;

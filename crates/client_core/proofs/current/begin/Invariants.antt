@@ -1,0 +1,31 @@
+use Rattle.std.proofs.Common.{◌≡◌, ℕ, ◌+◌, ◌≤◌, List, ◌++◌, map, length, vec_capacity}
+use Rattle.std.specs.List.{All}
+use Rattle.dmx_calls.specs.Response.{Response}
+use Rattle.dmx_calls.specs.declared.outcome.Outcome.{Outcome}
+use Rattle.client_core.specs.declared.command.Command.{Command}
+use Rattle.client_core.specs.Commands.{Slots}
+use Rattle.client_core.specs.Events.{Ended, progress_from}
+use Rattle.client_core.specs.Outcomes.{outcome_by}
+use Rattle.client_core.specs.Inside.Tasks.{AreSlots}
+use Rattle.client_core.specs.Inside.Clocks.{NodeClock, counter_in}
+use Rattle.client_core.specs.Deeds.{Batches}
+use Rattle.client_core.specs.Inside.Core.{behind, IsLate, IsCommandInRange, IsCommandOf, CanBegin}
+use Rattle.client_core.proofs.current.begin.Given as goal
+
+-- the commands that were begun are through, and the client goes on as at first
+pub record Beginning (clocks : List NodeClock) (step : ℕ) (slots_before slots : Slots) (left_before left : List Command) (outcomes_before outcomes : List Outcome) (room : ℕ) : Type 0 where
+  pub passed : List Ended
+  pub same : (more : List Response) → progress_from slots_before step left_before more ≡ behind passed (progress_from slots step left more)
+  pub told : outcomes ≡ outcomes_before ++ map (outcome_by (counter_in clocks)) passed
+  pub late : All (IsLate (length clocks) step) passed
+  pub ranges : All IsCommandInRange left
+  pub asked : All (CanBegin (length clocks)) left
+  pub bound : AreSlots slots
+  pub played : (batches : Batches) → All (IsCommandOf batches) left_before → All (IsCommandOf batches) left
+  pub enough : length outcomes + length left ≤ room
+
+abbrev pub invariant-commands : goal.invariant-commands
+invariant-commands l = Beginning l.clocks l.step l.initial.slots l.slots l.initial.left l.left l.initial.outcomes.items l.outcomes.items (vec_capacity l.outcomes)
+
+abbrev pub decreases-commands : goal.decreases-commands
+decreases-commands l = length l.left

@@ -1,3 +1,0 @@
-pub mod Plays
-pub mod Laws
-pub mod Examples

@@ -1,0 +1,6 @@
+pub mod Words
+pub mod Overflows
+pub mod Timeouts
+pub mod Dvr
+pub mod Refusals
+pub mod Histories

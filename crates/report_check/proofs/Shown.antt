@@ -1,0 +1,23 @@
+-- A report is the text of what it tells.
+use Rattle.std.proofs.Common.{◌≡◌, refl, ℕ, suc, List, [], ◌∷◌, Bool, true, false}
+use Rattle.std.specs.List.{flat_map, list_any}
+use Rattle.dmx_calls.specs.declared.outcome.Outcome.{Outcome}
+use Rattle.ts_watch.specs.Head.{StreamHead}
+use Rattle.dmx_calls.specs.Log.{LogEntry}
+use Rattle.report_text.specs.Entries.{is_of_client, histories_text}
+use Rattle.report_text.specs.Report.{report_of}
+use Rattle.report_text.specs.Told.{told_node_text, text_of}
+use Rattle.report_check.specs.Completed.{shown}
+use Rattle.report_check.specs.Completed.{told_by}
+
+shown_one : (node : ℕ) (h : List LogEntry) (hs : List (List LogEntry)) → histories_text (suc node) hs ≡ flat_map told_node_text (shown (suc node) hs)
+    → (b : Bool) → list_any is_of_client h ≡ b → histories_text node (h ∷ hs) ≡ flat_map told_node_text (shown node (h ∷ hs))
+shown_one node h hs later true e = rw (e, later) refl
+shown_one node h hs later false e = rw (e, later) refl
+
+shown_text : (node : ℕ) (hs : List (List LogEntry)) → histories_text node hs ≡ flat_map told_node_text (shown node hs)
+shown_text node [] = refl
+shown_text node (h ∷ hs) = shown_one node h hs (shown_text (suc node) hs) (list_any is_of_client h) refl
+
+pub reports_tell : (head : StreamHead) (outcomes : List (List Outcome)) (hs : List (List LogEntry)) → report_of head outcomes hs ≡ text_of (told_by head outcomes hs)
+reports_tell head outcomes hs = rw (shown_text 0 hs) refl

@@ -1,0 +1,13 @@
+use Rattle.std.proofs.Common.{◌≡◌, map, take, All}
+use Rattle.std.specs.Prelude.{◌≢◌}
+use Rattle.dmx_calls.specs.Calls.{told_entry}
+use Rattle.dmx_calls.specs.Response.{NoMemory}
+use Rattle.report_check.specs.Playing.{brought_from, played}
+use Rattle.report_check.proofs.history_check.replay.is_played.Given as goal
+
+abbrev pub invariant-entries : goal.invariant-entries
+invariant-entries g l = record {
+  stands : g.M.Machine.stands_for l.core (played (brought_from l.stream (map (λ p. p.items) l.played)) (map told_entry (take l.entry-index l.entries)));
+  answered : All (λ e. e.response ≢ NoMemory) (map told_entry (take l.entry-index l.entries));
+  calls : g.M.Machine.entries l.core ≡ l.entry-index;
+}

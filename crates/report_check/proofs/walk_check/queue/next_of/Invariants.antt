@@ -1,0 +1,13 @@
+use Rattle.std.proofs.Common.{◌≡◌, ◌≤◌, length, map}
+use Rattle.dmx_calls.specs.Calls.{told_entry}
+use Rattle.report_check.specs.Walk.{of_client}
+use Rattle.report_check.proofs.walk_check.queue.next_of.Given as goal
+
+abbrev pub invariant-entries : goal.invariant-entries
+invariant-entries l = record {
+  same : of_client l.client (map told_entry l.entries) ≡ of_client l.client (map told_entry l.left);
+  long : length l.left ≤ length l.entries;
+}
+
+abbrev pub decreases-entries : goal.decreases-entries
+decreases-entries l = length l.left

@@ -1,0 +1,91 @@
+use Rattle.std.proofs.Common.{◌≡◌, ◌<◌, ◌≤◌, ◌+◌, ◌∙◌, ◌∷◌, ◌++◌, [], ℕ, List, length, map, Some, None, Bor, All, sym, subst, arith, append_assoc, append-nil}
+use Rattle.std.proofs.lemmas.List.{map-append}
+use Rattle.std.specs.Prelude.{Option}
+use Rattle.dmx_calls.specs.declared.log.Entry.{Entry as ToldEntry}
+use Rattle.dmx_calls.specs.Calls.{told_entry, response_of}
+use Rattle.dmx_calls.specs.Log.{LogEntry}
+use Rattle.dmx_calls.specs.Response.{Response}
+use Rattle.client_core.specs.declared.event.Event.{Event}
+use Rattle.client_core.specs.Deeds.{Batches}
+use Rattle.client_core.specs.Commands.{plays_of}
+use Rattle.client_core.specs.Events.{next_event}
+use Rattle.client_core.specs.Inside.Core.{IsAfter}
+use Rattle.script_run.specs.IsRun.{IsEvent, replies}
+use Rattle.report_check.specs.Walk.{IsRest, CanRest, queues_in}
+use Rattle.report_check.specs.Inside.Steps.{IsTaken, left_on}
+use Rattle.report_check.proofs.Walking.{step_back, step_on, stuck, end_on}
+use Rattle.report_check.proofs.Queues.{told_of, queue, all_empty, each_empty}
+use Rattle.report_check.proofs.walk_check.walk.is_walked.Goals as goal
+
+pub returns-in_default-take_next-clause-other : goal.returns-in_default-take_next-clause-other
+returns-in_default-take_next-clause-other c t script after can =
+    let on = c.walk.invariant.on script after in
+    let next : next_event c.args.client script (replies on.made) ≡ Some c.in-Some.event = sym (c.in-Some.ensures.tied c.args.client script (replies on.made) on.after) in
+    stuck c.args.client script (replies on.made) (queues_in c.args.client (map told_of c.walk.nodes.items)) c.in-Some.event next c.in_default-take_next.ensures.next (on.on can)
+
+pub returns-then-not-is_event-clause-other : goal.returns-then-not-is_event-clause-other
+returns-then-not-is_event-clause-other c t script after can =
+    let on = c.walk.invariant.on script after in
+    let next : next_event c.args.client script (replies on.made) ≡ Some c.in-Some.event = sym (c.in-Some.ensures.tied c.args.client script (replies on.made) on.after) in
+    let s = step_on c.args.client script (replies on.made) (queues_in c.args.client (map told_of c.walk.nodes.items)) c.in-Some.event (told_entry c.in-Some-take_next.entry.now)
+    (queues_in c.args.client (map told_of c.take_next.new.nodes.items)) next c.in-Some-take_next.ensures.next (on.on can) in
+    c.is_event.ensures.other c.if-not-is_event.true
+    (subst (λ (batches : Batches). IsEvent batches (Some c.in-Some.event) (told_entry c.in-Some-take_next.entry.now)) (sym on.after.plays) s.0) (s.1 ∙ (sym on.after.steps ∙ sym c.in-Some.ensures.node.0))
+
+pub walk-preserved : goal.walk-preserved
+walk-preserved c =
+    let less : left_on (map told_of c.take_next.new.nodes.items) < left_on (map told_of c.walk.nodes.items) = c.in-Some-take_next.ensures.fewer in
+    let few : c.walk.core.step + left_on (map told_of c.walk.nodes.items) ≤ c.args.core.now.step + left_on (map told_of c.args.nodes.now.items) = c.walk.invariant.few in
+    let one : c.take.new.self.step ≡ c.walk.core.step + 1 = c.take.ensures.step in
+    let still : c.take.new.self.step + left_on (map told_of c.take_next.new.nodes.items) ≤ c.args.core.now.step + left_on (map told_of c.args.nodes.now.items) = omega (arith, less, few, one) in
+    record {
+      nodes = c.in-Some-take_next.ensures.nodes ∙ c.walk.invariant.nodes;
+      few = still;
+      on = λ script after.
+          let on = c.walk.invariant.on script after in
+          let next : next_event c.args.client script (replies on.made) ≡ Some c.in-Some.event = sym (c.in-Some.ensures.tied c.args.client script (replies on.made) on.after) in
+          let is = c.is_event.ensures.is c.if-not-is_event.false in
+          let e : LogEntry = told_entry c.in-Some-take_next.entry.now in
+          let first : List (List LogEntry) = queues_in c.args.client (map told_of c.args.nodes.now.items) in
+          let here : List (List LogEntry) = queues_in c.args.client (map told_of c.walk.nodes.items) in
+          let behind : List (List LogEntry) = queues_in c.args.client (map told_of c.take_next.new.nodes.items) in
+          let own : IsEvent (plays_of c.args.client script) (Some c.in-Some.event) e = subst (λ (batches : Batches). IsEvent batches (Some c.in-Some.event) e) on.after.plays is.0 in
+          let event : IsEvent (plays_of c.args.client script) (next_event c.args.client script (replies on.made)) e = subst (λ (o : Option Event). IsEvent (plays_of c.args.client script) o e) (sym next) own in
+          let taken : IsTaken e.node e here behind = subst (λ (n : ℕ). IsTaken n e here behind) (sym is.0.0) c.in-Some-take_next.ensures.next in
+          let step : e.step ≡ length (replies on.made) = is.1 ∙ (c.in-Some.ensures.node.0 ∙ on.after.steps) in
+          let more : replies (on.made ++ e ∷ []) ≡ replies on.made ++ e.response ∷ [] = map-append (λ (f : LogEntry). f.response) on.made (e ∷ []) in
+          record {
+            made = on.made ++ e ∷ [];
+            after = subst (λ (rs : List Response). IsAfter c.args.client script rs c.take.new.self) (sym more)
+                (subst (λ r. IsAfter c.args.client script (replies on.made ++ response_of r ∷ []) c.take.new.self) c.told.ensures (c.take.ensures.after c.args.client script (replies on.made) on.after));
+            back = λ later rest.
+                let there : IsRest c.args.client script (replies on.made ++ e.response ∷ []) behind later = subst (λ (rs : List Response). IsRest c.args.client script rs behind later) more rest in
+                let whole : IsRest c.args.client script [] first (on.made ++ e ∷ later) = on.back (e ∷ later) (step_back c.args.client script (replies on.made) here e behind later event step taken there) in
+                subst (λ (es : List LogEntry). IsRest c.args.client script [] first es) (sym (append_assoc on.made (e ∷ []) later)) whole;
+            on = λ can.
+                let s = step_on c.args.client script (replies on.made) here c.in-Some.event e behind next c.in-Some-take_next.ensures.next (on.on can) in
+                subst (λ (rs : List Response). CanRest c.args.client script rs behind) (sym more) s.2;
+          };
+    }
+
+pub returns-clause-walked : goal.returns-clause-walked
+returns-clause-walked c e script after =
+    let on = c.walk.invariant.on script after in
+    let first : List (List LogEntry) = queues_in c.args.client (map told_of c.args.nodes.now.items) in
+    let none : next_event c.args.client script (replies on.made) ≡ None = sym (c.in_default.ensures.tied c.args.client script (replies on.made) on.after) in
+    let all : All (λ (q : Bor (List ToldEntry)). queue c.args.client q ≡ []) c.walk.nodes.items =
+    subst (λ (xs : List (Bor (List ToldEntry))). All (λ q. queue c.args.client q ≡ []) xs) c.deref.ensures.value (c.is_none_left.ensures.none e) in
+    let walk : IsRest c.args.client script (replies on.made) (queues_in c.args.client (map told_of c.walk.nodes.items)) [] = (none, all_empty c.args.client c.walk.nodes.items all) in
+    record {
+      made = on.made;
+      walk = subst (λ (es : List LogEntry). IsRest c.args.client script [] first es) (append-nil on.made) (on.back [] walk);
+      after = on.after;
+    }
+
+pub returns-clause-other : goal.returns-clause-other
+returns-clause-other c e script after can =
+    let on = c.walk.invariant.on script after in
+    let none : next_event c.args.client script (replies on.made) ≡ None = sym (c.in_default.ensures.tied c.args.client script (replies on.made) on.after) in
+    let all : All (λ (q : Bor (List ToldEntry)). queue c.args.client q ≡ []) c.walk.nodes.items =
+    each_empty c.args.client c.walk.nodes.items (end_on c.args.client script (replies on.made) (queues_in c.args.client (map told_of c.walk.nodes.items)) none (on.on can)) in
+    c.is_none_left.ensures.some e (subst (λ (xs : List (Bor (List ToldEntry))). All (λ q. queue c.args.client q ≡ []) xs) (sym c.deref.ensures.value) all)

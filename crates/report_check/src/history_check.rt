@@ -1,0 +1,8 @@
+// Told histories, played again: whether a node's told entries are those that its calls give.
+mod calls;
+mod replay;
+mod same;
+
+pub use calls::call_told;
+pub use replay::{agrees, is_played};
+pub use same::is_same_reply;

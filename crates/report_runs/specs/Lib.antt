@@ -1,3 +1,0 @@
-pub mod Completed
-pub mod Right
-pub mod Laws

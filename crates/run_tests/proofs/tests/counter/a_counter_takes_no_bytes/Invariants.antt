@@ -1,5 +1,0 @@
-use Rattle.run_tests.proofs.tests.counter.a_counter_takes_no_bytes.Given as goal
-
--- a ledger of its own
-abbrev pub ghosts-count_two : goal.ghosts-count_two
-ghosts-count_two g a = record { name = a.blank.name; parts = a.blank.parts }

@@ -1,0 +1,3 @@
+pub mod Two
+pub mod Parity
+pub mod Alone

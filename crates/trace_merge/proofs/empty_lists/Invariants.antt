@@ -1,5 +1,0 @@
-use Rattle.std.proofs.Common.{◌≡◌, ℕ, [], length, map, get_or}
-use Rattle.trace_merge.proofs.empty_lists.Given as goal
-
-abbrev pub invariant-nodes : goal.invariant-nodes
-invariant-nodes l = (length l.nodes.items ≡ l.counter) × ((node : ℕ) → get_or (map (λ calls. calls.items) l.nodes.items) node [] ≡ [])

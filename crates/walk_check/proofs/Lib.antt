@@ -1,5 +1,0 @@
-pub mod Asked
-pub mod Walking
-pub mod Queues
-pub mod Doing
-pub mod OneWalk

@@ -1,7 +1,0 @@
-use Rattle.std.proofs.Common.{◌≡◌, ◌<◌, ℕ, List, [], Bor, get_or}
-use Rattle.dmx_calls.specs.declared.log.Entry.{Entry as ToldEntry}
-use Rattle.walk_check.proofs.Queues.{queue}
-use Rattle.walk_check.proofs.queue.is_none_left.Given as goal
-
-abbrev pub invariant-nodes : goal.invariant-nodes
-invariant-nodes l = (k : ℕ) → k < l.entries-index → (d : Bor (List ToldEntry)) → queue l.client (get_or l.nodes k d) ≡ []

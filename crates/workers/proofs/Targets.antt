@@ -1,0 +1,62 @@
+-- The nodes that a script can name, line by line.
+use Rattle.std.proofs.Common.{◌≡◌, ℕ, ◌+◌, ◌≤◌, Bool, true, false, ◌||◌, nat_eq, eq-eqb, ne_eqb, List, [], length, set, replicate, refl, ap, sym, ◌∙◌, arith}
+use Rattle.std.specs.Prelude.{slice_index_or}
+use Rattle.std.proofs.lemmas.List.{get_or-set_same, get_or-set_other, get_or-replicate}
+use mathlib.Core.Logic.{dite}
+use native.Mathlib.Decide.{ℕ_discrete}
+use Rattle.dmx_calls.specs.declared.limits.TheConstants.{DEMUX_NODES}
+use Rattle.client_script.specs.declared.line.Target.{Target}
+use Rattle.client_script.specs.declared.line.Target.TheVariants.{Slot}
+use Rattle.client_script.specs.declared.line.Verb.{Verb}
+use Rattle.client_script.specs.declared.line.Verb.TheVariants.{Write}
+use Rattle.workers.specs.Named.{is_for, is_named, passes_all}
+
+-- whether a node is among these
+abbrev is_in : List Bool → (node : ℕ) → Bool
+is_in nodes node = slice_index_or nodes node false
+
+or_false : (b : Bool) → (b || false) ≡ b
+or_false true = refl
+or_false false = refl
+
+-- what is set in a list of so many is set there alone
+set_in : (nodes : List Bool) (n node : ℕ) → length nodes ≡ DEMUX_NODES + 1 → n ≤ DEMUX_NODES → is_in (set nodes n true) node ≡ (is_in nodes node || nat_eq n node)
+set_in nodes n node long low = dite (ℕ_discrete node n)
+    (λ here. ap (is_in (set nodes n true)) here ∙ get_or-set_same nodes n true false (omega (arith, long, low)) ∙ sym (ap (λ b. is_in nodes node || b) (eq-eqb n node (sym here)) ∙ or_true (is_in nodes node)))
+    (λ other. get_or-set_other nodes n node true false other ∙ sym (ap (λ b. is_in nodes node || b) (ne_eqb n node (λ e. other (sym e))) ∙ or_false (is_in nodes node))) where
+      or_true : (b : Bool) → (b || true) ≡ true
+      or_true true = refl
+      or_true false = refl
+
+all_in : (node : ℕ) → node ≤ DEMUX_NODES → is_in (replicate (DEMUX_NODES + 1) true) node ≡ true
+all_in node low = get_or-replicate (DEMUX_NODES + 1) node true false (omega (arith, low))
+
+none_in : (node : ℕ) → node ≤ DEMUX_NODES → is_in (replicate (DEMUX_NODES + 1) false) node ≡ false
+none_in node low = get_or-replicate (DEMUX_NODES + 1) node false false (omega (arith, low))
+
+-- before the first line
+no_line : (nodes : List Bool) (node : ℕ) → is_in nodes node ≡ (false || nat_eq DEMUX_NODES node) → is_in nodes node ≡ is_named [] node
+no_line nodes node is = is ∙ (turned ∙ sym (or_false (nat_eq node DEMUX_NODES))) where
+  turned : nat_eq DEMUX_NODES node ≡ nat_eq node DEMUX_NODES
+  turned = dite (ℕ_discrete node DEMUX_NODES) (λ e. eq-eqb DEMUX_NODES node (sym e) ∙ sym (eq-eqb node DEMUX_NODES e)) (λ n. ne_eqb DEMUX_NODES node (λ e. n (sym e)) ∙ sym (ne_eqb node DEMUX_NODES n))
+
+pub first_line : (node : ℕ) → node ≤ DEMUX_NODES → is_in (set (replicate (DEMUX_NODES + 1) false) DEMUX_NODES true) node ≡ is_named [] node
+first_line node low =
+    no_line (set (replicate (DEMUX_NODES + 1) false) DEMUX_NODES true) node
+    (set_in (replicate (DEMUX_NODES + 1) false) DEMUX_NODES node refl (omega arith) ∙ ap (λ b. b || nat_eq DEMUX_NODES node) (none_in node low))
+
+-- a slot may be any node
+pub any_node : (nodes : List Bool) (target : Target) (slot node : ℕ) → target ≡ Slot slot → node ≤ DEMUX_NODES → is_in (replicate (DEMUX_NODES + 1) true) node ≡ (is_in nodes node || is_for target node)
+any_node nodes target slot node is low = all_in node low ∙ sym (ap (λ t. is_in nodes node || is_for t node) is ∙ or_true (is_in nodes node)) where
+  or_true : (b : Bool) → (b || true) ≡ true
+  or_true true = refl
+  or_true false = refl
+
+-- what is written may pass any node
+pub any_write : (nodes : List Bool) (target : Target) (verb : Verb) (write node : ℕ) → verb ≡ Write write → node ≤ DEMUX_NODES
+    → is_in (replicate (DEMUX_NODES + 1) true) node ≡ (is_in nodes node || (is_for target node || passes_all verb))
+any_write nodes target verb write node is low =
+    all_in node low ∙ sym (ap (λ v. is_in nodes node || (is_for target node || passes_all v)) is ∙ (ap (λ b. is_in nodes node || b) (or_true (is_for target node)) ∙ or_true (is_in nodes node))) where
+      or_true : (b : Bool) → (b || true) ≡ true
+      or_true true = refl
+      or_true false = refl

@@ -1,0 +1,54 @@
+/* What the own calls share: each case is a function that runs in a process of its own, over a stream with a PAT of PID 0. */
+#ifndef DVBEMU_CASES_H
+#define DVBEMU_CASES_H
+
+#include <errno.h>
+#include <fcntl.h>
+#include <linux/dvb/dmx.h>
+#include <linux/dvb/frontend.h>
+#include <poll.h>
+#include <pthread.h>
+#include <signal.h>
+#include <stdint.h>
+#include <stdio.h>
+#include <stdlib.h>
+#include <string.h>
+#include <sys/ioctl.h>
+#include <sys/wait.h>
+#include <unistd.h>
+
+#define DEMUX "/dev/dvb/adapter0/demux0"
+#define RECORDER "/dev/dvb/adapter0/dvr0"
+#define TUNER "/dev/dvb/adapter0/frontend0"
+enum { PACKET = 188, NEVER = 0x1ff0, ALL_PIDS = 0x2000, FREQUENCY = 474000000 };
+
+/* a case; some want that no other one runs beside it */
+struct one {
+	const char *name;
+	void (*try)(void);
+	int alone;
+};
+#define CASE(name) { #name, name, 0 }
+#define ALONE(name) { #name, name, 1 }
+extern const struct one paths[], descriptors[], waits[], reads[], tunings[];
+
+extern unsigned char bytes[1 << 21];
+
+/* ends the case where this doesn't hold */
+void want(int holds, const char *what);
+double seconds(void);
+void pause_for(int milliseconds);
+/* an open demux node, with a filter on sections of the PAT or on a PID that brings none; the recorder and the tuner once they are free */
+int demux(int flags);
+int pat(int flags);
+int silent(int flags);
+int recorder(int flags);
+int tuner(int flags);
+void set_section(int fd, int pid);
+void record_all(int fd);
+/* a read gives a whole PAT */
+int is_pat(int fd);
+/* how a child ends that does this */
+int child(void (*does)(void *), void *with);
+
+#endif

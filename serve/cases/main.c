@@ -1,0 +1,176 @@
+/*
+ * Own calls on an adapter, as serve/check has them: cases [NAME ..], cases +lock for whether the frontend has one. Each case runs in a
+ * process of its own, several side by side. The last line is `N passed, M failed`.
+ */
+#define _GNU_SOURCE
+#include <time.h>
+
+#include "cases.h"
+
+enum { MOST_SECONDS = 40, LANES = 6, PAT_BYTES = 24, TRIES = 1000 };
+
+unsigned char bytes[1 << 21];
+
+void want(int holds, const char *what)
+{
+	if (holds)
+		return;
+	printf("failed: %s (errno %d, %s)\n", what, errno, strerror(errno));
+	fflush(stdout);
+	_exit(1);
+}
+
+double seconds(void)
+{
+	struct timespec now;
+	clock_gettime(CLOCK_MONOTONIC, &now);
+	return (double)now.tv_sec + (double)now.tv_nsec / 1e9;
+}
+
+void pause_for(int milliseconds) { usleep((useconds_t)milliseconds * 1000); }
+
+void set_section(int fd, int pid)
+{
+	struct dmx_sct_filter_params params = { .pid = (uint16_t)pid, .flags = DMX_IMMEDIATE_START };
+	params.filter.mask[0] = pid == NEVER ? 0 : 0xff;
+	want(!ioctl(fd, DMX_SET_FILTER, &params), "a section filter");
+}
+
+int demux(int flags)
+{
+	int fd = open(DEMUX, O_RDWR | flags);
+	want(fd >= 0, "open of demux0");
+	return fd;
+}
+
+int pat(int flags)
+{
+	int fd = demux(flags);
+	set_section(fd, 0);
+	return fd;
+}
+
+int silent(int flags)
+{
+	int fd = demux(flags);
+	set_section(fd, NEVER);
+	return fd;
+}
+
+/* opens what one program may have at a time, once it is free */
+static int once_free(const char *path, int flags)
+{
+	int fd = -1;
+	for (int i = 0; i < TRIES && (fd = open(path, flags)) < 0 && errno == EBUSY; i++)
+		pause_for(20);
+	want(fd >= 0, path);
+	return fd;
+}
+
+int recorder(int flags) { return once_free(RECORDER, flags); }
+int tuner(int flags) { return once_free(TUNER, flags); }
+
+void record_all(int fd)
+{
+	struct dmx_pes_filter_params params = { .pid = ALL_PIDS, .input = DMX_IN_FRONTEND, .output = DMX_OUT_TS_TAP,
+						.pes_type = DMX_PES_OTHER, .flags = DMX_IMMEDIATE_START };
+	want(!ioctl(fd, DMX_SET_PES_FILTER, &params), "a recording of all packets");
+}
+
+int is_pat(int fd)
+{
+	ssize_t n = read(fd, bytes, 4096);
+	return n >= 16 && bytes[0] == 0 && (bytes[1] & 0xf0) == 0xb0;
+}
+
+int child(void (*does)(void *), void *with)
+{
+	int status = -1;
+	pid_t pid = fork();
+	if (!pid) {
+		does(with);
+		_exit(0);
+	}
+	waitpid(pid, &status, 0);
+	return WIFEXITED(status) ? WEXITSTATUS(status) : -1;
+}
+
+/* ------ */
+
+static struct running {
+	pid_t pid;
+	const struct one *one;
+	double begun;
+} lanes[LANES];
+
+static int passed, failed;
+
+static void start(struct running *lane, const struct one *one)
+{
+	fflush(stdout);
+	*lane = (struct running){ fork(), one, seconds() };
+	if (lane->pid)
+		return;
+	setpgid(0, 0);
+	one->try();
+	fflush(stdout);
+	_exit(0);
+}
+
+/* notes those that have ended, and ends those that don't; how many run */
+static int look(void)
+{
+	int running = 0;
+	for (struct running *lane = lanes; lane < &lanes[LANES]; lane++) {
+		int status = 0, is_late = lane->pid && seconds() - lane->begun > MOST_SECONDS;
+		if (is_late)
+			kill(-lane->pid, SIGKILL);
+		if (!lane->pid || waitpid(lane->pid, &status, is_late ? 0 : WNOHANG) != lane->pid) {
+			running += lane->pid != 0;
+			continue;
+		}
+		*(status ? &failed : &passed) += 1;
+		if (status)
+			printf("failed: %s: %s %d\n", lane->one->name, is_late ? "no end, signal" : WIFSIGNALED(status) ? "signal" : "status",
+			       WIFSIGNALED(status) ? WTERMSIG(status) : WEXITSTATUS(status));
+		lane->pid = 0;
+	}
+	return running;
+}
+
+static void run(const struct one *one)
+{
+	struct running *lane = lanes;
+	while (look() >= (one->alone ? 1 : LANES))
+		pause_for(2);
+	while (lane->pid)
+		lane++;
+	start(lane, one);
+	while (one->alone && look())
+		pause_for(2);
+}
+
+static int is_asked(const char *name, char **words)
+{
+	int is_any = !*words;
+	for (; *words; words++)
+		is_any |= !strcmp(name, *words);
+	return is_any;
+}
+
+int main(int count, char **words)
+{
+	const struct one *const all[] = { paths, descriptors, waits, reads, tunings };
+	fe_status_t status = 0;
+	if (count == 2 && !strcmp(words[1], "+lock"))
+		return ioctl(open(TUNER, O_RDONLY), FE_READ_STATUS, &status) || !(status & FE_HAS_LOCK);
+	for (int alone = 0; alone < 2; alone++)
+		for (size_t i = 0; i < sizeof all / sizeof *all; i++)
+			for (const struct one *one = all[i]; one->name; one++)
+				if (one->alone == alone && is_asked(one->name, words + 1))
+					run(one);
+	while (look())
+		pause_for(2);
+	printf("%d passed, %d failed\n", passed, failed);
+	return failed > 0;
+}

@@ -1,0 +1,139 @@
+/* The folder /dev/dvb: paths of it in each form, and what is told of them. */
+#define _GNU_SOURCE
+#include <dirent.h>
+#include <limits.h>
+#include <sys/stat.h>
+#include <sys/sysmacros.h>
+
+#include "cases.h"
+
+static void stat_of_a_device(void)
+{
+	struct stat told;
+	want(!stat(DEMUX, &told) && S_ISCHR(told.st_mode) && major(told.st_rdev) == 212, "stat of demux0");
+	want(!lstat(RECORDER, &told) && S_ISCHR(told.st_mode), "lstat of dvr0");
+	want(!fstatat(AT_FDCWD, TUNER, &told, 0) && S_ISCHR(told.st_mode), "fstatat of frontend0");
+	want(!stat("/dev/dvb/adapter0", &told) && S_ISDIR(told.st_mode), "stat of adapter0");
+	want(stat("/dev/dvb/adapter0/demux1", &told) && errno == ENOENT, "stat of demux1");
+	want(stat("/dev/dvb/adapter9", &told) && errno == ENOENT, "stat of adapter9");
+}
+
+static void statx_of_a_device(void)
+{
+	struct statx told;
+	int fd = demux(0);
+	want(!statx(AT_FDCWD, DEMUX, 0, STATX_BASIC_STATS, &told) && S_ISCHR(told.stx_mode) && told.stx_rdev_major == 212, "statx of demux0");
+	want(!statx(fd, "", AT_EMPTY_PATH, STATX_BASIC_STATS, &told) && S_ISCHR(told.stx_mode), "statx of a descriptor");
+}
+
+static void fstat_of_a_device(void)
+{
+	struct stat told;
+	want(!fstat(demux(0), &told) && S_ISCHR(told.st_mode) && major(told.st_rdev) == 212, "fstat of a demux");
+	want(!fstat(open("/dev/null", O_RDONLY), &told) && major(told.st_rdev) == 1, "fstat of another");
+}
+
+static void access_to_a_device(void)
+{
+	want(!access(DEMUX, R_OK | W_OK) && !access("/dev/dvb/adapter0", X_OK), "access");
+	want(access(DEMUX "x", F_OK) && errno == ENOENT, "access to what isn't there");
+	want(!faccessat(AT_FDCWD, RECORDER, R_OK, 0) && !euidaccess(TUNER, W_OK), "faccessat, euidaccess");
+}
+
+static int adapters_in(DIR *folder)
+{
+	int count = 0;
+	for (struct dirent *entry; folder && (entry = readdir(folder));)
+		count += !strncmp(entry->d_name, "adapter", 7);
+	return count;
+}
+
+static int is_node(const struct dirent *entry) { return *entry->d_name != '.'; }
+
+static void folders_are_read(void)
+{
+	struct dirent **names;
+	want(adapters_in(opendir("/dev/dvb")) == 1, "opendir of /dev/dvb finds an adapter");
+	want(adapters_in(opendir("/dev/dvb/")) == 1, "opendir with a slash behind it");
+	want(scandir("/dev/dvb/adapter0", &names, is_node, alphasort) == 3 && !strcmp(names[0]->d_name, "demux0"), "scandir of adapter0");
+}
+
+static void open_from_a_folder(void)
+{
+	int folder = open("/dev/dvb/adapter0", O_RDONLY | O_DIRECTORY), fd;
+	struct stat told;
+	want(folder >= 0, "open of adapter0");
+	want((fd = openat(folder, "demux0", O_RDWR)) >= 0, "openat");
+	set_section(fd, 0);
+	want(is_pat(fd), "a read of it");
+	want(!fstatat(folder, "dvr0", &told, 0) && S_ISCHR(told.st_mode), "fstatat from it");
+	want(!faccessat(folder, "frontend0", R_OK, 0), "faccessat from it");
+}
+
+static void open_from_the_working_folder(void)
+{
+	char there[PATH_MAX];
+	want(!chdir("/dev/dvb/adapter0") && getcwd(there, sizeof there) && !strcmp(there, "/dev/dvb/adapter0"), "chdir, getcwd");
+	want(open("demux0", O_RDWR) >= 0 && open("../adapter0/./demux0", O_RDWR) >= 0, "relative paths");
+	want(!access("dvr0", R_OK) && !chdir("..") && open("adapter0/demux0", O_RDWR) >= 0, "and from the folder above");
+}
+
+static void slashes_and_dots(void)
+{
+	want(open("/dev/dvb/adapter0//demux0", O_RDWR) >= 0, "two slashes");
+	want(open("/dev/../dev/./dvb/adapter0/demux0", O_RDWR) >= 0, "dots");
+	want(open("/dev/dvb/../dvb/adapter0/demux0", O_RDWR) >= 0, "dots behind it");
+}
+
+static void links(void)
+{
+	char folder[] = "/tmp/cases.XXXXXX", link[64], other[64], below[80], real[PATH_MAX];
+	struct stat told;
+	want(mkdtemp(folder) != NULL, "a folder");
+	snprintf(link, sizeof link, "%s/link", folder);
+	snprintf(other, sizeof other, "%s/adapter", folder);
+	snprintf(below, sizeof below, "%s/demux0", other);
+	want(!symlink(DEMUX, link) && !symlink("../../dev/dvb/adapter0", other), "links");
+	int by_file = open(link, O_RDWR), by_folder = open(below, O_RDWR), is_device = !stat(link, &told) && S_ISCHR(told.st_mode);
+	int is_link = !lstat(link, &told) && S_ISLNK(told.st_mode), is_real = realpath(link, real) && !strcmp(real, DEMUX);
+	unlink(link);
+	unlink(other);
+	rmdir(folder);
+	want(by_file >= 0, "a link to a device");
+	want(by_folder >= 0 || !access("/proc/1/root/dev/dvb", F_OK), "a link to its folder");
+	want(is_device && is_link, "stat and lstat of a link");
+	want(is_real, "realpath of a link");
+}
+
+static void real_paths(void)
+{
+	char real[PATH_MAX], *made = realpath("/dev//dvb/adapter0/./demux0", NULL);
+	want(made && !strcmp(made, DEMUX), "realpath");
+	want(realpath("/dev/dvb", real) && !strcmp(real, "/dev/dvb"), "realpath of the folder");
+	want(!realpath("/dev/dvb/adapter0/demux7", real) && errno == ENOENT, "realpath of what isn't there");
+}
+
+static void flags_of_open(void)
+{
+	want(open(DEMUX, O_RDWR | O_CREAT | O_EXCL, 0600) < 0 && errno == EEXIST, "a new file is EEXIST");
+	want(open(DEMUX, O_RDONLY | O_DIRECTORY) < 0 && errno == ENOTDIR, "a folder is ENOTDIR");
+	want(open("/dev/dvb/adapter0/net0", O_RDWR) < 0 && errno == ENOENT, "no net0");
+	want(open("/dev/dvb/adapter7/demux0", O_RDWR) < 0 && errno == ENOENT, "no adapter7");
+	int fd = open(DEMUX, O_RDONLY);
+	set_section(fd, 0);
+	want(is_pat(fd), "a filter of a demux that is open to be read");
+}
+
+static void other_files(void)
+{
+	char name[] = "/tmp/cases.XXXXXX";
+	int fd = mkstemp(name);
+	unlink(name);
+	want(write(fd, "abc", 3) == 3 && !lseek(fd, 0, SEEK_SET) && read(fd, bytes, 9) == 3, "a file is as ever");
+	want(open("/nowhere/file", O_RDONLY) < 0 && errno == ENOENT, "and none is too");
+	want(!chdir("/") && !access("etc", F_OK) && adapters_in(opendir("/tmp")) >= 0, "other folders too");
+}
+
+const struct one paths[] = { CASE(stat_of_a_device), CASE(statx_of_a_device), CASE(fstat_of_a_device), CASE(access_to_a_device),
+			     CASE(folders_are_read), CASE(open_from_a_folder), CASE(open_from_the_working_folder), CASE(slashes_and_dots),
+			     CASE(links), CASE(real_paths), CASE(flags_of_open), CASE(other_files), { 0 } };

@@ -1,0 +1,201 @@
+/* Reads and the requests of a demux and of the dvr device. */
+#define _GNU_SOURCE
+#include <sys/inotify.h>
+#include <sys/uio.h>
+
+#include "cases.h"
+
+static void sections(void)
+{
+	int fd = pat(0);
+	want(is_pat(fd) && read(fd, bytes, 0) == 0, "a section, and none of its bytes");
+	want(read(fd, bytes, 10) == 10 && read(fd, bytes, 4096) > 0, "one in two reads");
+}
+
+static void nothing_waits(void)
+{
+	want(read(silent(O_NONBLOCK), bytes, 100) < 0 && errno == EAGAIN, "EAGAIN");
+}
+
+static void before_a_filter(void) { want(read(demux(0), bytes, 100) == 0, "no bytes before any filter"); }
+
+static void a_timeout(void)
+{
+	struct dmx_sct_filter_params params = { .pid = NEVER, .timeout = 300, .flags = DMX_IMMEDIATE_START };
+	int fd = demux(0), other = demux(O_NONBLOCK);
+	struct pollfd one = { other, POLLIN, 0 };
+	double begun = seconds();
+	want(!ioctl(fd, DMX_SET_FILTER, &params) && read(fd, bytes, 10) < 0 && errno == ETIMEDOUT && seconds() - begun > 0.29, "ETIMEDOUT");
+	want(!ioctl(other, DMX_SET_FILTER, &params) && poll(&one, 1, 8000) == 1 && one.revents & POLLERR, "poll tells it by POLLERR");
+}
+
+static void an_overflow(void)
+{
+	struct dmx_pes_filter_params params = { .pid = ALL_PIDS, .input = DMX_IN_FRONTEND, .output = DMX_OUT_TSDEMUX_TAP,
+						.pes_type = DMX_PES_OTHER, .flags = DMX_IMMEDIATE_START };
+	int fd = demux(O_NONBLOCK);
+	struct pollfd one = { fd, POLLIN, 0 };
+	want(!ioctl(fd, DMX_SET_BUFFER_SIZE, 1880) && !ioctl(fd, DMX_SET_PES_FILTER, &params), "a small buffer");
+	for (int i = 0; i < 100 && !(one.revents & POLLERR); i++) {
+		pause_for(50);
+		want(poll(&one, 1, 8000) == 1, "poll");
+	}
+	want(one.revents & POLLERR && read(fd, bytes, PACKET) < 0 && errno == EOVERFLOW, "an overflow is told by POLLERR and EOVERFLOW");
+}
+
+static void all_bytes_of_the_recorder(void)
+{
+	int fd = demux(0), all = recorder(O_RDONLY);
+	record_all(fd);
+	want(read(all, bytes, 1000 * PACKET) == 1000 * PACKET && bytes[0] == 0x47 && bytes[999 * PACKET] == 0x47, "a read waits for all");
+}
+
+static void by_few_bytes(void)
+{
+	int fd = demux(0), all = recorder(O_RDONLY);
+	record_all(fd);
+	for (int i = 0; i < 2 * PACKET; i++)
+		want(read(all, bytes + 7 * i, 7) == 7, "seven bytes");
+	for (int i = 0; i < 14; i++)
+		want(bytes[i * PACKET] == 0x47, "are packets together");
+}
+
+static void what_is_there(void)
+{
+	int fd = demux(0), all = recorder(O_RDONLY | O_NONBLOCK);
+	struct pollfd one = { all, POLLIN, 0 };
+	record_all(fd);
+	want(poll(&one, 1, 8000) == 1, "some");
+	ssize_t n = read(all, bytes, sizeof bytes);
+	want(n > 0 && n % PACKET == 0 && bytes[0] == 0x47, "a read that doesn't wait gives what is there");
+}
+
+static void in_parts(void)
+{
+	int fd = demux(0), all = recorder(O_RDONLY);
+	struct iovec parts[3] = { { bytes, PACKET }, { bytes + PACKET, PACKET }, { bytes + 2 * PACKET, PACKET } };
+	record_all(fd);
+	want(readv(all, parts, 3) == 3 * PACKET && bytes[2 * PACKET] == 0x47, "readv");
+}
+
+static void one_recorder(void)
+{
+	int all = recorder(O_RDONLY);
+	want(all >= 0 && open(RECORDER, O_RDONLY) < 0 && errno == EBUSY, "a second one is EBUSY");
+	want(!close(all) && (all = recorder(O_RDONLY)) >= 0, "and behind a close isn't");
+	want(!ioctl(all, DMX_SET_BUFFER_SIZE, 7700480), "a size of it");
+}
+
+static void payloads(void)
+{
+	struct dmx_pes_filter_params params = { .pid = 256, .input = DMX_IN_FRONTEND, .output = DMX_OUT_TAP, .pes_type = DMX_PES_OTHER,
+						.flags = DMX_IMMEDIATE_START };
+	int fd = demux(0);
+	uint16_t pid = 257;
+	want(!ioctl(fd, DMX_SET_BUFFER_SIZE, 1 << 20), "room for some batches");
+	want(!ioctl(fd, DMX_SET_PES_FILTER, &params) && read(fd, bytes, 1000) == 1000, "payloads of a PID");
+	params.output = DMX_OUT_TSDEMUX_TAP;
+	want(!ioctl(fd, DMX_SET_PES_FILTER, &params) && read(fd, bytes, PACKET) == PACKET && bytes[0] == 0x47, "packets of it");
+	want(!ioctl(fd, DMX_ADD_PID, &pid) && !ioctl(fd, DMX_REMOVE_PID, &pid), "DMX_ADD_PID, DMX_REMOVE_PID");
+}
+
+static void requests_that_it_has_not(void)
+{
+	uint16_t pids[5];
+	struct dmx_requestbuffers buffers = { .count = 8, .size = 4096 };
+	struct dmx_stc stc = { 0 };
+	int fd = demux(0);
+	want(ioctl(fd, DMX_GET_PES_PIDS, pids) < 0 && errno == EINVAL, "DMX_GET_PES_PIDS is EINVAL");
+	want(ioctl(fd, DMX_REQBUFS, &buffers) < 0 && errno == ENOTTY, "DMX_REQBUFS is ENOTTY");
+	want(ioctl(fd, DMX_GET_STC, &stc) < 0 && errno == EINVAL, "DMX_GET_STC is EINVAL");
+	want(ioctl(fd, _IO('o', 200)) < 0 && errno == ENOTTY, "an unknown one is ENOTTY");
+	want(ioctl(fd, DMX_SET_BUFFER_SIZE, 0) < 0 && errno == EINVAL, "a size of 0 is EINVAL");
+	want(ioctl(recorder(O_RDONLY), DMX_START) < 0 && errno == EINVAL, "DMX_START of dvr0 is EINVAL");
+}
+
+static void bad_pointers(void)
+{
+	void *volatile nowhere = (void *)8;
+	int fd = pat(0);
+	want(ioctl(fd, DMX_SET_FILTER, nowhere) < 0 && errno == EFAULT, "an argument that is nowhere is EFAULT");
+	want(read(fd, nowhere, 4096) < 0 && errno == EFAULT, "so is room for a section");
+	want(is_pat(fd), "and the next one comes");
+}
+
+static void *reads_one(void *fd) { return (void *)(intptr_t)read(*(int *)fd, bytes, 4096); }
+
+static void a_thread_is_cancelled(void)
+{
+	int fd = silent(0);
+	pthread_t thread;
+	void *how = NULL;
+	want(!pthread_create(&thread, NULL, reads_one, &fd), "a thread");
+	pause_for(200);
+	want(!pthread_cancel(thread) && !pthread_join(thread, &how) && how == PTHREAD_CANCELED, "is cancelled as it reads");
+	want(is_pat(pat(0)), "and others read");
+}
+
+static void closed_by_another_thread(void)
+{
+	int fd = silent(0);
+	pthread_t thread;
+	want(!pthread_create(&thread, NULL, reads_one, &fd), "a thread");
+	pause_for(200);
+	want(!close(fd) && is_pat(pat(0)), "a close while it reads");
+}
+
+static void *reads_many(void *pid)
+{
+	unsigned char own[4096];
+	int fd = open(DEMUX, O_RDWR), bad = 0;
+	set_section(fd, (int)(intptr_t)pid);
+	for (int i = 0; i < 5; i++)
+		bad += read(fd, own, sizeof own) < 8;
+	close(fd);
+	return (void *)(intptr_t)bad;
+}
+
+static void many_threads(void)
+{
+	pthread_t threads[16];
+	void *bad;
+	for (int i = 0; i < 16; i++)
+		want(!pthread_create(&threads[i], NULL, reads_many, NULL), "threads");
+	for (int i = 0; i < 16; i++)
+		want(!pthread_join(threads[i], &bad) && !bad, "each reads its own sections");
+}
+
+static void *opens_many(void *nothing)
+{
+	for (int i = 0; i < 40; i++) {
+		int fd = open(DEMUX, O_RDWR);
+		if (fd < 0)
+			return (void *)1;
+		set_section(fd, 0);
+		close(fd);
+	}
+	return nothing;
+}
+
+static void threads_that_open(void)
+{
+	pthread_t threads[4];
+	void *bad;
+	for (int i = 0; i < 4; i++)
+		want(!pthread_create(&threads[i], NULL, opens_many, NULL), "threads");
+	for (int i = 0; i < 4; i++)
+		want(!pthread_join(threads[i], &bad) && !bad, "open and close side by side");
+}
+
+static void without_bells(void)
+{
+	for (int i = 0; i < 1000 && inotify_init1(0) >= 0; i++)
+		;
+	struct pollfd one = { pat(0), POLLIN, 0 };
+	want(poll(&one, 1, 8000) == 1 && is_pat(one.fd), "where no inotify is left");
+}
+
+const struct one reads[] = { CASE(sections), CASE(nothing_waits), CASE(before_a_filter), CASE(a_timeout), CASE(an_overflow),
+			     CASE(all_bytes_of_the_recorder), CASE(by_few_bytes), CASE(what_is_there), CASE(in_parts), CASE(one_recorder),
+			     CASE(payloads), CASE(requests_that_it_has_not), CASE(bad_pointers), CASE(a_thread_is_cancelled),
+			     CASE(closed_by_another_thread), CASE(many_threads), CASE(threads_that_open), ALONE(without_bells), { 0 } };

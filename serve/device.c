@@ -1,0 +1,358 @@
+/*
+ * The devices that are open: a node of the server, or the frontend. A descriptor of one is the reading end of a pipe, and is a device
+ * just as long as it is that pipe, whatever its number is and however it came there; where none is left the pipe's other end tells,
+ * and the node is closed. The pipe can be read where the device can: so the system itself wakes whoever waits.
+ */
+#define _GNU_SOURCE
+#include <errno.h>
+#include <fcntl.h>
+#include <limits.h>
+#include <linux/dvb/dmx.h>
+#include <linux/dvb/frontend.h>
+#include <linux/futex.h>
+#include <string.h>
+#include <sys/ioctl.h>
+#include <sys/stat.h>
+#include <sys/syscall.h>
+#include <time.h>
+#include <unistd.h>
+
+#include "preload.h"
+
+enum { ARGUMENT = 60, MOST_READ = 65536, PAUSE_NS = 10000000, MOST_TOKENS = 4096 };
+
+struct device *device_at(struct at at) { return &at.line->table->devices[at.place]; }
+
+/* the device behind a descriptor, if there is one */
+int found(int fd, struct at *at)
+{
+	struct stat now;
+	if (!is_marked(fd) || syscall(SYS_fstat, fd, &now))
+		return 0;
+	for (struct line *line = lines; line < &lines[MOST_LINES]; line++)
+		for (int i = 0; line->table && i < MOST_DEVICES; i++)
+			if (line->table->devices[i].kind && line->table->devices[i].ino == now.st_ino && S_ISFIFO(now.st_mode)) {
+				*at = (struct at){ line, i };
+				return 1;
+			}
+	unmark(fd);
+	return 0;
+}
+
+/* the same, and somebody watches it from then on */
+int find(int fd, struct at *at)
+{
+	int is_one = found(fd, at);
+	if (is_one && !watch_runs())
+		watch();
+	return is_one;
+}
+
+/* ------ what can be read, inside of `take` */
+
+/* The device may have something: who waits for its descriptors, and who reads, is woken. */
+void ring(struct at at)
+{
+	struct device *device = device_at(at);
+	struct mine *mine = &at.line->mine[at.place];
+	__atomic_add_fetch(&device->turn, 1, __ATOMIC_SEQ_CST);
+	if (device->readers)
+		syscall(SYS_futex, &device->turn, FUTEX_WAKE, INT_MAX, NULL, NULL, 0);
+	if (is_object(mine->rings, device->ino) && syscall(SYS_write, mine->rings, "", 1) == 1)
+		device->tokens++;
+}
+
+/* takes all bytes but so many out of the pipe */
+static void hush(struct device *device, int fd, uint32_t left)
+{
+	char bytes[MOST_TOKENS];
+	int there = 0;
+	if (device->tokens <= left || !is_object(fd, device->ino) || syscall(SYS_ioctl, fd, FIONREAD, &there))
+		return;
+	for (there -= (int)left; there > 0; there -= MOST_TOKENS)
+		syscall(SYS_read, fd, bytes, there < MOST_TOKENS ? there : MOST_TOKENS);
+	device->tokens = left;
+}
+
+/* Looks whether something is there. Without a descriptor of the device at hand its pipe stays as it is where nothing is. */
+void look(struct at at, int fd)
+{
+	struct device *device = device_at(at);
+	struct reply reply = { 0 };
+	if (device->kind == FRONTEND)
+		device->found = frontend_event(at.line->table->adapter) ? READABLE : 0;
+	else
+		device->found = ask(at.line, POLL, device->node, 0, NULL, 0, &reply, NULL) ? OVERFLOW : reply.value;
+	if (device->found & SOMETHING) {
+		ring(at);
+		hush(device, fd, 1);
+		device->state = READY;
+		return;
+	}
+	hush(device, fd, 0);
+	device->state = device->tokens ? UNKNOWN : QUIET;
+}
+
+/* ------ open and close, inside of `enter` */
+
+static int place_in(struct line *line)
+{
+	for (int i = 0; i < MOST_DEVICES; i++)
+		if (!line->table->devices[i].kind && line->mine[i].rings < 0)
+			return i;
+	return -1;
+}
+
+/* this process has the other end of a device's pipe */
+void device_begin(struct line *line, int place, int rings)
+{
+	struct at at = { line, place };
+	line->mine[place] = (struct mine){ .ino = device_at(at)->ino, .rings = rings, .lock = -1, .known = -1 };
+	line->mine[place].bell = bell_of(at);
+}
+
+/* opens the node of a device, and fills its place: 0 or a negative error */
+static int begin(struct line *line, int kind, int flags, int rings)
+{
+	struct pause pause;
+	struct reply reply = { 0 };
+	struct stat made;
+	take(line, &pause);
+	int place = place_in(line), error = place < 0 || syscall(SYS_fstat, rings, &made) ? -EMFILE : 0;
+	if (!error && kind != FRONTEND)
+		error = ask(line, kind == DEMUX ? OPEN_DEMUX : OPEN_DVR, 0, 0, NULL, 0, &reply, NULL);
+	if (!error) {
+		uint32_t node = kind == DVR ? 32 : reply.value;
+		line->table->devices[place] = (struct device){ .kind = kind, .access = flags & O_ACCMODE, .node = node, .ino = made.st_ino,
+							       .turn = line->table->devices[place].turn + 1 };
+		device_begin(line, place, rings);
+		if (kind == DVR)
+			look((struct at){ line, place }, -1);
+	}
+	give(line, &pause);
+	return error ? error : place;
+}
+
+static int open_in(int adapter, int kind, int flags)
+{
+	sweep_all();
+	struct line *line = line_to(adapter);
+	int ends[2], lock = kind == FRONTEND && (flags & O_ACCMODE) != O_RDONLY ? frontend_lock(adapter) : -1;
+	if (lock < -1 || !line)
+		return lock < -1 ? lock : -ENOMEM;
+	if (syscall(SYS_pipe2, ends, O_CLOEXEC)) {
+		let_go(lock);
+		return -EMFILE;
+	}
+	int rings = high(ends[1]), place = begin(line, kind, flags, rings);
+	if (place < 0) {
+		syscall(SYS_close, ends[0]);
+		let_go(rings);
+		let_go(lock);
+		return place;
+	}
+	line->mine[place].lock = lock;
+	syscall(SYS_fcntl, rings, F_SETFL, O_NONBLOCK);
+	syscall(SYS_fcntl, ends[0], F_SETFL, flags & O_NONBLOCK);
+	syscall(SYS_fcntl, ends[0], F_SETFD, flags & O_CLOEXEC ? FD_CLOEXEC : 0);
+	mark(ends[0]);
+	return ends[0];
+}
+
+int device_open(int adapter, int kind, int flags)
+{
+	struct pause pause;
+	enter(&pause);
+	int fd = open_in(adapter, kind, flags);
+	leave(&pause);
+	if (fd >= 0)
+		watch();
+	return fd;
+}
+
+/* no descriptor of the device is left, in any process: its node is closed, by the first one that sees it */
+static void end(struct at at)
+{
+	struct pause pause;
+	struct reply reply;
+	struct device *device = device_at(at);
+	struct mine *mine = &at.line->mine[at.place];
+	take(at.line, &pause);
+	if (device->kind && device->ino == mine->ino) {
+		if (device->kind != FRONTEND && !at.line->table->is_gone)
+			ask(at.line, CLOSE, device->node, 0, NULL, 0, &reply, NULL);
+		device->kind = NONE;
+		device->ino = 0;
+		device->state = QUIET;
+		ring(at);
+	}
+	give(at.line, &pause);
+	bell_done(at);
+	let_go(mine->rings);
+	let_go(mine->lock);
+	mine->rings = mine->lock = mine->bell = mine->known = -1;
+}
+
+/* ends the devices of which no descriptor is left, inside of `enter` */
+void sweep_all(void)
+{
+	for (struct line *line = lines; line < &lines[MOST_LINES]; line++) {
+		struct pollfd all[MOST_DEVICES];
+		for (int i = 0; line->table && i < MOST_DEVICES; i++)
+			all[i] = (struct pollfd){ line->mine[i].rings, 0, 0 };
+		if (!line->table || wait_raw(all, MOST_DEVICES, 0) < 1)
+			continue;
+		for (int i = 0; i < MOST_DEVICES; i++)
+			if (all[i].fd >= 0 && all[i].revents & (POLLERR | POLLNVAL))
+				end((struct at){ line, i });
+	}
+}
+
+void sweep(void)
+{
+	struct pause pause;
+	enter(&pause);
+	sweep_all();
+	leave(&pause);
+}
+
+/* ------ read and ioctl */
+
+static void is_read(void *device) { __atomic_sub_fetch(&((struct device *)device)->readers, 1, __ATOMIC_SEQ_CST); }
+
+/* Waits until the device may have something. A signal ends that as it ends any call that the system can begin again: by its handler. */
+static int doze(struct device *device, uint32_t turn)
+{
+	struct timespec most = { 0, PAUSE_NS };
+	int type, n;
+	pthread_cleanup_push(is_read, device);
+	pthread_setcanceltype(PTHREAD_CANCEL_ASYNCHRONOUS, &type);
+	n = (int)syscall(SYS_futex, &device->turn, FUTEX_WAIT, turn, watch_runs() ? NULL : &most, NULL, 0);
+	n = n < 0 && errno == EINTR ? -EINTR : 0;
+	pthread_setcanceltype(type, NULL);
+	pthread_cleanup_pop(1);
+	return n;
+}
+
+static int is_nonblocking(int fd) { return !!(syscall(SYS_fcntl, fd, F_GETFL) & O_NONBLOCK); }
+
+/* where a read is: whether it waits, from which turn on */
+struct reading {
+	int waits;
+	uint32_t turn;
+	struct reply reply;
+};
+
+/* One request to read. Where nothing is there, and the descriptor waits for more, the device has a reader from then on. */
+static int read_once(int fd, struct at at, ino_t ino, void *into, uint32_t most, struct reading *reading)
+{
+	struct pause pause;
+	struct device *device = device_at(at);
+	take(at.line, &pause);
+	int error = device->ino != ino ? -EBADF : ask(at.line, READ, device->node, most, NULL, 0, &reading->reply, into);
+	reading->waits = error == -EAGAIN && !is_nonblocking(fd);
+	if (error == -EAGAIN)
+		hush(device, fd, 0);
+	if (error != -EBADF)
+		device->state = error == -EAGAIN ? QUIET : UNKNOWN;
+	if (reading->waits)
+		__atomic_add_fetch(&device->readers, 1, __ATOMIC_SEQ_CST);
+	reading->turn = device->turn;
+	give(at.line, &pause);
+	return error;
+}
+
+/* A section filter gives one section; any other node is read until all bytes are there, where the read blocks. */
+ssize_t device_read(int fd, struct at at, void *into, size_t count)
+{
+	struct device *device = device_at(at);
+	ino_t ino = device->ino;
+	size_t done = 0;
+	if (device->kind == FRONTEND || device->access == O_WRONLY)
+		return device->kind == FRONTEND ? -EINVAL : -EBADF;
+	for (;;) {
+		struct reading reading = { 0 };
+		uint32_t most = count - done < MOST_READ ? (uint32_t)(count - done) : MOST_READ;
+		int error = read_once(fd, at, ino, (char *)into + done, most, &reading);
+		if (reading.waits && !(error = doze(device, reading.turn)))
+			continue;
+		if (error && !done)
+			return error;
+		done += error ? 0 : reading.reply.length;
+		if (error || device->section || !reading.reply.length || done == count || (reading.reply.length < most && is_nonblocking(fd)))
+			return (ssize_t)done;
+	}
+}
+
+/* what a request has changed of a node */
+static void changed(int fd, struct at at, uint32_t number, const void *argument)
+{
+	struct device *device = device_at(at);
+	const struct dmx_sct_filter_params *section = argument;
+	const struct dmx_pes_filter_params *pes = argument;
+	int begins = number == DMX_START;
+	if (number == DMX_SET_FILTER) {
+		device->section = 1;
+		device->is_tap = 0;
+		device->timeout = (int)(section->timeout & 0x7fffffff);
+		begins = !!(section->flags & DMX_IMMEDIATE_START);
+	} else if (number == DMX_SET_PES_FILTER) {
+		device->section = device->timeout = 0;
+		device->is_tap = pes->output == DMX_OUT_TS_TAP;
+		begins = !!(pes->flags & DMX_IMMEDIATE_START);
+	}
+	device->due = begins && device->timeout ? milliseconds() + device->timeout + 1 : number == DMX_STOP ? 0 : device->due;
+	device->state = UNKNOWN;
+	if (begins && !device->is_tap)
+		look(at, fd);
+	if (device->due)
+		watch_changed();
+}
+
+static int demux_ioctl(int fd, struct at at, uint32_t number, void *argument)
+{
+	struct pause pause;
+	struct reply reply;
+	char bytes[ARGUMENT] = { 0 };
+	struct device *device = device_at(at);
+	uint32_t size = (uint32_t)(uintptr_t)argument, length = _IOC_SIZE(number);
+	if (number == DMX_GET_PES_PIDS && device->kind == DEMUX)
+		return -EINVAL;
+	if (length > ARGUMENT)
+		length = 0;
+	if (number == DMX_SET_BUFFER_SIZE)
+		memcpy(bytes, &size, length = sizeof size);
+	else if (!is_readable(argument, bytes, length))
+		return -EFAULT;
+	take(at.line, &pause);
+	int error = device->kind ? ask(at.line, IOCTL, device->node, number, bytes, length, &reply, NULL) : -EBADF;
+	if (!error)
+		changed(fd, at, number, bytes);
+	give(at.line, &pause);
+	return error;
+}
+
+/* An ioctl of the frontend. That for the next event waits for one, where the descriptor does. */
+static int tuner_ioctl(int fd, struct at at, uint32_t number, void *argument)
+{
+	struct device *device = device_at(at);
+	for (;;) {
+		struct pause pause;
+		take(at.line, &pause);
+		int error = frontend_ioctl(at.line->table->adapter, device->access, number, argument);
+		int waits = error == -EAGAIN && !is_nonblocking(fd);
+		uint32_t turn = device->turn;
+		look(at, fd);
+		if (waits)
+			turn = (__atomic_add_fetch(&device->readers, 1, __ATOMIC_SEQ_CST), device->turn);
+		give(at.line, &pause);
+		if (!waits || (error = doze(device, turn)))
+			return error;
+	}
+}
+
+/* 0 or a negative error */
+int device_ioctl(int fd, struct at at, uint32_t number, void *argument)
+{
+	return device_at(at)->kind == FRONTEND ? tuner_ioctl(fd, at, number, argument) : demux_ioctl(fd, at, number, argument);
+}

@@ -1,0 +1,248 @@
+/*
+ * Exec: a program that is begun in the place of another, or behind a fork, has the devices that the other one leaves open, as
+ * `cat < dvr0` of a shell. With them it has the line and its table; it finds them at its start by what they are.
+ */
+#define _GNU_SOURCE
+#include <dirent.h>
+#include <errno.h>
+#include <fcntl.h>
+#include <spawn.h>
+#include <stdarg.h>
+#include <stdio.h>
+#include <stdlib.h>
+#include <string.h>
+#include <sys/mman.h>
+#include <sys/stat.h>
+#include <sys/syscall.h>
+#include <unistd.h>
+
+#include "preload.h"
+
+static const char memory[] = "/memfd:dvbemu (deleted)";
+enum { MOST_INHERITED = 1024 };
+
+/* ------ what is left open */
+
+static void keep(int fd, int keeps)
+{
+	if (fd >= 0)
+		syscall(SYS_fcntl, fd, F_SETFD, keeps ? 0 : FD_CLOEXEC);
+}
+
+/* the line of a device that exec leaves open; NULL where this descriptor is none */
+static struct line *line_left(int fd)
+{
+	struct at at;
+	return is_marked(fd) && syscall(SYS_fcntl, fd, F_GETFD) == 0 && found(fd, &at) ? at.line : NULL;
+}
+
+/* Lets the lines of devices that exec leaves open be open too, or not any more, where exec has failed. */
+static void keep_lines(int keeps)
+{
+	for (int fd = 0; fd < marks_end(); fd++) {
+		struct line *line = line_left(fd);
+		if (!line)
+			continue;
+		keep(line->memory, keeps);
+		keep(line->ask, keeps);
+		keep(line->tell, keeps);
+		for (int i = 0; i < MOST_DEVICES; i++)
+			keep(line->mine[i].rings, keeps), keep(line->mine[i].lock, keeps);
+	}
+}
+
+/* in front of an exec */
+static void prepare(void)
+{
+	init();
+	keep_lines(1);
+	watch_ends(0);
+}
+
+/* it has failed */
+static int failed(int result)
+{
+	int saved = errno;
+	keep_lines(0);
+	errno = saved;
+	return result;
+}
+
+/* ------ what is found */
+
+/* all descriptors, as far as there is room */
+static int descriptors(int *fds)
+{
+	int count = 0, there = (int)syscall(SYS_openat, AT_FDCWD, "/proc/self/fd", O_RDONLY | O_DIRECTORY | O_CLOEXEC);
+	char bytes[4096] __attribute__((aligned(8)));
+	long n;
+	while (there >= 0 && (n = syscall(SYS_getdents64, there, bytes, sizeof bytes)) > 0)
+		for (long at = 0; at < n && count < MOST_INHERITED;) {
+			const struct dirent64 *entry = (const void *)&bytes[at];
+			if (*entry->d_name != '.' && atoi(entry->d_name) != there)
+				fds[count++] = atoi(entry->d_name);
+			at += entry->d_reclen;
+		}
+	if (there >= 0)
+		syscall(SYS_close, there);
+	return count;
+}
+
+static int is_table(int fd)
+{
+	char link[64], name[64];
+	snprintf(link, sizeof link, "/proc/self/fd/%d", fd);
+	long n = syscall(SYS_readlinkat, AT_FDCWD, link, name, sizeof name);
+	return n == (long)sizeof memory - 1 && !memcmp(name, memory, sizeof memory - 1);
+}
+
+/* a pipe of the line is the line's own, the other end of a device, or a device */
+static void inherit_pipe(struct line *line, int fd)
+{
+	if (is_object(fd, line->table->ask_ino))
+		line->ask = high(fd);
+	else if (is_object(fd, line->table->tell_ino))
+		line->tell = high(fd);
+	for (int i = 0; i < MOST_DEVICES; i++) {
+		struct device *device = &line->table->devices[i];
+		if (!device->kind || !is_object(fd, device->ino))
+			continue;
+		if ((syscall(SYS_fcntl, fd, F_GETFL) & O_ACCMODE) == O_WRONLY)
+			device_begin(line, i, high(fd));
+		else
+			mark(fd);
+	}
+}
+
+/* finds the lines and devices that were left open */
+void inherit(void)
+{
+	int fds[MOST_INHERITED], count = descriptors(fds), tables = 0;
+	for (int i = 0; i < count; i++) {
+		struct stat now;
+		struct line *line = &lines[tables];
+		if (tables == MOST_LINES || !is_table(fds[i]) || syscall(SYS_fstat, fds[i], &now) || now.st_size != sizeof *line->table)
+			continue;
+		void *there = mmap(NULL, sizeof *line->table, PROT_READ | PROT_WRITE, MAP_SHARED, fds[i], 0);
+		if (there == MAP_FAILED)
+			continue;
+		line->table = there;
+		line->memory = high(fds[i]);
+		tables++;
+	}
+	if (tables)
+		watch_stopped();
+	for (int t = 0; t < tables; t++)
+		for (int i = 0; i < count; i++)
+			inherit_pipe(&lines[t], fds[i]);
+}
+
+/* ------ the C library's calls */
+
+EXPORT int execve(const char *path, char *const words[], char *const env[])
+{
+	prepare();
+	return failed(NEXT(execve)(path, words, env));
+}
+
+EXPORT int execvpe(const char *file, char *const words[], char *const env[])
+{
+	prepare();
+	return failed(NEXT(execvpe)(file, words, env));
+}
+
+EXPORT int fexecve(int fd, char *const words[], char *const env[])
+{
+	prepare();
+	return failed(NEXT(fexecve)(fd, words, env));
+}
+
+EXPORT int execv(const char *path, char *const words[]) { return execve(path, words, environ); }
+EXPORT int execvp(const char *file, char *const words[]) { return execvpe(file, words, environ); }
+
+/* the words of a list up to a null pointer, behind which the environment may stand */
+static char **words_in(const char *first, va_list list, char **into, size_t room, int has_env)
+{
+	size_t count = 0;
+	for (const char *word = first; word && count + 1 < room; word = va_arg(list, char *))
+		into[count++] = (char *)word;
+	into[count] = NULL;
+	return has_env ? va_arg(list, char **) : environ;
+}
+
+enum { MOST_WORDS = 4096 };
+
+EXPORT int execl(const char *path, const char *first, ...)
+{
+	char *words[MOST_WORDS];
+	va_list list;
+	va_start(list, first);
+	char **env = words_in(first, list, words, MOST_WORDS, 0);
+	va_end(list);
+	return execve(path, words, env);
+}
+
+EXPORT int execlp(const char *file, const char *first, ...)
+{
+	char *words[MOST_WORDS];
+	va_list list;
+	va_start(list, first);
+	char **env = words_in(first, list, words, MOST_WORDS, 0);
+	va_end(list);
+	return execvpe(file, words, env);
+}
+
+EXPORT int execle(const char *path, const char *first, ...)
+{
+	char *words[MOST_WORDS];
+	va_list list;
+	va_start(list, first);
+	char **env = words_in(first, list, words, MOST_WORDS, 1);
+	va_end(list);
+	return execve(path, words, env);
+}
+
+/* ------ the end: as with a kernel all is closed when the process has gone, and not a moment later */
+
+static void close_all(void)
+{
+	for (int fd = 0; fd < marks_end(); fd++)
+		if (is_marked(fd))
+			close(fd);
+}
+
+__attribute__((destructor)) static void finish(void)
+{
+	close_all();
+	watch_ends(1);
+}
+
+EXPORT void _exit(int status)
+{
+	init();
+	finish();
+	NEXT(_exit)(status);
+	__builtin_unreachable();
+}
+
+EXPORT void _Exit(int status) { _exit(status); }
+
+EXPORT int posix_spawn(pid_t *child, const char *path, const posix_spawn_file_actions_t *actions, const posix_spawnattr_t *with,
+		       char *const words[], char *const env[])
+{
+	init();
+	keep_lines(1);
+	int result = NEXT(posix_spawn)(child, path, actions, with, words, env);
+	keep_lines(0);
+	return result;
+}
+
+EXPORT int posix_spawnp(pid_t *child, const char *file, const posix_spawn_file_actions_t *actions, const posix_spawnattr_t *with,
+			char *const words[], char *const env[])
+{
+	init();
+	keep_lines(1);
+	int result = NEXT(posix_spawnp)(child, file, actions, with, words, env);
+	keep_lines(0);
+	return result;
+}

@@ -1,0 +1,334 @@
+/*
+ * The line of a process to the server of an adapter, dvb_serve: requests and their replies over a pair of named pipes, whose name is
+ * told at the pipe `door` of the server's folder. Forked children have the line too.
+ *
+ *   DVBEMU_DIR    the folders of the servers of adapter 0, 1 and so on, with colons between
+ */
+#define _GNU_SOURCE
+#include <errno.h>
+#include <fcntl.h>
+#include <stdio.h>
+#include <stdlib.h>
+#include <string.h>
+#include <sys/mman.h>
+#include <sys/random.h>
+#include <sys/stat.h>
+#include <sys/syscall.h>
+#include <time.h>
+#include <unistd.h>
+
+#include "preload.h"
+
+enum { ARGUMENT = 60, NAME = 64, SEAT_MS = 5000, KNOCK_MS = 5, SCRATCH = 4096 };
+
+struct request {
+	uint32_t verb, node, number, length;
+	char argument[ARGUMENT];
+};
+
+struct line lines[MOST_LINES];
+char folders[MOST_ADAPTERS][FOLDER];
+int adapters;
+/* the process whose memory this is: a child of vfork has another number and its parent's memory */
+pid_t self;
+
+static pthread_mutex_t own = PTHREAD_MUTEX_INITIALIZER;
+
+static void before_fork(void) { pthread_mutex_lock(&own); }
+static void in_parent(void) { pthread_mutex_unlock(&own); }
+static void in_child(void)
+{
+	self = getpid();
+	watch_stopped();
+	pthread_mutex_unlock(&own);
+}
+
+static void begin(void)
+{
+	const char *there = getenv("DVBEMU_DIR");
+	while (there && *there && adapters < MOST_ADAPTERS) {
+		size_t length = strcspn(there, ":");
+		snprintf(folders[adapters++], FOLDER, "%.*s", (int)length, there);
+		there += length + (there[length] == ':');
+	}
+	self = getpid();
+	for (struct line *line = lines; line < &lines[MOST_LINES]; line++) {
+		line->memory = line->ask = line->tell = -1;
+		for (struct mine *mine = line->mine; mine < &line->mine[MOST_DEVICES]; mine++)
+			mine->rings = mine->lock = mine->bell = mine->known = -1;
+	}
+	pthread_atfork(before_fork, in_parent, in_child);
+	if (adapters)
+		inherit();
+}
+
+void init(void)
+{
+	static pthread_once_t once = PTHREAD_ONCE_INIT;
+	pthread_once(&once, begin);
+}
+
+__attribute__((constructor)) static void start(void) { init(); }
+
+long milliseconds(void)
+{
+	struct timespec now;
+	clock_gettime(CLOCK_MONOTONIC, &now);
+	return now.tv_sec * 1000 + now.tv_nsec / 1000000;
+}
+
+/* waits so many milliseconds, or without an end where they are below 0 */
+int wait_raw(struct pollfd *all, nfds_t count, long time)
+{
+	struct timespec most = { time / 1000, time % 1000 * 1000000L };
+	return (int)syscall(SYS_ppoll, all, count, time < 0 ? NULL : &most, NULL, 0);
+}
+
+/* ------ locks, in which no signal's handler runs and no thread ends */
+
+static void hold_back(struct pause *pause)
+{
+	sigset_t all;
+	sigfillset(&all);
+	pthread_sigmask(SIG_SETMASK, &all, &pause->before);
+	pthread_setcancelstate(PTHREAD_CANCEL_DISABLE, &pause->state);
+}
+
+static void go_on(const struct pause *pause)
+{
+	pthread_setcancelstate(pause->state, NULL);
+	pthread_sigmask(SIG_SETMASK, &pause->before, NULL);
+}
+
+/* what this process has: its lines and the descriptors of its devices */
+void enter(struct pause *pause)
+{
+	hold_back(pause);
+	pthread_mutex_lock(&own);
+}
+
+void leave(struct pause *pause)
+{
+	pthread_mutex_unlock(&own);
+	go_on(pause);
+}
+
+/* A line, also behind `enter`. Where a process was killed within a request nobody knows any more what the line would tell next. */
+void take(struct line *line, struct pause *pause)
+{
+	hold_back(pause);
+	if (pthread_mutex_lock(&line->table->one) == EOWNERDEAD) {
+		pthread_mutex_consistent(&line->table->one);
+		if (line->table->is_asking)
+			line_lost(line);
+	}
+}
+
+void give(struct line *line, struct pause *pause)
+{
+	pthread_mutex_unlock(&line->table->one);
+	go_on(pause);
+}
+
+/* ------ lines */
+
+static int make_table(struct line *line, int adapter)
+{
+	pthread_mutexattr_t shared;
+	int fd = high((int)syscall(SYS_memfd_create, "dvbemu", 1 /* closed by exec */));
+	void *there = fd < 0 || ftruncate(fd, sizeof *line->table) ? MAP_FAILED
+			      : mmap(NULL, sizeof *line->table, PROT_READ | PROT_WRITE, MAP_SHARED, fd, 0);
+	if (there == MAP_FAILED) {
+		let_go(fd);
+		return -1;
+	}
+	*line = (struct line){ .table = there, .memory = fd, .ask = -1, .tell = -1 };
+	for (struct mine *mine = line->mine; mine < &line->mine[MOST_DEVICES]; mine++)
+		mine->rings = mine->lock = mine->bell = mine->known = -1;
+	line->table->adapter = adapter;
+	pthread_mutexattr_init(&shared);
+	pthread_mutexattr_setpshared(&shared, PTHREAD_PROCESS_SHARED);
+	pthread_mutexattr_setrobust(&shared, PTHREAD_MUTEX_ROBUST);
+	return pthread_mutex_init(&line->table->one, &shared);
+}
+
+/* a line is done with where its server has gone and this process has none of its devices any more */
+static int is_free(struct line *line)
+{
+	if (!line->table)
+		return 1;
+	for (int i = 0; i < MOST_DEVICES; i++)
+		if (line->mine[i].rings >= 0)
+			return 0;
+	if (!line->table->is_gone)
+		return 0;
+	let_go(line->ask);
+	let_go(line->tell);
+	let_go(line->memory);
+	/* (a thread may still wait by the table, so that stays) */
+	line->ask = line->tell = line->memory = -1;
+	return 1;
+}
+
+/* the line to an adapter, which is made where there is none; NULL where it can't be */
+struct line *line_to(int adapter)
+{
+	struct line *unused = NULL;
+	for (struct line *line = lines; line < &lines[MOST_LINES]; line++) {
+		if (line->table && line->table->adapter == adapter && !line->table->is_gone)
+			return line;
+		if (!unused && is_free(line))
+			unused = line;
+	}
+	return unused && !make_table(unused, adapter) ? unused : NULL;
+}
+
+/* the server has gone, or what it would tell next isn't known; all that wait are woken by their devices */
+void line_lost(struct line *line)
+{
+	line->table->is_gone = 1;
+	for (int i = 0; i < MOST_DEVICES; i++) {
+		struct device *device = &line->table->devices[i];
+		if (!device->kind)
+			continue;
+		ring((struct at){ line, i });
+		device->found = OVERFLOW;
+		device->state = READY;
+	}
+	/* (with the pipes the server sees that this program has gone) */
+	let_go(line->ask);
+	let_go(line->tell);
+	line->ask = line->tell = -1;
+}
+
+/* ------ coming in */
+
+static int open_raw(const char *path, int flags) { return (int)syscall(SYS_openat, AT_FDCWD, path, flags | O_CLOEXEC); }
+
+static ino_t ino_of(int fd)
+{
+	struct stat now;
+	return syscall(SYS_fstat, fd, &now) ? 0 : now.st_ino;
+}
+
+/* tells a name at the door, again as long as others fill it */
+static int knock(const char *folder, const char *name)
+{
+	char path[PATH];
+	long n = -1, since = milliseconds();
+	snprintf(path, sizeof path, "%s/door", folder);
+	int fd = open_raw(path, O_WRONLY | O_NONBLOCK);
+	while (fd >= 0 && (n = syscall(SYS_write, fd, name, NAME)) < 0 && errno == EAGAIN && milliseconds() - since < SEAT_MS)
+		wait_raw(NULL, 0, KNOCK_MS);
+	if (fd >= 0)
+		syscall(SYS_close, fd);
+	return n == NAME ? 0 : -1;
+}
+
+/* Makes the two pipes and tells their name, which no other program has, also not one that counts its processes anew. */
+static int come_in(struct line *line, char *ask, char *tell)
+{
+	const char *folder = folders[line->table->adapter];
+	char name[NAME] = "";
+	uint64_t number = 0;
+	if (syscall(SYS_getrandom, &number, sizeof number, 0) != sizeof number)
+		number = (uint64_t)self << 32 ^ (uint64_t)clock();
+	snprintf(name, sizeof name, "%llu", (unsigned long long)number);
+	snprintf(ask, PATH, "%s/%s.ask", folder, name);
+	snprintf(tell, PATH, "%s/%s.tell", folder, name);
+	if (mkfifo(ask, 0600) || mkfifo(tell, 0600))
+		return -1;
+	line->ask = high(open_raw(ask, O_RDWR));
+	line->tell = high(open_raw(tell, O_RDWR));
+	if (line->ask < 0 || line->tell < 0)
+		return -1;
+	line->table->ask_ino = ino_of(line->ask);
+	line->table->tell_ino = ino_of(line->tell);
+	return knock(folder, name);
+}
+
+/* Waits for a seat, which answers the first request, and then holds the replies' end alone, so that a server's end is seen. */
+static int sit_down(struct line *line, const char *tell)
+{
+	struct pollfd one = { line->tell, POLLIN, 0 };
+	if (wait_raw(&one, 1, SEAT_MS) < 1)
+		return -1;
+	int fd = high(open_raw(tell, O_RDONLY | O_NONBLOCK));
+	if (fd < 0)
+		return -1;
+	syscall(SYS_fcntl, fd, F_SETFL, 0);
+	let_go(line->tell);
+	line->tell = fd;
+	watch_changed();
+	return 0;
+}
+
+/* ------ a request and its reply */
+
+static int put(struct line *line, const void *bytes, size_t count)
+{
+	if (!is_object(line->ask, line->table->ask_ino) || !is_object(line->tell, line->table->tell_ino))
+		return -1;
+	for (const char *from = bytes; count;) {
+		long n = syscall(SYS_write, line->ask, from, count);
+		if (n < 0 && errno == EINTR)
+			continue;
+		if (n <= 0)
+			return -1;
+		from += n;
+		count -= (size_t)n;
+	}
+	return 0;
+}
+
+/* Takes so many bytes. Where the program's memory can't be written the rest goes nowhere, and it is told so: 1. */
+static int get(struct line *line, void *bytes, size_t count)
+{
+	char nowhere[SCRATCH], *into = bytes;
+	int is_bad = 0;
+	while (count) {
+		long n = is_bad ? syscall(SYS_read, line->tell, nowhere, count < SCRATCH ? count : SCRATCH)
+				: syscall(SYS_read, line->tell, into, count);
+		if (n < 0 && errno == EINTR)
+			continue;
+		if (n < 0 && errno == EFAULT && !is_bad) {
+			is_bad = 1;
+			continue;
+		}
+		if (n <= 0)
+			return -1;
+		into += n;
+		count -= (size_t)n;
+	}
+	return is_bad;
+}
+
+static int exchange(struct line *line, const struct request *request, struct reply *reply, void *into, uint32_t room)
+{
+	char ask[PATH] = "", tell[PATH] = "";
+	int first = line->ask < 0;
+	int bad = line->table->is_gone || (first && come_in(line, ask, tell));
+	line->table->is_asking = 1;
+	bad = bad || put(line, request, sizeof *request);
+	bad = bad || (first && sit_down(line, tell));
+	if (*ask) {
+		unlink(ask);
+		unlink(tell);
+	}
+	bad = bad || get(line, reply, sizeof *reply) || reply->length > room;
+	int taken = bad ? -1 : get(line, into, reply->length);
+	line->table->is_asking = 0;
+	if (taken < 0 && !line->table->is_gone)
+		line_lost(line);
+	return taken < 0 ? -EIO : taken ? -EFAULT : -(int)reply->code;
+}
+
+/* One request and its reply, with at most as many bytes as a read asks for, behind `take`: 0 or a negative error. */
+int ask(struct line *line, uint32_t verb, uint32_t node, uint32_t number, const void *argument, uint32_t length,
+	struct reply *reply, void *into)
+{
+	struct request asked = { verb, node, number, length, { 0 } };
+	if (length)
+		memcpy(asked.argument, argument, length);
+	return exchange(line, &asked, reply, into, verb == READ ? number : 0);
+}

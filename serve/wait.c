@@ -1,0 +1,207 @@
+/*
+ * The C library's calls that wait for descriptors. The system waits, for the pipes of devices as for all others; in front of that
+ * only those devices are looked at of which nothing is known, since they were read or set. What a pipe can't tell stands behind it:
+ * POLLPRI, which comes with data, and POLLERR, with which an overflow or a timeout comes.
+ */
+#define _GNU_SOURCE
+#include <errno.h>
+#include <sys/epoll.h>
+#include <sys/select.h>
+#include <unistd.h>
+
+#include "preload.h"
+
+/* looks at a device where nothing is known of it; whether it is one */
+static int refresh(int fd, struct at *at)
+{
+	struct pause outer, pause;
+	if (!find(fd, at))
+		return 0;
+	enter(&outer);
+	take(at->line, &pause);
+	struct device *device = device_at(*at);
+	device->in_set = 1;
+	if (device->state == UNKNOWN && device->kind)
+		look(*at, fd);
+	give(at->line, &pause);
+	leave(&outer);
+	return 1;
+}
+
+/* ------ poll */
+
+/* Whether one of these is a device. One that is waited for by POLLPRI alone is waited for by POLLIN, and POLLMSG is its mark. */
+static int prepare(struct pollfd *all, nfds_t count)
+{
+	int is_any = 0;
+	struct at at;
+	for (nfds_t i = 0; i < count; i++) {
+		if (!is_marked(all[i].fd) || !refresh(all[i].fd, &at))
+			continue;
+		is_any = 1;
+		if ((all[i].events & (POLLIN | POLLPRI)) == POLLPRI)
+			all[i].events |= POLLIN | POLLMSG;
+	}
+	return is_any;
+}
+
+static void tell(struct pollfd *all, nfds_t count)
+{
+	struct at at;
+	for (nfds_t i = 0; i < count; i++) {
+		if (!is_marked(all[i].fd) || !find(all[i].fd, &at))
+			continue;
+		int is_there = all[i].revents & POLLIN, is_lost = device_at(at)->found & (OVERFLOW | TIMED_OUT);
+		if (all[i].events & POLLMSG)
+			all[i].events &= (short)~(POLLIN | POLLMSG);
+		all[i].revents &= (short)~(POLLIN | POLLHUP);
+		if (is_there)
+			all[i].revents |= (short)((all[i].events & (POLLIN | POLLPRI | POLLRDNORM)) | (is_lost ? POLLERR : 0));
+	}
+}
+
+EXPORT int poll(struct pollfd *all, nfds_t count, int time)
+{
+	init();
+	int is_any = adapters && prepare(all, count), n = NEXT(poll)(all, count, time), saved = errno;
+	if (is_any)
+		tell(all, count);
+	errno = saved;
+	return n;
+}
+
+EXPORT int ppoll(struct pollfd *all, nfds_t count, const struct timespec *time, const sigset_t *signals)
+{
+	init();
+	int is_any = adapters && prepare(all, count), n = NEXT(ppoll)(all, count, time, signals), saved = errno;
+	if (is_any)
+		tell(all, count);
+	errno = saved;
+	return n;
+}
+
+EXPORT int __poll_chk(struct pollfd *all, nfds_t count, int time, size_t room);
+EXPORT int __poll_chk(struct pollfd *all, nfds_t count, int time, size_t room) { return (void)room, poll(all, count, time); }
+EXPORT int __ppoll_chk(struct pollfd *all, nfds_t count, const struct timespec *time, const sigset_t *signals, size_t room);
+EXPORT int __ppoll_chk(struct pollfd *all, nfds_t count, const struct timespec *time, const sigset_t *signals, size_t room)
+{
+	return (void)room, ppoll(all, count, time, signals);
+}
+
+/* ------ select: a device is waited for by reads and by exceptions alike */
+
+static int is_in(int fd, const fd_set *set) { return set && FD_ISSET(fd, set); }
+
+/* puts the devices of the third set into the first one, which may be none: whether there is one */
+static int join(int count, fd_set *reads, const fd_set *others, fd_set *joined)
+{
+	int is_any = 0;
+	struct at at;
+	FD_ZERO(joined);
+	for (int i = 0; i < count && i < FD_SETSIZE; i++) {
+		int is_device = (is_in(i, reads) || is_in(i, others)) && refresh(i, &at);
+		if (is_in(i, reads) || (is_device && is_in(i, others)))
+			FD_SET(i, joined);
+		is_any |= is_device && is_in(i, others);
+	}
+	return is_any;
+}
+
+/* of what can be read gives each set what it has asked for, and says how many */
+static int part(int count, const fd_set *joined, const fd_set *asked, fd_set *reads, fd_set *others, int n)
+{
+	struct at at;
+	for (int i = 0; i < count && i < FD_SETSIZE; i++) {
+		if (!FD_ISSET(i, asked) || !find(i, &at))
+			continue;
+		if (FD_ISSET(i, joined)) {
+			FD_SET(i, others);
+			n += is_in(i, reads);
+		}
+	}
+	for (int i = 0; reads && i < count && i < FD_SETSIZE; i++)
+		if (FD_ISSET(i, reads) && !FD_ISSET(i, joined))
+			FD_CLR(i, reads);
+	return n;
+}
+
+EXPORT int pselect(int count, fd_set *reads, fd_set *writes, fd_set *others, const struct timespec *time, const sigset_t *signals)
+{
+	fd_set joined, asked;
+	init();
+	if (!adapters || !join(count, reads, others, &joined))
+		return NEXT(pselect)(count, reads, writes, others, time, signals);
+	asked = *others;
+	int n = NEXT(pselect)(count, &joined, writes, others, time, signals);
+	return n < 0 ? n : part(count, &joined, &asked, reads, others, n);
+}
+
+EXPORT int select(int count, fd_set *reads, fd_set *writes, fd_set *others, struct timeval *time)
+{
+	fd_set joined, asked;
+	init();
+	if (!adapters || !join(count, reads, others, &joined))
+		return NEXT(select)(count, reads, writes, others, time);
+	asked = *others;
+	int n = NEXT(select)(count, &joined, writes, others, time);
+	return n < 0 ? n : part(count, &joined, &asked, reads, others, n);
+}
+
+/* ------ epoll */
+
+/* looks at the devices that are in a set, where nothing is known of them */
+static void refresh_sets(void)
+{
+	struct pause outer, pause;
+	struct device *device;
+	enter(&outer);
+	for (struct line *line = lines; line < &lines[MOST_LINES]; line++)
+		for (int i = 0; line->table && i < MOST_DEVICES; i++) {
+			struct mine *mine = &line->mine[i];
+			if (mine->known < 0)
+				continue;
+			take(line, &pause);
+			device = &line->table->devices[i];
+			if (device->kind && device->ino == mine->ino && device->state == UNKNOWN)
+				look((struct at){ line, i }, mine->known);
+			give(line, &pause);
+		}
+	leave(&outer);
+}
+
+EXPORT int epoll_ctl(int set, int what, int fd, struct epoll_event *event)
+{
+	struct at at;
+	struct epoll_event other;
+	init();
+	if (what == EPOLL_CTL_DEL || !event || !is_marked(fd) || !refresh(fd, &at))
+		return NEXT(epoll_ctl)(set, what, fd, event);
+	at.line->mine[at.place].known = fd;
+	other = *event;
+	other.events |= event->events & EPOLLPRI ? EPOLLIN : 0;
+	return NEXT(epoll_ctl)(set, what, fd, &other);
+}
+
+EXPORT int epoll_wait(int set, struct epoll_event *events, int most, int time)
+{
+	init();
+	if (adapters)
+		refresh_sets();
+	return NEXT(epoll_wait)(set, events, most, time);
+}
+
+EXPORT int epoll_pwait(int set, struct epoll_event *events, int most, int time, const sigset_t *signals)
+{
+	init();
+	if (adapters)
+		refresh_sets();
+	return NEXT(epoll_pwait)(set, events, most, time, signals);
+}
+
+EXPORT int epoll_pwait2(int set, struct epoll_event *events, int most, const struct timespec *time, const sigset_t *signals)
+{
+	init();
+	if (adapters)
+		refresh_sets();
+	return NEXT(epoll_pwait2)(set, events, most, time, signals);
+}
