@@ -1,0 +1,367 @@
+"""What tools/package and tools/install pack: which programs, what proved them, and where each file stands.
+
+The tree is that below /usr, or below any folder: bin, lib/dvbemu, which has this repository's folders so that wrappers and tools find one
+another, and share. `lay_out` is told where the programs are and what proved them; `proved` finds both here, or refuses.
+"""
+import gzip
+import hashlib
+import os
+import re
+import shutil
+import subprocess
+import sys
+import tempfile
+from typing import NamedTuple
+
+HERE = os.path.dirname(os.path.realpath(__file__))
+ROOT = os.path.dirname(HERE)
+LIBRARY, DOC, MAN = os.path.join("lib", "dvbemu"), os.path.join("share", "doc", "dvbemu"), os.path.join("share", "man")
+# What isn't packed: what builds, proves and checks, and what is made.
+LEFT_OUT = {
+    "tools": ("build", "checks", "install", "package", "lib/haste.py", "lib/checks.py", "lib/crates.py"),
+    "serve": ("check", "cases", "calls.c", "out", "airs.py", "bad.py", "programs.py", "room.py", "stations.py"),
+}
+MADE = "__pycache__", "out"
+# How many of the gate's checks end with `N passed, M failed`: `rt ci` and those that .ci/run names.
+CHECKS = 8
+MAINTAINER = "Jelkawu maintainers <maintainers@users.noreply.jelkawu.example>"
+SUM = re.compile(r"(\d+) passed, (\d+) failed\b.*")
+
+
+class Refused(Exception):
+    """Nothing is packed, and why."""
+
+
+class Proof(NamedTuple):
+    """What proved the programs: the version, the commit and its time, the toolchain, and the gate's last lines."""
+
+    version: str
+    commit: str
+    time: int
+    toolchain: str
+    gate: list
+
+
+class Programs(NamedTuple):
+    """Where the two programs are."""
+
+    dvbemu: str
+    server: str
+
+
+# ------ what is proved here
+
+
+def told(*words):
+    """What a command writes, without its last line feed."""
+    try:
+        ran = subprocess.run(words, cwd=ROOT, capture_output=True, text=True, check=False)
+    except OSError as fault:
+        raise Refused(f"{words[0]}: {fault.strerror}") from None
+    if ran.returncode:
+        raise Refused(f"{' '.join(words)}: {ran.stderr.strip()}")
+    return ran.stdout.rstrip("\n")
+
+
+def gate_lines(text):
+    """The lines of a run of the gate that tell its sums. Refused where one tells a failure, or one is missing."""
+    found = [line for line in text.split("\n") if SUM.fullmatch(line)]
+    failed = [line for line in found if SUM.fullmatch(line)[2] != "0"]
+    if failed:
+        raise Refused(f"the gate has failed: {failed[0]}")
+    if len(found) < CHECKS:
+        raise Refused(f"the gate hasn't come to its end: {len(found)} of its {CHECKS} sums are told")
+    return found
+
+
+def gate_of(path, time):
+    """The gate's lines: those of a file that is newer than the commit, or of a run that is made now."""
+    if path is None:
+        print("the gate runs first: .ci/run", file=sys.stderr)
+        return gate_lines(subprocess.run([os.path.join(ROOT, ".ci", "run")], stdout=subprocess.PIPE, text=True, check=False).stdout)
+    try:
+        with open(path, encoding="utf-8", errors="replace") as file:
+            text = file.read()
+    except OSError as fault:
+        raise Refused(f"{path}: {fault.strerror}") from None
+    if os.stat(path).st_mtime < time:
+        raise Refused(f"{path}: it is older than the commit, so it is the gate of another one")
+    return gate_lines(text)
+
+
+def built(name):
+    """A program that is proved and built now: what lay there before may come from elsewhere. What is proved already is looked at by sums."""
+    path = os.path.join(ROOT, "crates", name, "out", name)
+    if os.path.exists(path):
+        os.remove(path)
+    if subprocess.call([os.path.join(ROOT, "tools", "build"), "--program", name], stdin=subprocess.DEVNULL):
+        raise Refused(f"{name} can't be proved and built")
+    return path
+
+
+def proved(gate):
+    """The programs, proved and built now from the commit that is here, and their proof."""
+    with open(os.path.join(ROOT, "VERSION"), encoding="utf-8") as file:
+        version, named = file.read().split("\n")[:2]
+    if changed := told("git", "status", "--porcelain"):
+        raise Refused(f"not all is committed: {changed.split(chr(10), maxsplit=1)[0].strip()}")
+    commit, time = told("git", "log", "-1", "--format=%h %ct").split(" ")
+    toolchain = told("rt", "version")
+    if f"proved with {toolchain}" != named:
+        raise Refused(f"the toolchain is {toolchain}, and VERSION says: {named}")
+    proof = Proof(version, commit, int(time), toolchain, gate_of(gate, int(time)))
+    return Programs(built("dvbemu"), built("dvb_serve")), proof
+
+
+# ------ where each file stands
+
+
+def ignored(folder, names):
+    """What of a folder isn't packed."""
+    part, _, rest = os.path.relpath(folder, ROOT).partition(os.sep)
+    left_out = LEFT_OUT.get(part, ())
+    return [name for name in names if name in MADE or os.path.join(rest, name) in left_out]
+
+
+def copy_tools(library, programs, proof):
+    """The folder lib/dvbemu: the wrappers, the programs where the wrappers look, the tools with their modules, and what `serve` loads."""
+    for name in "dvbemu", "dvbemu-serve", "crates.txt":
+        shutil.copy(os.path.join(ROOT, name), library)
+    for name in "tools", "serve", "python":
+        shutil.copytree(os.path.join(ROOT, name), os.path.join(library, name), ignore=ignored, dirs_exist_ok=True)
+    os.makedirs(os.path.join(library, "fuzz"), exist_ok=True)
+    for name in "judge.py", "second.py":
+        shutil.copy(os.path.join(ROOT, "fuzz", name), os.path.join(library, "fuzz"))
+    for name, path in (("dvbemu", programs.dvbemu), ("dvb_serve", programs.server)):
+        out = os.path.join(library, "crates", name, "out")
+        os.makedirs(out, exist_ok=True)
+        os.chmod(shutil.copy(path, os.path.join(out, name)), 0o755)
+    write(os.path.join(library, "VERSION"), f"{proof.version} (commit {proof.commit})\nproved with {proof.toolchain}\n")
+    # (with Python's own name of a distribution pytest finds the module's plugin)
+    information = os.path.join(library, "python", f"dvbemu-{proof.version}.dist-info")
+    write(os.path.join(information, "METADATA"), f"Metadata-Version: 2.1\nName: dvbemu\nVersion: {proof.version}\n")
+    write(os.path.join(information, "entry_points.txt"), "[pytest11]\ndvbemu = dvbemu.pytest_plugin\n")
+
+
+def write(path, text):
+    """Writes a file, and makes its folder."""
+    os.makedirs(os.path.dirname(path), exist_ok=True)
+    with open(path, "w", encoding="utf-8") as file:
+        file.write(text)
+
+
+def build_preload(library):
+    """Compiles what `serve` loads into programs: the server's first run does it."""
+    stream = os.path.join(ROOT, "examples", "programs", "scan.ts")
+    with tempfile.TemporaryDirectory() as folder:
+        words = [os.path.join(library, "dvbemu-serve"), "--packets", "3000", "--report", os.path.join(folder, "report"), stream, "--", "true"]
+        ran = subprocess.run(words, capture_output=True, text=True, check=False)
+    if ran.returncode or not os.path.exists(os.path.join(library, "serve", "out", "preload.so")):
+        raise Refused(f"what `serve` loads can't be built, or the server doesn't run: {ran.stderr.strip()}")
+
+
+def write_proof(doc, proof):
+    """What is proved of what is packed, and what isn't."""
+    with open(os.path.join(HERE, "PROOF"), encoding="utf-8") as file:
+        text = file.read()
+    gate = "\n".join(f"    {line}" for line in proof.gate)
+    write(os.path.join(doc, "PROOF"), text.format(version=proof.version, commit=proof.commit, toolchain=proof.toolchain, gate=gate))
+
+
+def copy_documents(doc):
+    """The documents and the examples."""
+    os.makedirs(doc, exist_ok=True)
+    shutil.copy(os.path.join(ROOT, "README.md"), doc)
+    shutil.copytree(os.path.join(ROOT, "docs"), os.path.join(doc, "docs"), dirs_exist_ok=True,
+                    ignore=lambda _, names: [name for name in names if not name.endswith(".md")])  # fmt: skip
+    for name in "programs", "rules", "tests":
+        shutil.copytree(os.path.join(ROOT, "examples", name), os.path.join(doc, "examples", name), ignore=ignored, dirs_exist_ok=True)
+
+
+def section_of(page, first, last):
+    """A part of a document, from one heading to another, without the lines that say where a rule stands in the code."""
+    with open(os.path.join(ROOT, "docs", page), encoding="utf-8") as file:
+        text = file.read()
+    part = text[text.index(f"\n{first}\n") : text.index(f"\n{last}\n")]
+    return "\n\n".join(block for block in part.strip().split("\n\n")[1:] if "- Defined:" not in block)
+
+
+def help_of(library, *words):
+    """A help, as lines that stay as they are."""
+    told_by_it = subprocess.run([os.path.join(library, words[0]), *words[1:], "--help"], capture_output=True, text=True, check=True).stdout
+    return "".join(f"    {line}\n" for line in told_by_it.split("\n"))
+
+
+def pages_of(library):
+    """The pages of the manual in Markdown: the name and the section of each, what it is, and its text."""
+    listed = help_of(library, "dvbemu")
+    words = re.findall(r"^ {6}([a-z]+) {2,}", listed, re.M)
+    each = "".join(f"\n# {word}\n\n{help_of(library, 'dvbemu', word)}" for word in words)
+    asked, written = "dvbemu-script(5), dvbemu-report(5), dvbemu-serve(1)", "dvbemu(1)"
+    script = section_of("BEHAVIOUR.md", "### The script", "### Requests by their numbers")
+    report = section_of("BEHAVIOUR.md", "### The report", "### A report that is checked")
+    return [
+        ("dvbemu", 1, "/dev/dvb/adapter0 without a card, for tests", f"# DESCRIPTION\n\n{listed}{each}\n# SEE ALSO\n\n{asked}\n"),
+        ("dvbemu-serve", 1, "run DVB programs, as they are, on a recording", f"# DESCRIPTION\n\n{help_of(library, 'dvbemu-serve')}\n# SEE ALSO\n\n{written}\n"),
+        ("dvbemu-script", 5, "the lines of a script of dvbemu", f"# DESCRIPTION\n\n{script}\n\n# SEE ALSO\n\n{written}\n"),
+        ("dvbemu-report", 5, "the lines of a report of dvbemu", f"# DESCRIPTION\n\n{report}\n\n# SEE ALSO\n\n{written}\n"),
+    ]  # fmt: skip
+
+
+def write_manual(root, proof):
+    """The pages of the manual, by pandoc; where it is missing that is told."""
+    if shutil.which("pandoc") is None:
+        print("pandoc isn't there: no page of the manual is made", file=sys.stderr)
+        return
+    for name, section, what, text in pages_of(os.path.join(root, LIBRARY)):
+        page = f"# NAME\n\n{name} - {what}\n\n{text}"
+        words = ["pandoc", "-s", "-f", "markdown-smart", "-t", "man", "-M", f"title={name.upper()}", "-M", f"section={section}",
+                 "-M", f"footer=dvbemu {proof.version}"]  # fmt: skip
+        made = subprocess.run(words, input=page.encode(), stdout=subprocess.PIPE, check=True).stdout
+        write_compressed(os.path.join(root, MAN, f"man{section}", f"{name}.{section}.gz"), made)
+
+
+def write_compressed(path, data):
+    """A file by gzip, the same each time."""
+    os.makedirs(os.path.dirname(path), exist_ok=True)
+    with open(path, "wb") as file:
+        file.write(gzip.compress(data, 9, mtime=0))
+
+
+def link_commands(root):
+    """The commands in bin, and their completion."""
+    os.makedirs(os.path.join(root, "bin"), exist_ok=True)
+    for name in "dvbemu", "dvbemu-serve":
+        link = os.path.join(root, "bin", name)
+        if os.path.lexists(link):
+            os.remove(link)
+        os.symlink(os.path.join("..", LIBRARY, name), link)
+    for name, folder, to in (("completion.bash", "bash-completion/completions", "dvbemu"), ("completion.zsh", "zsh/vendor-completions", "_dvbemu")):
+        os.makedirs(os.path.join(root, "share", folder), exist_ok=True)
+        shutil.copyfile(os.path.join(HERE, name), os.path.join(root, "share", folder, to))
+
+
+def files_in(root):
+    """All files and links below a folder, as they are named from there."""
+    for folder, folders, names in os.walk(root):
+        for name in names + [name for name in folders if os.path.islink(os.path.join(folder, name))]:
+            yield os.path.relpath(os.path.join(folder, name), root)
+
+
+def sum_of(path):
+    """The sum of a file, as sha256sum has it."""
+    with open(path, "rb") as file:
+        return hashlib.sha256(file.read()).hexdigest()
+
+
+def lay_out(root, programs, proof):
+    """Writes the tree into a new folder: these programs, and what proved them. All files get the commit's time, so that no text is newer than
+    a program."""
+    library = os.path.join(root, LIBRARY)
+    os.makedirs(library)
+    copy_tools(library, programs, proof)
+    build_preload(library)
+    copy_documents(os.path.join(root, DOC))
+    write_proof(os.path.join(root, DOC), proof)
+    write_manual(root, proof)
+    link_commands(root)
+    sums = [f"{sum_of(os.path.join(root, name))}  {name}\n" for name in sorted(files_in(root)) if not os.path.islink(os.path.join(root, name))]
+    write(os.path.join(root, DOC, "SHA256SUMS"), "".join(sums))
+    for name in files_in(root):
+        path = os.path.join(root, name)
+        os.utime(path, (proof.time, proof.time), follow_symlinks=False)
+        if not os.path.islink(path):
+            os.chmod(path, 0o755 if os.access(path, os.X_OK) and not name.endswith(".so") else 0o644)
+
+
+# ------ what is made of it
+
+
+def tar(root, path, proof):
+    """Packs a tree as a tar, whose one folder is dvbemu-VERSION."""
+    name = f"dvbemu-{proof.version}"
+    words = ["tar", "--create", "--file", path, "--sort=name", "--owner=0", "--group=0", "--numeric-owner", "--transform", f"s,^[.],{name},S",
+             "--auto-compress", "--directory", root, "."]  # fmt: skip
+    subprocess.run(words, check=True)
+
+
+def install(root, prefix):
+    """Copies a tree below a folder, in the place of what was installed there."""
+    if os.path.exists(os.path.join(prefix, DOC, "SHA256SUMS")):
+        remove(prefix)
+    shutil.copytree(root, prefix, symlinks=True, dirs_exist_ok=True)
+
+
+def remove(prefix):
+    """Removes what was installed below a folder, with what Python has kept of it, and the folders that are empty then."""
+    try:
+        with open(os.path.join(prefix, DOC, "SHA256SUMS"), encoding="utf-8") as file:
+            names = [line.rstrip("\n").split("  ", 1)[1] for line in file]
+    except OSError as fault:
+        raise Refused(f"{prefix}: nothing is installed there: {fault.filename}: {fault.strerror}") from None
+    names += [os.path.join(DOC, "SHA256SUMS"), os.path.join("bin", "dvbemu"), os.path.join("bin", "dvbemu-serve")]
+    shutil.rmtree(os.path.join(prefix, LIBRARY, "python", "dvbemu", "__pycache__"), ignore_errors=True)
+    for name in names:
+        path = os.path.join(prefix, name)
+        if os.path.lexists(path):
+            os.remove(path)
+    for folder in sorted({os.path.dirname(name) for name in names}, key=len, reverse=True):
+        while folder and os.path.isdir(os.path.join(prefix, folder)) and not os.listdir(os.path.join(prefix, folder)):
+            os.rmdir(os.path.join(prefix, folder))
+            folder = os.path.dirname(folder)
+
+
+def glibc_of(*paths):
+    """The least version of the C library that these files ask for."""
+    found = set()
+    for path in paths:
+        with open(path, "rb") as file:
+            found |= {tuple(map(int, one.split(b"."))) for one in re.findall(rb"GLIBC_(\d+\.\d+)\b", file.read())}
+    return ".".join(map(str, max(found, default=(2, 36))))
+
+
+def deb(root, path, proof):
+    """Packs a tree as a package of Debian."""
+    with tempfile.TemporaryDirectory() as folder:
+        top = os.path.join(folder, "top")
+        shutil.copytree(root, os.path.join(top, "usr"), symlinks=True)
+        doc, library = os.path.join(top, "usr", DOC), os.path.join(top, "usr", LIBRARY)
+        shutil.copyfile(os.path.join(HERE, "copyright"), os.path.join(doc, "copyright"))
+        date = subprocess.run(["date", "-R", "-u", "-d", f"@{proof.time}"], stdout=subprocess.PIPE, text=True, check=True).stdout
+        change = f"dvbemu ({proof.version}) unstable; urgency=medium\n\n  * Commit {proof.commit}.\n\n -- {MAINTAINER}  {date}"
+        write_compressed(os.path.join(doc, "changelog.gz"), change.encode())
+        packages = os.path.join(top, "usr", "lib", "python3", "dist-packages")
+        os.makedirs(packages)
+        for name in "dvbemu", f"dvbemu-{proof.version}.dist-info":
+            os.symlink(os.path.join("..", "..", "dvbemu", "python", name), os.path.join(packages, name))
+        overrides = os.path.join(top, "usr", "share", "lintian", "overrides")
+        os.makedirs(overrides)
+        shutil.copyfile(os.path.join(HERE, "lintian-overrides"), os.path.join(overrides, "dvbemu"))
+        programs = [os.path.join(library, "crates", name, "out", name) for name in ("dvbemu", "dvb_serve")]
+        with open(os.path.join(HERE, "control"), encoding="utf-8") as file:
+            control = file.read().format(version=proof.version, maintainer=MAINTAINER, size=size_of(top), toolchain=proof.toolchain,
+                                         commit=proof.commit, glibc=glibc_of(*programs))  # fmt: skip
+        write(os.path.join(top, "DEBIAN", "control"), control)
+        sums = [f"{md5_of(os.path.join(top, name))}  {name}\n" for name in sorted(files_in(top)) if is_packed(top, name)]
+        write(os.path.join(top, "DEBIAN", "md5sums"), "".join(sums))
+        shutil.copy(os.path.join(HERE, "prerm"), os.path.join(top, "DEBIAN", "prerm"))
+        os.chmod(os.path.join(top, "DEBIAN", "prerm"), 0o755)
+        subprocess.run(["find", top, "-type", "d", "-exec", "chmod", "0755", "{}", "+"], check=True)
+        words = ["dpkg-deb", "--root-owner-group", "--build", top, path]
+        subprocess.run(words, env={**os.environ, "SOURCE_DATE_EPOCH": str(proof.time)}, stdout=subprocess.DEVNULL, check=True)
+
+
+def is_packed(top, name):
+    """Whether a name is that of a file whose sum dpkg keeps."""
+    return not os.path.islink(os.path.join(top, name)) and not name.startswith("DEBIAN")
+
+
+def md5_of(path):
+    """The sum of a file, as dpkg has it."""
+    with open(path, "rb") as file:
+        return hashlib.md5(file.read(), usedforsecurity=False).hexdigest()
+
+
+def size_of(top):
+    """What a tree takes up, in KiB."""
+    return sum(os.lstat(os.path.join(top, name)).st_size // 1024 + 1 for name in files_in(top))
