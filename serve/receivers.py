@@ -93,7 +93,7 @@ def try_beside(room):
     """Beside tzap femon has its lock, dvbdate the stream's time, and others record what it has tuned to."""
     put(room, "zap.conf", ZAP.format("Alpha", HERTZ[0], 101))
     if is_there("tzap", "femon", "dvbdate"):
-        script = ("tzap -c zap.conf -r Alpha > tzap & P=$!; until grep -sq FE_HAS_LOCK tzap; do sleep 0.1; done; femon -H -c 2; dvbdate; "
+        script = ("stdbuf -oL tzap -c zap.conf -r Alpha > tzap & P=$!; until grep -sq FE_HAS_LOCK tzap; do sleep 0.1; done; femon -H -c 2; dvbdate; "
                   "head -c 37600 /dev/dvb/adapter0/dvr0 > cat.ts; dd if=/dev/dvb/adapter0/dvr0 of=dd.ts bs=188 count=200 iflag=fullblock; "
                   "kill $P; wait; true")  # fmt: skip
         out = run(room, "programs beside tzap", ["sh", "-c", script])
@@ -107,7 +107,7 @@ def try_beside(room):
         run(room, "ffmpeg beside dvbv5-zap", ["sh", "-c", script])
         shown = subprocess.run(["ffprobe", "-v", "error", "-show_entries", "stream=codec_name", "-of", "csv=p=0", room.path("f.ts")],
                                stdout=subprocess.PIPE, text=True, check=False).stdout  # fmt: skip
-        room.want({"mpeg2video", "mp2"} <= set(shown.split()), "ffmpeg has picture and tone", shown)
+        room.want({"mpeg2video", "mp2"} <= set(re.findall(r"\w+", shown)), "ffmpeg has picture and tone", shown)
 
 
 def try_recorders(room):
