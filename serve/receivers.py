@@ -89,7 +89,7 @@ def try_four_frequencies(room):
         room.want(sorted(found) == wanted, "scan finds each service once, where it is", found)
 
 
-def try_beside(room):
+def try_tzap(room):
     """Beside tzap femon has its lock, dvbdate the stream's time, and others record what it has tuned to."""
     put(room, "zap.conf", ZAP.format("Alpha", HERTZ[0], 101))
     if is_there("tzap", "femon", "dvbdate"):
@@ -100,6 +100,10 @@ def try_beside(room):
         room.want(out.count("FE_HAS_LOCK") == 2 and time.strftime("%Y", time.gmtime()) in out, "femon and dvbdate beside tzap", out)
         for name in "cat.ts", "dd.ts":
             is_of_station(room, name)
+
+
+def try_beside(room):
+    """Beside dvbv5-zap ffmpeg records picture and tone."""
     if is_there("dvbv5-zap", "ffmpeg"):
         put(room, "channels", "[Alpha]\n\tSERVICE_ID = 101\n\tVIDEO_PID = 256\n\tAUDIO_PID = 257\n" + CHANNEL.format(HERTZ[0]).split("\n", 1)[1])
         script = ("dvbv5-zap -c channels -p -r Alpha > zap 2>&1 & P=$!; sleep 2; "
@@ -218,4 +222,4 @@ def try_kaffeine(room):
 
 # Those that take long, or that want a machine without much beside them, are tried by `serve/check --all` alone.
 PARTS = try_four_frequencies, try_beside, try_dvbtune
-SLOW_PARTS = try_vdr, try_w_scan_cpp, try_recorders, try_players, try_getstream, try_kaffeine
+SLOW_PARTS = try_tzap, try_vdr, try_w_scan_cpp, try_recorders, try_players, try_getstream, try_kaffeine
