@@ -2,9 +2,13 @@
 command `check` is asked."""
 import glob
 import os
+import signal
 import subprocess
 import sys
 from typing import NamedTuple
+
+# (what a shell starts in the background passes Ctrl-C over, and so would all that a check starts)
+signal.signal(signal.SIGINT, signal.default_int_handler)
 
 ROOT = os.path.dirname(os.path.dirname(os.path.dirname(os.path.realpath(__file__))))
 TOOLS = os.path.join(ROOT, "tools")
